@@ -1,0 +1,33 @@
+//! The values of Pig Latin, and the small types that every layer shares.
+//!
+//! A [`Value`] is null, a boolean, an int, a long, a chararray, a bytearray, a tuple, a bag, an ordered
+//! bag or a map; a [`Kind`] is what a column is declared as. Lists and texts are types of this crate that
+//! contracts see as mathematical lists, so that two values are equal in a clause exactly where they hold
+//! the same data.
+//!
+//! The definitions stand in `specs/`: `Trees` (values as trees, the view that clauses use), `Orders` (the
+//! total order), `Valid` (what makes a tree a value), `Lines`, `Fields`, `Texts` and `Stored` (PigStorage
+//! text).
+#![tactic(auto)]
+
+mod boxes;
+mod lists;
+mod shared;
+mod texts;
+mod values;
+
+pub use boxes::Boxed;
+pub use lists::Seq;
+pub use shared::{
+    BadDelimiter, ChainOp, Column, Columns, Delim, Dir, Dirs, Input, Inputs, Kept, KeptList, Rel,
+    Side, WordFault,
+};
+pub use texts::{Blob, Text};
+pub use values::{Kind, Kinds, Pair, Pairs, Rows, Tuple, Value};
+
+/// A list of texts, as the words of a command line.
+pub type Words = Seq<Text>;
+/// A list of byte strings, as the pieces of an input or the parts of an output.
+pub type Blobs = Seq<Blob>;
+/// A list of lengths in bytes.
+pub type Lengths = Seq<u64>;
