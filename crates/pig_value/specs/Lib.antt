@@ -1,2 +1,4 @@
 pub mod formers
 pub mod Delimiters
+pub mod Trees
+pub mod TreeLaws
