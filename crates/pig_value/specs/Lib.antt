@@ -2,3 +2,5 @@ pub mod formers
 pub mod Delimiters
 pub mod Trees
 pub mod TreeLaws
+pub mod Orders
+pub mod OrderLaws
