@@ -4,3 +4,7 @@ pub mod Trees
 pub mod TreeLaws
 pub mod Orders
 pub mod OrderLaws
+pub mod Lines
+pub mod Fields
+pub mod Texts
+pub mod Stored
