@@ -3,6 +3,7 @@
 
 mod first_form;
 mod outcome;
+mod plan;
 
-pub use first_form::{FieldType, FirstForm, FormField, FormFields, Literal};
+pub use first_form::{FieldType, FirstForm, FormField, FormFields, Literal, first_form as read_form};
 pub use outcome::{Counts, Outcome, RunFault};

@@ -1,7 +1,7 @@
 -- What `next_line` says of the span that it answers.
 use Rattle.std.specs.Prelude.{◌≡◌, ℕ, ◌<◌, ◌≤◌, List, ◌∷◌, length, drop, slice_range}
 use Rattle.pig_value.specs.Lines.{lines}
-use Rattle.pig_storage.specs.declared.Span.{Span}
+use Rattle.pig_storage.specs.declared.lines.Span.{Span}
 
 -- the lines of the bytes behind `from` are the span's line, and then those of the bytes behind `next`
 pub record IsNextLine (bytes : List ℕ) (from : ℕ) (s : Span) : Type 0 where

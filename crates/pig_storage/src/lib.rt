@@ -1,65 +1,19 @@
-//! Lines, rows and texts of files that hold values between delimiters.
+//! PigStorage text: lines, rows and the texts of rows.
+//!
+//! An input is bytes that are cut into lines at each LF, a line into fields at each delimiter.
+//! [`next_line`] walks the lines, [`line_row`] reads a line's row at the columns of a LOAD, and
+//! [`write_row`] appends the text of a row and an LF.
+//!
+//! Each is proved to be what pig_value's `specs/` define: `Lines` (`lines`, `stored_lines`), `Fields`
+//! (`IsField`, `field_of`, `row_of`) and `Texts` (`text_of`, `row_text`, `IsLineFree`). What follows of
+//! these definitions for whole inputs and outputs is in `laws`; crates above cite the lemmas of
+//! `proofs/Walks`, `proofs/LineFree` and `proofs/StoredRows`.
 #![tactic(auto)]
 
-ghost use Rattle.std.specs.Prelude.{◌≡◌, ◌+◌, ◌<◌, ◌≤◌, ◌∷◌, ◌↔◌, length, take, drop, IsNone, IfSome};
-ghost use Rattle.std.specs.Str.Lines.{strip_carriage_return};
-ghost use Rattle.pig_value.specs.Lines.{lines};
-ghost use Rattle.pig_storage.specs.NextLine.{IsNextLine};
+mod lines;
+mod rows;
+mod writing;
 
-use memchr::memchr;
-
-/// Where a line stands in the bytes of a file.
-#[derive(Clone, Copy)]
-pub struct Span {
-    /// The place of its first byte.
-    pub from: usize,
-    /// The place behind its last byte, without a CR that stood at its end.
-    pub to: usize,
-    /// The place behind its LF, or the end of the bytes where it has none.
-    pub next: usize,
-}
-
-/// The line that starts at `from`, which is the start of a line or the end of the bytes. There is
-/// none exactly at the end.
-pub fn next_line(bytes: &[u8], from: usize) -> Option<Span>
-    requires { from ≤ length bytes.now }
-    ensures none { IsNone result ↔ (from ≡ length bytes.now) }
-    ensures line { IfSome result (λ s. IsNextLine bytes.now from s) }
-{
-    if from == bytes.len() {
-        return None;
-    }
-    let (line, all) = first_line(&bytes[from..]);
-    Some(Span {
-        from,
-        to: from + line,
-        next: from + all,
-    })
-}
-
-// The lengths of the first line, without and with what ends it.
-fn first_line(bytes: &[u8]) -> (usize, usize)
-    requires { 0 < length bytes.now }
-    ensures within { result.0 ≤ result.1 }
-    ensures goes_on { 0 < result.1 }
-    ensures ends { result.1 ≤ length bytes.now }
-    ensures is { lines bytes.now ≡ take result.0 bytes.now ∷ lines (drop result.1 bytes.now) }
-{
-    match memchr(b'\n', bytes) {
-        Some(at) => (length_without_cr(&bytes[..at]), at + 1),
-        None => (length_without_cr(bytes), bytes.len()),
-    }
-}
-
-// The length of a piece without the one CR at its end.
-fn length_without_cr(piece: &[u8]) -> usize
-    ensures within { result ≤ length piece.now }
-    ensures is { take result piece.now ≡ strip_carriage_return piece.now }
-{
-    let length = piece.len();
-    if length > 0 && piece[length - 1] == b'\r' {
-        length - 1
-    } else {
-        length
-    }
-}
+pub use lines::{Span, next_line};
+pub use rows::line_row;
+pub use writing::write_row;

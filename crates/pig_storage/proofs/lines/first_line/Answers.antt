@@ -2,7 +2,7 @@
 use Rattle.std.proofs.Common.{arith, length, take}
 use Rattle.std.proofs.lemmas.List.{length-take}
 use Rattle.pig_storage.proofs.FirstLine.{line_at, line_alone}
-use Rattle.pig_storage.proofs.first_line.Goals as goal
+use Rattle.pig_storage.proofs.lines.first_line.Goals as goal
 
 pub returns-in-Some-clause-is : goal.returns-in-Some-clause-is
 returns-in-Some-clause-is c =
