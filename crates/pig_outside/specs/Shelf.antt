@@ -1,5 +1,5 @@
 -- What a depot holds, and what its calls leave.
-use Rattle.std.specs.Prelude.{◌≡◌, ◌≤◌, ◌+◌, ◌++◌, ◌⊎◌, ℕ, Bool, true, false, List, [], ◌∷◌, Option, Some, None, length, map, take, drop, is_some, unwrap_or, slice_get, option_and_then, if◌then◌else◌}
+use Rattle.std.specs.Prelude.{◌≡◌, ◌≤◌, ◌+◌, ◌++◌, ◌⊎◌, ℕ, Bool, true, false, List, [], ◌∷◌, Option, Some, None, length, map, take, drop, is_some, unwrap_or, slice_get, option_and_then, find, if◌then◌else◌}
 use Rattle.std.specs.Option.{option_map}
 use Rattle.std.specs.Str.{bytes_eq}
 use Rattle.pig_value.specs.declared.shared.Input.{Input}
@@ -15,13 +15,7 @@ pub record Shelf : Type 0 where
 
 -- The first entry of that name.
 abbrev pub entry_of : {X : Type 0} → (X → List ℕ) → List ℕ → List X → Option X
-entry_of name path [] = None
-entry_of name path (x ∷ xs) = if bytes_eq (name x) path then Some x else entry_of name path xs
-
--- The place of the first entry of that name.
-abbrev pub place_of : {X : Type 0} → (X → List ℕ) → List ℕ → List X → Option ℕ
-place_of name path [] = None
-place_of name path (x ∷ xs) = if bytes_eq (name x) path then Some 0 else option_map (λ n. n + 1) (place_of name path xs)
+entry_of name path xs = find (λ x. bytes_eq (name x) path) xs
 
 -- The bytes of the script at a path.
 abbrev pub script_of : List ℕ → Shelf → Option (List ℕ)
@@ -83,8 +77,12 @@ abbrev pub whole_state : List (List ℕ) → DirState
 whole_state parts = record { parts = parts; marked = true }
 
 -- The parts of the directory at a path.
+abbrev pub parts_in : List ℕ → List Directory → List (List ℕ)
+parts_in path dirs = unwrap_or (option_map (λ s. s.parts) (state_of path dirs)) []
+
+-- The same on a shelf.
 abbrev pub parts_of : List ℕ → Shelf → List (List ℕ)
-parts_of path shelf = unwrap_or (option_map (λ s. s.parts) (state_of path shelf.dirs)) []
+parts_of path shelf = parts_in path shelf.dirs
 
 -- The shelf with a new directory.
 abbrev pub with_new : List ℕ → Shelf → Shelf
@@ -98,9 +96,13 @@ with_part path bytes shelf = with_dir path (open_state (parts_of path shelf ++ b
 abbrev pub with_mark : List ℕ → Shelf → Shelf
 with_mark path shelf = with_dir path (whole_state (parts_of path shelf)) shelf
 
--- The shelf has the directory, unmarked and with these parts.
+-- The directory is there, unmarked and with these parts.
+abbrev pub IsOpenIn : List ℕ → List (List ℕ) → List Directory → Type 0
+IsOpenIn path parts dirs = state_of path dirs ≡ Some (open_state parts)
+
+-- The same on a shelf.
 abbrev pub IsOpen : List ℕ → List (List ℕ) → Shelf → Type 0
-IsOpen path parts shelf = state_of path shelf.dirs ≡ Some (open_state parts)
+IsOpen path parts shelf = IsOpenIn path parts shelf.dirs
 
 -- The shelf has no such directory.
 abbrev pub CanCreate : List ℕ → Shelf → Type 0

@@ -47,6 +47,28 @@ set_dir-twice path before after [] = simp (bytes_eq-same path)
 set_dir-twice path before after (d ∷ ds) =
     elim (cases_Bool (bytes_eq d.path path)) [ inl e ↦ simp e | inr e ↦ simp e (ap (λ es. d ∷ es) (set_dir-twice path before after ds)) ]
 
+-- A state that is there already changes nothing.
+pub set_dir-same : (path : List ℕ) (state : DirState) (dirs : List Directory) → state_of path dirs ≡ Some state → set_dir path state dirs ≡ dirs
+set_dir-same path state [] is = cc
+set_dir-same path state (d ∷ ds) is =
+    elim (cases_Bool (bytes_eq d.path path)) [
+      | inl e ↦ let there : Some d.state ≡ Some state = simp e at is in
+          let same : state ≡ d.state = cc in
+          simp e (ap (λ (s : DirState). record d { state = s } ∷ ds) same)
+      | inr e ↦ let there : state_of path ds ≡ Some state = simp e at is in
+          simp e (ap (λ es. d ∷ es) (set_dir-same path state ds there))
+    ]
+
+-- A new directory stands behind the others.
+pub set_dir-new : (path : List ℕ) (state : DirState) (dirs : List Directory) → state_of path dirs ≡ None → set_dir path state dirs ≡ dirs ++ record { path = path; state = state } ∷ []
+set_dir-new path state [] is = refl
+set_dir-new path state (d ∷ ds) is =
+    elim (cases_Bool (bytes_eq d.path path)) [
+      | inl e ↦ let there : ◌≡◌ {A = Option DirState} (Some d.state) None = simp e at is in cc
+      | inr e ↦ let none : state_of path ds ≡ None = simp e at is in
+          simp e (ap (λ es. d ∷ es) (set_dir-new path state ds none))
+    ]
+
 -- No state is there where none was found.
 none_from_absent : (state : Option DirState) → is_some state ≡ false → state ≡ None
 none_from_absent None absent = refl
@@ -92,6 +114,11 @@ mark_set path state (Some shelf) = ap (λ s. Some s) (with_mark-with_dir path st
 -- What a failed call leaves of a directory that was made before it, is left of it altogether.
 pub left_unmarked : (path : List ℕ) (state : DirState) (old new : Option Shelf) → LeftUnmarked path (option_map (with_dir path state) old) new → LeftUnmarked path old new
 left_unmarked path state old new (parts, is) = (parts, is ∙ with_dir_again path state (open_state parts) old)
+
+-- A shelf with that directory, unmarked, that is as before.
+pub unmarked_as_before : (path : List ℕ) (parts : List (List ℕ)) (shelf : Shelf) → IsOpen path parts shelf → LeftUnmarked path (Some shelf) (Some shelf)
+unmarked_as_before path parts shelf there =
+    (parts, ap (λ ds. Some (record shelf { dirs = ds })) (sym (set_dir-same path (open_state parts) shelf.dirs there)))
 
 -- A directory that was made, and not marked, takes the next part.
 pub can_put : (path : List ℕ) (parts : List (List ℕ)) (old : Option Shelf) → ForSome (option_map (with_dir path (open_state parts)) old) (CanPut path (length parts))

@@ -11,11 +11,20 @@
 mod console;
 mod contents;
 mod depot;
+mod failing;
 mod faults;
 mod host;
+mod lookups;
+mod memory_console;
+mod memory_depot;
+mod memory_host;
 
 pub use console::Console;
 pub use contents::{DirState, Directory, Parts, Source, Sources};
 pub use depot::Depot;
+pub use failing::{Call, Calls, Failing, Method};
 pub use faults::{AttemptFault, Failed, OutsideError};
 pub use host::Host;
+pub use memory_console::MemoryConsole;
+pub use memory_depot::MemoryDepot;
+pub use memory_host::MemoryHost;
