@@ -1,2 +1,5 @@
 pub mod Cuts
 mod FirstLine
+pub mod Numbers
+mod Pieces
+mod Loops

@@ -1,0 +1,11 @@
+-- Steps of the loops that read a row and write one.
+use Rattle.std.proofs.Common.{◌≡◌, ℕ, ◌+◌, ◌<◌, List, [], ◌∷◌, ◌++◌, length, map, drop, get_or, refl, sym, ◌∙◌, ap, arith}
+use Rattle.std.proofs.lemmas.List.{append_assoc, drop_more, map-append}
+
+-- one more value is pushed, and one element less is left to read
+pub reads_one : {C V T : Type 0} (f : V → T) (g : C → T) (cs : List C) (i : ℕ) (c : C) (row next : List V) (v : V) (whole : List T) → i < length cs → c ≡ get_or cs i c → map f row ++ map g (drop i cs) ≡ whole → next ≡ row ++ v ∷ [] → f v ≡ g c → map f next ++ map g (drop (i + 1) cs) ≡ whole
+reads_one f g cs i c row next v whole within at so_far pushed same =
+    let rest : List _ = map g (drop (i + 1) cs) in
+    let here : drop i cs ≡ c ∷ drop (i + 1) cs = drop_more cs i c within ∙ ap (λ x. x ∷ drop (i + 1) cs) (sym at) in
+    let grown : map f next ≡ map f row ++ f v ∷ [] = ap (map f) pushed ∙ map-append f row (v ∷ []) in
+    ap (λ l. l ++ rest) grown ∙ (append_assoc (map f row) (f v ∷ []) rest ∙ (ap (λ t. map f row ++ t ∷ rest) same ∙ (ap (λ l. map f row ++ map g l) (sym here) ∙ so_far)))
