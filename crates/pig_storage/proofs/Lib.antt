@@ -3,3 +3,4 @@ mod FirstLine
 pub mod Numbers
 mod Pieces
 mod Loops
+pub mod TextLists
