@@ -125,6 +125,10 @@ abbrev pub first_of : {X : Type 0} → (X → ℕ) → List X → ℕ
 first_of count [] = 0
 first_of count (x ∷ _) = count x
 
--- every host tells its inputs
+-- it tells its inputs
 abbrev pub Tells : Option (List Input) → Type 0
 Tells inputs = (told : List Input) × (inputs ≡ Some told)
+
+-- a run that ended well: its directory and its numbers
+abbrev pub IsRun : FirstForm → List (List ℕ) → Option Shelf → Option Shelf → Counts → Type 0
+IsRun form pieces old new counts = IsDone form pieces old new × AreCounts form pieces counts

@@ -44,9 +44,13 @@ is_null _ = false
 abbrev pub compares : Rel → Tree → Tree → Bool
 compares relation a b = not (is_null a) && not (is_null b) && rel_holds relation (tree_cmp a b)
 
+-- whether a row's field at a place compares so with a value
+abbrev pub passes_at : ℕ → Rel → Tree → List Tree → Bool
+passes_at compared relation value row = compares relation (unwrap_or (slice_get row compared) v_null) value
+
 -- whether the condition is true of a row
 abbrev pub passes : FirstForm → List Tree → Bool
-passes f row = compares f.relation (unwrap_or (slice_get row f.compared) v_null) (literal_tree f.literal)
+passes f = passes_at f.compared f.relation (literal_tree f.literal)
 
 -- the rows of the lines of a piece, fields between tabs
 abbrev pub rows_of : FirstForm → List ℕ → List (List Tree)

@@ -66,3 +66,9 @@ pub record IsReady (words : List (List ℕ)) (shelf : Shelf) (plan : Plan) : Typ
   pub there : pieces_of plan.form.input shelf.inputs ≡ Some pieces
   pub lengths : plan.lengths ≡ lengths_of pieces
   pub absent : has_dir plan.form.output shelf ≡ false
+
+-- how the commit of the script's STORE may end
+abbrev pub IsCommitFault : RunFault → Type 0
+IsCommitFault (fault.DepotFault (Some store)) = store ≡ 3
+IsCommitFault fault.OutOfMemory = Unit {0}
+IsCommitFault _ = ⊥

@@ -1,9 +1,16 @@
 //! The top call of the program: it reads the words and the script, runs it, and stores what it means.
 #![tactic(auto)]
 
+mod commit;
+mod filtering;
 mod first_form;
 mod outcome;
 mod plan;
+mod running;
+mod scanning;
+mod stored;
+mod top;
 
-pub use first_form::{FieldType, FirstForm, FormField, FormFields, Literal, first_form as read_form};
+pub use first_form::{FieldType, FirstForm, FormField, FormFields, Literal, first_form as read_form, one_first_form};
 pub use outcome::{Counts, Outcome, RunFault};
+pub use top::{one_verdict, pig_main};

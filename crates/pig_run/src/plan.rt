@@ -1,15 +1,16 @@
-ghost use Rattle.std.specs.Prelude.{◌≡◌, ◌≤◌, ◌⊎◌, ℕ, Some, None, length, map, MatchResult, IfErr};
+ghost use Rattle.std.specs.Prelude.{◌≡◌, ◌⊎◌, ℕ, List, true, false, Some, None, MatchResult, IfOk, IfErr};
 ghost use Rattle.std.specs.Option.{ForSome};
 ghost use Rattle.pig_outside.specs.Shelf.{lengths_at, has_dir};
-ghost use Rattle.pig_run.specs.Answers.{AreWords};
+ghost use Rattle.pig_run.specs.Answers.{AreWords, is_option};
 ghost use Rattle.pig_run.specs.Steps.{IsScriptAt, IsScripted, IsReady, IsRefused, ScriptRefusal, IsDepotStep, IsPlanFault, DepotCause, depot_fault_of};
+ghost use Rattle.pig_run.specs.Running.{IsForm};
 ghost use Rattle.pig_run.specs.declared.first_form.FirstForm.{FirstForm};
 ghost use Rattle.pig_run.specs.declared.outcome.RunFault.TheVariants as fault;
 
 use std::alloc::Global;
 
 use pig_outside::{Depot, OutsideError};
-use pig_value::{Lengths, Words};
+use pig_value::{Lengths, Text, Words};
 
 use crate::first_form::first_form;
 use crate::{FirstForm, RunFault};
@@ -29,17 +30,35 @@ pub fn depot_fault(error: OutsideError, store: Option<u32>) -> RunFault
 
 /// The path of the script that the words name.
 pub fn read_words(words: &Words) -> Result<&str, RunFault>
-    ensures { MatchResult result (λ path. AreWords words.now path.now) (λ f. (f ≡ fault.Usage) × ((path : List ℕ) → ¬ AreWords words.now path)) }
+    ensures found { IfOk result (λ path. AreWords words.now path.now) }
+    ensures usage { IfErr result (λ f. (f ≡ fault.Usage) × ((path : List ℕ) → ¬ AreWords words.now path)) }
 {
     match words.as_slice() {
-        [verb, path] if verb.as_bytes() == b"run" && !path.as_bytes().starts_with(b"-") => Ok(path.as_str()),
+        [verb, path] => {
+            if verb.as_str() == "run" && !begins_option(path) {
+                Ok(path.as_str())
+            } else {
+                Err(RunFault::Usage)
+            }
+        }
         _ => Err(RunFault::Usage),
+    }
+}
+
+/// Whether a word begins with `-`.
+fn begins_option(word: &Text) -> bool
+    ensures { result ≡ is_option word.now }
+{
+    match word.as_bytes() {
+        [b'-', ..] => true,
+        _ => false,
     }
 }
 
 /// The form of the script at a path.
 fn load_form<D: Depot>(alloc: Global, depot: &mut D, path: &str) -> Result<FirstForm, RunFault>
     ensures told { ForSome (D.shelf depot.old) (λ s. MatchResult result (λ f. IsScriptAt path.now s f) (λ f. ScriptRefusal path.now s f)) }
+    ensures form { IfOk result IsForm }
     ensures fault { IfErr result IsPlanFault }
     ensures shelf { D.shelf depot.new ≡ D.shelf depot.old }
     ensures cause { DepotCause (D.faults depot.old) (D.faults depot.new) result }
@@ -53,7 +72,7 @@ fn load_form<D: Depot>(alloc: Global, depot: &mut D, path: &str) -> Result<First
     if script.len() > 1_048_576 {
         return Err(RunFault::NotYet);
     }
-    match first_form(alloc, &script)? {
+    match first_form(alloc, script.as_slice())? {
         Some(form) => Ok(form),
         None => Err(RunFault::NotYet),
     }
@@ -62,6 +81,7 @@ fn load_form<D: Depot>(alloc: Global, depot: &mut D, path: &str) -> Result<First
 /// The form of the script that the words name.
 fn read_plan<D: Depot>(alloc: Global, words: &Words, depot: &mut D) -> Result<FirstForm, RunFault>
     ensures told { ForSome (D.shelf depot.old) (λ s. MatchResult result (λ f. IsScripted words.now s f) (λ f. IsRefused words.now s f)) }
+    ensures form { IfOk result IsForm }
     ensures fault { IfErr result (λ f. (f ≡ fault.Usage) ⊎ IsPlanFault f) }
     ensures usage { IfErr result (λ f. f ≡ fault.Usage → (path : List ℕ) → ¬ AreWords words.now path) }
     ensures shelf { D.shelf depot.new ≡ D.shelf depot.old }
@@ -117,6 +137,7 @@ pub struct Plan {
 /// What is to be run: a form whose input is there and whose output isn't.
 pub fn prepare<D: Depot>(alloc: Global, words: &Words, depot: &mut D) -> Result<Plan, RunFault>
     ensures told { ForSome (D.shelf depot.old) (λ s. MatchResult result (λ p. IsReady words.now s p) (λ f. IsRefused words.now s f)) }
+    ensures form { IfOk result (λ p. IsForm p.form) }
     ensures fault { IfErr result (λ f. (f ≡ fault.Usage) ⊎ IsPlanFault f) }
     ensures usage { IfErr result (λ f. f ≡ fault.Usage → (path : List ℕ) → ¬ AreWords words.now path) }
     ensures shelf { D.shelf depot.new ≡ D.shelf depot.old }

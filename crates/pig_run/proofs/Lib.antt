@@ -1,0 +1,8 @@
+pub mod FormLemmas
+pub mod FormComplete
+pub mod FormSound
+mod Due
+mod Scripts
+mod Keeping
+mod PieceLoop
+mod Verdicts

@@ -1,0 +1,88 @@
+ghost use Rattle.std.specs.Prelude.{◌≡◌, ◌≤◌, ◌⊎◌, ◌↔◌, ℕ, List, [], Option, Some, None, length, All, IfSome, IfErr, MatchResult};
+ghost use Rattle.std.specs.Option.{ForSome};
+ghost use Rattle.pig_outside.specs.Faults.{FailedRose};
+ghost use Rattle.pig_outside.specs.Shelf.{Shelf};
+ghost use Rattle.pig_run.specs.Answers.{AreWords, IsDue, Verdict, Runs, IsAnswer, Leaves, IsRun, TellsOf, Tells, first_of, status_of, no_counts};
+ghost use Rattle.pig_run.specs.Steps.{DepotCause, IsPlanFault};
+ghost use Rattle.pig_run.specs.Running.{IsRunStep, HostCause};
+ghost use Rattle.pig_run.specs.Told.{IsTold};
+ghost use Rattle.pig_run.specs.declared.first_form.FirstForm.{FirstForm};
+ghost use Rattle.pig_run.specs.declared.outcome.RunFault.TheVariants as fault;
+
+use std::alloc::Global;
+use std::thread::Threads;
+
+use pig_outside::{Console, Depot, Host};
+use pig_value::{KeptList, Words};
+
+use crate::plan::prepare;
+use crate::running::perform;
+use crate::{Counts, Outcome, RunFault};
+
+/// Reads the words and the script, and runs it.
+fn run<D: Depot, H: Host>(
+    alloc: Global,
+    words: &Words,
+    depot: &mut D,
+    host: &mut H,
+) -> Result<Counts, RunFault>
+    requires { TellsOf (D.shelf depot.old) (H.inputs host.old) }
+    ensures told { ForSome (D.shelf depot.old) (λ s. IsTold words.now s (H.inputs host.old) (D.shelf depot.new) result) }
+    ensures fault { IfErr result (λ f. (f ≡ fault.Usage) ⊎ IsPlanFault f ⊎ IsRunStep f) }
+    ensures usage { IfErr result (λ f. f ≡ fault.Usage → (path : List ℕ) → ¬ AreWords words.now path) }
+    ensures depot { DepotCause (D.faults depot.old) (D.faults depot.new) result }
+    ensures host { HostCause (H.faults host.old) (H.faults host.new) result }
+{
+    let plan = prepare(alloc, words, depot)?;
+    perform(alloc, depot, host, &plan)
+}
+
+/// Does what the words say, and answers how it ended.
+///
+/// `words` are the program's words without its name: `run` and the path of a script. The depot keeps scripts,
+/// inputs and outputs; the first host reads.
+pub fn pig_main<R: Threads + Sync, D: Depot, H: Host + Send, C: Console>(
+    _rt: &R,
+    alloc: Global,
+    words: &Words,
+    depot: &mut D,
+    hosts: &mut Vec<H>,
+    _console: &mut C,
+) -> Outcome
+    requires some_hosts { 1 ≤ length hosts.old.items }
+    requires few_hosts { length hosts.old.items ≤ 256 }
+    requires hosts_tell { All (λ h. TellsOf (D.shelf depot.old) (H.inputs h)) hosts.old.items }
+    ensures answer { ForSome (D.shelf depot.old) (λ s. (v : Verdict) → IsDue words.now s v → IsAnswer v result.fault) }
+    ensures done { ForSome (D.shelf depot.old) (λ s. (form : FirstForm) (pieces : List (List ℕ)) → IsDue words.now s (Runs form pieces)
+        → All (λ h. Tells (H.inputs h)) hosts.old.items → result.fault ≡ None → IsRun form pieces (D.shelf depot.old) (D.shelf depot.new) result.counts) }
+    ensures state { ForSome (D.shelf depot.old) (λ s. (v : Verdict) → IsDue words.now s v → IfSome result.fault (λ f. Leaves f v (D.shelf depot.old) (D.shelf depot.new))) }
+    ensures usage { (result.fault ≡ Some fault.Usage) ↔ ((path : List ℕ) → ¬ AreWords words.now path) }
+    ensures depot_fault { (store : Option ℕ) → result.fault ≡ Some (fault.DepotFault store) → FailedRose (D.faults depot.old) (D.faults depot.new) }
+    ensures store { (store : ℕ) → result.fault ≡ Some (fault.DepotFault (Some store)) → store ≡ 3 }
+    ensures host_fault { result.fault ≡ Some fault.HostFault → FailedRose (first_of H.faults hosts.old.items) (first_of H.faults hosts.new.items) }
+    ensures status { result.status ≡ status_of result.fault }
+    ensures kept { result.kept ≡ [] }
+    ensures counts { IfSome result.fault (λ _. result.counts ≡ no_counts) }
+    ensures console { (C.text _console.new ≡ C.text _console.old) × (C.faults _console.new ≡ C.faults _console.old) }
+{
+    match run(alloc, words, depot, &mut hosts[0]) {
+        Ok(counts) => Outcome {
+            status: 0,
+            fault: None,
+            kept: KeptList::new(alloc),
+            counts,
+        },
+        Err(fault) => Outcome {
+            status: fault.status(),
+            fault: Some(fault),
+            kept: KeptList::new(alloc),
+            counts: Counts::none(),
+        },
+    }
+}
+
+/// At most one thing is due of the same words and shelf.
+pub fn one_verdict()
+    ensures { (words : List (List ℕ)) (shelf : Shelf) (v w : Verdict) → IsDue words shelf v → IsDue words shelf w → v ≡ w }
+{
+}
