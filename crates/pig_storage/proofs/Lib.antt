@@ -1,6 +1,9 @@
 pub mod Cuts
-mod FirstLine
+pub mod FirstLine
 pub mod Numbers
 mod Pieces
 mod Loops
 pub mod TextLists
+pub mod LineFree
+pub mod StoredRows
+mod FieldLaw
