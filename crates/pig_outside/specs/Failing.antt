@@ -1,0 +1,44 @@
+-- How a device in memory counts its calls and failures.
+use Rattle.std.specs.Prelude.{◌≡◌, ℕ, List, Any, slice_index}
+use Rattle.pig_outside.specs.declared.failing.Method.{Method}
+use Rattle.pig_outside.specs.declared.failing.Method.TheVariants.{Script, Pieces, Exists, Create, Put, Finish, Begin, Read, Write}
+use Rattle.pig_outside.specs.declared.failing.Call.{Call}
+use Rattle.pig_outside.specs.declared.failing.Failing.{Failing}
+
+-- How often it has failed.
+abbrev pub fault_count : Failing → ℕ
+fault_count f = f.faults
+
+-- The calls that are to fail.
+abbrev pub listed_calls : Failing → List Call
+listed_calls f = f.calls
+
+-- The place of a method among the methods.
+abbrev pub method_place : Method → ℕ
+method_place Script = 0
+method_place Pieces = 1
+method_place Exists = 2
+method_place Create = 3
+method_place Put = 4
+method_place Finish = 5
+method_place Begin = 6
+method_place Read = 7
+method_place Write = 8
+
+-- The count of a method among the counts of all.
+abbrev pub count_of : Method → List ℕ → ℕ
+count_of method made = slice_index made (method_place method)
+
+-- How often a method was called; the count stands still at the end of a u64.
+abbrev pub calls_made : Method → Failing → ℕ
+calls_made method f = count_of method f.made
+
+-- That call of the method is to fail.
+abbrev pub IsListed : Method → ℕ → List Call → Type 0
+IsListed method number calls = Any (λ c. (c.method ≡ method) × (c.number ≡ number)) calls
+
+-- These calls are to fail; none was made yet, and none has failed.
+pub record IsUncalled (calls : List Call) (f : Failing) : Type 0 where
+  pub listed : listed_calls f ≡ calls
+  pub none : (method : Method) → calls_made method f ≡ 0
+  pub faults : fault_count f ≡ 0

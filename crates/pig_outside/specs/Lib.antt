@@ -1,0 +1,7 @@
+pub mod Failing
+pub mod Faults
+pub mod Memory
+pub mod Places
+pub mod Shelf
+pub mod ShelfLaws
+pub mod Text

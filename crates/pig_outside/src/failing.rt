@@ -1,0 +1,90 @@
+// Which calls of a device in memory are to fail, and how often it was called.
+ghost use Rattle.std.specs.Prelude.{◌≡◌, ◌≢◌, ◌≤◌, ◌<◌, ◌+◌, ◌-◌, ◌^◌, ◌↔◌, [], length, min, IsTrue, MatchBool};
+ghost use Rattle.pig_outside.specs.Faults.{FailedRose};
+ghost use Rattle.pig_outside.specs.Failing.{fault_count, listed_calls, calls_made, count_of, IsListed};
+
+use pig_value::Seq;
+
+/// A method of a device.
+#[derive(Clone, Copy, Debug, PartialEq, Eq)]
+pub enum Method {
+    Script,
+    Pieces,
+    Exists,
+    Create,
+    Put,
+    Finish,
+    Begin,
+    Read,
+    Write,
+}
+
+/// A call of a device in memory: its method, and its number among the calls of that method, from 1.
+#[derive(Clone, Copy, Debug, PartialEq, Eq)]
+pub struct Call {
+    pub method: Method,
+    pub number: u64,
+}
+
+/// Calls, in any order.
+pub type Calls = Seq<Call>;
+
+/// The calls that are to fail, the calls of each method so far, and the failures so far.
+#[derive(Debug, Drop)]
+pub struct Failing {
+    calls: Calls,
+    made: [u64; 9],
+    faults: u64,
+}
+
+impl Failing {
+    /// No call was made yet.
+    pub fn new(calls: Calls) -> Failing
+        ensures calls { listed_calls result ≡ calls }
+        ensures none { (method : Method) → calls_made method result ≡ 0 }
+        ensures faults { fault_count result ≡ 0 }
+    {
+        Failing {
+            calls,
+            made: [0; 9],
+            faults: 0,
+        }
+    }
+
+    /// One more call of the method is made. Whether it fails, as one of the listed calls.
+    pub fn fails(&mut self, method: Method) -> bool
+        ensures calls { listed_calls self.new ≡ listed_calls self.old }
+        ensures made { calls_made method self.new ≡ min (calls_made method self.old + 1) (2 ^ 64 - 1) }
+        ensures others { (m : Method) → m ≢ method → calls_made m self.new ≡ calls_made m self.old }
+        ensures listed { IsTrue result ↔ IsListed method (calls_made method self.new) (listed_calls self.old) }
+        ensures later { fault_count self.old ≤ fault_count self.new }
+        ensures rose { MatchBool result (FailedRose (fault_count self.old) (fault_count self.new)) (fault_count self.new ≡ fault_count self.old) }
+    {
+        let number = count(&mut self.made, method);
+        let fails = is_listed(self.calls.as_slice(), method, number);
+        if fails {
+            self.faults = self.faults.saturating_add(1);
+        }
+        fails
+    }
+}
+
+/// Counts one more call of the method, and gives its number.
+fn count(made: &mut [u64; 9], method: Method) -> u64
+    ensures number { result ≡ min (count_of method made.old + 1) (2 ^ 64 - 1) }
+    ensures made { count_of method made.new ≡ result }
+    ensures others { (m : Method) → m ≢ method → count_of m made.new ≡ count_of m made.old }
+{
+    let place = method as usize;
+    made[place] = made[place].saturating_add(1);
+    made[place]
+}
+
+/// Whether the call is one of these.
+fn is_listed(calls: &[Call], method: Method, number: u64) -> bool
+    ensures { IsTrue result ↔ IsListed method number calls.now }
+{
+    calls
+        .iter()
+        .any(|call| call.method == method && call.number == number)
+}

@@ -1,0 +1,36 @@
+// A host, by the inputs that it reads.
+ghost use Rattle.std.specs.Prelude.{◌≡◌, ◌≤◌, ℕ, List, Option, OnOk, OnErr, length};
+ghost use Rattle.std.specs.Option.{ForSome};
+ghost use Rattle.pig_value.specs.declared.shared.Input.{Input};
+ghost use Rattle.pig_outside.specs.Faults.{HasCause, FailedRose};
+ghost use Rattle.pig_outside.specs.Shelf.{HasRange, range_of};
+
+use crate::{Failed, OutsideError};
+
+/// Where a worker makes its attempts, and reads.
+pub trait Host {
+    /// The inputs, or none where it doesn't tell. No call changes them.
+    ghost inputs: { Self → Option (List Input) };
+
+    /// How often it has failed.
+    ghost faults: { Self → ℕ };
+
+    /// An attempt starts. Failed: this attempt is lost. It takes no memory.
+    fn begin(&mut self, wave: u32, task: u32, attempt: u32) -> Result<(), Failed>
+        ensures inputs { inputs self.new ≡ inputs self.old }
+        ensures later { faults self.old ≤ faults self.new }
+        ensures failed { OnErr result (FailedRose (faults self.old) (faults self.new)) };
+
+    /// Fills the whole buffer with the bytes of that piece from that place on. A piece that ends early is Failed.
+    fn read(
+        &mut self,
+        path: &str,
+        piece: u32,
+        from: u64,
+        into: &mut [u8],
+    ) -> Result<(), OutsideError>
+        requires { ForSome (inputs self.old) (HasRange path.now piece from (length into.old)) }
+        ensures filled { ForSome (inputs self.old) (λ i. OnOk result (into.new ≡ range_of path.now piece from (length into.old) i)) }
+        ensures inputs { inputs self.new ≡ inputs self.old }
+        ensures cause { HasCause (faults self.old) (faults self.new) result };
+}

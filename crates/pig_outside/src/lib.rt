@@ -1,0 +1,30 @@
+//! What the program meets outside itself: the depot that keeps scripts, inputs and outputs, the hosts on which
+//! workers read, and the console.
+//!
+//! Each is a trait whose ghost members say what it holds, where it tells that, and how often it has failed. The
+//! count of failures never falls, and has risen where a call answers Failed, so a caller can't blame a device that
+//! did what it was asked. The definitions that the clauses cite stand in specs/Shelf.antt (what a depot holds, and
+//! what each call leaves) and specs/Faults.antt (the counts). The laws of the definitions that callers need stand in
+//! specs/ShelfLaws.antt.
+#![tactic(auto)]
+
+mod console;
+mod contents;
+mod depot;
+mod failing;
+mod faults;
+mod host;
+mod lookups;
+mod memory_console;
+mod memory_depot;
+mod memory_host;
+
+pub use console::Console;
+pub use contents::{DirState, Directory, Parts, Source, Sources};
+pub use depot::Depot;
+pub use failing::{Call, Calls, Failing, Method};
+pub use faults::{AttemptFault, Failed, OutsideError};
+pub use host::Host;
+pub use memory_console::MemoryConsole;
+pub use memory_depot::MemoryDepot;
+pub use memory_host::MemoryHost;

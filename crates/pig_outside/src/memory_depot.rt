@@ -1,0 +1,188 @@
+// A depot in memory.
+ghost use Rattle.std.specs.Prelude.{◌≡◌, ◌∷◌, ◌++◌, [], ℕ, List, Some, IfOk, OnOk, OnErr, take, is_some, length, IsSome};
+ghost use Rattle.std.specs.Option.{ForSome, option_map, option_copied};
+ghost use Rattle.pig_outside.specs.Places.{IsPlace};
+ghost use Rattle.pig_outside.specs.Faults.{HasCause};
+ghost use Rattle.pig_outside.specs.Shelf.{lengths_of, state_of, parts_in, set_dir, open_state, whole_state, IsOpenIn, script_of, script_bytes, lengths_at, has_dir, with_new, with_part, with_mark, Grows, CanCreate, CanPut, CanFinish, LeftUnmarked, LeftAbsentOrEmpty};
+
+use crate::failing::{Calls, Failing, Method};
+use crate::lookups::{find, place};
+use crate::{Depot, DirState, Directory, OutsideError, Parts, Sources};
+use pig_value::{Blob, Inputs, Lengths, Seq, Text};
+use std::alloc::{AllocError, Global};
+
+/// A depot in memory. It tells its shelf, and fails at the calls that it was given, and at no other.
+#[derive(Debug, Drop)]
+pub struct MemoryDepot {
+    alloc: Global,
+    scripts: Sources,
+    inputs: Inputs,
+    dirs: Vec<Directory>,
+    failing: Failing,
+}
+
+impl MemoryDepot {
+    ghost use Rattle.pig_outside.specs.Failing.{IsUncalled};
+    ghost use Rattle.pig_outside.specs.Memory.{depot_shelf, depot_calls};
+
+    /// A depot with these scripts and inputs, and no directory. It takes no memory.
+    pub fn new(alloc: Global, scripts: Sources, inputs: Inputs, failing: Calls) -> MemoryDepot
+        ensures shelf { depot_shelf result ≡ record { scripts = scripts; inputs = inputs; dirs = [] } }
+        ensures calls { IsUncalled failing (depot_calls result) }
+    {
+        MemoryDepot {
+            alloc,
+            scripts,
+            inputs,
+            dirs: Vec::new(alloc),
+            failing: Failing::new(failing),
+        }
+    }
+
+    /// The directory of that path. None: there is none.
+    pub fn dir(&self, dir: &str) -> Option<&DirState>
+        ensures { option_copied result ≡ state_of dir.now (depot_shelf self.now).dirs }
+    {
+        match find(self.dirs.as_slice(), dir) {
+            Some(found) => Some(&found.state),
+            None => None,
+        }
+    }
+}
+
+impl Depot for MemoryDepot {
+    ghost use Rattle.pig_outside.specs.Memory.{depot_shelf};
+    ghost use Rattle.pig_outside.specs.Failing.{fault_count};
+
+    ghost shelf = { λ m. Some (depot_shelf m) };
+
+    ghost faults = { λ m. fault_count m.failing };
+
+    fn script(&mut self, path: &str, most: u64, into: &mut Vec<u8>) -> Result<bool, OutsideError> {
+        if self.failing.fails(Method::Script) {
+            return Err(OutsideError::Failed);
+        }
+        match find(self.scripts.as_slice(), path) {
+            Some(source) => {
+                append_front(source.bytes.as_slice(), most, into)?;
+                Ok(true)
+            }
+            None => Ok(false),
+        }
+    }
+
+    fn pieces(&mut self, path: &str) -> Result<Option<Lengths>, OutsideError> {
+        if self.failing.fails(Method::Pieces) {
+            return Err(OutsideError::Failed);
+        }
+        match find(self.inputs.as_slice(), path) {
+            Some(input) => Ok(Some(lengths(self.alloc, input.pieces.as_slice())?)),
+            None => Ok(None),
+        }
+    }
+
+    fn exists(&mut self, dir: &str) -> Result<bool, OutsideError> {
+        if self.failing.fails(Method::Exists) {
+            return Err(OutsideError::Failed);
+        }
+        Ok(find(self.dirs.as_slice(), dir).is_some())
+    }
+
+    fn create(&mut self, dir: &str) -> Result<(), OutsideError> {
+        if self.failing.fails(Method::Create) {
+            return Err(OutsideError::Failed);
+        }
+        add_dir(self.alloc, &mut self.dirs, dir)
+    }
+
+    fn put(&mut self, dir: &str, part: u32, bytes: &[u8]) -> Result<(), OutsideError> {
+        if self.failing.fails(Method::Put) {
+            return Err(OutsideError::Failed);
+        }
+        let _ = part;
+        add_part(self.alloc, &mut self.dirs, dir, bytes)
+    }
+
+    fn finish(&mut self, dir: &str) -> Result<(), OutsideError> {
+        if self.failing.fails(Method::Finish) {
+            return Err(OutsideError::Failed);
+        }
+        mark(&mut self.dirs, dir);
+        Ok(())
+    }
+}
+
+/// Appends the first `most` bytes, or all where there are fewer.
+fn append_front(bytes: &[u8], most: u64, into: &mut Vec<u8>) -> Result<(), AllocError>
+    ensures ok { OnOk result (into.new.items ≡ into.old.items ++ take most bytes.now) }
+    ensures err { OnErr result (into.new.items ≡ into.old.items) }
+{
+    let count = most.min(bytes.len() as u64) as usize;
+    into.extend_from_slice(&bytes[..count])
+}
+
+/// The lengths of the pieces.
+fn lengths(alloc: Global, pieces: &[Blob]) -> Result<Lengths, AllocError>
+    ensures { IfOk result (λ l. l ≡ lengths_of pieces.now) }
+{
+    let lengths = pieces
+        .iter()
+        .map(|piece| piece.len() as u64)
+        .collect(alloc)?;
+    Ok(Seq::from_vec(lengths))
+}
+
+/// Makes an empty directory behind the others.
+fn add_dir(alloc: Global, dirs: &mut Vec<Directory>, dir: &str) -> Result<(), OutsideError>
+    ensures ok { OnOk result (dirs.new.items ≡ dirs.old.items ++ record { path = dir.now; state = open_state [] } ∷ []) }
+    ensures err { OnErr result (dirs.new.items ≡ dirs.old.items) }
+    ensures memory { result ≡ Err OutsideError.Failed → ⊥ }
+{
+    let directory = Directory {
+        path: Text::from_str(alloc, dir)?,
+        state: DirState {
+            parts: Parts::new(alloc),
+            marked: false,
+        },
+    };
+    dirs.push(directory)?;
+    Ok(())
+}
+
+/// Appends a part in that directory.
+fn add_part(
+    alloc: Global,
+    dirs: &mut Vec<Directory>,
+    dir: &str,
+    bytes: &[u8],
+) -> Result<(), OutsideError>
+    requires { IsOpenIn dir.now (parts_in dir.now dirs.old.items) dirs.old.items }
+    ensures ok { OnOk result (dirs.new.items ≡ set_dir dir.now (open_state (parts_in dir.now dirs.old.items ++ bytes.now ∷ [])) dirs.old.items) }
+    ensures err { OnErr result (dirs.new.items ≡ dirs.old.items) }
+    ensures memory { result ≡ Err OutsideError.Failed → ⊥ }
+{
+    let bytes = Blob::from_slice(alloc, bytes)?;
+    let at = existing(dirs.as_slice(), dir);
+    dirs[at].state.parts.push(bytes)?;
+    Ok(())
+}
+
+/// Sets the marker of that directory.
+fn mark(dirs: &mut Vec<Directory>, dir: &str)
+    requires { IsOpenIn dir.now (parts_in dir.now dirs.old.items) dirs.old.items }
+    ensures { dirs.new.items ≡ set_dir dir.now (whole_state (parts_in dir.now dirs.old.items)) dirs.old.items }
+{
+    let at = existing(dirs.as_slice(), dir);
+    dirs[at].state.marked = true;
+}
+
+/// The place of a directory that is there.
+fn existing(dirs: &[Directory], dir: &str) -> usize
+    requires { IsSome (state_of dir.now dirs.now) }
+    ensures { IsPlace dir.now dirs.now result }
+{
+    let Some(at) = place(dirs, dir) else {
+        unreachable!();
+    };
+    at
+}
