@@ -5,5 +5,6 @@ mod Pieces
 mod Loops
 pub mod TextLists
 pub mod LineFree
+pub mod Walks
 pub mod StoredRows
 mod FieldLaw
