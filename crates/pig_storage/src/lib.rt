@@ -13,6 +13,8 @@
 mod laws;
 mod lines;
 mod rows;
+#[cfg(test)]
+mod tests;
 mod writing;
 
 pub use laws::{a_field_has_one_value, rows_of_lines_are_line_free, texts_of_rows_are_lines};
