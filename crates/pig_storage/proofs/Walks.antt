@@ -1,5 +1,5 @@
 -- What a loop over the lines of bytes needs of `next_line` and at the end.
-use Rattle.std.proofs.Common.{◌≡◌, ℕ, List, [], ◌∷◌, length, drop, ◌∙◌, ap, subst}
+use Rattle.std.proofs.Common.{◌≡◌, ℕ, List, [], length, drop, ◌∙◌, ap, subst}
 use Rattle.std.specs.List.{All, slice_range}
 use Rattle.std.proofs.Math.Seq.{drop-length}
 use Rattle.std.proofs.lemmas.List.Elements.{All-head}
