@@ -1,2 +1,10 @@
 pub mod formers
 pub mod Delimiters
+pub mod Trees
+pub mod TreeLaws
+pub mod Orders
+pub mod OrderLaws
+pub mod Lines
+pub mod Fields
+pub mod Texts
+pub mod Stored

@@ -11,12 +11,14 @@
 #![tactic(auto)]
 
 mod boxes;
+mod comparing;
 mod lists;
 mod shared;
 mod texts;
 mod values;
 
 pub use boxes::Boxed;
+pub use comparing::{order, order_rows, same};
 pub use lists::Seq;
 pub use shared::{
     BadDelimiter, ChainOp, Column, Columns, Delim, Dir, Dirs, Input, Inputs, Kept, KeptList, Rel,

@@ -1,7 +1,9 @@
 ghost use Rattle.std.specs.Prelude.{◌≡◌, ◌<◌, ◌≢◌, MatchResult};
+ghost use Rattle.pig_value.specs.Orders.{rel_holds};
 ghost use Rattle.pig_value.specs.Delimiters.{IsDelimiter, delimiter_of};
 
 use crate::{Blobs, Kind, Rows, Seq, Text};
+use std::cmp::Ordering;
 use std::marker::Model;
 
 /// A direction of sorting.
@@ -23,6 +25,22 @@ pub enum Rel {
     Le,
     Gt,
     Ge,
+}
+
+impl Rel {
+    /// Whether the comparison holds where the first operand stands so to the second.
+    pub fn holds(self, found: Ordering) -> bool
+        ensures { result ≡ rel_holds self found }
+    {
+        match self {
+            Rel::Eq => found == Ordering::Equal,
+            Rel::Ne => found != Ordering::Equal,
+            Rel::Lt => found == Ordering::Less,
+            Rel::Le => found != Ordering::Greater,
+            Rel::Gt => found == Ordering::Greater,
+            Rel::Ge => found != Ordering::Less,
+        }
+    }
 }
 
 /// Which sides of a join keep tuples without a partner.

@@ -1,0 +1,4 @@
+pub mod FirstForm
+pub mod Meaning
+pub mod Answers
+pub mod Steps

@@ -1,0 +1,68 @@
+-- What the steps before a run find, and how each may end.
+use Rattle.std.specs.Prelude.{◌≡◌, ◌≤◌, ◌⊎◌, ℕ, true, false, List, Option, Some, None, Result, length, map, IsErrOf}
+use Rattle.pig_outside.specs.declared.faults.OutsideError.{OutsideError}
+use Rattle.pig_outside.specs.declared.faults.OutsideError.TheVariants as outside
+use Rattle.pig_outside.specs.Shelf.{Shelf, script_of, pieces_of, lengths_of, has_dir}
+use Rattle.pig_outside.specs.Faults.{FailedRose}
+use Rattle.pig_run.specs.declared.outcome.RunFault.{RunFault}
+use Rattle.pig_run.specs.declared.outcome.RunFault.TheVariants as fault
+use Rattle.pig_run.specs.declared.first_form.FirstForm.{FirstForm}
+use Rattle.pig_run.specs.declared.plan.Plan.{Plan}
+use Rattle.pig_run.specs.Answers.{AreWords, IsScript, IsDue, IsFree, Refused}
+
+-- the fault that an error of the depot is
+abbrev pub depot_fault_of : OutsideError → Option ℕ → RunFault
+depot_fault_of outside.Failed store = fault.DepotFault store
+depot_fault_of outside.OutOfMemory store = fault.OutOfMemory
+
+-- the depot failed before the commits, or memory was wanting
+abbrev pub IsDepotStep : RunFault → Type 0
+IsDepotStep (fault.DepotFault None) = Unit {0}
+IsDepotStep fault.OutOfMemory = Unit {0}
+IsDepotStep _ = ⊥
+
+-- how a step behind the words and before the run may end
+abbrev pub IsPlanFault : RunFault → Type 0
+IsPlanFault fault.Usage = ⊥
+IsPlanFault fault.HostFault = ⊥
+IsPlanFault (fault.DepotFault (Some _)) = ⊥
+IsPlanFault _ = Unit {0}
+
+-- the depot's count has not fallen, and has risen where the depot is blamed
+pub record DepotCause {T : Type 0} (before now : ℕ) (result : Result T RunFault) : Type 0 where
+  pub later : before ≤ now
+  pub failed : (store : Option ℕ) → IsErrOf result (fault.DepotFault store) → FailedRose before now
+
+-- the script at the path is of this form
+pub record IsScriptAt (path : List ℕ) (shelf : Shelf) (form : FirstForm) : Type 0 where
+  pub script : List ℕ
+  pub there : script_of path shelf ≡ Some script
+  pub is : IsScript form script
+
+-- the script at the path is of no form
+pub record HasNoForm (path : List ℕ) (shelf : Shelf) : Type 0 where
+  pub script : List ℕ
+  pub there : script_of path shelf ≡ Some script
+  pub none : (form : FirstForm) → ¬ IsScript form script
+
+-- why there is no form
+abbrev pub ScriptRefusal : List ℕ → Shelf → RunFault → Type 0
+ScriptRefusal path shelf found = ((found ≡ fault.NoScript) × (script_of path shelf ≡ None)) ⊎ ((found ≡ fault.NotYet) × HasNoForm path shelf) ⊎ IsDepotStep found
+
+-- the words name a script of this form
+pub record IsScripted (words : List (List ℕ)) (shelf : Shelf) (form : FirstForm) : Type 0 where
+  pub path : List ℕ
+  pub words_are : AreWords words path
+  pub script_is : IsScriptAt path shelf form
+
+-- the fault is what is due, or that of a device or of memory
+abbrev pub IsRefused : List (List ℕ) → Shelf → RunFault → Type 0
+IsRefused words shelf found = IsDue words shelf (Refused found) ⊎ IsDepotStep found
+
+-- the form's input is there in pieces of these lengths, and its output isn't there
+pub record IsReady (words : List (List ℕ)) (shelf : Shelf) (plan : Plan) : Type 0 where
+  pub scripted : IsScripted words shelf plan.form
+  pub pieces : List (List ℕ)
+  pub there : pieces_of plan.form.input shelf.inputs ≡ Some pieces
+  pub lengths : plan.lengths ≡ lengths_of pieces
+  pub absent : has_dir plan.form.output shelf ≡ false

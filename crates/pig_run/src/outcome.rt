@@ -1,0 +1,110 @@
+ghost use Rattle.std.specs.Prelude.{◌≡◌, Some};
+ghost use Rattle.pig_run.specs.Answers.{no_counts, status_of};
+ghost use Rattle.pig_run.specs.declared.outcome.RunFault.TheVariants as fault;
+
+use std::alloc::{AllocError, AllocFailed};
+
+use pig_outside::OutsideError;
+use pig_value::{KeptList, Text};
+use thiserror::Error;
+
+/// Why a run did not end well.
+#[derive(Debug, Drop, Error)]
+pub enum RunFault {
+    /// The words are not `run` and the path of a script.
+    #[error("usage: pig run SCRIPT")]
+    Usage,
+    /// The depot has no such script.
+    #[error("there is no such script")]
+    NoScript,
+    /// The script is of no form that is built yet.
+    #[error("the script is of no form that is built yet")]
+    NotYet,
+    /// The depot has no input at the path of a LOAD.
+    #[error("there is no such input")]
+    NoInput { path: Text },
+    /// The depot has the directory of a STORE already.
+    #[error("the output is there already")]
+    OutputExists { dir: Text },
+    /// The depot failed, and has counted it; `store` is the number of the STORE whose directory was being
+    /// made, from 1, and none before.
+    #[error("the depot failed")]
+    DepotFault { store: Option<u32> },
+    /// The host failed, and has counted it.
+    #[error("the host failed")]
+    HostFault,
+    /// Memory was wanting.
+    #[error("out of memory")]
+    OutOfMemory,
+}
+
+impl RunFault {
+    /// The exit status.
+    pub fn status(&self) -> u8
+        ensures { result ≡ status_of (Some self.now) }
+    {
+        match self {
+            RunFault::Usage => 1,
+            RunFault::NoScript => 2,
+            RunFault::NotYet => 3,
+            RunFault::NoInput { .. } => 4,
+            RunFault::OutputExists { .. } => 5,
+            RunFault::DepotFault { .. } => 6,
+            RunFault::HostFault => 7,
+            RunFault::OutOfMemory => 9,
+        }
+    }
+}
+
+impl From<AllocError> for RunFault {
+    ghost from_gives = { λ _ e. e ≡ fault.OutOfMemory };
+
+    fn from(_: AllocError) -> Self {
+        RunFault::OutOfMemory
+    }
+}
+
+impl<T: Drop> From<AllocFailed<T>> for RunFault {
+    ghost from_gives = { λ _ e. e ≡ fault.OutOfMemory };
+
+    fn from(_: AllocFailed<T>) -> Self {
+        RunFault::OutOfMemory
+    }
+}
+
+/// The numbers of a run, each reduced modulo 2 to the 64.
+#[derive(Debug, Clone, Copy, PartialEq, Eq, Drop)]
+pub struct Counts {
+    /// Lines that were read.
+    pub read: u64,
+    /// Entries that map tasks handed on.
+    pub shuffled: u64,
+    /// Lines that were stored.
+    pub stored: u64,
+}
+
+impl Counts {
+    /// The numbers where no run ended well.
+    pub fn none() -> Counts
+        ensures { result ≡ no_counts }
+    {
+        Counts {
+            read: 0,
+            shuffled: 0,
+            stored: 0,
+        }
+    }
+}
+
+/// What a run answers.
+#[derive(Debug, Drop)]
+pub struct Outcome {
+    /// The exit status: 0 where there is no fault.
+    pub status: u8,
+    /// Why the run did not end well.
+    pub fault: Option<RunFault>,
+    /// The rows that each bare LIMIT kept.
+    pub kept: KeptList,
+    /// The numbers of the run.
+    pub counts: Counts,
+}

@@ -1,0 +1,129 @@
+ghost use Rattle.std.specs.Prelude.{◌≡◌, ◌≤◌, ◌⊎◌, ℕ, Some, None, length, map, MatchResult, IfErr};
+ghost use Rattle.std.specs.Option.{ForSome};
+ghost use Rattle.pig_outside.specs.Shelf.{lengths_at, has_dir};
+ghost use Rattle.pig_run.specs.Answers.{AreWords};
+ghost use Rattle.pig_run.specs.Steps.{IsScriptAt, IsScripted, IsReady, IsRefused, ScriptRefusal, IsDepotStep, IsPlanFault, DepotCause, depot_fault_of};
+ghost use Rattle.pig_run.specs.declared.first_form.FirstForm.{FirstForm};
+ghost use Rattle.pig_run.specs.declared.outcome.RunFault.TheVariants as fault;
+
+use std::alloc::Global;
+
+use pig_outside::{Depot, OutsideError};
+use pig_value::{Lengths, Words};
+
+use crate::first_form::first_form;
+use crate::{FirstForm, RunFault};
+
+/// The limit on the length of a script, in bytes.
+const MOST_SCRIPT: u64 = 1_048_576;
+
+/// The fault that an error of the depot is, in the commit of that STORE or before.
+pub fn depot_fault(error: OutsideError, store: Option<u32>) -> RunFault
+    ensures { result ≡ depot_fault_of error store }
+{
+    match error {
+        OutsideError::Failed => RunFault::DepotFault { store },
+        OutsideError::OutOfMemory => RunFault::OutOfMemory,
+    }
+}
+
+/// The path of the script that the words name.
+pub fn read_words(words: &Words) -> Result<&str, RunFault>
+    ensures { MatchResult result (λ path. AreWords words.now path.now) (λ f. (f ≡ fault.Usage) × ((path : List ℕ) → ¬ AreWords words.now path)) }
+{
+    match words.as_slice() {
+        [verb, path] if verb.as_bytes() == b"run" && !path.as_bytes().starts_with(b"-") => Ok(path.as_str()),
+        _ => Err(RunFault::Usage),
+    }
+}
+
+/// The form of the script at a path.
+fn load_form<D: Depot>(alloc: Global, depot: &mut D, path: &str) -> Result<FirstForm, RunFault>
+    ensures told { ForSome (D.shelf depot.old) (λ s. MatchResult result (λ f. IsScriptAt path.now s f) (λ f. ScriptRefusal path.now s f)) }
+    ensures fault { IfErr result IsPlanFault }
+    ensures shelf { D.shelf depot.new ≡ D.shelf depot.old }
+    ensures cause { DepotCause (D.faults depot.old) (D.faults depot.new) result }
+{
+    let mut script = Vec::new(alloc);
+    match depot.script(path, MOST_SCRIPT + 1, &mut script) {
+        Ok(true) => {}
+        Ok(false) => return Err(RunFault::NoScript),
+        Err(error) => return Err(depot_fault(error, None)),
+    }
+    if script.len() > 1_048_576 {
+        return Err(RunFault::NotYet);
+    }
+    match first_form(alloc, &script)? {
+        Some(form) => Ok(form),
+        None => Err(RunFault::NotYet),
+    }
+}
+
+/// The form of the script that the words name.
+fn read_plan<D: Depot>(alloc: Global, words: &Words, depot: &mut D) -> Result<FirstForm, RunFault>
+    ensures told { ForSome (D.shelf depot.old) (λ s. MatchResult result (λ f. IsScripted words.now s f) (λ f. IsRefused words.now s f)) }
+    ensures fault { IfErr result (λ f. (f ≡ fault.Usage) ⊎ IsPlanFault f) }
+    ensures usage { IfErr result (λ f. f ≡ fault.Usage → (path : List ℕ) → ¬ AreWords words.now path) }
+    ensures shelf { D.shelf depot.new ≡ D.shelf depot.old }
+    ensures cause { DepotCause (D.faults depot.old) (D.faults depot.new) result }
+{
+    let path = read_words(words)?;
+    load_form(alloc, depot, path)
+}
+
+/// The lengths of the pieces of the form's input.
+fn find_input<D: Depot>(alloc: Global, depot: &mut D, form: &FirstForm) -> Result<Lengths, RunFault>
+    ensures told { ForSome (D.shelf depot.old) (λ s. MatchResult result
+        (λ lengths. lengths_at form.now.input s ≡ Some lengths)
+        (λ f. ((f ≡ fault.NoInput form.now.input) × (lengths_at form.now.input s ≡ None)) ⊎ IsDepotStep f)) }
+    ensures fault { IfErr result IsPlanFault }
+    ensures shelf { D.shelf depot.new ≡ D.shelf depot.old }
+    ensures cause { DepotCause (D.faults depot.old) (D.faults depot.new) result }
+{
+    match depot.pieces(form.input.as_str()) {
+        Ok(Some(lengths)) => Ok(lengths),
+        Ok(None) => Err(RunFault::NoInput {
+            path: form.input.copy(alloc)?,
+        }),
+        Err(error) => Err(depot_fault(error, None)),
+    }
+}
+
+/// Refuses an output that is there.
+fn check_output<D: Depot>(alloc: Global, depot: &mut D, form: &FirstForm) -> Result<(), RunFault>
+    ensures told { ForSome (D.shelf depot.old) (λ s. MatchResult result
+        (λ _. has_dir form.now.output s ≡ false)
+        (λ f. ((f ≡ fault.OutputExists form.now.output) × (has_dir form.now.output s ≡ true)) ⊎ IsDepotStep f)) }
+    ensures fault { IfErr result IsPlanFault }
+    ensures shelf { D.shelf depot.new ≡ D.shelf depot.old }
+    ensures cause { DepotCause (D.faults depot.old) (D.faults depot.new) result }
+{
+    match depot.exists(form.output.as_str()) {
+        Ok(false) => Ok(()),
+        Ok(true) => Err(RunFault::OutputExists {
+            dir: form.output.copy(alloc)?,
+        }),
+        Err(error) => Err(depot_fault(error, None)),
+    }
+}
+
+/// A form with the lengths of its input's pieces.
+#[derive(Drop)]
+pub struct Plan {
+    pub form: FirstForm,
+    pub lengths: Lengths,
+}
+
+/// What is to be run: a form whose input is there and whose output isn't.
+pub fn prepare<D: Depot>(alloc: Global, words: &Words, depot: &mut D) -> Result<Plan, RunFault>
+    ensures told { ForSome (D.shelf depot.old) (λ s. MatchResult result (λ p. IsReady words.now s p) (λ f. IsRefused words.now s f)) }
+    ensures fault { IfErr result (λ f. (f ≡ fault.Usage) ⊎ IsPlanFault f) }
+    ensures usage { IfErr result (λ f. f ≡ fault.Usage → (path : List ℕ) → ¬ AreWords words.now path) }
+    ensures shelf { D.shelf depot.new ≡ D.shelf depot.old }
+    ensures cause { DepotCause (D.faults depot.old) (D.faults depot.new) result }
+{
+    let form = read_plan(alloc, words, depot)?;
+    let lengths = find_input(alloc, depot, &form)?;
+    check_output(alloc, depot, &form)?;
+    Ok(Plan { form, lengths })
+}

@@ -1,0 +1,19 @@
+//! PigStorage text: lines, rows and the texts of rows.
+//!
+//! An input is bytes that are cut into lines at each LF, a line into fields at each delimiter.
+//! [`next_line`] walks the lines, [`line_row`] reads a line's row at the columns of a LOAD, and
+//! [`write_row`] appends the text of a row and an LF.
+//!
+//! Each is proved to be what pig_value's `specs/` define: `Lines` (`lines`, `stored_lines`), `Fields`
+//! (`IsField`, `field_of`, `row_of`) and `Texts` (`text_of`, `row_text`, `IsLineFree`). What follows of
+//! these definitions for whole inputs and outputs is in `laws`; crates above cite the lemmas of
+//! `proofs/Walks`, `proofs/LineFree` and `proofs/StoredRows`.
+#![tactic(auto)]
+
+mod lines;
+mod rows;
+mod writing;
+
+pub use lines::{Span, next_line};
+pub use rows::line_row;
+pub use writing::write_row;

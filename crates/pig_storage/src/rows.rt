@@ -1,0 +1,146 @@
+ghost use Rattle.std.specs.Prelude.{◌≡◌, ◌<◌, ◌≤◌, length, drop, All, IfOk};
+ghost use Rattle.std.specs.Int.{w32};
+ghost use Rattle.std.specs.Option.{option_map_or};
+ghost use Rattle.pig_value.specs.Fields.{field_of, number_of, pieces, column_of, row_of};
+ghost use Rattle.pig_value.specs.Trees.{tree, row_tree, kind_tree, v_int, v_null};
+ghost use Rattle.pig_storage.specs.Pieces.{IsPiece, IsReadKind};
+
+use memchr::memchr;
+use pig_value::{Column, Columns, Delim, Kind, Seq, Text, Tuple, Value};
+use std::alloc::{AllocError, Global};
+use std::str;
+
+/// The row of a line at these columns: the line is cut at every delimiter, also in nested text, and each
+/// column is what its kind reads from the piece at its position, or null where the line has no such
+/// piece. Columns may repeat, leave positions out and stand in any order.
+pub fn line_row(
+    alloc: Global,
+    line: &[u8],
+    delim: Delim,
+    columns: &Columns,
+) -> Result<Tuple, AllocError>
+    requires { All (λ c. IsReadKind (kind_tree c.kind)) columns.now }
+    ensures { IfOk result (λ row. row_tree row ≡ row_of columns.now delim line.now) }
+{
+    let byte = delim.byte();
+    let mut row = Vec::with_capacity(alloc, columns.len())?;
+    let mut piece = piece_from(line, byte, 0, 0);
+    for column in columns.as_slice() {
+        piece = piece_towards(line, byte, piece, column.position);
+        row.push(column_value(alloc, line, byte, piece, column)?)?;
+    }
+    Ok(Seq::from_vec(row))
+}
+
+// A piece of a line: its position among the pieces, from 0, and where it stands.
+#[derive(Clone, Copy)]
+struct Piece {
+    position: u32,
+    from: usize,
+    to: usize,
+}
+
+// The piece at a position, or the last piece before it where the line has no such piece. Goes on from a
+// piece that is known, and begins anew only where that stands behind the position.
+fn piece_towards(line: &[u8], byte: u8, known: Piece, position: u32) -> Piece
+    requires { IsPiece byte line.now known }
+    ensures piece { IsPiece byte line.now result }
+    ensures ordered { result.position ≤ position }
+    ensures last { result.position < position → result.to ≡ length line.now }
+{
+    if position < known.position {
+        piece_onwards(line, byte, piece_from(line, byte, 0, 0), position)
+    } else {
+        piece_onwards(line, byte, known, position)
+    }
+}
+
+// The same, going on from a piece that does not stand behind the position.
+fn piece_onwards(line: &[u8], byte: u8, known: Piece, position: u32) -> Piece
+    requires known { IsPiece byte line.now known }
+    requires ahead { known.position ≤ position }
+    ensures piece { IsPiece byte line.now result }
+    ensures ordered { result.position ≤ position }
+    ensures last { result.position < position → result.to ≡ length line.now }
+{
+    let mut piece = known;
+    for next in known.position..position {
+        if piece.to == line.len() {
+            return piece;
+        }
+        piece = piece_from(line, byte, piece.to + 1, next + 1);
+    }
+    piece
+}
+
+// The piece that starts at a place.
+fn piece_from(line: &[u8], byte: u8, from: usize, position: u32) -> Piece
+    requires within { from ≤ length line.now }
+    requires starts { drop position (pieces byte line.now) ≡ pieces byte (drop from line.now) }
+    ensures piece { IsPiece byte line.now result }
+    ensures position { result.position ≡ position }
+{
+    let to = match memchr(byte, &line[from..]) {
+        Some(at) => from + at,
+        None => line.len(),
+    };
+    Piece { position, from, to }
+}
+
+// The value of a column, by the piece that is nearest to its position.
+fn column_value(
+    alloc: Global,
+    line: &[u8],
+    byte: u8,
+    piece: Piece,
+    column: &Column,
+) -> Result<Value, AllocError>
+    requires kind { IsReadKind (kind_tree column.now.kind) }
+    requires piece { IsPiece byte line.now piece }
+    requires ordered { piece.position ≤ column.now.position }
+    requires last { piece.position < column.now.position → piece.to ≡ length line.now }
+    ensures { IfOk result (λ v. tree v ≡ column_of (pieces byte line.now) column.now) }
+{
+    if piece.position < column.position {
+        return Ok(Value::Null);
+    }
+    read_field(alloc, &line[piece.from..piece.to], &column.kind)
+}
+
+// The value of a field's bytes at a kind.
+fn read_field(alloc: Global, bytes: &[u8], kind: &Kind) -> Result<Value, AllocError>
+    requires { IsReadKind (kind_tree kind.now) }
+    ensures { IfOk result (λ v. tree v ≡ field_of (kind_tree kind.now) bytes.now) }
+{
+    if bytes.is_empty() {
+        return Ok(Value::Null);
+    }
+    match kind {
+        Kind::Int => Ok(int_or_null(number(bytes))),
+        Kind::Chararray => {
+            let text = String::from_utf8_lossy(alloc, bytes)?;
+            Ok(Value::Chars(Text::from_string(text)))
+        }
+        // No column has another kind.
+        _ => Ok(Value::Null),
+    }
+}
+
+fn int_or_null(number: Option<i32>) -> Value
+    ensures { tree result ≡ option_map_or v_int number v_null }
+{
+    match number {
+        Some(number) => Value::Int(number),
+        None => Value::Null,
+    }
+}
+
+// The int that the bytes write: an optional sign and digits, in range.
+fn number(bytes: &[u8]) -> Option<i32>
+    ensures { result ≡ number_of w32 bytes.now }
+{
+    match str::from_utf8(bytes) {
+        Ok(text) => text.parse::<i32>().ok(),
+        Err(_) => None,
+    }
+}
