@@ -24,7 +24,7 @@ mod tests;
 pub use console::Console;
 pub use contents::{DirState, Directory, Parts, Source, Sources};
 pub use depot::Depot;
-pub use failing::{Call, Calls, Failing, Method};
+pub use failing::{Call, Calls, Method};
 pub use faults::{AttemptFault, Failed, OutsideError};
 pub use host::Host;
 pub use memory_console::MemoryConsole;
