@@ -1,19 +1,18 @@
 -- From what each step finds to what is due.
-use Rattle.std.proofs.Common.{◌≡◌, ℕ, true, false, List, [], ◌∷◌, Option, Some, None, refl, sym, ◌∙◌, ap, subst, inl, inr, ◌⊎◌}
+use Rattle.std.proofs.Common.{◌≡◌, ℕ, true, false, List, Option, Some, None, refl, sym, subst, inl, inr, ◌⊎◌}
 use Rattle.std.specs.Option.{option_map}
-use Rattle.pig_outside.specs.Shelf.{Shelf, script_of, pieces_of, lengths_of, lengths_at, has_dir}
+use Rattle.pig_outside.specs.Shelf.{Shelf, pieces_of, lengths_of, lengths_at, has_dir}
 use Rattle.pig_run.specs.declared.outcome.RunFault.{RunFault}
 use Rattle.pig_run.specs.declared.outcome.RunFault.TheVariants as fault
 use Rattle.pig_run.specs.declared.first_form.FirstForm.{FirstForm}
-use Rattle.pig_run.specs.declared.plan.Plan.{Plan}
-use Rattle.pig_run.specs.Answers.{AreWords, IsScript, IsDue, usage, no_script, not_yet, no_input, output_exists, runs, Verdict, Refused, Runs}
-use Rattle.pig_run.specs.Steps.{IsScriptAt, IsScripted, IsReady, IsRefused, ScriptRefusal, IsDepotStep}
+use Rattle.pig_run.specs.Answers.{AreWords, HasWords, IsDue, usage, no_script, not_yet, no_input, output_exists, Refused}
+use Rattle.pig_run.specs.Steps.{IsScripted, IsReady, IsRefused, ScriptRefusal, IsDepotStep, IsPlanFault, IsNotUsage}
 
 due_as : (words : List (List ℕ)) (s : Shelf) (f g : RunFault) → f ≡ g → IsDue words s (Refused g) → IsDue words s (Refused f)
 due_as words s f g same due = subst (λ x. IsDue words s (Refused x)) (sym same) due
 
-pub words_refused : (words : List (List ℕ)) (s : Shelf) (f : RunFault) → (f ≡ fault.Usage) × ((path : List ℕ) → ¬ AreWords words path) → IsRefused words s f
-words_refused words s f h = inl (due_as words s f fault.Usage h.0 (usage h.1))
+pub words_refused : (words : List (List ℕ)) (s : Shelf) (f : RunFault) → (f ≡ fault.Usage) × (¬ HasWords words) → IsRefused words s f
+words_refused words s f h = inl (due_as words s f fault.Usage h.0 (usage (λ path are. h.1 (path, are))))
 
 pub script_refused : (words : List (List ℕ)) (s : Shelf) (path : List ℕ) → AreWords words path → (f : RunFault) → ScriptRefusal path s f → IsRefused words s f
 script_refused words s path are f (inl (is, none)) = inl (due_as words s f fault.NoScript is (no_script are none))
@@ -36,7 +35,7 @@ module _ (words : List (List ℕ)) (s : Shelf) (form : FirstForm) (is : IsScript
   input_refused f (inr step) = inr step
 
   pub output_refused : (lengths : List ℕ) → lengths_at form.input s ≡ Some lengths
-    → (f : RunFault) → ((f ≡ fault.OutputExists form.output) × (has_dir form.output s ≡ true)) ⊎ IsDepotStep f → IsRefused words s f
+      → (f : RunFault) → ((f ≡ fault.OutputExists form.output) × (has_dir form.output s ≡ true)) ⊎ IsDepotStep f → IsRefused words s f
   output_refused lengths there f (inl (same, exists)) =
       let behind = pieces_behind (pieces_of form.input s.inputs) lengths there in
       inl (due_as words s f (fault.OutputExists form.output) same (output_exists is.words_are is.script_is.there is.script_is.is behind.1 exists))
@@ -46,3 +45,14 @@ module _ (words : List (List ℕ)) (s : Shelf) (form : FirstForm) (is : IsScript
   is_ready lengths there absent =
       let behind = pieces_behind (pieces_of form.input s.inputs) lengths there in
       record { scripted = is; pieces = behind.0; there = behind.1; lengths = behind.2; absent = absent }
+
+-- no step behind the words blames the words
+pub not_usage : (f : RunFault) → IsPlanFault f → IsNotUsage f
+not_usage fault.Usage h = h
+not_usage fault.NoScript h = tt
+not_usage fault.NotYet h = tt
+not_usage (fault.NoInput path) h = tt
+not_usage (fault.OutputExists dir) h = tt
+not_usage (fault.DepotFault store) h = tt
+not_usage fault.HostFault h = tt
+not_usage fault.OutOfMemory h = tt

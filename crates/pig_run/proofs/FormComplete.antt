@@ -1,9 +1,8 @@
 -- The readers read what the texts of the first form write.
-use Rattle.std.proofs.Common.{◌≡◌, ℕ, zero, suc, ◌-◌, ◌+◌, ◌<◌, ◌≤◌, ◌≢◌, List, [], ◌∷◌, ◌++◌, Bool, true, false, cond, refl, sym, ap, ◌∙◌, subst, length, map, arith, rules, append_assoc}
+use Rattle.std.proofs.Common.{◌≡◌, ℕ, zero, suc, ◌+◌, ◌<◌, ◌≤◌, ◌≢◌, List, [], ◌∷◌, ◌++◌, Bool, true, false, refl, sym, ap, ◌∙◌, subst, length, arith, append_assoc}
 use Rattle.std.specs.Prelude.{Option, Some, None, codes, get_or, ◌==◌, ◌&&◌, nat_lt, nat_le, not, slice_get, position, IsSomeAnd, bytes_eq}
 use Rattle.std.specs.Char.{is_ascii_lowercase, is_ascii_digit}
 use Rattle.std.specs.List.{list_all, list_any, IsDistinct, AllByRecursion, position_from}
-use Rattle.std.proofs.lemmas.Grind.{common_steps}
 use Rattle.std.proofs.lemmas.Bool.Decides.{nat_tests}
 use Rattle.std.proofs.lemmas.List.Folds.{list_all-append}
 use Rattle.std.proofs.lemmas.Iterator.Adapters.{position_from-zero}
@@ -17,8 +16,8 @@ use Rattle.pig_run.specs.declared.first_form.FormField.{FormField}
 use Rattle.pig_run.specs.declared.first_form.Literal.{Literal}
 use Rattle.pig_run.specs.declared.first_form.Literal.TheVariants.{Number, Letters}
 use Rattle.pig_run.specs.declared.first_form.FirstForm.{FirstForm}
-use Rattle.pig_run.specs.FirstForm.{type_text, field_text, more_text, fields_text, relation_text, literal_text, names, load_line, filter_line, store_line, form_text, IsPath, IsNumber, IsWord, IsLiteralOf, IsFirstForm}
-use Rattle.pig_run.specs.FormReader.{strip, run, past, word_at, path_at, number_at, literal_at, relation_among, relations, letter_at, type_at, field_at, fields_after, names_differ, may_compare, compared_at, inside, load_at, filter_at, store_at, Pieces, pieces_at, form_of}
+use Rattle.pig_run.specs.FirstForm.{type_text, field_text, more_text, fields_text, relation_text, literal_text, names, IsPath, IsNumber, IsWord, IsLiteralOf, IsFirstForm}
+use Rattle.pig_run.specs.FormReader.{strip, word_at, path_at, number_at, literal_at, relation_among, relations, letter_at, type_at, field_at, fields_after, names_differ, may_compare, compared_at, inside, load_at, filter_at, store_at, Pieces, pieces_at, form_of}
 use Rattle.pig_run.proofs.FormLemmas.{same, some_same, strip-append, run-append, past-append, both_first, both_second}
 
 le_true : (a b : ℕ) → a ≤ b → nat_le a b ≡ true
@@ -96,15 +95,18 @@ behind_some b bs = some_false (length (b ∷ bs)) (omega arith)
 
 -- the fields
 pub fields_done : (n : ℕ) (found : List FormField) (f : FormField) (fs : List FormField) → length fs < n → list_all is_ascii_lowercase (names (f ∷ fs)) ≡ true
-  → fields_after n found (fields_text (f ∷ fs)) ≡ Some (found ++ f ∷ fs)
+    → fields_after n found (fields_text (f ∷ fs)) ≡ Some (found ++ f ∷ fs)
 unfolding fields_after
 fields_done zero found f fs few lower = absurd (omega arith)
 fields_done (suc n) found f [] few lower = rw (field_done f [] (both_first (is_ascii_lowercase f.name) true lower)) refl
 fields_done (suc n) found f (g ∷ gs) few lower =
     let rest : fields_after n (found ++ f ∷ []) (fields_text (g ∷ gs)) ≡ Some ((found ++ f ∷ []) ++ g ∷ gs) =
-      fields_done n (found ++ f ∷ []) g gs (omega arith) (both_second (is_ascii_lowercase f.name) (list_all is_ascii_lowercase (names (g ∷ gs))) lower) in
-    rw (field_done f (codes ", " ++ fields_text (g ∷ gs)) (both_first (is_ascii_lowercase f.name) (list_all is_ascii_lowercase (names (g ∷ gs))) lower),
-      behind_some 44 (32 ∷ fields_text (g ∷ gs)), strip-append (codes ", ") (fields_text (g ∷ gs)))
+    fields_done n (found ++ f ∷ []) g gs (omega arith) (both_second (is_ascii_lowercase f.name) (list_all is_ascii_lowercase (names (g ∷ gs))) lower) in
+    rw (
+      field_done f (codes ", " ++ fields_text (g ∷ gs)) (both_first (is_ascii_lowercase f.name) (list_all is_ascii_lowercase (names (g ∷ gs))) lower),
+      behind_some 44 (32 ∷ fields_text (g ∷ gs)),
+      strip-append (codes ", ") (fields_text (g ∷ gs)),
+    )
     (rest ∙ ap Some (append_assoc found (f ∷ []) (g ∷ gs)))
 
 -- no byte of the fields' text closes the parenthesis
@@ -120,10 +122,12 @@ field_inside f h = rw (letter_inside f.name h) (type_inside f.kind)
 
 more_inside : (fs : List FormField) → list_all is_ascii_lowercase (names fs) ≡ true → list_all inside (more_text fs) ≡ true
 more_inside [] h = refl
-more_inside (f ∷ fs) h = 
-    rw (list_all-append inside (field_text f) (more_text fs),
+more_inside (f ∷ fs) h =
+    rw (
+      list_all-append inside (field_text f) (more_text fs),
       field_inside f (both_first (is_ascii_lowercase f.name) (list_all is_ascii_lowercase (names fs)) h),
-      more_inside fs (both_second (is_ascii_lowercase f.name) (list_all is_ascii_lowercase (names fs)) h)) refl
+      more_inside fs (both_second (is_ascii_lowercase f.name) (list_all is_ascii_lowercase (names fs)) h),
+    ) refl
 
 pub fields_inside : (fs : List FormField) → list_all is_ascii_lowercase (names fs) ≡ true → list_all inside (fields_text fs) ≡ true
 fields_inside [] h = refl
@@ -146,7 +150,7 @@ all_at P (g ∷ fs) zero f h is = let e : g ≡ f = cc in subst (λ v. P v.name)
 all_at P (g ∷ fs) (suc at) f h is = all_at P fs at f h.1 is
 
 place_from : (fs : List FormField) (at i : ℕ) (f : FormField) → IsDistinct ◌==◌ (names fs) → slice_get fs at ≡ Some f
-  → position_from (λ g. g.name == f.name) i fs ≡ Some (i + at)
+    → position_from (λ g. g.name == f.name) i fs ≡ Some (i + at)
 place_from [] at i f h is = absurd (cc)
 place_from (g ∷ fs) zero i f h is =
     let e : g ≡ f = cc in
@@ -157,7 +161,7 @@ place_from (g ∷ fs) (suc at) i f h is =
     rw other (place_from fs at (i + 1) f (IsDistinct-tail ◌==◌ g.name (names fs) h) is ∙ ap Some (omega arith))
 
 place_done : (fs : List FormField) (at : ℕ) (f : FormField) → IsDistinct ◌==◌ (names fs) → slice_get fs at ≡ Some f
-  → position (λ g. g.name == f.name) fs ≡ Some at
+    → position (λ g. g.name == f.name) fs ≡ Some at
 place_done fs at f h is = position_from-zero (λ g. g.name == f.name) fs ∙ place_from fs at 0 f h is ∙ ap Some (omega arith)
 
 -- a literal of the field's type may be compared with it
@@ -168,33 +172,37 @@ fits_done Chararray (Number d) h = absurd h
 fits_done Chararray (Letters w) h = refl
 
 pub compared_done : (fs : List FormField) (at : ℕ) (f : FormField) (l : Literal) → IsDistinct ◌==◌ (names fs) → slice_get fs at ≡ Some f
-  → IsLiteralOf f.kind l → compared_at fs f.name l ≡ Some at
+    → IsLiteralOf f.kind l → compared_at fs f.name l ≡ Some at
 unfolding compared_at
 compared_done fs at f l h is fits = rw (place_done fs at f h is, is, fits_done f.kind l fits) refl
 
 -- the first line
 pub load_done : (input fields rest : List ℕ) → IsPath input → list_all inside fields ≡ true
-  → load_at (codes "a = LOAD '" ++ (input ++ (codes "' AS (" ++ (fields ++ (codes ");\n" ++ rest))))) ≡ Some (input, fields, rest)
+    → load_at (codes "a = LOAD '" ++ (input ++ (codes "' AS (" ++ (fields ++ (codes ");\n" ++ rest))))) ≡ Some (input, fields, rest)
 unfolding load_at
 load_done input fields rest p all =
-    rw (strip-append (codes "a = LOAD '") (input ++ (codes "' AS (" ++ (fields ++ (codes ");\n" ++ rest)))),
+    rw (
+      strip-append (codes "a = LOAD '") (input ++ (codes "' AS (" ++ (fields ++ (codes ");\n" ++ rest)))),
       path_done input (codes " AS (" ++ (fields ++ (codes ");\n" ++ rest))) p,
       strip-append (codes " AS (") (fields ++ (codes ");\n" ++ rest)),
       run-append inside fields 41 (codes ";\n" ++ rest) all refl,
       past-append inside fields 41 (codes ";\n" ++ rest) all refl,
-      strip-append (codes ");\n") rest) refl
+      strip-append (codes ");\n") rest,
+    ) refl
 
 -- the second line
 pub filter_done : (name : ℕ) (s : Rel) (k : FieldType) (l : Literal) (rest : List ℕ) → is_ascii_lowercase name ≡ true → IsLiteralOf k l
-  → filter_at (codes "b = FILTER a BY " ++ (name ∷ (codes " " ++ ((relation_text s ++ codes " ") ++ (literal_text l ++ (codes ";\n" ++ rest)))))) ≡ Some (name, s, l, rest)
+    → filter_at (codes "b = FILTER a BY " ++ (name ∷ (codes " " ++ ((relation_text s ++ codes " ") ++ (literal_text l ++ (codes ";\n" ++ rest)))))) ≡ Some (name, s, l, rest)
 unfolding filter_at
 filter_done name s k l rest lower fits =
-    rw (strip-append (codes "b = FILTER a BY ") (name ∷ (codes " " ++ ((relation_text s ++ codes " ") ++ (literal_text l ++ (codes ";\n" ++ rest))))),
+    rw (
+      strip-append (codes "b = FILTER a BY ") (name ∷ (codes " " ++ ((relation_text s ++ codes " ") ++ (literal_text l ++ (codes ";\n" ++ rest))))),
       letter_done name (codes " " ++ ((relation_text s ++ codes " ") ++ (literal_text l ++ (codes ";\n" ++ rest)))) lower,
       strip-append (codes " ") ((relation_text s ++ codes " ") ++ (literal_text l ++ (codes ";\n" ++ rest))),
       relation_done s (literal_text l ++ (codes ";\n" ++ rest)),
       literal_done k l (10 ∷ rest) fits,
-      strip-append (codes ";\n") rest) refl
+      strip-append (codes ";\n") rest,
+    ) refl
 
 -- the third line
 pub store_done : (output rest : List ℕ) → IsPath output → store_at (codes "STORE b INTO '" ++ (output ++ (codes "';\n" ++ rest))) ≡ Some (output, rest)
@@ -213,11 +221,11 @@ regrouped a b c d e f g h i j k l m n = simp append_assoc
 pub lines_split :
     (input fields : List ℕ) (name : ℕ) (sign lit output : List ℕ)
     → ((codes "a = LOAD '" ++ input ++ codes "' AS (" ++ fields ++ codes ");\n")
-      ++ (codes "b = FILTER a BY " ++ name ∷ codes " " ++ sign ++ codes " " ++ lit ++ codes ";\n"))
+    ++ (codes "b = FILTER a BY " ++ name ∷ codes " " ++ sign ++ codes " " ++ lit ++ codes ";\n"))
     ++ (codes "STORE b INTO '" ++ output ++ codes "';\n")
     ≡ codes "a = LOAD '" ++ (input ++ (codes "' AS (" ++ (fields ++ (codes ");\n" ++ (codes "b = FILTER a BY " ++ (name
-                      ∷ (codes " "
-                        ++ ((sign ++ codes " ") ++ (lit ++ (codes ";\n" ++ (codes "STORE b INTO '" ++ (output ++ (codes "';\n" ++ [])))))))))))))
+    ∷ (codes " "
+    ++ ((sign ++ codes " ") ++ (lit ++ (codes ";\n" ++ (codes "STORE b INTO '" ++ (output ++ (codes "';\n" ++ [])))))))))))))
 lines_split input fields name sign lit output =
     regrouped (codes "a = LOAD '") input (codes "' AS (") fields (codes ");\n") (codes "b = FILTER a BY ") (name ∷ codes " ") sign (codes " ") lit
     (codes ";\n") (codes "STORE b INTO '") output (codes "';\n")
@@ -246,7 +254,7 @@ name_at (g ∷ fs) zero f is = let e : g ≡ f = cc in ap (λ v. v.name) e
 name_at (g ∷ fs) (suc at) f is = name_at fs at f is
 
 lower_at : (fs : List FormField) (at : ℕ) (f : FormField) → list_all is_ascii_lowercase (names fs) ≡ true → slice_get fs at ≡ Some f
-  → is_ascii_lowercase f.name ≡ true
+    → is_ascii_lowercase f.name ≡ true
 lower_at [] at f h is = absurd (cc)
 lower_at (g ∷ fs) zero f h is =
     let e : g ≡ f = cc in
@@ -260,7 +268,7 @@ told_other a b false e h = refl
 
 -- the fields of a list that is not empty
 all_fields_done : (fs : List FormField) → 1 ≤ length fs → length fs ≤ 9 → list_all is_ascii_lowercase (names fs) ≡ true
-  → fields_after 9 [] (fields_text fs) ≡ Some fs
+    → fields_after 9 [] (fields_text fs) ≡ Some fs
 all_fields_done [] some few lower = absurd (omega arith)
 all_fields_done (f ∷ fs) some few lower = fields_done 9 [] f fs (omega arith) lower
 
@@ -286,16 +294,24 @@ module _ (f : FirstForm) (script : List ℕ) (h : IsFirstForm f script) where
   pub pieces_done : pieces_at script ≡ Some (pieces_from f)
   unfolding pieces_at
   pieces_done =
-      rw (h.text, lines_split f.input (fields_text f.fields) (get_or (names f.fields) f.compared 0) (relation_text f.relation) (literal_text f.literal) f.output,
+      rw (
+        h.text,
+        lines_split f.input (fields_text f.fields) (get_or (names f.fields) f.compared 0) (relation_text f.relation) (literal_text f.literal) f.output,
         load_done f.input (fields_text f.fields) second h.input (fields_inside f.fields h.letters),
         filter_done (get_or (names f.fields) f.compared 0) f.relation the_field.0.kind f.literal third lower_name the_field.2,
-        store_done f.output [] h.output, apart) refl
+        store_done f.output [] h.output,
+        apart,
+      ) refl
 
   pub form_done : form_of (pieces_from f) ≡ Some f
   unfolding form_of
   form_done =
-      rw (all_fields_done f.fields h.some_fields h.few_fields h.letters, distinct_done f.fields h.distinct, the_name,
-        compared_done f.fields f.compared the_field.0 f.literal h.distinct the_field.1 the_field.2) refl
+      rw (
+        all_fields_done f.fields h.some_fields h.few_fields h.letters,
+        distinct_done f.fields h.distinct,
+        the_name,
+        compared_done f.fields f.compared the_field.0 f.literal h.distinct the_field.1 the_field.2,
+      ) refl
 
 -- a script has at most one reading
 pub one_reading : (f g : FirstForm) (script : List ℕ) → IsFirstForm f script → IsFirstForm g script → f ≡ g

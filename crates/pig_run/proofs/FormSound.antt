@@ -1,11 +1,10 @@
 -- What the readers of the first form read is what its texts write.
-use Rattle.std.proofs.Common.{◌≡◌, ℕ, zero, suc, ◌-◌, ◌+◌, ◌<◌, ◌≤◌, ◌≢◌, List, [], ◌∷◌, ◌++◌, Bool, true, false, cond, refl, sym, ap, ◌∙◌, subst, length, map, arith, rules, append_assoc}
+use Rattle.std.proofs.Common.{◌≡◌, ℕ, zero, suc, ◌<◌, ◌≤◌, ◌≢◌, List, [], ◌∷◌, ◌++◌, Bool, true, false, cond, refl, sym, ap, ◌∙◌, subst, length, arith, append_assoc}
 use Rattle.std.specs.Prelude.{Option, Some, None, option_map, option_and_then, codes, get_or, ◌==◌, ◌&&◌, ◌||◌, nat_lt, nat_le, not, slice_get, position, bytes_eq, MatchOption, IfOk, Result, Ok, Err}
 use Rattle.std.specs.Char.{is_ascii_lowercase, is_ascii_digit}
 use Rattle.std.specs.List.{list_all, list_any, IsDistinct, AllByRecursion}
 use Rattle.std.specs.Option.{option_map_or}
 use Rattle.std.specs.Cmp.Lexicographic.{other_text}
-use Rattle.std.proofs.lemmas.Grind.{common_steps}
 use Rattle.std.proofs.lemmas.Bool.Decides.{nat_tests}
 use Rattle.std.proofs.lemmas.Option.{get_or_from_slice_get}
 use Rattle.std.proofs.lemmas.List.Quantifiers.{position-Some}
@@ -86,12 +85,12 @@ abbrev pub ReadsLiteral : List ℕ → Literal × List ℕ → Type 0
 ReadsLiteral bs found = IsLiteral found.0 × (bs ≡ literal_text found.0 ++ found.1)
 
 quoted_sound : (bs rest : List ℕ) (found : Literal × List ℕ) → strip (codes "'") bs ≡ Some rest
-  → option_map (λ (v : List ℕ × List ℕ). (Letters v.0, v.1)) (word_at rest) ≡ Some found → ReadsLiteral bs found
+    → option_map (λ (v : List ℕ × List ℕ). (Letters v.0, v.1)) (word_at rest) ≡ Some found → ReadsLiteral bs found
 quoted_sound bs rest found quote h =
     let m = map_some (λ (v : List ℕ × List ℕ). (Letters v.0, v.1)) (word_at rest) found h in
     let w = word_sound rest m.0 m.1 in
     let whole : bs ≡ (codes "'" ++ m.0.0 ++ codes "'") ++ m.0.1 =
-      strip_sound (codes "'") bs rest quote ∙ ap (λ v. codes "'" ++ v) (w.1 ∙ sym (append_assoc m.0.0 (codes "'") m.0.1)) in
+    strip_sound (codes "'") bs rest quote ∙ ap (λ v. codes "'" ++ v) (w.1 ∙ sym (append_assoc m.0.0 (codes "'") m.0.1)) in
     subst (ReadsLiteral bs) m.2 (w.0, whole)
 
 digits_sound : (bs : List ℕ) (found : Literal × List ℕ) → option_map (λ (v : List ℕ × List ℕ). (Number v.0, v.1)) (number_at bs) ≡ Some found → ReadsLiteral bs found
@@ -100,8 +99,8 @@ digits_sound bs found h =
     subst (ReadsLiteral bs) m.2 (number_sound bs m.0 m.1)
 
 literal_by : (bs : List ℕ) (found : Literal × List ℕ) (o : Option (List ℕ)) → strip (codes "'") bs ≡ o
-  → option_map_or (λ rest. option_map (λ (v : List ℕ × List ℕ). (Letters v.0, v.1)) (word_at rest)) o (option_map (λ (v : List ℕ × List ℕ). (Number v.0, v.1)) (number_at bs)) ≡ Some found
-  → ReadsLiteral bs found
+    → option_map_or (λ rest. option_map (λ (v : List ℕ × List ℕ). (Letters v.0, v.1)) (word_at rest)) o (option_map (λ (v : List ℕ × List ℕ). (Number v.0, v.1)) (number_at bs)) ≡ Some found
+    → ReadsLiteral bs found
 literal_by bs found None e h = digits_sound bs found h
 literal_by bs found (Some rest) e h = quoted_sound bs rest found e h
 
@@ -114,8 +113,8 @@ abbrev pub ReadsRelation : List ℕ → Rel × List ℕ → Type 0
 ReadsRelation bs found = bs ≡ (relation_text found.0 ++ codes " ") ++ found.1
 
 relation_by : (r : Rel) (rs : List Rel) (bs : List ℕ) (found : Rel × List ℕ) (o : Option (List ℕ)) → strip (relation_text r ++ codes " ") bs ≡ o
-  → (relation_among rs bs ≡ Some found → ReadsRelation bs found)
-  → option_map_or (λ rest. Some (r, rest)) o (relation_among rs bs) ≡ Some found → ReadsRelation bs found
+    → (relation_among rs bs ≡ Some found → ReadsRelation bs found)
+    → option_map_or (λ rest. Some (r, rest)) o (relation_among rs bs) ≡ Some found → ReadsRelation bs found
 relation_by r rs bs found None e later h = later h
 relation_by r rs bs found (Some rest) e later h = subst (ReadsRelation bs) (some_same h) (strip_sound (relation_text r ++ codes " ") bs rest e)
 
@@ -140,8 +139,8 @@ abbrev pub ReadsType : List ℕ → FieldType × List ℕ → Type 0
 ReadsType bs found = bs ≡ type_text found.0 ++ found.1
 
 type_by : (bs : List ℕ) (found : FieldType × List ℕ) (o : Option (List ℕ)) → strip (codes "int") bs ≡ o
-  → option_map_or (λ rest. Some (Int, rest)) o (option_map (λ (rest : List ℕ). (Chararray, rest)) (strip (codes "chararray") bs)) ≡ Some found
-  → ReadsType bs found
+    → option_map_or (λ rest. Some (Int, rest)) o (option_map (λ (rest : List ℕ). (Chararray, rest)) (strip (codes "chararray") bs)) ≡ Some found
+    → ReadsType bs found
 type_by bs found None e h =
     let m = map_some (λ (rest : List ℕ). (Chararray, rest)) (strip (codes "chararray") bs) found h in
     subst (ReadsType bs) m.2 (strip_sound (codes "chararray") bs m.0 m.1)
@@ -163,7 +162,7 @@ field_sound bs found h =
     let c = bind_some (type_at b.0) _ found b.2 in
     let name = letter_sound bs a.0 a.1 in
     let whole : bs ≡ (a.0.0 ∷ (codes ":" ++ type_text c.0.0)) ++ c.0.1 =
-      name.1 ∙ ap (λ v. a.0.0 ∷ v) (strip_sound (codes ":") a.0.1 b.0 b.1 ∙ ap (λ v. codes ":" ++ v) (type_sound b.0 c.0 c.1)) in
+    name.1 ∙ ap (λ v. a.0.0 ∷ v) (strip_sound (codes ":") a.0.1 b.0 b.1 ∙ ap (λ v. codes ":" ++ v) (type_sound b.0 c.0 c.1)) in
     subst (ReadsField bs) (some_same c.2) (name.0, whole)
 
 -- the fields that were read behind those found before
@@ -176,7 +175,7 @@ pub record MoreFields (n : ℕ) (found : List FormField) (bs : List ℕ) (fs : L
   lower : list_all is_ascii_lowercase (names more) ≡ true
 
 last_field : (n : ℕ) (found : List FormField) (bs rest : List ℕ) (f : FormField) (fs : List FormField) → ReadsField bs (f, rest) → rest ≡ [] → found ++ f ∷ [] ≡ fs
-  → MoreFields (suc n) found bs fs
+    → MoreFields (suc n) found bs fs
 last_field n found bs rest f fs read ends are =
     record {
       more = f ∷ [];
@@ -188,7 +187,7 @@ last_field n found bs rest f fs read ends are =
     }
 
 next_field : (n : ℕ) (found : List FormField) (bs rest next : List ℕ) (f : FormField) (fs : List FormField) → ReadsField bs (f, rest) → rest ≡ codes ", " ++ next
-  → MoreFields n (found ++ f ∷ []) next fs → MoreFields (suc n) found bs fs
+    → MoreFields n (found ++ f ∷ []) next fs → MoreFields (suc n) found bs fs
 next_field n found bs rest next f fs read behind later =
     record {
       more = f ∷ later.more;
@@ -209,12 +208,13 @@ fields_sound zero found bs fs h = absurd (cc)
 fields_sound (suc n) found bs fs h =
     let a = bind_some (field_at bs) _ fs h in
     let read : ReadsField bs a.0 = field_sound bs a.0 a.1 in
-    elim (length a.0.1 == 0) as (λ t. (length a.0.1 == 0) ≡ t → cond t (Some (found ++ a.0.0 ∷ [])) (option_and_then (fields_after n (found ++ a.0.0 ∷ [])) (strip (codes ", ") a.0.1)) ≡ Some fs → MoreFields (suc n) found bs fs)
-      [ true ↦ λ ends is. last_field n found bs a.0.1 a.0.0 fs read (none_left a.0.1 ends) (some_same is)
+    elim (length a.0.1 == 0) as (λ t. (length a.0.1 == 0) ≡ t → cond t (Some (found ++ a.0.0 ∷ [])) (option_and_then (fields_after n (found ++ a.0.0 ∷ [])) (strip (codes ", ") a.0.1)) ≡ Some fs → MoreFields (suc n) found bs fs) [
+      | true ↦ λ ends is. last_field n found bs a.0.1 a.0.0 fs read (none_left a.0.1 ends) (some_same is)
       | false ↦ λ goes_on is.
           let b = bind_some (strip (codes ", ") a.0.1) (fields_after n (found ++ a.0.0 ∷ [])) fs is in
-          next_field n found bs a.0.1 b.0 a.0.0 fs read (strip_sound (codes ", ") a.0.1 b.0 b.1) (fields_sound n (found ++ a.0.0 ∷ []) b.0 fs b.2) ]
-      refl a.2
+          next_field n found bs a.0.1 b.0 a.0.0 fs read (strip_sound (codes ", ") a.0.1 b.0 b.1) (fields_sound n (found ++ a.0.0 ∷ []) b.0 fs b.2)
+    ]
+    refl a.2
 
 -- names that differ
 not_seen : (f : FormField) (fs : List FormField) → list_any (λ g. f.name == g.name) fs ≡ false → AllByRecursion (λ y. (f.name == y) ≡ false) (names fs)
@@ -224,6 +224,7 @@ not_seen f (g ∷ fs) h = (neither_first _ _ h, not_seen f fs (neither_second _ 
     neither_first : (a b : Bool) → (a || b) ≡ false → a ≡ false
     neither_first true b h = absurd (cc)
     neither_first false b h = refl
+
     neither_second : (a b : Bool) → (a || b) ≡ false → b ≡ false
     neither_second true b h = absurd (cc)
     neither_second false b h = h
@@ -233,7 +234,7 @@ unfolding names_differ IsDistinct
 distinct_sound [] h = tt
 distinct_sound (f ∷ fs) h =
     elim (list_any (λ g. f.name == g.name) fs) as (λ t. list_any (λ g. f.name == g.name) fs ≡ t → cond t false (names_differ fs) ≡ true → IsDistinct ◌==◌ (names (f ∷ fs)))
-      [ true ↦ λ seen is. absurd (cc) | false ↦ λ unseen is. IsDistinct-cons ◌==◌ f.name (names fs) (not_seen f fs unseen) (distinct_sound fs is) ] refl h
+    [ true ↦ λ seen is. absurd (cc) | false ↦ λ unseen is. IsDistinct-cons ◌==◌ f.name (names fs) (not_seen f fs unseen) (distinct_sound fs is) ] refl h
 
 -- the compared field
 pub record IsCompared (fs : List FormField) (name : ℕ) (l : Literal) (at : ℕ) : Type 0 where
@@ -262,7 +263,7 @@ pub record ReadsLoad (bs input fields rest : List ℕ) : Type 0 where
   text : bs ≡ codes "a = LOAD '" ++ (input ++ (codes "' AS (" ++ (fields ++ (codes ");\n" ++ rest))))
 
 load_joined : (bs path input behind list fields close rest : List ℕ) → bs ≡ codes "a = LOAD '" ++ path → path ≡ input ++ 39 ∷ behind → behind ≡ codes " AS (" ++ list
-  → list ≡ fields ++ close → close ≡ codes ");\n" ++ rest → bs ≡ codes "a = LOAD '" ++ (input ++ (codes "' AS (" ++ (fields ++ (codes ");\n" ++ rest))))
+    → list ≡ fields ++ close → close ≡ codes ");\n" ++ rest → bs ≡ codes "a = LOAD '" ++ (input ++ (codes "' AS (" ++ (fields ++ (codes ");\n" ++ rest))))
 load_joined bs path input behind list fields close rest e1 e2 e3 e4 e5 = rw (e1, e2, e3, e4, e5) refl
 
 pub load_sound : (bs : List ℕ) (found : List ℕ × List ℕ × List ℕ) → load_at bs ≡ Some found → ReadsLoad bs found.0 found.1 found.2
@@ -274,7 +275,7 @@ load_sound bs found h =
     let d = bind_some (strip (codes ");\n") (past inside c.0)) _ found c.2 in
     let p = path_sound a.0 b.0 b.1 in
     let text = load_joined bs a.0 b.0.0 b.0.1 c.0 (run inside c.0) (past inside c.0) d.0 (strip_sound (codes "a = LOAD '") bs a.0 a.1) p.1
-      (strip_sound (codes " AS (") b.0.1 c.0 c.1) (run_past inside c.0) (strip_sound (codes ");\n") (past inside c.0) d.0 d.1) in
+    (strip_sound (codes " AS (") b.0.1 c.0 c.1) (run_past inside c.0) (strip_sound (codes ");\n") (past inside c.0) d.0 d.1) in
     let reads : ReadsLoad bs b.0.0 (run inside c.0) d.0 = record { path = p.0; text = text } in
     subst (λ (v : List ℕ × List ℕ × List ℕ). ReadsLoad bs v.0 v.1 v.2) (some_same d.2) reads
 
@@ -284,8 +285,8 @@ pub record ReadsFilter (bs : List ℕ) (name : ℕ) (s : Rel) (l : Literal) (res
   text : bs ≡ codes "b = FILTER a BY " ++ (name ∷ (codes " " ++ ((relation_text s ++ codes " ") ++ (literal_text l ++ (codes ";\n" ++ rest)))))
 
 filter_joined : (bs r1 r2 r3 r4 r5 rest : List ℕ) (name : ℕ) (s : Rel) (l : Literal) → bs ≡ codes "b = FILTER a BY " ++ r1 → r1 ≡ name ∷ r2 → r2 ≡ codes " " ++ r3
-  → r3 ≡ (relation_text s ++ codes " ") ++ r4 → r4 ≡ literal_text l ++ r5 → r5 ≡ codes ";\n" ++ rest
-  → bs ≡ codes "b = FILTER a BY " ++ (name ∷ (codes " " ++ ((relation_text s ++ codes " ") ++ (literal_text l ++ (codes ";\n" ++ rest)))))
+    → r3 ≡ (relation_text s ++ codes " ") ++ r4 → r4 ≡ literal_text l ++ r5 → r5 ≡ codes ";\n" ++ rest
+    → bs ≡ codes "b = FILTER a BY " ++ (name ∷ (codes " " ++ ((relation_text s ++ codes " ") ++ (literal_text l ++ (codes ";\n" ++ rest)))))
 filter_joined bs r1 r2 r3 r4 r5 rest name s l e1 e2 e3 e4 e5 e6 = rw (e1, e2, e3, e4, e5, e6) refl
 
 pub filter_sound : (bs : List ℕ) (found : ℕ × Rel × Literal × List ℕ) → filter_at bs ≡ Some found → ReadsFilter bs found.0 found.1 found.2 found.3
@@ -300,7 +301,7 @@ filter_sound bs found h =
     let l = literal_sound d.0.1 e.0 e.1 in
     let name = letter_sound a.0 b.0 b.1 in
     let text = filter_joined bs a.0 b.0.1 c.0 d.0.1 e.0.1 f.0 b.0.0 d.0.0 e.0.0 (strip_sound (codes "b = FILTER a BY ") bs a.0 a.1) name.1
-      (strip_sound (codes " ") b.0.1 c.0 c.1) (relation_sound relations c.0 d.0 d.1) l.1 (strip_sound (codes ";\n") e.0.1 f.0 f.1) in
+    (strip_sound (codes " ") b.0.1 c.0 c.1) (relation_sound relations c.0 d.0 d.1) l.1 (strip_sound (codes ";\n") e.0.1 f.0 f.1) in
     let reads : ReadsFilter bs b.0.0 d.0.0 e.0.0 f.0 = record { literal = l.0; text = text } in
     subst (λ (v : ℕ × Rel × Literal × List ℕ). ReadsFilter bs v.0 v.1 v.2 v.3) (some_same f.2) reads
 
@@ -310,7 +311,7 @@ pub record ReadsStore (bs output rest : List ℕ) : Type 0 where
   text : bs ≡ codes "STORE b INTO '" ++ (output ++ (codes "';\n" ++ rest))
 
 store_joined : (bs path output behind rest : List ℕ) → bs ≡ codes "STORE b INTO '" ++ path → path ≡ output ++ 39 ∷ behind → behind ≡ codes ";\n" ++ rest
-  → bs ≡ codes "STORE b INTO '" ++ (output ++ (codes "';\n" ++ rest))
+    → bs ≡ codes "STORE b INTO '" ++ (output ++ (codes "';\n" ++ rest))
 store_joined bs path output behind rest e1 e2 e3 = rw (e1, e2, e3) refl
 
 pub store_sound : (bs : List ℕ) (found : List ℕ × List ℕ) → store_at bs ≡ Some found → ReadsStore bs found.0 found.1
@@ -346,7 +347,7 @@ pieces_joined :
     → third ≡ codes "STORE b INTO '" ++ (p.output ++ (codes "';\n" ++ end)) → end ≡ [] → s ≡ pieces_text p
 pieces_joined s second third end p e1 e2 e3 e4 =
     let whole : s ≡ codes "a = LOAD '" ++ (p.input ++ (codes "' AS (" ++ (p.fields ++ (codes ");\n" ++ (codes "b = FILTER a BY " ++ (p.name ∷ (codes " " ++ ((relation_text p.relation ++ codes " ") ++ (literal_text p.literal ++ (codes ";\n" ++ (codes "STORE b INTO '" ++ (p.output ++ (codes "';\n" ++ []))))))))))))) =
-      rw (e1, e2, e3, e4) refl in
+    rw (e1, e2, e3, e4) refl in
     whole ∙ sym (lines_split p.input p.fields p.name (relation_text p.relation) (literal_text p.literal) p.output)
 
 not_false : (t : Bool) → not t ≡ true → t ≡ false
@@ -371,13 +372,13 @@ pieces_sound script p h =
     let filter = filter_sound a.0.2 b.0 b.1 in
     let store = store_sound b.0.3 c.0 c.1 in
     let are : ArePieces script q =
-      record {
-        text = pieces_joined script a.0.2 b.0.3 c.0.1 q load.text filter.text store.text (none_left c.0.1 ends);
-        input = load.path;
-        output = store.path;
-        apart = differ a.0.0 c.0.0 (not_false (bytes_eq a.0.0 c.0.0) other);
-        literal = filter.literal;
-      } in
+    record {
+      text = pieces_joined script a.0.2 b.0.3 c.0.1 q load.text filter.text store.text (none_left c.0.1 ends);
+      input = load.path;
+      output = store.path;
+      apart = differ a.0.0 c.0.0 (not_false (bytes_eq a.0.0 c.0.0) other);
+      literal = filter.literal;
+    } in
     subst (ArePieces script) (some_same d.1) are
 
 -- a literal of a type is one of that type
@@ -399,19 +400,19 @@ form_sound script p f are h =
     let fields : p.fields ≡ fields_text a.0 = m.text ∙ ap fields_text (sym m.are) in
     let name : p.name ≡ get_or (names a.0) b.0 0 = sym d.named ∙ sym (name_at a.0 b.0 d.field d.there) in
     let text : script ≡ form_text form =
-      are.text ∙ ap (λ v. pieces_text (record p { fields = v })) fields ∙ ap (λ v. pieces_text (record p { fields = fields_text a.0; name = v })) name in
+    are.text ∙ ap (λ v. pieces_text (record p { fields = v })) fields ∙ ap (λ v. pieces_text (record p { fields = fields_text a.0; name = v })) name in
     let is : IsFirstForm form script =
-      record {
-        text = text;
-        input = are.input;
-        output = are.output;
-        apart = are.apart;
-        some_fields = subst (λ v. 1 ≤ length v) (sym m.are) m.some;
-        few_fields = subst (λ v. length v ≤ 9) (sym m.are) m.few;
-        letters = subst (λ v. list_all is_ascii_lowercase (names v) ≡ true) (sym m.are) m.lower;
-        distinct = distinct_sound a.0 c.0;
-        compared = rw d.there (literal_fits d.field.kind p.literal d.fits are.literal);
-      } in
+    record {
+      text = text;
+      input = are.input;
+      output = are.output;
+      apart = are.apart;
+      some_fields = subst (λ v. 1 ≤ length v) (sym m.are) m.some;
+      few_fields = subst (λ v. length v ≤ 9) (sym m.are) m.few;
+      letters = subst (λ v. list_all is_ascii_lowercase (names v) ≡ true) (sym m.are) m.lower;
+      distinct = distinct_sound a.0 c.0;
+      compared = rw d.there (literal_fits d.field.kind p.literal d.fits are.literal);
+    } in
     subst (λ v. IsFirstForm v script) (some_same b.2) is
 
 -- letters and digits are ASCII, and so UTF-8
@@ -453,7 +454,7 @@ found_told script p None lines fields = λ f is.
 found_told script p (Some f) lines fields = form_sound script p f (pieces_sound script p (sym lines)) (sym fields)
 
 pub form_told : {E : Type 0} (script : List ℕ) (p : Pieces) (r : Result (Option FirstForm) E) → Some p ≡ pieces_at script → IfOk r (λ found. found ≡ form_of p)
-  → IfOk r (Answers script)
+    → IfOk r (Answers script)
 form_told script p (Ok found) lines fields = found_told script p found lines fields
 form_told script p (Err e) lines fields = tt
 

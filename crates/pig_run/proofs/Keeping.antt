@@ -1,6 +1,6 @@
 -- The walk over the lines of a piece: what is kept so far, with what is kept of the lines that are left, is what is kept of all.
-use Rattle.std.proofs.Common.{◌≡◌, ◌≤◌, ◌<◌, ◌+◌, ◌%◌, ◌^◌, ◌++◌, ℕ, Bool, true, false, List, [], ◌∷◌, length, map, drop, refl, sym, ◌∙◌, ap, subst, inl, inr, arith}
-use Rattle.std.specs.List.{flat_map, filter}
+use Rattle.std.proofs.Common.{◌≡◌, ◌≤◌, ◌<◌, ◌+◌, ◌^◌, ◌++◌, ℕ, Bool, List, [], ◌∷◌, length, map, drop, sym, ◌∙◌, ap, inl, inr, arith}
+use Rattle.std.specs.List.{filter}
 use Rattle.std.proofs.lemmas.Bool.{cases_Bool}
 use Rattle.std.proofs.lemmas.List.{append_assoc, length-append, drop_all}
 use Rattle.std.proofs.lemmas.Grind.{flat_map-append}
@@ -8,7 +8,6 @@ use Rattle.pig_value.specs.Trees.{Tree}
 use Rattle.pig_value.specs.Lines.{lines}
 use Rattle.pig_value.specs.Fields.{row_of}
 use Rattle.pig_value.specs.Texts.{row_text, rows_text}
-use Rattle.pig_storage.specs.NextLine.{IsNextLine}
 use Rattle.pig_storage.specs.declared.lines.Span.{Span}
 use Rattle.pig_run.specs.declared.filtering.Filter.{Filter}
 use Rattle.pig_run.specs.declared.stored.Stored.{Stored}
@@ -42,23 +41,23 @@ module _ (f : Filter) (piece : List ℕ) (start now next : Stored) (from : ℕ) 
   one_more is = ap (keeps_of f) is ∙ filter-cons (passes_row f) (row_of f.columns 9 line) (map (row_of f.columns 9) (lines (drop s.next piece)))
 
   pub goes_on : IsSoFar f piece start now from → s.next ≤ length piece → lines (drop from piece) ≡ line ∷ lines (drop s.next piece)
-    → next.bytes.items ≡ now.bytes.items ++ rows_text 9 (keeps_line f line) → next.read ≡ counted now.read 1
-    → next.kept ≡ counted now.kept (length (keeps_line f line)) → IsSoFar f piece start next s.next
+      → next.bytes.items ≡ now.bytes.items ++ rows_text 9 (keeps_line f line) → next.read ≡ counted now.read 1
+      → next.kept ≡ counted now.kept (length (keeps_line f line)) → IsSoFar f piece start next s.next
   goes_on so_far within is bytes read kept = record {
-      within = within;
-      bytes = ap (λ b. b ++ rows_text 9 (keeps f (drop s.next piece))) bytes
-          ∙ append_assoc now.bytes.items (rows_text 9 (keeps_line f line)) (rows_text 9 (keeps f (drop s.next piece)))
-          ∙ ap (λ t. now.bytes.items ++ t) (sym (rows_text-append 9 (keeps_line f line) (keeps f (drop s.next piece))) ∙ ap (rows_text 9) (sym (one_more is)))
-          ∙ so_far.bytes;
-      read = ap (λ n. counted n (length (lines (drop s.next piece)))) read
-          ∙ counted-again now.read 1 (length (lines (drop s.next piece)))
-          ∙ ap (counted now.read) (let e : 1 + length (lines (drop s.next piece)) ≡ length (line ∷ lines (drop s.next piece)) = omega arith in e ∙ ap length (sym is))
-          ∙ so_far.read;
-      kept = ap (λ n. counted n (length (keeps f (drop s.next piece)))) kept
-          ∙ counted-again now.kept (length (keeps_line f line)) (length (keeps f (drop s.next piece)))
-          ∙ ap (counted now.kept) (sym (length-append (keeps_line f line) (keeps f (drop s.next piece))) ∙ ap length (sym (one_more is)))
-          ∙ so_far.kept
-    }
+    within = within;
+    bytes = ap (λ b. b ++ rows_text 9 (keeps f (drop s.next piece))) bytes
+        ∙ append_assoc now.bytes.items (rows_text 9 (keeps_line f line)) (rows_text 9 (keeps f (drop s.next piece)))
+        ∙ ap (λ t. now.bytes.items ++ t) (sym (rows_text-append 9 (keeps_line f line) (keeps f (drop s.next piece))) ∙ ap (rows_text 9) (sym (one_more is)))
+        ∙ so_far.bytes;
+    read = ap (λ n. counted n (length (lines (drop s.next piece)))) read
+        ∙ counted-again now.read 1 (length (lines (drop s.next piece)))
+        ∙ ap (counted now.read) (let e : 1 + length (lines (drop s.next piece)) ≡ length (line ∷ lines (drop s.next piece)) = omega arith in e ∙ ap length (sym is))
+        ∙ so_far.read;
+    kept = ap (λ n. counted n (length (keeps f (drop s.next piece)))) kept
+        ∙ counted-again now.kept (length (keeps_line f line)) (length (keeps f (drop s.next piece)))
+        ∙ ap (counted now.kept) (sym (length-append (keeps_line f line) (keeps f (drop s.next piece))) ∙ ap length (sym (one_more is)))
+        ∙ so_far.kept;
+  }
 
 -- at the end of the piece nothing is left
 module _ (f : Filter) (piece : List ℕ) (start now : Stored) (from : ℕ) (so_far : IsSoFar f piece start now from) (end : from ≡ length piece) where

@@ -1,6 +1,8 @@
 pub mod FormLemmas
 pub mod FormComplete
 pub mod FormSound
+mod Answering
+mod Done
 mod Due
 mod Scripts
 mod Keeping

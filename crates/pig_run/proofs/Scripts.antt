@@ -1,12 +1,11 @@
 -- What the bytes that were read of a script say of it, where one byte more than the limit is asked for.
-use Rattle.std.proofs.Common.{◌≡◌, Result, Ok, Err, IfOk, MatchOption, get_or, ℕ, ◌+◌, ◌<◌, ◌≤◌, ◌^◌, Bool, true, false, List, [], ◌∷◌, ◌++◌, Option, Some, None, take, length, refl, sym, ◌∙◌, ap, subst, arith}
+use Rattle.std.proofs.Common.{◌≡◌, Result, Ok, Err, IfOk, MatchOption, get_or, ℕ, ◌+◌, ◌<◌, ◌≤◌, ◌^◌, true, List, [], ◌∷◌, ◌++◌, Option, Some, None, take, length, refl, sym, ◌∙◌, ap, subst, arith}
 use Rattle.std.specs.Option.{is_some, unwrap_or}
 use Rattle.std.specs.declared.alloc.AllocError.{AllocError}
 use Rattle.std.proofs.lemmas.List.{length-take, take_all}
 use Rattle.pig_outside.specs.Shelf.{Shelf, script_of}
 use Rattle.pig_run.specs.declared.first_form.FirstForm.{FirstForm}
 use Rattle.pig_run.specs.FirstForm.{IsFirstForm}
-use Rattle.pig_run.specs.Answers.{IsScript}
 use Rattle.pig_run.specs.Steps.{IsScriptAt, HasNoForm}
 
 -- a script that is there, of which the first bytes were read
@@ -40,15 +39,15 @@ module _ (n : ℕ) (limit : n ≡ 2 ^ 20) (path : List ℕ) (s : Shelf) (bytes :
   -- all its bytes, which are of a form
   pub of_form : (form : FirstForm) → length bytes ≤ n → IsFirstForm form bytes → IsScriptAt path s form
   of_form form h is = record {
-      script = r.script;
-      there = r.there;
-      is = record { short = subst (λ m. length r.script ≤ m) limit (subst (λ b. length b ≤ n) (same h) h); is = subst (IsFirstForm form) (same h) is }
-    }
+    script = r.script;
+    there = r.there;
+    is = record { short = subst (λ m. length r.script ≤ m) limit (subst (λ b. length b ≤ n) (same h) h); is = subst (IsFirstForm form) (same h) is };
+  }
 
 -- what the recogniser says where it finds no form
 pub none_found : (r : Result (Option FirstForm) AllocError) (bytes read : List ℕ) → read ≡ bytes
-  → IfOk r (λ found. MatchOption found ((form : FirstForm) → IsFirstForm form read → ⊥) (λ form. IsFirstForm form read))
-  → r ≡ Ok None → (form : FirstForm) → IsFirstForm form bytes → ⊥
+    → IfOk r (λ found. MatchOption found ((form : FirstForm) → IsFirstForm form read → ⊥) (λ form. IsFirstForm form read))
+    → r ≡ Ok None → (form : FirstForm) → IsFirstForm form bytes → ⊥
 none_found (Ok None) bytes read same h is form of_form = h form (subst (IsFirstForm form) (sym same) of_form)
 none_found (Ok (Some found)) bytes read same h is form of_form = absurd (cc)
 none_found (Err e) bytes read same h is form of_form = absurd (cc)

@@ -1,7 +1,6 @@
 -- At most one thing is due.
-use Rattle.std.proofs.Common.{◌≡◌, ℕ, true, false, List, [], ◌∷◌, Option, Some, None, codes, refl, sym, ◌∙◌, ap, subst}
+use Rattle.std.proofs.Common.{◌≡◌, ℕ, true, false, List, Some, None, refl, sym, ◌∙◌, ap, subst}
 use Rattle.pig_outside.specs.Shelf.{Shelf, script_of, pieces_of, has_dir}
-use Rattle.pig_run.specs.declared.outcome.RunFault.{RunFault}
 use Rattle.pig_run.specs.declared.outcome.RunFault.TheVariants as fault
 use Rattle.pig_run.specs.declared.first_form.FirstForm.{FirstForm}
 use Rattle.pig_run.specs.FirstForm.{IsFirstForm}
@@ -22,11 +21,11 @@ module _ (words : List (List ℕ)) (s : Shelf) where
   no_such a b none there = let e = sym none ∙ ap (λ x. script_of x s) (same_path a b) ∙ there in cc
 
   formless : {p q t u : List ℕ} {g : FirstForm} → AreWords words p → AreWords words q → script_of p s ≡ Some t → script_of q s ≡ Some u
-    → ((form : FirstForm) → ¬ IsScript form t) → IsScript g u → ⊥
+      → ((form : FirstForm) → ¬ IsScript form t) → IsScript g u → ⊥
   formless {g = g} a b there other none is = none g (subst (IsScript g) (sym (same_script a b there other)) is)
 
   same_form : {p q t u : List ℕ} {f g : FirstForm} → AreWords words p → AreWords words q → script_of p s ≡ Some t → script_of q s ≡ Some u
-    → IsScript f t → IsScript g u → f ≡ g
+      → IsScript f t → IsScript g u → f ≡ g
   same_form {t = t} {f = f} {g = g} a b there other is js = one_reading f g t is.is (subst (IsFirstForm g) (sym (same_script a b there other)) js.is)
 
   no_pieces : {f g : FirstForm} {ps : List (List ℕ)} → f ≡ g → pieces_of f.input s.inputs ≡ None → pieces_of g.input s.inputs ≡ Some ps → ⊥

@@ -1,12 +1,11 @@
 -- What is due of the words and the shelf, and what each answer means.
-use Rattle.std.specs.Prelude.{◌≡◌, ◌==◌, ◌≤◌, ◌%◌, ◌^◌, ◌⊎◌, ℕ, Bool, true, false, List, [], ◌∷◌, length, Option, Some, None, Result, Ok, Err, codes, MatchResult}
+use Rattle.std.specs.Prelude.{◌≡◌, ◌==◌, ◌≤◌, ◌%◌, ◌^◌, ◌⊎◌, ℕ, Bool, true, false, List, [], ◌∷◌, length, Option, Some, None, codes}
 use Rattle.std.specs.List.{flat_map}
 use Rattle.std.specs.Option.{option_map, ForSome}
 use Rattle.pig_value.specs.declared.shared.Input.{Input}
 use Rattle.pig_value.specs.Stored.{StoresBag}
 use Rattle.pig_outside.specs.declared.contents.DirState.{DirState}
 use Rattle.pig_outside.specs.Shelf.{Shelf, script_of, pieces_of, has_dir, with_dir, LeftUnmarked}
-use Rattle.pig_outside.specs.Faults.{FailedRose}
 use Rattle.pig_run.specs.declared.outcome.RunFault.{RunFault}
 use Rattle.pig_run.specs.declared.outcome.RunFault.TheVariants as fault
 use Rattle.pig_run.specs.declared.outcome.Counts.{Counts}
@@ -23,6 +22,10 @@ is_option (b ∷ bs) = b == 45
 pub record AreWords (words : List (List ℕ)) (path : List ℕ) : Type 0 where
   pub are : words ≡ codes "run" ∷ path ∷ []
   pub plain : is_option path ≡ false
+
+-- the words are a command
+abbrev pub HasWords : List (List ℕ) → Type 0
+HasWords words = (path : List ℕ) × AreWords words path
 
 -- a script of the first form, within the limit on its length
 pub record IsScript (form : FirstForm) (script : List ℕ) : Type 0 where
@@ -42,18 +45,18 @@ pub data IsDue (words : List (List ℕ)) (shelf : Shelf) : Verdict → Type 0 wh
   no_script : {path : List ℕ} → AreWords words path → script_of path shelf ≡ None → IsDue words shelf (Refused fault.NoScript)
   -- the script is of no form that is built yet
   not_yet : {path script : List ℕ} → AreWords words path → script_of path shelf ≡ Some script
-    → ((form : FirstForm) → ¬ IsScript form script) → IsDue words shelf (Refused fault.NotYet)
+      → ((form : FirstForm) → ¬ IsScript form script) → IsDue words shelf (Refused fault.NotYet)
   -- there is no such input
   no_input : {path script : List ℕ} {form : FirstForm} → AreWords words path → script_of path shelf ≡ Some script
-    → IsScript form script → pieces_of form.input shelf.inputs ≡ None → IsDue words shelf (Refused (fault.NoInput form.input))
+      → IsScript form script → pieces_of form.input shelf.inputs ≡ None → IsDue words shelf (Refused (fault.NoInput form.input))
   -- the output is there already
   output_exists : {path script : List ℕ} {form : FirstForm} {pieces : List (List ℕ)} → AreWords words path → script_of path shelf ≡ Some script
-    → IsScript form script → pieces_of form.input shelf.inputs ≡ Some pieces → has_dir form.output shelf ≡ true
-    → IsDue words shelf (Refused (fault.OutputExists form.output))
+      → IsScript form script → pieces_of form.input shelf.inputs ≡ Some pieces → has_dir form.output shelf ≡ true
+      → IsDue words shelf (Refused (fault.OutputExists form.output))
   -- nothing is in the way
   runs : {path script : List ℕ} {form : FirstForm} {pieces : List (List ℕ)} → AreWords words path → script_of path shelf ≡ Some script
-    → IsScript form script → pieces_of form.input shelf.inputs ≡ Some pieces → has_dir form.output shelf ≡ false
-    → IsDue words shelf (Runs form pieces)
+      → IsScript form script → pieces_of form.input shelf.inputs ≡ Some pieces → has_dir form.output shelf ≡ false
+      → IsDue words shelf (Runs form pieces)
 
 -- the faults that a device or want of memory causes
 abbrev pub IsFree : RunFault → Type 0

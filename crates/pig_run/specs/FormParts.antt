@@ -1,5 +1,4 @@
 -- What the borrowed parts of a script stand for.
-use Rattle.std.specs.Prelude.{List, ℕ}
 use Rattle.std.specs.Str.{IsUtf8}
 use Rattle.pig_run.specs.declared.first_form.LiteralPart.{LiteralPart}
 use Rattle.pig_run.specs.declared.first_form.LiteralPart.TheVariants as part

@@ -97,8 +97,8 @@ fields_after zero found bs = None
 fields_after (suc most) found bs = do
   field ← field_at bs
   if length field.1 == 0
-    then Some (found ++ field.0 ∷ [])
-    else (strip (codes ", ") field.1 >>= fields_after most (found ++ field.0 ∷ []))
+      then Some (found ++ field.0 ∷ [])
+      else (strip (codes ", ") field.1 >>= fields_after most (found ++ field.0 ∷ []))
 
 -- whether no two fields have one name
 unfoldable pub names_differ : List FormField → Bool
@@ -167,8 +167,8 @@ pieces_at bs = do
   filter ← filter_at load.2
   store ← store_at filter.3
   if (length store.1 == 0) && not (bytes_eq load.0 store.0)
-    then Some (record { input = load.0; fields = load.1; name = filter.0; relation = filter.1; literal = filter.2; output = store.0 })
-    else None
+      then Some (record { input = load.0; fields = load.1; name = filter.0; relation = filter.1; literal = filter.2; output = store.0 })
+      else None
 
 -- the parts of the script, if the fields are some that the comparison fits
 unfoldable pub form_of : Pieces → Option FirstForm

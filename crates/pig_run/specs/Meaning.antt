@@ -1,5 +1,5 @@
 -- What a script of the first form means: the rows of its input for which the condition is true.
-use Rattle.std.specs.Prelude.{◌≡◌, ◌+◌, ◌&&◌, ℕ, pos, Bool, true, false, not, List, [], ◌∷◌, length, map, filter, slice_get, unwrap_or, if◌then◌else◌}
+use Rattle.std.specs.Prelude.{◌+◌, ◌&&◌, ℕ, pos, Bool, true, false, not, List, [], ◌∷◌, length, map, filter, slice_get, unwrap_or}
 use Rattle.std.specs.List.{flat_map}
 use Rattle.std.specs.Str.Parse.{digits_value}
 use Rattle.pig_value.specs.declared.values.Kind.{Kind}
@@ -10,7 +10,6 @@ use Rattle.pig_value.specs.Trees.{Tree, v_null, v_int, v_chars}
 use Rattle.pig_value.specs.Orders.{tree_cmp, rel_holds}
 use Rattle.pig_value.specs.Lines.{lines}
 use Rattle.pig_value.specs.Fields.{row_of}
-use Rattle.pig_value.specs.Texts.{rows_text}
 use Rattle.pig_run.specs.declared.first_form.FieldType.{FieldType}
 use Rattle.pig_run.specs.declared.first_form.FieldType.TheVariants.{Int, Chararray}
 use Rattle.pig_run.specs.declared.first_form.FormField.{FormField}

@@ -1,5 +1,5 @@
 -- What a run keeps of the lines that it reads, and what its steps say of each other.
-use Rattle.std.specs.Prelude.{◌≡◌, ◌≤◌, ◌+◌, ◌%◌, ◌^◌, ◌++◌, ℕ, Bool, List, [], ◌∷◌, length, map, filter, All, drop, Option, Some, None, Result, IsErrOf, if◌then◌else◌}
+use Rattle.std.specs.Prelude.{◌≡◌, ◌≤◌, ◌+◌, ◌%◌, ◌^◌, ℕ, Bool, List, [], ◌∷◌, length, map, filter, All, Some, Result, IsErrOf}
 use Rattle.std.specs.List.{flat_map}
 use Rattle.pig_value.specs.declared.shared.Column.{Column}
 use Rattle.pig_value.specs.declared.shared.Input.{Input}

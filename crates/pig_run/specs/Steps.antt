@@ -1,5 +1,5 @@
 -- What the steps before a run find, and how each may end.
-use Rattle.std.specs.Prelude.{◌≡◌, ◌≤◌, ◌⊎◌, ℕ, true, false, List, Option, Some, None, Result, length, map, IsErrOf}
+use Rattle.std.specs.Prelude.{◌≡◌, ◌≤◌, ◌⊎◌, ℕ, false, List, Option, Some, None, Result, IsErrOf}
 use Rattle.pig_outside.specs.declared.faults.OutsideError.{OutsideError}
 use Rattle.pig_outside.specs.declared.faults.OutsideError.TheVariants as outside
 use Rattle.pig_outside.specs.Shelf.{Shelf, script_of, pieces_of, lengths_of, has_dir}
@@ -8,7 +8,7 @@ use Rattle.pig_run.specs.declared.outcome.RunFault.{RunFault}
 use Rattle.pig_run.specs.declared.outcome.RunFault.TheVariants as fault
 use Rattle.pig_run.specs.declared.first_form.FirstForm.{FirstForm}
 use Rattle.pig_run.specs.declared.plan.Plan.{Plan}
-use Rattle.pig_run.specs.Answers.{AreWords, IsScript, IsDue, IsFree, Refused}
+use Rattle.pig_run.specs.Answers.{AreWords, HasWords, IsScript, IsDue, Refused}
 
 -- the fault that an error of the depot is
 abbrev pub depot_fault_of : OutsideError → Option ℕ → RunFault
@@ -72,3 +72,12 @@ abbrev pub IsCommitFault : RunFault → Type 0
 IsCommitFault (fault.DepotFault (Some store)) = store ≡ 3
 IsCommitFault fault.OutOfMemory = Unit {0}
 IsCommitFault _ = ⊥
+
+-- another fault than that of wrong words
+abbrev pub IsNotUsage : RunFault → Type 0
+IsNotUsage fault.Usage = ⊥
+IsNotUsage _ = Unit {0}
+
+-- the fault is that of wrong words exactly where the words are no command
+abbrev pub SaysWords : List (List ℕ) → RunFault → Type 0
+SaysWords words found = ((found ≡ fault.Usage) × (¬ HasWords words)) ⊎ (IsNotUsage found × HasWords words)

@@ -5,7 +5,7 @@ use Rattle.pig_outside.specs.Shelf.{Shelf}
 use Rattle.pig_run.specs.declared.outcome.RunFault.{RunFault}
 use Rattle.pig_run.specs.declared.outcome.Counts.{Counts}
 use Rattle.pig_run.specs.declared.first_form.FirstForm.{FirstForm}
-use Rattle.pig_run.specs.Answers.{IsDue, IsFree, IsRun, Leaves, Verdict, Refused, Runs, Tells}
+use Rattle.pig_run.specs.Answers.{IsDue, IsRun, Leaves, Refused, Runs, Tells}
 use Rattle.pig_run.specs.Steps.{IsDepotStep}
 use Rattle.pig_run.specs.Running.{IsRunStep}
 

@@ -4,10 +4,9 @@ ghost use Rattle.pig_outside.specs.Shelf.{CanCreate, with_dir, whole_state};
 ghost use Rattle.pig_run.specs.Answers.{LeftOpen};
 ghost use Rattle.pig_run.specs.Steps.{DepotCause, IsCommitFault};
 
-use pig_outside::Depot;
-
 use crate::RunFault;
 use crate::plan::depot_fault;
+use pig_outside::Depot;
 
 /// The number of the STORE in a script of the first form.
 const STORE: u32 = 3;

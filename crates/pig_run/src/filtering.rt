@@ -7,14 +7,12 @@ ghost use Rattle.pig_storage.specs.Pieces.{IsReadKind};
 ghost use Rattle.pig_run.specs.Meaning.{kind_of, columns_of, literal_tree, is_null as is_null_tree, compares as compares_so};
 ghost use Rattle.pig_run.specs.Running.{IsLiteral, IsFilterOf, AreReadKinds, passes_row, keeps_row, keeps_line, keeps, counted};
 
-use std::alloc::{AllocError, Global};
-
-use pig_storage::{line_row, next_line, write_row};
-use pig_value::{Column, Columns, Delim, Kind, Rel, Tuple, Value, order};
-
 use crate::first_form::number;
 use crate::stored::Stored;
 use crate::{FieldType, FirstForm, Literal};
+use pig_storage::{line_row, next_line, write_row};
+use pig_value::{Column, Columns, Delim, Kind, Rel, Tuple, Value, order};
+use std::alloc::{AllocError, Global};
 
 impl FieldType {
     /// The kind that a field of the type is read as.

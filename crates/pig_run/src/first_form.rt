@@ -7,12 +7,10 @@ ghost use Rattle.pig_run.specs.FirstForm.{IsFirstForm, IsNumber, relation_text};
 ghost use Rattle.pig_run.specs.FormReader.{word_at, path_at, number_at, literal_at, relation_among, relations, letter_at, type_at, field_at, fields_after, names_differ, may_compare, compared_at, load_at, filter_at, store_at, pieces_at, form_of};
 ghost use Rattle.pig_run.specs.FormParts.{literal_of, pieces_of, ArePlain, IsPlainLiteral};
 
+use crate::scanning::{after, digits, letters, parenthesised};
+use pig_value::{Rel, Seq, Text};
 use std::alloc::{AllocError, Global};
 use std::str;
-
-use pig_value::{Rel, Seq, Text};
-
-use crate::scanning::{after, digits, letters, parenthesised};
 
 /// The type of a field of the first form.
 #[derive(Debug, Clone, Copy, PartialEq, Eq, Drop)]
@@ -74,8 +72,11 @@ struct Parts<'a> {
 }
 
 const MOST_LETTERS: usize = 20;
+
 const MOST_DIGITS: usize = 9;
+
 const MOST_FIELDS: usize = 9;
+
 const RELATIONS: [Rel; 6] = [Rel::Eq, Rel::Ne, Rel::Lt, Rel::Le, Rel::Gt, Rel::Ge];
 
 // At most 20 letters and a closing quote.
@@ -402,8 +403,7 @@ pub fn first_form(alloc: Global, script: &[u8]) -> Result<Option<FirstForm>, All
 /// A script has at most one reading as a script of the first form.
 pub fn one_first_form()
     ensures { (f g : FirstForm) (script : List ℕ) → IsFirstForm f script → IsFirstForm g script → f ≡ g }
-{
-}
+{}
 
 /// The value of the digits of a number of the first form.
 pub fn number(digits: &Text) -> i32

@@ -11,6 +11,8 @@ mod scanning;
 mod stored;
 mod top;
 
-pub use first_form::{FieldType, FirstForm, FormField, FormFields, Literal, first_form as read_form, one_first_form};
+pub use first_form::{
+    FieldType, FirstForm, FormField, FormFields, Literal, first_form as read_form, one_first_form,
+};
 pub use outcome::{Counts, Outcome, RunFault};
 pub use top::{one_verdict, pig_main};

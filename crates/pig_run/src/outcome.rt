@@ -2,10 +2,9 @@ ghost use Rattle.std.specs.Prelude.{◌≡◌, Some};
 ghost use Rattle.pig_run.specs.Answers.{no_counts, status_of};
 ghost use Rattle.pig_run.specs.declared.outcome.RunFault.TheVariants as fault;
 
-use std::alloc::{AllocError, AllocFailed};
-
 use pig_outside::OutsideError;
 use pig_value::{KeptList, Text};
+use std::alloc::{AllocError, AllocFailed};
 use thiserror::Error;
 
 /// Why a run did not end well.

@@ -1,19 +1,17 @@
-ghost use Rattle.std.specs.Prelude.{◌≡◌, ◌⊎◌, ℕ, List, true, false, Some, None, MatchResult, IfOk, IfErr};
+ghost use Rattle.std.specs.Prelude.{◌≡◌, ◌⊎◌, true, false, Some, None, MatchResult, IfOk, IfErr};
 ghost use Rattle.std.specs.Option.{ForSome};
 ghost use Rattle.pig_outside.specs.Shelf.{lengths_at, has_dir};
-ghost use Rattle.pig_run.specs.Answers.{AreWords, is_option};
-ghost use Rattle.pig_run.specs.Steps.{IsScriptAt, IsScripted, IsReady, IsRefused, ScriptRefusal, IsDepotStep, IsPlanFault, DepotCause, depot_fault_of};
+ghost use Rattle.pig_run.specs.Answers.{AreWords, HasWords, is_option};
+ghost use Rattle.pig_run.specs.Steps.{IsScriptAt, IsScripted, IsReady, IsRefused, ScriptRefusal, IsDepotStep, IsPlanFault, DepotCause, SaysWords, depot_fault_of};
 ghost use Rattle.pig_run.specs.Running.{IsForm};
 ghost use Rattle.pig_run.specs.declared.first_form.FirstForm.{FirstForm};
 ghost use Rattle.pig_run.specs.declared.outcome.RunFault.TheVariants as fault;
 
-use std::alloc::Global;
-
-use pig_outside::{Depot, OutsideError};
-use pig_value::{Lengths, Text, Words};
-
 use crate::first_form::first_form;
 use crate::{FirstForm, RunFault};
+use pig_outside::{Depot, OutsideError};
+use pig_value::{Lengths, Text, Words};
+use std::alloc::Global;
 
 /// The limit on the length of a script, in bytes.
 const MOST_SCRIPT: u64 = 1_048_576;
@@ -31,7 +29,7 @@ pub fn depot_fault(error: OutsideError, store: Option<u32>) -> RunFault
 /// The path of the script that the words name.
 pub fn read_words(words: &Words) -> Result<&str, RunFault>
     ensures found { IfOk result (λ path. AreWords words.now path.now) }
-    ensures usage { IfErr result (λ f. (f ≡ fault.Usage) × ((path : List ℕ) → ¬ AreWords words.now path)) }
+    ensures usage { IfErr result (λ f. (f ≡ fault.Usage) × (¬ HasWords words.now)) }
 {
     match words.as_slice() {
         [verb, path] => {
@@ -83,7 +81,7 @@ fn read_plan<D: Depot>(alloc: Global, words: &Words, depot: &mut D) -> Result<Fi
     ensures told { ForSome (D.shelf depot.old) (λ s. MatchResult result (λ f. IsScripted words.now s f) (λ f. IsRefused words.now s f)) }
     ensures form { IfOk result IsForm }
     ensures fault { IfErr result (λ f. (f ≡ fault.Usage) ⊎ IsPlanFault f) }
-    ensures usage { IfErr result (λ f. f ≡ fault.Usage → (path : List ℕ) → ¬ AreWords words.now path) }
+    ensures words { MatchResult result (λ _. HasWords words.now) (SaysWords words.now) }
     ensures shelf { D.shelf depot.new ≡ D.shelf depot.old }
     ensures cause { DepotCause (D.faults depot.old) (D.faults depot.new) result }
 {
@@ -139,7 +137,7 @@ pub fn prepare<D: Depot>(alloc: Global, words: &Words, depot: &mut D) -> Result<
     ensures told { ForSome (D.shelf depot.old) (λ s. MatchResult result (λ p. IsReady words.now s p) (λ f. IsRefused words.now s f)) }
     ensures form { IfOk result (λ p. IsForm p.form) }
     ensures fault { IfErr result (λ f. (f ≡ fault.Usage) ⊎ IsPlanFault f) }
-    ensures usage { IfErr result (λ f. f ≡ fault.Usage → (path : List ℕ) → ¬ AreWords words.now path) }
+    ensures words { MatchResult result (λ _. HasWords words.now) (SaysWords words.now) }
     ensures shelf { D.shelf depot.new ≡ D.shelf depot.old }
     ensures cause { DepotCause (D.faults depot.old) (D.faults depot.new) result }
 {

@@ -6,16 +6,14 @@ ghost use Rattle.pig_run.specs.Steps.{DepotCause};
 ghost use Rattle.pig_run.specs.Running.{IsForm, AreReadKinds, HasLengths, IsStored, IsHostStep, IsRunStep, HostCause, host_fault_of};
 ghost use Rattle.pig_run.specs.declared.outcome.RunFault.TheVariants as fault;
 
-use std::alloc::Global;
-
-use pig_outside::{Depot, Host, OutsideError};
-use pig_value::Lengths;
-
 use crate::commit::commit;
 use crate::filtering::{Filter, filter_of};
 use crate::plan::Plan;
 use crate::stored::Stored;
 use crate::{Counts, RunFault};
+use pig_outside::{Depot, Host, OutsideError};
+use pig_value::Lengths;
+use std::alloc::Global;
 
 /// The fault that an error of the host is.
 fn host_fault(error: OutsideError) -> RunFault
@@ -98,7 +96,13 @@ pub fn perform<D: Depot, H: Host>(
     ensures host { HostCause (H.faults host.old) (H.faults host.new) result }
 {
     let filter = filter_of(alloc, &plan.form)?;
-    let stored = read_input(alloc, host, &filter, plan.form.input.as_str(), &plan.lengths)?;
+    let stored = read_input(
+        alloc,
+        host,
+        &filter,
+        plan.form.input.as_str(),
+        &plan.lengths,
+    )?;
     commit(depot, plan.form.output.as_str(), stored.bytes.as_slice())?;
     Ok(Counts {
         read: stored.read,

@@ -2,22 +2,20 @@ ghost use Rattle.std.specs.Prelude.{◌≡◌, ◌≤◌, ◌⊎◌, ◌↔◌, 
 ghost use Rattle.std.specs.Option.{ForSome};
 ghost use Rattle.pig_outside.specs.Faults.{FailedRose};
 ghost use Rattle.pig_outside.specs.Shelf.{Shelf};
-ghost use Rattle.pig_run.specs.Answers.{AreWords, IsDue, Verdict, Runs, IsAnswer, Leaves, IsRun, TellsOf, Tells, first_of, status_of, no_counts};
-ghost use Rattle.pig_run.specs.Steps.{DepotCause, IsPlanFault};
+ghost use Rattle.pig_run.specs.Answers.{HasWords, IsDue, Verdict, Runs, IsAnswer, Leaves, IsRun, TellsOf, Tells, first_of, status_of, no_counts};
+ghost use Rattle.pig_run.specs.Steps.{DepotCause, IsPlanFault, SaysWords};
 ghost use Rattle.pig_run.specs.Running.{IsRunStep, HostCause};
 ghost use Rattle.pig_run.specs.Told.{IsTold};
 ghost use Rattle.pig_run.specs.declared.first_form.FirstForm.{FirstForm};
 ghost use Rattle.pig_run.specs.declared.outcome.RunFault.TheVariants as fault;
 
-use std::alloc::Global;
-use std::thread::Threads;
-
-use pig_outside::{Console, Depot, Host};
-use pig_value::{KeptList, Words};
-
 use crate::plan::prepare;
 use crate::running::perform;
 use crate::{Counts, Outcome, RunFault};
+use pig_outside::{Console, Depot, Host};
+use pig_value::{KeptList, Words};
+use std::alloc::Global;
+use std::thread::Threads;
 
 /// Reads the words and the script, and runs it.
 fn run<D: Depot, H: Host>(
@@ -29,7 +27,7 @@ fn run<D: Depot, H: Host>(
     requires { TellsOf (D.shelf depot.old) (H.inputs host.old) }
     ensures told { ForSome (D.shelf depot.old) (λ s. IsTold words.now s (H.inputs host.old) (D.shelf depot.new) result) }
     ensures fault { IfErr result (λ f. (f ≡ fault.Usage) ⊎ IsPlanFault f ⊎ IsRunStep f) }
-    ensures usage { IfErr result (λ f. f ≡ fault.Usage → (path : List ℕ) → ¬ AreWords words.now path) }
+    ensures words { MatchResult result (λ _. HasWords words.now) (SaysWords words.now) }
     ensures depot { DepotCause (D.faults depot.old) (D.faults depot.new) result }
     ensures host { HostCause (H.faults host.old) (H.faults host.new) result }
 {
@@ -56,7 +54,7 @@ pub fn pig_main<R: Threads + Sync, D: Depot, H: Host + Send, C: Console>(
     ensures done { ForSome (D.shelf depot.old) (λ s. (form : FirstForm) (pieces : List (List ℕ)) → IsDue words.now s (Runs form pieces)
         → All (λ h. Tells (H.inputs h)) hosts.old.items → result.fault ≡ None → IsRun form pieces (D.shelf depot.old) (D.shelf depot.new) result.counts) }
     ensures state { ForSome (D.shelf depot.old) (λ s. (v : Verdict) → IsDue words.now s v → IfSome result.fault (λ f. Leaves f v (D.shelf depot.old) (D.shelf depot.new))) }
-    ensures usage { (result.fault ≡ Some fault.Usage) ↔ ((path : List ℕ) → ¬ AreWords words.now path) }
+    ensures usage { (result.fault ≡ Some fault.Usage) ↔ (¬ HasWords words.now) }
     ensures depot_fault { (store : Option ℕ) → result.fault ≡ Some (fault.DepotFault store) → FailedRose (D.faults depot.old) (D.faults depot.new) }
     ensures store { (store : ℕ) → result.fault ≡ Some (fault.DepotFault (Some store)) → store ≡ 3 }
     ensures host_fault { result.fault ≡ Some fault.HostFault → FailedRose (first_of H.faults hosts.old.items) (first_of H.faults hosts.new.items) }
@@ -84,5 +82,4 @@ pub fn pig_main<R: Threads + Sync, D: Depot, H: Host + Send, C: Console>(
 /// At most one thing is due of the same words and shelf.
 pub fn one_verdict()
     ensures { (words : List (List ℕ)) (shelf : Shelf) (v w : Verdict) → IsDue words shelf v → IsDue words shelf w → v ≡ w }
-{
-}
+{}

@@ -1,6 +1,6 @@
 use Rattle.std.proofs.Common.{rules, ◌≡◌, ◌∷◌, [], sym, ◌∙◌, ap, subst, inr}
 use Rattle.std.specs.Option.{option_map}
-use Rattle.pig_outside.specs.Shelf.{with_dir, with_new, with_part, with_mark, open_state, whole_state, LeftUnmarked}
+use Rattle.pig_outside.specs.Shelf.{with_dir, with_new, with_part, with_mark, open_state, LeftUnmarked}
 use Rattle.pig_outside.specs.ShelfLaws.{part_added, mark_set, left_unmarked, can_put, can_finish}
 use Rattle.pig_run.proofs.commit.commit.Goals as goal
 
@@ -22,7 +22,7 @@ finish-requires g c s is =
     let created : g.D.Depot.shelf c.create.new.self ≡ option_map (with_new c.args.dir.now) old = search rules in
     let put : g.D.Depot.shelf c.put.new.self ≡ option_map (with_part c.args.dir.now c.args.bytes.now) (g.D.Depot.shelf c.create.new.self) = search rules in
     let both : g.D.Depot.shelf c.put.new.self ≡ option_map (with_dir c.args.dir.now (open_state (c.args.bytes.now ∷ []))) old =
-        put ∙ ap (option_map (with_part c.args.dir.now c.args.bytes.now)) created ∙ part_added c.args.dir.now c.args.bytes.now (open_state []) old in
+    put ∙ ap (option_map (with_part c.args.dir.now c.args.bytes.now)) created ∙ part_added c.args.dir.now c.args.bytes.now (open_state []) old in
     can_finish c.args.dir.now (c.args.bytes.now ∷ []) old s (sym both ∙ is)
 
 pub returns-in-Err-finish-clause-err : goal.returns-in-Err-finish-clause-err
@@ -31,10 +31,10 @@ returns-in-Err-finish-clause-err g c =
     let created : g.D.Depot.shelf c.create.new.self ≡ option_map (with_new c.args.dir.now) old = search rules in
     let put : g.D.Depot.shelf c.put.new.self ≡ option_map (with_part c.args.dir.now c.args.bytes.now) (g.D.Depot.shelf c.create.new.self) = search rules in
     let both : g.D.Depot.shelf c.put.new.self ≡ option_map (with_dir c.args.dir.now (open_state (c.args.bytes.now ∷ []))) old =
-        put ∙ ap (option_map (with_part c.args.dir.now c.args.bytes.now)) created ∙ part_added c.args.dir.now c.args.bytes.now (open_state []) old in
+    put ∙ ap (option_map (with_part c.args.dir.now c.args.bytes.now)) created ∙ part_added c.args.dir.now c.args.bytes.now (open_state []) old in
     let left : LeftUnmarked c.args.dir.now (g.D.Depot.shelf c.put.new.self) (g.D.Depot.shelf c.finish.new.self) = search rules in
     inr (left_unmarked c.args.dir.now (open_state (c.args.bytes.now ∷ [])) old (g.D.Depot.shelf c.finish.new.self)
-        (subst (λ z. LeftUnmarked c.args.dir.now z (g.D.Depot.shelf c.finish.new.self)) both left))
+    (subst (λ z. LeftUnmarked c.args.dir.now z (g.D.Depot.shelf c.finish.new.self)) both left))
 
 pub returns-clause-ok : goal.returns-clause-ok
 returns-clause-ok g c =
@@ -43,5 +43,5 @@ returns-clause-ok g c =
     let put : g.D.Depot.shelf c.put.new.self ≡ option_map (with_part c.args.dir.now c.args.bytes.now) (g.D.Depot.shelf c.create.new.self) = search rules in
     let marked : g.D.Depot.shelf c.finish.new.self ≡ option_map (with_mark c.args.dir.now) (g.D.Depot.shelf c.put.new.self) = search rules in
     let both : g.D.Depot.shelf c.put.new.self ≡ option_map (with_dir c.args.dir.now (open_state (c.args.bytes.now ∷ []))) old =
-        put ∙ ap (option_map (with_part c.args.dir.now c.args.bytes.now)) created ∙ part_added c.args.dir.now c.args.bytes.now (open_state []) old in
+    put ∙ ap (option_map (with_part c.args.dir.now c.args.bytes.now)) created ∙ part_added c.args.dir.now c.args.bytes.now (open_state []) old in
     marked ∙ ap (option_map (with_mark c.args.dir.now)) both ∙ mark_set c.args.dir.now (open_state (c.args.bytes.now ∷ [])) old

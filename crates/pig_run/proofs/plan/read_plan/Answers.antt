@@ -1,14 +1,14 @@
-use Rattle.std.proofs.Common.{rules, ◌≡◌, ◌⊎◌, ℕ, List, MatchResult, IfErr}
+use Rattle.std.proofs.Common.{rules, ◌≡◌, MatchResult}
 use Rattle.std.proofs.lemmas.Result.{MatchResult-weaker}
 use Rattle.pig_run.specs.declared.outcome.RunFault.TheVariants as fault
-use Rattle.pig_run.specs.Answers.{AreWords}
+use Rattle.pig_run.specs.Answers.{AreWords, HasWords}
 use Rattle.pig_run.specs.Steps.{IsScripted}
 use Rattle.pig_run.proofs.Due.{words_refused, script_refused}
 use Rattle.pig_run.proofs.plan.read_plan.Goals as goal
 
 pub returns-in_err-path-clause-told : goal.returns-in_err-path-clause-told
 returns-in_err-path-clause-told g c s told =
-    let refused : MatchResult c.from_residual.result (λ f. IsScripted c.args.words.now s f) (λ f. (f ≡ fault.Usage) × ((path : List ℕ) → ¬ AreWords c.args.words.now path)) = search rules in
+    let refused : MatchResult c.from_residual.result (λ f. IsScripted c.args.words.now s f) (λ f. (f ≡ fault.Usage) × (¬ HasWords c.args.words.now)) = search rules in
     MatchResult-weaker c.from_residual.result refused (λ f h. h) (λ f h. words_refused c.args.words.now s f h)
 
 pub returns-clause-told : goal.returns-clause-told

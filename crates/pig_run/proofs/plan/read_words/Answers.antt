@@ -1,7 +1,7 @@
-use Rattle.std.proofs.Common.{rules, ◌≡◌, ◌<◌, ◌≤◌, ◌∷◌, [], length, get_or, codes, true, false, sym, ◌∙◌, ap}
+use Rattle.std.proofs.Common.{rules, ◌≡◌, ◌<◌, ◌≤◌, ◌∷◌, [], length, get_or, codes, true, false, ◌∙◌, ap}
 use Rattle.std.proofs.lemmas.Slice.Eq.{bytes_eq-Decides}
 use Rattle.std.specs.Str.{bytes_eq}
-use Rattle.pig_run.specs.Answers.{AreWords, is_option}
+use Rattle.pig_run.specs.Answers.{is_option}
 use Rattle.pig_run.proofs.Scripts.{two_words}
 use Rattle.pig_run.proofs.plan.read_words.Goals as goal
 
@@ -15,4 +15,4 @@ returns-then-not-begins_option-clause-found c =
     let plain : is_option c.path-item.result ≡ false = search rules in
     let is : c.verb-item.result ≡ codes "run" = (bytes_eq-Decides c.verb-item.result (codes "run")).0 run in
     rw (c.as_str-then-not-begins_option.ensures)
-      (record { are = two_words c.args.words.now c.verb-item.result c.path-item.result some few verb path ∙ ap (λ v. v ∷ c.path-item.result ∷ []) is; plain = plain })
+    (record { are = two_words c.args.words.now c.verb-item.result c.path-item.result some few verb path ∙ ap (λ v. v ∷ c.path-item.result ∷ []) is; plain = plain })

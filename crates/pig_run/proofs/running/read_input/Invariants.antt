@@ -6,7 +6,7 @@ use Rattle.pig_run.proofs.running.read_input.Given as goal
 
 abbrev pub invariant-loop-length : goal.invariant-loop-length
 invariant-loop-length g l =
-    (at_is : l.piece ≡ l.length-index)
-    × (same_inputs : g.H.Host.inputs l.host ≡ g.H.Host.inputs l.fn.host)
-    × (later : g.H.Host.faults l.fn.host ≤ g.H.Host.faults l.host)
+    (l.piece ≡ l.length-index)
+    × (g.H.Host.inputs l.host ≡ g.H.Host.inputs l.fn.host)
+    × (g.H.Host.faults l.fn.host ≤ g.H.Host.faults l.host)
     × ((i : List Input) → g.H.Host.inputs l.fn.host ≡ Some i → (pieces : List (List ℕ)) → pieces_of l.path i ≡ Some pieces → ReadSoFar l.filter pieces l.stored l.length-index)

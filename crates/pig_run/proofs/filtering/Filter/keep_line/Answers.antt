@@ -1,4 +1,4 @@
-use Rattle.std.proofs.Common.{rules, ◌≡◌, ◌++◌, OnOk, sym, ◌∙◌, ap, subst, length}
+use Rattle.std.proofs.Common.{rules, ◌≡◌, ◌++◌, OnOk, subst, length}
 use Rattle.pig_value.specs.Trees.{row_tree}
 use Rattle.pig_value.specs.Fields.{row_of}
 use Rattle.pig_value.specs.Texts.{rows_text}

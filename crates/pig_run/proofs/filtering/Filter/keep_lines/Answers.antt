@@ -1,8 +1,7 @@
-use Rattle.std.proofs.Common.{rules, ◌≡◌, ◌≤◌, ◌<◌, ◌^◌, ◌++◌, ◌∷◌, drop, slice_range, length, sym, ◌∙◌, ap}
-use Rattle.pig_value.specs.Lines.{lines}
+use Rattle.std.proofs.Common.{rules, ◌≡◌, ◌<◌, ◌^◌, ◌++◌, slice_range, length}
 use Rattle.pig_value.specs.Texts.{rows_text}
 use Rattle.pig_storage.specs.NextLine.{IsNextLine}
-use Rattle.pig_run.specs.Running.{keeps, keeps_line, counted}
+use Rattle.pig_run.specs.Running.{keeps_line, counted}
 use Rattle.pig_run.proofs.Keeping.{goes_on, read_at_end, kept_at_end}
 use Rattle.pig_run.proofs.filtering.Filter.keep_lines.Goals as goal
 
@@ -14,7 +13,7 @@ loop-span-preserved c =
     let read : c.keep_line.new.stored.read ≡ counted c.loop-span.stored.read 1 = search rules in
     let kept : c.keep_line.new.stored.kept ≡ counted c.loop-span.stored.kept (length (keeps_line c.args.self.now line)) = search rules in
     goes_on c.args.self.now c.args.piece.now c.args.stored.now c.loop-span.stored c.keep_line.new.stored c.loop-span.from c.in-Some.span line
-      c.loop-span.invariant next.ends next.is bytes read kept
+    c.loop-span.invariant next.ends next.is bytes read kept
 
 pub returns-clause-read : goal.returns-clause-read
 returns-clause-read c =

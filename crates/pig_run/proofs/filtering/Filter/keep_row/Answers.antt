@@ -1,6 +1,6 @@
-use Rattle.std.proofs.Common.{rules, ◌≡◌, ◌<◌, ◌^◌, false, sym, ◌∙◌, ap, length}
+use Rattle.std.proofs.Common.{rules, ◌≡◌, ◌<◌, ◌^◌, false, sym}
 use Rattle.pig_value.specs.Trees.{row_tree}
-use Rattle.pig_run.specs.Running.{passes_row, keeps_row, counted}
+use Rattle.pig_run.specs.Running.{passes_row}
 use Rattle.pig_run.proofs.Keeping.{counted-zero}
 use Rattle.pig_run.proofs.filtering.Filter.keep_row.Goals as goal
 

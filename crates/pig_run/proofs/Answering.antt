@@ -1,0 +1,142 @@
+-- From how a run ended to what the top call answers.
+use Rattle.std.proofs.Common.{◌≡◌, ℕ, List, Option, Some, None, Result, Ok, Err, IfOk, IfErr, OnErr, refl, sym, ◌∙◌, ap, subst, inl, inr, ◌⊎◌}
+use Rattle.std.specs.Option.{option_map, ForSome}
+use Rattle.pig_value.specs.declared.shared.Input.{Input}
+use Rattle.pig_outside.specs.Shelf.{Shelf, pieces_of}
+use Rattle.pig_run.specs.declared.outcome.RunFault.{RunFault}
+use Rattle.pig_run.specs.declared.outcome.RunFault.TheVariants as fault
+use Rattle.pig_run.specs.declared.outcome.Counts.{Counts}
+use Rattle.pig_run.specs.declared.first_form.FirstForm.{FirstForm}
+use Rattle.pig_run.specs.declared.plan.Plan.{Plan}
+use Rattle.pig_run.specs.Answers.{IsDue, usage, no_script, not_yet, no_input, output_exists, runs, IsFree, IsAnswer, IsRun, Leaves, LeftOpen, Verdict, Refused, Runs, Tells, TellsOf}
+use Rattle.pig_run.specs.Steps.{IsReady, IsDepotStep}
+use Rattle.pig_run.specs.Running.{HasLengths, IsRunStep}
+use Rattle.pig_run.specs.Told.{IsTold, EndedWell, RefusedBefore, BrokeOff}
+use Rattle.pig_run.proofs.Verdicts.{one_due}
+
+-- a host that tells its inputs, tells those of the shelf
+pub shelf_inputs : (shelf : Option Shelf) (i : List Input) → option_map (λ s. s.inputs) shelf ≡ Some i → (s : Shelf) × (shelf ≡ Some s) × (s.inputs ≡ i)
+shelf_inputs None i h = absurd (cc)
+shelf_inputs (Some s) i h = (s, refl, cc)
+
+pub ready_lengths : (words : List (List ℕ)) (s : Shelf) (plan : Plan) → IsReady words s plan → (i : List Input) → s.inputs ≡ i → HasLengths plan.form.input plan.lengths i
+ready_lengths words s plan ready i same = record { pieces = ready.pieces; there = subst (λ x. pieces_of plan.form.input x ≡ Some ready.pieces) same ready.there; are = ready.lengths }
+
+ready_due : (words : List (List ℕ)) (s : Shelf) (plan : Plan) (ready : IsReady words s plan) → IsDue words s (Runs plan.form ready.pieces)
+ready_due words s plan ready = runs ready.scripted.words_are ready.scripted.script_is.there ready.scripted.script_is.is ready.there ready.absent
+
+left_by_run : (f : RunFault) (form : FirstForm) (pieces : List (List ℕ)) (old new : Option Shelf) → IsRunStep f → LeftOpen form.output old new
+    → (f ≡ fault.HostFault → new ≡ old) → Leaves f (Runs form pieces) old new
+left_by_run fault.Usage form pieces old new step left host = absurd step
+left_by_run fault.NoScript form pieces old new step left host = absurd step
+left_by_run fault.NotYet form pieces old new step left host = absurd step
+left_by_run (fault.NoInput path) form pieces old new step left host = absurd step
+left_by_run (fault.OutputExists dir) form pieces old new step left host = absurd step
+left_by_run (fault.DepotFault None) form pieces old new step left host = absurd step
+left_by_run (fault.DepotFault (Some store)) form pieces old new step left host = left
+left_by_run fault.HostFault form pieces old new step left host = host refl
+left_by_run fault.OutOfMemory form pieces old new step left host = left
+
+-- how a run that was ready ended
+pub run_told : (words : List (List ℕ)) (s : Shelf) (inputs : Option (List Input)) (old new : Option Shelf) (plan : Plan) (ready : IsReady words s plan) (r : Result Counts RunFault)
+    → old ≡ Some s → TellsOf old inputs
+    → ForSome inputs (λ i. (pieces : List (List ℕ)) → pieces_of plan.form.input i ≡ Some pieces → IfOk r (IsRun plan.form pieces old new))
+    → OnErr r (LeftOpen plan.form.output old new) → IfErr r (λ f. f ≡ fault.HostFault → new ≡ old) → IfErr r IsRunStep → IsTold words s inputs new r
+run_told words s inputs old new plan ready (Ok counts) told tells done left host step = record {
+  form = plan.form;
+  pieces = ready.pieces;
+  due = ready_due words s plan ready;
+  done = λ (i, is).
+      let same : s.inputs ≡ i = let e = sym (ap (option_map (λ s. s.inputs)) told) ∙ tells i is in cc in
+      subst (λ o. IsRun plan.form ready.pieces o new counts) told (done i is ready.pieces (subst (λ x. pieces_of plan.form.input x ≡ Some ready.pieces) same ready.there));
+}
+run_told words s inputs old new plan ready (Err f) told tells done left host step = inr (record {
+  form = plan.form;
+  pieces = ready.pieces;
+  due = ready_due words s plan ready;
+  step = step;
+  left = subst (λ o. Leaves f (Runs plan.form ready.pieces) o new) told (left_by_run f plan.form ready.pieces old new step left host);
+})
+
+-- the clauses of the top call, where the run ended well
+module _ (words : List (List ℕ)) (s : Shelf) (inputs : Option (List Input)) (old new : Option Shelf) (counts : Counts) (told : old ≡ Some s) (well : EndedWell words s inputs new counts) where
+  pub answers_none : (v : Verdict) → IsDue words s v → IsAnswer v None
+  answers_none v due = subst (λ w. IsAnswer w None) (one_due words s (Runs well.form well.pieces) v well.due due) tt
+
+  pub is_done : (form : FirstForm) (pieces : List (List ℕ)) → IsDue words s (Runs form pieces) → Tells inputs → IsRun form pieces old new counts
+  is_done form pieces due tells =
+      let same = one_due words s (Runs well.form well.pieces) (Runs form pieces) well.due due in
+      let forms : well.form ≡ form = cc in
+      let lists : well.pieces ≡ pieces = cc in
+      subst (λ o. IsRun form pieces o new counts) (sym told)
+      (subst (λ f. IsRun f pieces (Some s) new counts) forms (subst (λ ps. IsRun well.form ps (Some s) new counts) lists (well.done tells)))
+
+-- a device or want of memory may end a run
+free_step : (f : RunFault) → IsRunStep f → IsFree f
+free_step fault.Usage step = step
+free_step fault.NoScript step = step
+free_step fault.NotYet step = step
+free_step (fault.NoInput path) step = step
+free_step (fault.OutputExists dir) step = step
+free_step (fault.DepotFault store) step = tt
+free_step fault.HostFault step = tt
+free_step fault.OutOfMemory step = tt
+
+free_before : (f : RunFault) → IsDepotStep f → IsFree f
+free_before fault.Usage step = step
+free_before fault.NoScript step = step
+free_before fault.NotYet step = step
+free_before (fault.NoInput path) step = step
+free_before (fault.OutputExists dir) step = step
+free_before (fault.DepotFault store) step = tt
+free_before fault.HostFault step = absurd step
+free_before fault.OutOfMemory step = tt
+
+answer_of : (v : Verdict) (f : RunFault) → (v ≡ Refused f) ⊎ IsFree f → IsAnswer v (Some f)
+answer_of (Refused g) f h = h
+answer_of (Runs form pieces) f h = h
+
+of_refused : {f g : RunFault} → Refused f ≡ Refused g → f ≡ g
+of_refused e = cc
+
+-- nothing has changed, which every fault before the run may leave
+left_alone : (v : Verdict) (old new : Option Shelf) → new ≡ old → Leaves fault.OutOfMemory v old new
+left_alone (Refused g) old new same = same
+left_alone (Runs form pieces) old new same = inl same
+
+left_step : (f : RunFault) (v : Verdict) (old new : Option Shelf) → IsDepotStep f → new ≡ old → Leaves f v old new
+left_step fault.Usage v old new step same = absurd step
+left_step fault.NoScript v old new step same = absurd step
+left_step fault.NotYet v old new step same = absurd step
+left_step (fault.NoInput path) v old new step same = absurd step
+left_step (fault.OutputExists dir) v old new step same = absurd step
+left_step (fault.DepotFault None) v old new step same = same
+left_step (fault.DepotFault (Some store)) v old new step same = absurd step
+left_step fault.HostFault v old new step same = absurd step
+left_step fault.OutOfMemory v old new step same = left_alone v old new same
+
+-- what is due as a refusal is no fault of the depot
+due_left : (words : List (List ℕ)) (s : Shelf) (f : RunFault) (v w : Verdict) (old new : Option Shelf) → w ≡ Refused f → IsDue words s w → new ≡ old → Leaves f v old new
+due_left words s f v _ old new is (usage n) same = subst (λ g. Leaves g v old new) (of_refused is) same
+due_left words s f v _ old new is (no_script a x) same = subst (λ g. Leaves g v old new) (of_refused is) same
+due_left words s f v _ old new is (not_yet a t x) same = subst (λ g. Leaves g v old new) (of_refused is) same
+due_left words s f v _ old new is (no_input a t js x) same = subst (λ g. Leaves g v old new) (of_refused is) same
+due_left words s f v _ old new is (output_exists a t js x d) same = subst (λ g. Leaves g v old new) (of_refused is) same
+due_left words s f v _ old new is (runs a t js x d) same = absurd (cc)
+
+-- the clauses of the top call, where the run did not end well
+module _ (words : List (List ℕ)) (s : Shelf) (old new : Option Shelf) (f : RunFault) (told : old ≡ Some s) where
+  pub answers_fault : RefusedBefore words s new f ⊎ BrokeOff words s new f → (v : Verdict) → IsDue words s v → IsAnswer v (Some f)
+  answers_fault (inl refused) v due = elim refused.is [
+    | inl is ↦ answer_of v f (inl (one_due words s v (Refused f) due is))
+    | inr step ↦ answer_of v f (inr (free_before f step))
+  ]
+  answers_fault (inr broke) v due = answer_of v f (inr (free_step f broke.step))
+
+  pub leaves : RefusedBefore words s new f ⊎ BrokeOff words s new f → (v : Verdict) → IsDue words s v → Leaves f v old new
+  leaves (inl refused) v due = elim refused.is [
+    | inl is ↦ due_left words s f v (Refused f) old new refl is (refused.left ∙ sym told)
+    | inr step ↦ left_step f v old new step (refused.left ∙ sym told)
+  ]
+  leaves (inr broke) v due =
+      subst (λ w. Leaves f w old new) (one_due words s (Runs broke.form broke.pieces) v broke.due due) (subst (λ o. Leaves f (Runs broke.form broke.pieces) o new) (sym told) broke.left)

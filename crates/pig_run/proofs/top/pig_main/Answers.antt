@@ -1,0 +1,30 @@
+use Rattle.std.proofs.Common.{rules, ◌≡◌, ◌⊎◌, ◌<◌, subst, slice_index_or, length}
+use Rattle.pig_run.specs.Answers.{Tells}
+use Rattle.pig_run.specs.Told.{EndedWell, RefusedBefore, BrokeOff}
+use Rattle.pig_run.proofs.Answering.{answers_none, is_done, answers_fault, leaves}
+use Rattle.pig_run.proofs.top.pig_main.Goals as goal
+
+pub returns-in-Ok-clause-answer : goal.returns-in-Ok-clause-answer
+returns-in-Ok-clause-answer g c s told =
+    let host = c.index_mut.result.now in
+    let well : EndedWell c.args.words.now s (g.H.Host.inputs host) (g.D.Depot.shelf c.run.new.depot) c.in-Ok.counts = c.in-Ok.ensures.told s told in
+    answers_none c.args.words.now s (g.H.Host.inputs host) (g.D.Depot.shelf c.args.depot.now) (g.D.Depot.shelf c.run.new.depot) c.in-Ok.counts told well
+
+pub returns-in-Ok-clause-done : goal.returns-in-Ok-clause-done
+returns-in-Ok-clause-done g c s told form pieces due tell none =
+    let host = c.index_mut.result.now in
+    let well : EndedWell c.args.words.now s (g.H.Host.inputs host) (g.D.Depot.shelf c.run.new.depot) c.in-Ok.counts = c.in-Ok.ensures.told s told in
+    let value : slice_index_or c.args.hosts.now.items 0 host ≡ host = search rules in
+    let some : 0 < length c.args.hosts.now.items = search rules in
+    let tells : Tells (g.H.Host.inputs host) = subst (λ h. Tells (g.H.Host.inputs h)) value (tell 0 host some) in
+    is_done c.args.words.now s (g.H.Host.inputs host) (g.D.Depot.shelf c.args.depot.now) (g.D.Depot.shelf c.run.new.depot) c.in-Ok.counts told well form pieces due tells
+
+pub returns-in-Err-clause-answer : goal.returns-in-Err-clause-answer
+returns-in-Err-clause-answer g c s told =
+    let broke : RefusedBefore c.args.words.now s (g.D.Depot.shelf c.run.new.depot) c.in-Err.fault ⊎ BrokeOff c.args.words.now s (g.D.Depot.shelf c.run.new.depot) c.in-Err.fault = c.in-Err.ensures.told s told in
+    answers_fault c.args.words.now s (g.D.Depot.shelf c.args.depot.now) (g.D.Depot.shelf c.run.new.depot) c.in-Err.fault told broke
+
+pub returns-in-Err-clause-state : goal.returns-in-Err-clause-state
+returns-in-Err-clause-state g c s told =
+    let broke : RefusedBefore c.args.words.now s (g.D.Depot.shelf c.run.new.depot) c.in-Err.fault ⊎ BrokeOff c.args.words.now s (g.D.Depot.shelf c.run.new.depot) c.in-Err.fault = c.in-Err.ensures.told s told in
+    leaves c.args.words.now s (g.D.Depot.shelf c.args.depot.now) (g.D.Depot.shelf c.run.new.depot) c.in-Err.fault told broke
