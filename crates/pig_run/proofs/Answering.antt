@@ -140,3 +140,16 @@ module _ (words : List (List ℕ)) (s : Shelf) (old new : Option Shelf) (f : Run
   ]
   leaves (inr broke) v due =
       subst (λ w. Leaves f w old new) (one_due words s (Runs broke.form broke.pieces) v broke.due due) (subst (λ o. Leaves f (Runs broke.form broke.pieces) o new) (sym told) broke.left)
+
+-- where no device failed, only want of memory can keep a run that is due from its end
+pub completes : (f : RunFault) (form : FirstForm) (pieces : List (List ℕ)) (D H : Type 0) → ((store : Option ℕ) → f ≡ fault.DepotFault store → D) → (f ≡ fault.HostFault → H)
+    → (Runs form pieces ≡ Refused f) ⊎ IsFree f → ¬ D → ¬ H → f ≡ fault.OutOfMemory
+completes f form pieces D H depot host (inl same) sound hosted = absurd (cc)
+completes (fault.DepotFault store) form pieces D H depot host (inr free) sound hosted = absurd (sound (depot store refl))
+completes fault.HostFault form pieces D H depot host (inr free) sound hosted = absurd (hosted (host refl))
+completes fault.OutOfMemory form pieces D H depot host (inr free) sound hosted = refl
+completes fault.Usage form pieces D H depot host (inr free) sound hosted = absurd free
+completes fault.NoScript form pieces D H depot host (inr free) sound hosted = absurd free
+completes fault.NotYet form pieces D H depot host (inr free) sound hosted = absurd free
+completes (fault.NoInput path) form pieces D H depot host (inr free) sound hosted = absurd free
+completes (fault.OutputExists dir) form pieces D H depot host (inr free) sound hosted = absurd free

@@ -2,6 +2,7 @@ pub mod FormLemmas
 pub mod FormComplete
 pub mod FormSound
 mod Answering
+mod Decided
 mod Done
 mod Due
 mod Scripts

@@ -58,6 +58,9 @@ pub fn pig_main<R: Threads + Sync, D: Depot, H: Host + Send, C: Console>(
     ensures depot_fault { (store : Option ℕ) → result.fault ≡ Some (fault.DepotFault store) → FailedRose (D.faults depot.old) (D.faults depot.new) }
     ensures store { (store : ℕ) → result.fault ≡ Some (fault.DepotFault (Some store)) → store ≡ 3 }
     ensures host_fault { result.fault ≡ Some fault.HostFault → FailedRose (first_of H.faults hosts.old.items) (first_of H.faults hosts.new.items) }
+    ensures complete { ForSome (D.shelf depot.old) (λ s. (form : FirstForm) (pieces : List (List ℕ)) → IsDue words.now s (Runs form pieces)
+        → ¬ FailedRose (D.faults depot.old) (D.faults depot.new) → ¬ FailedRose (first_of H.faults hosts.old.items) (first_of H.faults hosts.new.items)
+        → (result.fault ≡ None) ⊎ (result.fault ≡ Some fault.OutOfMemory)) }
     ensures status { result.status ≡ status_of result.fault }
     ensures kept { result.kept ≡ [] }
     ensures counts { IfSome result.fault (λ _. result.counts ≡ no_counts) }
@@ -79,7 +82,8 @@ pub fn pig_main<R: Threads + Sync, D: Depot, H: Host + Send, C: Console>(
     }
 }
 
-/// At most one thing is due of the same words and shelf.
+/// Exactly one thing is due of the same words and shelf.
 pub fn one_verdict()
-    ensures { (words : List (List ℕ)) (shelf : Shelf) (v w : Verdict) → IsDue words shelf v → IsDue words shelf w → v ≡ w }
+    ensures some { (words : List (List ℕ)) (shelf : Shelf) → (v : Verdict) × IsDue words shelf v }
+    ensures one { (words : List (List ℕ)) (shelf : Shelf) (v w : Verdict) → IsDue words shelf v → IsDue words shelf w → v ≡ w }
 {}
