@@ -1,6 +1,6 @@
 -- The first line of bytes, where they have an LF and where they have none.
-use Rattle.std.proofs.Common.{◌≡◌, ℕ, ◌+◌, ◌<◌, ◌≤◌, List, [], ◌∷◌, length, take, drop, map, refl, sym, ◌∙◌, ap, subst, arith}
-use Rattle.std.specs.List.{slice_split, count_by}
+use Rattle.std.proofs.Common.{◌≡◌, ℕ, ◌+◌, ◌<◌, ◌≤◌, List, [], ◌∷◌, length, take, drop, map, refl, sym, ◌∙◌, ap, arith}
+use Rattle.std.specs.List.{slice_split}
 use Rattle.std.specs.Str.Lines.{strip_carriage_return}
 use Rattle.std.proofs.Math.Seq.{drop-length}
 use Rattle.std.proofs.lemmas.List.{take-take}
@@ -10,7 +10,7 @@ use Rattle.pig_value.specs.Lines.{is_lf, lines, stored_lines, without_last_empty
 use Rattle.pig_storage.proofs.Cuts.{cut_at, uncut}
 
 -- a piece before others stays
-stays_before : (piece : List ℕ) (more : List (List ℕ)) → 0 < length more → without_last_empty (piece ∷ more) ≡ piece ∷ without_last_empty more
+pub stays_before : (piece : List ℕ) (more : List (List ℕ)) → 0 < length more → without_last_empty (piece ∷ more) ≡ piece ∷ without_last_empty more
 stays_before piece [] h = absurd (omega arith)
 stays_before piece (next ∷ more) h = refl
 
@@ -20,7 +20,7 @@ stays_alone [] h = absurd (omega arith)
 stays_alone (b ∷ bs) h = refl
 
 -- a cut leaves a piece
-cut_leaves : (bs : List ℕ) → 0 < length (slice_split is_lf bs)
+pub cut_leaves : (bs : List ℕ) → 0 < length (slice_split is_lf bs)
 cut_leaves bs = omega (arith, length-slice_split is_lf bs)
 
 pub line_at : (bs : List ℕ) (at n : ℕ) → NoneBefore (Passes (is_byte 10) bs) 0 (length bs) at → Passes (is_byte 10) bs at → n ≤ at → take n (take at bs) ≡ strip_carriage_return (take at bs) → lines bs ≡ take n bs ∷ lines (drop (at + 1) bs)

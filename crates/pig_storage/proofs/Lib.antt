@@ -1,6 +1,10 @@
 pub mod Cuts
-mod FirstLine
+pub mod FirstLine
 pub mod Numbers
 mod Pieces
 mod Loops
 pub mod TextLists
+pub mod LineFree
+pub mod Walks
+pub mod StoredRows
+mod FieldLaw

@@ -1,8 +1,8 @@
 -- Steps of the loops that read a row and write one.
-use Rattle.std.proofs.Common.{◌≡◌, ℕ, ◌+◌, ◌<◌, ◌==◌, Bool, true, false, if◌then◌else◌, List, [], ◌∷◌, ◌++◌, length, map, take, drop, get_or, refl, sym, ◌∙◌, ap, arith}
+use Rattle.std.proofs.Common.{◌≡◌, ℕ, ◌+◌, ◌<◌, ◌≤◌, ◌==◌, Bool, true, false, if◌then◌else◌, List, [], ◌∷◌, ◌++◌, length, map, take, drop, get_or, refl, sym, ◌∙◌, ap, arith}
 use Rattle.std.specs.List.{join_with_byte}
 use Rattle.std.proofs.lemmas.Bool.Decides.{Decides-eqb, not_from_Decides}
-use Rattle.std.proofs.lemmas.List.{append_assoc, append-nil, drop_more, get_or-map, length-map, length-take-le, map-append, take_more}
+use Rattle.std.proofs.lemmas.List.{append_assoc, append-nil, drop_all, drop_more, get_or-map, length-map, length-take-le, map-append, take_more}
 use Rattle.pig_storage.specs.Written.{IsExtended}
 
 -- one more value is pushed, and one element less is left to read
@@ -12,6 +12,10 @@ reads_one f g cs i c row next v whole within at so_far pushed same =
     let here : drop i cs ≡ c ∷ drop (i + 1) cs = drop_more cs i c within ∙ ap (λ x. x ∷ drop (i + 1) cs) (sym at) in
     let grown : map f next ≡ map f row ++ f v ∷ [] = ap (map f) pushed ∙ map-append f row (v ∷ []) in
     ap (λ l. l ++ rest) grown ∙ (append_assoc (map f row) (f v ∷ []) rest ∙ (ap (λ t. map f row ++ t ∷ rest) same ∙ (ap (λ l. map f row ++ map g l) (sym here) ∙ so_far)))
+
+-- and at the end nothing is left
+pub reads_all : {C V T : Type 0} (f : V → T) (g : C → T) (cs : List C) (i : ℕ) (row : List V) (whole : List T) → length cs ≤ i → map f row ++ map g (drop i cs) ≡ whole → map f row ≡ whole
+reads_all f g cs i row whole past so_far = sym (append-nil (map f row)) ∙ (ap (λ l. map f row ++ map g l) (sym (drop_all i cs past)) ∙ so_far)
 
 -- one more text joined to one or more
 joined_more : (c : ℕ) (y : List ℕ) (ys : List (List ℕ)) (x : List ℕ) → join_with_byte c ((y ∷ ys) ++ x ∷ []) ≡ join_with_byte c (y ∷ ys) ++ c ∷ x

@@ -1,10 +1,10 @@
 -- What the tests of a number's text tell.
-use Rattle.std.proofs.Common.{◌≡◌, ℕ, ℤ, ◌<◌, ◌==◌, cond, Bool, true, false, ◌⊎◌, inl, inr, List, [], ◌∷◌, length, take, drop, get_or, Option, None, Some, Result, Ok, Err, refl, sym, ◌∙◌, ap, subst, FitsSigned, arith, rules}
+use Rattle.std.proofs.Common.{◌≡◌, ℕ, ℤ, ◌<◌, ◌==◌, cond, Bool, true, false, ◌⊎◌, inl, inr, List, [], ◌∷◌, length, drop, None, Some, Result, Ok, Err, refl, sym, ◌∙◌, ap, subst, FitsSigned, arith}
 use Rattle.std.specs.Bool.{Decides}
 use Rattle.std.specs.Int.{Width, int_wrap}
 use Rattle.std.specs.Result.{result_ok}
 use Rattle.std.specs.Str.{IsAscii, IsUtf8, all_ascii_digits}
-use Rattle.std.specs.Str.Parse.{AllDigits, IsNumeral, ParsesSigned, signed_digits_value, without_leading_sign}
+use Rattle.std.specs.Str.Parse.{AllDigits, ParsesSigned, signed_digits_value, without_leading_sign}
 use Rattle.std.proofs.lemmas.Bool.Decides.{Decides-and, Decides-eqb, Decides-int_eq, Decides-like, Decides-ltb, not_from_Decides}
 use Rattle.std.proofs.lemmas.Fmt.{IsAscii-from_digits}
 use Rattle.std.proofs.lemmas.Int.{SFits-int_wrap, int_wrap_fits}

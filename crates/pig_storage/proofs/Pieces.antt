@@ -1,14 +1,11 @@
 -- How a piece of a line follows from where it starts, and what the pieces from a position on tell.
-use Rattle.std.proofs.Common.{◌≡◌, ℕ, zero, suc, ◌+◌, ◌-◌, ◌<◌, ◌≤◌, ◌==◌, Bool, true, false, List, [], ◌∷◌, length, take, drop, Option, None, Some, refl, sym, ◌∙◌, ap, subst, arith}
+use Rattle.std.proofs.Common.{◌≡◌, ℕ, zero, suc, ◌+◌, ◌-◌, ◌<◌, ◌≤◌, ◌==◌, Bool, true, false, List, [], ◌∷◌, length, take, drop, None, Some, refl, sym, ◌∙◌, ap, arith}
 use Rattle.std.specs.List.{slice_range, slice_get}
-use Rattle.std.specs.Option.{option_map_or}
 use Rattle.std.proofs.lemmas.Bool.Decides.{Decides-eqb}
 use Rattle.std.proofs.lemmas.List.{drop-drop, length-drop, take_rest}
 use Rattle.std.proofs.lemmas.Option.{slice_get_past}
 use Rattle.memchr.specs.Find.{NoneBefore, Nowhere, Passes, is_byte}
-use Rattle.pig_value.specs.declared.shared.Column.{Column}
-use Rattle.pig_value.specs.Fields.{pieces, field_of, column_of}
-use Rattle.pig_value.specs.Trees.{Tree, v_null, kind_tree}
+use Rattle.pig_value.specs.Fields.{pieces}
 use Rattle.pig_storage.specs.declared.rows.Piece.{Piece}
 use Rattle.pig_storage.specs.Pieces.{IsPiece, pieces_behind}
 use Rattle.pig_storage.proofs.Cuts.{cut_at, uncut}
@@ -69,12 +66,12 @@ at_front (x ∷ xs) (suc i) y ys e = at_front xs i y ys e
 ends_behind : {A : Type 0} (xs : List A) (i : ℕ) (y : A) → drop i xs ≡ y ∷ [] → length xs ≡ i + 1
 ends_behind xs i y e = let n : length xs - i ≡ 1 = sym (length-drop i xs) ∙ ap length e in omega arith
 
--- the value of a column is that of its piece
-pub column_at : (d : ℕ) (line : List ℕ) (p : Piece) (c : Column) → IsPiece d line p → p.position ≡ c.position → column_of (pieces d line) c ≡ field_of (kind_tree c.kind) (slice_range line p.from p.to)
-column_at d line p c is here = ap (λ o. option_map_or (field_of (kind_tree c.kind)) o v_null) (sym (ap (slice_get (pieces d line)) here) ∙ at_front (pieces d line) p.position (slice_range line p.from p.to) (pieces_behind d line p.to) is.is)
+-- the piece at its position
+pub piece_is : (d : ℕ) (line : List ℕ) (p : Piece) (position : ℕ) → IsPiece d line p → p.position ≡ position → slice_get (pieces d line) position ≡ Some (slice_range line p.from p.to)
+piece_is d line p position is here = sym (ap (slice_get (pieces d line)) here) ∙ at_front (pieces d line) p.position (slice_range line p.from p.to) (pieces_behind d line p.to) is.is
 
--- and null behind the last piece
-pub column_past : (d : ℕ) (line : List ℕ) (p : Piece) (c : Column) → IsPiece d line p → p.to ≡ length line → p.position < c.position → column_of (pieces d line) c ≡ v_null
-column_past d line p c is last behind =
+-- and none behind the last piece
+pub piece_past : (d : ℕ) (line : List ℕ) (p : Piece) (position : ℕ) → IsPiece d line p → p.to ≡ length line → p.position < position → slice_get (pieces d line) position ≡ None
+piece_past d line p position is last behind =
     let count : length (pieces d line) ≡ p.position + 1 = ends_behind (pieces d line) p.position (slice_range line p.from p.to) (is.is ∙ ap (λ ps. slice_range line p.from p.to ∷ ps) (behind_end d line p.to last)) in
-    ap (λ o. option_map_or (field_of (kind_tree c.kind)) o v_null) (slice_get_past (pieces d line) c.position (omega arith))
+    slice_get_past (pieces d line) position (omega arith)

@@ -10,10 +10,14 @@
 //! `proofs/Walks`, `proofs/LineFree` and `proofs/StoredRows`.
 #![tactic(auto)]
 
+mod laws;
 mod lines;
 mod rows;
+#[cfg(test)]
+mod tests;
 mod writing;
 
+pub use laws::{a_field_has_one_value, rows_of_lines_are_line_free, texts_of_rows_are_lines};
 pub use lines::{Span, next_line};
 pub use rows::line_row;
 pub use writing::write_row;

@@ -1,7 +1,7 @@
-ghost use Rattle.std.specs.Prelude.{◌≡◌, ◌<◌, ◌≤◌, length, drop, All, IfOk};
+ghost use Rattle.std.specs.Prelude.{◌≡◌, ◌<◌, ◌≤◌, length, drop, slice_get, All, IfOk};
 ghost use Rattle.std.specs.Int.{w32};
-ghost use Rattle.std.specs.Option.{option_map_or};
-ghost use Rattle.pig_value.specs.Fields.{field_of, number_of, pieces, column_of, row_of};
+ghost use Rattle.std.specs.Option.{option_copied, option_map_or};
+ghost use Rattle.pig_value.specs.Fields.{field_of, number_of, pieces, row_of};
 ghost use Rattle.pig_value.specs.Trees.{tree, row_tree, kind_tree, v_int, v_null};
 ghost use Rattle.pig_storage.specs.Pieces.{IsPiece, IsReadKind};
 
@@ -22,14 +22,28 @@ pub fn line_row(
     requires { All (λ c. IsReadKind (kind_tree c.kind)) columns.now }
     ensures { IfOk result (λ row. row_tree row ≡ row_of columns.now delim line.now) }
 {
-    let byte = delim.byte();
+    let row = read_columns(alloc, line, delim.byte(), columns.as_slice())?;
+    Ok(Seq::from_vec(row))
+}
+
+// The values of the columns, in one pass over the line where their positions ascend.
+fn read_columns(
+    alloc: Global,
+    line: &[u8],
+    byte: u8,
+    columns: &[Column],
+) -> Result<Vec<Value>, AllocError>
+    requires { All (λ c. IsReadKind (kind_tree c.kind)) columns.now }
+    ensures { IfOk result (λ row. row_tree row.items ≡ row_of columns.now byte line.now) }
+{
     let mut row = Vec::with_capacity(alloc, columns.len())?;
     let mut piece = piece_from(line, byte, 0, 0);
-    for column in columns.as_slice() {
+    for column in columns {
         piece = piece_towards(line, byte, piece, column.position);
-        row.push(column_value(alloc, line, byte, piece, column)?)?;
+        let bytes = bytes_at(line, byte, piece, column.position);
+        row.push(field_or_null(alloc, bytes, &column.kind)?)?;
     }
-    Ok(Seq::from_vec(row))
+    Ok(row)
 }
 
 // A piece of a line: its position among the pieces, from 0, and where it stands.
@@ -87,24 +101,28 @@ fn piece_from(line: &[u8], byte: u8, from: usize, position: u32) -> Piece
     Piece { position, from, to }
 }
 
-// The value of a column, by the piece that is nearest to its position.
-fn column_value(
-    alloc: Global,
-    line: &[u8],
-    byte: u8,
-    piece: Piece,
-    column: &Column,
-) -> Result<Value, AllocError>
-    requires kind { IsReadKind (kind_tree column.now.kind) }
+// The bytes of the piece at a position, by the piece that is nearest to it.
+fn bytes_at(line: &[u8], byte: u8, piece: Piece, position: u32) -> Option<&[u8]>
     requires piece { IsPiece byte line.now piece }
-    requires ordered { piece.position ≤ column.now.position }
-    requires last { piece.position < column.now.position → piece.to ≡ length line.now }
-    ensures { IfOk result (λ v. tree v ≡ column_of (pieces byte line.now) column.now) }
+    requires ordered { piece.position ≤ position }
+    requires last { piece.position < position → piece.to ≡ length line.now }
+    ensures { option_copied result ≡ slice_get (pieces byte line.now) position }
 {
-    if piece.position < column.position {
-        return Ok(Value::Null);
+    if piece.position < position {
+        return None;
     }
-    read_field(alloc, &line[piece.from..piece.to], &column.kind)
+    Some(&line[piece.from..piece.to])
+}
+
+// The value of a field, or null where the line has no such field.
+fn field_or_null(alloc: Global, bytes: Option<&[u8]>, kind: &Kind) -> Result<Value, AllocError>
+    requires { IsReadKind (kind_tree kind.now) }
+    ensures { IfOk result (λ v. tree v ≡ option_map_or (field_of (kind_tree kind.now)) (option_copied bytes.entry) v_null) }
+{
+    match bytes {
+        Some(bytes) => read_field(alloc, bytes, kind),
+        None => Ok(Value::Null),
+    }
 }
 
 // The value of a field's bytes at a kind.

@@ -42,7 +42,7 @@ fn write_value(value: &Value, out: &mut Vec<u8>) -> Result<(), AllocError>
     ensures grows { IsExtended out.old.items out.new.items }
 {
     match value {
-        Value::Null => Ok(()),
+        Value::Null => write_bytes(b"", out),
         Value::Bool(truth) => write_bool(*truth, out),
         Value::Int(number) => write_int(*number, out),
         Value::Long(number) => write_long(*number, out),

@@ -1,5 +1,5 @@
 -- Cases by whether an LF stands in the bytes.
-use Rattle.std.proofs.Common.{arith, length, take}
+use Rattle.std.proofs.Common.{arith}
 use Rattle.std.proofs.lemmas.List.{length-take}
 use Rattle.pig_storage.proofs.FirstLine.{line_at, line_alone}
 use Rattle.pig_storage.proofs.lines.first_line.Goals as goal

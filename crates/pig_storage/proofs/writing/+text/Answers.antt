@@ -3,7 +3,7 @@ use Rattle.std.proofs.Common.{◌≡◌, ◌<◌, [], ◌∷◌, ◌++◌, lengt
 use Rattle.pig_value.specs.Texts.{text_of, tuple_text, bracketed}
 use Rattle.pig_value.specs.TreeLaws.{tree-Tuple, tree-Bag, tree-Listed, tree-Map, entry_is}
 use Rattle.pig_value.specs.Trees.{tree, row_tree, rows_tree, entry_of}
-use Rattle.pig_storage.specs.Written.{IsExtended, row_as_tuple, pair_text}
+use Rattle.pig_storage.specs.Written.{row_as_tuple, pair_text}
 use Rattle.pig_storage.proofs.Loops.{count_of_texts, grown_twice, pair_written, text_at, writes_one}
 use Rattle.pig_storage.proofs.TextLists.{texts_of_fields, texts_of_tuples, texts_of_entries}
 use Rattle.pig_storage.proofs.writing.+text.Goals as goal

@@ -1,0 +1,42 @@
+-- The texts of rows, each with an LF behind it, are their own lines.
+use Rattle.std.proofs.Common.{◌≡◌, ◌≢◌, ℕ, Bool, true, false, List, [], ◌∷◌, ◌++◌, map, refl, sym, ◌∙◌, ap, subst}
+use Rattle.std.specs.List.{slice_split}
+use Rattle.std.specs.List.Sorted.{IsPermutation}
+use Rattle.std.proofs.lemmas.Bool.Decides.{Decides-eqb}
+use Rattle.std.proofs.lemmas.List.{append_assoc}
+use Rattle.std.proofs.lemmas.List.Elements.{All-head, All-tail, All-weaker}
+use Rattle.std.proofs.lemmas.List.Sorted.{IsPermutation-refl}
+use Rattle.std.proofs.lemmas.List.Splits.{slice_split_at}
+use Rattle.pig_value.specs.Lines.{is_lf, stored_lines, without_last_empty}
+use Rattle.pig_value.specs.Stored.{StoresBag, StoresList}
+use Rattle.pig_value.specs.Texts.{AreLineFreeRows, HasNoLf, IsLineFreeRow, row_text, rows_text}
+use Rattle.pig_value.specs.Trees.{Tree}
+use Rattle.pig_storage.proofs.FirstLine.{cut_leaves, stays_before}
+use Rattle.pig_storage.proofs.LineFree.{row_text_free}
+
+-- a test of a byte other than LF fails
+no_lf : (b : ℕ) → b ≢ 10 → is_lf b ≡ false
+no_lf b other = by_test (is_lf b) refl
+  where
+    by_test : (t : Bool) → is_lf b ≡ t → is_lf b ≡ false
+    by_test true e = absurd (other ((Decides-eqb b 10).0 e))
+    by_test false e = e
+
+-- a line and its LF are the first stored line
+pub stored_line : (line rest : List ℕ) → HasNoLf line → stored_lines ((line ++ 10 ∷ []) ++ rest) ≡ line ∷ stored_lines rest
+stored_line line rest free =
+    let cut : slice_split is_lf (line ++ 10 ∷ rest) ≡ line ∷ slice_split is_lf rest = slice_split_at is_lf line 10 rest (All-weaker (λ b. b ≢ 10) (λ b. is_lf b ≡ false) no_lf line free) refl in
+    ap stored_lines (append_assoc line (10 ∷ []) rest) ∙ (ap without_last_empty cut ∙ stays_before line (slice_split is_lf rest) (cut_leaves rest))
+
+-- the texts of line-free rows are stored as they are
+pub rows_stored : (d : ℕ) → d ≢ 10 → (rows : List (List Tree)) → AreLineFreeRows rows → StoresList d (rows_text d rows) rows
+rows_stored d other [] free = refl
+rows_stored d other (row ∷ rows) free =
+    let here : HasNoLf (row_text d row) = row_text_free d other row (All-head IsLineFreeRow row rows free) in
+    stored_line (row_text d row) (rows_text d rows) here ∙ ap (λ l. row_text d row ∷ l) (rows_stored d other rows (All-tail IsLineFreeRow row rows free))
+
+-- what stores a list stores it as a bag
+pub stored_in_order : (d : ℕ) (bytes : List ℕ) (rows : List (List Tree)) → StoresList d bytes rows → StoresBag d bytes rows
+stored_in_order d bytes rows stored =
+    let P : List (List ℕ) → Type 0 = λ ls. IsPermutation (map (row_text d) rows) ls in
+    subst P (sym stored) (IsPermutation-refl (map (row_text d) rows))

@@ -1,0 +1,8 @@
+use Rattle.pig_storage.proofs.LineFree.{lines_free, rows_free}
+use Rattle.pig_storage.proofs.laws.rows_of_lines_are_line_free.Goals as goal
+
+pub returns-clause-lines : goal.returns-clause-lines
+returns-clause-lines c = lines_free
+
+pub returns-clause-rows : goal.returns-clause-rows
+returns-clause-rows c = rows_free

@@ -1,0 +1,8 @@
+use Rattle.pig_storage.proofs.StoredRows.{rows_stored, stored_in_order}
+use Rattle.pig_storage.proofs.laws.texts_of_rows_are_lines.Goals as goal
+
+pub returns-clause-list : goal.returns-clause-list
+returns-clause-list c = rows_stored
+
+pub returns-clause-bag : goal.returns-clause-bag
+returns-clause-bag c = stored_in_order

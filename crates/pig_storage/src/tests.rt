@@ -1,0 +1,142 @@
+//! Lines, rows and texts by hand: what is stored for an input, and the text of each form of value.
+ghost use Rattle.std.specs.Prelude.{All, IfOk};
+ghost use Rattle.pig_value.specs.Trees.{kind_tree};
+ghost use Rattle.pig_storage.specs.Pieces.{IsReadKind};
+
+use crate::{line_row, next_line, write_row};
+use pig_value::{Blob, Column, Columns, Delim, Kind, Pair, Pairs, Rows, Seq, Text, Tuple, Value};
+use std::alloc::{AllocError, Global};
+use std::test::Fail;
+
+// A column of a kind at a position: `i` is an int and any other letter a chararray.
+fn column(letter: u8, position: u32) -> Column
+    ensures { IsReadKind (kind_tree result.kind) }
+{
+    match letter {
+        b'i' => Column {
+            position,
+            kind: Kind::Int,
+        },
+        _ => Column {
+            position,
+            kind: Kind::Chararray,
+        },
+    }
+}
+
+fn columns(alloc: Global, wanted: &[(u8, u32)]) -> Result<Columns, AllocError>
+    ensures { IfOk result (λ cs. All (λ c. IsReadKind (kind_tree c.kind)) cs) }
+{
+    let mut columns = Seq::new(alloc);
+    for (letter, position) in wanted {
+        columns.push(column(*letter, *position))?;
+    }
+    Ok(columns)
+}
+
+// The rows of an input at these columns, as they are stored.
+fn stored(
+    alloc: Global,
+    input: &[u8],
+    delim: Delim,
+    columns: &Columns,
+) -> Result<Vec<u8>, AllocError>
+    requires { All (λ c. IsReadKind (kind_tree c.kind)) columns.now }
+{
+    let mut out = Vec::new(alloc);
+    let mut from = 0;
+    while let Some(span) = next_line(input, from) {
+        let row = line_row(alloc, &input[from..span.to], delim, columns)?;
+        write_row(&row, delim, &mut out)?;
+        from = span.next;
+    }
+    Ok(out)
+}
+
+#[test]
+fn stores_what_it_reads(rt: HostRuntime) -> Result<(), Fail> {
+    let tab = Delim::tab();
+    let comma = Delim::new(",").ok().ok_or("a comma")?;
+    let two_ints: &[(u8, u32)] = &[(b'i', 0), (b'i', 1)];
+    let one_int: &[(u8, u32)] = &[(b'i', 0)];
+    let one_text: &[(u8, u32)] = &[(b'c', 0)];
+    let any_order: &[(u8, u32)] = &[(b'c', 2), (b'c', 0), (b'c', 0), (b'c', 7), (b'c', 1)];
+    let cases: [(&[u8], Delim, &[(u8, u32)], &[u8]); 9] = [
+        (b"1\t2\r\n\n3\t4", tab, two_ints, b"1\t2\n\t\n3\t4\n"),
+        (b"", tab, two_ints, b""),
+        (b"\n", tab, one_text, b"\n"),
+        (
+            b"+5\n-\n2147483648\n-2147483648\n 5\n--5\n007\n",
+            tab,
+            one_int,
+            b"5\n\n\n-2147483648\n\n\n7\n",
+        ),
+        (b"a\r\r\nb\r", tab, one_text, b"a\r\nb\n"),
+        (b"1,2,3\n4\n,5\n", comma, two_ints, b"1,2\n4,\n,5\n"),
+        (b"a,b,c", comma, any_order, b"c,a,a,,b\n"),
+        (
+            b"\xff\xe2\x82x",
+            tab,
+            one_text,
+            b"\xef\xbf\xbd\xef\xbf\xbdx\n",
+        ),
+        (b"(1,2),5\n", comma, one_text, b"(1\n"),
+    ];
+    for (input, delim, wanted, expected) in cases {
+        let columns = columns(rt.alloc(), wanted)?;
+        let out = stored(rt.alloc(), input, delim, &columns)?;
+        assert_eq!(rt; out.as_slice(), expected, "for {input:?}");
+    }
+    Ok(())
+}
+
+fn text(alloc: Global, text: &str) -> Result<Value, AllocError> {
+    Ok(Value::Chars(Text::from_str(alloc, text)?))
+}
+
+fn pair(alloc: Global, first: Value, second: Value) -> Result<Tuple, AllocError> {
+    let mut tuple = Seq::new(alloc);
+    tuple.push(first)?;
+    tuple.push(second)?;
+    Ok(tuple)
+}
+
+fn one_key(alloc: Global, key: &str, value: Value) -> Result<Pairs, AllocError> {
+    let mut pairs = Seq::new(alloc);
+    pairs.push(Pair {
+        key: Text::from_str(alloc, key)?,
+        value,
+    })?;
+    Ok(pairs)
+}
+
+fn two_rows(alloc: Global, first: Tuple, second: Tuple) -> Result<Rows, AllocError> {
+    let mut rows = Seq::new(alloc);
+    rows.push(first)?;
+    rows.push(second)?;
+    Ok(rows)
+}
+
+#[test]
+fn writes_each_form(rt: HostRuntime) -> Result<(), Fail> {
+    let alloc = rt.alloc();
+    let bag = two_rows(
+        alloc,
+        pair(alloc, Value::Null, Value::Long(-9))?,
+        pair(alloc, Value::Bool(true), text(alloc, "é")?)?,
+    )?;
+    let mut row = Seq::new(alloc);
+    row.push(Value::Null)?;
+    row.push(Value::Map(one_key(alloc, "k", Value::Int(2))?))?;
+    row.push(Value::Tuple(pair(alloc, Value::Int(1), Value::Int(2))?))?;
+    row.push(Value::Bag(bag))?;
+    row.push(Value::Listed(Seq::new(alloc)))?;
+    row.push(Value::Tuple(Seq::new(alloc)))?;
+    row.push(Value::Bytes(Blob::from_slice(alloc, b"\xff")?))?;
+    row.push(Value::Bool(false))?;
+    let mut out = Vec::from_slice(alloc, b"before\n")?;
+    write_row(&row, Delim::tab(), &mut out)?;
+    let expected = "before\n\t[k#2]\t(1,2)\t{(,-9),(true,é)}\t{}\t()\t\u{fffd}\tfalse\n";
+    assert_eq!(rt; String::from_utf8_lossy(alloc, &out)?.as_str(), expected);
+    Ok(())
+}
