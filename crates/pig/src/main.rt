@@ -3,6 +3,8 @@
 
 ghost use Rattle.std.specs.Prelude.{◌≡◌, IfOk, vec_len};
 
+#[cfg(test)]
+mod file_tests;
 mod files;
 
 use files::{FileDepot, FileHost, StdConsole};

@@ -1,11 +1,10 @@
 -- What the place of a directory says of it.
-use Rattle.std.proofs.Common.{◌≡◌, ◌<◌, ◌+◌, ◌∙◌, ℕ, suc, Bool, true, false, List, [], ◌∷◌, ◌++◌, Option, Some, None, length, slice_index_or, slice_set, refl, sym, ap, subst, inl, inr, arith}
+use Rattle.std.proofs.Common.{◌≡◌, ◌+◌, ℕ, suc, true, false, List, [], ◌∷◌, Option, Some, None, refl, ap, subst, inl, inr, arith}
 use Rattle.std.specs.Option.{option_map}
 use Rattle.std.specs.Str.{bytes_eq}
 use Rattle.std.proofs.lemmas.Bool.{cases_Bool}
-use Rattle.pig_outside.specs.declared.contents.DirState.{DirState}
 use Rattle.pig_outside.specs.declared.contents.Directory.{Directory}
-use Rattle.pig_outside.specs.Shelf.{state_of, set_dir}
+use Rattle.pig_outside.specs.Shelf.{state_of}
 use Rattle.pig_outside.specs.Places.{place_of, IsPlace}
 
 -- The place of a directory, by the directories' paths.

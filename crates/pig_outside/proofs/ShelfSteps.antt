@@ -1,10 +1,8 @@
 -- What the calls of a depot in memory leave, told of its shelf.
-use Rattle.std.proofs.Common.{◌≡◌, ◌∙◌, ◌++◌, ℕ, List, [], ◌∷◌, Option, Some, None, Result, OnOk, OnErr, refl, sym, ap, IsSome, unwrap_or}
+use Rattle.std.proofs.Common.{◌≡◌, ◌∙◌, ◌++◌, ℕ, List, [], ◌∷◌, Some, Result, OnOk, OnErr, refl, sym, ap}
 use Rattle.std.proofs.lemmas.Result.{on_ok_weaker, on_err_weaker}
-use Rattle.std.specs.Option.{option_map, ForSome}
-use Rattle.pig_outside.specs.declared.contents.DirState.{DirState}
 use Rattle.pig_outside.specs.declared.contents.Directory.{Directory}
-use Rattle.pig_outside.specs.Shelf.{Shelf, state_of, parts_in, set_dir, with_new, open_state, IsOpen, IsOpenIn, CanCreate, CanPut, CanFinish, LeftUnmarked}
+use Rattle.pig_outside.specs.Shelf.{Shelf, parts_in, with_new, open_state, IsOpen, IsOpenIn, CanCreate, LeftUnmarked}
 use Rattle.pig_outside.specs.ShelfLaws.{set_dir-new, unmarked_as_before}
 
 -- A shelf with these directories.

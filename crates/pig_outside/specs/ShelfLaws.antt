@@ -1,5 +1,5 @@
 -- Laws of look-ups and of changed directories.
-use Rattle.std.specs.Prelude.{◌≡◌, ◌≢◌, ◌++◌, ℕ, Bool, true, false, List, [], ◌∷◌, Option, Some, None, refl, length, is_some}
+use Rattle.std.specs.Prelude.{◌≡◌, ◌≢◌, ◌++◌, ℕ, true, false, List, [], ◌∷◌, Option, Some, None, refl, length, is_some}
 use Rattle.std.proofs.Common.{ap, sym, ◌∙◌, inl, inr, subst}
 use Rattle.std.proofs.lemmas.Bool.{false_from_ne_true, cases_Bool}
 use Rattle.std.proofs.lemmas.Slice.Eq.{bytes_eq-Decides}

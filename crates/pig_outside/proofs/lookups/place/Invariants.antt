@@ -1,5 +1,5 @@
 -- The place in what is left gives the place in all.
-use Rattle.std.proofs.Common.{◌≡◌, ◌+◌, ℕ, drop}
+use Rattle.std.proofs.Common.{◌≡◌, ◌+◌, drop}
 use Rattle.std.specs.Option.{option_map}
 use Rattle.pig_outside.specs.Places.{place_of}
 use Rattle.pig_outside.proofs.lookups.place.Given as goal

@@ -1,6 +1,6 @@
 use Rattle.std.proofs.Common.{◌≡◌, ◌∙◌, false, true, None, sym}
 use Rattle.pig_outside.specs.Shelf.{state_of}
-use Rattle.pig_outside.proofs.PlaceLaws.{place_in, place_is, no_place}
+use Rattle.pig_outside.proofs.PlaceLaws.{place_is, no_place}
 use Rattle.pig_outside.proofs.memory_depot.existing.Goals as goal
 
 pub unreachable-requires : goal.unreachable-requires

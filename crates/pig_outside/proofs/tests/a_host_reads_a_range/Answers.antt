@@ -1,4 +1,4 @@
-use Rattle.std.proofs.Common.{◌≡◌, ◌∙◌, ◌∷◌, [], ℕ, List, Some, refl, sym, ap, subst, arith}
+use Rattle.std.proofs.Common.{◌≡◌, ◌∙◌, ◌∷◌, [], List, Some, refl, sym, ap, subst, arith}
 use Rattle.pig_value.specs.declared.shared.Input.{Input}
 use Rattle.pig_outside.specs.Shelf.{HasRange}
 use Rattle.pig_outside.specs.Memory.{told_inputs}

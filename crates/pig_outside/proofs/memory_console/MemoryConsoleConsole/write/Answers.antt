@@ -1,4 +1,4 @@
-use Rattle.std.proofs.Common.{◌≡◌, ◌≤◌, ◌++◌, ◌∙◌, ℕ, List, [], Some, length, take, Result, OnErr, Ok, Err, sym, ap, arith}
+use Rattle.std.proofs.Common.{◌≡◌, ◌∙◌, ℕ, List, Some, Result, OnErr, Ok, Err, sym, ap, arith}
 use Rattle.std.proofs.lemmas.List.{append-nil}
 use Rattle.pig_outside.specs.Text.{LeftPrefix}
 use Rattle.pig_outside.proofs.memory_console.MemoryConsoleConsole.write.Goals as goal

@@ -1,0 +1,58 @@
+// What no clause says of real files: which pieces a folder has, what is read, and which files an output has.
+use crate::files::{FileDepot, FileHost};
+use pig_outside::{Depot, Host, OutsideError};
+use std::fs;
+use std::test::Fail;
+
+#[test]
+fn a_folder_is_an_input_and_an_output(rt: HostRuntime) -> Result<(), Fail> {
+    let alloc = rt.alloc();
+    fs::create_dir_all(&rt, "in/nested")?;
+    for (path, text) in [
+        ("in/b", "7\n"),
+        ("in/a", "5"),
+        ("in/_no", "1"),
+        ("in/.no", "2"),
+        ("in/nested/c", "3"),
+    ] {
+        fs::write(&rt, path, text)?;
+    }
+    let mut depot = FileDepot::new(rt.clone()?, alloc);
+    let mut host = FileHost::new(rt.clone()?, alloc);
+    let lengths = depot.pieces("in")?.expect(&rt, "the folder");
+    assert_eq!(rt; lengths.as_slice(), [1, 2].as_slice());
+    let mut into = [0; 1];
+    for (piece, from, byte) in [(0, 0, b'5'), (1, 0, b'7'), (1, 1, b'\n')] {
+        host.read("in", piece, from, &mut into)?;
+        assert_eq!(rt; into, [byte]);
+    }
+    assert_eq!(rt; host.read("in", 1, 2, &mut into), Err(OutsideError::Failed));
+    assert_eq!(rt; host.read("in", 2, 0, &mut into), Err(OutsideError::Failed));
+    host.read("in/b", 0, 0, &mut into)?;
+    assert_eq!(rt; into, [b'7']);
+    assert!(rt; depot.pieces("no")?.is_none());
+    fs::write(&rt, "in/c.gz", "")?;
+    assert!(rt; depot.pieces("in").is_err());
+
+    assert_eq!(rt; depot.exists("made/out"), Ok(false));
+    depot.create("made/out")?;
+    depot.put("made/out", 0, b"x\n")?;
+    depot.put("made/out", 1, b"")?;
+    depot.finish("made/out")?;
+    assert_eq!(rt; depot.exists("made/out"), Ok(true));
+    assert_eq!(rt; depot.create("made/out"), Err(OutsideError::Failed));
+    for (path, text) in [
+        ("made/out/part-00000", "x\n"),
+        ("made/out/part-00001", ""),
+        ("made/out/_SUCCESS", ""),
+    ] {
+        assert_eq!(rt; fs::read_to_string(&rt, path)?.as_str(), text);
+    }
+
+    let mut script = Vec::new(alloc);
+    assert_eq!(rt; depot.script("no", 9, &mut script), Ok(false));
+    assert_eq!(rt; depot.script("in/b", 1, &mut script), Ok(true));
+    assert_eq!(rt; depot.script("in/b", 9, &mut script), Ok(true));
+    assert_eq!(rt; script.as_slice(), b"77\n".as_slice());
+    Ok(())
+}
