@@ -1,5 +1,5 @@
 -- How a device in memory counts its calls and failures.
-use Rattle.std.specs.Prelude.{◌≡◌, ℕ, List, Any, slice_index}
+use Rattle.std.specs.Prelude.{◌≡◌, ◌≢◌, ◌+◌, ◌-◌, ◌^◌, ℕ, List, Any, min, slice_index}
 use Rattle.pig_outside.specs.declared.failing.Method.{Method}
 use Rattle.pig_outside.specs.declared.failing.Method.TheVariants.{Script, Pieces, Exists, Create, Put, Finish, Begin, Read, Write}
 use Rattle.pig_outside.specs.declared.failing.Call.{Call}
@@ -42,3 +42,13 @@ pub record IsUncalled (calls : List Call) (f : Failing) : Type 0 where
   pub listed : listed_calls f ≡ calls
   pub none : (method : Method) → calls_made method f ≡ 0
   pub faults : fault_count f ≡ 0
+
+-- One more call of the method was made, and no other.
+pub record IsCounted (method : Method) (old new : Failing) : Type 0 where
+  pub calls : listed_calls new ≡ listed_calls old
+  pub made : calls_made method new ≡ min (calls_made method old + 1) (2 ^ 64 - 1)
+  pub others : (m : Method) → m ≢ method → calls_made m new ≡ calls_made m old
+
+-- The last call of the method is one of those that are to fail.
+abbrev pub IsLastListed : Method → Failing → Type 0
+IsLastListed method f = IsListed method (calls_made method f) (listed_calls f)

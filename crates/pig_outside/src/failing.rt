@@ -1,7 +1,7 @@
 // Which calls of a device in memory are to fail, and how often it was called.
-ghost use Rattle.std.specs.Prelude.{◌≡◌, ◌≢◌, ◌≤◌, ◌<◌, ◌+◌, ◌-◌, ◌^◌, ◌↔◌, [], length, min, IsTrue, MatchBool};
+ghost use Rattle.std.specs.Prelude.{◌≡◌, ◌≢◌, ◌≤◌, ◌<◌, ◌+◌, ◌-◌, ◌^◌, ◌↔◌, min, IsTrue, MatchBool};
 ghost use Rattle.pig_outside.specs.Faults.{FailedRose};
-ghost use Rattle.pig_outside.specs.Failing.{fault_count, listed_calls, calls_made, count_of, IsListed};
+ghost use Rattle.pig_outside.specs.Failing.{fault_count, count_of, IsListed, IsUncalled, IsCounted, IsLastListed};
 
 use pig_value::Seq;
 
@@ -40,9 +40,7 @@ pub struct Failing {
 impl Failing {
     /// No call was made yet.
     pub fn new(calls: Calls) -> Failing
-        ensures calls { listed_calls result ≡ calls }
-        ensures none { (method : Method) → calls_made method result ≡ 0 }
-        ensures faults { fault_count result ≡ 0 }
+        ensures { IsUncalled calls result }
     {
         Failing {
             calls,
@@ -53,10 +51,8 @@ impl Failing {
 
     /// One more call of the method is made. Whether it fails, as one of the listed calls.
     pub fn fails(&mut self, method: Method) -> bool
-        ensures calls { listed_calls self.new ≡ listed_calls self.old }
-        ensures made { calls_made method self.new ≡ min (calls_made method self.old + 1) (2 ^ 64 - 1) }
-        ensures others { (m : Method) → m ≢ method → calls_made m self.new ≡ calls_made m self.old }
-        ensures listed { IsTrue result ↔ IsListed method (calls_made method self.new) (listed_calls self.old) }
+        ensures counted { IsCounted method self.old self.new }
+        ensures listed { IsTrue result ↔ IsLastListed method self.new }
         ensures later { fault_count self.old ≤ fault_count self.new }
         ensures rose { MatchBool result (FailedRose (fault_count self.old) (fault_count self.new)) (fault_count self.new ≡ fault_count self.old) }
     {

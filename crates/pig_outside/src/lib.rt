@@ -18,13 +18,25 @@ mod lookups;
 mod memory_console;
 mod memory_depot;
 mod memory_host;
+#[cfg(test)]
+mod tests;
 
 pub use console::Console;
 pub use contents::{DirState, Directory, Parts, Source, Sources};
 pub use depot::Depot;
-pub use failing::{Call, Calls, Failing, Method};
+pub use failing::{Call, Calls, Method};
 pub use faults::{AttemptFault, Failed, OutsideError};
 pub use host::Host;
 pub use memory_console::MemoryConsole;
 pub use memory_depot::MemoryDepot;
 pub use memory_host::MemoryHost;
+
+fn crosses<T: Send>() {}
+
+/// Shows that what workers are handed and hand back is `Send`: hosts, and their errors.
+pub fn hosts_cross_threads() {
+    crosses::<MemoryHost>();
+    crosses::<Failed>();
+    crosses::<OutsideError>();
+    crosses::<AttemptFault>();
+}

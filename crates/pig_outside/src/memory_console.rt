@@ -1,5 +1,5 @@
 // A console in memory.
-ghost use Rattle.std.specs.Prelude.{◌≡◌, ◌++◌, [], ℕ, List, Some, OnOk, OnErr, length};
+ghost use Rattle.std.specs.Prelude.{◌≡◌, ◌++◌, [], OnOk, OnErr};
 ghost use Rattle.std.specs.Option.{option_map};
 
 use crate::failing::{Calls, Failing, Method};
@@ -37,14 +37,23 @@ impl MemoryConsole {
 }
 
 impl Console for MemoryConsole {
-    ghost use Rattle.pig_outside.specs.Memory.{console_text};
-    ghost use Rattle.pig_outside.specs.Failing.{fault_count};
+    ghost use Rattle.std.specs.Prelude.{◌↔◌, IsErrOf};
+    ghost use Rattle.pig_outside.specs.Faults.{HasConsoleCause};
+    ghost use Rattle.pig_outside.specs.Text.{LeftPrefix};
+    ghost use Rattle.pig_outside.specs.Memory.{told_text, console_calls, console_faults};
+    ghost use Rattle.pig_outside.specs.Failing.{IsCounted, IsLastListed};
 
-    ghost text = { λ m. Some (console_text m) };
+    ghost text = { told_text };
 
-    ghost faults = { λ m. fault_count m.failing };
+    ghost faults = { console_faults };
 
-    fn write(&mut self, bytes: &[u8]) -> Result<(), OutsideError> {
+    fn write(&mut self, bytes: &[u8]) -> Result<(), OutsideError>
+        ensures written { OnOk result (told_text self.new ≡ option_map (λ t. t ++ bytes.now) (told_text self.old)) }
+        ensures err { OnErr result (LeftPrefix bytes.now (told_text self.old) (told_text self.new)) }
+        ensures cause { HasConsoleCause (console_faults self.old) (console_faults self.new) result }
+        ensures counted { IsCounted Method.Write (console_calls self.old) (console_calls self.new) }
+        ensures listed { IsErrOf result OutsideError.Failed ↔ IsLastListed Method.Write (console_calls self.new) }
+    {
         if self.failing.fails(Method::Write) {
             return Err(OutsideError::Failed);
         }

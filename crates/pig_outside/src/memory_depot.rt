@@ -1,5 +1,5 @@
 // A depot in memory.
-ghost use Rattle.std.specs.Prelude.{◌≡◌, ◌∷◌, ◌++◌, [], ℕ, List, Some, IfOk, OnOk, OnErr, take, is_some, length, IsSome};
+ghost use Rattle.std.specs.Prelude.{◌≡◌, ◌∷◌, ◌++◌, [], Some, IfOk, OnOk, OnErr, take, is_some, IsSome};
 ghost use Rattle.std.specs.Option.{ForSome, option_map, option_copied};
 ghost use Rattle.pig_outside.specs.Places.{IsPlace};
 ghost use Rattle.pig_outside.specs.Faults.{HasCause};
@@ -51,14 +51,24 @@ impl MemoryDepot {
 }
 
 impl Depot for MemoryDepot {
-    ghost use Rattle.pig_outside.specs.Memory.{depot_shelf};
-    ghost use Rattle.pig_outside.specs.Failing.{fault_count};
+    ghost use Rattle.std.specs.Prelude.{◌↔◌, IsErrOf};
+    ghost use Rattle.pig_outside.specs.Memory.{told_shelf, depot_calls, depot_faults};
+    ghost use Rattle.pig_outside.specs.Failing.{IsCounted, IsLastListed};
 
-    ghost shelf = { λ m. Some (depot_shelf m) };
+    ghost shelf = { told_shelf };
 
-    ghost faults = { λ m. fault_count m.failing };
+    ghost faults = { depot_faults };
 
-    fn script(&mut self, path: &str, most: u64, into: &mut Vec<u8>) -> Result<bool, OutsideError> {
+    fn script(&mut self, path: &str, most: u64, into: &mut Vec<u8>) -> Result<bool, OutsideError>
+        ensures there { ForSome (told_shelf self.old) (λ s. IfOk result (λ there. there ≡ is_some (script_of path.now s))) }
+        ensures read { ForSome (told_shelf self.old) (λ s. OnOk result (into.new.items ≡ into.old.items ++ script_bytes path.now most s)) }
+        ensures grows { OnOk result (Grows most into.old.items into.new.items) }
+        ensures err { OnErr result (into.new.items ≡ into.old.items) }
+        ensures shelf { told_shelf self.new ≡ told_shelf self.old }
+        ensures cause { HasCause (depot_faults self.old) (depot_faults self.new) result }
+        ensures counted { IsCounted Method.Script (depot_calls self.old) (depot_calls self.new) }
+        ensures listed { IsErrOf result OutsideError.Failed ↔ IsLastListed Method.Script (depot_calls self.new) }
+    {
         if self.failing.fails(Method::Script) {
             return Err(OutsideError::Failed);
         }
@@ -71,7 +81,13 @@ impl Depot for MemoryDepot {
         }
     }
 
-    fn pieces(&mut self, path: &str) -> Result<Option<Lengths>, OutsideError> {
+    fn pieces(&mut self, path: &str) -> Result<Option<Lengths>, OutsideError>
+        ensures lengths { ForSome (told_shelf self.old) (λ s. IfOk result (λ found. found ≡ lengths_at path.now s)) }
+        ensures shelf { told_shelf self.new ≡ told_shelf self.old }
+        ensures cause { HasCause (depot_faults self.old) (depot_faults self.new) result }
+        ensures counted { IsCounted Method.Pieces (depot_calls self.old) (depot_calls self.new) }
+        ensures listed { IsErrOf result OutsideError.Failed ↔ IsLastListed Method.Pieces (depot_calls self.new) }
+    {
         if self.failing.fails(Method::Pieces) {
             return Err(OutsideError::Failed);
         }
@@ -81,21 +97,41 @@ impl Depot for MemoryDepot {
         }
     }
 
-    fn exists(&mut self, dir: &str) -> Result<bool, OutsideError> {
+    fn exists(&mut self, dir: &str) -> Result<bool, OutsideError>
+        ensures there { ForSome (told_shelf self.old) (λ s. IfOk result (λ there. there ≡ has_dir dir.now s)) }
+        ensures shelf { told_shelf self.new ≡ told_shelf self.old }
+        ensures cause { HasCause (depot_faults self.old) (depot_faults self.new) result }
+        ensures counted { IsCounted Method.Exists (depot_calls self.old) (depot_calls self.new) }
+        ensures listed { IsErrOf result OutsideError.Failed ↔ IsLastListed Method.Exists (depot_calls self.new) }
+    {
         if self.failing.fails(Method::Exists) {
             return Err(OutsideError::Failed);
         }
         Ok(find(self.dirs.as_slice(), dir).is_some())
     }
 
-    fn create(&mut self, dir: &str) -> Result<(), OutsideError> {
+    fn create(&mut self, dir: &str) -> Result<(), OutsideError>
+        requires { ForSome (told_shelf self.old) (CanCreate dir.now) }
+        ensures created { OnOk result (told_shelf self.new ≡ option_map (with_new dir.now) (told_shelf self.old)) }
+        ensures err { OnErr result (LeftAbsentOrEmpty dir.now (told_shelf self.old) (told_shelf self.new)) }
+        ensures cause { HasCause (depot_faults self.old) (depot_faults self.new) result }
+        ensures counted { IsCounted Method.Create (depot_calls self.old) (depot_calls self.new) }
+        ensures listed { IsErrOf result OutsideError.Failed ↔ IsLastListed Method.Create (depot_calls self.new) }
+    {
         if self.failing.fails(Method::Create) {
             return Err(OutsideError::Failed);
         }
         add_dir(self.alloc, &mut self.dirs, dir)
     }
 
-    fn put(&mut self, dir: &str, part: u32, bytes: &[u8]) -> Result<(), OutsideError> {
+    fn put(&mut self, dir: &str, part: u32, bytes: &[u8]) -> Result<(), OutsideError>
+        requires { ForSome (told_shelf self.old) (CanPut dir.now part) }
+        ensures put { OnOk result (told_shelf self.new ≡ option_map (with_part dir.now bytes.now) (told_shelf self.old)) }
+        ensures err { OnErr result (LeftUnmarked dir.now (told_shelf self.old) (told_shelf self.new)) }
+        ensures cause { HasCause (depot_faults self.old) (depot_faults self.new) result }
+        ensures counted { IsCounted Method.Put (depot_calls self.old) (depot_calls self.new) }
+        ensures listed { IsErrOf result OutsideError.Failed ↔ IsLastListed Method.Put (depot_calls self.new) }
+    {
         if self.failing.fails(Method::Put) {
             return Err(OutsideError::Failed);
         }
@@ -103,7 +139,14 @@ impl Depot for MemoryDepot {
         add_part(self.alloc, &mut self.dirs, dir, bytes)
     }
 
-    fn finish(&mut self, dir: &str) -> Result<(), OutsideError> {
+    fn finish(&mut self, dir: &str) -> Result<(), OutsideError>
+        requires { ForSome (told_shelf self.old) (CanFinish dir.now) }
+        ensures marked { OnOk result (told_shelf self.new ≡ option_map (with_mark dir.now) (told_shelf self.old)) }
+        ensures err { OnErr result (LeftUnmarked dir.now (told_shelf self.old) (told_shelf self.new)) }
+        ensures cause { HasCause (depot_faults self.old) (depot_faults self.new) result }
+        ensures counted { IsCounted Method.Finish (depot_calls self.old) (depot_calls self.new) }
+        ensures listed { IsErrOf result OutsideError.Failed ↔ IsLastListed Method.Finish (depot_calls self.new) }
+    {
         if self.failing.fails(Method::Finish) {
             return Err(OutsideError::Failed);
         }

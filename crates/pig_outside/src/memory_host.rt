@@ -1,5 +1,5 @@
 // A host in memory.
-ghost use Rattle.std.specs.Prelude.{◌≡◌, ◌≤◌, ◌+◌, ℕ, List, Some, None, OnOk, OnErr, length, take, drop};
+ghost use Rattle.std.specs.Prelude.{◌≡◌, ◌≤◌, ◌+◌, Some, None, OnOk, OnErr, length};
 ghost use Rattle.std.specs.Option.{ForSome, option_copied};
 ghost use Rattle.pig_outside.specs.Shelf.{piece_of, HasRange, range_of};
 
@@ -32,14 +32,22 @@ impl MemoryHost {
 }
 
 impl Host for MemoryHost {
-    ghost use Rattle.pig_outside.specs.Memory.{host_inputs};
-    ghost use Rattle.pig_outside.specs.Failing.{fault_count};
+    ghost use Rattle.std.specs.Prelude.{◌↔◌, IsErr, IsErrOf};
+    ghost use Rattle.pig_outside.specs.Faults.{FailedRose, HasCause};
+    ghost use Rattle.pig_outside.specs.Memory.{told_inputs, host_calls, host_faults};
+    ghost use Rattle.pig_outside.specs.Failing.{IsCounted, IsLastListed};
 
-    ghost inputs = { λ m. Some (host_inputs m) };
+    ghost inputs = { told_inputs };
 
-    ghost faults = { λ m. fault_count m.failing };
+    ghost faults = { host_faults };
 
-    fn begin(&mut self, wave: u32, task: u32, attempt: u32) -> Result<(), Failed> {
+    fn begin(&mut self, wave: u32, task: u32, attempt: u32) -> Result<(), Failed>
+        ensures inputs { told_inputs self.new ≡ told_inputs self.old }
+        ensures later { host_faults self.old ≤ host_faults self.new }
+        ensures failed { OnErr result (FailedRose (host_faults self.old) (host_faults self.new)) }
+        ensures counted { IsCounted Method.Begin (host_calls self.old) (host_calls self.new) }
+        ensures listed { IsErr result ↔ IsLastListed Method.Begin (host_calls self.new) }
+    {
         let _ = (wave, task, attempt);
         if self.failing.fails(Method::Begin) {
             return Err(Failed);
@@ -53,7 +61,14 @@ impl Host for MemoryHost {
         piece: u32,
         from: u64,
         into: &mut [u8],
-    ) -> Result<(), OutsideError> {
+    ) -> Result<(), OutsideError>
+        requires { ForSome (told_inputs self.old) (HasRange path.now piece from (length into.old)) }
+        ensures filled { ForSome (told_inputs self.old) (λ i. OnOk result (into.new ≡ range_of path.now piece from (length into.old) i)) }
+        ensures inputs { told_inputs self.new ≡ told_inputs self.old }
+        ensures cause { HasCause (host_faults self.old) (host_faults self.new) result }
+        ensures counted { IsCounted Method.Read (host_calls self.old) (host_calls self.new) }
+        ensures listed { IsErrOf result OutsideError.Failed ↔ IsLastListed Method.Read (host_calls self.new) }
+    {
         if self.failing.fails(Method::Read) {
             return Err(OutsideError::Failed);
         }
