@@ -1,4 +1,5 @@
 pub mod Cuts
+pub mod Delims
 pub mod FirstLine
 pub mod Numbers
 mod Pieces

@@ -1,5 +1,6 @@
-ghost use Rattle.std.specs.Prelude.{◌≡◌, ◌≢◌, ◌↔◌, ℕ, List, map, All};
+ghost use Rattle.std.specs.Prelude.{◌≡◌, ◌≢◌, ◌↔◌, ℕ, List, Some, map, All};
 ghost use Rattle.pig_value.specs.declared.shared.Column.{Column};
+ghost use Rattle.pig_value.specs.Delimiters.{IsDelimiter, delimiter_of};
 ghost use Rattle.pig_value.specs.Fields.{IsField, field_of, row_of};
 ghost use Rattle.pig_value.specs.Lines.{lines};
 ghost use Rattle.pig_value.specs.Stored.{StoresList, StoresBag};
@@ -18,10 +19,13 @@ pub fn rows_of_lines_are_line_free()
         AreLineFreeRows (map (row_of columns delimiter) (lines bytes)) }
 {}
 
-/// The texts of line-free rows, each with an LF behind it, have these texts as their lines.
+/// The texts of line-free rows, each with an LF behind it, have these texts as their lines, since no
+/// delimiter is an LF.
 pub fn texts_of_rows_are_lines()
     ensures list { (delimiter : ℕ) → delimiter ≢ 10 → (rows : List (List Tree)) → AreLineFreeRows rows →
         StoresList delimiter (rows_text delimiter rows) rows }
     ensures bag { (delimiter : ℕ) (bytes : List ℕ) (rows : List (List Tree)) →
         StoresList delimiter bytes rows → StoresBag delimiter bytes rows }
+    ensures delimiter { (text : List ℕ) (delimiter : ℕ) →
+        delimiter_of text ≡ Some delimiter → IsDelimiter delimiter }
 {}
