@@ -1,0 +1,4 @@
+pub mod Bag
+pub mod Keeps
+pub mod States
+pub mod Steps
