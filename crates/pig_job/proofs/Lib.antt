@@ -1,4 +1,5 @@
 pub mod Bag
 pub mod Keeps
+pub mod Settling
 pub mod States
 pub mod Steps

@@ -1,7 +1,14 @@
 //! The core of a job: the tasks of a wave, the workers that make attempts at them, and which step may come when.
 #![tactic(auto)]
 
+ghost use Rattle.std.specs.Prelude.{◌≡◌};
+ghost use Rattle.pig_job.specs.Job.{has_winner, is_given_up};
+ghost use Rattle.pig_job.specs.Rule.{is_unended, is_open};
+
+mod job;
 mod worker;
+
+pub use job::{Core, JobFault};
 
 /// How an attempt ended, if it has.
 #[derive(Clone, Copy, Debug, PartialEq)]
@@ -12,6 +19,14 @@ pub enum Fate {
     Failed,
 }
 
+impl Fate {
+    pub fn is_unended(self) -> bool
+        ensures { result ≡ is_unended self }
+    {
+        matches!(self, Fate::Unended)
+    }
+}
+
 /// An attempt at a task. The attempts at one task are numbered from 0, whoever makes them.
 #[derive(Clone, Copy, Debug)]
 pub struct Attempt {
@@ -20,12 +35,38 @@ pub struct Attempt {
     pub fate: Fate,
 }
 
+impl Attempt {
+    /// Whether this is the attempt `number` at `task`, and still under way.
+    pub fn is_open(&self, task: u32, number: u32) -> bool
+        ensures { result ≡ is_open task number self.now }
+    {
+        self.fate.is_unended() && self.task == task && self.number == number
+    }
+}
+
 /// What is known of a task: attempts begun, attempts failed, and the number of the attempt that won.
 #[derive(Clone, Copy, Debug)]
 pub struct Task {
     pub begun: u32,
     pub failed: u32,
     pub winner: Option<u32>,
+}
+
+/// So many failures of one task end the job.
+pub const FAILURE_LIMIT: u32 = 4;
+
+impl Task {
+    pub fn has_winner(&self) -> bool
+        ensures { result ≡ has_winner self.now }
+    {
+        self.winner.is_some()
+    }
+
+    pub fn is_given_up(&self) -> bool
+        ensures { result ≡ is_given_up self.now }
+    {
+        self.failed >= FAILURE_LIMIT
+    }
 }
 
 /// Whether a worker still runs. Only a running one takes steps.
