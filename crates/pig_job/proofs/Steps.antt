@@ -40,11 +40,8 @@ leavers-set ts us vs w v l old lasts new u h = elim (cases_eq u w) as (λ _. (li
       (ap (λ z. list_any (λ x. is_unended x.fate) z.tried) there ∙ r.0, lasts r.1)
 ]
 
-leavers_of : (j : Job) → IsKept j → Leavers j.tasks j.workers
-leavers_of j k u h = (k.idle_leavers u h, k.late_leavers u h)
-
 is_kept : (j : Job) → Kept (words_of j) (drawn_of j) (tried_of j) → Leavers j.tasks j.workers → IsKept j
-is_kept j k l = record { entries = k; idle_leavers = λ u h. (l u h).0; late_leavers = λ u h. (l u h).1 }
+is_kept j k l = record { entries = k; leavers = l }
 
 draw_kept : (j : Job) (w : ℕ) → allows j (Draw w) ≡ true → IsKept j → IsKept (after j (Draw w))
 draw_kept j w h k =
@@ -57,7 +54,7 @@ draw_kept j w h k =
     let tried = SameBag-set (λ z. z.tried) j.workers w v' l refl in
     is_kept (after j (Draw w))
     (keeps_draw (words_of j) (words_of (after j (Draw w))) _ _ _ words drawn (keeps_bags (words_of j) _ _ _ _ (record { sums = λ f. refl }) tried k.entries))
-    (leavers-set j.tasks j.tasks j.workers w v' l (leavers_of j k) (λ o. o) (λ s. absurd (running-left v.status runs s)))
+    (leavers-set j.tasks j.tasks j.workers w v' l k.leavers (λ o. o) (λ s. absurd (running-left v.status runs s)))
 
 begin_kept : (j : Job) (w t : ℕ) → allows j (Begin w t) ≡ true → IsKept j → IsKept (after j (Begin w t))
 begin_kept j w t h k =
@@ -84,7 +81,7 @@ begin_kept j w t h k =
     let tried = Adds-set attempt (λ z. z.tried) j.workers w v' l (Adds-push v.tried attempt) in
     is_kept (after j (Begin w t))
     (keeps_begin (words_of j) (words_of (after j (Begin w t))) t _ _ _ words there drawn_first tried (keeps_bags (words_of j) _ _ _ _ drawn (record { sums = λ f. refl }) k.entries))
-    (leavers-set j.tasks (set j.tasks t x') j.workers w v' l (leavers_of j k) (over-set j.tasks t x' (λ o. o) (omega arith)) (λ s. absurd (running-left v.status p.0 s)))
+    (leavers-set j.tasks (set j.tasks t x') j.workers w v' l k.leavers (over-set j.tasks t x' (λ o. o) (omega arith)) (λ s. absurd (running-left v.status p.0 s)))
 
 -- a task with an attempt under way is there
 begun_there : (j : Job) (w t a : ℕ) → w < length j.workers → Kept (words_of j) (drawn_of j) (tried_of j) → holds j w t a ≡ true → t < length j.tasks
@@ -131,7 +128,7 @@ commit_kept j w t a h k =
     let tried = Swaps-set _ _ (λ z. z.tried) j.workers w v' l (Swaps-settle t a fate.Won v.tried q.0) in
     is_kept (after j (Commit w t a))
     (keeps_win (words_of j) (words_of (after j (Commit w t a))) t a _ _ _ words tried (keeps_bags (words_of j) _ _ _ _ drawn (record { sums = λ f. refl }) k.entries))
-    (leavers-set j.tasks (set j.tasks t x') j.workers w v' l (leavers_of j k) (over-set j.tasks t x' (λ o. refl) (omega arith)) (λ s. absurd (running-left v.status p.0 s)))
+    (leavers-set j.tasks (set j.tasks t x') j.workers w v' l k.leavers (over-set j.tasks t x' (λ o. refl) (omega arith)) (λ s. absurd (running-left v.status p.0 s)))
 
 late_kept : (j : Job) (w t a : ℕ) → allows j (Late w t a) ≡ true → IsKept j → IsKept (after j (Late w t a))
 late_kept j w t a h k =
@@ -147,7 +144,7 @@ late_kept j w t a h k =
     let tried = Swaps-set _ _ (λ z. z.tried) j.workers w v' l (Swaps-settle t a fate.Late v.tried q.0) in
     is_kept (after j (Late w t a))
     (keeps_late (words_of j) (words_of (after j (Late w t a))) t a _ _ _ words won tried (keeps_bags (words_of j) _ _ _ _ drawn (record { sums = λ f. refl }) k.entries))
-    (leavers-set j.tasks j.tasks j.workers w v' l (leavers_of j k) (λ o. o) (λ s. absurd (running-left v.status p.0 s)))
+    (leavers-set j.tasks j.tasks j.workers w v' l k.leavers (λ o. o) (λ s. absurd (running-left v.status p.0 s)))
 
 fail_kept : (j : Job) (w t a : ℕ) → allows j (Fail w t a) ≡ true → IsKept j → IsKept (after j (Fail w t a))
 fail_kept j w t a h k =
@@ -171,7 +168,7 @@ fail_kept j w t a h k =
     let tried = Swaps-set _ _ (λ z. z.tried) j.workers w v' l (Swaps-settle t a fate.Failed v.tried q.1) in
     is_kept (after j (Fail w t a))
     (keeps_fail (words_of j) (words_of (after j (Fail w t a))) t a _ _ _ words tried (keeps_bags (words_of j) _ _ _ _ drawn (record { sums = λ f. refl }) k.entries))
-    (leavers-set j.tasks (set j.tasks t x') j.workers w v' l (leavers_of j k) (over-set j.tasks t x' (λ o. o) (omega arith)) (λ s. absurd (running-left v.status p.0 s)))
+    (leavers-set j.tasks (set j.tasks t x') j.workers w v' l k.leavers (over-set j.tasks t x' (λ o. o) (omega arith)) (λ s. absurd (running-left v.status p.0 s)))
 
 -- a worker that stops has the same entries
 stop_kept : (j : Job) (w : ℕ) (s : Status) → runs j w ≡ true → (s ≡ Left → (is_busy j w ≡ false) × (is_over j ≡ true)) → IsKept j → IsKept (record j { workers = set j.workers w (record (worker_of j w) { status = s }) })
@@ -180,7 +177,7 @@ stop_kept j w s r left k =
     let l = is_running-below j.workers w r in
     let drawn = SameBag-set (λ z. z.drawn) j.workers w v' l refl in
     let tried = SameBag-set (λ z. z.tried) j.workers w v' l refl in
-    is_kept (record j { workers = set j.workers w v' }) (keeps_bags (words_of j) _ _ _ _ drawn tried k.entries) (leavers-set j.tasks j.tasks j.workers w v' l (leavers_of j k) (λ o. o) left)
+    is_kept (record j { workers = set j.workers w v' }) (keeps_bags (words_of j) _ _ _ _ drawn tried k.entries) (leavers-set j.tasks j.tasks j.workers w v' l k.leavers (λ o. o) left)
 
 -- what is allowed keeps the rule
 pub after_kept : (j : Job) (e : Event) → allows j e ≡ true → IsKept j → IsKept (after j e)
@@ -209,8 +206,10 @@ same_kept i j s k =
     let tried = SameBag-workers (λ z. z.tried) i.workers j.workers s.count (λ w. (s.workers w).tried) in
     record {
       entries = keeps_same (words_of i) (words_of j) _ _ _ _ words drawn tried k.entries;
-      idle_leavers = λ w h. sym (list_any-IsPermutation (λ x. is_unended x.fate) (worker_of i w).tried (worker_of j w).tried (s.workers w).tried) ∙ k.idle_leavers w ((s.workers w).status ∙ h);
-      late_leavers = λ w h. ap over (sym s.tasks) ∙ k.late_leavers w ((s.workers w).status ∙ h);
+      leavers = λ w h.
+          let known = k.leavers w ((s.workers w).status ∙ h) in
+          let idle = sym (list_any-IsPermutation (λ x. is_unended x.fate) (worker_of i w).tried (worker_of j w).tried (s.workers w).tried) ∙ known.0 in
+          (idle, ap over (sym s.tasks) ∙ known.1);
     }
 
 -- each step keeps the rule
@@ -256,8 +255,7 @@ opening_kept n k =
         winners = λ t a. ap (count_by (is_win t a)) tried ∙ sym (ap (λ y. once_at y.winner a) (task t));
         late_ends = λ t h. ap (count_by (is_late_of t)) tried;
       };
-      idle_leavers = λ w h. absurd (opening-left k w h);
-      late_leavers = λ w h. absurd (opening-left k w h);
+      leavers = λ w h. absurd (opening-left k w h);
     }
 
 -- each list of steps from the opening keeps the rule

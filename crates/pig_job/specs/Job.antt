@@ -169,11 +169,11 @@ abbrev pub Runs : Job → List Event → Job → Type 0
 Runs i [] j = i ≡ j
 Runs i (e ∷ es) j = (m : Job) × (IsStep i e m × Runs m es j)
 
--- the rule of a job: that of its words and entries, and what a worker that has left knew
+-- the rule of a job
 pub record IsKept (j : Job) : Type 0 where
   pub entries : Kept (words_of j) (drawn_of j) (tried_of j)
-  pub idle_leavers : (w : ℕ) → (worker_of j w).status ≡ Left → is_busy j w ≡ false
-  pub late_leavers : (w : ℕ) → (worker_of j w).status ≡ Left → is_over j ≡ true
+  -- a worker that has left has no attempt under way, and the job is over
+  pub leavers : (w : ℕ) → (worker_of j w).status ≡ Left → (is_busy j w ≡ false) × (is_over j ≡ true)
 
 -- each worker of the job runs
 abbrev pub AllRun : Job → Type 0

@@ -6,9 +6,11 @@ ghost use Rattle.pig_job.specs.Job.{has_winner, is_given_up};
 ghost use Rattle.pig_job.specs.Rule.{is_unended, is_open};
 
 mod job;
+mod laws;
 mod worker;
 
 pub use job::{Core, JobFault};
+pub use laws::{kept_is_reached, steps_keep_rule};
 
 /// How an attempt ended, if it has.
 #[derive(Clone, Copy, Debug, PartialEq)]
