@@ -1,4 +1,17 @@
 //! The core of a job: the tasks of a wave, the workers that make attempts at them, and which step may come when.
+//!
+//! A worker draws tasks in order, begins attempts at tasks that were drawn, and ends each attempt: it wins its
+//! task, comes late after another has won, or fails. A worker may leave once every task is won or some task has
+//! failed too often, and it may abort at any time.
+//!
+//! `Core` holds such a job, and `Core::step` takes exactly the events that are steps of the job as it stands. It
+//! refuses each other one, and leaves the job as it was. Two laws hold of the definitions (`steps_keep_rule` and
+//! `kept_is_reached`): every list of steps from an opening keeps the rule of a job, and every job that meets the
+//! rule, while all its workers run, is reached by such a list. So the rule says exactly which jobs there can be.
+//!
+//! `specs/Rule.antt` has the rule of a job's words and entries, which whatever keeps them elsewhere can cite;
+//! `specs/Job.antt` the states, which events are steps (`allows`) and what they do (`after`); `specs/Laws.antt`
+//! the two laws.
 #![tactic(auto)]
 
 ghost use Rattle.std.specs.Prelude.{◌≡◌};
@@ -111,3 +124,6 @@ pub enum Event {
         worker: u32,
     },
 }
+
+#[cfg(test)]
+mod tests;
