@@ -74,6 +74,7 @@ total_of j = j.next + sum_by (λ t. t.begun) j.tasks + sum_by (λ t. t.failed) j
 abbrev pub failure_limit : ℕ
 failure_limit = 4
 
+-- the worker still runs
 abbrev pub is_running : Status → Bool
 is_running Running = true
 is_running Left = false
@@ -95,9 +96,11 @@ holds j w t a = list_any (is_open t a) (worker_of j w).tried
 abbrev pub is_busy : Job → ℕ → Bool
 is_busy j w = list_any (λ x. is_unended x.fate) (worker_of j w).tried
 
+-- the task has a winner
 abbrev pub has_winner : Task → Bool
 has_winner t = is_some t.winner
 
+-- the task failed too often
 abbrev pub is_given_up : Task → Bool
 is_given_up t = nat_le failure_limit t.failed
 
@@ -152,7 +155,7 @@ pub record IsSameWorker (v w : WorkerState) : Type 0 where
   pub tried : IsPermutation v.tried w.tried
   pub status : v.status ≡ w.status
 
--- the same job
+-- the same job, but for the order of what its workers drew and tried
 pub record IsSameJob (i j : Job) : Type 0 where
   pub tasks : i.tasks ≡ j.tasks
   pub next : i.next ≡ j.next
@@ -164,7 +167,7 @@ pub record IsStep (i : Job) (e : Event) (j : Job) : Type 0 where
   pub allowed : allows i e ≡ true
   pub done : IsSameJob (after i e) j
 
--- the events are steps, one after another, from i to j
+-- the events are steps, one after another, from i to j; where there are none, i is j
 abbrev pub Runs : Job → List Event → Job → Type 0
 Runs i [] j = i ≡ j
 Runs i (e ∷ es) j = (m : Job) × (IsStep i e m × Runs m es j)
@@ -179,19 +182,22 @@ pub record IsKept (j : Job) : Type 0 where
 abbrev pub AllRun : Job → Type 0
 AllRun j = All (λ v. v.status ≡ Running) j.workers
 
+-- the event is a draw
 abbrev pub is_draw : Event → Bool
 is_draw (Draw _) = true
 is_draw _ = false
 
+-- the event is a begin
 abbrev pub is_begin : Event → Bool
 is_begin (Begin _ _) = true
 is_begin _ = false
 
+-- the event is a commit
 abbrev pub is_commit : Event → Bool
 is_commit (Commit _ _ _) = true
 is_commit _ = false
 
--- a late or a failed end
+-- the event is a late or a failed end
 abbrev pub is_lost_end : Event → Bool
 is_lost_end (Late _ _ _) = true
 is_lost_end (Fail _ _ _) = true
