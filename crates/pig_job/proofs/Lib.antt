@@ -1,0 +1,9 @@
+pub mod Back
+pub mod Bag
+pub mod Find
+pub mod Keeps
+pub mod Opening
+pub mod Reach
+pub mod Settling
+pub mod States
+pub mod Steps
