@@ -1,5 +1,5 @@
 -- What a text names as a delimiter is one: no LF and no CR.
-use Rattle.std.proofs.Common.{◌≡◌, ◌≢◌, ℕ, ◌<◌, ◌==◌, ◌&&◌, Bool, true, false, not, ltb, List, [], ◌∷◌, Option, None, Some, if◌then◌else◌, refl, subst, arith}
+use Rattle.std.proofs.Common.{◌≡◌, ℕ, ◌==◌, ◌&&◌, Bool, true, false, not, ltb, List, [], ◌∷◌, None, Some, if◌then◌else◌, refl, subst, arith}
 use Rattle.std.specs.Bool.{Decides}
 use Rattle.std.proofs.lemmas.Bool.Decides.{Decides-and, Decides-eqb, Decides-like, Decides-ltb, Decides-not}
 use Rattle.pig_value.specs.Delimiters.{IsDelimiter, delimiter_of, is_delimiter}
