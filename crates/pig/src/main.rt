@@ -1,4 +1,8 @@
-//! The program: it makes the devices of the real world.
+//! The program `pig`: it makes the devices of the real world, hands them and its words to
+//! [`pig_run::pig_main`], and ends with the status of the answer.
+//!
+//! Its private module `files` has the devices: files and folders as the depot and the hosts, and standard
+//! output as the console. They are proved against the traits of pig_outside, and tell no contents.
 #![tactic(auto)]
 
 ghost use Rattle.std.specs.Prelude.{◌≡◌, IfOk, vec_len};
@@ -8,7 +12,11 @@ mod file_tests;
 mod files;
 
 use files::{FileDepot, FileHost, StdConsole};
+use pig_run::pig_main;
+use pig_value::{Text, Words};
 use std::alloc::AllocError;
+use std::env;
+use std::io::ErrorKind;
 use std::process::ExitCode;
 
 /// As many hosts as the program makes.
@@ -42,17 +50,33 @@ impl Devices {
     }
 }
 
+/// The program's words without its name; none where they are not all text.
+fn words(rt: &HostRuntime) -> Result<Words, AllocError> {
+    let alloc = rt.alloc();
+    let mut words = Words::new(alloc);
+    let args = match env::args(rt) {
+        Ok(args) => args,
+        Err(error) if error.kind() == ErrorKind::OutOfMemory => return Err(AllocError),
+        Err(_) => return Ok(words),
+    };
+    for word in args.skip(1) {
+        words.push(Text::from_string(word))?;
+    }
+    Ok(words)
+}
+
 fn main(rt: HostRuntime) -> ExitCode {
-    match Devices::new(&rt) {
-        Ok(devices) => {
+    let alloc = rt.alloc();
+    match (words(&rt), Devices::new(&rt)) {
+        (Ok(words), Ok(devices)) => {
             let Devices {
-                depot,
-                hosts,
-                console,
+                mut depot,
+                mut hosts,
+                mut console,
             } = devices;
-            drop((depot, hosts, console));
-            ExitCode::SUCCESS
+            let outcome = pig_main(&rt, alloc, &words, &mut depot, &mut hosts, &mut console);
+            ExitCode::from(outcome.status)
         }
-        Err(_) => ExitCode::from(OUT_OF_MEMORY),
+        _ => ExitCode::from(OUT_OF_MEMORY),
     }
 }
