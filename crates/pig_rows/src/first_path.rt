@@ -1,0 +1,211 @@
+// Scripts of the first form: one LOAD, one FILTER and one STORE.
+use crate::setting::told;
+use pig_outside::Method;
+use std::alloc::{AllocError, Global};
+use std::test::Fail;
+
+const RUN: [&str; 2] = ["run", "s"];
+
+/// A script with these fields and this condition.
+fn script(alloc: Global, fields: &str, condition: &str) -> Result<String, AllocError> {
+    format!(in alloc;
+        "a = LOAD 'in' AS ({fields});\nb = FILTER a BY {condition};\nSTORE b INTO 'out';\n"
+    )
+}
+
+#[test]
+fn stores_the_lines_of_the_meaning(rt: HostRuntime) -> Result<(), Fail> {
+    let alloc = rt.alloc();
+    let rows = "1\tx\n5\ty\n\tz\n7\n";
+    for (fields, condition, input, want) in [
+        (
+            "k:int, v:chararray",
+            "k > 4",
+            rows,
+            "0 read 4 stored 2: whole 5\ty\n7\t\n",
+        ),
+        ("k:int", "k > 4", rows, "0 read 4 stored 2: whole 5\n7\n"),
+        (
+            "k:int, v:chararray",
+            "k == 5",
+            rows,
+            "0 read 4 stored 1: whole 5\ty\n",
+        ),
+        (
+            "k:int, v:chararray",
+            "k != 5",
+            rows,
+            "0 read 4 stored 2: whole 1\tx\n7\t\n",
+        ),
+        (
+            "k:int, v:chararray",
+            "k < 5",
+            rows,
+            "0 read 4 stored 1: whole 1\tx\n",
+        ),
+        (
+            "k:int, v:chararray",
+            "k <= 5",
+            rows,
+            "0 read 4 stored 2: whole 1\tx\n5\ty\n",
+        ),
+        (
+            "k:int, v:chararray",
+            "k >= 5",
+            rows,
+            "0 read 4 stored 2: whole 5\ty\n7\t\n",
+        ),
+        (
+            "k:int, v:chararray",
+            "v > 'x'",
+            rows,
+            "0 read 4 stored 2: whole 5\ty\n\tz\n",
+        ),
+        (
+            "k:int, v:chararray",
+            "v == 'x'",
+            rows,
+            "0 read 4 stored 1: whole 1\tx\n",
+        ),
+        (
+            "k:int, v:chararray",
+            "v != ''",
+            rows,
+            "0 read 4 stored 3: whole 1\tx\n5\ty\n\tz\n",
+        ),
+        (
+            "k:int, v:chararray",
+            "v < 'y'",
+            rows,
+            "0 read 4 stored 1: whole 1\tx\n",
+        ),
+        (
+            "k:int, v:chararray",
+            "v <= 'y'",
+            rows,
+            "0 read 4 stored 2: whole 1\tx\n5\ty\n",
+        ),
+        (
+            "k:int, v:chararray",
+            "v >= 'y'",
+            rows,
+            "0 read 4 stored 2: whole 5\ty\n\tz\n",
+        ),
+        ("k:int", "k > 4", "", "0 read 0 stored 0: whole "),
+        (
+            "k:int",
+            "k > 4",
+            "5\r\n\n+6\n4x\n9",
+            "0 read 5 stored 3: whole 5\n6\n9\n",
+        ),
+        (
+            "k:int",
+            "k > 4",
+            "2147483647\n2147483648\n-5\n",
+            "0 read 3 stored 1: whole 2147483647\n",
+        ),
+        (
+            "k:int",
+            "k == 999999999",
+            "999999999\n",
+            "0 read 1 stored 1: whole 999999999\n",
+        ),
+        (
+            "v:chararray",
+            "v < 'ba'",
+            "b\naz\nba\nbb\n",
+            "0 read 4 stored 2: whole b\naz\n",
+        ),
+        (
+            "v:chararray",
+            "v == 'abcdefghijklmnopqrst'",
+            "abcdefghijklmnopqrst\n",
+            "0 read 1 stored 1: whole abcdefghijklmnopqrst\n",
+        ),
+        (
+            "k:int, v:chararray, w:int",
+            "w <= 2",
+            "1\ta\t3\n1\tb\t2\textra\n",
+            "0 read 2 stored 1: whole 1\tb\t2\n",
+        ),
+    ] {
+        let script = script(alloc, fields, condition)?;
+        let got = told(&rt, alloc, &RUN, script.as_str(), input, None)?;
+        assert_eq!(rt; got.as_str(), want, "at {condition}");
+    }
+    Ok(())
+}
+
+#[test]
+fn refuses_in_order(rt: HostRuntime) -> Result<(), Fail> {
+    let alloc = rt.alloc();
+    let good = script(alloc, "k:int", "k > 4")?;
+    let arrow = script(alloc, "k:int", "k => 4")?;
+    for (words, script, want) in [
+        (
+            [].as_slice(),
+            good.as_str(),
+            "1 usage: pig run SCRIPT: none",
+        ),
+        (
+            ["run"].as_slice(),
+            good.as_str(),
+            "1 usage: pig run SCRIPT: none",
+        ),
+        (
+            ["run", "-s"].as_slice(),
+            good.as_str(),
+            "1 usage: pig run SCRIPT: none",
+        ),
+        (
+            ["check", "s"].as_slice(),
+            good.as_str(),
+            "1 usage: pig run SCRIPT: none",
+        ),
+        (
+            ["run", "s", "t"].as_slice(),
+            good.as_str(),
+            "1 usage: pig run SCRIPT: none",
+        ),
+        (
+            ["run", "t"].as_slice(),
+            good.as_str(),
+            "2 there is no such script: none",
+        ),
+        (
+            ["run", "s"].as_slice(),
+            arrow.as_str(),
+            "3 the script is of no form that is built yet: none",
+        ),
+        (
+            ["run", "s"].as_slice(),
+            "a = LOAD 'no' AS (k:int);\nb = FILTER a BY k > 4;\nSTORE b INTO 'out';\n",
+            "4 there is no such input: none",
+        ),
+    ] {
+        let got = told(&rt, alloc, words, script, "5\n", None)?;
+        assert_eq!(rt; got.as_str(), want);
+    }
+    Ok(())
+}
+
+#[test]
+fn each_failing_call_has_its_answer(rt: HostRuntime) -> Result<(), Fail> {
+    let alloc = rt.alloc();
+    let script = script(alloc, "k:int", "k > 4")?;
+    for (method, want) in [
+        (Method::Script, "6 the depot failed: none"),
+        (Method::Pieces, "6 the depot failed: none"),
+        (Method::Exists, "6 the depot failed: none"),
+        (Method::Read, "7 the host failed: none"),
+        (Method::Create, "6 the depot failed: none"),
+        (Method::Put, "6 the depot failed: open"),
+        (Method::Finish, "6 the depot failed: open 5\n"),
+        (Method::Begin, "0 read 1 stored 1: whole 5\n"),
+        (Method::Write, "0 read 1 stored 1: whole 5\n"),
+    ] {
+        let got = told(&rt, alloc, &RUN, script.as_str(), "5\n", Some((method, 1)))?;
+        assert_eq!(rt; got.as_str(), want);
+    }
+    Ok(())
+}
