@@ -13,122 +13,127 @@ fn script(alloc: Global, fields: &str, condition: &str) -> Result<String, AllocE
     )
 }
 
+/// An input of four lines, with a null and a missing field.
+const ROWS: &str = "1\tx\n5\ty\n\tz\n7\n";
+
+/// Fields, condition, input, and the answer with what stands in `out`.
+const STORED: [(&str, &str, &str, &str); 20] = [
+    (
+        "k:int, v:chararray",
+        "k > 4",
+        ROWS,
+        "0 read 4 stored 2: whole 5\ty\n7\t\n",
+    ),
+    ("k:int", "k > 4", ROWS, "0 read 4 stored 2: whole 5\n7\n"),
+    (
+        "k:int, v:chararray",
+        "k == 5",
+        ROWS,
+        "0 read 4 stored 1: whole 5\ty\n",
+    ),
+    (
+        "k:int, v:chararray",
+        "k != 5",
+        ROWS,
+        "0 read 4 stored 2: whole 1\tx\n7\t\n",
+    ),
+    (
+        "k:int, v:chararray",
+        "k < 5",
+        ROWS,
+        "0 read 4 stored 1: whole 1\tx\n",
+    ),
+    (
+        "k:int, v:chararray",
+        "k <= 5",
+        ROWS,
+        "0 read 4 stored 2: whole 1\tx\n5\ty\n",
+    ),
+    (
+        "k:int, v:chararray",
+        "k >= 5",
+        ROWS,
+        "0 read 4 stored 2: whole 5\ty\n7\t\n",
+    ),
+    (
+        "k:int, v:chararray",
+        "v > 'x'",
+        ROWS,
+        "0 read 4 stored 2: whole 5\ty\n\tz\n",
+    ),
+    (
+        "k:int, v:chararray",
+        "v == 'x'",
+        ROWS,
+        "0 read 4 stored 1: whole 1\tx\n",
+    ),
+    (
+        "k:int, v:chararray",
+        "v != ''",
+        ROWS,
+        "0 read 4 stored 3: whole 1\tx\n5\ty\n\tz\n",
+    ),
+    (
+        "k:int, v:chararray",
+        "v < 'y'",
+        ROWS,
+        "0 read 4 stored 1: whole 1\tx\n",
+    ),
+    (
+        "k:int, v:chararray",
+        "v <= 'y'",
+        ROWS,
+        "0 read 4 stored 2: whole 1\tx\n5\ty\n",
+    ),
+    (
+        "k:int, v:chararray",
+        "v >= 'y'",
+        ROWS,
+        "0 read 4 stored 2: whole 5\ty\n\tz\n",
+    ),
+    ("k:int", "k > 4", "", "0 read 0 stored 0: whole "),
+    (
+        "k:int",
+        "k > 4",
+        "5\r\n\n+6\n4x\n9",
+        "0 read 5 stored 3: whole 5\n6\n9\n",
+    ),
+    (
+        "k:int",
+        "k > 4",
+        "2147483647\n2147483648\n-5\n",
+        "0 read 3 stored 1: whole 2147483647\n",
+    ),
+    (
+        "k:int",
+        "k == 999999999",
+        "999999999\n",
+        "0 read 1 stored 1: whole 999999999\n",
+    ),
+    (
+        "v:chararray",
+        "v < 'ba'",
+        "b\naz\nba\nbb\n",
+        "0 read 4 stored 2: whole b\naz\n",
+    ),
+    (
+        "v:chararray",
+        "v == 'abcdefghijklmnopqrst'",
+        "abcdefghijklmnopqrst\n",
+        "0 read 1 stored 1: whole abcdefghijklmnopqrst\n",
+    ),
+    (
+        "k:int, v:chararray, w:int",
+        "w <= 2",
+        "1\ta\t3\n1\tb\t2\textra\n",
+        "0 read 2 stored 1: whole 1\tb\t2\n",
+    ),
+];
+
 #[test]
 fn stores_the_lines_of_the_meaning(rt: HostRuntime) -> Result<(), Fail> {
     let alloc = rt.alloc();
-    let rows = "1\tx\n5\ty\n\tz\n7\n";
-    for (fields, condition, input, want) in [
-        (
-            "k:int, v:chararray",
-            "k > 4",
-            rows,
-            "0 read 4 stored 2: whole 5\ty\n7\t\n",
-        ),
-        ("k:int", "k > 4", rows, "0 read 4 stored 2: whole 5\n7\n"),
-        (
-            "k:int, v:chararray",
-            "k == 5",
-            rows,
-            "0 read 4 stored 1: whole 5\ty\n",
-        ),
-        (
-            "k:int, v:chararray",
-            "k != 5",
-            rows,
-            "0 read 4 stored 2: whole 1\tx\n7\t\n",
-        ),
-        (
-            "k:int, v:chararray",
-            "k < 5",
-            rows,
-            "0 read 4 stored 1: whole 1\tx\n",
-        ),
-        (
-            "k:int, v:chararray",
-            "k <= 5",
-            rows,
-            "0 read 4 stored 2: whole 1\tx\n5\ty\n",
-        ),
-        (
-            "k:int, v:chararray",
-            "k >= 5",
-            rows,
-            "0 read 4 stored 2: whole 5\ty\n7\t\n",
-        ),
-        (
-            "k:int, v:chararray",
-            "v > 'x'",
-            rows,
-            "0 read 4 stored 2: whole 5\ty\n\tz\n",
-        ),
-        (
-            "k:int, v:chararray",
-            "v == 'x'",
-            rows,
-            "0 read 4 stored 1: whole 1\tx\n",
-        ),
-        (
-            "k:int, v:chararray",
-            "v != ''",
-            rows,
-            "0 read 4 stored 3: whole 1\tx\n5\ty\n\tz\n",
-        ),
-        (
-            "k:int, v:chararray",
-            "v < 'y'",
-            rows,
-            "0 read 4 stored 1: whole 1\tx\n",
-        ),
-        (
-            "k:int, v:chararray",
-            "v <= 'y'",
-            rows,
-            "0 read 4 stored 2: whole 1\tx\n5\ty\n",
-        ),
-        (
-            "k:int, v:chararray",
-            "v >= 'y'",
-            rows,
-            "0 read 4 stored 2: whole 5\ty\n\tz\n",
-        ),
-        ("k:int", "k > 4", "", "0 read 0 stored 0: whole "),
-        (
-            "k:int",
-            "k > 4",
-            "5\r\n\n+6\n4x\n9",
-            "0 read 5 stored 3: whole 5\n6\n9\n",
-        ),
-        (
-            "k:int",
-            "k > 4",
-            "2147483647\n2147483648\n-5\n",
-            "0 read 3 stored 1: whole 2147483647\n",
-        ),
-        (
-            "k:int",
-            "k == 999999999",
-            "999999999\n",
-            "0 read 1 stored 1: whole 999999999\n",
-        ),
-        (
-            "v:chararray",
-            "v < 'ba'",
-            "b\naz\nba\nbb\n",
-            "0 read 4 stored 2: whole b\naz\n",
-        ),
-        (
-            "v:chararray",
-            "v == 'abcdefghijklmnopqrst'",
-            "abcdefghijklmnopqrst\n",
-            "0 read 1 stored 1: whole abcdefghijklmnopqrst\n",
-        ),
-        (
-            "k:int, v:chararray, w:int",
-            "w <= 2",
-            "1\ta\t3\n1\tb\t2\textra\n",
-            "0 read 2 stored 1: whole 1\tb\t2\n",
-        ),
-    ] {
+    for (fields, condition, input, want) in STORED {
         let script = script(alloc, fields, condition)?;
         let got = told(&rt, alloc, &RUN, script.as_str(), input, None)?;
         assert_eq!(rt; got.as_str(), want, "at {condition}");
