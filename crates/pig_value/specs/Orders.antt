@@ -4,8 +4,28 @@ use Rattle.std.specs.Ordering.{ordering_then, nat_cmp, int_cmp, bool_cmp, is_lt,
 use Rattle.std.specs.Cmp.Lexicographic.{slice_cmp}
 use Rattle.std.specs.declared.cmp.Ordering.{Ordering}
 use Rattle.std.specs.declared.cmp.Ordering.TheVariants.{Less, Equal, Greater}
-use Rattle.pig_value.specs.Trees.{Tree, Fields, Tuples, Entries, v_null, v_bool, v_int, v_long, v_chars, v_bytes, v_tuple, v_bag, v_listed, v_map,
-    no_fields, more_fields, no_tuples, more_tuples, no_entries, more_entries}
+use Rattle.pig_value.specs.Trees.{
+  Tree,
+  Fields,
+  Tuples,
+  Entries,
+  v_null,
+  v_bool,
+  v_int,
+  v_long,
+  v_chars,
+  v_bytes,
+  v_tuple,
+  v_bag,
+  v_listed,
+  v_map,
+  no_fields,
+  more_fields,
+  no_tuples,
+  more_tuples,
+  no_entries,
+  more_entries,
+}
 use Rattle.pig_value.specs.declared.shared.Rel.{Rel}
 use Rattle.pig_value.specs.declared.shared.Rel.TheVariants as rel
 
