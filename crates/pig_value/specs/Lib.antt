@@ -2,8 +2,14 @@ pub mod formers
 pub mod Delimiters
 pub mod Trees
 pub mod TreeLaws
+pub mod Sorts
+pub mod Permutations
+pub mod Bags
 pub mod Orders
 pub mod OrderLaws
+pub mod Kinds
+pub mod KindLaws
+pub mod Valid
 pub mod Lines
 pub mod Fields
 pub mod Texts

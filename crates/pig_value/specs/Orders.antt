@@ -26,6 +26,7 @@ use Rattle.pig_value.specs.Trees.{
   no_entries,
   more_entries,
 }
+use Rattle.pig_value.specs.Sorts.{sort}
 use Rattle.pig_value.specs.declared.shared.Rel.{Rel}
 use Rattle.pig_value.specs.declared.shared.Rel.TheVariants as rel
 
@@ -101,12 +102,6 @@ rel_holds rel.Le found = is_le found
 rel_holds rel.Gt found = is_gt found
 rel_holds rel.Ge found = is_ge found
 
--- `row` put into its place
-abbrev pub insert : List Tree → List (List Tree) → List (List Tree)
-insert row [] = row ∷ []
-insert row (first ∷ more) = if is_gt (row_cmp row first) then first ∷ insert row more else row ∷ first ∷ more
-
 -- the normal form of a bag: its rows, sorted
 abbrev pub bag_of : List (List Tree) → List (List Tree)
-bag_of [] = []
-bag_of (row ∷ more) = insert row (bag_of more)
+bag_of = sort row_cmp
