@@ -10,6 +10,7 @@ pub mod OrderLaws
 pub mod Kinds
 pub mod KindLaws
 pub mod Valid
+pub mod ValidLaws
 pub mod Lines
 pub mod Fields
 pub mod Texts

@@ -13,6 +13,7 @@
 mod boxes;
 mod comparing;
 mod copying;
+mod laws;
 mod lists;
 mod shapes;
 mod shared;
@@ -23,6 +24,7 @@ mod values;
 pub use boxes::Boxed;
 pub use comparing::{order, order_rows, same};
 pub use copying::{copy, copy_kind, copy_row};
+pub use laws::{bag_laws, order_laws, row_order_laws};
 pub use lists::Seq;
 pub use shapes::{is_of, same_kind};
 pub use shared::{
