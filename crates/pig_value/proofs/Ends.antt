@@ -18,7 +18,7 @@ suc_cmp a b = nat_cmp_is (suc a) (suc b) (nat_cmp a b) (lifted a b (nat_cmp a b)
 module _ {A V : Type 0} (R : A → A → Ordering) (f : V → A) where
   -- up to the end of the shorter list, counted down from the front
   ends_after : (xs ys : List V) (i : ℕ) → i ≡ min (length xs) (length ys)
-    → slice_cmp R (map f (drop i xs)) (map f (drop i ys)) ≡ nat_cmp (length xs) (length ys)
+      → slice_cmp R (map f (drop i xs)) (map f (drop i ys)) ≡ nat_cmp (length xs) (length ys)
   ends_after [] [] zero h = refl
   ends_after [] [] (suc i) h = refl
   ends_after [] (y ∷ ys) zero h = nat_cmp_is 0 (length (y ∷ ys)) Less (omega arith)
@@ -31,5 +31,5 @@ module _ {A V : Type 0} (R : A → A → Ordering) (f : V → A) where
 
   -- what the loop's invariant gives at its end
   pub ends : (xs ys : List V) (i : ℕ) (r : Ordering) → i ≡ min (length xs) (length ys) → r ≡ nat_cmp (length xs) (length ys)
-    → slice_cmp R (map f (drop i xs)) (map f (drop i ys)) ≡ slice_cmp R (map f xs) (map f ys) → r ≡ slice_cmp R (map f xs) (map f ys)
+      → slice_cmp R (map f (drop i xs)) (map f (drop i ys)) ≡ slice_cmp R (map f xs) (map f ys) → r ≡ slice_cmp R (map f xs) (map f ys)
   ends xs ys i r at is invariant = is ∙ sym (ends_after xs ys i at) ∙ invariant

@@ -2,8 +2,15 @@ pub mod formers
 pub mod Delimiters
 pub mod Trees
 pub mod TreeLaws
+pub mod Sorts
+pub mod Permutations
+pub mod Bags
 pub mod Orders
 pub mod OrderLaws
+pub mod Kinds
+pub mod KindLaws
+pub mod Valid
+pub mod ValidLaws
 pub mod Lines
 pub mod Fields
 pub mod Texts

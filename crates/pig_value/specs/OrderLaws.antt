@@ -7,8 +7,31 @@ use Rattle.std.specs.Cmp.Lexicographic.{slice_cmp}
 use Rattle.std.proofs.lemmas.Cmp.{on_total, lists_total, int_cmp_total, int_ranked, ranked}
 use Rattle.std.specs.declared.cmp.Ordering.{Ordering}
 use Rattle.std.specs.declared.cmp.Ordering.TheVariants.{Less, Equal, Greater}
-use Rattle.pig_value.specs.Trees.{Tree, Fields, Tuples, Entries, v_null, v_bool, v_int, v_long, v_chars, v_bytes, v_tuple, v_bag, v_listed, v_map,
-    no_fields, more_fields, no_tuples, more_tuples, no_entries, more_entries, fields_of, tuples_of, entries_of}
+use Rattle.pig_value.specs.Trees.{
+  Tree,
+  Fields,
+  Tuples,
+  Entries,
+  v_null,
+  v_bool,
+  v_int,
+  v_long,
+  v_chars,
+  v_bytes,
+  v_tuple,
+  v_bag,
+  v_listed,
+  v_map,
+  no_fields,
+  more_fields,
+  no_tuples,
+  more_tuples,
+  no_entries,
+  more_entries,
+  fields_of,
+  tuples_of,
+  entries_of,
+}
 use Rattle.pig_value.specs.Orders.{tree_cmp, fields_cmp, tuples_cmp, entries_cmp, text_cmp, row_cmp, rows_cmp, pair_cmp, pairs_cmp}
 
 -- the orders on lists are the same, list by list
@@ -130,8 +153,8 @@ mutual
   entries_flat_cmp (more_entries k v ps) no_entries = refl
   entries_flat_cmp (more_entries k v ps) (more_entries l w qs) =
       ap (λ r. ordering_then (ordering_then r (flat_cmp (flat v) (flat w))) (flat_cmp (entries_flat ps) (entries_flat qs))) (text_flat_cmp k l)
-        ∙ ap (λ r. ordering_then (ordering_then (text_cmp k l) r) (flat_cmp (entries_flat ps) (entries_flat qs))) (tree_flat v w)
-        ∙ ap (ordering_then (ordering_then (text_cmp k l) (tree_cmp v w))) (entries_flat_cmp ps qs)
+      ∙ ap (λ r. ordering_then (ordering_then (text_cmp k l) r) (flat_cmp (entries_flat ps) (entries_flat qs))) (tree_flat v w)
+      ∙ ap (ordering_then (ordering_then (text_cmp k l) (tree_cmp v w))) (entries_flat_cmp ps qs)
 
 -- both parts of a pair are ranked as equal
 then_equal : (r s : Ordering) → ordering_then r s ≡ Equal → (r ≡ Equal) × (s ≡ Equal)
@@ -179,14 +202,14 @@ flat_on (pair a b) (leaf c) e h k = absurd (cc)
 flat_on (pair a b) (pair c d) (leaf e) h k = absurd (cc)
 flat_on (pair a b) (pair c d) (pair e f) h k =
     elim (then_less (flat_cmp a c) (flat_cmp b d) h) [
-      inl first ↦ elim (then_less (flat_cmp c e) (flat_cmp d f) k) [
-          inl next ↦ ap (λ r. ordering_then r (flat_cmp b f)) (flat_on a c e first next)
+      | inl first ↦ elim (then_less (flat_cmp c e) (flat_cmp d f) k) [
+        | inl next ↦ ap (λ r. ordering_then r (flat_cmp b f)) (flat_on a c e first next)
         | inr next ↦ ap (λ r. ordering_then r (flat_cmp b f)) (subst (λ x. flat_cmp a x ≡ Less) (flat_same c e next.0) first)
-        ]
-    | inr first ↦ elim (then_less (flat_cmp c e) (flat_cmp d f) k) [
-          inl next ↦ ap (λ r. ordering_then r (flat_cmp b f)) (subst (λ x. flat_cmp x e ≡ Less) (sym (flat_same a c first.0)) next)
+      ]
+      | inr first ↦ elim (then_less (flat_cmp c e) (flat_cmp d f) k) [
+        | inl next ↦ ap (λ r. ordering_then r (flat_cmp b f)) (subst (λ x. flat_cmp x e ≡ Less) (sym (flat_same a c first.0)) next)
         | inr next ↦ ap (λ r. ordering_then r (flat_cmp b f)) (subst (λ x. flat_cmp a x ≡ Equal) (flat_same c e next.0) first.0) ∙ flat_on b d f first.1 next.1
-        ]
+      ]
     ]
 
 flat_total : IsTotalOrder flat_cmp
@@ -264,8 +287,8 @@ mutual
   entries_inj (more_entries k v ps) no_entries h = absurd (cc)
   entries_inj (more_entries k v ps) (more_entries l w qs) h =
       ap (λ x. more_entries x v ps) (text_inj k l (ap (λ f. first (first f)) h))
-        ∙ ap (λ x. more_entries l x ps) (flat_inj v w (ap (λ f. second (first f)) h))
-        ∙ ap (λ x. more_entries l w x) (entries_inj ps qs (ap second h))
+      ∙ ap (λ x. more_entries l x ps) (flat_inj v w (ap (λ f. second (first f)) h))
+      ∙ ap (λ x. more_entries l w x) (entries_inj ps qs (ap second h))
 
 -- what the order ranks as equal is the same
 pub tree_same : (a b : Tree) → tree_cmp a b ≡ Equal → a ≡ b

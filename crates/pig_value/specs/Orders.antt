@@ -4,8 +4,29 @@ use Rattle.std.specs.Ordering.{ordering_then, nat_cmp, int_cmp, bool_cmp, is_lt,
 use Rattle.std.specs.Cmp.Lexicographic.{slice_cmp}
 use Rattle.std.specs.declared.cmp.Ordering.{Ordering}
 use Rattle.std.specs.declared.cmp.Ordering.TheVariants.{Less, Equal, Greater}
-use Rattle.pig_value.specs.Trees.{Tree, Fields, Tuples, Entries, v_null, v_bool, v_int, v_long, v_chars, v_bytes, v_tuple, v_bag, v_listed, v_map,
-    no_fields, more_fields, no_tuples, more_tuples, no_entries, more_entries}
+use Rattle.pig_value.specs.Trees.{
+  Tree,
+  Fields,
+  Tuples,
+  Entries,
+  v_null,
+  v_bool,
+  v_int,
+  v_long,
+  v_chars,
+  v_bytes,
+  v_tuple,
+  v_bag,
+  v_listed,
+  v_map,
+  no_fields,
+  more_fields,
+  no_tuples,
+  more_tuples,
+  no_entries,
+  more_entries,
+}
+use Rattle.pig_value.specs.Sorts.{sort}
 use Rattle.pig_value.specs.declared.shared.Rel.{Rel}
 use Rattle.pig_value.specs.declared.shared.Rel.TheVariants as rel
 
@@ -81,12 +102,6 @@ rel_holds rel.Le found = is_le found
 rel_holds rel.Gt found = is_gt found
 rel_holds rel.Ge found = is_ge found
 
--- `row` put into its place
-abbrev pub insert : List Tree → List (List Tree) → List (List Tree)
-insert row [] = row ∷ []
-insert row (first ∷ more) = if is_gt (row_cmp row first) then first ∷ insert row more else row ∷ first ∷ more
-
 -- the normal form of a bag: its rows, sorted
 abbrev pub bag_of : List (List Tree) → List (List Tree)
-bag_of [] = []
-bag_of (row ∷ more) = insert row (bag_of more)
+bag_of = sort row_cmp

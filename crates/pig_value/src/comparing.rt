@@ -2,9 +2,8 @@ ghost use Rattle.std.specs.Prelude.{◌≡◌, ℕ, map, ◌↔◌, IsTrue};
 ghost use Rattle.pig_value.specs.Trees.{tree, entry_of};
 ghost use Rattle.pig_value.specs.Orders.{rank as rank_of, tree_cmp, row_cmp, rows_cmp, pair_cmp, pairs_cmp};
 
-use std::cmp::Ordering;
-
 use crate::{Pair, Tuple, Value};
+use std::cmp::Ordering;
 
 /// The total order of values: first the rank of the form, then the rule within the form.
 ///

@@ -12,18 +12,26 @@
 
 mod boxes;
 mod comparing;
+mod copying;
+mod laws;
 mod lists;
+mod shapes;
 mod shared;
+mod sorting;
 mod texts;
 mod values;
 
 pub use boxes::Boxed;
 pub use comparing::{order, order_rows, same};
+pub use copying::{copy, copy_kind, copy_row};
+pub use laws::{bag_laws, order_laws, row_order_laws};
 pub use lists::Seq;
+pub use shapes::{is_of, same_kind};
 pub use shared::{
     BadDelimiter, ChainOp, Column, Columns, Delim, Dir, Dirs, Input, Inputs, Kept, KeptList, Rel,
     Side, WordFault,
 };
+pub use sorting::bag;
 pub use texts::{Blob, Text};
 pub use values::{Kind, Kinds, Pair, Pairs, Rows, Tuple, Value};
 

@@ -1,0 +1,106 @@
+-- The test of being of a kind decides it, and that on kinds decides whether they are the same.
+use Rattle.std.specs.Prelude.{◌≡◌, Bool, true, false, ◌&&◌, List, [], ◌∷◌, refl}
+use Rattle.std.proofs.Common.{ap, sym, ◌∙◌}
+use Rattle.pig_value.specs.Trees.{Tree, Fields, Tuples, Entries, v_null, v_bool, v_int, v_long, v_chars, v_bytes, v_tuple, v_bag, v_listed, v_map, no_fields, more_fields, no_tuples, more_tuples, no_entries, more_entries, KindTree, KindTrees, k_boolean, k_int, k_long, k_chars, k_bytes, k_tuple, k_bag, k_map, no_kinds, more_kinds}
+use Rattle.pig_value.specs.Kinds.{IsOf, FieldsOf, TuplesOf, EntriesOf, is_of_kind, fields_of_kinds, tuples_of_kinds, entries_of_kind, kind_eq, kinds_eq}
+
+both_true : (a b : Bool) → (a && b) ≡ true → (a ≡ true) × (b ≡ true)
+both_true true b h = (refl, h)
+both_true false b h = absurd (cc)
+
+mutual
+  pub passes_is_of : (v : Tree) (k : KindTree) → is_of_kind v k ≡ true → IsOf v k
+  passes_is_of v_null k h = tt
+  passes_is_of (v_bool b) k_boolean h = tt
+  passes_is_of (v_int z) k_int h = tt
+  passes_is_of (v_long z) k_long h = tt
+  passes_is_of (v_chars text) k_chars h = tt
+  passes_is_of (v_bytes bytes) k_bytes h = tt
+  passes_is_of (v_tuple vs) (k_tuple ks) h = passes_fields vs ks h
+  passes_is_of (v_bag rs) (k_bag ks) h = passes_tuples rs ks h
+  passes_is_of (v_listed rs) (k_bag ks) h = passes_tuples rs ks h
+  passes_is_of (v_map ps) (k_map k) h = passes_entries ps k h
+  passes_is_of v k h = absurd (cc)
+
+  passes_fields : (vs : Fields) (ks : KindTrees) → fields_of_kinds vs ks ≡ true → FieldsOf vs ks
+  passes_fields no_fields no_kinds h = tt
+  passes_fields no_fields (more_kinds k ks) h = absurd (cc)
+  passes_fields (more_fields v vs) no_kinds h = absurd (cc)
+  passes_fields (more_fields v vs) (more_kinds k ks) h =
+      let both = both_true (is_of_kind v k) (fields_of_kinds vs ks) h in
+      (passes_is_of v k both.0, passes_fields vs ks both.1)
+
+  passes_tuples : (rs : Tuples) (ks : KindTrees) → tuples_of_kinds rs ks ≡ true → TuplesOf rs ks
+  passes_tuples no_tuples ks h = tt
+  passes_tuples (more_tuples r rs) ks h =
+      let both = both_true (fields_of_kinds r ks) (tuples_of_kinds rs ks) h in
+      (passes_fields r ks both.0, passes_tuples rs ks both.1)
+
+  passes_entries : (ps : Entries) (k : KindTree) → entries_of_kind ps k ≡ true → EntriesOf ps k
+  passes_entries no_entries k h = tt
+  passes_entries (more_entries key v ps) k h =
+      let both = both_true (is_of_kind v k) (entries_of_kind ps k) h in
+      (passes_is_of v k both.0, passes_entries ps k both.1)
+
+mutual
+  pub is_of_passes : (v : Tree) (k : KindTree) → IsOf v k → is_of_kind v k ≡ true
+  is_of_passes v_null k h = refl
+  is_of_passes (v_bool b) k_boolean h = refl
+  is_of_passes (v_int z) k_int h = refl
+  is_of_passes (v_long z) k_long h = refl
+  is_of_passes (v_chars text) k_chars h = refl
+  is_of_passes (v_bytes bytes) k_bytes h = refl
+  is_of_passes (v_tuple vs) (k_tuple ks) h = fields_pass vs ks h
+  is_of_passes (v_bag rs) (k_bag ks) h = tuples_pass rs ks h
+  is_of_passes (v_listed rs) (k_bag ks) h = tuples_pass rs ks h
+  is_of_passes (v_map ps) (k_map k) h = entries_pass ps k h
+  is_of_passes v k h = absurd h
+
+  fields_pass : (vs : Fields) (ks : KindTrees) → FieldsOf vs ks → fields_of_kinds vs ks ≡ true
+  fields_pass no_fields no_kinds h = refl
+  fields_pass no_fields (more_kinds k ks) h = absurd h
+  fields_pass (more_fields v vs) no_kinds h = absurd h
+  fields_pass (more_fields v vs) (more_kinds k ks) h = λ i. is_of_passes v k h.0 i && fields_pass vs ks h.1 i
+
+  tuples_pass : (rs : Tuples) (ks : KindTrees) → TuplesOf rs ks → tuples_of_kinds rs ks ≡ true
+  tuples_pass no_tuples ks h = refl
+  tuples_pass (more_tuples r rs) ks h = λ i. fields_pass r ks h.0 i && tuples_pass rs ks h.1 i
+
+  entries_pass : (ps : Entries) (k : KindTree) → EntriesOf ps k → entries_of_kind ps k ≡ true
+  entries_pass no_entries k h = refl
+  entries_pass (more_entries key v ps) k h = λ i. is_of_passes v k h.0 i && entries_pass ps k h.1 i
+
+mutual
+  pub kind_same : (k l : KindTree) → kind_eq k l ≡ true → k ≡ l
+  kind_same k_boolean k_boolean h = refl
+  kind_same k_int k_int h = refl
+  kind_same k_long k_long h = refl
+  kind_same k_chars k_chars h = refl
+  kind_same k_bytes k_bytes h = refl
+  kind_same (k_tuple ks) (k_tuple ls) h = ap k_tuple (kinds_same ks ls h)
+  kind_same (k_bag ks) (k_bag ls) h = ap k_bag (kinds_same ks ls h)
+  kind_same (k_map k) (k_map l) h = ap k_map (kind_same k l h)
+  kind_same k l h = absurd (cc)
+
+  kinds_same : (ks ls : KindTrees) → kinds_eq ks ls ≡ true → ks ≡ ls
+  kinds_same no_kinds no_kinds h = refl
+  kinds_same no_kinds (more_kinds l ls) h = absurd (cc)
+  kinds_same (more_kinds k ks) no_kinds h = absurd (cc)
+  kinds_same (more_kinds k ks) (more_kinds l ls) h =
+      let both = both_true (kind_eq k l) (kinds_eq ks ls) h in
+      λ i. more_kinds (kind_same k l both.0 i) (kinds_same ks ls both.1 i)
+
+mutual
+  pub kind_itself : (k : KindTree) → kind_eq k k ≡ true
+  kind_itself k_boolean = refl
+  kind_itself k_int = refl
+  kind_itself k_long = refl
+  kind_itself k_chars = refl
+  kind_itself k_bytes = refl
+  kind_itself (k_tuple ks) = kinds_itself ks
+  kind_itself (k_bag ks) = kinds_itself ks
+  kind_itself (k_map k) = kind_itself k
+
+  kinds_itself : (ks : KindTrees) → kinds_eq ks ks ≡ true
+  kinds_itself no_kinds = refl
+  kinds_itself (more_kinds k ks) = λ i. kind_itself k i && kinds_itself ks i
