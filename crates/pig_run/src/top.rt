@@ -38,14 +38,15 @@ fn run<D: Depot, H: Host>(
 /// Does what the words say, and answers how it ended.
 ///
 /// `words` are the program's words without its name: `run` and the path of a script. The depot keeps scripts,
-/// inputs and outputs; the first host reads.
+/// inputs and outputs; the first host reads. `rt` and the console are not used yet: no worker is started, and nothing
+/// is printed.
 pub fn pig_main<R: Threads + Sync, D: Depot, H: Host + Send, C: Console>(
-    _rt: &R,
+    rt: &R,
     alloc: Global,
     words: &Words,
     depot: &mut D,
     hosts: &mut Vec<H>,
-    _console: &mut C,
+    console: &mut C,
 ) -> Outcome
     requires some_hosts { 1 ≤ length hosts.old.items }
     requires few_hosts { length hosts.old.items ≤ 256 }
@@ -64,7 +65,7 @@ pub fn pig_main<R: Threads + Sync, D: Depot, H: Host + Send, C: Console>(
     ensures status { result.status ≡ status_of result.fault }
     ensures kept { result.kept ≡ [] }
     ensures counts { IfSome result.fault (λ _. result.counts ≡ no_counts) }
-    ensures console { (C.text _console.new ≡ C.text _console.old) × (C.faults _console.new ≡ C.faults _console.old) }
+    ensures console { (C.text console.new ≡ C.text console.old) × (C.faults console.new ≡ C.faults console.old) }
 {
     match run(alloc, words, depot, &mut hosts[0]) {
         Ok(counts) => Outcome {
