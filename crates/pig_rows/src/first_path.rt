@@ -1,6 +1,7 @@
 // Scripts of the first form: one LOAD, one FILTER and one STORE.
 use crate::setting::told;
 use pig_outside::Method;
+use pig_value::Delim;
 use std::alloc::{AllocError, Global};
 use std::test::Fail;
 
@@ -213,4 +214,27 @@ fn each_failing_call_has_its_answer(rt: HostRuntime) -> Result<(), Fail> {
         assert_eq!(rt; got.as_str(), want);
     }
     Ok(())
+}
+
+#[test]
+fn a_text_names_a_delimiter_or_none(rt: HostRuntime) {
+    for (text, want) in [
+        ("\t", Some(9)),
+        ("\\t", Some(9)),
+        ("\0", Some(0)),
+        ("\u{7f}", Some(127)),
+        (",", Some(44)),
+        ("", None),
+        ("ab", None),
+        ("\n", None),
+        ("\r", None),
+        ("\u{80}", None),
+        ("\\n", None),
+    ] {
+        let got = match Delim::new(text) {
+            Ok(delim) => Some(delim.byte()),
+            Err(_) => None,
+        };
+        assert_eq!(rt; got, want, "at {text}");
+    }
 }
