@@ -3,7 +3,7 @@
 use Rattle.std.specs.Prelude.{◌≡◌, ◌<◌, ◌+◌, ◌⊎◌, ℕ, Bool, true, false, not, List, [], ◌∷◌, ◌++◌, map, length, refl, ⊤, slice_index_or, if◌then◌else◌}
 use Rattle.std.proofs.Common.{ap, sym, ◌∙◌, subst, arith, suc, zero, inl, inr, cond, true≢false, add-one}
 use Rattle.std.specs.Cmp.{IsTotalOrder}
-use Rattle.std.specs.List.{filter}
+use Rattle.std.specs.List.{filter, AllByRecursion}
 use Rattle.std.specs.List.Sorted.{IsPermutation, IsSortedBy}
 use Rattle.std.specs.Ordering.{is_gt, is_lt, is_eq, ordering_reverse}
 use Rattle.std.specs.declared.cmp.Ordering.{Ordering}
@@ -13,6 +13,7 @@ use Rattle.std.proofs.lemmas.List.Sorted.{IsPermutation-refl, IsPermutation-cons
 use Rattle.std.proofs.lemmas.List.Elements.{filter-append}
 use Rattle.std.proofs.lemmas.List.{length-append}
 use Rattle.pig_value.specs.Sorts.{put, sort, Rises, Ascends, times, distinct}
+use Rattle.pig_value.specs.Listing.{each-filter}
 use Rattle.pig_value.specs.Permutations.{along_permutation, IsPermutation-filter, IsPermutation-same, neighbours}
 
 -- a test is true or false
@@ -35,7 +36,7 @@ not_both r Less h k = refl
 not_both r Equal h k = refl
 not_both r Greater h k = absurd (true≢false (sym k ∙ ap is_gt h))
 
-eq_is : (r : Ordering) → is_eq r ≡ true → r ≡ Equal
+pub eq_is : (r : Ordering) → is_eq r ≡ true → r ≡ Equal
 eq_is Less h = absurd (true≢false (sym h))
 eq_is Equal h = refl
 eq_is Greater h = absurd (true≢false (sym h))
@@ -158,6 +159,36 @@ module _ {X V : Type 0} (R : X → X → Ordering) (total : IsTotalOrder R) (f :
         (h (k + 1) d (omega arith) (omega arith)))),
   )
 
+-- what is kept of a sorted list
+module _ {X : Type 0} (R : X → X → Ordering) (total : IsTotalOrder R) where
+  -- what is not greater than the first of a sorted list is not greater than any
+  pub rises_all : (x : X) (ys : List X) → Rises R x ys → Ascends R ys → AllByRecursion (λ y. is_gt (R x y) ≡ false) ys
+  rises_all x [] h k = tt
+  rises_all x (y ∷ ys) h k = (h, rises_all x ys (rises_over x y ys h k.0) k.1)
+    where
+      rises_over : (x y : X) (ys : List X) → is_gt (R x y) ≡ false → Rises R y ys → Rises R x ys
+      rises_over x y [] h k = tt
+      rises_over x y (z ∷ zs) h k = upto total x y z h k
+
+  all_rise : (x : X) (ys : List X) → AllByRecursion (λ y. is_gt (R x y) ≡ false) ys → Rises R x ys
+  all_rise x [] h = tt
+  all_rise x (y ∷ ys) h = h.0
+
+module _ {X : Type 0} (R : X → X → Ordering) (total : IsTotalOrder R) (p : X → Bool) where
+  kept_ascends : (b : Bool) (x : X) (ys : List X) → AllByRecursion (λ y. is_gt (R x y) ≡ false) ys → Ascends R ys → Ascends R (cond b (x ∷ ys) ys)
+  kept_ascends true x ys h k = (all_rise R total x ys h, k)
+  kept_ascends false x ys h k = k
+
+  pub filter_ascends : (xs : List X) → Ascends R xs → Ascends R (filter p xs)
+  filter_ascends [] h = tt
+  filter_ascends (x ∷ xs) h =
+      kept_ascends (p x) x (filter p xs) (each-filter p (λ y. is_gt (R x y) ≡ false) xs (rises_all R total x xs h.0 h.1)) (filter_ascends xs h.1)
+
+  -- sorting what is kept, or keeping of what is sorted
+  pub sort-filter : (tells : (x y : X) → R x y ≡ Equal → x ≡ y) (xs : List X) → sort R (filter p xs) ≡ filter p (sort R xs)
+  sort-filter tells xs =
+      sym (sort_is R total tells (filter p xs) (filter p (sort R xs)) (IsPermutation-filter p xs (sort R xs) (sort_permutes R xs)) (filter_ascends (sort R xs) (sort_ascends R total xs)))
+
 -- how often a list holds something
 
 counted : {X : Type 0} (b : Bool) (x : X) (xs : List X) → length (cond b (x ∷ xs) xs) ≡ cond b 1 0 + length xs
@@ -228,3 +259,31 @@ module _ {X : Type 0} (R : X → X → Ordering) (total : IsTotalOrder R) (tells
   -- each as often: equal once sorted
   pub one_order : (xs ys : List X) → ((z : X) → times R z xs ≡ times R z ys) → sort R xs ≡ sort R ys
   one_order xs ys h = bag_from_permutation R total tells xs ys (permutation_from_times xs ys h)
+
+  -- two lists that ascend and hold each as often are the same
+  pub ascending_same : (xs ys : List X) → Ascends R xs → Ascends R ys → ((z : X) → times R z xs ≡ times R z ys) → xs ≡ ys
+  ascending_same xs ys h k m = sym (sorted_is R xs h) ∙ one_order xs ys m ∙ sorted_is R ys k
+
+  -- an element is kept each time or not at all
+  none_left : (b : Bool) → ◌≡◌ {A = ℕ} 0 (cond b 0 0)
+  none_left true = refl
+  none_left false = refl
+
+  met : (b : Bool) (z x : X) (us xs : List X) → times R z us ≡ cond b (times R z xs) 0 → times R z (cond b (x ∷ us) us) ≡ cond b (times R z (x ∷ xs)) 0
+  met true z x us xs h = times-cons R z x us ∙ ap (λ n. cond (is_eq (R z x)) 1 0 + n) h ∙ sym (times-cons R z x xs)
+  met false z x us xs h = h
+
+  missed : (b : Bool) (z x : X) (us : List X) → ◌≡◌ {A = ℕ} (cond (is_eq (R z x)) 1 0) 0 → times R z (cond b (x ∷ us) us) ≡ times R z us
+  missed true z x us h = times-cons R z x us ∙ (let e : cond (is_eq (R z x)) 1 0 + times R z us ≡ times R z us = omega arith in e)
+  missed false z x us h = refl
+
+  pub times-filter : (p : X → Bool) (z : X) (xs : List X) → times R z (filter p xs) ≡ cond (p z) (times R z xs) 0
+  times-filter p z [] = none_left (p z)
+  times-filter p z (x ∷ xs) =
+      let rest : times R z (filter p xs) ≡ cond (p z) (times R z xs) 0 = times-filter p z xs in
+      either_way (is_eq (R z x))
+      (λ e. let is : z ≡ x = tells z x (eq_is (R z x) e) in
+      subst (λ y. times R z (filter p (x ∷ xs)) ≡ cond (p y) (times R z (x ∷ xs)) 0) (sym is)
+      (met (p x) z x (filter p xs) xs (subst (λ y. times R z (filter p xs) ≡ cond (p y) (times R z xs) 0) is rest)))
+      (λ e. let none : ◌≡◌ {A = ℕ} (cond (is_eq (R z x)) 1 0) 0 = ap (λ b. cond b 1 0) e in
+      missed (p x) z x (filter p xs) none ∙ rest ∙ ap (λ n. cond (p z) n 0) (sym (missed true z x xs none)))

@@ -3,8 +3,10 @@ pub mod Delimiters
 pub mod Trees
 pub mod TreeLaws
 pub mod Sorts
+pub mod Listing
 pub mod Permutations
 pub mod Bags
+pub mod Distinct
 pub mod Orders
 pub mod OrderLaws
 pub mod Kinds

@@ -1,6 +1,6 @@
 -- Sorted lists, how often a list holds something, and lists without repetition, over any order.
 use Rattle.std.specs.Prelude.{◌≡◌, ℕ, Bool, true, false, not, List, [], ◌∷◌, length, ⊤, if◌then◌else◌}
-use Rattle.std.specs.List.{filter, list_any}
+use Rattle.std.specs.List.{filter}
 use Rattle.std.specs.Ordering.{is_gt, is_eq}
 use Rattle.std.specs.declared.cmp.Ordering.{Ordering}
 
@@ -28,7 +28,7 @@ Ascends R (x ∷ xs) = Rises R x xs × Ascends R xs
 abbrev pub times : {X : Type 0} → (X → X → Ordering) → X → List X → ℕ
 times R x xs = length (filter (λ y. is_eq (R x y)) xs)
 
--- each element of the list once, where it first stands
+-- each element of the list once, sorted
 abbrev pub distinct : {X : Type 0} → (X → X → Ordering) → List X → List X
 distinct R [] = []
-distinct R (x ∷ xs) = x ∷ filter (λ y. not (is_eq (R x y))) (distinct R xs)
+distinct R (x ∷ xs) = put R x (filter (λ y. not (is_eq (R x y))) (distinct R xs))

@@ -6,7 +6,8 @@
 //! the same data.
 //!
 //! The definitions stand in `specs/`: `Trees` (values as trees, the view that clauses use), `Orders` (the
-//! total order), `Valid` (what makes a tree a value), `Lines`, `Fields`, `Texts` and `Stored` (PigStorage
+//! total order), `Sorts` (sorted lists), `Kinds` (which values are of a kind), `Valid` (what makes a tree
+//! a value), `Lines`, `Fields`, `Texts` and `Stored` (PigStorage
 //! text).
 #![tactic(auto)]
 
@@ -18,6 +19,8 @@ mod lists;
 mod shapes;
 mod shared;
 mod sorting;
+#[cfg(test)]
+mod tests;
 mod texts;
 mod values;
 
