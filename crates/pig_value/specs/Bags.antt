@@ -84,7 +84,7 @@ module _ {X : Type 0} (R : X → X → Ordering) (total : IsTotalOrder R) where
   pub gt_is_lt : (x y : X) → is_gt (R x y) ≡ is_lt (R y x)
   gt_is_lt x y = back_flips (R x y) (R y x) (total.antisymm x y)
 
-  one_way : (x y : X) → is_gt (R x y) ≡ true → is_gt (R y x) ≡ false
+  pub one_way : (x y : X) → is_gt (R x y) ≡ true → is_gt (R y x) ≡ false
   one_way x y h = not_both (R x y) (R y x) (total.antisymm x y) h
 
   gt_through : (x y z : X) → is_gt (R x z) ≡ true → is_gt (R y z) ≡ false → is_gt (R x y) ≡ true

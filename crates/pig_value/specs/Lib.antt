@@ -7,6 +7,7 @@ pub mod Listing
 pub mod Permutations
 pub mod Bags
 pub mod Distinct
+pub mod Partitions
 pub mod Orders
 pub mod OrderLaws
 pub mod Kinds
