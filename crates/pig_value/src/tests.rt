@@ -39,74 +39,73 @@ fn pairs(alloc: Global, entries: &[(&str, i32)]) -> Result<Pairs, AllocError> {
     Ok(pairs)
 }
 
-// Values of the forms that hold no others, in ascending order.
-fn push_plain(alloc: Global, values: &mut Tuple) -> Result<(), AllocError> {
-    values.push(Value::Null)?;
-    values.push(Value::Bool(false))?;
-    values.push(Value::Bool(true))?;
-    values.push(Value::Int(-1))?;
-    values.push(Value::Int(2))?;
-    values.push(Value::Long(-5))?;
-    values.push(Value::Long(3))?;
-    values.push(chars(alloc, "")?)?;
-    values.push(chars(alloc, "ab")?)?;
-    values.push(chars(alloc, "b")?)?;
-    values.push(Value::Bytes(Blob::from_slice(alloc, b"a")?))?;
-    values.push(Value::Bytes(Blob::from_slice(alloc, b"\xff")?))?;
-    Ok(())
+/// The number of values below.
+const VALUES: usize = 24;
+
+// The values in ascending order: first those that hold no others.
+fn value(alloc: Global, at: usize) -> Result<Value, AllocError> {
+    match at {
+        0 => Ok(Value::Null),
+        1 => Ok(Value::Bool(false)),
+        2 => Ok(Value::Bool(true)),
+        3 => Ok(Value::Int(-1)),
+        4 => Ok(Value::Int(2)),
+        5 => Ok(Value::Long(-5)),
+        6 => Ok(Value::Long(3)),
+        7 => chars(alloc, ""),
+        8 => chars(alloc, "ab"),
+        9 => chars(alloc, "b"),
+        10 => Ok(Value::Bytes(Blob::from_slice(alloc, b"a")?)),
+        11 => Ok(Value::Bytes(Blob::from_slice(alloc, b"\xff")?)),
+        _ => nested(alloc, at),
+    }
 }
 
-// Values of the forms that hold others, in ascending order.
-fn push_nested(alloc: Global, values: &mut Tuple) -> Result<(), AllocError> {
-    values.push(Value::Tuple(Seq::new(alloc)))?;
-    values.push(Value::Tuple(ints(alloc, &[1])?))?;
-    values.push(Value::Tuple(ints(alloc, &[1, 0])?))?;
-    values.push(Value::Tuple(ints(alloc, &[2])?))?;
-    values.push(Value::Bag(Seq::new(alloc)))?;
-    values.push(Value::Bag(rows(alloc, &[1])?))?;
-    values.push(Value::Bag(rows(alloc, &[1, 1])?))?;
-    values.push(Value::Listed(Seq::new(alloc)))?;
-    values.push(Value::Listed(rows(alloc, &[2, 1])?))?;
-    values.push(Value::Map(Seq::new(alloc)))?;
-    values.push(Value::Map(pairs(alloc, &[("a", 1), ("b", 0)])?))?;
-    values.push(Value::Map(pairs(alloc, &[("a", 2)])?))?;
-    Ok(())
+fn nested(alloc: Global, at: usize) -> Result<Value, AllocError> {
+    match at {
+        12 => Ok(Value::Tuple(Seq::new(alloc))),
+        13 => Ok(Value::Tuple(ints(alloc, &[1])?)),
+        14 => Ok(Value::Tuple(ints(alloc, &[1, 0])?)),
+        15 => Ok(Value::Tuple(ints(alloc, &[2])?)),
+        16 => Ok(Value::Bag(Seq::new(alloc))),
+        17 => Ok(Value::Bag(rows(alloc, &[1])?)),
+        18 => Ok(Value::Bag(rows(alloc, &[1, 1])?)),
+        19 => Ok(Value::Listed(Seq::new(alloc))),
+        20 => Ok(Value::Listed(rows(alloc, &[2, 1])?)),
+        21 => Ok(Value::Map(Seq::new(alloc))),
+        22 => Ok(Value::Map(pairs(alloc, &[("a", 1), ("b", 0)])?)),
+        _ => Ok(Value::Map(pairs(alloc, &[("a", 2)])?)),
+    }
 }
 
-fn all_values(alloc: Global) -> Result<Tuple, AllocError> {
-    let mut values = Seq::new(alloc);
-    push_plain(alloc, &mut values)?;
-    push_nested(alloc, &mut values)?;
-    Ok(values)
-}
-
-// One kind of each form, tuples, bags and maps of ints.
-fn all_kinds(alloc: Global) -> Result<Kinds, AllocError> {
-    let mut inner = Seq::new(alloc);
-    inner.push(Kind::Int)?;
-    let tuple = Kind::Tuple(inner);
-    let mut inner = Seq::new(alloc);
-    inner.push(Kind::Int)?;
+fn one_kind(alloc: Global, kind: Kind) -> Result<Kinds, AllocError> {
     let mut kinds = Seq::new(alloc);
-    kinds.push(Kind::Boolean)?;
-    kinds.push(Kind::Int)?;
-    kinds.push(Kind::Long)?;
-    kinds.push(Kind::Chararray)?;
-    kinds.push(Kind::Bytearray)?;
-    kinds.push(tuple)?;
-    kinds.push(Kind::Bag(inner))?;
-    kinds.push(Kind::Map(Boxed::new(alloc, Kind::Int)?))?;
+    kinds.push(kind)?;
     Ok(kinds)
+}
+
+// The kind that a letter stands for; tuples, bags and maps are of ints.
+fn kind(alloc: Global, letter: u8) -> Result<Kind, AllocError> {
+    match letter {
+        b'b' => Ok(Kind::Boolean),
+        b'i' => Ok(Kind::Int),
+        b'l' => Ok(Kind::Long),
+        b'c' => Ok(Kind::Chararray),
+        b'y' => Ok(Kind::Bytearray),
+        b't' => Ok(Kind::Tuple(one_kind(alloc, Kind::Int)?)),
+        b'g' => Ok(Kind::Bag(one_kind(alloc, Kind::Int)?)),
+        _ => Ok(Kind::Map(Boxed::new(alloc, Kind::Int)?)),
+    }
 }
 
 #[test]
 fn values_ascend(rt: HostRuntime) -> Result<(), Fail> {
-    let values = all_values(rt.alloc())?;
-    for (i, a) in values.as_slice().iter().enumerate() {
-        let copied = copy(rt.alloc(), a)?;
-        for (j, b) in values.as_slice().iter().enumerate() {
-            assert!(rt; order(&copied, b) == i.cmp(&j), "value {i} against {j}");
-            assert!(rt; same(&copied, b) == (i == j), "value {i} and {j}");
+    for i in 0..VALUES {
+        let a = copy(rt.alloc(), &value(rt.alloc(), i)?)?;
+        for j in 0..VALUES {
+            let b = value(rt.alloc(), j)?;
+            assert!(rt; order(&a, &b) == i.cmp(&j), "value {i} against {j}");
+            assert!(rt; same(&a, &b) == (i == j), "value {i} and {j}");
         }
     }
     Ok(())
@@ -114,24 +113,29 @@ fn values_ascend(rt: HostRuntime) -> Result<(), Fail> {
 
 #[test]
 fn kinds_of_values(rt: HostRuntime) -> Result<(), Fail> {
-    let values = all_values(rt.alloc())?;
-    let kinds = all_kinds(rt.alloc())?;
-    // The kinds that each value is of, as the letters of boolean, int, long, chararray, bytearray, tuple,
-    // bag and map.
+    // The kinds that each value is of, by their letters.
     let expected = [
         "bilcytgm", "b", "b", "i", "i", "l", "l", "c", "c", "c", "y", "y", "", "t", "", "t", "g",
         "g", "g", "g", "g", "m", "m", "m",
     ];
-    for (i, (value, letters)) in values.as_slice().iter().zip(expected).enumerate() {
-        for (kind, letter) in kinds.as_slice().iter().zip(b"bilcytgm") {
+    for (i, letters) in expected.iter().enumerate() {
+        let value = value(rt.alloc(), i)?;
+        for letter in b"bilcytgm" {
             let is = letters.as_bytes().contains(letter);
-            assert!(rt; is_of(value, kind) == is, "value {i}, kind {letter}");
+            let kind = kind(rt.alloc(), *letter)?;
+            assert!(rt; is_of(&value, &kind) == is, "value {i}, kind {letter}");
         }
     }
-    for (i, a) in kinds.as_slice().iter().enumerate() {
-        let copied = copy_kind(rt.alloc(), a)?;
-        for (j, b) in kinds.as_slice().iter().enumerate() {
-            assert!(rt; same_kind(&copied, b) == (i == j), "kind {i} and {j}");
+    Ok(())
+}
+
+#[test]
+fn kinds_differ(rt: HostRuntime) -> Result<(), Fail> {
+    for a in b"bilcytgm" {
+        let copied = copy_kind(rt.alloc(), &kind(rt.alloc(), *a)?)?;
+        for b in b"bilcytgm" {
+            let other = kind(rt.alloc(), *b)?;
+            assert!(rt; same_kind(&copied, &other) == (a == b), "kind {a} and {b}");
         }
     }
     Ok(())
