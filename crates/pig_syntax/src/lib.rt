@@ -1,9 +1,11 @@
 //! The first pass over a script: its tokens.
 //!
 //! A script is bytes; its tokens are names, keywords, numbers, positions, texts and symbols, with white
-//! space and comments between them.
+//! space and comments between them. `specs/Tokens` says what a token's text is and where a token begins.
 #![tactic(auto)]
 
+mod forms;
+mod scanning;
 mod tokens;
 
 pub use tokens::{Keyword, Symbol, Token, TokenForm, Tokens};

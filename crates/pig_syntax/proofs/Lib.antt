@@ -1,0 +1,6 @@
+pub mod Prefixes
+pub mod Runs
+pub mod Tables
+pub mod Numbers
+pub mod Utf8
+pub mod Contents
