@@ -1,5 +1,5 @@
 -- The bytes from the front on that pass a test, and those behind them.
-use Rattle.std.proofs.Common.{◌≡◌, ℕ, List, [], ◌∷◌, ◌++◌, Bool, true, false, refl, length, arith, ◌≤◌}
+use Rattle.std.proofs.Common.{◌≡◌, ℕ, List, [], ◌∷◌, ◌++◌, Bool, true, false, refl, length, arith, ◌<◌, ◌⊎◌, inl, inr, ◌≤◌}
 use Rattle.std.specs.Prelude.{◌&&◌}
 use Rattle.std.specs.List.{list_all}
 use Rattle.std.proofs.lemmas.Grind.{common_steps}
@@ -60,3 +60,13 @@ past-append p (b ∷ bs) r all = rw (past_yes p b (bs ++ r) (both_first (p b) (l
 pub past_shorter : (p : ℕ → Bool) (bs : List ℕ) → length (past p bs) ≤ length bs
 unfolding past
 past_shorter p bs = grind (arith, common_steps)
+
+-- the first byte goes on a run, or there is no run
+pub run_or_more : (p : ℕ → Bool) (bs : List ℕ) → ((run p bs ≡ []) × (past p bs ≡ bs)) ⊎ (length (past p bs) < length bs)
+unfolding run past
+run_or_more p [] = inl (refl, refl)
+run_or_more p (b ∷ bs) = by_test (p b) refl
+  where
+    by_test : (t : Bool) → p b ≡ t → ((run p (b ∷ bs) ≡ []) × (past p (b ∷ bs) ≡ b ∷ bs)) ⊎ (length (past p (b ∷ bs)) < length (b ∷ bs))
+    by_test true passes = inr (let short = past_shorter p bs in rw (past_yes p b bs passes) (omega arith))
+    by_test false fails = inl (run_no p b bs fails, past_no p b bs fails)

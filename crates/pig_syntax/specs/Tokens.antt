@@ -5,6 +5,8 @@ use Rattle.std.specs.List.{list_all}
 use Rattle.std.specs.Option.{option_map_or}
 use Rattle.std.specs.Str.{IsUtf8, str_eq_ignore_ascii_case}
 use Rattle.std.specs.Str.Parse.{digits_value}
+use Rattle.pig_syntax.specs.declared.lexing.LexFault.{LexFault}
+use Rattle.pig_syntax.specs.declared.lexing.LexFault.TheVariants as fault
 use Rattle.pig_syntax.specs.declared.tokens.Keyword.{Keyword}
 use Rattle.pig_syntax.specs.declared.tokens.Keyword.TheVariants as k
 use Rattle.pig_syntax.specs.declared.tokens.Symbol.{Symbol}
@@ -267,3 +269,8 @@ pub record IsBadAt (script : List ℕ) (offset : ℕ) : Type 0 where
   pub more : 0 < length rest
   pub stops : Stops rest
   pub place : offset ≡ length script - length rest
+
+-- what a fault says of the script
+abbrev pub IsLexFault : List ℕ → LexFault → Type 0
+IsLexFault script (fault.Bad offset) = IsBadAt script offset
+IsLexFault script fault.OutOfMemory = Unit {0}

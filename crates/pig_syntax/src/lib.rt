@@ -5,7 +5,9 @@
 #![tactic(auto)]
 
 mod forms;
+mod lexing;
 mod scanning;
 mod tokens;
 
+pub use lexing::{LexFault, lex};
 pub use tokens::{Keyword, Symbol, Token, TokenForm, Tokens};
