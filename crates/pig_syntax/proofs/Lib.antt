@@ -6,3 +6,4 @@ pub mod Utf8
 pub mod Contents
 pub mod Covers
 pub mod Words
+pub mod Numerals
