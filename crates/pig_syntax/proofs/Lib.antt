@@ -7,3 +7,4 @@ pub mod Contents
 pub mod Covers
 pub mod Words
 pub mod Numerals
+pub mod NumeralsStand

@@ -44,7 +44,7 @@ no_run [] h = (refl, refl)
 no_run (b ∷ bs) h = (run_no is_ascii_digit b bs (no_digit b h), past_no is_ascii_digit b bs (no_digit b h))
 
 -- a run of digits, where one stands
-run_digits : (b : ℕ) (bs : List ℕ) → is_ascii_digit b ≡ true → IsDigits (run is_ascii_digit (b ∷ bs))
+pub run_digits : (b : ℕ) (bs : List ℕ) → is_ascii_digit b ≡ true → IsDigits (run is_ascii_digit (b ∷ bs))
 run_digits b bs h = record { some = rw (run_yes is_ascii_digit b bs h) (omega arith); digits = run_passes is_ascii_digit (b ∷ bs) }
 
 -- ---- what is left behind an optional part: the bytes behind it, and all of them where no byte of a word begins them
@@ -197,10 +197,10 @@ float_covers w rest h =
 
 -- ---- ints and longs
 
-in_range : (n most : ℕ) → n ≤ most → nat_le n most ≡ true
+pub in_range : (n most : ℕ) → n ≤ most → nat_le n most ≡ true
 in_range n most h = grind (arith, common_steps)
 
-within : (n most : ℕ) → nat_le n most ≡ true → n ≤ most
+pub within : (n most : ℕ) → nat_le n most ≡ true → n ≤ most
 within n most h = grind (arith, common_steps)
 
 -- the rest of a float leaves less than it began with
