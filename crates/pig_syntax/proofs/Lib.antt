@@ -8,3 +8,6 @@ pub mod Covers
 pub mod Words
 pub mod Numerals
 pub mod NumeralsStand
+pub mod Symbols
+pub mod Texts
+pub mod Recognised
