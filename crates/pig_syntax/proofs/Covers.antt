@@ -1,7 +1,6 @@
 -- What a reader of a token's form owes the definition: that the form stands there, and that no token's text is passed over.
-use Rattle.std.proofs.Common.{◌≡◌, ◌∙◌, ℕ, ◌<◌, ◌≤◌, List, [], ◌∷◌, ◌++◌, Bool, true, false, length, refl, sym, ap, subst, arith, ◌⊎◌, inl, inr}
-use Rattle.std.specs.Prelude.{Option, Some, None, option_map, option_and_then, ◌&&◌, ◌||◌}
-use Rattle.std.specs.Option.{option_map_or}
+use Rattle.std.proofs.Common.{◌≡◌, ◌∙◌, ℕ, ◌<◌, ◌≤◌, List, ◌++◌, false, length, refl, sym, ap, arith, ◌⊎◌, inl, inr}
+use Rattle.std.specs.Prelude.{Option, Some, None, option_map, option_and_then, ◌&&◌}
 use Rattle.pig_syntax.specs.declared.tokens.TokenForm.{TokenForm}
 use Rattle.pig_syntax.specs.Tokens.{IsToken, begins_as_word, is_number}
 use Rattle.pig_syntax.specs.Scanner.{Found}
@@ -40,7 +39,7 @@ map_some (Some x) f y h = (x, refl, some_same h)
 pub exactly : (found : Found TokenForm) (form : TokenForm) (rest : List ℕ) → found ≡ Some (form, rest) → Covers found form rest
 exactly found form rest e = record {
   bound = λ other left h. bounded other left (same_rest (sym e ∙ h));
-  hit = λ apart. inl e
+  hit = λ apart. inl e;
 }
   where
     bounded : (other : TokenForm) (left : List ℕ) → rest ≡ left → length left ≤ length rest
@@ -51,7 +50,7 @@ pub at_least : (found : Found TokenForm) (form : TokenForm) (rest : List ℕ) (o
     → ((is_number form && begins_as_word rest) ≡ false → (found ≡ Some (form, rest)) ⊎ (length left < length rest)) → Covers found form rest
 at_least found form rest other left e short settled = record {
   bound = λ g r h. bounded g r (same_rest (sym e ∙ h));
-  hit = λ apart. elim (settled apart) [ inl same ↦ inl same | inr less ↦ inr (other, left, e, less) ]
+  hit = λ apart. elim (settled apart) [ inl same ↦ inl same | inr less ↦ inr (other, left, e, less) ];
 }
   where
     bounded : (g : TokenForm) (r : List ℕ) → left ≡ r → length r ≤ length rest

@@ -11,3 +11,5 @@ pub mod NumeralsStand
 pub mod Symbols
 pub mod Texts
 pub mod Recognised
+pub mod Streams
+pub mod LineFree

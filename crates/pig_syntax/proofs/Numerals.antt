@@ -1,6 +1,6 @@
 -- Ints, longs and floats.
 use Rattle.std.proofs.Common.{◌≡◌, ◌∙◌, ℕ, ℤ, pos, ◌<◌, ◌≤◌, List, [], ◌∷◌, ◌++◌, Bool, true, false, cond, length, refl, sym, ap, subst, arith, ◌⊎◌, inl, inr, append-nil, append_assoc}
-use Rattle.std.specs.Prelude.{Option, Some, None, ◌&&◌, ◌||◌, ◌==◌, nat_le, codes, option_map, option_and_then}
+use Rattle.std.specs.Prelude.{Option, Some, None, ◌||◌, ◌==◌, nat_le, codes, option_and_then}
 use Rattle.std.specs.Char.{is_ascii_alphabetic, is_ascii_digit}
 use Rattle.std.specs.List.{list_all}
 use Rattle.std.specs.Option.{option_map_or}
@@ -8,11 +8,11 @@ use Rattle.std.specs.Str.Parse.{digits_value}
 use Rattle.std.proofs.lemmas.Grind.{common_steps}
 use Rattle.pig_syntax.specs.declared.tokens.TokenForm.{TokenForm}
 use Rattle.pig_syntax.specs.declared.tokens.TokenForm.TheVariants as f
-use Rattle.pig_syntax.specs.Tokens.{IsDigits, IsExponent, IsFloat, IsLong, IsSign, IsSuffix, IsToken, begins_as_word, is_number, is_word_byte, strip}
-use Rattle.pig_syntax.specs.Scanner.{Found, form_at, int_of, long_of, number_after, number_at, past, past_digits, past_either, past_exponent, past_fraction, run, whole_after, with_rest}
-use Rattle.pig_syntax.proofs.Covers.{Covers, Stands, at_least, bind_some, exactly, map_some, same_form, same_rest, some_same}
+use Rattle.pig_syntax.specs.Tokens.{IsDigits, IsExponent, IsFloat, IsSign, IsSuffix, IsToken, begins_as_word, is_word_byte, strip}
+use Rattle.pig_syntax.specs.Scanner.{form_at, int_of, long_of, number_after, number_at, past, past_digits, past_either, past_exponent, past_fraction, run, whole_after, with_rest}
+use Rattle.pig_syntax.proofs.Covers.{Covers, at_least, bind_some, exactly, same_rest, some_same}
 use Rattle.pig_syntax.proofs.Prefixes.{strip-append, strip_split}
-use Rattle.pig_syntax.proofs.Runs.{both_first, both_second, past-append, past_no, past_shorter, run-append, run_no, run_passes, run_past, run_yes}
+use Rattle.pig_syntax.proofs.Runs.{both_first, past-append, past_no, past_shorter, run-append, run_no, run_passes, run_yes}
 
 -- ---- digits
 
@@ -62,7 +62,7 @@ left_of rest bs e = subst (λ r. Left r bs) (sym e) (left_itself bs)
 left_left : (rest mid bs : List ℕ) → Left rest mid → Left mid bs → Left rest bs
 left_left rest mid bs a b = record {
   short = let one = a.short in let other = b.short in omega arith;
-  all = λ h. let same : mid ≡ bs = b.all h in a.all (subst (λ x. begins_as_word x ≡ false) (sym same) h) ∙ same
+  all = λ h. let same : mid ≡ bs = b.all h in a.all (subst (λ x. begins_as_word x ≡ false) (sym same) h) ∙ same;
 }
 
 left_digits : (bs : List ℕ) → Left (past is_ascii_digit bs) bs
@@ -110,6 +110,7 @@ exponent_shorter (b ∷ bs) = by_test (b == 69 || b == 101)
     by_digits : (o : Option (List ℕ)) → past_digits (past_either 43 45 bs) ≡ o → length (option_map_or (λ rest. rest) o (b ∷ bs)) ≤ length (b ∷ bs)
     by_digits None e = omega arith
     by_digits (Some rest) e = let one = digits_shorter (past_either 43 45 bs) rest e in let other = either_shorter 43 45 bs in omega arith
+
     by_test : (t : Bool) → length (cond t (option_map_or (λ rest. rest) (past_digits (past_either 43 45 bs)) (b ∷ bs)) (b ∷ bs)) ≤ length (b ∷ bs)
     by_test true = by_digits (past_digits (past_either 43 45 bs)) refl
     by_test false = omega arith
@@ -138,9 +139,10 @@ suffix_read b rest (inr e) = rw e (rw (past_no is_ascii_digit 70 rest refl) (ref
 suffix_left : (suffix rest : List ℕ) → IsSuffix suffix → Left (past_either 70 102 (past_exponent (past is_ascii_digit (suffix ++ rest)))) rest × Left (past_either 70 102 (past is_ascii_digit (suffix ++ rest))) rest
 suffix_left suffix rest (inl e) =
     let after_digits = past is_ascii_digit rest in
-    rw e
-    (left_left _ (past_exponent after_digits) rest (left_suffix (past_exponent after_digits)) (left_left _ after_digits rest (left_exponent after_digits) (left_digits rest)),
-    left_left _ after_digits rest (left_suffix after_digits) (left_digits rest))
+    rw e (
+      left_left _ (past_exponent after_digits) rest (left_suffix (past_exponent after_digits)) (left_left _ after_digits rest (left_exponent after_digits) (left_digits rest)),
+      left_left _ after_digits rest (left_suffix after_digits) (left_digits rest),
+    )
 suffix_left suffix rest (inr (inl e)) = rw e (left_of _ rest (suffix_read 102 rest (inl refl)).0, left_of _ rest (suffix_read 102 rest (inl refl)).1)
 suffix_left suffix rest (inr (inr e)) = rw e (left_of _ rest (suffix_read 70 rest (inr refl)).0, left_of _ rest (suffix_read 70 rest (inr refl)).1)
 
@@ -265,11 +267,12 @@ int_covers w rest z h = record {
       let one = number_shorter _ (past is_ascii_digit rest) left other found in
       let other_one = past_shorter is_ascii_digit rest in
       omega arith;
-  hit = λ apart. by_float apart (past_fraction rest) refl
+  hit = λ apart. by_float apart (past_fraction rest) refl;
 }
   where
     alone : begins_as_word rest ≡ false → form_at (w ++ rest) ≡ number_after w rest
     alone apart = found_digits w rest h.0 ∙ rw ((no_run rest apart).0, (no_run rest apart).1, append-nil w) refl
+
     by_float : begins_as_word rest ≡ false → (o : Option (List ℕ)) → past_fraction rest ≡ o
         → (form_at (w ++ rest) ≡ Some (f.Int z, rest)) ⊎ ((other : TokenForm) × (left : List ℕ) × (form_at (w ++ rest) ≡ Some (other, left)) × (length left < length rest))
     by_float apart None e = inl (alone apart ∙ rw e (whole_int w rest h.1 apart ∙ rw h.2 refl))

@@ -1,19 +1,19 @@
 -- Where a number is found, one stands.
 use Rattle.std.proofs.Common.{◌≡◌, ◌∙◌, ℕ, pos, ◌<◌, ◌≤◌, List, [], ◌∷◌, ◌++◌, Bool, true, false, cond, length, refl, sym, ap, subst, arith, ◌⊎◌, inl, inr, append-nil, append_assoc}
-use Rattle.std.specs.Prelude.{Option, Some, None, ◌&&◌, ◌||◌, ◌==◌, nat_le, nat_lt, codes, option_map, option_and_then}
-use Rattle.std.specs.Char.{is_ascii_alphabetic, is_ascii_digit}
+use Rattle.std.specs.Prelude.{Option, Some, None, ◌&&◌, ◌||◌, ◌==◌, nat_le, nat_lt, codes, option_and_then}
+use Rattle.std.specs.Char.{is_ascii_digit}
 use Rattle.std.specs.Option.{option_map_or}
 use Rattle.std.specs.Str.Parse.{digits_value}
 use Rattle.std.proofs.lemmas.Bool.Decides.{Decides-eqb}
 use Rattle.std.proofs.lemmas.Grind.{common_steps}
 use Rattle.pig_syntax.specs.declared.tokens.TokenForm.{TokenForm}
 use Rattle.pig_syntax.specs.declared.tokens.TokenForm.TheVariants as f
-use Rattle.pig_syntax.specs.Tokens.{IsDigits, IsExponent, IsFloat, IsLong, IsPosition, IsSign, IsSuffix, IsToken, begins_as_word, is_number, is_word_byte, strip}
+use Rattle.pig_syntax.specs.Tokens.{IsDigits, IsExponent, IsSign, IsSuffix, IsToken, strip}
 use Rattle.pig_syntax.specs.Scanner.{Found, form_at, int_of, long_of, number_after, number_at, past, past_digits, past_either, past_exponent, past_fraction, position_at, run, whole_after, with_rest}
-use Rattle.pig_syntax.proofs.Covers.{Covers, Stands, at_least, bind_some, exactly, map_some, same_form, same_rest, some_same}
+use Rattle.pig_syntax.proofs.Covers.{Covers, Stands, bind_some, same_form, same_rest, some_same}
 use Rattle.pig_syntax.proofs.Numerals.{no_run, run_digits, within, in_range}
 use Rattle.pig_syntax.proofs.Prefixes.{strip_split}
-use Rattle.pig_syntax.proofs.Runs.{both_first, both_second, past-append, past_shorter, run-append, run_or_more, run_past, run_passes}
+use Rattle.pig_syntax.proofs.Runs.{both_first, both_second, past-append, past_shorter, run-append, run_past, run_passes}
 
 -- a byte that is one of two
 one_of : (b x y : ℕ) → (b == x || b == y) ≡ true → (b ≡ x) ⊎ (b ≡ y)
@@ -44,6 +44,7 @@ suffix_split (b ∷ bs) = by_test (b == 70 || b == 102) refl
     by_mark : (b ≡ 70) ⊎ (b ≡ 102) → (suffix : List ℕ) × (b ∷ bs ≡ suffix ++ bs) × IsSuffix suffix
     by_mark (inl e) = (b ∷ [], refl, inr (inr (ap (λ x. x ∷ []) e)))
     by_mark (inr e) = (b ∷ [], refl, inr (inl (ap (λ x. x ∷ []) e)))
+
     by_test : (t : Bool) → (b == 70 || b == 102) ≡ t → (suffix : List ℕ) × (b ∷ bs ≡ suffix ++ cond t bs (b ∷ bs)) × IsSuffix suffix
     by_test true e = by_mark (one_of b 70 102 e)
     by_test false e = ([], refl, inl refl)
@@ -56,6 +57,7 @@ sign_split (b ∷ bs) = by_test (b == 43 || b == 45) refl
     by_mark : (b ≡ 43) ⊎ (b ≡ 45) → (sign : List ℕ) × (b ∷ bs ≡ sign ++ bs) × IsSign sign
     by_mark (inl e) = (b ∷ [], refl, inr (inl (ap (λ x. x ∷ []) e)))
     by_mark (inr e) = (b ∷ [], refl, inr (inr (ap (λ x. x ∷ []) e)))
+
     by_test : (t : Bool) → (b == 43 || b == 45) ≡ t → (sign : List ℕ) × (b ∷ bs ≡ sign ++ cond t bs (b ∷ bs)) × IsSign sign
     by_test true e = by_mark (one_of b 43 45 e)
     by_test false e = ([], refl, inl refl)
@@ -69,13 +71,16 @@ exponent_split [] = ([], refl, inl refl)
 exponent_split (b ∷ bs) = by_test (b == 69 || b == 101) refl
   where
     by_parts : (rest : List ℕ) → (b ≡ 69) ⊎ (b ≡ 101) → (sign : List ℕ) × (bs ≡ sign ++ past_either 43 45 bs) × IsSign sign → (ds : List ℕ) × (past_either 43 45 bs ≡ ds ++ rest) × IsDigits ds → Exponents (b ∷ bs) rest
-    by_parts rest mark sign digits =
-        (b ∷ (sign.0 ++ digits.0),
-        ap (λ x. b ∷ x) (sign.1 ∙ (ap (λ x. sign.0 ++ x) digits.1 ∙ sym (append_assoc sign.0 digits.0 rest))),
-        inr (record { mark = b; sign = sign.0; ds = digits.0; spelled = refl; letter = mark; signed = sign.2; digits = digits.2 }))
+    by_parts rest mark sign digits = (
+      b ∷ (sign.0 ++ digits.0),
+      ap (λ x. b ∷ x) (sign.1 ∙ (ap (λ x. sign.0 ++ x) digits.1 ∙ sym (append_assoc sign.0 digits.0 rest))),
+      inr (record { mark = b; sign = sign.0; ds = digits.0; spelled = refl; letter = mark; signed = sign.2; digits = digits.2 }),
+    )
+
     by_digits : (b ≡ 69) ⊎ (b ≡ 101) → (o : Option (List ℕ)) → past_digits (past_either 43 45 bs) ≡ o → Exponents (b ∷ bs) (option_map_or (λ rest. rest) o (b ∷ bs))
     by_digits mark None e = ([], refl, inl refl)
     by_digits mark (Some rest) e = by_parts rest mark (sign_split bs) (digits_split (past_either 43 45 bs) rest e)
+
     by_test : (t : Bool) → (b == 69 || b == 101) ≡ t → Exponents (b ∷ bs) (cond t (option_map_or (λ rest. rest) (past_digits (past_either 43 45 bs)) (b ∷ bs)) (b ∷ bs))
     by_test true e = by_digits (one_of b 69 101 e) (past_digits (past_either 43 45 bs)) refl
     by_test false e = ([], refl, inl refl)
@@ -84,7 +89,7 @@ float_of : (ds bs fraction exponent suffix rest : List ℕ) → IsDigits ds → 
 float_of ds bs fraction exponent suffix rest before e behind scaled ended = record {
   text = ds ++ (46 ∷ (fraction ++ (exponent ++ suffix)));
   whole = ap (λ x. ds ++ x) e ∙ simp append_assoc;
-  spelled = record { whole = ds; fraction = fraction; exponent = exponent; suffix = suffix; spelled = simp append_assoc; before = before; behind = behind; scaled = scaled; ended = ended }
+  spelled = record { whole = ds; fraction = fraction; exponent = exponent; suffix = suffix; spelled = simp append_assoc; before = before; behind = behind; scaled = scaled; ended = ended };
 }
 
 -- the digits and the rest of a float are a float
@@ -125,7 +130,7 @@ long_stands ds mark rest left form h letter found = by_test (nat_le (digits_valu
           whole = ap (λ x. ds ++ mark ∷ x) (same_rest g) ∙ sym (append_assoc ds (mark ∷ []) left);
           spelled =
               subst (λ x. IsToken x (ds ++ mark ∷ [])) is
-              (digits_value 10 ds, record { ds = ds; mark = mark; spelled = refl; digits = h; letter = letter; value = refl }, within (digits_value 10 ds) 9223372036854775807 e, refl)
+              (digits_value 10 ds, record { ds = ds; mark = mark; spelled = refl; digits = h; letter = letter; value = refl }, within (digits_value 10 ds) 9223372036854775807 e, refl);
         }
     by_test false e g = absurd (cc)
 
@@ -190,7 +195,7 @@ position_covers w rest n h = record {
       inl (reads ∙ (position_exact h.ds rest h.digits h.few
       (run-append is_ascii_digit h.ds rest h.digits.digits ∙ rw (no_run rest apart).0 (append-nil h.ds))
       (past-append is_ascii_digit h.ds rest h.digits.digits ∙ (no_run rest apart).1)
-      ∙ rw h.value refl))
+      ∙ rw h.value refl));
 }
   where
     reads : form_at (w ++ rest) ≡ position_at (h.ds ++ rest)
@@ -215,7 +220,7 @@ position_stands bs left form found = by_test (nat_lt 0 (length (run is_ascii_dig
                 spelled = refl;
                 digits = record { some = few_digits (length (run is_ascii_digit bs)) (both_first _ _ e); digits = run_passes is_ascii_digit bs };
                 few = within (length (run is_ascii_digit bs)) 9 (both_second _ _ e);
-                value = refl
-              })
+                value = refl;
+              });
         }
     by_test false e g = absurd (cc)

@@ -1,18 +1,17 @@
 -- Symbols.
-use Rattle.std.proofs.Common.{◌≡◌, ◌∙◌, ℕ, ◌<◌, ◌≤◌, List, [], ◌∷◌, ◌++◌, Bool, true, false, cond, length, take, drop, refl, sym, ap, subst, arith, ◌⊎◌, inl, inr}
-use Rattle.std.specs.Prelude.{Option, Some, None, not, ◌&&◌, ◌||◌, ◌==◌, bytes_eq, option_map}
+use Rattle.std.proofs.Common.{◌≡◌, ◌∙◌, ℕ, List, [], ◌∷◌, ◌++◌, Bool, true, false, cond, take, drop, refl, sym, ap, subst, arith, inr}
+use Rattle.std.specs.Prelude.{Option, Some, None, not, ◌||◌, ◌==◌, bytes_eq, option_map}
 use Rattle.std.specs.Char.{is_ascii_alphabetic, is_ascii_digit}
 use Rattle.std.specs.List.{list_all}
 use Rattle.std.specs.Option.{option_map_or}
 use Rattle.std.proofs.lemmas.Slice.Eq.{bytes_eq-Decides}
-use Rattle.std.proofs.lemmas.Grind.{common_steps}
 use Rattle.std.proofs.lemmas.List.{take-append-drop}
 use Rattle.pig_syntax.specs.declared.tokens.Symbol.{Symbol}
 use Rattle.pig_syntax.specs.declared.tokens.TokenForm.{TokenForm}
 use Rattle.pig_syntax.specs.declared.tokens.TokenForm.TheVariants as f
-use Rattle.pig_syntax.specs.Tokens.{IsToken, among_texts, begins_as_word, is_number, symbol_of, symbols}
+use Rattle.pig_syntax.specs.Tokens.{IsToken, among_texts, symbol_of, symbols}
 use Rattle.pig_syntax.specs.Scanner.{Found, form_at, symbol_at, symbol_of_length}
-use Rattle.pig_syntax.proofs.Covers.{Covers, Stands, at_least, exactly, map_some, same_form, same_rest}
+use Rattle.pig_syntax.proofs.Covers.{Covers, Stands, at_least, exactly, same_form, same_rest}
 use Rattle.pig_syntax.proofs.Runs.{both_first, both_second}
 
 -- what every name of a table passes, a text that is found in it passes
@@ -95,7 +94,7 @@ length_stands n bs left form found = by_symbol (symbol_of (take n bs)) refl foun
         record {
           text = take n bs;
           whole = sym (take-append-drop n bs) ∙ ap (λ x. take n bs ++ x) (same_rest g);
-          spelled = subst (λ x. IsToken x (take n bs)) is e
+          spelled = subst (λ x. IsToken x (take n bs)) is e;
         }
 
 pub symbol_stands : (bs left : List ℕ) (form : TokenForm) → symbol_at bs ≡ Some (form, left) → Stands bs form left

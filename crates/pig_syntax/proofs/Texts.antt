@@ -1,24 +1,21 @@
 -- Texts.
-use Rattle.std.proofs.Common.{◌≡◌, ◌∙◌, ℕ, zero, suc, ◌+◌, ◌-◌, ◌*◌, ◌<◌, ◌≤◌, List, [], ◌∷◌, ◌++◌, Bool, true, false, cond, length, take, drop, refl, sym, ap, subst, arith, ◌⊎◌, inl, inr, append-nil, append_assoc}
+use Rattle.std.proofs.Common.{◌≡◌, ◌∙◌, ℕ, zero, suc, ◌+◌, ◌-◌, ◌*◌, ◌<◌, List, [], ◌∷◌, ◌++◌, Bool, true, false, cond, length, take, refl, sym, ap, subst, arith, append-nil, append_assoc}
 use Rattle.std.specs.Prelude.{Option, Some, None, not, ◌&&◌, ◌||◌, ◌==◌, option_map, option_and_then}
 use Rattle.std.specs.Char.{digit_value, encode_utf8}
-use Rattle.std.specs.List.{list_all}
 use Rattle.std.specs.Str.{IsUtf8, is_utf8}
 use Rattle.std.specs.Str.Parse.{digits_value}
 use Rattle.std.proofs.Math.Utf8.{scalar}
 use Rattle.std.proofs.Math.Seq.{take-append_seam}
 use Rattle.std.proofs.lemmas.Bool.Decides.{Decides-eqb}
-use Rattle.std.proofs.lemmas.Grind.{common_steps}
 use Rattle.std.proofs.lemmas.List.{length-append}
 use Rattle.std.proofs.lemmas.Str.{IsUtf8-from_is_utf8}
 use Rattle.pig_syntax.specs.declared.scanning.TextUnit.{TextUnit}
 use Rattle.pig_syntax.specs.declared.scanning.TextUnit.TheVariants as u
 use Rattle.pig_syntax.specs.declared.tokens.TokenForm.{TokenForm}
 use Rattle.pig_syntax.specs.declared.tokens.TokenForm.TheVariants as f
-use Rattle.pig_syntax.specs.Tokens.{IsNamed, IsText, IsToken, Means, nothing, plain, escaped, named, escape_of, is_hex_digit, is_plain}
+use Rattle.pig_syntax.specs.Tokens.{IsNamed, IsToken, Means, nothing, plain, escaped, named, escape_of, is_hex_digit, is_plain}
 use Rattle.pig_syntax.specs.Scanner.{Found, bytes_of, character_of, content_after, escape_at, form_at, hex_of, is_end, named_at, named_by, text_at, text_of, unit_at}
-use Rattle.pig_syntax.proofs.Covers.{Covers, Stands, bind_some, exactly, map_some, same_form, same_rest, some_same}
-use Rattle.pig_syntax.proofs.Runs.{both_first, both_second}
+use Rattle.pig_syntax.proofs.Covers.{Covers, Stands, bind_some, exactly, map_some, some_same}
 use Rattle.pig_syntax.proofs.Utf8.{text_found}
 
 -- ---- the units of a text, where they stand
@@ -45,6 +42,7 @@ no_u e c h = by_test (e == 117) refl
   where
     at_u : (x : ℕ) → x ≡ 117 → escape_of x ≡ Some c → ⊥
     at_u x same g = let found : escape_of 117 ≡ Some c = subst (λ y. escape_of y ≡ Some c) same g in let none : ◌≡◌ {A = Option ℕ} None (Some c) = found in cc
+
     by_test : (t : Bool) → (e == 117) ≡ t → t ≡ false
     by_test true same = absurd (at_u e ((Decides-eqb e 117).0 same) h)
     by_test false same = refl
@@ -189,7 +187,7 @@ named_told a b c d v h =
           hexadecimal = rw (p.0, q.0, r.0, s.0) refl;
           value = sym k.2 ∙ sym digits;
           no_lf = subst (λ n. (n == 10) ≡ false) k.2 k.0;
-          scalar = subst (λ n. scalar n ≡ true) k.2 k.1
+          scalar = subst (λ n. scalar n ≡ true) k.2 k.1;
         }
 
 named_stands : (bs rest : List ℕ) (unit : TextUnit) → named_at bs ≡ Some (unit, rest) → UnitStands (92 ∷ 117 ∷ bs) unit rest
@@ -212,6 +210,7 @@ escaped_stands (e ∷ bs) rest unit h = by_test (e == 117) refl h
     by_letter : (o : Option ℕ) → escape_of e ≡ o → option_map {T = ℕ} {U = TextUnit × List ℕ} (λ c. (u.Byte c, bs)) o ≡ Some (unit, rest) → UnitStands (92 ∷ e ∷ bs) unit rest
     by_letter None is g = absurd (cc)
     by_letter (Some c) is g = moved _ (u.Byte c) unit bs rest g (escape_stands e c bs is)
+
     by_test : (t : Bool) → (e == 117) ≡ t → cond t (named_at bs) (option_map (λ c. (u.Byte c, bs)) (escape_of e)) ≡ Some (unit, rest) → UnitStands (92 ∷ e ∷ bs) unit rest
     by_test true is g = subst (λ x. UnitStands (92 ∷ x ∷ bs) unit rest) (sym ((Decides-eqb e 117).0 is)) (named_stands bs rest unit g)
     by_test false is g = by_letter (escape_of e) refl g
@@ -224,9 +223,11 @@ unit_stands (b ∷ bs) rest unit h = by_quote (b == 39) refl h
     by_plain : (t : Bool) → is_plain b ≡ t → cond {A = Found TextUnit} t (Some (u.Byte b, bs)) None ≡ Some (unit, rest) → UnitStands (b ∷ bs) unit rest
     by_plain true is g = moved _ (u.Byte b) unit bs rest g (plain_stands b bs is)
     by_plain false is g = absurd (cc)
+
     by_slash : (t : Bool) → (b == 92) ≡ t → cond t (escape_at bs) (cond {A = Found TextUnit} (is_plain b) (Some (u.Byte b, bs)) None) ≡ Some (unit, rest) → UnitStands (b ∷ bs) unit rest
     by_slash true is g = subst (λ x. UnitStands (x ∷ bs) unit rest) (sym ((Decides-eqb b 92).0 is)) (escaped_stands bs rest unit g)
     by_slash false is g = by_plain (is_plain b) refl g
+
     by_quote : (t : Bool) → (b == 39) ≡ t → cond {A = Found TextUnit} t (Some (u.End, bs)) (cond (b == 92) (escape_at bs) (cond {A = Found TextUnit} (is_plain b) (Some (u.Byte b, bs)) None)) ≡ Some (unit, rest) → UnitStands (b ∷ bs) unit rest
     by_quote true is g = moved _ u.End unit bs rest g (subst (λ x. UnitStands (x ∷ bs) u.End bs) (sym ((Decides-eqb b 39).0 is)) (end_stands bs))
     by_quote false is g = by_slash (b == 92) refl g
@@ -262,7 +263,7 @@ content_stands (suc n) read bs content rest h =
           meant = bytes_of unit ++ more.meant;
           whole = front.1 ∙ (ap (λ x. front.0 ++ x) more.whole ∙ sym (append_assoc front.0 more.body (39 ∷ rest)));
           means = front.2 more.body more.meant more.means;
-          is = more.is ∙ append_assoc read (bytes_of unit) more.meant
+          is = more.is ∙ append_assoc read (bytes_of unit) more.meant;
         }
 
 text_told : (body content text : List ℕ) → text_of body content ≡ Some text → IsUtf8 body × IsUtf8 content × (content ≡ text)
@@ -286,8 +287,8 @@ text_is bs content rest text stands h =
         spelled = refl;
         characters = subst IsUtf8 body told.0;
         means = subst (λ c. Means stands.body c) (sym stands.is ∙ told.2) stands.means;
-        decoded = subst IsUtf8 told.2 told.1
-      }
+        decoded = subst IsUtf8 told.2 told.1;
+      };
     }
 
 pub text_stands : (bs left : List ℕ) (form : TokenForm) → text_at bs ≡ Some (form, left) → Stands (39 ∷ bs) form left

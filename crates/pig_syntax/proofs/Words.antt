@@ -1,14 +1,14 @@
 -- Words.
-use Rattle.std.proofs.Common.{◌≡◌, ◌∙◌, ℕ, ◌<◌, ◌≤◌, List, [], ◌∷◌, ◌++◌, Bool, true, false, length, refl, sym, ap, subst, arith, ◌⊎◌, inl, inr, append-nil}
-use Rattle.std.specs.Prelude.{Option, Some, None, ◌&&◌}
+use Rattle.std.proofs.Common.{◌≡◌, ◌∙◌, ℕ, ◌<◌, List, [], ◌∷◌, ◌++◌, true, length, refl, sym, ap, subst, arith, ◌⊎◌, inl, inr, append-nil}
+use Rattle.std.specs.Prelude.{Option, Some, None}
 use Rattle.std.specs.Char.{is_ascii_alphabetic}
 use Rattle.std.specs.List.{list_all}
 use Rattle.std.proofs.lemmas.Grind.{common_steps}
 use Rattle.pig_syntax.specs.declared.tokens.Keyword.{Keyword}
 use Rattle.pig_syntax.specs.declared.tokens.TokenForm.{TokenForm}
 use Rattle.pig_syntax.specs.declared.tokens.TokenForm.TheVariants as f
-use Rattle.pig_syntax.specs.Tokens.{IsToken, IsWord, begins_as_word, is_number, is_word_byte, keyword_of}
-use Rattle.pig_syntax.specs.Scanner.{Found, form_at, past, run, word_at, word_form}
+use Rattle.pig_syntax.specs.Tokens.{IsToken, IsWord, is_word_byte, keyword_of}
+use Rattle.pig_syntax.specs.Scanner.{form_at, past, run, word_at, word_form}
 use Rattle.pig_syntax.proofs.Covers.{Covers, Stands, at_least, same_form, same_rest}
 use Rattle.pig_syntax.proofs.Runs.{past-append, past_shorter, run-append, run_or_more, run_passes, run_past, run_yes}
 
@@ -52,7 +52,7 @@ word_stands b bs form rest h found =
     record {
       text = run is_word_byte (b ∷ bs);
       whole = subst (λ r. b ∷ bs ≡ run is_word_byte (b ∷ bs) ++ r) left (run_past is_word_byte (b ∷ bs));
-      spelled = subst (λ g. IsToken g (run is_word_byte (b ∷ bs))) is (spells (run is_word_byte (b ∷ bs)) (run_word b bs h))
+      spelled = subst (λ g. IsToken g (run is_word_byte (b ∷ bs))) is (spells (run is_word_byte (b ∷ bs)) (run_word b bs h));
     }
 
 -- what is found where a word stands

@@ -1,5 +1,5 @@
 -- What one step of the lexer finds.
-use Rattle.std.specs.Prelude.{◌≡◌, ◌<◌, ℕ, List, length, Some, None}
+use Rattle.std.specs.Prelude.{◌≡◌, ◌<◌, ℕ, List, length, Some}
 use Rattle.pig_syntax.specs.declared.lexing.Ahead.{Ahead}
 use Rattle.pig_syntax.specs.declared.lexing.Ahead.TheVariants as ahead
 use Rattle.pig_syntax.specs.Tokens.{Begins, Stops, after_gap}

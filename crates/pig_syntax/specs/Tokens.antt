@@ -274,3 +274,8 @@ pub record IsBadAt (script : List ℕ) (offset : ℕ) : Type 0 where
 abbrev pub IsLexFault : List ℕ → LexFault → Type 0
 IsLexFault script (fault.Bad offset) = IsBadAt script offset
 IsLexFault script fault.OutOfMemory = Unit {0}
+
+-- a text holds no LF
+abbrev pub HoldsNoLf : TokenForm → Type 0
+HoldsNoLf (f.Text content) = list_all is_in_line content ≡ true
+HoldsNoLf _ = Unit {0}

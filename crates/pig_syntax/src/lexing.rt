@@ -1,5 +1,5 @@
-ghost use Rattle.std.specs.Prelude.{◌≡◌, ◌<◌, ◌∷◌, length, option_map, IfOk, IfErr};
-ghost use Rattle.pig_syntax.specs.Tokens.{AreTokens, IsLexFault, is_number};
+ghost use Rattle.std.specs.Prelude.{◌≡◌, ◌<◌, ◌∷◌, length, option_map, All, IfOk, IfErr};
+ghost use Rattle.pig_syntax.specs.Tokens.{AreTokens, HoldsNoLf, IsLexFault, is_number};
 ghost use Rattle.pig_syntax.specs.Scanner.{form_at, standing, token_at};
 ghost use Rattle.pig_syntax.specs.Steps.{IsAhead};
 
@@ -35,6 +35,7 @@ impl From<AllocError> for LexFault {
 /// no token begins.
 pub fn lex(alloc: Global, script: &[u8]) -> Result<Tokens, LexFault>
     ensures tokens { IfOk result (AreTokens script.now) }
+    ensures texts { IfOk result (All (λ token. HoldsNoLf token.form)) }
     ensures fault { IfErr result (IsLexFault script.now) }
 {
     let mut tokens = Seq::new(alloc);

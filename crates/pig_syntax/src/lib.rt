@@ -5,9 +5,11 @@
 #![tactic(auto)]
 
 mod forms;
+mod laws;
 mod lexing;
 mod scanning;
 mod tokens;
 
+pub use laws::a_script_has_one_reading;
 pub use lexing::{LexFault, lex};
 pub use tokens::{Keyword, Symbol, Token, TokenForm, Tokens};

@@ -1,4 +1,4 @@
-ghost use Rattle.std.specs.Prelude.{◌≡◌, true, ◌<◌, IfSome, length, take_while, option_map};
+ghost use Rattle.std.specs.Prelude.{◌≡◌, true, ◌<◌, ◌≤◌, ◌+◌, IfSome, length, take_while, option_map};
 ghost use Rattle.std.specs.Char.{is_ascii_digit};
 ghost use Rattle.std.specs.List.{list_all};
 ghost use Rattle.pig_syntax.specs.Tokens.{after_close, after_comment, after_gap, begins_as_word, escape_of, from_lf, is_in_line, is_plain, is_space, is_word_byte, strip};
@@ -15,7 +15,8 @@ pub enum TextUnit {
 /// The bytes behind a byte of white space or a comment, where one begins them.
 #[tactic(auto, unfolding(crate::specs::Tokens::after_gap))]
 pub fn after_gap(bytes: &[u8]) -> Option<&[u8]>
-    ensures { option_map (λ rest. rest.now) result ≡ after_gap bytes.now }
+    ensures value { option_map (λ rest. rest.now) result ≡ after_gap bytes.now }
+    ensures within { IfSome result (λ rest. length rest.now < length bytes.now) }
 {
     let [first, rest @ ..] = bytes else {
         return None;
@@ -37,7 +38,8 @@ fn is_space(byte: u8) -> bool
 // The bytes behind a comment.
 #[tactic(auto, unfolding(crate::specs::Tokens::after_comment))]
 fn after_comment(bytes: &[u8]) -> Option<&[u8]>
-    ensures { option_map (λ rest. rest.now) result ≡ after_comment bytes.now }
+    ensures value { option_map (λ rest. rest.now) result ≡ after_comment bytes.now }
+    ensures within { IfSome result (λ rest. length rest.now < length bytes.now) }
 {
     match after(bytes, b"--") {
         Some(line) => Some(from_lf(line)),
@@ -51,7 +53,8 @@ fn after_comment(bytes: &[u8]) -> Option<&[u8]>
 // The bytes from the first LF on.
 #[tactic(auto, unfolding(crate::specs::Tokens::from_lf))]
 fn from_lf(bytes: &[u8]) -> &[u8]
-    ensures { result.now ≡ from_lf bytes.now }
+    ensures value { result.now ≡ from_lf bytes.now }
+    ensures within { length result.now ≤ length bytes.now }
 {
     bytes.split_at(line_len(bytes)).1
 }
@@ -66,7 +69,8 @@ fn line_len(bytes: &[u8]) -> usize
 // The bytes behind the first `*/`.
 #[tactic(auto, unfolding(crate::specs::Tokens::after_close))]
 fn after_close(bytes: &[u8]) -> Option<&[u8]>
-    ensures { option_map (λ rest. rest.now) result ≡ after_close bytes.now }
+    ensures value { option_map (λ rest. rest.now) result ≡ after_close bytes.now }
+    ensures within { IfSome result (λ rest. length rest.now < length bytes.now) }
 {
     let mut rest = bytes;
     while let [_, next @ ..] = rest {
@@ -80,7 +84,8 @@ fn after_close(bytes: &[u8]) -> Option<&[u8]>
 
 /// The bytes behind `prefix`, where they begin with it.
 pub fn after<'a>(bytes: &'a [u8], prefix: &[u8]) -> Option<&'a [u8]>
-    ensures { option_map (λ rest. rest.now) result ≡ strip prefix.now bytes.now }
+    ensures value { option_map (λ rest. rest.now) result ≡ strip prefix.now bytes.now }
+    ensures length { IfSome result (λ rest. length rest.now + length prefix.now ≡ length bytes.now) }
 {
     bytes.strip_prefix(prefix)
 }
