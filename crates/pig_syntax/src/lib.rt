@@ -8,6 +8,8 @@ mod forms;
 mod laws;
 mod lexing;
 mod scanning;
+#[cfg(test)]
+mod tests;
 mod tokens;
 
 pub use laws::a_script_has_one_reading;
