@@ -4,6 +4,19 @@
 //! space and comments between them.
 #![tactic(auto)]
 
+#[cfg(test)]
+mod cut_tests;
+mod cutting;
 mod tokens;
+mod trees;
 
+pub use cutting::{
+    Piece, Pieces, cut, depth, depth_is_one, statements_are_one, statements_lie_within,
+};
 pub use tokens::{Keyword, Symbol, Token, TokenForm, Tokens};
+pub use trees::{
+    AsNames, BagRef, Branch, Branches, Expr, Exprs, FieldRef, FieldRefs, FieldTree, Fields, Func,
+    GroupInput, GroupInputs, Item, Items, JoinInput, JoinInputs, Link, Links, Names, Nested, Op,
+    OrderField, OrderFields, OrderKeys, PostStep, PostSteps, Step, Steps, Stmt, Stmts, Texts,
+    TypeTree, trees_cross_threads,
+};
