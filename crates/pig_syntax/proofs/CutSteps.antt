@@ -1,5 +1,6 @@
 -- The steps of the loops over tokens.
 use Rattle.std.proofs.Common.{◌≡◌, ◌<◌, ◌≤◌, ◌+◌, ◌-◌, ℕ, Bool, true, false, List, length, take, drop, get_or, refl, sym, subst, arith, ap, ◌∙◌, inl, inr, max, Some}
+use Rattle.std.specs.Prelude.{if◌then◌else◌}
 use Rattle.std.proofs.Math.Nat.{eq-or-lt_of_le, sub_self, max-eq_left, max-eq_right, le_of_lt}
 use Rattle.std.proofs.lemmas.Bool.{cases_lt}
 use Rattle.std.specs.List.{count_by, slice_range}
@@ -23,6 +24,20 @@ count_more p xs i x false n h e t m =
     let k : n ≡ 0 = m in
     let c = count_by_more_no p xs i x h q in
     omega arith
+
+-- the same at a known answer
+count_choice : {A : Type 0} (p : A → Bool) (xs : List A) (i : ℕ) (x : A) (b : Bool) → i < length xs → x ≡ get_or xs i x → b ≡ p x → count_by p (take (i + 1) xs) ≡ count_by p (take i xs) + (if b then 1 else 0)
+count_choice p xs i x true h e t = count_more p xs i x true 1 h e t refl
+count_choice p xs i x false h e t = count_more p xs i x false 0 h e t refl
+
+-- a choice of 1 and 0 is at most 1
+pub choice_small : (b : Bool) → (if b then 1 else 0) ≤ 1
+choice_small true = omega arith
+choice_small false = omega arith
+
+-- the same, with the number written as a choice
+pub count_one : {A : Type 0} (p : A → Bool) (xs : List A) (i : ℕ) (x : A) → i < length xs → x ≡ get_or xs i x → count_by p (take (i + 1) xs) ≡ count_by p (take i xs) + (if p x then 1 else 0)
+count_one p xs i x h e = count_choice p xs i x (p x) h e refl
 
 -- what is counted at one element is at most 1
 pub step_small : (b : Bool) (n : ℕ) → n ≡ bool_byte b → n ≤ 1
@@ -67,16 +82,12 @@ uncut_more ts start at uncut here n h cut =
     let k : n ≤ at = omega arith in
     elim (eq-or-lt_of_le k) [ inl e ↦ here (let P : ℕ → Type 0 = IsCut ts start in subst P e cut) | inr l ↦ uncut n l cut ]
 
--- a token that is no `;` does not end the statement
-pub other_token : (ts : List Token) (start at : ℕ) (t : Token) → at < length ts → t ≡ get_or ts at t → is_semicolon t.form ≡ false → IsCut ts start at → ⊥
-other_token ts start at t h e s cut =
+-- where a statement is cut stands a `;`
+pub cut_mark : (ts : List Token) (start at : ℕ) (t : Token) → at < length ts → t ≡ get_or ts at t → IsCut ts start at → is_semicolon t.form ≡ true
+cut_mark ts start at t h e cut =
     let m = ap (option_map (λ t. is_semicolon t.form)) (token_at ts at t h e) in
     let n = cut.mark in
     cc
-
--- within braces no token ends the statement
-pub within_braces : (ts : List Token) (start at : ℕ) → close_braces (slice_range ts start at) < open_braces (slice_range ts start at) → IsCut ts start at → ⊥
-within_braces ts start at h cut = omega (arith, cut.closed)
 
 -- the greatest number of opened minus closed brackets over the prefixes of at most n tokens
 pub record IsDeepest (ts : List Token) (n depth : ℕ) : Type 0 where

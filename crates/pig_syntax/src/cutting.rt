@@ -1,4 +1,4 @@
-ghost use Rattle.std.specs.Prelude.{◌≡◌, ◌<◌, ◌≤◌, ◌+◌, ◌^◌, ℕ, List, length, IfOk, IfSome, IfNone, All};
+ghost use Rattle.std.specs.Prelude.{◌≡◌, ◌<◌, ◌≤◌, ◌+◌, ◌-◌, ◌^◌, ◌↔◌, ℕ, max, true, if◌then◌else◌, List, [], ◌∷◌, ◌++◌, length, IsTrue, IfOk, IfSome, IfNone, OnOk, All};
 ghost use Rattle.pig_syntax.specs.declared.tokens.Token.{Token};
 ghost use Rattle.pig_syntax.specs.declared.cutting.Piece.{Piece};
 ghost use Rattle.pig_syntax.specs.Cutting.{is_semicolon, is_open_brace, is_close_brace, IsCut, NoCut, AreStatements, IsWithin, piece_of, opens_bracket, closes_bracket, IsDepth};
@@ -29,19 +29,29 @@ pub fn cut(alloc: Global, tokens: &Tokens) -> Result<Pieces, AllocError>
     let mut pieces = Seq::new(alloc);
     let mut start = 0;
     while let Some(at) = next_cut(tokens, start) {
-        pieces.push(Piece {
-            from: start,
-            to: at,
-        })?;
+        add_statement(&mut pieces, start, at)?;
         start = at + 1;
     }
-    if start < tokens.len() {
-        pieces.push(Piece {
-            from: start,
-            to: tokens.len(),
-        })?;
-    }
+    add_tail(&mut pieces, start, tokens.len())?;
     Ok(pieces)
+}
+
+// Adds the statement from one token up to another.
+fn add_statement(pieces: &mut Pieces, start: usize, to: usize) -> Result<(), AllocError>
+    ensures { OnOk result (pieces.new ≡ pieces.old ++ record { «from» = start; to = to } ∷ []) }
+{
+    pieces.push(Piece { from: start, to })
+}
+
+// Adds the tokens behind the last cut, where there are some.
+fn add_tail(pieces: &mut Pieces, start: usize, to: usize) -> Result<(), AllocError>
+    ensures some { start < to → OnOk result (pieces.new ≡ pieces.old ++ record { «from» = start; to = to } ∷ []) }
+    ensures none { to ≤ start → OnOk result (pieces.new ≡ pieces.old) }
+{
+    if start < to {
+        return add_statement(pieces, start, to);
+    }
+    Ok(())
 }
 
 // The first place where the statement from `start` on is cut.
@@ -56,13 +66,20 @@ fn next_cut(tokens: &[Token], start: usize) -> Option<usize>
     let mut closed: usize = 0;
     for at in start..tokens.len() {
         let token = &tokens[at];
-        if is_semicolon(token) && opened <= closed {
+        if ends_statement(token, opened, closed) {
             return Some(at);
         }
         opened += usize::from(is_open_brace(token));
         closed += usize::from(is_close_brace(token));
     }
     None
+}
+
+// Whether the token ends its statement, which has so many `{` and `}` before it.
+fn ends_statement(token: &Token, opened: usize, closed: usize) -> bool
+    ensures { IsTrue result ↔ ((is_semicolon token.now.form ≡ true) × (opened ≤ closed)) }
+{
+    is_semicolon(token) && opened <= closed
 }
 
 fn is_semicolon(token: &Token) -> bool
@@ -93,15 +110,38 @@ pub fn depth(tokens: &Tokens, piece: &Piece) -> u32
     ensures { IsDepth (piece_of tokens.now piece.now) result }
 {
     let statement = &tokens.as_slice()[piece.from..piece.to];
-    let mut opened: u32 = 0;
-    let mut closed: u32 = 0;
-    let mut deepest: u32 = 0;
+    let mut brackets = Brackets {
+        opened: 0,
+        closed: 0,
+        deepest: 0,
+    };
     for token in statement {
-        opened += u32::from(opens_bracket(token));
-        closed += u32::from(closes_bracket(token));
-        deepest = deepest.max(opened.saturating_sub(closed));
+        brackets.read(token);
     }
-    deepest
+    brackets.deepest
+}
+
+// The brackets of the tokens that are read, and how deep they nest.
+#[derive(Clone, Copy, Drop)]
+struct Brackets {
+    opened: u32,
+    closed: u32,
+    deepest: u32,
+}
+
+impl Brackets {
+    // Counts one more token.
+    fn read(&mut self, token: &Token)
+        requires room { self.old.opened + 1 < 2 ^ 32 }
+        requires room_closed { self.old.closed + 1 < 2 ^ 32 }
+        ensures opened { self.new.opened ≡ self.old.opened + (if opens_bracket token.now.form then 1 else 0) }
+        ensures closed { self.new.closed ≡ self.old.closed + (if closes_bracket token.now.form then 1 else 0) }
+        ensures deepest { self.new.deepest ≡ max self.old.deepest (self.new.opened - self.new.closed) }
+    {
+        self.opened += u32::from(opens_bracket(token));
+        self.closed += u32::from(closes_bracket(token));
+        self.deepest = self.deepest.max(self.opened.saturating_sub(self.closed));
+    }
 }
 
 fn opens_bracket(token: &Token) -> bool

@@ -5,9 +5,9 @@ use Rattle.pig_syntax.proofs.cutting.depth.Given as goal
 
 abbrev pub invariant-loop-token : goal.invariant-loop-token
 invariant-loop-token l = record {
-  opened : l.opened ≡ opened (take l.token-index l.statement);
-  closed : l.closed ≡ closed (take l.token-index l.statement);
-  few : l.opened ≤ l.token-index;
-  few_closed : l.closed ≤ l.token-index;
-  deepest : IsDeepest l.statement l.token-index l.deepest;
+  opened : l.brackets.opened ≡ opened (take l.token-index l.statement);
+  closed : l.brackets.closed ≡ closed (take l.token-index l.statement);
+  few : l.brackets.opened ≤ l.token-index;
+  few_closed : l.brackets.closed ≤ l.token-index;
+  deepest : IsDeepest l.statement l.token-index l.brackets.deepest;
 }

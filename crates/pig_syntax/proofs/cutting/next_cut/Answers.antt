@@ -1,7 +1,7 @@
-use Rattle.std.proofs.Common.{inl, inr, arith, sym, ◌∙◌}
+use Rattle.std.proofs.Common.{arith, refl}
+use Rattle.pig_syntax.specs.Cutting.{IsCut, is_close_brace, is_open_brace}
 use Rattle.pig_syntax.specs.declared.tokens.Token.{Token}
-use Rattle.pig_syntax.specs.Cutting.{IsCut, is_open_brace, is_close_brace}
-use Rattle.pig_syntax.proofs.CutSteps.{count_range, count_none, cut_here, uncut_start, uncut_more, other_token, within_braces, step_small}
+use Rattle.pig_syntax.proofs.CutSteps.{count_none, count_range, cut_here, cut_mark, step_small, uncut_more, uncut_start}
 use Rattle.pig_syntax.proofs.cutting.next_cut.Goals as goal
 
 pub loop-at-init : goal.loop-at-init
@@ -13,10 +13,11 @@ loop-at-init c = record {
   uncut = uncut_start c.args.tokens.now c.args.start;
 }
 
-pub returns-then-opened-closed-clause-found : goal.returns-then-opened-closed-clause-found
-returns-then-opened-closed-clause-found c =
-    cut_here _ _ _ c.index-tokens-at.result c.loop-at.auto.at c.loop-at-test.true c.index-tokens-at.is (sym c.is_semicolon.ensures ∙ c.if-is_semicolon.true)
-    (omega (arith, c.loop-at.invariant.opened, c.loop-at.invariant.closed, c.if-opened-closed.true))
+pub returns-then-ends_statement-clause-found : goal.returns-then-ends_statement-clause-found
+returns-then-ends_statement-clause-found c =
+    let h = c.if-ends_statement.ensures.0 refl in
+    cut_here _ _ _ c.index-tokens-at.result c.loop-at.auto.at c.loop-at-test.true c.index-tokens-at.is h.0
+    (omega (arith, c.loop-at.invariant.opened, c.loop-at.invariant.closed, h.1))
 
 pub loop-at-preserved : goal.loop-at-preserved
 loop-at-preserved c = record {
@@ -29,8 +30,8 @@ loop-at-preserved c = record {
   few = omega (arith, step_small _ _ c.from-opened.ensures);
   few_closed = omega (arith, step_small _ _ c.from-closed.ensures);
   uncut = uncut_more _ _ _ c.loop-at.invariant.uncut
-      (elim c.else-is_semicolon.either as (λ _. IsCut c.args.tokens.now c.args.start c.loop-at.at → ⊥) [
-        | inl w ↦ within_braces _ _ _ (omega (arith, c.loop-at.invariant.opened, c.loop-at.invariant.closed, w.1))
-        | inr w ↦ other_token _ _ _ c.index-tokens-at.result c.loop-at-test.true c.index-tokens-at.is (sym c.is_semicolon.ensures ∙ w)
-      ]);
+      (λ (cut : IsCut c.args.tokens.now c.args.start c.loop-at.at).
+      let e = c.if-ends_statement.ensures.1
+      (cut_mark _ _ _ c.index-tokens-at.result c.loop-at-test.true c.index-tokens-at.is cut, omega (arith, c.loop-at.invariant.opened, c.loop-at.invariant.closed, cut.closed)) in
+      cc);
 }
