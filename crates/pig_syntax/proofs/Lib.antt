@@ -13,3 +13,5 @@ pub mod Texts
 pub mod Recognised
 pub mod Streams
 pub mod LineFree
+mod CutLaws
+mod CutSteps

@@ -1,3 +1,4 @@
 pub mod Tokens
 pub mod Scanner
 pub mod Steps
+pub mod Cutting
