@@ -1,7 +1,7 @@
 -- Laws of sorted lists over an order that is total and tells different elements apart: sorting forgets the order of a list and
 -- nothing else, so two lists are equal as bags exactly where they are equal once sorted.
-use Rattle.std.specs.Prelude.{◌≡◌, ◌<◌, ◌+◌, ◌⊎◌, ℕ, Bool, true, false, not, List, [], ◌∷◌, ◌++◌, map, length, refl, ⊤, slice_index_or, if◌then◌else◌}
-use Rattle.std.proofs.Common.{ap, sym, ◌∙◌, subst, arith, suc, zero, inl, inr, cond, true≢false, add-one}
+use Rattle.std.specs.Prelude.{◌≡◌, ◌<◌, ◌+◌, ℕ, Bool, true, false, List, [], ◌∷◌, ◌++◌, map, length, refl, slice_index_or, if◌then◌else◌}
+use Rattle.std.proofs.Common.{ap, sym, ◌∙◌, subst, arith, cond, true≢false, add-one}
 use Rattle.std.specs.Cmp.{IsTotalOrder}
 use Rattle.std.specs.List.{filter, AllByRecursion}
 use Rattle.std.specs.List.Sorted.{IsPermutation, IsSortedBy}
@@ -12,7 +12,7 @@ use Rattle.std.proofs.lemmas.Cmp.{upto, tied_itself}
 use Rattle.std.proofs.lemmas.List.Sorted.{IsPermutation-refl, IsPermutation-cons, IsPermutation-trans, IsPermutation-sym, IsPermutation-append, IsPermutation-map, length_permutation}
 use Rattle.std.proofs.lemmas.List.Elements.{filter-append}
 use Rattle.std.proofs.lemmas.List.{length-append}
-use Rattle.pig_value.specs.Sorts.{put, sort, Rises, Ascends, times, distinct}
+use Rattle.pig_value.specs.Sorts.{put, sort, Rises, Ascends, times}
 use Rattle.pig_value.specs.Listing.{each-filter}
 use Rattle.pig_value.specs.Permutations.{along_permutation, IsPermutation-filter, IsPermutation-same, neighbours}
 

@@ -1,13 +1,13 @@
 -- Laws of the list of each element once.
-use Rattle.std.specs.Prelude.{◌≡◌, ◌+◌, ℕ, Bool, true, false, not, List, [], ◌∷◌, min, refl, ⊤}
-use Rattle.std.proofs.Common.{ap, sym, ◌∙◌, subst, arith, cond, true≢false}
+use Rattle.std.specs.Prelude.{◌≡◌, ℕ, Bool, true, false, not, List, [], ◌∷◌, min, refl}
+use Rattle.std.proofs.Common.{ap, sym, ◌∙◌, arith, cond, true≢false}
 use Rattle.std.specs.Cmp.{IsTotalOrder}
 use Rattle.std.specs.List.{filter, AllByRecursion}
 use Rattle.std.specs.List.Sorted.{IsPermutation}
-use Rattle.std.specs.Ordering.{is_gt, is_eq}
+use Rattle.std.specs.Ordering.{is_eq}
 use Rattle.std.specs.declared.cmp.Ordering.{Ordering}
 use Rattle.std.specs.declared.cmp.Ordering.TheVariants.{Equal}
-use Rattle.std.proofs.lemmas.Cmp.{tied_itself, tied_back}
+use Rattle.std.proofs.lemmas.Cmp.{tied_back}
 use Rattle.pig_value.specs.Sorts.{put, Ascends, times, distinct}
 use Rattle.pig_value.specs.Listing.{each-filter}
 use Rattle.pig_value.specs.Bags.{either_way, eq_is, each-put, put_permutes, put_ascends, filter_ascends, times-cons, times_from_permutation, times-filter, ascending_same}

@@ -1,8 +1,8 @@
 -- Rows of values stay so when they are sorted, and their bag is a value.
-use Rattle.std.specs.Prelude.{◌≡◌, List, [], ◌∷◌}
+use Rattle.std.specs.Prelude.{List, [], ◌∷◌}
 use Rattle.std.proofs.Common.{ap, sym, ◌∙◌}
 use Rattle.std.specs.List.{AllByRecursion}
-use Rattle.pig_value.specs.Trees.{Tree, v_bag, tuples_of, tuples_list}
+use Rattle.pig_value.specs.Trees.{Tree, v_bag, tuples_of}
 use Rattle.pig_value.specs.TreeLaws.{tuples_back}
 use Rattle.pig_value.specs.Bags.{each-sort, bag_once}
 use Rattle.pig_value.specs.Orders.{row_cmp, bag_of}
