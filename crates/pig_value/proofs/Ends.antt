@@ -1,6 +1,6 @@
 -- Where one of two lists has ended, their order is that of their lengths.
-use Rattle.std.proofs.Common.{◌≡◌, ℕ, suc, zero, ◌+◌, ◌<◌, ◌≤◌, min, List, [], ◌∷◌, map, drop, length, refl, ◌⊎◌, inl, inr, arith, sym, ◌∙◌, ap}
-use Rattle.std.specs.Ordering.{nat_cmp, MatchOrdering, ordering_then}
+use Rattle.std.proofs.Common.{◌≡◌, ℕ, suc, zero, ◌<◌, min, List, [], ◌∷◌, map, drop, length, refl, arith, sym, ◌∙◌, ap}
+use Rattle.std.specs.Ordering.{nat_cmp, MatchOrdering}
 use Rattle.std.specs.Cmp.{nat_cmp_is}
 use Rattle.std.specs.Cmp.Lexicographic.{slice_cmp}
 use Rattle.std.proofs.lemmas.Cmp.{ranked}

@@ -1,5 +1,5 @@
 -- Where one of two lists has ended, they are alike exactly where they are as long.
-use Rattle.std.proofs.Common.{◌≡◌, ℕ, suc, zero, ◌+◌, ◌<◌, ◌≤◌, min, List, [], ◌∷◌, map, drop, length, refl, Bool, true, false, arith, sym, ◌∙◌}
+use Rattle.std.proofs.Common.{◌≡◌, ℕ, suc, zero, min, List, [], ◌∷◌, map, drop, length, refl, false, arith, ◌∙◌}
 use Rattle.std.specs.Prelude.{nat_eq}
 use Rattle.std.proofs.lemmas.Bool.Decides.{nat_tests}
 use Rattle.pig_value.specs.Trees.{Tree, KindTree, fields_of, kinds_of}

@@ -1,7 +1,7 @@
 -- Laws of sorted lists over an order that is total and tells different elements apart: sorting forgets the order of a list and
 -- nothing else, so two lists are equal as bags exactly where they are equal once sorted.
-use Rattle.std.specs.Prelude.{◌≡◌, ◌<◌, ◌+◌, ◌⊎◌, ℕ, Bool, true, false, not, List, [], ◌∷◌, ◌++◌, map, length, refl, ⊤, slice_index_or, if◌then◌else◌}
-use Rattle.std.proofs.Common.{ap, sym, ◌∙◌, subst, arith, suc, zero, inl, inr, cond, true≢false, add-one}
+use Rattle.std.specs.Prelude.{◌≡◌, ◌<◌, ◌+◌, ℕ, Bool, true, false, List, [], ◌∷◌, ◌++◌, map, length, refl, slice_index_or, if◌then◌else◌}
+use Rattle.std.proofs.Common.{ap, sym, ◌∙◌, subst, arith, cond, true≢false, add-one}
 use Rattle.std.specs.Cmp.{IsTotalOrder}
 use Rattle.std.specs.List.{filter, AllByRecursion}
 use Rattle.std.specs.List.Sorted.{IsPermutation, IsSortedBy}
@@ -9,10 +9,10 @@ use Rattle.std.specs.Ordering.{is_gt, is_lt, is_eq, ordering_reverse}
 use Rattle.std.specs.declared.cmp.Ordering.{Ordering}
 use Rattle.std.specs.declared.cmp.Ordering.TheVariants.{Less, Equal, Greater}
 use Rattle.std.proofs.lemmas.Cmp.{upto, tied_itself}
-use Rattle.std.proofs.lemmas.List.Sorted.{IsPermutation-refl, IsPermutation-cons, IsPermutation-trans, IsPermutation-sym, IsPermutation-append, length_permutation}
+use Rattle.std.proofs.lemmas.List.Sorted.{IsPermutation-refl, IsPermutation-cons, IsPermutation-trans, IsPermutation-sym, IsPermutation-append, IsPermutation-map, length_permutation}
 use Rattle.std.proofs.lemmas.List.Elements.{filter-append}
 use Rattle.std.proofs.lemmas.List.{length-append}
-use Rattle.pig_value.specs.Sorts.{put, sort, Rises, Ascends, times, distinct}
+use Rattle.pig_value.specs.Sorts.{put, sort, Rises, Ascends, times}
 use Rattle.pig_value.specs.Listing.{each-filter}
 use Rattle.pig_value.specs.Permutations.{along_permutation, IsPermutation-filter, IsPermutation-same, neighbours}
 
@@ -158,6 +158,23 @@ module _ {X V : Type 0} (R : X → X → Ordering) (total : IsTotalOrder R) (f :
         (subst (λ n. is_lt (R (f (slice_index_or (v ∷ w ∷ vs) (k + 1 + 1) d)) (f (slice_index_or (v ∷ w ∷ vs) n d))) ≡ false) (add-one k)
         (h (k + 1) d (omega arith) (omega arith)))),
   )
+
+-- a sort of std by a key gives the bag of the keys
+module _ {X V : Type 0} (R : X → X → Ordering) (total : IsTotalOrder R) (tells : (x y : X) → R x y ≡ Equal → x ≡ y) (f : V → X) where
+  pub bag_key : (us vs : List V) → IsPermutation us vs → IsSortedBy (λ v w. is_lt (R (f v) (f w))) vs → map f vs ≡ sort R (map f us)
+  bag_key us vs h k = sort_is R total tells (map f us) (map f vs) (IsPermutation-map f us vs h) (ascends_from_sorted R total f vs k)
+
+-- what holds of each element holds of each once they are sorted
+module _ {X : Type 0} (R : X → X → Ordering) (P : X → Type 0) where
+  pub each-put : (x : X) (ys : List X) → P x → AllByRecursion P ys → AllByRecursion P (put R x ys)
+  each-put x [] h k = (h, tt)
+  each-put x (y ∷ ys) h k = either_way (is_gt (R x y))
+      (λ e. subst (AllByRecursion P) (sym (put_on R x y ys e)) (k.0, each-put x ys h k.1))
+      (λ e. subst (AllByRecursion P) (sym (put_here R x y ys e)) (h, k))
+
+  pub each-sort : (xs : List X) → AllByRecursion P xs → AllByRecursion P (sort R xs)
+  each-sort [] h = tt
+  each-sort (x ∷ xs) h = each-put x (sort R xs) h.0 (each-sort xs h.1)
 
 -- what is kept of a sorted list
 module _ {X : Type 0} (R : X → X → Ordering) (total : IsTotalOrder R) where

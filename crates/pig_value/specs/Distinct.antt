@@ -1,16 +1,16 @@
 -- Laws of the list of each element once.
-use Rattle.std.specs.Prelude.{◌≡◌, ◌+◌, ℕ, Bool, true, false, not, List, [], ◌∷◌, min, refl, ⊤}
-use Rattle.std.proofs.Common.{ap, sym, ◌∙◌, subst, arith, cond, true≢false}
+use Rattle.std.specs.Prelude.{◌≡◌, ℕ, Bool, true, false, not, List, [], ◌∷◌, min, refl}
+use Rattle.std.proofs.Common.{ap, sym, ◌∙◌, arith, cond, true≢false}
 use Rattle.std.specs.Cmp.{IsTotalOrder}
 use Rattle.std.specs.List.{filter, AllByRecursion}
 use Rattle.std.specs.List.Sorted.{IsPermutation}
-use Rattle.std.specs.Ordering.{is_gt, is_eq}
+use Rattle.std.specs.Ordering.{is_eq}
 use Rattle.std.specs.declared.cmp.Ordering.{Ordering}
 use Rattle.std.specs.declared.cmp.Ordering.TheVariants.{Equal}
-use Rattle.std.proofs.lemmas.Cmp.{tied_itself, tied_back}
+use Rattle.std.proofs.lemmas.Cmp.{tied_back}
 use Rattle.pig_value.specs.Sorts.{put, Ascends, times, distinct}
 use Rattle.pig_value.specs.Listing.{each-filter}
-use Rattle.pig_value.specs.Bags.{either_way, eq_is, put_on, put_here, put_permutes, put_ascends, filter_ascends, times-cons, times_from_permutation, times-filter, ascending_same}
+use Rattle.pig_value.specs.Bags.{either_way, eq_is, each-put, put_permutes, put_ascends, filter_ascends, times-cons, times_from_permutation, times-filter, ascending_same}
 
 module _ {X : Type 0} (R : X → X → Ordering) (total : IsTotalOrder R) where
   pub distinct_ascends : (xs : List X) → Ascends R (distinct R xs)
@@ -23,15 +23,9 @@ module _ {X : Type 0} (R : X → X → Ordering) (total : IsTotalOrder R) where
   ties_back x y h = either_way (is_eq (R y x)) (λ e. absurd (true≢false (sym (ap is_eq (tied_back total y x (eq_is (R y x) e))) ∙ h))) (λ e. e)
 
 module _ {X : Type 0} (R : X → X → Ordering) (P : X → Type 0) where
-  each_put : (x : X) (ys : List X) → P x → AllByRecursion P ys → AllByRecursion P (put R x ys)
-  each_put x [] h k = (h, tt)
-  each_put x (y ∷ ys) h k = either_way (is_gt (R x y))
-      (λ e. subst (AllByRecursion P) (sym (put_on R x y ys e)) (k.0, each_put x ys h k.1))
-      (λ e. subst (AllByRecursion P) (sym (put_here R x y ys e)) (h, k))
-
   pub each-distinct : (xs : List X) → AllByRecursion P xs → AllByRecursion P (distinct R xs)
   each-distinct [] h = tt
-  each-distinct (x ∷ xs) h = each_put x (filter (λ y. not (is_eq (R x y))) (distinct R xs)) h.0 (each-filter (λ y. not (is_eq (R x y))) P (distinct R xs) (each-distinct xs h.1))
+  each-distinct (x ∷ xs) h = each-put R P x (filter (λ y. not (is_eq (R x y))) (distinct R xs)) h.0 (each-filter (λ y. not (is_eq (R x y))) P (distinct R xs) (each-distinct xs h.1))
 
 module _ {X : Type 0} (R : X → X → Ordering) (total : IsTotalOrder R) (tells : (x y : X) → R x y ≡ Equal → x ≡ y) where
   -- each element of the list once, and no other

@@ -1,8 +1,11 @@
 -- The test of being of a kind decides it, and that on kinds decides whether they are the same.
 use Rattle.std.specs.Prelude.{◌≡◌, Bool, true, false, ◌&&◌, List, [], ◌∷◌, refl}
-use Rattle.std.proofs.Common.{ap, sym, ◌∙◌}
+use Rattle.std.proofs.Common.{ap}
 use Rattle.pig_value.specs.Trees.{Tree, Fields, Tuples, Entries, v_null, v_bool, v_int, v_long, v_chars, v_bytes, v_tuple, v_bag, v_listed, v_map, no_fields, more_fields, no_tuples, more_tuples, no_entries, more_entries, KindTree, KindTrees, k_boolean, k_int, k_long, k_chars, k_bytes, k_tuple, k_bag, k_map, no_kinds, more_kinds}
-use Rattle.pig_value.specs.Kinds.{IsOf, FieldsOf, TuplesOf, EntriesOf, is_of_kind, fields_of_kinds, tuples_of_kinds, entries_of_kind, kind_eq, kinds_eq}
+use Rattle.std.specs.List.{AllByRecursion}
+use Rattle.pig_value.specs.Bags.{each-sort}
+use Rattle.pig_value.specs.Orders.{row_cmp, bag_of}
+use Rattle.pig_value.specs.Kinds.{IsRowOf, AreRowsOf, IsOf, FieldsOf, TuplesOf, EntriesOf, is_of_kind, fields_of_kinds, tuples_of_kinds, entries_of_kind, kind_eq, kinds_eq}
 
 both_true : (a b : Bool) → (a && b) ≡ true → (a ≡ true) × (b ≡ true)
 both_true true b h = (refl, h)
@@ -104,3 +107,15 @@ mutual
   kinds_itself : (ks : KindTrees) → kinds_eq ks ks ≡ true
   kinds_itself no_kinds = refl
   kinds_itself (more_kinds k ks) = λ i. kind_itself k i && kinds_itself ks i
+
+-- rows of a kind, row by row, and that they stay so when they are sorted
+pub rows_of_each : (kinds : List KindTree) (rows : List (List Tree)) → AreRowsOf rows kinds → AllByRecursion (λ row. IsRowOf row kinds) rows
+rows_of_each kinds [] h = tt
+rows_of_each kinds (row ∷ rows) h = (h.0, rows_of_each kinds rows h.1)
+
+pub rows_of_from_each : (kinds : List KindTree) (rows : List (List Tree)) → AllByRecursion (λ row. IsRowOf row kinds) rows → AreRowsOf rows kinds
+rows_of_from_each kinds [] h = tt
+rows_of_from_each kinds (row ∷ rows) h = (h.0, rows_of_from_each kinds rows h.1)
+
+pub rows_of_sorted : (kinds : List KindTree) (rows : List (List Tree)) → AreRowsOf rows kinds → AreRowsOf (bag_of rows) kinds
+rows_of_sorted kinds rows h = rows_of_from_each kinds (bag_of rows) (each-sort row_cmp (λ row. IsRowOf row kinds) rows (rows_of_each kinds rows h))

@@ -1,6 +1,6 @@
 -- Which values are of a kind, and when two kinds are the same.
-use Rattle.std.specs.Prelude.{Bool, true, false, ◌&&◌, ⊤}
-use Rattle.pig_value.specs.Trees.{Tree, Fields, Tuples, Entries, v_null, v_bool, v_int, v_long, v_chars, v_bytes, v_tuple, v_bag, v_listed, v_map, no_fields, more_fields, no_tuples, more_tuples, no_entries, more_entries, KindTree, KindTrees, k_boolean, k_int, k_long, k_chars, k_bytes, k_tuple, k_bag, k_map, no_kinds, more_kinds}
+use Rattle.std.specs.Prelude.{Bool, true, false, ◌&&◌, List, ⊤}
+use Rattle.pig_value.specs.Trees.{Tree, Fields, Tuples, Entries, v_null, v_bool, v_int, v_long, v_chars, v_bytes, v_tuple, v_bag, v_listed, v_map, no_fields, more_fields, no_tuples, more_tuples, no_entries, more_entries, KindTree, KindTrees, k_boolean, k_int, k_long, k_chars, k_bytes, k_tuple, k_bag, k_map, no_kinds, more_kinds, fields_of, tuples_of, kinds_of}
 
 -- Null is of each kind. A tuple has as many fields as its kind, each of its own; a bag, also a listed one, has
 -- tuples of its kind; a map has values of its kind.
@@ -31,7 +31,14 @@ abbrev mutual
   EntriesOf no_entries k = ⊤
   EntriesOf (more_entries _ v ps) k = IsOf v k × EntriesOf ps k
 
--- the same as a test
+-- a row has as many fields as there are kinds, each of its own, and each of the rows is so
+abbrev pub IsRowOf : List Tree → List KindTree → Type 0
+IsRowOf row kinds = FieldsOf (fields_of row) (kinds_of kinds)
+
+abbrev pub AreRowsOf : List (List Tree) → List KindTree → Type 0
+AreRowsOf rows kinds = TuplesOf (tuples_of rows) (kinds_of kinds)
+
+-- being of a kind as a test
 abbrev mutual
   pub is_of_kind : Tree → KindTree → Bool
   is_of_kind v_null k = true

@@ -1,6 +1,6 @@
 -- A list split into parts by number, and lists gathered by key: the parts together give what the whole gives.
 use Rattle.std.specs.Prelude.{◌≡◌, ◌<◌, ◌≤◌, ◌+◌, ◌==◌, ℕ, Bool, true, false, ◌&&◌, List, [], ◌∷◌, ◌++◌, map, refl}
-use Rattle.std.proofs.Common.{ap, sym, ◌∙◌, subst, arith, cond, suc, zero, eq-eqb, true≢false}
+use Rattle.std.proofs.Common.{ap, sym, ◌∙◌, subst, arith, cond, suc, zero}
 use Rattle.std.specs.Cmp.{IsTotalOrder}
 use Rattle.std.specs.List.{filter, flat_map, range_with_len, AllByRecursion}
 use Rattle.std.specs.List.Sorted.{IsPermutation}
@@ -8,7 +8,7 @@ use Rattle.std.specs.Ordering.{is_eq, is_gt}
 use Rattle.std.specs.declared.cmp.Ordering.{Ordering}
 use Rattle.std.specs.declared.cmp.Ordering.TheVariants.{Equal}
 use Rattle.std.proofs.lemmas.Bool.Decides.{nat_tests}
-use Rattle.std.proofs.lemmas.List.Sorted.{IsPermutation-refl, IsPermutation-cons, IsPermutation-trans, IsPermutation-sym, IsPermutation-append_right, IsPermutation-middle, IsPermutation-map}
+use Rattle.std.proofs.lemmas.List.Sorted.{IsPermutation-cons, IsPermutation-trans, IsPermutation-sym, IsPermutation-append_right, IsPermutation-middle, IsPermutation-map}
 use Rattle.std.proofs.lemmas.List.Elements.{filter_agree}
 use Rattle.pig_value.specs.Sorts.{distinct, Ascends, sort}
 use Rattle.pig_value.specs.Listing.{filter-map, filter-filter, filter-flat_map, flat_map_each, flat_map_none, flat_map_where, flat_map-flat_map, each_of_all, each-append, each_weaker, each_filtered}

@@ -1,6 +1,6 @@
 -- What holds along every exchange of neighbours holds of any two lists of which one is the other in another order.
-use Rattle.std.specs.Prelude.{◌≡◌, ◌<◌, ℕ, List, [], ◌∷◌, ◌++◌, map, length, refl, slice_set, slice_index_or}
-use Rattle.std.proofs.Common.{ap, sym, ◌∙◌, subst, arith, suc, zero, Bool, true, false, cond}
+use Rattle.std.specs.Prelude.{◌≡◌, ◌<◌, ℕ, List, [], ◌∷◌, ◌++◌, length, refl, slice_set, slice_index_or}
+use Rattle.std.proofs.Common.{◌∙◌, subst, arith, suc, zero, Bool, true, false, cond}
 use Rattle.std.specs.List as lists
 use Rattle.std.specs.List.{filter, flat_map}
 use Rattle.std.specs.List.Sorted.{IsPermutation}

@@ -2,9 +2,8 @@
 -- widths.
 use Rattle.std.specs.Prelude.{◌≡◌, ℕ, List, [], ◌∷◌, map, ⊤, FitsSigned}
 use Rattle.std.specs.Int.{w32, w64}
-use Rattle.std.specs.declared.cmp.Ordering.{Ordering}
 use Rattle.std.specs.declared.cmp.Ordering.TheVariants.{Less}
-use Rattle.pig_value.specs.Trees.{Tree, Fields, Tuples, Entries, v_null, v_bool, v_int, v_long, v_chars, v_bytes, v_tuple, v_bag, v_listed, v_map, no_fields, more_fields, no_tuples, more_tuples, no_entries, more_entries, fields_of, tuples_of, tuples_list, entries_list}
+use Rattle.pig_value.specs.Trees.{Tree, Fields, Tuples, Entries, v_int, v_long, v_tuple, v_bag, v_listed, v_map, no_fields, more_fields, no_tuples, more_tuples, no_entries, more_entries, fields_of, tuples_of, tuples_list, entries_list}
 use Rattle.pig_value.specs.Orders.{text_cmp, bag_of}
 
 -- each text stands before the next

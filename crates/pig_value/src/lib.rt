@@ -6,9 +6,13 @@
 //! the same data.
 //!
 //! The definitions stand in `specs/`: `Trees` (values as trees, the view that clauses use), `Orders` (the
-//! total order), `Sorts` (sorted lists), `Kinds` (which values are of a kind), `Valid` (what makes a tree
-//! a value), `Lines`, `Fields`, `Texts` and `Stored` (PigStorage
-//! text).
+//! total order), `Sorts` (sorted lists and lists without repetition), `Kinds` (which values are of a kind),
+//! `Valid` (what makes a tree a value), `Lines`, `Fields`, `Texts` and `Stored` (PigStorage text).
+//!
+//! What follows from them stands beside them, for the crates above: `TreeLaws`, `OrderLaws`, `Bags` (sorting
+//! forgets the order of a list and nothing else), `Distinct`, `Permutations`, `Listing` and `Partitions` over
+//! lists of any element, `KindLaws` and `ValidLaws`. [`order_laws`], [`row_order_laws`] and [`bag_laws`] state
+//! those of them that are promised.
 #![tactic(auto)]
 
 mod boxes;

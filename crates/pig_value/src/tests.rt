@@ -61,12 +61,18 @@ fn value(alloc: Global, at: usize) -> Result<Value, AllocError> {
     }
 }
 
+fn bag_in_a_tuple(alloc: Global) -> Result<Value, AllocError> {
+    let mut row = Seq::new(alloc);
+    row.push(Value::Bag(rows(alloc, &[1])?))?;
+    Ok(Value::Tuple(row))
+}
+
 fn nested(alloc: Global, at: usize) -> Result<Value, AllocError> {
     match at {
         12 => Ok(Value::Tuple(Seq::new(alloc))),
         13 => Ok(Value::Tuple(ints(alloc, &[1])?)),
         14 => Ok(Value::Tuple(ints(alloc, &[1, 0])?)),
-        15 => Ok(Value::Tuple(ints(alloc, &[2])?)),
+        15 => bag_in_a_tuple(alloc),
         16 => Ok(Value::Bag(Seq::new(alloc))),
         17 => Ok(Value::Bag(rows(alloc, &[1])?)),
         18 => Ok(Value::Bag(rows(alloc, &[1, 1])?)),
@@ -115,7 +121,7 @@ fn values_ascend(rt: HostRuntime) -> Result<(), Fail> {
 fn kinds_of_values(rt: HostRuntime) -> Result<(), Fail> {
     // The kinds that each value is of, by their letters.
     let expected = [
-        "bilcytgm", "b", "b", "i", "i", "l", "l", "c", "c", "c", "y", "y", "", "t", "", "t", "g",
+        "bilcytgm", "b", "b", "i", "i", "l", "l", "c", "c", "c", "y", "y", "", "t", "", "", "g",
         "g", "g", "g", "g", "m", "m", "m",
     ];
     for (i, letters) in expected.iter().enumerate() {

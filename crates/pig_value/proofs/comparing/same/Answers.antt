@@ -1,4 +1,4 @@
-use Rattle.std.proofs.Common.{rules, ◌≡◌, ap, sym, ◌∙◌, IsTrue, subst}
+use Rattle.std.proofs.Common.{rules, ◌≡◌, sym, ◌∙◌, IsTrue, subst}
 use Rattle.std.proofs.lemmas.Cmp.{tied_itself}
 use Rattle.std.specs.declared.cmp.Ordering.TheVariants.{Equal}
 use Rattle.pig_value.specs.Trees.{tree}
