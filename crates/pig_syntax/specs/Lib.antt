@@ -1,2 +1,4 @@
 pub mod Tokens
 pub mod Cutting
+pub mod Scanner
+pub mod Steps

@@ -1,10 +1,12 @@
 -- The tokens of a script: what each token's text is, where a token begins, and what a script's tokens are.
-use Rattle.std.specs.Prelude.{◌≡◌, ◌<◌, ◌≤◌, ◌-◌, ◌⊎◌, ℕ, ℤ, pos, Bool, true, false, not, ◌&&◌, ◌||◌, ◌==◌, nat_le, List, [], ◌∷◌, ◌++◌, length, take, drop, take_while, codes, Option, Some, None, option_and_then, bytes_eq, if◌then◌else◌}
-use Rattle.std.specs.Char.{is_ascii_alphabetic, is_ascii_alphanumeric, is_ascii_digit, is_ascii_hexdigit, encode_utf8, IsScalar}
+use Rattle.std.specs.Prelude.{◌≡◌, ◌<◌, ◌≤◌, ◌-◌, ◌⊎◌, ℕ, pos, Bool, true, false, not, ◌&&◌, ◌||◌, ◌==◌, nat_lt, List, [], ◌∷◌, ◌++◌, length, drop, take_while, codes, Option, Some, None, option_and_then, bytes_eq, if◌then◌else◌}
+use Rattle.std.specs.Char.{is_ascii_alphabetic, is_ascii_alphanumeric, is_ascii_digit, digit_value, encode_utf8, IsScalar}
 use Rattle.std.specs.List.{list_all}
 use Rattle.std.specs.Option.{option_map_or}
 use Rattle.std.specs.Str.{IsUtf8, str_eq_ignore_ascii_case}
 use Rattle.std.specs.Str.Parse.{digits_value}
+use Rattle.pig_syntax.specs.declared.lexing.LexFault.{LexFault}
+use Rattle.pig_syntax.specs.declared.lexing.LexFault.TheVariants as fault
 use Rattle.pig_syntax.specs.declared.tokens.Keyword.{Keyword}
 use Rattle.pig_syntax.specs.declared.tokens.Keyword.TheVariants as k
 use Rattle.pig_syntax.specs.declared.tokens.Symbol.{Symbol}
@@ -122,9 +124,13 @@ is_plain b = not (b == 39 || b == 92 || b == 10)
 unfoldable pub escape_of : ℕ → Option ℕ
 escape_of e = if e == 39 then Some 39 else (if e == 92 then Some 92 else (if e == 116 then Some 9 else None))
 
+-- a hexadecimal digit, in either case
+unfoldable pub is_hex_digit : ℕ → Bool
+is_hex_digit b = nat_lt (digit_value b) 16
+
 -- the character that four hexadecimal digits name: any but the LF and the surrogates
 pub record IsNamed (digits : List ℕ) (c : ℕ) : Type 0 where
-  pub hexadecimal : list_all is_ascii_hexdigit digits ≡ true
+  pub hexadecimal : list_all is_hex_digit digits ≡ true
   pub value : c ≡ digits_value 16 digits
   pub no_lf : (c == 10) ≡ false
   pub scalar : IsScalar c
@@ -209,9 +215,13 @@ unfoldable pub after_close : List ℕ → Option (List ℕ)
 after_close [] = None
 after_close (b ∷ bs) = option_map_or Some (strip (codes "*/") (b ∷ bs)) (after_close bs)
 
+-- a byte that does not end a line
+abbrev pub is_in_line : ℕ → Bool
+is_in_line b = not (b == 10)
+
 -- the bytes from the first LF on
 unfoldable pub from_lf : List ℕ → List ℕ
-from_lf bs = drop (length (take_while (λ b. not (b == 10)) bs)) bs
+from_lf bs = drop (length (take_while is_in_line bs)) bs
 
 -- the bytes behind a comment: `--` up to the next LF or the end, or `/*` up to the first `*/` behind it
 unfoldable pub after_comment : List ℕ → Option (List ℕ)
@@ -259,3 +269,13 @@ pub record IsBadAt (script : List ℕ) (offset : ℕ) : Type 0 where
   pub more : 0 < length rest
   pub stops : Stops rest
   pub place : offset ≡ length script - length rest
+
+-- what a fault says of the script
+abbrev pub IsLexFault : List ℕ → LexFault → Type 0
+IsLexFault script (fault.Bad offset) = IsBadAt script offset
+IsLexFault script fault.OutOfMemory = Unit {0}
+
+-- a text holds no LF
+abbrev pub HoldsNoLf : TokenForm → Type 0
+HoldsNoLf (f.Text content) = list_all is_in_line content ≡ true
+HoldsNoLf _ = Unit {0}

@@ -1,0 +1,7 @@
+-- The number of the digits so far.
+use Rattle.std.proofs.Common.{◌≡◌, ◌-◌, ◌^◌, min, take}
+use Rattle.std.specs.Str.Parse.{digits_value}
+use Rattle.pig_syntax.proofs.forms.value.Given as goal
+
+abbrev pub invariant-loop-digit : goal.invariant-loop-digit
+invariant-loop-digit l = l.value ≡ min (digits_value 10 (take l.digit-index l.digits)) (2 ^ 64 - 1)
