@@ -307,8 +307,15 @@ pub enum PostStep {
 /// Trees may be shared and handed to other threads.
 fn crosses<T: Send + Sync>() {}
 
-/// Shows that the trees are `Send` and `Sync`.
+/// Shows that expressions, schemas, and the steps, keys and inputs that hold them are `Send` and `Sync`.
 pub fn trees_cross_threads() {
-    crosses::<Expr>();
-    crosses::<TypeTree>();
+    crosses::<Exprs>();
+    crosses::<Fields>();
+    crosses::<Branches>();
+    crosses::<Steps>();
+    crosses::<AsNames>();
+    crosses::<GroupInputs>();
+    crosses::<JoinInputs>();
+    crosses::<OrderKeys>();
+    crosses::<Func>();
 }
