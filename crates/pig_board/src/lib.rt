@@ -23,3 +23,6 @@ mod view;
 pub use board::{Board, Pass};
 pub use end::{JobEnd, TaskEnd};
 pub use view::View;
+
+#[cfg(test)]
+mod tests;
