@@ -16,7 +16,7 @@ use Rattle.pig_board.specs.Rule.{winner_of, words_of, IsBoard}
 use Rattle.pig_board.specs.End.{untried, end_of, end_in, words_at, AreSmall, IsEnd}
 use Rattle.pig_board.proofs.Parts.{alone}
 use Rattle.pig_board.proofs.Counts.{sum_none}
-use Rattle.pig_board.proofs.Writes.{total-same, summand-le}
+use Rattle.pig_board.proofs.Writes.{noted_still, Grows-same, total-same, summand-le}
 use Rattle.pig_board.proofs.Moves.{winner_small}
 
 pub word_is : (ws : List ℕ) (i x : ℕ) → get_elem? ws i ≡ some x → get_or ws i 0 ≡ x
@@ -73,4 +73,5 @@ closed_end n ws vs id v ends b at is count each =
       next = next;
       kept = keeps_same (words_of n ws) (words_at next ends) _ _ _ _ same (only (λ (u : View). u.drawn) vs id v at whole (λ u e. omega arith)) (only (λ (u : View). u.tried) vs id v at whole (λ u e. omega arith)) b.kept;
       within = omega arith;
+      noted = noted_still (words_of n ws) (words_at next ends) v (Grows-same _ _ same) (b.noted id v at);
     }

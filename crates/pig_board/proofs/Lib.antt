@@ -1,7 +1,9 @@
+pub mod CountLaws
 pub mod Counts
 pub mod Ends
 pub mod Moves
 pub mod Opening
 pub mod Parts
+pub mod Reached
 pub mod Steps
 pub mod Writes

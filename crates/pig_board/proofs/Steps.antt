@@ -83,7 +83,7 @@ begin_kept n ws vs id t i y v b at room there known word e =
     (let l = length-append v.tried (attempt t x Unended ∷ []) in let c = sum_by_push (λ (z : Attempt). cond {A = ℕ} (has_failed z.fate) 1 0) v.tried (attempt t x Unended) in omega arith)
 
 -- what ending an attempt does to the number of steps
-settled_length : (t a : ℕ) (f : Fate) (v : View) → has_open t a v ≡ true → length (settle t a f v.tried) ≡ length v.tried
+pub settled_length : (t a : ℕ) (f : Fate) (v : View) → has_open t a v ≡ true → length (settle t a f v.tried) ≡ length v.tried
 settled_length t a f v h =
     let d = Swaps-settle t a f v.tried h in
     let p = d.sums (λ z. 1) in
@@ -91,7 +91,7 @@ settled_length t a f v h =
     let r = sum_ones v.tried in
     omega arith
 
-settled_fails : (t a : ℕ) (f : Fate) (v : View) → has_open t a v ≡ true → count_by (λ z. has_failed z.fate) (settle t a f v.tried) ≡ count_by (λ z. has_failed z.fate) v.tried + cond {A = ℕ} (has_failed f) 1 0
+pub settled_fails : (t a : ℕ) (f : Fate) (v : View) → has_open t a v ≡ true → count_by (λ z. has_failed z.fate) (settle t a f v.tried) ≡ count_by (λ z. has_failed z.fate) v.tried + cond {A = ℕ} (has_failed f) 1 0
 settled_fails t a f v h =
     let d = Swaps-settle t a f v.tried h in
     let p = d.sums (λ z. cond {A = ℕ} (has_failed z.fate) 1 0) in

@@ -4,7 +4,7 @@ use Rattle.pig_job.specs.declared.Attempt.{Attempt}
 use Rattle.pig_job.specs.Rule.{Words, Kept}
 use Rattle.pig_board.specs.declared.view.View.{View}
 use Rattle.pig_board.specs.declared.end.TaskEnd.{TaskEnd}
-use Rattle.pig_board.specs.Rule.{winner_of, total_of}
+use Rattle.pig_board.specs.Rule.{winner_of, total_of, Noted}
 
 -- a task at which nothing was tried
 abbrev pub untried : TaskEnd
@@ -43,3 +43,5 @@ pub record IsEnd (v : View) (ends : List TaskEnd) : Type 0 where
   pub next : ℕ
   pub kept : Kept (words_at next ends) v.drawn v.tried
   pub within : total_of (words_at next ends) + v.room ≡ 2 ^ 31
+  -- what the pass noted is right
+  pub noted : Noted (words_at next ends) v

@@ -1,4 +1,5 @@
 pub mod End
+pub mod Laws
 pub mod Pass
 pub mod Rule
 pub mod Told

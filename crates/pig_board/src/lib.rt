@@ -10,18 +10,21 @@
 //! which is that of the entries of the one pass that is left.
 //!
 //! `specs/View.antt` says what a pass knows and what each call makes of it, `specs/Rule.antt` has the board's rule,
-//! `specs/Told.antt` what a step on a word tells, `specs/Pass.antt` the words for a pass and its board, and
-//! `specs/End.antt` the end of a job.
+//! `specs/Told.antt` what a step on a word tells, `specs/Pass.antt` the words for a pass and its board,
+//! `specs/End.antt` the end of a job, and `specs/Laws.antt` the law that every board that meets the rule is a job which
+//! its own steps reach (`board_is_reached`).
 #![tactic(auto)]
 
 mod board;
 mod calls;
 mod end;
+mod laws;
 mod rule;
 mod view;
 
 pub use board::{Board, Pass};
 pub use end::{JobEnd, TaskEnd};
+pub use laws::board_is_reached;
 pub use view::View;
 
 #[cfg(test)]
