@@ -62,6 +62,7 @@ began-open t a v = at_end v.tried
   where
     here : is_open t a (attempt t a Unended) ≡ true
     here = ap (λ b. b && (a == a)) (eq-eqb t t refl) ∙ eq-eqb a a refl
+
     at_end : (xs : List Attempt) → list_any (is_open t a) (xs ++ attempt t a Unended ∷ []) ≡ true
     at_end [] = or_left (is_open t a (attempt t a Unended)) (list_any (is_open t a) []) here
     at_end (x ∷ xs) = or_right (is_open t a x) (list_any (is_open t a) (xs ++ attempt t a Unended ∷ [])) (at_end xs)

@@ -6,4 +6,5 @@ pub mod Opening
 pub mod Parts
 pub mod Reached
 pub mod Steps
+pub mod Tries
 pub mod Writes

@@ -42,9 +42,9 @@ task_is ws n t long = elim (cases_lt t n) as (λ _. get_or (tasks_in ws n) t unt
       let b = get_or_past ws (3 * t + 2) 0 (omega arith) in
       let c = get_or_past ws (3 * t + 3) 0 (omega arith) in
       get_or_past (tasks_in ws n) t untried (omega arith) ∙ sym (
-        ap {A = ℕ} {B = Task} (λ k. record { begun = k; failed = get_or ws (3 * t + 2) 0; winner = winner_of (get_or ws (3 * t + 3) 0) }) a
-        ∙ ap {A = ℕ} {B = Task} (λ k. record { begun = 0; failed = k; winner = winner_of (get_or ws (3 * t + 3) 0) }) b
-        ∙ ap {A = ℕ} {B = Task} (λ k. record { begun = 0; failed = 0; winner = winner_of k }) c)
+      ap {A = ℕ} {B = Task} (λ k. record { begun = k; failed = get_or ws (3 * t + 2) 0; winner = winner_of (get_or ws (3 * t + 3) 0) }) a
+      ∙ ap {A = ℕ} {B = Task} (λ k. record { begun = 0; failed = k; winner = winner_of (get_or ws (3 * t + 3) 0) }) b
+      ∙ ap {A = ℕ} {B = Task} (λ k. record { begun = 0; failed = 0; winner = winner_of k }) c)
 ]
 
 -- sums over the tasks
