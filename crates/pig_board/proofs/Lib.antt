@@ -1,0 +1,10 @@
+pub mod CountLaws
+pub mod Counts
+pub mod Ends
+pub mod Moves
+pub mod Opening
+pub mod Parts
+pub mod Reached
+pub mod Steps
+pub mod Tries
+pub mod Writes

@@ -1,0 +1,6 @@
+pub mod End
+pub mod Laws
+pub mod Pass
+pub mod Rule
+pub mod Told
+pub mod View
