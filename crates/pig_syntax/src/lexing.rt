@@ -1,4 +1,4 @@
-ghost use Rattle.std.specs.Prelude.{◌≡◌, ◌<◌, ◌∷◌, length, option_map, All, IfOk, IfErr};
+ghost use Rattle.std.specs.Prelude.{◌≡◌, ◌<◌, ◌≤◌, ◌-◌, ◌∷◌, length, option_map, All, IfOk, IfErr};
 ghost use Rattle.pig_syntax.specs.Tokens.{AreTokens, HoldsNoLf, IsLexFault, is_number};
 ghost use Rattle.pig_syntax.specs.Scanner.{form_at, standing, token_at};
 ghost use Rattle.pig_syntax.specs.Steps.{IsAhead};
@@ -41,7 +41,7 @@ pub fn lex(alloc: Global, script: &[u8]) -> Result<Tokens, LexFault>
     let mut tokens = Seq::new(alloc);
     let mut rest = script;
     while !rest.is_empty() {
-        let offset = (script.len() - rest.len()) as u64;
+        let offset = offset_of(script, rest);
         match front(alloc, rest)? {
             Ahead::Gap(behind) => rest = behind,
             Ahead::Token(form, behind) => {
@@ -52,6 +52,14 @@ pub fn lex(alloc: Global, script: &[u8]) -> Result<Tokens, LexFault>
         }
     }
     Ok(tokens)
+}
+
+// Where the rest of a script begins.
+fn offset_of(script: &[u8], rest: &[u8]) -> u64
+    requires { length rest.now ≤ length script.now }
+    ensures { result ≡ length script.now - length rest.now }
+{
+    (script.len() - rest.len()) as u64
 }
 
 /// What stands at the front of some bytes, and the bytes behind it.

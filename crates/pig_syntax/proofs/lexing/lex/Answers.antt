@@ -1,5 +1,5 @@
 -- Each turn reads what is ahead.
-use Rattle.std.proofs.Common.{◌≡◌, ◌<◌, length, Some, sym, subst, arith, rules}
+use Rattle.std.proofs.Common.{◌++◌, ◌∷◌, [], ◌≡◌, ◌<◌, length, Some, sym, subst, arith, rules}
 use Rattle.pig_syntax.specs.Tokens.{Begins, Reads, after_gap, here}
 use Rattle.pig_syntax.proofs.LineFree.{tokens_line_free}
 use Rattle.pig_syntax.proofs.Streams.{reads_gap, reads_token}
@@ -25,8 +25,9 @@ loop-rest-preserved c =
     let token : Begins c.loop-rest.rest.now c.in-Token.form c.in-Token.behind.now × (length c.in-Token.behind.now < length c.loop-rest.rest.now) = search rules in
     let sofar = c.loop-rest.invariant in
     let longer = reads_token (length c.args.script.now) c.args.script.now c.loop-rest.rest.now c.in-Token.behind.now c.loop-rest.tokens c.in-Token.form sofar.reads token.0 in
+    let placed : Reads (length c.args.script.now) c.args.script.now (c.loop-rest.tokens ++ record { form = c.in-Token.form; «from» = c.offset_of-offset.result } ∷ []) c.in-Token.behind.now = rw c.offset_of-offset.ensures longer in
     record {
-      reads = subst (λ ts. Reads (length c.args.script.now) c.args.script.now ts c.in-Token.behind.now) (sym c.in_ok-push-in-Token.ensures.ok) longer;
+      reads = subst (λ ts. Reads (length c.args.script.now) c.args.script.now ts c.in-Token.behind.now) (sym c.in_ok-push-in-Token.ensures.ok) placed;
       within = omega (arith, token.1, sofar.within);
     }
 
