@@ -1,6 +1,6 @@
 -- What each call does to the counts of a pass.
-use Rattle.std.proofs.Common.{◌≡◌, ◌≢◌, ℕ, ◌+◌, ◌<◌, true, Option, Some, None, List, [], ◌∷◌, ◌++◌, cond, length, length-append, refl, sym, ◌∙◌, ap, arith}
-use Rattle.std.specs.Prelude.{◌==◌, ◌&&◌, count_by, sum_by}
+use Rattle.std.proofs.Common.{◌≡◌, ◌≢◌, ℕ, ◌+◌, ◌<◌, true, Option, Some, None, List, [], ◌∷◌, ◌++◌, cond, length-append, refl, ◌∙◌, ap, arith}
+use Rattle.std.specs.Prelude.{◌==◌, ◌&&◌}
 use Rattle.std.specs.List.{list_any}
 use Rattle.std.proofs.lemmas.Bool.{or_left, or_right, eq-eqb, ne_eqb}
 use Rattle.std.proofs.lemmas.List.Sums.{sum_by-append, sum_by_push}
@@ -11,7 +11,7 @@ use Rattle.pig_job.proofs.Bag.{swapped_alike}
 use Rattle.pig_job.proofs.Keeps.{attempt}
 use Rattle.pig_job.proofs.States.{Swaps-settle}
 use Rattle.pig_board.specs.declared.view.View.{View}
-use Rattle.pig_board.specs.View.{steps_of, has_open, has_open_of, is_open_of, is_win_of, fails_of, wins_of, drew, began, won, came_late, failed_at, earliest, saw_winner, saw_count, kept_half, other_half, both}
+use Rattle.pig_board.specs.View.{steps_of, has_open, has_open_of, is_win_of, fails_of, wins_of, drew, began, won, came_late, failed_at, earliest, saw_winner, saw_count, kept_half, other_half, both}
 use Rattle.pig_board.proofs.Counts.{earliest-open, open-of}
 use Rattle.pig_board.proofs.Steps.{settled_length, settled_fails}
 

@@ -1,11 +1,10 @@
 -- The end of a job is what the words and the last pass say.
-use Rattle.std.proofs.Common.{◌≡◌, ℕ, ◌+◌, ◌*◌, ◌^◌, ◌<◌, ◌≤◌, List, [], ◌∷◌, length, get_or, refl, sym, ◌∙◌, ap, subst, arith, inl, inr, zero, suc}
+use Rattle.std.proofs.Common.{◌≡◌, ℕ, ◌+◌, ◌*◌, ◌<◌, List, [], ◌∷◌, length, get_or, refl, sym, ◌∙◌, ap, arith, inl, inr, zero, suc}
 use Rattle.std.specs.List.{flat_map, sum_by}
 use mathlib.Core.Option.{some, some-injective, some-ne-none}
 use lib.ListN.{get_elem?}
 use Rattle.std.proofs.lemmas.Bool.{cases_lt}
 use Rattle.std.proofs.lemmas.List.{get_or_past}
-use Rattle.pig_job.specs.declared.Attempt.{Attempt}
 use Rattle.pig_job.proofs.Bag.{SameBag}
 use Rattle.pig_job.proofs.Keeps.{SameWords, keeps_same}
 use Rattle.pig_job.proofs.States.{sum_by-flat_map}

@@ -1,32 +1,29 @@
 -- Each call's step may be made, whatever the table is then, and tells what the call says.
-use Rattle.std.proofs.Common.{◌≡◌, ◌≢◌, ℕ, ◌+◌, ◌-◌, ◌*◌, ◌^◌, ◌%◌, ◌<◌, ◌≤◌, true, false, Option, Some, None, List, [], ◌∷◌, ◌++◌, cond, length, length-append, get_or, set, refl, sym, ◌∙◌, ap, subst, arith, inl, inr, ⊎_elim, zero, suc}
+use Rattle.std.proofs.Common.{◌≡◌, ◌≢◌, ℕ, ◌+◌, ◌*◌, ◌^◌, ◌%◌, ◌<◌, ◌≤◌, true, false, Option, Some, None, List, cond, length-append, get_or, set, refl, sym, ◌∙◌, ap, subst, arith, ⊎_elim, zero, suc}
 use Rattle.std.specs.Prelude.{◌==◌, count_by, sum_by, All, MatchBool}
 use Rattle.std.specs.List.{flat_map, list_any}
 use mathlib.Core.Option.{some, none}
 use lib.ListN.{get_elem?}
 use prog.Atomic.{either}
-use Rattle.std.proofs.lemmas.Bool.{cases_Bool, or_cases, or_left, eqb-true, eq-eqb, ne_eqb, true≢false, false≢true, false_from_ne_true}
+use Rattle.std.proofs.lemmas.Bool.{or_cases, or_left, eq-eqb, ne_eqb, false≢true, false_from_ne_true}
 use Rattle.std.proofs.lemmas.List.Elements.{All-append, All-nil}
 use Rattle.std.proofs.lemmas.List.Sums.{sum_by-append}
 use Rattle.std.proofs.lemmas.Bool.Decides.{nat_tests}
 use Rattle.atomic_table.specs.Table.{Me, Act, keeps, step, Valid, carried_after, Allows, Splits, Joins}
 use Rattle.atomic_table.proofs.Lists.{at_set, at_snoc}
 use Rattle.pig_job.specs.declared.Attempt.{Attempt}
-use Rattle.pig_job.specs.declared.Fate.TheVariants.{Unended, Won, Late, Failed}
-use Rattle.pig_job.specs.Rule.{Kept, has_failed, is_attempt, is_win, is_failure_of, once_below, once_at}
-use Rattle.pig_job.proofs.Bag.{SameBag}
-use Rattle.pig_job.proofs.Keeps.{attempt, keeps_bags}
+use Rattle.pig_job.specs.declared.Fate.TheVariants.{Won, Late, Failed}
+use Rattle.pig_job.specs.Rule.{has_failed, is_attempt, is_win, is_failure_of, once_below, once_at}
+use Rattle.pig_job.proofs.Keeps.{keeps_bags}
 use Rattle.pig_job.proofs.States.{Swaps-settle}
 use Rattle.pig_board.specs.declared.view.View.{View}
-use Rattle.pig_board.specs.View.{steps_of, IsAlone, IsLate, drew, began, won, came_late, failed_at, saw_winner, saw_count, earliest, has_open, has_open_of, knows_winner, is_win_of, fails_of, kept_half, other_half, both, spent}
-use Rattle.pig_board.specs.Rule.{winner_of, words_of, sum_below, total_of, Noted, IsBoard}
+use Rattle.pig_board.specs.View.{steps_of, IsAlone, IsLate, drew, began, won, failed_at, saw_winner, saw_count, earliest, has_open, has_open_of, knows_winner, is_win_of, fails_of, kept_half, other_half, both, spent}
+use Rattle.pig_board.specs.Rule.{winner_of, words_of, Noted, IsBoard}
 use Rattle.pig_board.specs.Told.{DrawTold, BeginTold, CommitTold, FailTold, WinnerTold, CountTold, RoomTold, committed}
-use Rattle.pig_board.proofs.Parts.{part-le, alone, entries-le, sum_cut, sum_join, SameBag-cut, SameBag-join}
+use Rattle.pig_board.proofs.Parts.{alone, entries-le, sum_cut, sum_join, SameBag-cut, SameBag-join}
 use Rattle.pig_board.proofs.Counts.{sum_none, open_and_won, some_win, some_note, counted-any, win-of, earliest-open, settled_below}
 use Rattle.pig_board.proofs.Writes.{summand-le}
 use Rattle.pig_board.proofs.Steps.{room_left, attempt_there, not_open, draw_kept, begin_kept, fail_kept, win_kept, late_kept, same_kept, winner_kept, count_kept}
-use Rattle.std.proofs.lemmas.Bool.{ltb-true, lt-ltb}
-use Rattle.std.specs.Prelude.{nat_lt}
 use Rattle.pig_job.proofs.States.{sum_by-flat_map}
 
 -- the entries of all passes, where one pass is alone, are its own

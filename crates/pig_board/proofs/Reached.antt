@@ -1,12 +1,11 @@
 -- A board that meets its rule is a job that its own steps reach.
-use Rattle.std.proofs.Common.{◌≡◌, ◌≢◌, ℕ, ◌+◌, ◌*◌, ◌^◌, ◌<◌, ◌≤◌, List, [], ◌∷◌, ◌++◌, map, length, length-append, get_or, refl, sym, ◌∙◌, ap, arith, inl, inr, zero, suc}
+use Rattle.std.proofs.Common.{◌≡◌, ℕ, ◌+◌, ◌*◌, ◌<◌, List, [], ◌∷◌, ◌++◌, map, length, length-append, get_or, refl, sym, ◌∙◌, ap, arith, inl, inr, zero, suc}
 use Rattle.std.specs.Prelude.{All}
 use Rattle.std.specs.List.{flat_map, sum_by}
 use Rattle.std.proofs.lemmas.Bool.{cases_eq, cases_lt}
 use Rattle.std.proofs.lemmas.List.{get_or_past, get_or_push, get_or_append_left}
 use Rattle.std.proofs.lemmas.List.Elements.{All-nil, All-cons}
 use Rattle.std.proofs.lemmas.List.Sums.{sum_by_push}
-use Rattle.pig_job.specs.declared.Attempt.{Attempt}
 use Rattle.pig_job.specs.declared.Status.TheVariants.{Running}
 use Rattle.pig_job.specs.declared.Task.{Task}
 use Rattle.pig_job.specs.Job.{WorkerState, untried, AllRun}
@@ -15,7 +14,7 @@ use Rattle.pig_job.proofs.Bag.{SameBag}
 use Rattle.pig_job.proofs.Keeps.{SameWords, keeps_same}
 use Rattle.pig_job.proofs.Reach.{is_reached as job_reached}
 use Rattle.pig_board.specs.declared.view.View.{View}
-use Rattle.pig_board.specs.Rule.{winner_of, words_of, sum_below, IsBoard}
+use Rattle.pig_board.specs.Rule.{winner_of, words_of, sum_below}
 use Rattle.pig_board.specs.Laws.{task_in, tasks_in, worker_of, job_of, BoardIsReached}
 
 length-tasks : (ws : List ℕ) (n : ℕ) → length (tasks_in ws n) ≡ n

@@ -1,7 +1,7 @@
 -- Each step keeps the board's rule.
-use Rattle.std.proofs.Common.{◌≡◌, ◌≢◌, ℕ, ◌+◌, ◌-◌, ◌*◌, ◌^◌, ◌<◌, ◌≤◌, true, false, Some, None, List, [], ◌∷◌, ◌++◌, cond, length, get_or, set, length-set, length-append, refl, sym, ◌∙◌, ap, subst, arith, inl, inr, ⊎_elim, zero, suc}
-use Rattle.std.specs.Prelude.{count_by, sum_by, All}
-use Rattle.std.specs.List.{flat_map, list_any}
+use Rattle.std.proofs.Common.{◌≡◌, ◌≢◌, ℕ, ◌+◌, ◌*◌, ◌^◌, ◌<◌, ◌≤◌, true, Some, None, List, [], ◌∷◌, cond, length, get_or, set, length-set, length-append, refl, sym, ◌∙◌, ap, subst, arith, ⊎_elim, zero, suc}
+use Rattle.std.specs.Prelude.{count_by}
+use Rattle.std.specs.List.{flat_map}
 use mathlib.Core.Option.{some}
 use lib.ListN.{get_elem?}
 use Rattle.std.proofs.lemmas.Bool.{eq-eqb}
@@ -12,14 +12,13 @@ use Rattle.atomic_table.proofs.Lists.{at_set}
 use Rattle.pig_job.specs.declared.Attempt.{Attempt}
 use Rattle.pig_job.specs.declared.Fate.{Fate}
 use Rattle.pig_job.specs.declared.Fate.TheVariants.{Unended, Won, Late, Failed}
-use Rattle.pig_job.specs.Rule.{Words, Kept, has_failed, is_attempt, is_open, is_win, once_below, once_at, settle}
-use Rattle.pig_job.proofs.Bag.{SameBag, Adds, Swaps}
-use Rattle.pig_job.proofs.Keeps.{SameWords, Draws, Begins, Wins, Fails, attempt, keeps_same, keeps_draw, keeps_begin, keeps_win, keeps_late, keeps_fail}
+use Rattle.pig_job.specs.Rule.{Kept, has_failed, is_open, once_below, once_at, settle}
+use Rattle.pig_job.proofs.Bag.{Adds}
+use Rattle.pig_job.proofs.Keeps.{attempt, keeps_same, keeps_draw, keeps_begin, keeps_win, keeps_late, keeps_fail}
 use Rattle.pig_job.proofs.States.{Adds-push, Swaps-settle, list_any-counted}
 use Rattle.pig_board.specs.declared.view.View.{View}
 use Rattle.pig_board.specs.View.{steps_of, drew, began, won, came_late, failed_at, saw_winner, saw_count, earliest, has_open, has_open_of}
 use Rattle.pig_board.specs.Rule.{winner_of, words_of, total_of, Noted, IsBoard}
-use Rattle.pig_board.specs.Told.{committed}
 use Rattle.pig_board.proofs.Parts.{sum_set, part-le, entries-le, Adds-view, Swaps-view, SameBag-view}
 use Rattle.pig_board.proofs.Counts.{sum_ones, open_and_won, earliest-open}
 use Rattle.pig_board.proofs.Writes.{Grows, noted_still, Grows-same, Grows-draw, Grows-begin, Grows-fail, Grows-win, total-same, total-draw, total-begin, total-fail, total-win, writes_same, writes_next, writes_begun, writes_failed, writes_winner}

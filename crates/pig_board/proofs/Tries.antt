@@ -1,5 +1,5 @@
 -- A try of a task keeps the number of steps.
-use Rattle.std.proofs.Common.{◌≡◌, ℕ, ◌-◌, ◌<◌, Bool, true, false, sym, ◌∙◌, ap, arith}
+use Rattle.std.proofs.Common.{◌≡◌, ℕ, ◌-◌, ◌<◌, Bool, true, false, ◌∙◌, ap, arith}
 use Rattle.std.specs.Prelude.{MatchBool}
 use Rattle.pig_board.specs.declared.view.View.{View}
 use Rattle.pig_board.specs.View.{steps_of, has_open, has_open_of, IsLate, began, won, failed_at}

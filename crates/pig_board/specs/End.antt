@@ -1,6 +1,5 @@
 -- The end of a job: what stands of each task.
-use Rattle.std.specs.Prelude.{◌≡◌, ℕ, ◌+◌, ◌*◌, ◌^◌, ◌≤◌, Option, None, List, length, slice_index, slice_index_or}
-use Rattle.pig_job.specs.declared.Attempt.{Attempt}
+use Rattle.std.specs.Prelude.{◌≡◌, ℕ, ◌+◌, ◌*◌, ◌^◌, ◌≤◌, None, List, length, slice_index, slice_index_or}
 use Rattle.pig_job.specs.Rule.{Words, Kept}
 use Rattle.pig_board.specs.declared.view.View.{View}
 use Rattle.pig_board.specs.declared.end.TaskEnd.{TaskEnd}

@@ -1,5 +1,5 @@
 -- What each step on a word tells the pass that makes it: the step, the seat before, the number found, the seat after.
-use Rattle.std.specs.Prelude.{◌≡◌, ◌≢◌, ℕ, ◌+◌, ◌-◌, ◌*◌, ◌^◌, ◌≤◌, ◌<◌, false, Option, None, List, count_by, All, zero, suc}
+use Rattle.std.specs.Prelude.{◌≡◌, ◌≢◌, ℕ, ◌+◌, ◌-◌, ◌*◌, ◌^◌, ◌≤◌, ◌<◌, false, count_by, All, zero, suc}
 use Rattle.pig_job.specs.Rule.{is_attempt}
 use Rattle.atomic_table.specs.Table.{Me, Step}
 use Rattle.pig_board.specs.declared.view.View.{View}

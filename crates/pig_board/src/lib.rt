@@ -24,7 +24,7 @@ mod view;
 
 pub use board::{Board, Pass};
 pub use end::{JobEnd, TaskEnd};
-pub use laws::board_is_reached;
+pub use laws::{board_is_reached, cross_threads};
 pub use view::View;
 
 #[cfg(test)]

@@ -1,4 +1,4 @@
-use Rattle.std.proofs.Common.{◌≡◌, ℕ, ◌<◌, List, length, subst, sym, ◌∙◌, arith}
+use Rattle.std.proofs.Common.{◌≡◌, ℕ, ◌<◌, List, subst, arith}
 use Rattle.std.specs.Slots.{slots_items}
 use Rattle.pig_board.specs.Rule.{IsBoard}
 use Rattle.pig_board.specs.End.{end_of, end_in}

@@ -1,7 +1,6 @@
-use Rattle.std.proofs.Common.{◌≡◌, ◌<◌, ◌+◌, ◌*◌, refl, sym, ◌∙◌, ap, subst, arith}
-use Rattle.std.specs.Prelude.{All, ℕ}
+use Rattle.std.proofs.Common.{◌<◌, ◌+◌, ◌*◌, refl, sym, ◌∙◌, ap, subst, arith}
+use Rattle.std.specs.Prelude.{All}
 use Rattle.pig_job.specs.declared.Attempt.{Attempt}
-use Rattle.pig_board.specs.Told.{committed}
 use Rattle.pig_board.proofs.Counts.{open_below, open-of}
 use Rattle.pig_board.proofs.Moves.{commit_allowed, commit_answer, committed_below}
 use Rattle.pig_board.proofs.board.Board.commit.Goals as goal
