@@ -1,11 +1,11 @@
 -- From what was kept to what the script means.
-use Rattle.std.proofs.Common.{◌≡◌, ◌≢◌, ◌+◌, ◌%◌, ◌^◌, ◌++◌, ℕ, Bool, List, [], ◌∷◌, length, map, refl, sym, ◌∙◌, ap, subst, inl, inr, arith}
+use Rattle.std.proofs.Common.{◌≡◌, ◌≢◌, ◌+◌, ◌%◌, ◌^◌, ℕ, List, [], ◌∷◌, length, map, refl, sym, ◌∙◌, ap, subst, arith}
 use Rattle.std.specs.List.{flat_map, filter}
-use Rattle.std.proofs.lemmas.Bool.{cases_Bool}
 use Rattle.std.proofs.lemmas.List.{append-nil}
 use Rattle.std.proofs.lemmas.List.Concat.{flat_map-cons}
-use Rattle.std.proofs.lemmas.List.Elements.{All-cons, All-head, All-tail}
-use Rattle.pig_value.specs.Trees.{Tree, tree, kind_tree}
+use Rattle.std.proofs.lemmas.List.Elements.{All-append, All-cons, All-filter}
+use Rattle.pig_value.specs.Listing.{filter-flat_map}
+use Rattle.pig_value.specs.Trees.{tree, kind_tree}
 use Rattle.pig_value.specs.TreeLaws.{kind_tree-Int, kind_tree-Chararray}
 use Rattle.pig_value.specs.Lines.{lines}
 use Rattle.pig_value.specs.Fields.{row_of}
@@ -37,17 +37,6 @@ kinds_from n (f ∷ fs) = All-cons (λ c. IsReadKind (kind_tree c.kind)) (record
 pub kinds_are : (form : FirstForm) (f : Filter) → IsFilterOf form f → AreReadKinds f.columns
 kinds_are form f is = subst AreReadKinds (sym is.columns) (kinds_from 0 form.fields)
 
--- filtering list by list is filtering the whole
-filter-append : {X : Type 0} (p : X → Bool) (xs ys : List X) → filter p (xs ++ ys) ≡ filter p xs ++ filter p ys
-filter-append p [] ys = refl
-filter-append p (x ∷ xs) ys = elim (cases_Bool (p x)) [ inl e ↦ simp e (ap (λ zs. x ∷ zs) (filter-append p xs ys)) | inr e ↦ simp e (filter-append p xs ys) ]
-
-filter-flat_map : {X Y : Type 0} (p : Y → Bool) (g : X → List Y) (xs : List X) → flat_map (λ x. filter p (g x)) xs ≡ filter p (flat_map g xs)
-filter-flat_map p g [] = refl
-filter-flat_map p g (x ∷ xs) =
-    flat_map-cons (λ x. filter p (g x)) x xs ∙ ap (λ ys. filter p (g x) ++ ys) (filter-flat_map p g xs)
-    ∙ sym (filter-append p (g x) (flat_map g xs)) ∙ ap (filter p) (sym (flat_map-cons g x xs))
-
 -- the filter of a form keeps of a piece what the form means of it
 keeps_is : (form : FirstForm) (f : Filter) → IsFilterOf form f → keeps f ≡ (λ piece. filter (passes form) (rows_of form piece))
 keeps_is form f is =
@@ -57,24 +46,13 @@ keeps_is form f is =
     ∙ ap (λ t piece. filter (passes_at form.compared form.relation t) (rows_of form piece)) is.literal
 
 pub kept_is : (form : FirstForm) (f : Filter) → IsFilterOf form f → (pieces : List (List ℕ)) → flat_map (keeps f) pieces ≡ meaning form pieces
-kept_is form f is pieces = ap (λ g. flat_map g pieces) (keeps_is form f is) ∙ filter-flat_map (passes form) (rows_of form) pieces
+kept_is form f is pieces = ap (λ g. flat_map g pieces) (keeps_is form f is) ∙ sym (filter-flat_map (passes form) (rows_of form) pieces)
 
 -- the rows of the meaning hold no line end
-free-append : (rs ss : List (List Tree)) → AreLineFreeRows rs → AreLineFreeRows ss → AreLineFreeRows (rs ++ ss)
-free-append [] ss h k = k
-free-append (r ∷ rs) ss h k = All-cons IsLineFreeRow r (rs ++ ss) (All-head IsLineFreeRow r rs h) (free-append rs ss (All-tail IsLineFreeRow r rs h) k)
-
-free-filter : (p : List Tree → Bool) (rs : List (List Tree)) → AreLineFreeRows rs → AreLineFreeRows (filter p rs)
-free-filter p [] h = h
-free-filter p (r ∷ rs) h = elim (cases_Bool (p r)) [
-  | inl e ↦ simp e (All-cons IsLineFreeRow r (filter p rs) (All-head IsLineFreeRow r rs h) (free-filter p rs (All-tail IsLineFreeRow r rs h)))
-  | inr e ↦ simp e (free-filter p rs (All-tail IsLineFreeRow r rs h))
-]
-
 free-loaded : (form : FirstForm) (pieces : List (List ℕ)) → AreLineFreeRows (loaded form pieces)
 free-loaded form [] = λ k d h. absurd (omega (arith, h))
 free-loaded form (piece ∷ pieces) =
-    subst AreLineFreeRows (sym (flat_map-cons (rows_of form) piece pieces)) (free-append (rows_of form piece) (loaded form pieces) (rows_free (columns_of form) 9 piece) (free-loaded form pieces))
+    subst AreLineFreeRows (sym (flat_map-cons (rows_of form) piece pieces)) (All-append IsLineFreeRow (rows_of form piece) (loaded form pieces) (rows_free (columns_of form) 9 piece) (free-loaded form pieces))
 
 not_lf : ◌≢◌ {A = ℕ} 9 10
 not_lf e = let wrong : ◌≡◌ {A = ℕ} 9 10 = e in omega arith
@@ -83,7 +61,7 @@ not_lf e = let wrong : ◌≡◌ {A = ℕ} 9 10 = e in omega arith
 pub stores : (form : FirstForm) (f : Filter) → IsFilterOf form f → (pieces : List (List ℕ)) (s : Stored) → IsStored f pieces s → Stores form pieces (whole_state (s.bytes.items ∷ []))
 stores form f is pieces s stored =
     let rows = meaning form pieces in
-    let list = rows_stored 9 not_lf rows (free-filter (passes form) (loaded form pieces) (free-loaded form pieces)) in
+    let list = rows_stored 9 not_lf rows (All-filter (passes form) IsLineFreeRow (loaded form pieces) (free-loaded form pieces)) in
     let bag : StoresBag 9 (rows_text 9 rows) rows = stored_in_order 9 (rows_text 9 rows) rows list in
     let bytes : flat_map (λ part. part) (s.bytes.items ∷ []) ≡ rows_text 9 rows =
     flat_map-cons (λ part. part) s.bytes.items [] ∙ append-nil s.bytes.items ∙ stored.bytes ∙ ap (rows_text 9) (kept_is form f is pieces) in

@@ -1,8 +1,7 @@
 -- The walk over the lines of a piece: what is kept so far, with what is kept of the lines that are left, is what is kept of all.
-use Rattle.std.proofs.Common.{◌≡◌, ◌≤◌, ◌<◌, ◌+◌, ◌^◌, ◌++◌, ℕ, Bool, List, [], ◌∷◌, length, map, drop, sym, ◌∙◌, ap, inl, inr, arith}
-use Rattle.std.specs.List.{filter}
-use Rattle.std.proofs.lemmas.Bool.{cases_Bool}
+use Rattle.std.proofs.Common.{◌≡◌, ◌≤◌, ◌<◌, ◌+◌, ◌^◌, ◌++◌, ℕ, List, [], ◌∷◌, length, map, drop, sym, ◌∙◌, ap, arith}
 use Rattle.std.proofs.lemmas.List.{append_assoc, length-append, drop_all}
+use Rattle.std.proofs.lemmas.List.Elements.{filter-append}
 use Rattle.std.proofs.lemmas.Grind.{flat_map-append}
 use Rattle.pig_value.specs.Trees.{Tree}
 use Rattle.pig_value.specs.Lines.{lines}
@@ -12,10 +11,6 @@ use Rattle.pig_storage.specs.declared.lines.Span.{Span}
 use Rattle.pig_run.specs.declared.filtering.Filter.{Filter}
 use Rattle.pig_run.specs.declared.stored.Stored.{Stored}
 use Rattle.pig_run.specs.Running.{passes_row, keeps_of, keeps_line, keeps, counted}
-
--- a list with one more in front is filtered as that one and then the rest
-pub filter-cons : {X : Type 0} (p : X → Bool) (x : X) (xs : List X) → filter p (x ∷ xs) ≡ filter p (x ∷ []) ++ filter p xs
-filter-cons p x xs = elim (cases_Bool (p x)) [ inl e ↦ simp e | inr e ↦ simp e ]
 
 -- counts go on by the sum
 pub counted-again : (n a b : ℕ) → counted (counted n a) b ≡ counted n (a + b)
@@ -38,7 +33,7 @@ pub record IsSoFar (f : Filter) (piece : List ℕ) (start now : Stored) (from : 
 module _ (f : Filter) (piece : List ℕ) (start now next : Stored) (from : ℕ) (s : Span) (line : List ℕ) where
   -- the line is kept, and then the rest
   one_more : lines (drop from piece) ≡ line ∷ lines (drop s.next piece) → keeps f (drop from piece) ≡ keeps_line f line ++ keeps f (drop s.next piece)
-  one_more is = ap (keeps_of f) is ∙ filter-cons (passes_row f) (row_of f.columns 9 line) (map (row_of f.columns 9) (lines (drop s.next piece)))
+  one_more is = ap (keeps_of f) is ∙ filter-append (passes_row f) (row_of f.columns 9 line ∷ []) (map (row_of f.columns 9) (lines (drop s.next piece)))
 
   pub goes_on : IsSoFar f piece start now from → s.next ≤ length piece → lines (drop from piece) ≡ line ∷ lines (drop s.next piece)
       → next.bytes.items ≡ now.bytes.items ++ rows_text 9 (keeps_line f line) → next.read ≡ counted now.read 1

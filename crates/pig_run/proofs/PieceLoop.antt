@@ -1,26 +1,22 @@
 -- The walk over the pieces of an input: what is kept so far, with what is kept of the pieces that are left, is what is kept of all.
-use Rattle.std.proofs.Common.{◌≡◌, ◌≤◌, ◌<◌, ◌+◌, ◌++◌, ℕ, List, [], ◌∷◌, Some, length, map, take, drop, get_or, slice_get, refl, sym, ◌∙◌, ap, arith}
+use Rattle.std.proofs.Common.{◌≡◌, ◌≤◌, ◌<◌, ◌+◌, ◌++◌, ℕ, List, [], ◌∷◌, Some, length, drop, get_or, sym, ◌∙◌, ap, subst, arith}
 use Rattle.std.specs.List.{flat_map}
-use Rattle.std.specs.Option.{option_and_then, unwrap_or}
-use Rattle.std.proofs.lemmas.List.{append_assoc, append-nil, length-append, drop_all, drop_more, take_all, get_or-map}
+use Rattle.std.proofs.lemmas.List.{append_assoc, append-nil, length-append, drop_all, drop_more, get_or-map, length-map}
 use Rattle.std.proofs.lemmas.List.Concat.{flat_map-cons}
 use Rattle.std.proofs.lemmas.Option.{slice_get-get_or}
 use Rattle.pig_value.specs.declared.shared.Input.{Input}
 use Rattle.pig_value.specs.Lines.{lines}
 use Rattle.pig_value.specs.Texts.{rows_text}
+use Rattle.pig_outside.specs.RangeLaws.{piece_at as numbered, has_whole, whole_piece}
 use Rattle.pig_outside.specs.Shelf.{HasRange, pieces_of, piece_of, lengths_of, range_of}
 use Rattle.pig_run.specs.declared.filtering.Filter.{Filter}
 use Rattle.pig_run.specs.declared.stored.Stored.{Stored}
 use Rattle.pig_run.specs.Running.{keeps, counted, HasLengths, IsStored}
 use Rattle.pig_run.proofs.Keeping.{rows_text-append, counted-again, counted-zero}
 
-length_map : (ps : List (List ℕ)) → length (map length ps) ≡ length ps
-length_map [] = refl
-length_map (p ∷ ps) = let e = length_map ps in omega (arith, e)
-
 -- no piece is left where no length is
 pub no_more : (lengths : List ℕ) (pieces : List (List ℕ)) (at : ℕ) → lengths ≡ lengths_of pieces → length lengths ≤ at → length pieces ≤ at
-no_more lengths pieces at are end = let e = ap length are in let f = length_map pieces in omega (arith, e, f)
+no_more lengths pieces at are end = let e = ap length are in let f = length-map pieces length in omega (arith, e, f)
 
 -- the piece at a place, with its length
 pub record IsPieceAt (path : List ℕ) (at n : ℕ) (pieces : List (List ℕ)) (inputs : List Input) : Type 0 where
@@ -32,19 +28,19 @@ pub record IsPieceAt (path : List ℕ) (at n : ℕ) (pieces : List (List ℕ)) (
 pub piece_at : (path : List ℕ) (at n : ℕ) (pieces : List (List ℕ)) (lengths : List ℕ) (inputs : List Input) → pieces_of path inputs ≡ Some pieces
     → lengths ≡ lengths_of pieces → at < length lengths → n ≡ get_or lengths at 0 → IsPieceAt path at n pieces inputs
 piece_at path at n pieces lengths inputs there are within is =
-    let below : at < length pieces = let e = ap length are in let f = length_map pieces in omega (arith, e, f) in
+    let below : at < length pieces = let e = ap length are in let f = length-map pieces length in omega (arith, e, f) in
     record {
       bytes = get_or pieces at [];
-      there = ap (λ o. option_and_then (λ ps. slice_get ps at) o) there ∙ slice_get-get_or pieces at [] below;
+      there = numbered path at pieces inputs there ∙ slice_get-get_or pieces at [] below;
       long = is ∙ ap (λ ls. get_or ls at 0) are ∙ get_or-map length pieces at [] 0 below;
       rest = drop_more pieces at [] below;
     }
 
 pub in_range : (path : List ℕ) (at n : ℕ) (pieces : List (List ℕ)) (inputs : List Input) → IsPieceAt path at n pieces inputs → HasRange path at 0 n inputs
-in_range path at n pieces inputs p = record { bytes = p.bytes; there = p.there; within = let e = p.long in omega (arith, e) }
+in_range path at n pieces inputs p = subst (λ k. HasRange path at 0 k inputs) (sym p.long) (has_whole path at p.bytes inputs p.there)
 
 pub whole_range : (path : List ℕ) (at n : ℕ) (pieces : List (List ℕ)) (inputs : List Input) (p : IsPieceAt path at n pieces inputs) → range_of path at 0 n inputs ≡ p.bytes
-whole_range path at n pieces inputs p = ap (λ o. take n (drop 0 (unwrap_or o []))) p.there ∙ take_all n p.bytes (let e = p.long in omega (arith, e))
+whole_range path at n pieces inputs p = ap (λ k. range_of path at 0 k inputs) p.long ∙ whole_piece path at p.bytes inputs p.there
 
 -- what is kept so far of the pieces before a place
 pub record ReadSoFar (f : Filter) (pieces : List (List ℕ)) (now : Stored) (at : ℕ) : Type 0 where
