@@ -81,6 +81,8 @@ fn a_run_over_files_stores_its_lines(rt: HostRuntime) -> Result<(), Fail> {
         "5\ty\n7\t\n"
     );
     assert_eq!(rt; fs::read_to_string(&rt, "q/_SUCCESS")?.as_str(), "");
+    let mut hosts = Vec::new(alloc);
+    hosts.push(FileHost::new(rt.clone()?, alloc))?;
     let again = pig_main(&rt, alloc, &words, &mut depot, &mut hosts, &mut console);
     assert_eq!(rt; again.status, 5);
     Ok(())
