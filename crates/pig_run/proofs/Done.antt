@@ -11,7 +11,6 @@ use Rattle.pig_value.specs.Lines.{lines}
 use Rattle.pig_value.specs.Fields.{row_of}
 use Rattle.pig_value.specs.Texts.{IsLineFreeRow, AreLineFreeRows, rows_text}
 use Rattle.pig_value.specs.Stored.{StoresBag}
-use Rattle.pig_storage.specs.Pieces.{IsReadKind}
 use Rattle.pig_storage.proofs.LineFree.{rows_free}
 use Rattle.pig_storage.proofs.StoredRows.{rows_stored, stored_in_order}
 use Rattle.pig_outside.specs.Shelf.{whole_state}
@@ -23,19 +22,7 @@ use Rattle.pig_run.specs.declared.filtering.Filter.{Filter}
 use Rattle.pig_run.specs.declared.stored.Stored.{Stored}
 use Rattle.pig_run.specs.Meaning.{kind_of, columns_from, columns_of, passes_at, passes, rows_of, loaded, meaning, line_count}
 use Rattle.pig_run.specs.Answers.{Stores, AreCounts}
-use Rattle.pig_run.specs.Running.{AreReadKinds, IsFilterOf, passes_row, keeps, IsStored}
-
--- the columns of declared fields are of kinds that lines are read at
-read_kind : (t : FieldType) → IsReadKind (kind_tree (kind_of t))
-read_kind Int = subst IsReadKind (sym kind_tree-Int) tt
-read_kind Chararray = subst IsReadKind (sym kind_tree-Chararray) tt
-
-kinds_from : (n : ℕ) (fs : List FormField) → AreReadKinds (columns_from n fs)
-kinds_from n [] = λ k d h. absurd (omega (arith, h))
-kinds_from n (f ∷ fs) = All-cons (λ c. IsReadKind (kind_tree c.kind)) (record { position = n; kind = kind_of f.kind }) (columns_from (n + 1) fs) (read_kind f.kind) (kinds_from (n + 1) fs)
-
-pub kinds_are : (form : FirstForm) (f : Filter) → IsFilterOf form f → AreReadKinds f.columns
-kinds_are form f is = subst AreReadKinds (sym is.columns) (kinds_from 0 form.fields)
+use Rattle.pig_run.specs.Running.{IsFilterOf, passes_row, keeps, IsStored}
 
 -- the filter of a form keeps of a piece what the form means of it
 keeps_is : (form : FirstForm) (f : Filter) → IsFilterOf form f → keeps f ≡ (λ piece. filter (passes form) (rows_of form piece))

@@ -1,13 +1,12 @@
 -- What a run keeps of the lines that it reads, and what its steps say of each other.
-use Rattle.std.specs.Prelude.{◌≡◌, ◌≤◌, ◌+◌, ◌%◌, ◌^◌, ℕ, Bool, List, [], ◌∷◌, length, map, filter, All, Some, Result, IsErrOf}
+use Rattle.std.specs.Prelude.{◌≡◌, ◌≤◌, ◌+◌, ◌%◌, ◌^◌, ℕ, Bool, List, [], ◌∷◌, length, map, filter, Some, Result, IsErrOf}
 use Rattle.std.specs.List.{flat_map}
 use Rattle.pig_value.specs.declared.shared.Column.{Column}
 use Rattle.pig_value.specs.declared.shared.Input.{Input}
-use Rattle.pig_value.specs.Trees.{Tree, tree, kind_tree}
+use Rattle.pig_value.specs.Trees.{Tree, tree}
 use Rattle.pig_value.specs.Lines.{lines}
 use Rattle.pig_value.specs.Fields.{row_of}
 use Rattle.pig_value.specs.Texts.{rows_text}
-use Rattle.pig_storage.specs.Pieces.{IsReadKind}
 use Rattle.pig_outside.specs.Shelf.{pieces_of, lengths_of}
 use Rattle.pig_outside.specs.Faults.{FailedRose}
 use Rattle.pig_outside.specs.declared.faults.OutsideError.{OutsideError}
@@ -31,10 +30,6 @@ pub record IsForm (form : FirstForm) : Type 0 where
 abbrev pub IsLiteral : Literal → Type 0
 IsLiteral (Number digits) = IsNumber digits
 IsLiteral (Letters _) = Unit {0}
-
--- the columns are of kinds that lines are read at
-abbrev pub AreReadKinds : List Column → Type 0
-AreReadKinds columns = All (λ c. IsReadKind (kind_tree c.kind)) columns
 
 -- the LOAD and FILTER of a form
 pub record IsFilterOf (form : FirstForm) (f : Filter) : Type 0 where

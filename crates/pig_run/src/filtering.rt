@@ -3,9 +3,8 @@ ghost use Rattle.std.specs.List.{flat_map};
 ghost use Rattle.pig_value.specs.Trees.{tree, row_tree, kind_tree};
 ghost use Rattle.pig_value.specs.Lines.{lines};
 ghost use Rattle.pig_value.specs.Texts.{rows_text};
-ghost use Rattle.pig_storage.specs.Pieces.{IsReadKind};
 ghost use Rattle.pig_run.specs.Meaning.{kind_of, columns_of, literal_tree, is_null as is_null_tree, compares as compares_so};
-ghost use Rattle.pig_run.specs.Running.{IsLiteral, IsFilterOf, AreReadKinds, passes_row, keeps_row, keeps_line, keeps, counted};
+ghost use Rattle.pig_run.specs.Running.{IsLiteral, IsFilterOf, passes_row, keeps_row, keeps_line, keeps, counted};
 
 use crate::first_form::number;
 use crate::stored::Stored;
@@ -128,7 +127,6 @@ impl Filter {
 
     /// Reads a line and keeps its row where the condition is true of it.
     fn keep_line(&self, alloc: Global, line: &[u8], stored: &mut Stored) -> Result<(), AllocError>
-        requires { AreReadKinds self.now.columns }
         ensures bytes { OnOk result (stored.new.bytes.items ≡ stored.old.bytes.items ++ rows_text 9 (keeps_line self.now line.now)) }
         ensures read { OnOk result (stored.new.read ≡ counted stored.old.read 1) }
         ensures kept { OnOk result (stored.new.kept ≡ counted stored.old.kept (length (keeps_line self.now line.now))) }
@@ -145,7 +143,6 @@ impl Filter {
         piece: &[u8],
         stored: &mut Stored,
     ) -> Result<(), AllocError>
-        requires { AreReadKinds self.now.columns }
         ensures bytes { OnOk result (stored.new.bytes.items ≡ stored.old.bytes.items ++ rows_text 9 (keeps self.now piece.now)) }
         ensures read { OnOk result (stored.new.read ≡ counted stored.old.read (length (lines piece.now))) }
         ensures kept { OnOk result (stored.new.kept ≡ counted stored.old.kept (length (keeps self.now piece.now))) }

@@ -3,7 +3,7 @@ ghost use Rattle.std.specs.Option.{ForSome};
 ghost use Rattle.pig_outside.specs.Shelf.{HasRange, range_of, pieces_of, CanCreate};
 ghost use Rattle.pig_run.specs.Answers.{LeftOpen, IsRun};
 ghost use Rattle.pig_run.specs.Steps.{DepotCause};
-ghost use Rattle.pig_run.specs.Running.{IsForm, AreReadKinds, HasLengths, IsStored, IsHostStep, IsRunStep, HostCause, host_fault_of};
+ghost use Rattle.pig_run.specs.Running.{IsForm, HasLengths, IsStored, IsHostStep, IsRunStep, HostCause, host_fault_of};
 ghost use Rattle.pig_run.specs.declared.outcome.RunFault.TheVariants as fault;
 
 use crate::commit::commit;
@@ -54,8 +54,7 @@ fn read_input<H: Host>(
     path: &str,
     lengths: &Lengths,
 ) -> Result<Stored, RunFault>
-    requires kinds { AreReadKinds filter.now.columns }
-    requires lengths { ForSome (H.inputs host.old) (HasLengths path.now lengths.now) }
+    requires { ForSome (H.inputs host.old) (HasLengths path.now lengths.now) }
     ensures stored { ForSome (H.inputs host.old) (λ i. (pieces : List (List ℕ)) → pieces_of path.now i ≡ Some pieces → IfOk result (IsStored filter.now pieces)) }
     ensures fault { IfErr result IsHostStep }
     ensures inputs { H.inputs host.new ≡ H.inputs host.old }

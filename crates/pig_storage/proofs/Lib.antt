@@ -1,11 +1,9 @@
 pub mod Cuts
 pub mod Delims
 pub mod FirstLine
-pub mod Numbers
 mod Pieces
 mod Loops
 pub mod TextLists
 pub mod LineFree
 pub mod Walks
 pub mod StoredRows
-mod FieldLaw

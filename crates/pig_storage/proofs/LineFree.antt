@@ -9,6 +9,7 @@ use Rattle.std.specs.Str.Lossy.{after_first_chunk, replacement_bytes, utf8_inval
 use Rattle.std.proofs.lemmas.Bool.Decides.{Decides-eqb, not_from_Decides}
 use Rattle.std.proofs.lemmas.List.Elements.{All-append, All-cons, All-drop, All-from_recursion, All-head, All-map, All-nil, All-tail, All-take, All-weaker}
 use Rattle.pig_value.specs.declared.shared.Column.{Column}
+use Rattle.pig_cast.proofs.FieldFree.{field_free, onto_first_keeps}
 use Rattle.pig_value.specs.Fields.{bool_of, column_of, field_of, number_of, pieces, row_of}
 use Rattle.pig_value.specs.Lines.{is_lf, lines, stored_lines, without_last_empty}
 use Rattle.pig_value.specs.Texts.{AreLineFreeRows, EntriesAreLineFree, FieldsAreLineFree, HasNoLf, IsLineFree, IsLineFreeRow, TuplesAreLineFree, bool_text, bracketed, entry_texts, field_texts, row_text, text_of, tuple_text, tuple_texts}
@@ -19,10 +20,6 @@ abbrev NotLf : ℕ → Type 0
 NotLf b = b ≢ 10
 
 -- what holds of each byte of a list holds of each byte of its pieces
-onto_first_keeps : {X : Type 0} (P : X → Type 0) (x : X) (parts : List (List X)) → P x → All (All P) parts → All (All P) (onto_first x parts)
-onto_first_keeps P x [] here rest = All-cons (All P) (x ∷ []) [] (All-cons P x [] here (All-nil P)) (All-nil (All P))
-onto_first_keeps P x (part ∷ parts) here rest = All-cons (All P) (x ∷ part) parts (All-cons P x part here (All-head (All P) part parts rest)) (All-tail (All P) part parts rest)
-
 pieces_keep_by : {X : Type 0} (P : X → Type 0) (x : X) (parts : List (List X)) → P x → All (All P) parts → (b : Bool) → All (All P) (cond b ([] ∷ parts) (onto_first x parts))
 pieces_keep_by P x parts here rest true = All-cons (All P) [] parts (All-nil P) rest
 pieces_keep_by P x parts here rest false = onto_first_keeps P x parts here rest
@@ -84,30 +81,7 @@ pub lossy_free : (bs : List ℕ) → HasNoLf bs → HasNoLf (utf8_lossy bs)
 unfolding utf8_lossy
 lossy_free bs free = lossy_within_free (length bs) bs free
 
--- so each field of a line without an LF is line-free
-int_free : (o : Option ℤ) → IsLineFree (option_map_or v_int o v_null)
-int_free None = tt
-int_free (Some z) = tt
-
-long_free : (o : Option ℤ) → IsLineFree (option_map_or v_long o v_null)
-long_free None = tt
-long_free (Some z) = tt
-
-bool_free : (o : Option Bool) → IsLineFree (option_map_or v_bool o v_null)
-bool_free None = tt
-bool_free (Some b) = tt
-
-pub field_free : (k : KindTree) (bs : List ℕ) → HasNoLf bs → IsLineFree (field_of k bs)
-field_free k [] free = tt
-field_free k_bytes (b ∷ bs) free = free
-field_free k_chars (b ∷ bs) free = lossy_free (b ∷ bs) free
-field_free k_int (b ∷ bs) free = int_free (number_of w32 (b ∷ bs))
-field_free k_long (b ∷ bs) free = long_free (number_of w64 (b ∷ bs))
-field_free k_boolean (b ∷ bs) free = bool_free (bool_of (b ∷ bs))
-field_free (k_tuple ks) (b ∷ bs) free = tt
-field_free (k_bag ks) (b ∷ bs) free = tt
-field_free (k_map k) (b ∷ bs) free = tt
-
+-- so is the row of a line without an LF
 column_free : (k : KindTree) (fields : List (List ℕ)) (i : ℕ) → All HasNoLf fields → IsLineFree (option_map_or (field_of k) (slice_get fields i) v_null)
 column_free k [] i free = tt
 column_free k (f ∷ fs) zero free = field_free k f (All-head HasNoLf f fs free)

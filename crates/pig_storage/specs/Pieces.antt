@@ -1,14 +1,7 @@
--- Where a piece of a line stands, and the kinds that are read.
-use Rattle.std.specs.Prelude.{◌≡◌, ◌==◌, ◌+◌, ◌≤◌, ⊤, ℕ, List, [], ◌∷◌, length, drop, slice_range, if◌then◌else◌}
+-- Where a piece of a line stands.
+use Rattle.std.specs.Prelude.{◌≡◌, ◌==◌, ◌+◌, ◌≤◌, ℕ, List, [], ◌∷◌, length, drop, slice_range, if◌then◌else◌}
 use Rattle.pig_value.specs.Fields.{pieces}
-use Rattle.pig_value.specs.Trees.{KindTree, k_int, k_chars}
 use Rattle.pig_storage.specs.declared.rows.Piece.{Piece}
-
--- the kinds that columns have so far: int and chararray
-abbrev pub IsReadKind : KindTree → Type 0
-IsReadKind k_int = ⊤
-IsReadKind k_chars = ⊤
-IsReadKind _ = ⊥
 
 -- the pieces behind the one that ends at `to`: none where that is the end of the line
 abbrev pub pieces_behind : ℕ → List ℕ → ℕ → List (List ℕ)

@@ -1,16 +1,11 @@
-ghost use Rattle.std.specs.Prelude.{◌≡◌, ◌≢◌, ◌↔◌, ℕ, List, Some, map, All};
+ghost use Rattle.std.specs.Prelude.{◌≡◌, ◌≢◌, ℕ, List, Some, map, All};
 ghost use Rattle.pig_value.specs.declared.shared.Column.{Column};
 ghost use Rattle.pig_value.specs.Delimiters.{IsDelimiter, delimiter_of};
-ghost use Rattle.pig_value.specs.Fields.{IsField, field_of, row_of};
+ghost use Rattle.pig_value.specs.Fields.{row_of};
 ghost use Rattle.pig_value.specs.Lines.{lines};
 ghost use Rattle.pig_value.specs.Stored.{StoresList, StoresBag};
 ghost use Rattle.pig_value.specs.Texts.{HasNoLf, AreLineFreeRows, rows_text};
-ghost use Rattle.pig_value.specs.Trees.{Tree, KindTree};
-
-/// Every field reads as exactly one value, that of the function which the contracts cite.
-pub fn a_field_has_one_value()
-    ensures { (k : KindTree) (bytes : List ℕ) (v : Tree) → (IsField k bytes v ↔ (v ≡ field_of k bytes)) }
-{}
+ghost use Rattle.pig_value.specs.Trees.{Tree};
 
 /// No line of an input holds an LF, and no value that is read from a line does.
 pub fn rows_of_lines_are_line_free()

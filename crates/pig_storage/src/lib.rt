@@ -5,7 +5,7 @@
 //! [`write_row`] appends the text of a row and an LF.
 //!
 //! Each is proved to be what pig_value's `specs/` define: `Lines` (`lines`, `stored_lines`), `Fields`
-//! (`IsField`, `field_of`, `row_of`) and `Texts` (`text_of`, `row_text`, `IsLineFree`). What follows of
+//! (`row_of`, by pig_cast's `read_field`) and `Texts` (`text_of`, `row_text`, `IsLineFree`). What follows of
 //! these definitions for whole inputs and outputs is in `laws`; crates above cite the lemmas of
 //! `proofs/Walks`, `proofs/LineFree` and `proofs/StoredRows`.
 #![tactic(auto)]
@@ -17,7 +17,7 @@ mod rows;
 mod tests;
 mod writing;
 
-pub use laws::{a_field_has_one_value, rows_of_lines_are_line_free, texts_of_rows_are_lines};
+pub use laws::{rows_of_lines_are_line_free, texts_of_rows_are_lines};
 pub use lines::{Span, next_line};
 pub use rows::line_row;
 pub use writing::write_row;

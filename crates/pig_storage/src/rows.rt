@@ -1,14 +1,13 @@
-ghost use Rattle.std.specs.Prelude.{◌≡◌, ◌<◌, ◌≤◌, length, drop, slice_get, All, IfOk};
-ghost use Rattle.std.specs.Int.{w32};
+ghost use Rattle.std.specs.Prelude.{◌≡◌, ◌<◌, ◌≤◌, length, drop, slice_get, IfOk};
 ghost use Rattle.std.specs.Option.{option_copied, option_map_or};
-ghost use Rattle.pig_value.specs.Fields.{field_of, number_of, pieces, row_of};
-ghost use Rattle.pig_value.specs.Trees.{tree, row_tree, kind_tree, v_int, v_null};
-ghost use Rattle.pig_storage.specs.Pieces.{IsPiece, IsReadKind};
+ghost use Rattle.pig_value.specs.Fields.{field_of, pieces, row_of};
+ghost use Rattle.pig_value.specs.Trees.{tree, row_tree, kind_tree, v_null};
+ghost use Rattle.pig_storage.specs.Pieces.{IsPiece};
 
 use memchr::memchr;
-use pig_value::{Column, Columns, Delim, Kind, Seq, Text, Tuple, Value};
+use pig_cast::read_field;
+use pig_value::{Column, Columns, Delim, Kind, Seq, Tuple, Value};
 use std::alloc::{AllocError, Global};
-use std::str;
 
 /// The row of a line at these columns: the line is cut at every delimiter, also in nested text, and each
 /// column is what its kind reads from the piece at its position, or null where the line has no such
@@ -19,7 +18,6 @@ pub fn line_row(
     delim: Delim,
     columns: &Columns,
 ) -> Result<Tuple, AllocError>
-    requires { All (λ c. IsReadKind (kind_tree c.kind)) columns.now }
     ensures { IfOk result (λ row. row_tree row ≡ row_of columns.now delim line.now) }
 {
     let row = read_columns(alloc, line, delim.byte(), columns.as_slice())?;
@@ -33,7 +31,6 @@ fn read_columns(
     byte: u8,
     columns: &[Column],
 ) -> Result<Vec<Value>, AllocError>
-    requires { All (λ c. IsReadKind (kind_tree c.kind)) columns.now }
     ensures { IfOk result (λ row. row_tree row.items ≡ row_of columns.now byte line.now) }
 {
     let mut row = Vec::with_capacity(alloc, columns.len())?;
@@ -116,49 +113,10 @@ fn bytes_at(line: &[u8], byte: u8, piece: Piece, position: u32) -> Option<&[u8]>
 
 // The value of a field, or null where the line has no such field.
 fn field_or_null(alloc: Global, bytes: Option<&[u8]>, kind: &Kind) -> Result<Value, AllocError>
-    requires { IsReadKind (kind_tree kind.now) }
     ensures { IfOk result (λ v. tree v ≡ option_map_or (field_of (kind_tree kind.now)) (option_copied bytes.entry) v_null) }
 {
     match bytes {
         Some(bytes) => read_field(alloc, bytes, kind),
         None => Ok(Value::Null),
-    }
-}
-
-// The value of a field's bytes at a kind.
-fn read_field(alloc: Global, bytes: &[u8], kind: &Kind) -> Result<Value, AllocError>
-    requires { IsReadKind (kind_tree kind.now) }
-    ensures { IfOk result (λ v. tree v ≡ field_of (kind_tree kind.now) bytes.now) }
-{
-    if bytes.is_empty() {
-        return Ok(Value::Null);
-    }
-    match kind {
-        Kind::Int => Ok(int_or_null(number(bytes))),
-        Kind::Chararray => {
-            let text = String::from_utf8_lossy(alloc, bytes)?;
-            Ok(Value::Chars(Text::from_string(text)))
-        }
-        // No column has another kind.
-        _ => Ok(Value::Null),
-    }
-}
-
-fn int_or_null(number: Option<i32>) -> Value
-    ensures { tree result ≡ option_map_or v_int number v_null }
-{
-    match number {
-        Some(number) => Value::Int(number),
-        None => Value::Null,
-    }
-}
-
-// The int that the bytes write: an optional sign and digits, in range.
-fn number(bytes: &[u8]) -> Option<i32>
-    ensures { result ≡ number_of w32 bytes.now }
-{
-    match str::from_utf8(bytes) {
-        Ok(text) => text.parse::<i32>().ok(),
-        Err(_) => None,
     }
 }

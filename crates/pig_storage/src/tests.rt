@@ -1,35 +1,49 @@
 //! Lines, rows and texts by hand: what is stored for an input, and the text of each form of value.
-ghost use Rattle.std.specs.Prelude.{All, IfOk};
-ghost use Rattle.pig_value.specs.Trees.{kind_tree};
-ghost use Rattle.pig_storage.specs.Pieces.{IsReadKind};
-
 use crate::{line_row, next_line, write_row};
-use pig_value::{Blob, Column, Columns, Delim, Kind, Pair, Pairs, Rows, Seq, Text, Tuple, Value};
+use pig_value::{
+    Blob, Boxed, Column, Columns, Delim, Kind, Kinds, Pair, Pairs, Rows, Seq, Text, Tuple, Value,
+};
 use std::alloc::{AllocError, Global};
 use std::test::Fail;
 
-// A column of a kind at a position: `i` is an int and any other letter a chararray.
-fn column(letter: u8, position: u32) -> Column
-    ensures { IsReadKind (kind_tree result.kind) }
-{
+// A kind by a letter: a capital is a plain kind, `t` a tuple of two ints, `u` one of a chararray and a bag,
+// `b` a bag of one int and `m` a map of ints.
+fn kind(alloc: Global, letter: u8) -> Result<Kind, AllocError> {
     match letter {
-        b'i' => Column {
-            position,
-            kind: Kind::Int,
-        },
-        _ => Column {
-            position,
-            kind: Kind::Chararray,
-        },
+        b'B' => Ok(Kind::Boolean),
+        b'I' => Ok(Kind::Int),
+        b'L' => Ok(Kind::Long),
+        b'Y' => Ok(Kind::Bytearray),
+        b't' => Ok(Kind::Tuple(two_kinds(alloc, Kind::Int, Kind::Int)?)),
+        b'u' => {
+            let bag = Kind::Bag(one_kind(alloc, Kind::Int)?);
+            Ok(Kind::Tuple(two_kinds(alloc, Kind::Chararray, bag)?))
+        }
+        b'b' => Ok(Kind::Bag(one_kind(alloc, Kind::Int)?)),
+        b'm' => Ok(Kind::Map(Boxed::new(alloc, Kind::Int)?)),
+        _ => Ok(Kind::Chararray),
     }
 }
 
-fn columns(alloc: Global, wanted: &[(u8, u32)]) -> Result<Columns, AllocError>
-    ensures { IfOk result (λ cs. All (λ c. IsReadKind (kind_tree c.kind)) cs) }
-{
+fn one_kind(alloc: Global, first: Kind) -> Result<Kinds, AllocError> {
+    let mut kinds = Seq::new(alloc);
+    kinds.push(first)?;
+    Ok(kinds)
+}
+
+fn two_kinds(alloc: Global, first: Kind, second: Kind) -> Result<Kinds, AllocError> {
+    let mut kinds = one_kind(alloc, first)?;
+    kinds.push(second)?;
+    Ok(kinds)
+}
+
+fn columns(alloc: Global, wanted: &[(u8, u32)]) -> Result<Columns, AllocError> {
     let mut columns = Seq::new(alloc);
     for (letter, position) in wanted {
-        columns.push(column(*letter, *position))?;
+        columns.push(Column {
+            position: *position,
+            kind: kind(alloc, *letter)?,
+        })?;
     }
     Ok(columns)
 }
@@ -40,9 +54,7 @@ fn stored(
     input: &[u8],
     delim: Delim,
     columns: &Columns,
-) -> Result<Vec<u8>, AllocError>
-    requires { All (λ c. IsReadKind (kind_tree c.kind)) columns.now }
-{
+) -> Result<Vec<u8>, AllocError> {
     let mut out = Vec::new(alloc);
     let mut from = 0;
     while let Some(span) = next_line(input, from) {
@@ -57,10 +69,10 @@ fn stored(
 fn stores_what_it_reads(rt: HostRuntime) -> Result<(), Fail> {
     let tab = Delim::tab();
     let comma = Delim::new(",").ok().ok_or("a comma")?;
-    let two_ints: &[(u8, u32)] = &[(b'i', 0), (b'i', 1)];
-    let one_int: &[(u8, u32)] = &[(b'i', 0)];
-    let one_text: &[(u8, u32)] = &[(b'c', 0)];
-    let any_order: &[(u8, u32)] = &[(b'c', 2), (b'c', 0), (b'c', 0), (b'c', 7), (b'c', 1)];
+    let two_ints: &[(u8, u32)] = &[(b'I', 0), (b'I', 1)];
+    let one_int: &[(u8, u32)] = &[(b'I', 0)];
+    let one_text: &[(u8, u32)] = &[(b'C', 0)];
+    let any_order: &[(u8, u32)] = &[(b'C', 2), (b'C', 0), (b'C', 0), (b'C', 7), (b'C', 1)];
     let cases: [(&[u8], Delim, &[(u8, u32)], &[u8]); 9] = [
         (b"1\t2\r\n\n3\t4", tab, two_ints, b"1\t2\n\t\n3\t4\n"),
         (b"", tab, two_ints, b""),
@@ -81,6 +93,59 @@ fn stores_what_it_reads(rt: HostRuntime) -> Result<(), Fail> {
             b"\xef\xbf\xbd\xef\xbf\xbdx\n",
         ),
         (b"(1,2),5\n", comma, one_text, b"(1\n"),
+    ];
+    for (input, delim, wanted, expected) in cases {
+        let columns = columns(rt.alloc(), wanted)?;
+        let out = stored(rt.alloc(), input, delim, &columns)?;
+        assert_eq!(rt; out.as_slice(), expected, "for {input:?}");
+    }
+    Ok(())
+}
+
+#[test]
+fn stores_nested_text(rt: HostRuntime) -> Result<(), Fail> {
+    let tab = Delim::tab();
+    let comma = Delim::new(",").ok().ok_or("a comma")?;
+    let cases: [(&[u8], Delim, &[(u8, u32)], &[u8]); 9] = [
+        (
+            b"{(1),(2}\t[k#1,k#2]\t(1,2)\n",
+            tab,
+            &[(b'b', 0), (b'm', 1), (b't', 2)],
+            b"\t[k#2]\t(1,2)\n",
+        ),
+        (b"(1,2),5\n", comma, &[(b't', 0), (b'I', 1)], b",\n"),
+        (
+            b"(\n(1,2,3)\n(1)\n()\n(a,2)\n(1,(2,3))\n(1,2]\n(1,2)x\n(1)(2)\n",
+            tab,
+            &[(b't', 0)],
+            b"\n(1,2)\n(1,)\n(,)\n(,2)\n(1,)\n\n\n\n",
+        ),
+        (
+            b"{}\n{(2),(1),(2)}\n{(1),}\n{(1)}x\n{1}\n{(1),(2}\n{(x)}\n",
+            tab,
+            &[(b'b', 0)],
+            b"{}\n{(1),(2),(2)}\n\n\n\n\n{()}\n",
+        ),
+        (
+            b"[k]\n[#1]\n[]\n[b#1,a#2,b#3]\n[k#x#1]\n[a#1,b]\n[a#1,]\n",
+            tab,
+            &[(b'm', 0)],
+            b"\n[#1]\n[]\n[a#2,b#3]\n[k#]\n\n\n",
+        ),
+        (b"TRUE\nfAlse\nt\n", tab, &[(b'B', 0)], b"true\nfalse\n\n"),
+        (
+            b"9223372036854775807\n9223372036854775808\n-9223372036854775808\n",
+            tab,
+            &[(b'L', 0)],
+            b"9223372036854775807\n\n-9223372036854775808\n",
+        ),
+        (b"\xff\xfe\n", tab, &[(b'Y', 0)], b"\xff\xfe\n"),
+        (
+            b"(a{[,]},{(2),(1)})\n(\xc3{},{})\n",
+            tab,
+            &[(b'u', 0)],
+            b"(a{[,]},{(1),(2)})\n(\xef\xbf\xbd{},{})\n",
+        ),
     ];
     for (input, delim, wanted, expected) in cases {
         let columns = columns(rt.alloc(), wanted)?;

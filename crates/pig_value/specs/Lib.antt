@@ -15,6 +15,8 @@ pub mod KindLaws
 pub mod Valid
 pub mod ValidLaws
 pub mod Lines
+pub mod Brackets
 pub mod Fields
 pub mod Texts
+pub mod Casts
 pub mod Stored

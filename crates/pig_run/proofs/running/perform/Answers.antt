@@ -2,13 +2,8 @@ use Rattle.std.proofs.Common.{rules, ◌≡◌, ◌∷◌, [], ◌∙◌, ap}
 use Rattle.std.specs.Option.{option_map}
 use Rattle.pig_outside.specs.Shelf.{pieces_of, with_dir, whole_state}
 use Rattle.pig_run.specs.Running.{IsFilterOf, IsStored}
-use Rattle.pig_run.proofs.Done.{kinds_are, stores, counts_are}
+use Rattle.pig_run.proofs.Done.{stores, counts_are}
 use Rattle.pig_run.proofs.running.perform.Goals as goal
-
-pub read_input-requires-clause-kinds : goal.read_input-requires-clause-kinds
-read_input-requires-clause-kinds g c =
-    let is : IsFilterOf c.args.plan.now.form c.in_ok-filter.filter = search rules in
-    kinds_are c.args.plan.now.form c.in_ok-filter.filter is
 
 pub returns-clause-done : goal.returns-clause-done
 returns-clause-done g c i told pieces there =

@@ -9,7 +9,7 @@ use Rattle.pig_run.proofs.running.read_input.Goals as goal
 pub read_piece-requires : goal.read_piece-requires
 read_piece-requires g c i is =
     let told : g.H.Host.inputs c.args.host.now ≡ Some i = sym c.loop-length.invariant.1 ∙ is in
-    let has = c.requires.lengths i told in
+    let has = c.requires i told in
     let n = slice_index_or c.as_slice-length-items.result.now c.loop-length.length-index 0 in
     let within : c.loop-length.length-index < length c.args.lengths.now = search rules in
     let at_is : n ≡ get_or c.args.lengths.now c.loop-length.length-index 0 = search rules in
@@ -27,7 +27,7 @@ loop-length-preserved g c =
       same_inputs,
       later,
       λ i told pieces there.
-          let has = c.requires.lengths i told in
+          let has = c.requires i told in
           let n = slice_index_or c.as_slice-length-items.result.now c.loop-length.length-index 0 in
           let within : c.loop-length.length-index < length c.args.lengths.now = search rules in
           let at_is : n ≡ get_or c.args.lengths.now c.loop-length.length-index 0 = search rules in
@@ -48,7 +48,7 @@ loop-length-preserved g c =
 
 pub returns-clause-stored : goal.returns-clause-stored
 returns-clause-stored g c i told pieces there =
-    let has = c.requires.lengths i told in
+    let has = c.requires i told in
     let are : c.args.lengths.now ≡ lengths_of pieces = lengths_told c.args.path.now c.args.lengths.now i has pieces there in
     let end : length c.args.lengths.now ≤ c.loop-length.length-index = search rules in
     all_read c.args.filter.now pieces c.loop-length.stored c.loop-length.length-index (c.loop-length.invariant.3 i told pieces there) (no_more c.args.lengths.now pieces c.loop-length.length-index are end)

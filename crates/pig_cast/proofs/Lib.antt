@@ -1,0 +1,8 @@
+pub mod Items
+pub mod NumberText
+pub mod KeyOrder
+pub mod Reading
+pub mod Balance
+pub mod Between
+pub mod FieldLaw
+pub mod FieldFree

@@ -1,0 +1,26 @@
+//! Values out of text: the field grammar of PigStorage, and casts from one kind to another.
+//!
+//! [`read_field`] reads the value of a kind from bytes, [`number`] a whole number, and [`cast`] makes a value
+//! of another kind. Each is proved to be what pig_value's `specs/` define: `Brackets` (balanced bodies and
+//! their items), `Fields` (`IsField`, `field_of`, `number_of`) and `Casts` (`CanCast`, `cast_of`).
+//! [`a_field_has_one_value`] ties the relation `IsField`, which has one case for each kind, to the function
+//! `field_of` that the contracts cite, and [`fields_are_line_free`] says that what is read from bytes without
+//! an LF holds none. Crates above cite the lemmas of `proofs/FieldLaw` and `proofs/FieldFree`.
+//!
+//! No call goes deeper than the kind does. At each level of the kind the bytes between two brackets are gone
+//! over twice: once for their brackets, once for their items.
+#![tactic(auto)]
+
+mod casting;
+mod cutting;
+mod fields;
+mod keys;
+mod laws;
+mod numbers;
+#[cfg(test)]
+mod tests;
+
+pub use casting::cast;
+pub use fields::read_field;
+pub use laws::{a_field_has_one_value, fields_are_line_free};
+pub use numbers::number;

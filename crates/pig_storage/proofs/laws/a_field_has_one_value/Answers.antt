@@ -1,5 +1,0 @@
-use Rattle.pig_storage.proofs.FieldLaw.{field_value}
-use Rattle.pig_storage.proofs.laws.a_field_has_one_value.Goals as goal
-
-pub returns : goal.returns
-returns c = field_value
