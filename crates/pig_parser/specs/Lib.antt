@@ -1,5 +1,0 @@
-pub mod Grammar
-pub mod Statements
-pub mod Reader
-pub mod Nests
-pub mod ExprReader
