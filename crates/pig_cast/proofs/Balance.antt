@@ -3,7 +3,7 @@ use Rattle.std.proofs.Common.{◌≡◌, ◌==◌, ◌&&◌, ℕ, Bool, true, fa
 use Rattle.std.specs.Bool.{Decides}
 use Rattle.std.proofs.lemmas.Bool.Decides.{Decides-eqb}
 use Rattle.std.proofs.lemmas.List.{append_assoc, append-nil}
-use Rattle.pig_value.specs.Brackets.{IsBalanced, nothing, plain, nested, closes, closes_from, closing_of, is_balanced, is_closing, is_nothing, is_opening, takes}
+use Rattle.pig_value.specs.Brackets.{IsBalanced, nothing, plain, nested, closes, closing_of, is_balanced, is_closing, is_opening, takes}
 
 -- a closing bracket of an opening one closes, and opens nothing
 closing_closes : (b : ℕ) → (is_opening (closing_of b) ≡ false) × (is_closing (closing_of b) ≡ true)

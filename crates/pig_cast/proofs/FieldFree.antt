@@ -1,10 +1,9 @@
 -- What is read from bytes without an LF holds none.
-use Rattle.std.proofs.Common.{◌≡◌, ◌≢◌, ◌+◌, ◌-◌, ◌==◌, ℕ, zero, suc, ℤ, Bool, true, false, cond, if◌then◌else◌, List, [], ◌∷◌, ◌++◌, length, map, take, drop, Option, None, Some, refl, arith, rules}
-use Rattle.std.specs.Bool.{⊤}
+use Rattle.std.proofs.Common.{◌≢◌, ◌+◌, ◌-◌, ◌==◌, ℕ, zero, suc, Bool, true, false, cond, if◌then◌else◌, List, [], ◌∷◌, ◌++◌, length, take, drop, Option, None, Some, rules}
 use Rattle.std.specs.BTreeMap.{insert_entry}
 use Rattle.std.specs.Int.{w32, w64}
 use Rattle.std.specs.List.{All, AllByRecursion, onto_first}
-use Rattle.std.specs.Option.{option_and_then, option_map, unwrap_or}
+use Rattle.std.specs.Option.{option_and_then, option_map}
 use Rattle.std.specs.Ordering.{match_ordering}
 use Rattle.std.specs.Str.Lossy.{after_first_chunk, replacement_bytes, utf8_invalid_len, utf8_lossy, utf8_lossy_within, utf8_valid_len}
 use Rattle.std.specs.declared.cmp.Ordering.{Ordering}
@@ -15,7 +14,8 @@ use Rattle.pig_value.specs.Brackets.{body_of, depth_after, inside, is_bracketed,
 use Rattle.pig_value.specs.Fields.{all_of, bool_of, by_key, case_of, cut_at, field_of, fields_in, number_of, pair_in, pairs_in, put_pairs, row_in, rows_in, value_in}
 use Rattle.pig_value.specs.Orders.{bag_of, row_cmp, text_cmp}
 use Rattle.pig_value.specs.Texts.{EntriesAreLineFree, FieldsAreLineFree, HasNoLf, IsLineFree, TuplesAreLineFree}
-use Rattle.pig_value.specs.Trees.{Tree, v_null, v_bool, v_int, v_long, v_chars, v_bytes, v_tuple, v_bag, v_map, fields_of, tuples_of, entries_of, KindTree, KindTrees, k_boolean, k_int, k_long, k_chars, k_bytes, k_tuple, k_bag, k_map, no_kinds, more_kinds}
+use Rattle.pig_value.specs.Trees.{Tree, v_bool, v_int, v_long, v_tuple, v_bag, v_map, fields_of, tuples_of, entries_of, KindTree, KindTrees, k_boolean, k_int, k_long, k_chars, k_bytes, k_tuple, k_bag, k_map, no_kinds, more_kinds}
+use Rattle.pig_cast.proofs.OfRead.{OfRead, of_made, of_any, of_items, of_value}
 
 -- a byte other than LF
 abbrev NotLf : ℕ → Type 0
@@ -46,15 +46,6 @@ lossy_free : (bs : List ℕ) → HasNoLf bs → HasNoLf (utf8_lossy bs)
 unfolding utf8_lossy
 lossy_free bs free = lossy_within_free (length bs) bs free
 
--- P holds of what is read, if something is
-abbrev pub OfRead : {Y : Type 0} → (Y → Type 0) → Option Y → Type 0
-OfRead P None = ⊤
-OfRead P (Some y) = P y
-
-of_made : {X Y : Type 0} (P : X → Type 0) (Q : Y → Type 0) (form : X → Y) → ((x : X) → P x → Q (form x)) → (o : Option X) → OfRead P o → OfRead Q (option_map form o)
-of_made P Q form keeps None h = tt
-of_made P Q form keeps (Some x) h = keeps x h
-
 -- the body between brackets, and its items
 body_free : (opening closing : ℕ) (bs : List ℕ) → HasNoLf bs → OfRead HasNoLf (body_of opening closing bs)
 body_free opening closing bs free = by_test (is_bracketed opening closing bs)
@@ -78,21 +69,12 @@ any_items_free [] free = All-nil HasNoLf
 any_items_free (b ∷ bs) free = items_free 0 (b ∷ bs) free
 
 -- what each item reads as
-all_free : {Y : Type 0} (P : Y → Type 0) (f : List ℕ → Option Y) → ((x : List ℕ) → HasNoLf x → OfRead P (f x)) → (xs : List (List ℕ)) → All HasNoLf xs → OfRead (AllByRecursion P) (all_of f xs)
-all_free P f each [] free = tt
-all_free {Y} P f each (x ∷ xs) free = by_first (f x) (all_of f xs) (each x (All-head HasNoLf x xs free)) (all_free P f each xs (All-tail HasNoLf x xs free))
-  where
-    by_first : (o : Option Y) (more : Option (List Y)) → OfRead P o → OfRead (AllByRecursion P) more → OfRead (AllByRecursion P) (option_and_then (λ y. option_map (λ ys. y ∷ ys) more) o)
-    by_first None more h k = tt
-    by_first (Some y) None h k = tt
-    by_first (Some y) (Some ys) h k = (h, k)
-
 listed_free : {Y : Type 0} (P : Y → Type 0) (f : List ℕ → Option Y) (opening closing : ℕ) → ((x : List ℕ) → HasNoLf x → OfRead P (f x)) → (bs : List ℕ) → HasNoLf bs → OfRead (AllByRecursion P) (option_and_then (λ body. all_of f (items_or_none body)) (body_of opening closing bs))
-listed_free P f opening closing each bs free = by_body (body_of opening closing bs) (body_free opening closing bs free)
+listed_free P f opening closing each bs free = of_items HasNoLf P f each (body_of opening closing bs) (by_body (body_of opening closing bs) (body_free opening closing bs free))
   where
-    by_body : (o : Option (List ℕ)) → OfRead HasNoLf o → OfRead (AllByRecursion P) (option_and_then (λ body. all_of f (items_or_none body)) o)
+    by_body : (o : Option (List ℕ)) → OfRead HasNoLf o → OfRead (λ body. All HasNoLf (items_or_none body)) o
     by_body None h = tt
-    by_body (Some body) h = all_free P f each (items_or_none body) (any_items_free body h)
+    by_body (Some body) h = any_items_free body h
 
 abbrev FreeRow : List Tree → Type 0
 FreeRow row = FieldsAreLineFree (fields_of row)
@@ -141,25 +123,16 @@ pair_free : (g : List ℕ → Tree) → ((text : List ℕ) → HasNoLf text → 
 pair_free g each bs free = of_made FreeCut FreePair (λ p. (utf8_lossy p.0, g p.1)) (λ p h. (lossy_free p.0 h.0, each p.1 h.1)) (cut_at 35 bs) (cut_free bs free)
 
 value_free : (f : List ℕ → Option Tree) → ((bs : List ℕ) → HasNoLf bs → OfRead IsLineFree (f bs)) → (bs : List ℕ) → HasNoLf bs → IsLineFree (value_in f bs)
-value_free f each [] free = tt
-value_free f each (b ∷ bs) free = by_read (f (b ∷ bs)) (each (b ∷ bs) free)
-  where
-    by_read : (o : Option Tree) → OfRead IsLineFree o → IsLineFree (unwrap_or o v_null)
-    by_read None h = tt
-    by_read (Some v) h = h
+value_free f each bs free = of_value IsLineFree f bs tt (each bs free)
 
 -- a number and a boolean hold no text
-plain_free : {X : Type 0} (form : X → Tree) → ((x : X) → IsLineFree (form x)) → (o : Option X) → OfRead IsLineFree (option_map form o)
-plain_free form free None = tt
-plain_free form free (Some x) = free x
-
 mutual
   case_free : (k : KindTree) (bs : List ℕ) → HasNoLf bs → OfRead IsLineFree (case_of k bs)
   case_free k_bytes bs free = free
   case_free k_chars bs free = lossy_free bs free
-  case_free k_int bs free = plain_free v_int (λ z. tt) (number_of w32 bs)
-  case_free k_long bs free = plain_free v_long (λ z. tt) (number_of w64 bs)
-  case_free k_boolean bs free = plain_free v_bool (λ b. tt) (bool_of bs)
+  case_free k_int bs free = of_any IsLineFree v_int (λ z. tt) (number_of w32 bs)
+  case_free k_long bs free = of_any IsLineFree v_long (λ z. tt) (number_of w64 bs)
+  case_free k_boolean bs free = of_any IsLineFree v_bool (λ b. tt) (bool_of bs)
   case_free (k_tuple ks) bs free = of_made FreeRow IsLineFree (λ row. v_tuple (fields_of row)) (λ row h. h) (row_in (fields_in ks) bs) (row_in_free (fields_in ks) (fields_free ks) bs free)
   case_free (k_bag ks) bs free = of_made (AllByRecursion FreeRow) IsLineFree (λ rows. v_bag (tuples_of (bag_of rows))) (λ rows h. tuples_are_free (bag_of rows) (each-sort row_cmp FreeRow rows h)) (rows_in (row_in (fields_in ks)) bs) (listed_free FreeRow (row_in (fields_in ks)) 123 125 (row_in_free (fields_in ks) (fields_free ks)) bs free)
   case_free (k_map k) bs free = of_made (AllByRecursion FreePair) IsLineFree (λ pairs. v_map (entries_of (by_key pairs))) (λ pairs h. entries_are_free (by_key pairs) (put_free [] pairs tt h)) (pairs_in (pair_in (value_in (case_of k))) bs) (listed_free FreePair (pair_in (value_in (case_of k))) 91 93 (pair_free (value_in (case_of k)) (value_free (case_of k) (case_free k))) bs free)

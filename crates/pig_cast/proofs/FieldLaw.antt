@@ -1,21 +1,20 @@
 -- A field reads as exactly one value.
-use Rattle.std.proofs.Common.{◌≡◌, ◌≢◌, ◌↔◌, ◌==◌, ◌&&◌, ◌+◌, ◌-◌, ◌≤◌, ℕ, zero, suc, ℤ, Bool, true, false, cond, leb, inl, inr, if◌then◌else◌, List, [], ◌∷◌, ◌++◌, length, map, take, drop, get_or, Option, None, Some, refl, sym, ◌∙◌, ap, subst, arith}
+use Rattle.std.proofs.Common.{◌≡◌, ◌≢◌, ◌↔◌, ◌==◌, ℕ, ℤ, Bool, true, false, inl, inr, if◌then◌else◌, List, [], ◌∷◌, ◌++◌, map, Option, None, Some, refl, sym, ◌∙◌, ap, subst}
 use Rattle.std.specs.Char.{to_ascii_lowercase}
 use Rattle.std.specs.Int.{Width, w32, w64}
-use Rattle.std.specs.List.{All, slice_index, slice_range}
+use Rattle.std.specs.List.{All}
 use Rattle.std.specs.Option.{option_and_then, option_map, unwrap_or}
 use Rattle.std.specs.Str.{bytes_eq}
 use Rattle.std.specs.Str.Lossy.{utf8_lossy}
 use Rattle.std.specs.Str.Parse.{signed_digits_value}
-use Rattle.std.proofs.lemmas.Bool.Decides.{Decides-and, Decides-eqb, not_from_Decides}
+use Rattle.std.proofs.lemmas.Bool.Decides.{Decides-eqb, not_from_Decides}
 use Rattle.std.proofs.lemmas.List.Elements.{All-cons, All-head, All-nil, All-tail}
 use Rattle.std.proofs.lemmas.Slice.Eq.{bytes_eq-Decides}
-use Rattle.pig_value.specs.Brackets.{IsBalanced, body_of, inside, is_balanced, is_bracketed, items, items_or_none}
-use Rattle.pig_value.specs.Fields.{AreFields, CaseOrNull, Each, EmptyOrCase, IsBracketed, IsCase, IsField, IsNumberText, IsPairText, IsTupleText, all_of, bool_of, by_key, case_of, cut_at, field_of, fields_in, number_of, pair_in, pairs_in, row_in, rows_in, value_in}
+use Rattle.pig_value.specs.Brackets.{body_of, inside, is_bracketed, items, items_or_none}
+use Rattle.pig_value.specs.Fields.{AreFields, CaseOrNull, Each, EmptyOrCase, IsBracketed, IsCase, IsField, IsNumberText, IsPairText, IsTupleText, all_of, bool_of, by_key, case_of, cut_at, field_of, fields_in, number_of, pair_in, row_in, value_in}
 use Rattle.pig_value.specs.Orders.{bag_of}
 use Rattle.pig_value.specs.Texts.{bool_text}
 use Rattle.pig_value.specs.Trees.{Tree, v_null, v_bool, v_int, v_long, v_chars, v_bytes, v_tuple, v_bag, v_map, fields_of, tuples_of, entries_of, KindTree, KindTrees, k_boolean, k_int, k_long, k_chars, k_bytes, k_tuple, k_bag, k_map, no_kinds, more_kinds}
-use Rattle.pig_cast.proofs.Balance.{balanced_Decides}
 use Rattle.pig_cast.proofs.Between.{bracketed_gives, bracketed_is, inside_is}
 use Rattle.pig_cast.proofs.NumberText.{number_cases}
 

@@ -1,5 +1,5 @@
 -- Putting a value at a key, seen by the key's bytes.
-use Rattle.std.proofs.Common.{◌≡◌, ◌++◌, ℕ, List, [], ◌∷◌, map, String, string_bytes, refl, sym, ap, ◌∙◌}
+use Rattle.std.proofs.Common.{◌≡◌, ◌++◌, List, [], ◌∷◌, map, String, string_bytes, refl, sym, ap, ◌∙◌}
 use Rattle.std.specs.BTreeMap.{insert_entry}
 use Rattle.std.specs.Ordering.{match_ordering}
 use Rattle.std.specs.String.{string_cmp}
@@ -10,7 +10,7 @@ use Rattle.pig_value.specs.declared.values.Value.{Value}
 use Rattle.pig_value.specs.declared.values.Pair.{Pair}
 use Rattle.pig_value.specs.Orders.{text_cmp}
 use Rattle.pig_value.specs.TreeLaws.{entry_is}
-use Rattle.pig_value.specs.Trees.{Tree, entry_of, tree}
+use Rattle.pig_value.specs.Trees.{entry_of, tree}
 use Rattle.pig_cast.specs.Keyed.{keyed}
 
 map_match : {X Y : Type 0} (f : X → Y) (o : Ordering) (a b c : List X) → map f (match_ordering o a b c) ≡ match_ordering o (map f a) (map f b) (map f c)

@@ -6,3 +6,7 @@ pub mod Balance
 pub mod Between
 pub mod FieldLaw
 pub mod FieldFree
+mod OfRead
+pub mod FieldKinds
+pub mod CastKinds
+pub mod CastFree

@@ -1,10 +1,10 @@
 -- Steps of the loops that read items, one after another, and what a kind's case is by its parts.
-use Rattle.std.proofs.Common.{◌≡◌, ◌+◌, ◌<◌, ℕ, List, [], ◌∷◌, ◌++◌, length, map, drop, get_or, Option, None, Some, refl, sym, ◌∙◌, ap, arith}
+use Rattle.std.proofs.Common.{◌≡◌, ◌+◌, ◌<◌, ℕ, List, ◌∷◌, length, map, drop, get_or, Option, None, Some, refl, sym, ◌∙◌, ap, arith}
 use Rattle.std.specs.Option.{option_and_then, option_map}
-use Rattle.std.proofs.lemmas.List.{append_assoc, drop_more, get_or-map, length-map}
+use Rattle.std.proofs.lemmas.List.{drop_more, get_or-map, length-map}
 use Rattle.pig_value.specs.declared.values.Kind.{Kind}
 use Rattle.pig_value.specs.declared.values.Kind.TheVariants as kind_form
-use Rattle.pig_value.specs.Fields.{all_of, by_key, case_of, fields_in, pair_in, pairs_in, put_pairs, row_in, rows_in, value_in}
+use Rattle.pig_value.specs.Fields.{all_of, by_key, case_of, fields_in, pair_in, pairs_in, row_in, rows_in, value_in}
 use Rattle.pig_value.specs.Orders.{bag_of}
 use Rattle.pig_value.specs.TreeLaws.{kind_tree-Tuple, kind_tree-Bag, kind_tree-Map}
 use Rattle.pig_value.specs.Trees.{Tree, v_tuple, v_bag, v_map, fields_of, tuples_of, entries_of, kind_tree, kinds_of}

@@ -1,14 +1,32 @@
 ghost use Rattle.std.specs.Prelude.{◌≡◌, ◌↔◌, ℕ, List};
+ghost use Rattle.pig_value.specs.Casts.{CanCast, cast_of};
 ghost use Rattle.pig_value.specs.Fields.{IsField, field_of};
+ghost use Rattle.pig_value.specs.Kinds.{IsOf};
 ghost use Rattle.pig_value.specs.Texts.{HasNoLf, IsLineFree};
 ghost use Rattle.pig_value.specs.Trees.{Tree, KindTree};
+ghost use Rattle.pig_value.specs.Valid.{IsValue};
 
 /// Every field reads as exactly one value, that of the function which the contracts cite.
 pub fn a_field_has_one_value()
     ensures { (k : KindTree) (bytes : List ℕ) (v : Tree) → (IsField k bytes v ↔ (v ≡ field_of k bytes)) }
 {}
 
-/// What is read from bytes without an LF holds none.
+/// What is read is a value, and of the kind that it is read as: a bag is sorted, the keys of a map ascend
+/// and differ, and a number fits its width.
+pub fn fields_are_of_their_kind()
+    ensures kind { (k : KindTree) (bytes : List ℕ) → IsOf (field_of k bytes) k }
+    ensures value { (k : KindTree) (bytes : List ℕ) → IsValue (field_of k bytes) }
+{}
+
+/// An allowed cast gives a value of the kind that it casts to, and of a value it gives a value.
+pub fn casts_are_of_their_kind()
+    ensures kind { (k : KindTree) (v : Tree) → CanCast k v → IsOf (cast_of k v) k }
+    ensures value { (k : KindTree) (v : Tree) → IsValue v → IsValue (cast_of k v) }
+{}
+
+/// What is read from bytes without an LF holds none, and neither does what a cast makes of a value without
+/// one.
 pub fn fields_are_line_free()
-    ensures { (k : KindTree) (bytes : List ℕ) → HasNoLf bytes → IsLineFree (field_of k bytes) }
+    ensures field { (k : KindTree) (bytes : List ℕ) → HasNoLf bytes → IsLineFree (field_of k bytes) }
+    ensures cast { (k : KindTree) (v : Tree) → IsLineFree v → IsLineFree (cast_of k v) }
 {}

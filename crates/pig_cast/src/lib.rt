@@ -4,8 +4,10 @@
 //! of another kind. Each is proved to be what pig_value's `specs/` define: `Brackets` (balanced bodies and
 //! their items), `Fields` (`IsField`, `field_of`, `number_of`) and `Casts` (`CanCast`, `cast_of`).
 //! [`a_field_has_one_value`] ties the relation `IsField`, which has one case for each kind, to the function
-//! `field_of` that the contracts cite, and [`fields_are_line_free`] says that what is read from bytes without
-//! an LF holds none. Crates above cite the lemmas of `proofs/FieldLaw` and `proofs/FieldFree`.
+//! `field_of` that the contracts cite. [`fields_are_of_their_kind`] and [`casts_are_of_their_kind`] say that
+//! what is read or cast is a value of its kind, and [`fields_are_line_free`] that it holds no LF where its
+//! text holds none. Crates above cite the lemmas of `proofs/FieldLaw`, `proofs/FieldKinds`,
+//! `proofs/CastKinds`, `proofs/FieldFree` and `proofs/CastFree`.
 //!
 //! No call goes deeper than the kind does. At each level of the kind the bytes between two brackets are gone
 //! over twice: once for their brackets, once for their items.
@@ -22,5 +24,7 @@ mod tests;
 
 pub use casting::cast;
 pub use fields::read_field;
-pub use laws::{a_field_has_one_value, fields_are_line_free};
+pub use laws::{
+    a_field_has_one_value, casts_are_of_their_kind, fields_are_line_free, fields_are_of_their_kind,
+};
 pub use numbers::number;

@@ -3,10 +3,9 @@ use Rattle.std.proofs.Common.{◌≡◌, ◌≢◌, ◌+◌, ◌%◌, ◌^◌, �
 use Rattle.std.specs.List.{flat_map, filter}
 use Rattle.std.proofs.lemmas.List.{append-nil}
 use Rattle.std.proofs.lemmas.List.Concat.{flat_map-cons}
-use Rattle.std.proofs.lemmas.List.Elements.{All-append, All-cons, All-filter}
+use Rattle.std.proofs.lemmas.List.Elements.{All-append, All-filter}
 use Rattle.pig_value.specs.Listing.{filter-flat_map}
-use Rattle.pig_value.specs.Trees.{tree, kind_tree}
-use Rattle.pig_value.specs.TreeLaws.{kind_tree-Int, kind_tree-Chararray}
+use Rattle.pig_value.specs.Trees.{tree}
 use Rattle.pig_value.specs.Lines.{lines}
 use Rattle.pig_value.specs.Fields.{row_of}
 use Rattle.pig_value.specs.Texts.{IsLineFreeRow, AreLineFreeRows, rows_text}
@@ -14,13 +13,10 @@ use Rattle.pig_value.specs.Stored.{StoresBag}
 use Rattle.pig_storage.proofs.LineFree.{rows_free}
 use Rattle.pig_storage.proofs.StoredRows.{rows_stored, stored_in_order}
 use Rattle.pig_outside.specs.Shelf.{whole_state}
-use Rattle.pig_run.specs.declared.first_form.FieldType.{FieldType}
-use Rattle.pig_run.specs.declared.first_form.FieldType.TheVariants.{Int, Chararray}
-use Rattle.pig_run.specs.declared.first_form.FormField.{FormField}
 use Rattle.pig_run.specs.declared.first_form.FirstForm.{FirstForm}
 use Rattle.pig_run.specs.declared.filtering.Filter.{Filter}
 use Rattle.pig_run.specs.declared.stored.Stored.{Stored}
-use Rattle.pig_run.specs.Meaning.{kind_of, columns_from, columns_of, passes_at, passes, rows_of, loaded, meaning, line_count}
+use Rattle.pig_run.specs.Meaning.{columns_of, passes_at, passes, rows_of, loaded, meaning, line_count}
 use Rattle.pig_run.specs.Answers.{Stores, AreCounts}
 use Rattle.pig_run.specs.Running.{IsFilterOf, passes_row, keeps, IsStored}
 

@@ -1,7 +1,6 @@
 -- What a run keeps of the lines that it reads, and what its steps say of each other.
 use Rattle.std.specs.Prelude.{◌≡◌, ◌≤◌, ◌+◌, ◌%◌, ◌^◌, ℕ, Bool, List, [], ◌∷◌, length, map, filter, Some, Result, IsErrOf}
 use Rattle.std.specs.List.{flat_map}
-use Rattle.pig_value.specs.declared.shared.Column.{Column}
 use Rattle.pig_value.specs.declared.shared.Input.{Input}
 use Rattle.pig_value.specs.Trees.{Tree, tree}
 use Rattle.pig_value.specs.Lines.{lines}

@@ -1,19 +1,17 @@
 -- What is read from a line holds no LF, and neither does the text of what holds none.
-use Rattle.std.proofs.Common.{◌≡◌, ◌≢◌, ◌-◌, ℕ, zero, suc, ℤ, pos, negsuc, ◌+◌, ◌/◌, ◌%◌, ◌==◌, Bool, true, false, cond, nat_lt, List, [], ◌∷◌, ◌++◌, length, map, take, drop, Option, None, Some, refl, arith, rules}
-use Rattle.std.specs.Fmt.{decimal, digit_glyph, digits, digits_onto, signed_decimal}
-use Rattle.std.specs.Int.{w32, w64}
+use Rattle.std.proofs.Common.{◌≡◌, ◌≢◌, ◌-◌, ℕ, zero, suc, ◌==◌, Bool, true, false, cond, List, [], ◌∷◌, ◌++◌, length, map, take, refl, arith}
 use Rattle.std.specs.List.{All, join_with_byte, onto_first, slice_get, slice_index, slice_split}
 use Rattle.std.specs.Option.{option_map_or}
 use Rattle.std.specs.Str.Lines.{strip_carriage_return}
-use Rattle.std.specs.Str.Lossy.{after_first_chunk, replacement_bytes, utf8_invalid_len, utf8_lossy, utf8_lossy_within, utf8_valid_len}
 use Rattle.std.proofs.lemmas.Bool.Decides.{Decides-eqb, not_from_Decides}
-use Rattle.std.proofs.lemmas.List.Elements.{All-append, All-cons, All-drop, All-from_recursion, All-head, All-map, All-nil, All-tail, All-take, All-weaker}
+use Rattle.std.proofs.lemmas.List.Elements.{All-append, All-cons, All-head, All-map, All-nil, All-tail, All-take, All-weaker}
 use Rattle.pig_value.specs.declared.shared.Column.{Column}
 use Rattle.pig_cast.proofs.FieldFree.{field_free, onto_first_keeps}
-use Rattle.pig_value.specs.Fields.{bool_of, column_of, field_of, number_of, pieces, row_of}
+use Rattle.pig_cast.proofs.CastFree.{signed_free, bool_text_free}
+use Rattle.pig_value.specs.Fields.{column_of, field_of, pieces, row_of}
 use Rattle.pig_value.specs.Lines.{is_lf, lines, stored_lines, without_last_empty}
-use Rattle.pig_value.specs.Texts.{AreLineFreeRows, EntriesAreLineFree, FieldsAreLineFree, HasNoLf, IsLineFree, IsLineFreeRow, TuplesAreLineFree, bool_text, bracketed, entry_texts, field_texts, row_text, text_of, tuple_text, tuple_texts}
-use Rattle.pig_value.specs.Trees.{Tree, Fields, Tuples, Entries, v_null, v_bool, v_int, v_long, v_chars, v_bytes, v_tuple, v_bag, v_listed, v_map, no_fields, more_fields, no_tuples, more_tuples, no_entries, more_entries, KindTree, k_boolean, k_int, k_long, k_chars, k_bytes, k_tuple, k_bag, k_map, kind_tree}
+use Rattle.pig_value.specs.Texts.{AreLineFreeRows, EntriesAreLineFree, FieldsAreLineFree, HasNoLf, IsLineFree, IsLineFreeRow, TuplesAreLineFree, bracketed, entry_texts, field_texts, row_text, text_of, tuple_text, tuple_texts}
+use Rattle.pig_value.specs.Trees.{Tree, Fields, Tuples, Entries, v_null, v_bool, v_int, v_long, v_chars, v_bytes, v_tuple, v_bag, v_listed, v_map, no_fields, more_fields, no_tuples, more_tuples, no_entries, more_entries, KindTree, kind_tree}
 
 -- a byte other than LF
 abbrev NotLf : ℕ → Type 0
@@ -61,27 +59,7 @@ stored_lines_free bs = without_last_free (slice_split is_lf bs) (cut_free bs)
 pub lines_free : (bs : List ℕ) → All HasNoLf (lines bs)
 lines_free bs = all_stripped_free (stored_lines bs) (stored_lines_free bs)
 
--- bytes without an LF read as a chararray without one
-replacement_free : HasNoLf replacement_bytes
-replacement_free = All-from_recursion NotLf replacement_bytes (search rules)
-
-lossy_by : (bs rest : List ℕ) → HasNoLf bs → HasNoLf rest → (n : ℕ) (b : Bool) → HasNoLf (cond b bs (take n bs ++ (replacement_bytes ++ rest)))
-lossy_by bs rest free more n true = free
-lossy_by bs rest free more n false = All-append NotLf (take n bs) (replacement_bytes ++ rest) (All-take NotLf n bs free) (All-append NotLf replacement_bytes rest replacement_free more)
-
-lossy_within_free : (k : ℕ) (bs : List ℕ) → HasNoLf bs → HasNoLf (utf8_lossy_within k bs)
-lossy_within_free zero bs free = free
-lossy_within_free (suc k) bs free =
-    let n : ℕ = utf8_valid_len bs in
-    let rest : List ℕ = after_first_chunk bs in
-    let behind : HasNoLf rest = All-drop NotLf (n + utf8_invalid_len (drop n bs)) bs free in
-    lossy_by bs (utf8_lossy_within k rest) free (lossy_within_free k rest behind) n (n == length bs)
-
-pub lossy_free : (bs : List ℕ) → HasNoLf bs → HasNoLf (utf8_lossy bs)
-unfolding utf8_lossy
-lossy_free bs free = lossy_within_free (length bs) bs free
-
--- so is the row of a line without an LF
+-- what is read from a line without an LF holds none
 column_free : (k : KindTree) (fields : List (List ℕ)) (i : ℕ) → All HasNoLf fields → IsLineFree (option_map_or (field_of k) (slice_get fields i) v_null)
 column_free k [] i free = tt
 column_free k (f ∷ fs) zero free = field_free k f (All-head HasNoLf f fs free)
@@ -98,37 +76,6 @@ row_free columns d line free = columns_free (pieces d line) columns (pieces_keep
 -- the rows of an input are line-free
 pub rows_free : (columns : List Column) (d : ℕ) (bytes : List ℕ) → AreLineFreeRows (map (row_of columns d) (lines bytes))
 rows_free columns d bytes = All-map IsLineFreeRow (row_of columns d) (lines bytes) (All-weaker HasNoLf (λ l. IsLineFreeRow (row_of columns d l)) (row_free columns d) (lines bytes) (lines_free bytes))
-
--- no number's text holds an LF
-glyph_free : (d : ℕ) → digit_glyph false d ≢ 10
-glyph_free d = by_test (nat_lt d 10)
-  where
-    by_test : (b : Bool) → cond b (48 + d) (87 + d) ≢ 10
-    by_test true = λ e. omega arith
-    by_test false = λ e. omega arith
-
-digits_by : (b : Bool) (xs ys : List ℕ) → HasNoLf xs → HasNoLf ys → HasNoLf (cond b xs ys)
-digits_by true xs ys x y = x
-digits_by false xs ys x y = y
-
-digits_onto_free : (k n : ℕ) (acc : List ℕ) → HasNoLf acc → HasNoLf (digits_onto k 10 false n acc)
-digits_onto_free zero n acc free = free
-digits_onto_free (suc k) n acc free =
-    let digits_so_far : List ℕ = digit_glyph false (n % 10) ∷ acc in
-    let more : HasNoLf digits_so_far = All-cons NotLf (digit_glyph false (n % 10)) acc (glyph_free (n % 10)) free in
-    digits_by (n / 10 == 0) digits_so_far (digits_onto k 10 false (n / 10) digits_so_far) more (digits_onto_free k (n / 10) digits_so_far more)
-
-decimal_free : (n : ℕ) → HasNoLf (decimal n)
-unfolding digits
-decimal_free n = digits_onto_free 64 n [] (All-nil NotLf)
-
-signed_free : (z : ℤ) → HasNoLf (signed_decimal z)
-signed_free (pos n) = decimal_free n
-signed_free (negsuc n) = All-cons NotLf 45 (decimal (suc n)) (λ e. omega arith) (decimal_free (suc n))
-
-bool_text_free : (b : Bool) → HasNoLf (bool_text b)
-bool_text_free true = All-from_recursion NotLf (bool_text true) (search rules)
-bool_text_free false = All-from_recursion NotLf (bool_text false) (search rules)
 
 -- texts without an LF, joined by another byte, hold none
 joined_free : (d : ℕ) → d ≢ 10 → (texts : List (List ℕ)) → All HasNoLf texts → HasNoLf (join_with_byte d texts)

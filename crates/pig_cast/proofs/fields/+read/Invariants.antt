@@ -1,10 +1,10 @@
 -- A kind's parts are read one level down; a list of kinds is as deep as its deepest, so its readers fall by their
 -- ranks. What is read so far, and what the rest reads as, is what the whole reads as.
-use Rattle.std.proofs.Common.{◌≡◌, ◌+◌, ◌*◌, ◌++◌, List, map, drop}
+use Rattle.std.proofs.Common.{◌≡◌, ◌+◌, ◌*◌, ◌++◌, map, drop}
 use Rattle.std.specs.Option.{option_map}
 use Rattle.pig_value.specs.Brackets.{items_or_none}
 use Rattle.pig_value.specs.Fields.{all_of, by_key, case_of, fields_in, pair_in, put_pairs, row_in, value_in}
-use Rattle.pig_value.specs.Trees.{tree, row_tree, rows_tree, kind_tree, kinds_of}
+use Rattle.pig_value.specs.Trees.{tree, row_tree, kind_tree, kinds_of}
 use Rattle.pig_cast.specs.Keyed.{keyed}
 use Rattle.pig_cast.proofs.fields.+read.Given as goal
 

@@ -1,4 +1,4 @@
-use Rattle.std.proofs.Common.{◌≡◌, ◌∙◌, ap, map}
+use Rattle.std.proofs.Common.{◌∙◌, ap, map}
 use Rattle.pig_cast.specs.Keyed.{keyed}
 use Rattle.pig_cast.proofs.KeyOrder.{keyed_insert}
 use Rattle.pig_cast.proofs.keys.put.Goals as goal
