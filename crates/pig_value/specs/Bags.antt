@@ -178,14 +178,15 @@ module _ {X : Type 0} (R : X → X → Ordering) (P : X → Type 0) where
 
 -- what is kept of a sorted list
 module _ {X : Type 0} (R : X → X → Ordering) (total : IsTotalOrder R) where
+  -- what is not greater than an element before a list is not greater than its first
+  pub rises_over : (x y : X) (ys : List X) → is_gt (R x y) ≡ false → Rises R y ys → Rises R x ys
+  rises_over x y [] h k = tt
+  rises_over x y (z ∷ zs) h k = upto total x y z h k
+
   -- what is not greater than the first of a sorted list is not greater than any
   pub rises_all : (x : X) (ys : List X) → Rises R x ys → Ascends R ys → AllByRecursion (λ y. is_gt (R x y) ≡ false) ys
   rises_all x [] h k = tt
   rises_all x (y ∷ ys) h k = (h, rises_all x ys (rises_over x y ys h k.0) k.1)
-    where
-      rises_over : (x y : X) (ys : List X) → is_gt (R x y) ≡ false → Rises R y ys → Rises R x ys
-      rises_over x y [] h k = tt
-      rises_over x y (z ∷ zs) h k = upto total x y z h k
 
   all_rise : (x : X) (ys : List X) → AllByRecursion (λ y. is_gt (R x y) ≡ false) ys → Rises R x ys
   all_rise x [] h = tt

@@ -3,11 +3,13 @@ pub mod Delimiters
 pub mod Trees
 pub mod TreeLaws
 pub mod Sorts
+pub mod Indexing
 pub mod Listing
 pub mod Permutations
 pub mod Bags
 pub mod Distinct
 pub mod Partitions
+pub mod Runs
 pub mod Orders
 pub mod OrderLaws
 pub mod Kinds
