@@ -1,6 +1,6 @@
 -- Texts.
 use Rattle.std.proofs.Common.{◌≡◌, ◌∙◌, ℕ, zero, suc, ◌+◌, ◌-◌, ◌*◌, ◌<◌, List, [], ◌∷◌, ◌++◌, Bool, true, false, cond, length, take, refl, sym, ap, subst, arith, append-nil, append_assoc}
-use Rattle.std.specs.Prelude.{Option, Some, None, not, ◌&&◌, ◌||◌, ◌==◌, option_map, option_and_then}
+use Rattle.std.specs.Prelude.{Option, Some, None, not, ◌||◌, ◌==◌, option_map, option_and_then}
 use Rattle.std.specs.Char.{digit_value, encode_utf8}
 use Rattle.std.specs.Str.{IsUtf8, is_utf8}
 use Rattle.std.specs.Str.Parse.{digits_value}
