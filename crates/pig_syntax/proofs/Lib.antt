@@ -3,6 +3,7 @@ pub mod Runs
 pub mod Tables
 pub mod Numbers
 pub mod Utf8
+pub mod Meanings
 pub mod Contents
 pub mod Covers
 pub mod Words

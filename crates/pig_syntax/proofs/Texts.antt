@@ -1,6 +1,6 @@
 -- Texts.
 use Rattle.std.proofs.Common.{◌≡◌, ◌∙◌, ℕ, zero, suc, ◌+◌, ◌-◌, ◌*◌, ◌<◌, List, [], ◌∷◌, ◌++◌, Bool, true, false, cond, length, take, refl, sym, ap, subst, arith, append-nil, append_assoc}
-use Rattle.std.specs.Prelude.{Option, Some, None, not, ◌&&◌, ◌||◌, ◌==◌, option_map, option_and_then}
+use Rattle.std.specs.Prelude.{Option, Some, None, not, ◌||◌, ◌==◌, option_map, option_and_then}
 use Rattle.std.specs.Char.{digit_value, encode_utf8}
 use Rattle.std.specs.Str.{IsUtf8, is_utf8}
 use Rattle.std.specs.Str.Parse.{digits_value}
@@ -17,6 +17,7 @@ use Rattle.pig_syntax.specs.Tokens.{IsNamed, IsToken, Means, nothing, plain, esc
 use Rattle.pig_syntax.specs.Scanner.{Found, bytes_of, character_of, content_after, escape_at, form_at, hex_of, is_end, named_at, named_by, text_at, text_of, unit_at}
 use Rattle.pig_syntax.proofs.Covers.{Covers, Stands, bind_some, exactly, map_some, some_same}
 use Rattle.pig_syntax.proofs.Utf8.{text_found}
+use Rattle.pig_syntax.proofs.Meanings.{four, means_utf8}
 
 -- ---- the units of a text, where they stand
 
@@ -62,13 +63,6 @@ character_read v feed is = rw (feed, is) refl
 hex_number : (x y z w : ℕ) → ((x * 16 + y) * 16 + z) * 16 + w ≡ (((0 * 16 + x) * 16 + y) * 16 + z) * 16 + w
 hex_number x y z w = omega arith
 
-four : (a b c d : Bool) → (a && (b && (c && (d && true)))) ≡ true → (a ≡ true) × (b ≡ true) × (c ≡ true) × (d ≡ true)
-four true true true true h = (refl, refl, refl, refl)
-four true true true false h = absurd (cc)
-four true true false d h = absurd (cc)
-four true false c d h = absurd (cc)
-four false b c d h = absurd (cc)
-
 named_read : (a b c d v : ℕ) → IsNamed (a ∷ b ∷ c ∷ d ∷ []) v → named_by a b c d ≡ Some v
 unfolding named_by
 named_read a b c d v h =
@@ -113,17 +107,17 @@ body_read : (body rest : List ℕ) → take (length (body ++ 39 ∷ rest) - leng
 body_read body rest = rw (body_length body rest) (take-append_seam body (39 ∷ rest))
 
 -- a text is found, behind its first quote
-found_text : (body content rest : List ℕ) → IsUtf8 body → Means body content → IsUtf8 content → text_at (body ++ 39 ∷ rest) ≡ Some (f.Text content, rest)
+found_text : (body content rest : List ℕ) → IsUtf8 body → Means body content → text_at (body ++ 39 ∷ rest) ≡ Some (f.Text content, rest)
 unfolding text_at
-found_text body content rest front m back =
+found_text body content rest front m =
     let short : length body < length (body ++ 39 ∷ rest) = omega (arith, length-append body (39 ∷ rest)) in
     rw (content_read m (length (body ++ 39 ∷ rest)) [] rest short)
-    (rw (body_read body rest) (rw (sym (text_found body content content front back refl)) refl))
+    (rw (body_read body rest) (rw (sym (text_found body content content front refl)) refl))
 
 pub text_covers : (w rest content : List ℕ) → IsToken (f.Text content) w → Covers (form_at (w ++ rest)) (f.Text content) rest
 text_covers w rest content h =
     let spelled : w ++ rest ≡ 39 ∷ (h.body ++ 39 ∷ rest) = rw h.spelled (ap (λ x. 39 ∷ x) (append_assoc h.body (39 ∷ []) rest)) in
-    exactly (form_at (w ++ rest)) (f.Text content) rest (ap form_at spelled ∙ (text_read (h.body ++ 39 ∷ rest) ∙ found_text h.body content rest h.characters h.means h.decoded))
+    exactly (form_at (w ++ rest)) (f.Text content) rest (ap form_at spelled ∙ (text_read (h.body ++ 39 ∷ rest) ∙ found_text h.body content rest h.characters h.means))
 
 -- ---- where a text is found, one stands
 
@@ -266,14 +260,13 @@ content_stands (suc n) read bs content rest h =
           is = more.is ∙ append_assoc read (bytes_of unit) more.meant;
         }
 
-text_told : (body content text : List ℕ) → text_of body content ≡ Some text → IsUtf8 body × IsUtf8 content × (content ≡ text)
+text_told : (body content text : List ℕ) → text_of body content ≡ Some text → IsUtf8 body × (content ≡ text)
 unfolding text_of
-text_told body content text h = by_tests (is_utf8 body) (is_utf8 content) refl refl h
+text_told body content text h = by_test (is_utf8 body) refl h
   where
-    by_tests : (front back : Bool) → is_utf8 body ≡ front → is_utf8 content ≡ back → cond (front && back) (Some content) None ≡ Some text → IsUtf8 body × IsUtf8 content × (content ≡ text)
-    by_tests true true e g k = (IsUtf8-from_is_utf8 body e, IsUtf8-from_is_utf8 content g, some_same k)
-    by_tests true false e g k = absurd (cc)
-    by_tests false back e g k = absurd (cc)
+    by_test : (t : Bool) → is_utf8 body ≡ t → cond t (Some content) None ≡ Some text → IsUtf8 body × (content ≡ text)
+    by_test true e k = (IsUtf8-from_is_utf8 body e, some_same k)
+    by_test false e k = absurd (cc)
 
 text_is : (bs content rest text : List ℕ) → ContentStands bs [] content rest → text_of (take (length bs - length rest - 1) bs) content ≡ Some text → Stands (39 ∷ bs) (f.Text text) rest
 text_is bs content rest text stands h =
@@ -286,10 +279,16 @@ text_is bs content rest text stands h =
         body = stands.body;
         spelled = refl;
         characters = subst IsUtf8 body told.0;
-        means = subst (λ c. Means stands.body c) (sym stands.is ∙ told.2) stands.means;
-        decoded = subst IsUtf8 told.2 told.1;
+        means = subst (λ c. Means stands.body c) (sym stands.is ∙ told.1) stands.means;
       };
     }
+
+-- the content of a text is UTF-8 where the bytes that write it are
+pub content_utf8 : (bs content rest : List ℕ) → content_after (length bs) [] bs ≡ Some (content, rest) → IsUtf8 (take (length bs - length rest - 1) bs) → IsUtf8 content
+content_utf8 bs content rest h front =
+    let stands : ContentStands bs [] content rest = content_stands (length bs) [] bs content rest h in
+    let body : take (length bs - length rest - 1) bs ≡ stands.body = ap (λ x. take (length x - length rest - 1) x) stands.whole ∙ body_read stands.body rest in
+    subst IsUtf8 (sym stands.is) (means_utf8 stands.means (subst IsUtf8 body front))
 
 pub text_stands : (bs left : List ℕ) (form : TokenForm) → text_at bs ≡ Some (form, left) → Stands (39 ∷ bs) form left
 unfolding text_at

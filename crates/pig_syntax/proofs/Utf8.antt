@@ -1,5 +1,5 @@
 -- UTF-8 in names and texts.
-use Rattle.std.proofs.Common.{◌≡◌, ℕ, ◌<◌, List, [], ◌∷◌, Bool, true, false, ◌&&◌, refl, arith, Some, None}
+use Rattle.std.proofs.Common.{◌≡◌, ℕ, ◌<◌, List, [], ◌∷◌, Bool, true, false, refl, arith, Some, None}
 use Rattle.std.specs.List.{list_all}
 use Rattle.std.specs.Str.{IsAscii, IsUtf8, is_utf8}
 use Rattle.std.proofs.lemmas.Grind.{common_steps}
@@ -32,18 +32,10 @@ not_utf8 bs h = by_test (is_utf8 bs) refl
     by_test true e = absurd (h (IsUtf8-from_is_utf8 bs e))
     by_test false e = refl
 
-pub text_found : (body content text : List ℕ) → IsUtf8 body → IsUtf8 content → text ≡ content → Some text ≡ text_of body content
+pub text_found : (body content text : List ℕ) → IsUtf8 body → text ≡ content → Some text ≡ text_of body content
 unfolding text_of
-text_found body content text front back is = rw (is_utf8-from_IsUtf8 body front, is_utf8-from_IsUtf8 content back, is) refl
+text_found body content text front is = rw (is_utf8-from_IsUtf8 body front, is) refl
 
-pub text_lost_body : (body content : List ℕ) → (IsUtf8 body → ⊥) → None ≡ text_of body content
+pub text_lost : (body content : List ℕ) → (IsUtf8 body → ⊥) → None ≡ text_of body content
 unfolding text_of
-text_lost_body body content h = rw (not_utf8 body h) refl
-
-off : (a : Bool) (b : Bool) → b ≡ false → (a && b) ≡ false
-off true b h = h
-off false b h = refl
-
-pub text_lost : (body content : List ℕ) → (IsUtf8 content → ⊥) → None ≡ text_of body content
-unfolding text_of
-text_lost body content h = rw (off (is_utf8 body) (is_utf8 content) (not_utf8 content h)) refl
+text_lost body content h = rw (not_utf8 body h) refl

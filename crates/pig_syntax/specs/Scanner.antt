@@ -148,9 +148,9 @@ content_after (suc most) read bs = do
   unit ← unit_at bs
   if is_end unit.0 then Some (read, unit.1) else content_after most (read ++ bytes_of unit.0) unit.1
 
--- the content, where it and the bytes that write it are UTF-8
+-- the content, where the bytes that write it are UTF-8
 unfoldable pub text_of : List ℕ → List ℕ → Option (List ℕ)
-text_of body content = if is_utf8 body && is_utf8 content then Some content else None
+text_of body content = if is_utf8 body then Some content else None
 
 -- a text, behind its first quote
 unfoldable pub text_at : List ℕ → Found TokenForm

@@ -148,7 +148,6 @@ pub record IsText (text content : List ℕ) : Type 0 where
   pub spelled : text ≡ 39 ∷ body ++ 39 ∷ []
   pub characters : IsUtf8 body
   pub means : Means body content
-  pub decoded : IsUtf8 content
 
 -- ---- symbols
 

@@ -215,7 +215,7 @@ fn same_word(a: &[u8], b: &[u8]) -> bool
 }
 
 // A text, behind its first quote.
-#[tactic(auto, unfolding(crate::specs::Scanner::text_at))]
+#[tactic(auto, using(crate::proofs::Texts::content_utf8), unfolding(crate::specs::Scanner::text_at))]
 pub fn text(alloc: Global, bytes: &[u8]) -> Result<Found, AllocError>
     ensures { IfOk result (λ found. option_map (λ p. (p.0, p.1.now)) found ≡ text_at bytes.now) }
 {
@@ -231,25 +231,26 @@ pub fn text(alloc: Global, bytes: &[u8]) -> Result<Found, AllocError>
     }
 }
 
-// The content, where it and the bytes that write it are UTF-8.
+// The content, where the bytes that write it are UTF-8.
+#[tactic(auto, using(crate::proofs::Utf8::text_found, crate::proofs::Utf8::text_lost))]
 fn text_of(body: &[u8], content: Blob) -> Option<Text>
+    requires { IsUtf8 body.now → IsUtf8 content }
     ensures { result ≡ text_of body.now content }
 {
     match str::from_utf8(body) {
-        Ok(_) => whole_text(body, content),
+        Ok(_) => whole_text(content),
         Err(_) => None,
     }
 }
 
-// The content, where it is UTF-8.
-fn whole_text(body: &[u8], content: Blob) -> Option<Text>
-    requires { IsUtf8 body.now }
-    ensures { result ≡ text_of body.now content }
+// UTF-8 as text.
+fn whole_text(content: Blob) -> Option<Text>
+    requires { IsUtf8 content }
+    ensures { result ≡ Some content }
 {
-    match String::from_utf8(content.into_vec()) {
-        Ok(text) => Some(Text::from_string(text)),
-        Err(_) => None,
-    }
+    String::from_utf8(content.into_vec())
+        .ok()
+        .map(Text::from_string)
 }
 
 // The content of a text up to its closing quote, and the bytes behind that.
