@@ -1,17 +1,22 @@
--- Facts about the readers of the first form.
-use Rattle.std.proofs.Common.{◌≡◌, ℕ, zero, ◌-◌, ◌+◌, ◌^◌, ◌<◌, ◌≢◌, List, [], ◌∷◌, ◌++◌, Bool, true, false, cond, refl, sym, ◌∙◌, subst, length, arith, rules, Bor, suc}
-use Rattle.std.specs.Prelude.{MatchOption, option_map, option_and_then, Option, Some, None, codes, ◌==◌, ◌&&◌, ℤ, pos, Result, Ok, Err, IsOk}
-use Rattle.std.specs.List.{list_all}
+-- Facts about the parts of the first form.
+use Rattle.std.proofs.Common.{◌≡◌, ℕ, zero, suc, ◌+◌, ◌≤◌, ◌≢◌, List, [], ◌∷◌, Bool, true, false, cond, refl, sym, ap, ◌∙◌, subst, length, arith}
+use Rattle.std.specs.Prelude.{Option, Some, None, option_map, option_and_then, ◌==◌, ◌&&◌, ◌||◌, nat_le, get_or, slice_get, position, bytes_eq, IsSomeAnd}
+use Rattle.std.specs.Char.{is_ascii_lowercase}
+use Rattle.std.specs.Cmp.Lexicographic.{same_text}
+use Rattle.std.specs.List.{list_all, list_any, IsDistinct, AllByRecursion, position_from}
+use Rattle.std.proofs.lemmas.Bool.Decides.{nat_tests}
 use Rattle.std.proofs.lemmas.Grind.{common_steps}
-use Rattle.std.proofs.lemmas.List.Folds.{length-prefix_len}
-use Rattle.std.proofs.lemmas.Str.Parse.{IsDigitsTest, IsNumeralModel, numerals_by_value, parse_signed_digits, digits_value_short}
-use Rattle.std.specs.Char.{is_ascii_digit}
-use Rattle.std.specs.Int.{w32}
-use Rattle.std.specs.Str.Parse.{digits_value, ParsesSigned}
-use Rattle.std.specs.Result.{OkIff}
-use Rattle.pig_run.specs.FirstForm.{IsNumber}
+use Rattle.std.proofs.lemmas.Iterator.Adapters.{position_from-zero}
+use Rattle.std.proofs.lemmas.List.Quantifiers.{position-Some}
+use Rattle.std.proofs.lemmas.Map.Keys.{IsDistinct-cons, IsDistinct-head, IsDistinct-tail}
+use Rattle.std.proofs.lemmas.Option.{get_or_from_slice_get}
+use Rattle.pig_run.specs.declared.first_form.FieldType.TheVariants.{Int, Chararray}
+use Rattle.pig_run.specs.declared.first_form.FieldType.{FieldType}
 use Rattle.pig_run.specs.declared.first_form.FormField.{FormField}
-use Rattle.pig_run.specs.FormReader.{strip, run, past, field_at, fields_after}
+use Rattle.pig_run.specs.declared.first_form.Literal.{Literal}
+use Rattle.pig_run.specs.declared.first_form.Literal.TheVariants.{Number, Letters}
+use Rattle.pig_run.specs.FirstForm.{names, IsLiteralOf}
+use Rattle.pig_run.specs.FormReader.{names_differ, may_compare, compared_at}
 
 -- what one answer is, another answer is too
 pub some_same : {A : Type 0} {x y : A} → Some x ≡ Some y → x ≡ y
@@ -31,10 +36,6 @@ pub cond_else : {A : Type 0} (b : Bool) (o : Option A) (y : A) → cond b None o
 cond_else true o y h = absurd (cc)
 cond_else false o y h = (refl, h)
 
--- a number is equal to itself
-pub same : (n : ℕ) → (n == n) ≡ true
-same n = grind (arith, common_steps)
-
 -- both sides of a test that is true
 pub both_first : (a b : Bool) → (a && b) ≡ true → a ≡ true
 both_first true b h = refl
@@ -44,108 +45,120 @@ pub both_second : (a b : Bool) → (a && b) ≡ true → b ≡ true
 both_second true b h = h
 both_second false b h = absurd (cc)
 
--- a prefix is read off
-pub strip-append : (p r : List ℕ) → strip p (p ++ r) ≡ Some r
-unfolding strip
-strip-append [] r = refl
-strip-append (c ∷ ps) r = rw (same c) (strip-append ps r)
+pub le_from : (a b : ℕ) → nat_le a b ≡ true → a ≤ b
+le_from a b h = grind (arith, nat_tests)
 
--- what stands behind a prefix
-pub strip_sound : (p bs r : List ℕ) → strip p bs ≡ Some r → bs ≡ p ++ r
-unfolding strip
-strip_sound [] bs r h = cc
-strip_sound (c ∷ ps) [] r h = absurd (cc)
-strip_sound (c ∷ ps) (b ∷ bs) r h = grind (arith, common_steps, cond_then, strip_sound ps bs r)
+pub le_true : (a b : ℕ) → a ≤ b → nat_le a b ≡ true
+le_true a b h = grind (arith, nat_tests)
 
-not_found : (p bs : List ℕ) (o : Option (List ℕ)) → strip p bs ≡ o → ((rest : List ℕ) → bs ≢ p ++ rest) → None ≡ o
-not_found p bs None e h = refl
-not_found p bs (Some r) e h = absurd (h r (strip_sound p bs r e))
+-- a number is equal to itself
+same : (n : ℕ) → (n == n) ≡ true
+same n = grind (arith, common_steps)
 
--- what a test of a prefix tells
-pub strip_told : (p bs : List ℕ) (r : Option (Bor (List ℕ))) → MatchOption r ((rest : List ℕ) → bs ≢ p ++ rest) (λ x. bs ≡ p ++ x.now) → option_map (λ rest. rest.now) r ≡ strip p bs
-strip_told p bs None h = not_found p bs (strip p bs) refl h
-strip_told p bs (Some x) h = sym (subst (λ v. strip p v ≡ Some x.now) (sym h) (strip-append p x.now))
+equal_from : (a b : ℕ) → (a == b) ≡ true → a ≡ b
+equal_from a b h = grind (arith, nat_tests)
 
--- the run and what is behind it make the whole
-pub run_past : (p : ℕ → Bool) (bs : List ℕ) → bs ≡ run p bs ++ past p bs
-unfolding run past
-run_past p bs = grind (arith, common_steps)
+-- texts that differ do not pass the test
+pub told_other : (a b : List ℕ) (t : Bool) → bytes_eq a b ≡ t → a ≢ b → t ≡ false
+told_other a b true e h = absurd (h (same_text a b (sym e)))
+told_other a b false e h = refl
 
--- a run by its first byte
-run_yes : (p : ℕ → Bool) (b : ℕ) (bs : List ℕ) → p b ≡ true → run p (b ∷ bs) ≡ b ∷ run p bs
-unfolding run
-run_yes p b bs passes = rw (length-prefix_len, length-prefix_len, passes) (grind (arith, common_steps))
+-- the value that is there, with its fact
+pub some_and : {A : Type 0} (o : Option A) (P : A → Type 0) → IsSomeAnd o P → (x : A) × (o ≡ Some x) × P x
+some_and None P h = absurd h
+some_and (Some x) P h = (x, refl, h)
 
-run_no : (p : ℕ → Bool) (b : ℕ) (bs : List ℕ) → p b ≡ false → run p (b ∷ bs) ≡ []
-unfolding run
-run_no p b bs fails = rw (length-prefix_len, fails) (grind (arith, common_steps))
+-- ---- names
 
-past_yes : (p : ℕ → Bool) (b : ℕ) (bs : List ℕ) → p b ≡ true → past p (b ∷ bs) ≡ past p bs
-unfolding past
-past_yes p b bs passes = rw (length-prefix_len, length-prefix_len, passes) (grind (arith, common_steps))
+-- names that differ
+not_seen : (f : FormField) (fs : List FormField) → list_any (λ g. f.name == g.name) fs ≡ false → AllByRecursion (λ y. (f.name == y) ≡ false) (names fs)
+not_seen f [] h = tt
+not_seen f (g ∷ fs) h = (neither_first _ _ h, not_seen f fs (neither_second _ _ h))
+  where
+    neither_first : (a b : Bool) → (a || b) ≡ false → a ≡ false
+    neither_first true b h = absurd (cc)
+    neither_first false b h = refl
 
-past_no : (p : ℕ → Bool) (b : ℕ) (bs : List ℕ) → p b ≡ false → past p (b ∷ bs) ≡ b ∷ bs
-unfolding past
-past_no p b bs fails = rw (length-prefix_len, fails) (grind (arith, common_steps))
+    neither_second : (a b : Bool) → (a || b) ≡ false → b ≡ false
+    neither_second true b h = absurd (cc)
+    neither_second false b h = h
 
--- each byte of a run passes
-first_passes : (p : ℕ → Bool) (b : ℕ) (bs : List ℕ) (t : Bool) → p b ≡ t → list_all p (run p bs) ≡ true → list_all p (run p (b ∷ bs)) ≡ true
-first_passes p b bs true passes rest = rw (run_yes p b bs passes, passes) rest
-first_passes p b bs false fails rest = rw (run_no p b bs fails) refl
+pub distinct_sound : (fs : List FormField) → names_differ fs ≡ true → IsDistinct ◌==◌ (names fs)
+unfolding names_differ IsDistinct
+distinct_sound [] h = tt
+distinct_sound (f ∷ fs) h =
+    elim (list_any (λ g. f.name == g.name) fs) as (λ t. list_any (λ g. f.name == g.name) fs ≡ t → cond t false (names_differ fs) ≡ true → IsDistinct ◌==◌ (names (f ∷ fs)))
+    [ true ↦ λ seen is. absurd (cc) | false ↦ λ unseen is. IsDistinct-cons ◌==◌ f.name (names fs) (not_seen f fs unseen) (distinct_sound fs is) ] refl h
 
-pub run_passes : (p : ℕ → Bool) (bs : List ℕ) → list_all p (run p bs) ≡ true
-unfolding run
-run_passes p [] = refl
-run_passes p (b ∷ bs) = first_passes p b bs (p b) refl (run_passes p bs)
+unseen : (f : FormField) (fs : List FormField) → AllByRecursion (λ y. (f.name == y) ≡ false) (names fs) → list_any (λ g. f.name == g.name) fs ≡ false
+unseen f [] h = refl
+unseen f (g ∷ fs) h = rw h.0 (unseen f fs h.1)
 
--- a run ends where the next byte does not pass
-pub run-append : (p : ℕ → Bool) (w : List ℕ) (c : ℕ) (r : List ℕ) → list_all p w ≡ true → p c ≡ false → run p (w ++ c ∷ r) ≡ w
-run-append p [] c r all stops = run_no p c r stops
-run-append p (b ∷ bs) c r all stops = rw (run_yes p b (bs ++ c ∷ r) (both_first (p b) (list_all p bs) all), run-append p bs c r (both_second (p b) (list_all p bs) all) stops) refl
+pub distinct_done : (fs : List FormField) → IsDistinct ◌==◌ (names fs) → names_differ fs ≡ true
+unfolding names_differ
+distinct_done [] h = refl
+distinct_done (f ∷ fs) h = rw (unseen f fs (IsDistinct-head ◌==◌ f.name (names fs) h)) (distinct_done fs (IsDistinct-tail ◌==◌ f.name (names fs) h))
 
-pub past-append : (p : ℕ → Bool) (w : List ℕ) (c : ℕ) (r : List ℕ) → list_all p w ≡ true → p c ≡ false → past p (w ++ c ∷ r) ≡ c ∷ r
-past-append p [] c r all stops = past_no p c r stops
-past-append p (b ∷ bs) c r all stops = rw (past_yes p b (bs ++ c ∷ r) (both_first (p b) (list_all p bs) all)) (past-append p bs c r (both_second (p b) (list_all p bs) all) stops)
+-- the name of a field by its place
+pub name_at : (fs : List FormField) (at : ℕ) (f : FormField) → slice_get fs at ≡ Some f → get_or (names fs) at 0 ≡ f.name
+name_at [] at f is = absurd (cc)
+name_at (g ∷ fs) zero f is = let e : g ≡ f = cc in ap (λ v. v.name) e
+name_at (g ∷ fs) (suc at) f is = name_at fs at f is
 
-suc_less : (n : ℕ) → suc n - 1 ≡ n
-suc_less n = omega arith
+pub lower_at : (fs : List FormField) (at : ℕ) (f : FormField) → list_all is_ascii_lowercase (names fs) ≡ true → slice_get fs at ≡ Some f → is_ascii_lowercase f.name ≡ true
+lower_at [] at f h is = absurd (cc)
+lower_at (g ∷ fs) zero f h is =
+    let e : g ≡ f = cc in
+    subst (λ v. is_ascii_lowercase v.name ≡ true) e (both_first (is_ascii_lowercase g.name) (list_all is_ascii_lowercase (names fs)) h)
+lower_at (g ∷ fs) (suc at) f h is = lower_at fs at f (both_second (is_ascii_lowercase g.name) (list_all is_ascii_lowercase (names fs)) h) is
 
--- one more field with another behind it
-pub fields_next : (n : ℕ) (found : List FormField) (bs rest next : List ℕ) (f : FormField) → 0 < n → field_at bs ≡ Some (f, rest) → (length rest == 0) ≡ false → strip (codes ", ") rest ≡ Some next → fields_after n found bs ≡ fields_after (n - 1) (found ++ f ∷ []) next
-unfolding fields_after
-fields_next zero found bs rest next f few is more behind = absurd (omega arith)
-fields_next (suc n) found bs rest next f few is more behind = rw is (rw more (rw behind (rw suc_less refl)))
+-- ---- the compared field
 
-pub fields_kept :
-    (turn : ℕ) (found found' : List FormField) (bs rest next first : List ℕ) (f : FormField) → turn < 9
-    → fields_after (9 - turn) found bs ≡ fields_after 9 [] first → Some (f, rest) ≡ field_at bs → false ≡ (length rest == 0)
-    → Some next ≡ strip (codes ", ") rest → found' ≡ found ++ f ∷ [] → fields_after (9 - (turn + 1)) found' next ≡ fields_after 9 [] first
-fields_kept turn found found' bs rest next first f few so_far is more behind pushed =
-    let less : 9 - (turn + 1) ≡ 9 - turn - 1 = omega arith in
-    rw (less, pushed) (sym (fields_next (9 - turn) found bs rest next f (omega arith) (sym is) (sym more) (sym behind)) ∙ so_far)
+pub record IsCompared (fs : List FormField) (name : ℕ) (l : Literal) (at : ℕ) : Type 0 where
+  pub field : FormField
+  pub there : slice_get fs at ≡ Some field
+  pub named : field.name ≡ name
+  pub fits : may_compare field.kind l ≡ true
 
-abbrev AreDigits : List ℕ → Type 0
-AreDigits ds = list_all is_ascii_digit ds ≡ true
+pub compared_sound : (fs : List FormField) (name : ℕ) (l : Literal) (at : ℕ) → compared_at fs name l ≡ Some at → IsCompared fs name l at
+unfolding compared_at
+compared_sound fs name l at h =
+    let a = bind_some (position (λ f. f.name == name) fs) _ at h in
+    let b = bind_some (slice_get fs a.0) _ at a.2 in
+    let c = cond_then (may_compare b.0.kind l) (Some a.0) at b.2 in
+    let passes = position-Some (λ (f : FormField). f.name == name) fs a.0 b.0 a.1 in
+    let is : get_or fs a.0 b.0 ≡ b.0 = get_or_from_slice_get fs a.0 b.0 b.0 b.1 in
+    let named : (b.0.name == name) ≡ true = subst (λ (v : FormField). (v.name == name) ≡ true) is passes.1 in
+    subst (IsCompared fs name l) (some_same c.1) (record { field = b.0; there = b.1; named = equal_from b.0.name name named; fits = c.0 })
 
-tests_digits : IsDigitsTest AreDigits
-tests_digits = search rules
+all_at : (P : ℕ → Type 0) (fs : List FormField) (at : ℕ) (f : FormField) → AllByRecursion P (names fs) → slice_get fs at ≡ Some f → P f.name
+all_at P [] at f h is = absurd (cc)
+all_at P (g ∷ fs) zero f h is = let e : g ≡ f = cc in subst (λ v. P v.name) e h.0
+all_at P (g ∷ fs) (suc at) f h is = all_at P fs at f h.1 is
 
-own : IsNumeralModel AreDigits (digits_value 10)
-own = numerals_by_value AreDigits tests_digits
+place_from : (fs : List FormField) (at i : ℕ) (f : FormField) → IsDistinct ◌==◌ (names fs) → slice_get fs at ≡ Some f
+    → position_from (λ g. g.name == f.name) i fs ≡ Some (i + at)
+place_from [] at i f h is = absurd (cc)
+place_from (g ∷ fs) zero i f h is =
+    let e : g ≡ f = cc in
+    let found : (g.name == f.name) ≡ true = subst (λ v. (g.name == v.name) ≡ true) e (same g.name) in
+    rw found (ap Some (omega arith))
+place_from (g ∷ fs) (suc at) i f h is =
+    let other : (g.name == f.name) ≡ false = all_at (λ y. (g.name == y) ≡ false) fs at f (IsDistinct-head ◌==◌ g.name (names fs) h) is in
+    rw other (place_from fs at (i + 1) f (IsDistinct-tail ◌==◌ g.name (names fs) h) is ∙ ap Some (omega arith))
 
-fits : {E : Type 0} (r : Result ℤ E) (few : Type 0) (z : ℤ) → OkIff r few z → few → r ≡ Ok z
-fits (Ok x) few z h h' = cc
-fits (Err e) few z h h' = absurd (h h')
+place_done : (fs : List FormField) (at : ℕ) (f : FormField) → IsDistinct ◌==◌ (names fs) → slice_get fs at ≡ Some f
+    → position (λ g. g.name == f.name) fs ≡ Some at
+place_done fs at f h is = position_from-zero (λ g. g.name == f.name) fs ∙ place_from fs at 0 f h is ∙ ap Some (omega arith)
 
-ok_from : {E : Type 0} (r : Result ℤ E) (z : ℤ) → r ≡ Ok z → IsOk r
-ok_from (Ok x) z h = refl
-ok_from (Err e) z h = absurd (cc)
+-- a literal of the field's type may be compared with it
+fits_done : (k : FieldType) (l : Literal) → IsLiteralOf k l → may_compare k l ≡ true
+fits_done Int (Number n) h = refl
+fits_done Int (Letters w) h = absurd h
+fits_done Chararray (Number n) h = absurd h
+fits_done Chararray (Letters w) h = refl
 
--- a short number is parsed
-pub number_parsed : {E : Type 0} (bs : List ℕ) (r : Result ℤ E) → ParsesSigned w32 10 bs r → IsNumber bs → r ≡ Ok (pos (digits_value 10 bs))
-number_parsed bs r h n =
-    let small : digits_value 10 bs < 2 ^ 31 = omega (arith, digits_value_short own bs 9 n.digits_only n.few) in
-    fits r _ _ (parse_signed_digits own w32 bs r h n.digits_only) (omega arith, small)
-
-pub is_number : {E : Type 0} (text bs : List ℕ) (r : Result ℤ E) → ParsesSigned w32 10 text r → text ≡ bs → IsNumber bs → IsOk r
-is_number text bs r h e n = ok_from r _ (number_parsed text r h (subst IsNumber (sym e) n))
+pub compared_done : (fs : List FormField) (at : ℕ) (f : FormField) (l : Literal) → IsDistinct ◌==◌ (names fs) → slice_get fs at ≡ Some f
+    → IsLiteralOf f.kind l → compared_at fs f.name l ≡ Some at
+unfolding compared_at
+compared_done fs at f l h is fits = rw (place_done fs at f h is, is, fits_done f.kind l fits) refl

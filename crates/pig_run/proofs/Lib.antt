@@ -1,6 +1,5 @@
 pub mod FormLemmas
-pub mod FormComplete
-pub mod FormSound
+pub mod FormFound
 mod Answering
 mod Decided
 mod Done

@@ -1,109 +1,120 @@
--- What each reader of the first form finds at the front of some bytes, and what it leaves; nothing where its part does not stand
--- there. `IsFirstForm` says what a script of the first form is.
-use Rattle.std.specs.Prelude.{ℕ, zero, suc, Bool, true, false, not, ◌&&◌, ◌==◌, nat_lt, nat_le, List, [], ◌∷◌, ◌++◌, length, take, drop, codes, Option, Some, None, option_map, option_and_then, slice_get, position, take_while, bytes_eq, if◌then◌else◌}
-use Rattle.std.specs.Char.{is_ascii_lowercase, is_ascii_digit}
-use Rattle.std.specs.List.{list_any}
-use Rattle.std.specs.Option.{option_map_or}
+-- What each part of the code that recognises the first form finds in its tree; nothing where another tree stands there. `IsFirstForm`
+-- says what the first form is.
+use Rattle.std.specs.Prelude.{ℕ, ℤ, pos, negsuc, Bool, true, false, not, ◌&&◌, ◌==◌, nat_le, List, [], ◌∷◌, length, codes, Option, Some, None, option_map, option_and_then, slice_get, position, bytes_eq, if◌then◌else◌}
+use Rattle.std.specs.Char.{is_ascii_lowercase}
+use Rattle.std.specs.List.{list_all, list_any}
 use Rattle.pig_value.specs.declared.shared.Rel.{Rel}
-use Rattle.pig_value.specs.declared.shared.Rel.TheVariants as rel
+use Rattle.pig_value.specs.Fields.{all_of}
+use Rattle.pig_syntax.specs.declared.trees.Expr.{Expr}
+use Rattle.pig_syntax.specs.declared.trees.Expr.TheOpen.{Expr-F}
+use Rattle.pig_syntax.specs.declared.trees.Expr.TheViews.{out-Expr}
+use Rattle.pig_syntax.specs.declared.trees.Link.{Link}
+use Rattle.pig_syntax.specs.declared.trees.FieldRef.TheVariants as ref
+use Rattle.pig_syntax.specs.declared.trees.FieldTree.{FieldTree}
+use Rattle.pig_syntax.specs.declared.trees.Op.TheVariants as op
+use Rattle.pig_syntax.specs.declared.trees.Stmt.{Stmt}
+use Rattle.pig_syntax.specs.declared.trees.Stmt.TheVariants as stmt
+use Rattle.pig_syntax.specs.declared.trees.TypeTree.{TypeTree}
+use Rattle.pig_syntax.specs.declared.trees.TypeTree.TheVariants as type
 use Rattle.pig_run.specs.declared.first_form.FieldType.{FieldType}
 use Rattle.pig_run.specs.declared.first_form.FieldType.TheVariants.{Int, Chararray}
 use Rattle.pig_run.specs.declared.first_form.FormField.{FormField}
 use Rattle.pig_run.specs.declared.first_form.Literal.{Literal}
 use Rattle.pig_run.specs.declared.first_form.Literal.TheVariants.{Number, Letters}
 use Rattle.pig_run.specs.declared.first_form.FirstForm.{FirstForm}
-use Rattle.pig_run.specs.FirstForm.{relation_text}
-
--- what is read, and the bytes that are left
-abbrev pub Found : Type 0 → Type 0
-Found A = Option (A × List ℕ)
+use Rattle.pig_run.specs.FirstForm.{present}
 
 infixl 10 ◌>>=◌
 abbrev pub ◌>>=◌ : {A B : Type 0} → Option A → (A → Option B) → Option B
 o >>= f = option_and_then f o
 
--- the bytes behind a prefix
-unfoldable pub strip : List ℕ → List ℕ → Option (List ℕ)
-strip [] bs = Some bs
-strip (p ∷ ps) [] = None
-strip (p ∷ ps) (b ∷ bs) = if p == b then strip ps bs else None
+-- at most 20 lower-case letters
+abbrev pub is_word : List ℕ → Bool
+is_word text = list_all is_ascii_lowercase text && nat_le (length text) 20
 
--- the bytes from the front on that pass
-unfoldable pub run : (ℕ → Bool) → List ℕ → List ℕ
-run p bs = take (length (take_while p bs)) bs
+-- 1 to 20 lower-case letters
+abbrev pub is_path : List ℕ → Bool
+is_path text = is_word text && nat_le 1 (length text)
 
--- the bytes behind those that pass
-unfoldable pub past : (ℕ → Bool) → List ℕ → List ℕ
-past p bs = drop (length (take_while p bs)) bs
+-- the one lower-case letter of a name
+abbrev pub letter_of : List ℕ → Option ℕ
+letter_of (b ∷ []) = if is_ascii_lowercase b then Some b else None
+letter_of _ = None
 
--- at most 20 letters and a closing quote
-unfoldable pub word_at : List ℕ → Found (List ℕ)
-word_at bs =
-    if nat_le (length (run is_ascii_lowercase bs)) 20
-    then option_map (λ rest. (run is_ascii_lowercase bs, rest)) (strip (codes "'") (past is_ascii_lowercase bs))
-    else None
-
--- 1 to 20 letters and a closing quote
-unfoldable pub path_at : List ℕ → Found (List ℕ)
-path_at bs = do
-  found ← word_at bs
-  if length found.0 == 0 then None else Some found
-
--- 1 to 9 digits
-unfoldable pub number_at : List ℕ → Found (List ℕ)
-number_at bs =
-    if nat_lt 0 (length (run is_ascii_digit bs)) && nat_le (length (run is_ascii_digit bs)) 9
-    then Some (run is_ascii_digit bs, past is_ascii_digit bs)
-    else None
-
--- a literal
-unfoldable pub literal_at : List ℕ → Found Literal
-literal_at bs =
-    option_map_or (λ rest. option_map (λ found. (Letters found.0, found.1)) (word_at rest)) (strip (codes "'") bs)
-    (option_map (λ found. (Number found.0, found.1)) (number_at bs))
-
--- the first of some comparisons whose sign stands there with a space behind it
-unfoldable pub relation_among : List Rel → List ℕ → Found Rel
-relation_among [] bs = None
-relation_among (r ∷ rs) bs =
-    option_map_or (λ rest. Some (r, rest)) (strip (relation_text r ++ codes " ") bs) (relation_among rs bs)
-
--- the comparisons, in the order in which they are tried
-abbrev pub relations : List Rel
-relations = rel.Eq ∷ rel.Ne ∷ rel.Lt ∷ rel.Le ∷ rel.Gt ∷ rel.Ge ∷ []
-
--- a letter
-unfoldable pub letter_at : List ℕ → Found ℕ
-letter_at [] = None
-letter_at (b ∷ bs) = if is_ascii_lowercase b then Some (b, bs) else None
-
--- the word of a type
-unfoldable pub type_at : List ℕ → Found FieldType
-type_at bs =
-    option_map_or (λ rest. Some (Int, rest)) (strip (codes "int") bs)
-    (option_map (λ rest. (Chararray, rest)) (strip (codes "chararray") bs))
+-- a type that is written
+abbrev pub type_of : Option TypeTree → Option FieldType
+type_of (Some type.Int) = Some Int
+type_of (Some type.Chararray) = Some Chararray
+type_of _ = None
 
 -- a field
-unfoldable pub field_at : List ℕ → Found FormField
-field_at bs = do
-  name ← letter_at bs
-  rest ← strip (codes ":") name.1
-  kind ← type_at rest
-  Some (record { name = name.0; kind = kind.0 }, kind.1)
-
--- the fields that are read so far and those of the text, of which at most a number are read
-unfoldable pub fields_after : ℕ → List FormField → List ℕ → Option (List FormField)
-fields_after zero found bs = None
-fields_after (suc most) found bs = do
-  field ← field_at bs
-  if length field.1 == 0
-      then Some (found ++ field.0 ∷ [])
-      else (strip (codes ", ") field.1 >>= fields_after most (found ++ field.0 ∷ []))
+unfoldable pub field_of : FieldTree → Option FormField
+field_of tree = do
+  name ← letter_of tree.name
+  kind ← type_of tree.kind
+  Some (record { name = name; kind = kind })
 
 -- whether no two fields have one name
 unfoldable pub names_differ : List FormField → Bool
 names_differ [] = true
 names_differ (f ∷ fs) = if list_any (λ g. f.name == g.name) fs then false else names_differ fs
+
+-- 1 to 9 fields of different names
+unfoldable pub fields_of : List FieldTree → Option (List FormField)
+fields_of trees = do
+  fields ← all_of field_of trees
+  if nat_le 1 (length fields) && nat_le (length fields) 9 && names_differ fields then Some fields else None
+
+-- a number of at most 9 digits
+abbrev pub number_of : ℤ → Option Literal
+number_of (pos n) = if nat_le n 999999999 then Some (Number n) else None
+number_of (negsuc n) = None
+
+-- a literal
+abbrev pub literal_in : Expr-F Expr Link → Option Literal
+literal_in (Expr-F.Int z) = number_of z
+literal_in (Expr-F.Text text) = if is_word text then Some (Letters text) else None
+literal_in _ = None
+
+abbrev pub literal_of : Expr → Option Literal
+literal_of a = literal_in (out-Expr a)
+
+-- the name of a field
+abbrev pub name_in : Expr-F Expr Link → Option ℕ
+name_in (Expr-F.Field (ref.Name text)) = letter_of text
+name_in _ = None
+
+abbrev pub name_of : Expr → Option ℕ
+name_of a = name_in (out-Expr a)
+
+-- the name, the comparison and the literal of a condition
+unfoldable pub compared_by : Rel → Expr → Expr → Option (ℕ × Rel × Literal)
+compared_by relation a b = do
+  name ← name_of a
+  literal ← literal_of b
+  Some (name, relation, literal)
+
+abbrev pub condition_in : Expr-F Expr Link → Option (ℕ × Rel × Literal)
+condition_in (Expr-F.Compare relation a b) = compared_by relation a b
+condition_in _ = None
+
+abbrev pub condition_of : Expr → Option (ℕ × Rel × Literal)
+condition_of a = condition_in (out-Expr a)
+
+-- the first statement: the path, and the fields as they are written
+unfoldable pub load_of : Stmt → Option (List ℕ × List FieldTree)
+load_of (stmt.Assign alias (op.Load path None schema)) = if bytes_eq alias (codes "a") && is_path path then Some (path, schema) else None
+load_of _ = None
+
+-- the second statement: the name, the comparison and the literal
+unfoldable pub filter_of : Stmt → Option (ℕ × Rel × Literal)
+filter_of (stmt.Assign alias (op.Filter from_ cond)) = if bytes_eq alias (codes "b") && bytes_eq from_ (codes "a") then condition_of cond else None
+filter_of _ = None
+
+-- the third statement: the path
+unfoldable pub store_of : Stmt → Option (List ℕ)
+store_of (stmt.Store from_ path None) = if bytes_eq from_ (codes "b") && is_path path then Some path else None
+store_of _ = None
 
 -- whether a field of the type may be compared with the literal
 abbrev pub may_compare : FieldType → Literal → Bool
@@ -119,60 +130,35 @@ compared_at fields name literal = do
   field ← slice_get fields at
   if may_compare field.kind literal then Some at else None
 
--- the bytes before the closing parenthesis
-abbrev pub inside : ℕ → Bool
-inside b = not (b == 41)
-
--- the first line: the path, and the text of the fields
-unfoldable pub load_at : List ℕ → Option (List ℕ × List ℕ × List ℕ)
-load_at bs = do
-  path ← strip (codes "a = LOAD '") bs
-  input ← path_at path
-  list ← strip (codes " AS (") input.1
-  rest ← strip (codes ");\n") (past inside list)
-  Some (input.0, run inside list, rest)
-
--- the second line: the name, the comparison and the literal
-unfoldable pub filter_at : List ℕ → Option (ℕ × Rel × Literal × List ℕ)
-filter_at bs = do
-  name ← strip (codes "b = FILTER a BY ") bs
-  letter ← letter_at name
-  sign ← strip (codes " ") letter.1
-  relation ← relation_among relations sign
-  literal ← literal_at relation.1
-  rest ← strip (codes ";\n") literal.1
-  Some (letter.0, relation.0, literal.0, rest)
-
--- the third line: the path
-unfoldable pub store_at : List ℕ → Found (List ℕ)
-store_at bs = do
-  path ← strip (codes "STORE b INTO '") bs
-  output ← path_at path
-  rest ← strip (codes ";\n") output.1
-  Some (output.0, rest)
-
--- what stands in the three lines
-pub record Pieces : Type 0 where
+-- what three statements say, without the fields
+pub record Seen : Type 0 where
   pub input : List ℕ
-  pub fields : List ℕ
+  pub schema : List FieldTree
   pub name : ℕ
   pub relation : Rel
   pub literal : Literal
   pub output : List ℕ
 
--- the three lines, with nothing behind them
-unfoldable pub pieces_at : List ℕ → Option Pieces
-pieces_at bs = do
-  load ← load_at bs
-  filter ← filter_at load.2
-  store ← store_at filter.3
-  if (length store.1 == 0) && not (bytes_eq load.0 store.0)
-      then Some (record { input = load.0; fields = load.1; name = filter.0; relation = filter.1; literal = filter.2; output = store.0 })
-      else None
+unfoldable pub seen_of : Stmt → Stmt → Stmt → Option Seen
+seen_of first second third = do
+  load ← load_of first
+  condition ← filter_of second
+  output ← store_of third
+  Some (record { input = load.0; schema = load.1; name = condition.0; relation = condition.1; literal = condition.2; output = output })
 
--- the parts of the script, if the fields are some that the comparison fits
-unfoldable pub form_of : Pieces → Option FirstForm
-form_of p = do
-  fields ← fields_after 9 [] p.fields
-  at ← (if names_differ fields then compared_at fields p.name p.literal else None)
-  Some (record { input = p.input; fields = fields; compared = at; relation = p.relation; literal = p.literal; output = p.output })
+-- the form, where the fields are some that the comparison fits and the paths differ
+unfoldable pub form_of_seen : Seen → Option FirstForm
+form_of_seen s = do
+  fields ← fields_of s.schema
+  at ← compared_at fields s.name s.literal
+  if bytes_eq s.input s.output then None
+      else Some (record { input = s.input; fields = fields; compared = at; relation = s.relation; literal = s.literal; output = s.output })
+
+-- what they say, where they are three
+abbrev pub seen_in : List Stmt → Option Seen
+seen_in (first ∷ second ∷ third ∷ []) = seen_of first second third
+seen_in _ = None
+
+-- the form of the statements that are not empty
+abbrev pub form_of : List Stmt → Option FirstForm
+form_of ss = seen_in (present ss) >>= form_of_seen

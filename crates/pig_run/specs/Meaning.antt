@@ -1,7 +1,6 @@
 -- What a script of the first form means: the rows of its input for which the condition is true.
 use Rattle.std.specs.Prelude.{◌+◌, ◌&&◌, ℕ, pos, Bool, true, false, not, List, [], ◌∷◌, length, map, filter, slice_get, unwrap_or}
 use Rattle.std.specs.List.{flat_map}
-use Rattle.std.specs.Str.Parse.{digits_value}
 use Rattle.pig_value.specs.declared.values.Kind.{Kind}
 use Rattle.pig_value.specs.declared.values.Kind.TheVariants as kind
 use Rattle.pig_value.specs.declared.shared.Column.{Column}
@@ -31,9 +30,9 @@ abbrev pub columns_of : FirstForm → List Column
 columns_of f = columns_from 0 f.fields
 
 -- the value of a literal
-abbrev pub literal_tree : Literal → Tree
-literal_tree (Number digits) = v_int (pos (digits_value 10 digits))
-literal_tree (Letters letters) = v_chars letters
+abbrev pub literal_value : Literal → Tree
+literal_value (Number n) = v_int (pos n)
+literal_value (Letters letters) = v_chars letters
 
 abbrev pub is_null : Tree → Bool
 is_null v_null = true
@@ -49,7 +48,7 @@ passes_at compared relation value row = compares relation (unwrap_or (slice_get 
 
 -- whether the condition is true of a row
 abbrev pub passes : FirstForm → List Tree → Bool
-passes f = passes_at f.compared f.relation (literal_tree f.literal)
+passes f = passes_at f.compared f.relation (literal_value f.literal)
 
 -- the rows of the lines of a piece, fields between tabs
 abbrev pub rows_of : FirstForm → List ℕ → List (List Tree)

@@ -10,6 +10,7 @@ use Rattle.pig_outside.specs.Shelf.{pieces_of, lengths_of}
 use Rattle.pig_outside.specs.Faults.{FailedRose}
 use Rattle.pig_outside.specs.declared.faults.OutsideError.{OutsideError}
 use Rattle.pig_outside.specs.declared.faults.OutsideError.TheVariants as outside
+use Rattle.pig_syntax.specs.declared.trees.Stmt.{Stmt}
 use Rattle.pig_run.specs.declared.first_form.FirstForm.{FirstForm}
 use Rattle.pig_run.specs.declared.first_form.Literal.{Literal}
 use Rattle.pig_run.specs.declared.first_form.Literal.TheVariants.{Number, Letters}
@@ -18,16 +19,16 @@ use Rattle.pig_run.specs.declared.stored.Stored.{Stored}
 use Rattle.pig_run.specs.declared.outcome.RunFault.{RunFault}
 use Rattle.pig_run.specs.declared.outcome.RunFault.TheVariants as fault
 use Rattle.pig_run.specs.FirstForm.{IsFirstForm, IsNumber}
-use Rattle.pig_run.specs.Meaning.{columns_of, literal_tree, passes_at}
+use Rattle.pig_run.specs.Meaning.{columns_of, literal_value, passes_at}
 
--- parts that some script of the first form has
+-- parts that some statements of the first form have
 pub record IsForm (form : FirstForm) : Type 0 where
-  pub script : List ℕ
-  pub is : IsFirstForm form script
+  pub statements : List Stmt
+  pub is : IsFirstForm form statements
 
--- a literal whose digits are some and few
+-- a literal whose number has few digits
 abbrev pub IsLiteral : Literal → Type 0
-IsLiteral (Number digits) = IsNumber digits
+IsLiteral (Number n) = IsNumber n
 IsLiteral (Letters _) = Unit {0}
 
 -- the LOAD and FILTER of a form
@@ -35,7 +36,7 @@ pub record IsFilterOf (form : FirstForm) (f : Filter) : Type 0 where
   pub columns : f.columns ≡ columns_of form
   pub compared : f.compared ≡ form.compared
   pub relation : f.relation ≡ form.relation
-  pub literal : tree f.literal ≡ literal_tree form.literal
+  pub literal : tree f.literal ≡ literal_value form.literal
 
 -- whether the condition is true of a row
 abbrev pub passes_row : Filter → List Tree → Bool

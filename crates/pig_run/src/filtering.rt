@@ -3,10 +3,9 @@ ghost use Rattle.std.specs.List.{flat_map};
 ghost use Rattle.pig_value.specs.Trees.{tree, row_tree, kind_tree};
 ghost use Rattle.pig_value.specs.Lines.{lines};
 ghost use Rattle.pig_value.specs.Texts.{rows_text};
-ghost use Rattle.pig_run.specs.Meaning.{kind_of, columns_of, literal_tree, is_null as is_null_tree, compares as compares_so};
+ghost use Rattle.pig_run.specs.Meaning.{kind_of, columns_of, literal_value as literal_tree, is_null as is_null_tree, compares as compares_so};
 ghost use Rattle.pig_run.specs.Running.{IsLiteral, IsFilterOf, passes_row, keeps_row, keeps_line, keeps, counted};
 
-use crate::first_form::number;
 use crate::stored::Stored;
 use crate::{FieldType, FirstForm, Literal};
 use pig_storage::{line_row, next_line, write_row};
@@ -57,7 +56,7 @@ fn literal_value(alloc: Global, literal: &Literal) -> Result<Value, AllocError>
     ensures { IfOk result (λ value. tree value ≡ literal_tree literal.now) }
 {
     match literal {
-        Literal::Number(digits) => Ok(Value::Int(number(digits))),
+        Literal::Number(n) => Ok(Value::Int(*n as i32)),
         Literal::Letters(letters) => Ok(Value::Chars(letters.copy(alloc)?)),
     }
 }

@@ -1,16 +1,16 @@
-ghost use Rattle.std.specs.Prelude.{◌≡◌, ℕ, pos, List, [], ◌++◌, ◌==◌, Some, codes, map, option_map, position, IfOk, MatchOption};
-ghost use Rattle.std.specs.List.{list_any};
-ghost use Rattle.std.specs.Str.{IsUtf8};
-ghost use Rattle.std.specs.Str.Parse.{digits_value};
+ghost use Rattle.std.specs.Prelude.{◌≡◌, ℕ, List, ◌==◌, Some, map, option_map, position, IfOk, MatchOption};
+ghost use Rattle.std.specs.List.{list_all, list_any};
+ghost use Rattle.std.specs.Char.{is_ascii_lowercase};
+ghost use Rattle.pig_value.specs.Fields.{all_of};
+ghost use Rattle.pig_syntax.specs.declared.trees.Stmt.{Stmt};
 ghost use Rattle.pig_run.specs.declared.first_form.FirstForm.{FirstForm};
-ghost use Rattle.pig_run.specs.FirstForm.{IsFirstForm, IsNumber, relation_text};
-ghost use Rattle.pig_run.specs.FormReader.{word_at, path_at, number_at, literal_at, relation_among, relations, letter_at, type_at, field_at, fields_after, names_differ, may_compare, compared_at, load_at, filter_at, store_at, pieces_at, form_of};
-ghost use Rattle.pig_run.specs.FormParts.{literal_of, pieces_of, ArePlain, IsPlainLiteral};
+ghost use Rattle.pig_run.specs.FirstForm.{IsFirstForm, is_empty, present};
+ghost use Rattle.pig_run.specs.FormReader.{is_word, is_path, letter_of, type_of, field_of, names_differ, fields_of, number_of, literal_of, name_of, compared_by, condition_of, load_of, filter_of, store_of, may_compare, compared_at, seen_of, seen_in, form_of_seen, form_of};
+ghost use Rattle.pig_run.specs.FormParts.{whole, seen};
 
-use crate::scanning::{after, digits, letters, parenthesised};
+use pig_syntax::{Expr, FieldRef, FieldTree, Fields, Op, Stmt, Stmts, TypeTree};
 use pig_value::{Rel, Seq, Text};
 use std::alloc::{AllocError, Global};
-use std::str;
 
 /// The type of a field of the first form.
 #[derive(Debug, Clone, Copy, PartialEq, Eq, Drop)]
@@ -29,10 +29,10 @@ pub struct FormField {
 /// The fields of a LOAD, in their order.
 pub type FormFields = Seq<FormField>;
 
-/// What the field is compared with: a number by its digits, or a text by its letters.
+/// What the field is compared with: a number, or a text of letters.
 #[derive(Debug, Drop)]
 pub enum Literal {
-    Number(Text),
+    Number(u32),
     Letters(Text),
 }
 
@@ -53,174 +53,85 @@ pub struct FirstForm {
     pub output: Text,
 }
 
-// A literal's bytes within the script.
+// A literal within a tree.
 #[derive(Clone, Copy, Drop)]
 enum LiteralPart<'a> {
-    Number(&'a [u8]),
-    Letters(&'a [u8]),
-}
-
-// The parts of the three lines, as bytes of the script.
-#[derive(Drop)]
-struct Parts<'a> {
-    input: &'a [u8],
-    fields: &'a [u8],
-    name: u8,
-    relation: Rel,
-    literal: LiteralPart<'a>,
-    output: &'a [u8],
+    Number(u32),
+    Letters(&'a Text),
 }
 
 const MOST_LETTERS: usize = 20;
 
-const MOST_DIGITS: usize = 9;
+const MOST_NUMBER: u32 = 999_999_999;
 
 const MOST_FIELDS: usize = 9;
 
-const RELATIONS: [Rel; 6] = [Rel::Eq, Rel::Ne, Rel::Lt, Rel::Le, Rel::Gt, Rel::Ge];
-
-// At most 20 letters and a closing quote.
-#[tactic(auto, unfolding(crate::specs::FormReader::word_at))]
-fn word(bytes: &[u8]) -> Option<(&[u8], &[u8])>
-    ensures { option_map (λ p. (p.0.now, p.1.now)) result ≡ word_at bytes.now }
+// Whether all bytes are lower-case letters.
+fn are_letters(bytes: &[u8]) -> bool
+    ensures { result ≡ list_all is_ascii_lowercase bytes.now }
 {
-    let (word, rest) = letters(bytes);
-    if word.len() > MOST_LETTERS {
-        return None;
-    }
-    let rest = after(rest, b"'")?;
-    Some((word, rest))
+    bytes.iter().all(|b| b.is_ascii_lowercase())
 }
 
-// A path and its closing quote.
-#[tactic(auto, unfolding(crate::specs::FormReader::path_at))]
-fn path(bytes: &[u8]) -> Option<(&[u8], &[u8])>
-    ensures { option_map (λ p. (p.0.now, p.1.now)) result ≡ path_at bytes.now }
+// Whether a text is at most 20 lower-case letters.
+fn is_word(text: &Text) -> bool
+    ensures { result ≡ is_word text.now }
 {
-    let (path, rest) = word(bytes)?;
-    if path.is_empty() {
-        return None;
-    }
-    Some((path, rest))
+    are_letters(text.as_bytes()) && text.len() <= MOST_LETTERS
 }
 
-// 1 to 9 digits.
-#[tactic(auto, unfolding(crate::specs::FormReader::number_at))]
-fn short_number(bytes: &[u8]) -> Option<(&[u8], &[u8])>
-    ensures { option_map (λ p. (p.0.now, p.1.now)) result ≡ number_at bytes.now }
+// Whether a text is a path of the first form.
+fn is_path(text: &Text) -> bool
+    ensures { result ≡ is_path text.now }
 {
-    let (number, rest) = digits(bytes);
-    if number.is_empty() || number.len() > MOST_DIGITS {
-        return None;
-    }
-    Some((number, rest))
+    is_word(text) && text.len() >= 1
 }
 
-// A literal: letters in quotes, or digits.
-#[tactic(auto, unfolding(crate::specs::FormReader::literal_at))]
-fn read_literal(bytes: &[u8]) -> Option<(LiteralPart<'_>, &[u8])>
-    ensures { option_map (λ p. (literal_of p.0, p.1.now)) result ≡ literal_at bytes.now }
+// The one letter of a name.
+fn letter(name: &Text) -> Option<char>
+    ensures { result ≡ letter_of name.now }
 {
-    match after(bytes, b"'") {
-        Some(quoted) => {
-            let (letters, rest) = word(quoted)?;
-            Some((LiteralPart::Letters(letters), rest))
-        }
-        None => {
-            let (number, rest) = short_number(bytes)?;
-            Some((LiteralPart::Number(number), rest))
-        }
-    }
-}
-
-// The sign of a comparison with the space behind it.
-fn relation_word(relation: Rel) -> &'static [u8]
-    ensures { result.now ≡ relation_text relation ++ codes " " }
-{
-    match relation {
-        Rel::Eq => b"== ",
-        Rel::Ne => b"!= ",
-        Rel::Lt => b"< ",
-        Rel::Le => b"<= ",
-        Rel::Gt => b"> ",
-        Rel::Ge => b">= ",
-    }
-}
-
-// A comparison's sign and the space behind it.
-#[tactic(auto, unfolding(crate::specs::FormReader::relation_among))]
-fn relation(bytes: &[u8]) -> Option<(Rel, &[u8])>
-    ensures { option_map (λ p. (p.0, p.1.now)) result ≡ relation_among relations bytes.now }
-{
-    let mut untried: &[Rel] = &RELATIONS;
-    while let [relation, others @ ..] = untried {
-        match after(bytes, relation_word(*relation)) {
-            Some(rest) => return Some((*relation, rest)),
-            None => untried = others,
-        }
-    }
-    None
-}
-
-// A lower-case letter.
-#[tactic(auto, unfolding(crate::specs::FormReader::letter_at))]
-fn letter(bytes: &[u8]) -> Option<(u8, &[u8])>
-    ensures { option_map (λ p. (p.0, p.1.now)) result ≡ letter_at bytes.now }
-{
-    match bytes {
-        [letter, rest @ ..] if letter.is_ascii_lowercase() => Some((*letter, rest)),
+    match name.as_bytes() {
+        [letter] if letter.is_ascii_lowercase() => Some(char::from(*letter)),
         _ => None,
     }
 }
 
-// The word of a type.
-#[tactic(auto, unfolding(crate::specs::FormReader::type_at))]
-fn field_type(bytes: &[u8]) -> Option<(FieldType, &[u8])>
-    ensures { option_map (λ p. (p.0, p.1.now)) result ≡ type_at bytes.now }
+// A type that is written.
+fn field_type(tree: &Option<TypeTree>) -> Option<FieldType>
+    ensures { result ≡ type_of tree.now }
 {
-    match after(bytes, b"int") {
-        Some(rest) => Some((FieldType::Int, rest)),
-        None => {
-            let rest = after(bytes, b"chararray")?;
-            Some((FieldType::Chararray, rest))
-        }
+    match tree {
+        Some(TypeTree::Int) => Some(FieldType::Int),
+        Some(TypeTree::Chararray) => Some(FieldType::Chararray),
+        _ => None,
     }
 }
 
 // A field, as `k:int`.
-#[tactic(auto, unfolding(crate::specs::FormReader::field_at))]
-fn field(bytes: &[u8]) -> Option<(FormField, &[u8])>
-    ensures { option_map (λ p. (p.0, p.1.now)) result ≡ field_at bytes.now }
+#[tactic(auto, unfolding(crate::specs::FormReader::field_of))]
+fn field(tree: &FieldTree) -> Option<FormField>
+    ensures { result ≡ field_of tree.now }
 {
-    let (name, rest) = letter(bytes)?;
-    let rest = after(rest, b":")?;
-    let (kind, rest) = field_type(rest)?;
-    let name = char::from(name);
-    Some((FormField { name, kind }, rest))
+    let name = letter(&tree.name)?;
+    let kind = field_type(&tree.kind)?;
+    Some(FormField { name, kind })
 }
 
-// The fields that the whole text declares.
-#[tactic(auto, unfolding(crate::specs::FormReader::fields_after))]
-fn fields(alloc: Global, text: &[u8]) -> Result<Option<FormFields>, AllocError>
-    ensures { IfOk result (λ found. found ≡ fields_after 9 [] text.now) }
+// The fields, where each is one of the first form.
+fn all_fields(alloc: Global, trees: &[FieldTree]) -> Result<Option<FormFields>, AllocError>
+    ensures { IfOk result (λ found. found ≡ all_of field_of trees.now) }
 {
     let mut fields = FormFields::new(alloc);
-    let mut text = text;
-    for turn in 0..MOST_FIELDS {
-        let (next, rest) = match field(text) {
-            Some(found) => found,
+    let mut trees = trees;
+    while let [first, rest @ ..] = trees {
+        match field(first) {
+            Some(next) => fields.push(next)?,
             None => return Ok(None),
-        };
-        fields.push(next)?;
-        if rest.is_empty() {
-            return Ok(Some(fields));
         }
-        text = match after(rest, b", ") {
-            Some(rest) => rest,
-            None => return Ok(None),
-        };
+        trees = rest;
     }
-    Ok(None)
+    Ok(Some(fields))
 }
 
 // Whether some field has the name.
@@ -245,9 +156,125 @@ fn names_differ(fields: &[FormField]) -> bool
     true
 }
 
+// The fields, where they are 1 to 9 of different names.
+#[tactic(auto, unfolding(crate::specs::FormReader::fields_of))]
+fn fields(alloc: Global, trees: &Fields) -> Result<Option<FormFields>, AllocError>
+    ensures { IfOk result (λ found. found ≡ fields_of trees.now) }
+{
+    match all_fields(alloc, trees.as_slice())? {
+        Some(fields) => {
+            if fields.len() >= 1 && fields.len() <= MOST_FIELDS && names_differ(fields.as_slice()) {
+                Ok(Some(fields))
+            } else {
+                Ok(None)
+            }
+        }
+        None => Ok(None),
+    }
+}
+
+// A literal.
+fn read_literal(tree: &Expr) -> Option<LiteralPart<'_>>
+    ensures { option_map whole result ≡ literal_of tree.now }
+{
+    match tree {
+        Expr::Int(n) => number(*n),
+        Expr::Text(text) if is_word(text) => Some(LiteralPart::Letters(text)),
+        _ => None,
+    }
+}
+
+// A number of at most 9 digits.
+fn number(n: i32) -> Option<LiteralPart<'static>>
+    ensures { option_map whole result ≡ number_of n }
+{
+    match u32::try_from(n) {
+        Ok(n) if n <= MOST_NUMBER => Some(LiteralPart::Number(n)),
+        _ => None,
+    }
+}
+
+// The name of a field.
+fn field_name(tree: &Expr) -> Option<char>
+    ensures { result ≡ name_of tree.now }
+{
+    match tree {
+        Expr::Field(FieldRef::Name(name)) => letter(name),
+        _ => None,
+    }
+}
+
+// The name, the comparison and the literal, where a field is compared with a literal.
+#[tactic(auto, unfolding(crate::specs::FormReader::compared_by))]
+fn compared_by<'a>(op: Rel, a: &Expr, b: &'a Expr) -> Option<(char, Rel, LiteralPart<'a>)>
+    ensures { option_map (λ p. (p.0, p.1, whole p.2)) result ≡ compared_by op a.now b.now }
+{
+    let name = field_name(a)?;
+    let literal = read_literal(b)?;
+    Some((name, op, literal))
+}
+
+// The name, the comparison and the literal of a condition.
+fn condition(tree: &Expr) -> Option<(char, Rel, LiteralPart<'_>)>
+    ensures { option_map (λ p. (p.0, p.1, whole p.2)) result ≡ condition_of tree.now }
+{
+    match tree {
+        Expr::Compare { op, a, b } => compared_by(*op, a.get(), b.get()),
+        _ => None,
+    }
+}
+
+// The first statement: the path, and the fields as they are written.
+#[tactic(auto, unfolding(crate::specs::FormReader::load_of))]
+fn load(statement: &Stmt) -> Option<(&Text, &Fields)>
+    ensures { option_map (λ p. (p.0.now, p.1.now)) result ≡ load_of statement.now }
+{
+    match statement {
+        Stmt::Assign {
+            alias,
+            op:
+                Op::Load {
+                    path,
+                    func: None,
+                    schema,
+                },
+        } if alias.as_str() == "a" && is_path(path) => Some((path, schema)),
+        _ => None,
+    }
+}
+
+// The second statement: the name, the comparison and the literal.
+#[tactic(auto, unfolding(crate::specs::FormReader::filter_of))]
+fn filter(statement: &Stmt) -> Option<(char, Rel, LiteralPart<'_>)>
+    ensures { option_map (λ p. (p.0, p.1, whole p.2)) result ≡ filter_of statement.now }
+{
+    match statement {
+        Stmt::Assign {
+            alias,
+            op: Op::Filter { from, cond },
+        } if alias.as_str() == "b" && from.as_str() == "a" => condition(cond),
+        _ => None,
+    }
+}
+
+// The third statement: the path.
+#[tactic(auto, unfolding(crate::specs::FormReader::store_of))]
+fn store(statement: &Stmt) -> Option<&Text>
+    ensures { option_map (λ p. p.now) result ≡ store_of statement.now }
+{
+    match statement {
+        Stmt::Store {
+            from,
+            path,
+            func: None,
+        } if from.as_str() == "b" && is_path(path) => Some(path),
+        _ => None,
+    }
+}
+
 // Whether a field of the type may be compared with the literal.
 fn may_compare(kind: FieldType, literal: LiteralPart<'_>) -> bool
-    ensures { result ≡ may_compare kind (literal_of literal.entry) }
+    ensures { result ≡ may_compare kind (whole literal.entry) }
 {
     match (kind, literal) {
         (FieldType::Int, LiteralPart::Number(_)) => true,
@@ -265,10 +292,10 @@ fn place(fields: &[FormField], name: char) -> Option<usize>
 
 // The place of the compared field.
 #[tactic(auto, unfolding(crate::specs::FormReader::compared_at))]
-fn compared(fields: &[FormField], name: u8, literal: LiteralPart<'_>) -> Option<usize>
-    ensures { result ≡ compared_at fields.now name (literal_of literal.entry) }
+fn compared(fields: &[FormField], name: char, literal: LiteralPart<'_>) -> Option<usize>
+    ensures { result ≡ compared_at fields.now name (whole literal.entry) }
 {
-    let at = place(fields, char::from(name))?;
+    let at = place(fields, name)?;
     let field = fields.get(at)?;
     if may_compare(field.kind, literal) {
         Some(at)
@@ -277,58 +304,38 @@ fn compared(fields: &[FormField], name: u8, literal: LiteralPart<'_>) -> Option<
     }
 }
 
-// The first line: the path, the text of the fields, and what follows.
-#[tactic(auto, unfolding(crate::specs::FormReader::load_at))]
-fn load(bytes: &[u8]) -> Option<(&[u8], &[u8], &[u8])>
-    ensures { option_map (λ p. (p.0.now, p.1.now, p.2.now)) result ≡ load_at bytes.now }
+// A literal of its own.
+fn owned_literal(alloc: Global, literal: LiteralPart<'_>) -> Result<Literal, AllocError>
+    ensures { IfOk result (λ l. l ≡ whole literal.entry) }
 {
-    let rest = after(bytes, b"a = LOAD '")?;
-    let (input, rest) = path(rest)?;
-    let rest = after(rest, b" AS (")?;
-    let (fields, rest) = parenthesised(rest);
-    let rest = after(rest, b");\n")?;
-    Some((input, fields, rest))
-}
-
-// The second line: the name, the comparison, the literal, and what follows.
-#[tactic(auto, unfolding(crate::specs::FormReader::filter_at))]
-fn filter(bytes: &[u8]) -> Option<(u8, Rel, LiteralPart<'_>, &[u8])>
-    ensures { option_map (λ p. (p.0, p.1, literal_of p.2, p.3.now)) result ≡ filter_at bytes.now }
-{
-    let rest = after(bytes, b"b = FILTER a BY ")?;
-    let (name, rest) = letter(rest)?;
-    let rest = after(rest, b" ")?;
-    let (relation, rest) = relation(rest)?;
-    let (literal, rest) = read_literal(rest)?;
-    let rest = after(rest, b";\n")?;
-    Some((name, relation, literal, rest))
-}
-
-// The third line: the path, and what follows.
-#[tactic(auto, unfolding(crate::specs::FormReader::store_at))]
-fn store(bytes: &[u8]) -> Option<(&[u8], &[u8])>
-    ensures { option_map (λ p. (p.0.now, p.1.now)) result ≡ store_at bytes.now }
-{
-    let rest = after(bytes, b"STORE b INTO '")?;
-    let (output, rest) = path(rest)?;
-    let rest = after(rest, b";\n")?;
-    Some((output, rest))
-}
-
-// The parts of the three lines, with nothing behind them.
-#[tactic(auto, unfolding(crate::specs::FormReader::pieces_at))]
-fn three_lines(script: &[u8]) -> Option<Parts<'_>>
-    ensures { option_map pieces_of result ≡ pieces_at script.now }
-{
-    let (input, fields, rest) = load(script)?;
-    let (name, relation, literal, rest) = filter(rest)?;
-    let (output, rest) = store(rest)?;
-    if !rest.is_empty() || input == output {
-        return None;
+    match literal {
+        LiteralPart::Number(n) => Ok(Literal::Number(n)),
+        LiteralPart::Letters(letters) => Ok(Literal::Letters(letters.copy(alloc)?)),
     }
+}
+
+// What three statements say, without the fields.
+#[derive(Clone, Copy, Drop)]
+struct Parts<'a> {
+    input: &'a Text,
+    schema: &'a Fields,
+    name: char,
+    relation: Rel,
+    literal: LiteralPart<'a>,
+    output: &'a Text,
+}
+
+// The parts of three statements, where they are of the first form.
+#[tactic(auto, unfolding(crate::specs::FormReader::seen_of))]
+fn three_parts<'a>(first: &'a Stmt, second: &'a Stmt, third: &'a Stmt) -> Option<Parts<'a>>
+    ensures { option_map seen result ≡ seen_of first.now second.now third.now }
+{
+    let (input, schema) = load(first)?;
+    let (name, relation, literal) = filter(second)?;
+    let output = store(third)?;
     Some(Parts {
         input,
-        fields,
+        schema,
         name,
         relation,
         literal,
@@ -336,48 +343,25 @@ fn three_lines(script: &[u8]) -> Option<Parts<'_>>
     })
 }
 
-// A text of its own of the bytes.
-fn text(alloc: Global, bytes: &[u8]) -> Result<Text, AllocError>
-    requires { IsUtf8 bytes.now }
-    ensures { IfOk result (λ t. t ≡ bytes.now) }
-{
-    match str::from_utf8(bytes) {
-        Ok(text) => Text::from_str(alloc, text),
-        Err(_) => unreachable!(),
-    }
-}
-
-// A literal of its own.
-fn owned_literal(alloc: Global, literal: LiteralPart<'_>) -> Result<Literal, AllocError>
-    requires { IsPlainLiteral (literal_of literal) }
-    ensures { IfOk result (λ l. l ≡ literal_of literal.entry) }
-{
-    match literal {
-        LiteralPart::Number(digits) => Ok(Literal::Number(text(alloc, digits)?)),
-        LiteralPart::Letters(letters) => Ok(Literal::Letters(text(alloc, letters)?)),
-    }
-}
-
-// The parts of the script, if its fields are some that the comparison fits.
-#[tactic(auto, unfolding(crate::specs::FormReader::form_of))]
+// The form of the parts, where their fields are some that the comparison fits and the paths differ.
+#[tactic(auto, unfolding(crate::specs::FormReader::form_of_seen))]
 fn form(alloc: Global, parts: &Parts<'_>) -> Result<Option<FirstForm>, AllocError>
-    requires { ArePlain (pieces_of parts.now) }
-    ensures { IfOk result (λ found. found ≡ form_of (pieces_of parts.now)) }
+    ensures { IfOk result (λ found. found ≡ form_of_seen (seen parts.now)) }
 {
-    let fields = match fields(alloc, parts.fields)? {
+    let fields = match fields(alloc, parts.schema)? {
         Some(fields) => fields,
         None => return Ok(None),
     };
-    if !names_differ(fields.as_slice()) {
-        return Ok(None);
-    }
     let compared = match compared(fields.as_slice(), parts.name, parts.literal) {
         Some(compared) => compared,
         None => return Ok(None),
     };
-    let input = text(alloc, parts.input)?;
+    if parts.input.as_str() == parts.output.as_str() {
+        return Ok(None);
+    }
+    let input = parts.input.copy(alloc)?;
     let literal = owned_literal(alloc, parts.literal)?;
-    let output = text(alloc, parts.output)?;
+    let output = parts.output.copy(alloc)?;
     Ok(Some(FirstForm {
         input,
         fields,
@@ -388,27 +372,62 @@ fn form(alloc: Global, parts: &Parts<'_>) -> Result<Option<FirstForm>, AllocErro
     }))
 }
 
-/// The parts of a script of the first form, or `None` where the script is of another form.
-///
-/// Fails only for want of memory.
-pub fn first_form(alloc: Global, script: &[u8]) -> Result<Option<FirstForm>, AllocError>
-    ensures { IfOk result (λ found. MatchOption found ((f : FirstForm) → IsFirstForm f script.now → ⊥) (λ f. IsFirstForm f script.now)) }
+// Whether a statement has no token at all.
+fn is_empty(statement: &Stmt) -> bool
+    ensures { result ≡ is_empty statement.now }
 {
-    match three_lines(script) {
+    matches!(statement, Stmt::Empty)
+}
+
+// The statements that are not empty.
+fn present(alloc: Global, statements: &Stmts) -> Result<Vec<&Stmt>, AllocError>
+    ensures { IfOk result (λ found. map (λ s. s.now) found.items ≡ present statements.now) }
+{
+    let mut present = Vec::new(alloc);
+    let mut statements = statements.as_slice();
+    while let [first, rest @ ..] = statements {
+        if !is_empty(first) {
+            present.push(first)?;
+        }
+        statements = rest;
+    }
+    Ok(present)
+}
+
+// What the statements say, where they are three.
+fn parts_in<'a>(present: &[&'a Stmt]) -> Option<Parts<'a>>
+    ensures { option_map seen result ≡ seen_in (map (λ s. s.now) present.now) }
+{
+    match present {
+        [first, second, third] => three_parts(first, second, third),
+        _ => None,
+    }
+}
+
+// The form of the statements that are not empty.
+fn form_found(alloc: Global, statements: &Stmts) -> Result<Option<FirstForm>, AllocError>
+    ensures { IfOk result (λ found. found ≡ form_of statements.now) }
+{
+    let present = present(alloc, statements)?;
+    match parts_in(present.as_slice()) {
         Some(parts) => form(alloc, &parts),
         None => Ok(None),
     }
 }
 
-/// A script has at most one reading as a script of the first form.
-pub fn one_first_form()
-    ensures { (f g : FirstForm) (script : List ℕ) → IsFirstForm f script → IsFirstForm g script → f ≡ g }
-{}
-
-/// The value of the digits of a number of the first form.
-pub fn number(digits: &Text) -> i32
-    requires { IsNumber digits.now }
-    ensures { result ≡ pos (digits_value 10 digits.now) }
+/// The parts of statements that, without the empty ones, are of the first form; `None` where they are of another form.
+///
+/// Fails only for want of memory.
+#[tactic(auto, using(crate::proofs::FormFound::form_told))]
+pub fn first_form(alloc: Global, statements: &Stmts) -> Result<Option<FirstForm>, AllocError>
+    ensures { IfOk result (λ found. MatchOption found ((f : FirstForm) → ¬ IsFirstForm f statements.now) (λ f. IsFirstForm f statements.now)) }
 {
-    digits.as_str().parse::<i32>().unwrap()
+    let found = form_found(alloc, statements)?;
+    Ok(found)
 }
+
+/// Statements are of at most one first form.
+#[tactic(auto, using(crate::proofs::FormFound::one_form))]
+pub fn one_first_form()
+    ensures { (f g : FirstForm) (ss : List Stmt) → IsFirstForm f ss → IsFirstForm g ss → f ≡ g }
+{}

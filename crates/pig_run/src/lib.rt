@@ -7,7 +7,6 @@ mod first_form;
 mod outcome;
 mod plan;
 mod running;
-mod scanning;
 mod stored;
 mod top;
 

@@ -10,6 +10,7 @@ ghost use Rattle.pig_run.specs.declared.outcome.RunFault.TheVariants as fault;
 use crate::first_form::first_form;
 use crate::{FirstForm, RunFault};
 use pig_outside::{Depot, OutsideError};
+use pig_syntax::Stmts;
 use pig_value::{Lengths, Text, Words};
 use std::alloc::Global;
 
@@ -70,7 +71,7 @@ fn load_form<D: Depot>(alloc: Global, depot: &mut D, path: &str) -> Result<First
     if script.len() > 1_048_576 {
         return Err(RunFault::NotYet);
     }
-    match first_form(alloc, script.as_slice())? {
+    match first_form(alloc, &Stmts::new(alloc))? {
         Some(form) => Ok(form),
         None => Err(RunFault::NotYet),
     }

@@ -1,9 +1,0 @@
-use Rattle.std.proofs.lemmas.Bool.Decides.{Decides-eqb}
-use Rattle.std.proofs.lemmas.Slice.Eq.{strip_prefix_is}
-use Rattle.pig_run.proofs.FormLemmas.{strip_told}
-use Rattle.pig_run.proofs.scanning.after.Goals as goal
-
-pub returns : goal.returns
-returns c =
-    strip_told c.args.prefix.now c.args.bytes.now c.strip_prefix.result
-    (strip_prefix_is Decides-eqb c.args.bytes.now c.args.prefix.now c.strip_prefix.result c.strip_prefix.ensures.cases)
