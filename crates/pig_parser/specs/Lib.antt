@@ -1,0 +1,5 @@
+pub mod Grammar
+pub mod Statements
+pub mod Reader
+pub mod Nests
+pub mod ExprReader
