@@ -3,3 +3,4 @@ pub mod Statements
 pub mod Reader
 pub mod Nests
 pub mod ExprReader
+pub mod StatementReader

@@ -35,8 +35,8 @@ pub struct Grammar<F> {
     inner: F,
 }
 
-// The types in a cast nest less deep than this.
-const MOST_NESTED: u32 = 65;
+/// The types and expressions of a statement nest less deep than this.
+pub const MOST_NESTED: u32 = 65;
 
 // The operator that a token is in a chain.
 fn operator(chain: Chain, token: &Token) -> Option<ChainOp>

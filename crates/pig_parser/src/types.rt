@@ -353,3 +353,19 @@ pub fn schema(alloc: Global, tokens: &[Token], depth: u32) -> Result<(Fields, &[
     }
     .schema(tokens)
 }
+
+/// A field with its type, where one is written, whose brackets nest less deep than `depth`.
+pub fn field(
+    alloc: Global,
+    tokens: &[Token],
+    depth: u32,
+) -> Result<(FieldTree, &[Token]), ParseFault>
+    ensures { Gives (field_at (type_at depth) (forms tokens.now)) result }
+{
+    TypeRules {
+        alloc,
+        depth,
+        inner: type_tree,
+    }
+    .read(tokens)
+}
