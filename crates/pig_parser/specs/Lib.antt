@@ -4,3 +4,4 @@ pub mod Reader
 pub mod Nests
 pub mod ExprReader
 pub mod StatementReader
+pub mod Parsing

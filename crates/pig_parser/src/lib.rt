@@ -5,7 +5,10 @@ mod blocks;
 mod exprs;
 mod names;
 mod operators;
+mod parsing;
 mod parts;
 mod reading;
 mod statements;
 mod types;
+
+pub use parsing::{SyntaxFault, a_script_has_one_answer, a_statement_has_one_tree, parse};
