@@ -40,6 +40,12 @@ pub record FindsRun {A : Type 0} (turn : Forms → Turn A) (ts : Forms) (found :
   pub fits : Fits rest d
   pub shorter : length rest ≤ length ts
 
+-- the same where the reader may find that nothing stands there
+pub record FindsMaybe {A : Type 0} (reader : Forms → Found A) (ts : Forms) (found : A) (rest : Forms) (d : ℕ) : Type 0 where
+  pub finds : reader ts ≡ Some (found, rest)
+  pub fits : Fits rest d
+  pub shorter : length rest ≤ length ts
+
 -- ---- X { ',' X }
 
 unmapped : {A : Type 0} (o : Option A) (x : A) → option_map Some o ≡ Some (Some x) → o ≡ Some x

@@ -11,8 +11,9 @@ pub mod NamesFound
 pub mod TypesFound
 pub mod Follow
 pub mod ExprsFound
+pub mod PartsFound
+pub mod StatementsFound
 pub mod OneTree
-pub mod StatementLaws
 pub mod Depths
 pub mod TreeOf
 pub mod TreesInTurn

@@ -1,16 +1,14 @@
 -- A script has one list of trees, or one first statement that has none.
-use Rattle.std.proofs.Common.{◌≡◌, ◌+◌, ℕ, suc, refl, List, [], ◌∷◌, ◌++◌, length, sym, ap, ◌∙◌, subst, arith}
+use Rattle.std.proofs.Common.{◌≡◌, ℕ, suc, refl, List, ◌∷◌, ◌++◌, length, sym, ap, subst, arith}
 use Rattle.pig_syntax.specs.declared.cutting.Piece.{Piece}
 use Rattle.pig_syntax.specs.declared.tokens.Token.{Token}
 use Rattle.pig_syntax.specs.declared.trees.Stmt.{Stmt}
-use Rattle.pig_syntax.specs.Cutting.{piece_of}
 use Rattle.pig_parser.specs.Parsing.{IsTreeOf, HasNoTree, AreTrees, no_trees, trees, IsFirstOff}
-use Rattle.pig_parser.specs.Reader.{forms}
-use Rattle.pig_parser.proofs.StatementLaws.{one_statement}
+use Rattle.pig_parser.proofs.OneTree.{one_statement}
 
 -- a statement has one tree
 one_tree : (ts : List Token) (p : Piece) (s u : Stmt) → IsTreeOf ts p s → IsTreeOf ts p u → s ≡ u
-one_tree ts p s u h g = one_statement (forms (piece_of ts p)) s u h.stands g.stands
+one_tree ts p s u h g = one_statement h.stands g.stands
 
 pub same_trees : (ts : List Token) {ps : List Piece} {ss us : List Stmt} → AreTrees ts ps ss → AreTrees ts ps us → ss ≡ us
 same_trees ts no_trees no_trees = refl

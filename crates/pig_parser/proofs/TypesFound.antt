@@ -137,7 +137,7 @@ mutual
       let first = field_found h d n fits low refl in
       finds_more first (fields_found later d n first.fits low bare ends)
 
-  field_found : {ts rest : Forms} {field : FieldTree} → IsField ts field rest → (d n : ℕ) → Fits ts d → d < n → colon rest ≡ None → Finds (field_at (type_at n)) ts field rest d
+  pub field_found : {ts rest : Forms} {field : FieldTree} → IsField ts field rest → (d n : ℕ) → Fits ts d → d < n → colon rest ≡ None → Finds (field_at (type_at n)) ts field rest d
   field_found (field_bare {ts = ts} {text = text}) d n fits low bare = record { finds = bare_field (type_at n) text ts bare; fits = fits; shorter = omega arith }
   field_found (field_typed h) d n fits low bare =
       let found = type_found h d n fits low in

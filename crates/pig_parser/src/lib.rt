@@ -9,6 +9,8 @@ mod parsing;
 mod parts;
 mod reading;
 mod statements;
+#[cfg(test)]
+mod tests;
 mod types;
 
 pub use parsing::{SyntaxFault, a_script_has_one_answer, a_statement_has_one_tree, parse};

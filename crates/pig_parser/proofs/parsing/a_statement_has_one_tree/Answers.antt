@@ -1,5 +1,5 @@
-use Rattle.pig_parser.proofs.StatementLaws.{one_statement}
+use Rattle.pig_parser.proofs.OneTree.{one_statement}
 use Rattle.pig_parser.proofs.parsing.a_statement_has_one_tree.Goals as goal
 
 pub returns : goal.returns
-returns c ts s u h g = one_statement ts s u h g
+returns c ts s u h g = one_statement h g
