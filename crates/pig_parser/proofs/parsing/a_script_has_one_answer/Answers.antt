@@ -1,0 +1,5 @@
+use Rattle.pig_parser.proofs.OneAnswer.{same_trees, one_first, not_both}
+use Rattle.pig_parser.proofs.parsing.a_script_has_one_answer.Goals as goal
+
+pub returns : goal.returns
+returns c = record { trees = λ ts ps ss us h g. same_trees ts h g; first = one_first; not_both = not_both }

@@ -1,0 +1,216 @@
+-- The grammar of fields, types and expressions: what is read from the front of some tokens, its tree, and what is left. Each rule
+-- stands beside the alternative that it is. Names in capitals are keywords, [ ] is what may be left out, { } what may be repeated.
+use Rattle.std.specs.Prelude.{◌≡◌, ℕ, true, false, List, [], ◌∷◌, ◌++◌, Option, Some, None, codes}
+use Rattle.pig_value.specs.declared.shared.ChainOp.{ChainOp}
+use Rattle.pig_value.specs.declared.shared.ChainOp.TheVariants as op
+use Rattle.pig_value.specs.declared.shared.Rel.{Rel}
+use Rattle.pig_value.specs.declared.shared.Rel.TheVariants as rel
+use Rattle.pig_syntax.specs.declared.tokens.Keyword.{Keyword}
+use Rattle.pig_syntax.specs.declared.tokens.Keyword.TheVariants as k
+use Rattle.pig_syntax.specs.declared.tokens.Symbol.TheVariants as s
+use Rattle.pig_syntax.specs.declared.tokens.TokenForm.{TokenForm}
+use Rattle.pig_syntax.specs.declared.tokens.TokenForm.TheVariants as f
+use Rattle.pig_syntax.specs.declared.trees.Expr.{Expr}
+use Rattle.pig_syntax.specs.declared.trees.Expr.TheVariants as e
+use Rattle.pig_syntax.specs.declared.trees.FieldRef.{FieldRef}
+use Rattle.pig_syntax.specs.declared.trees.FieldRef.TheVariants as ref
+use Rattle.pig_syntax.specs.declared.trees.FieldTree.{FieldTree}
+use Rattle.pig_syntax.specs.declared.trees.Link.{Link}
+use Rattle.pig_syntax.specs.declared.trees.PostStep.{PostStep}
+use Rattle.pig_syntax.specs.declared.trees.PostStep.TheVariants as step
+use Rattle.pig_syntax.specs.declared.trees.TypeTree.{TypeTree}
+use Rattle.pig_syntax.specs.declared.trees.TypeTree.TheVariants as type
+
+-- the forms of tokens, one after the other
+abbrev pub Forms : Type 0
+Forms = List TokenForm
+
+-- X { ',' X }
+pub data Listed {X : Type 0} (Reads : Forms → X → Forms → Type 0) : Forms → List X → Forms → Type 0 where
+  last : {ts rest : Forms} {x : X} → Reads ts x rest → Listed Reads ts (x ∷ []) rest
+  more : {ts mid rest : Forms} {x : X} {xs : List X} → Reads ts x (f.Symbol s.Comma ∷ mid) → Listed Reads mid xs rest → Listed Reads ts (x ∷ xs) rest
+
+-- ---- names
+
+-- part = Ident | GROUP, where GROUP is the name `group`
+abbrev pub part_of : TokenForm → Option (List ℕ)
+part_of (f.Ident text) = Some text
+part_of (f.Keyword k.Group) = Some (codes "group")
+part_of _ = None
+
+-- name = part { '::' part }
+pub data IsName : Forms → List ℕ → Forms → Type 0 where
+  part : {t : TokenForm} {ts : Forms} {text : List ℕ} → part_of t ≡ Some text → IsName (t ∷ ts) text ts
+  parts : {t : TokenForm} {ts rest : Forms} {text name : List ℕ} → part_of t ≡ Some text → IsName ts name rest
+      → IsName (t ∷ f.Symbol s.DoubleColon ∷ ts) (text ++ codes "::" ++ name) rest
+
+-- fref = name | Position
+pub data IsFieldRef : Forms → FieldRef → Forms → Type 0 where
+  name : {ts rest : Forms} {text : List ℕ} → IsName ts text rest → IsFieldRef ts (ref.Name text) rest
+  position : {ts : Forms} {n : ℕ} → IsFieldRef (f.Position n ∷ ts) (ref.Position n) ts
+
+-- sel = fref | '(' fref { ',' fref } ')'
+pub data IsSelection : Forms → PostStep → Forms → Type 0 where
+  one : {ts rest : Forms} {r : FieldRef} → IsFieldRef ts r rest → IsSelection ts (step.Project (r ∷ []) true) rest
+  several : {ts rest : Forms} {rs : List FieldRef} → Listed IsFieldRef ts rs (f.Symbol s.CloseParen ∷ rest)
+      → IsSelection (f.Symbol s.OpenParen ∷ ts) (step.Project rs false) rest
+
+-- ---- types
+
+-- scalar = INT | LONG | CHARARRAY | BYTEARRAY | BOOLEAN | FLOAT | DOUBLE | BIGINTEGER | BIGDECIMAL | DATETIME
+abbrev pub scalar_of : Keyword → Option TypeTree
+scalar_of k.Int = Some type.Int
+scalar_of k.Long = Some type.Long
+scalar_of k.Chararray = Some type.Chararray
+scalar_of k.Bytearray = Some type.Bytearray
+scalar_of k.Boolean = Some type.Boolean
+scalar_of k.Float = Some type.Float
+scalar_of k.Double = Some type.Float
+scalar_of k.BigInteger = Some type.Float
+scalar_of k.BigDecimal = Some type.Float
+scalar_of k.DateTime = Some type.Float
+scalar_of _ = None
+
+mutual
+  -- type = scalar | [ TUPLE ] schema | [ BAG ] '{' [ Ident ':' ] [ TUPLE ] schema '}' | [ MAP ] '[' [ type ] ']'
+  pub data IsType : Forms → TypeTree → Forms → Type 0 where
+    type_scalar : {ts : Forms} {word : Keyword} {type : TypeTree} → scalar_of word ≡ Some type → IsType (f.Keyword word ∷ ts) type ts
+    type_tuple : {ts rest : Forms} {fields : List FieldTree} → IsTuple ts fields rest → IsType ts (type.Tuple fields) rest
+    type_bag : {ts rest : Forms} {fields : List FieldTree} → IsBag ts fields rest → IsType ts (type.Bag fields) rest
+    type_bag_word : {ts rest : Forms} {fields : List FieldTree} → IsBag ts fields rest → IsType (f.Keyword k.Bag ∷ ts) (type.Bag fields) rest
+    type_map : {ts rest : Forms} {values : Option TypeTree} → IsMap ts values rest → IsType ts (type.Map values) rest
+    type_map_word : {ts rest : Forms} {values : Option TypeTree} → IsMap ts values rest → IsType (f.Keyword k.Map ∷ ts) (type.Map values) rest
+
+  -- [ TUPLE ] schema
+  pub data IsTuple : Forms → List FieldTree → Forms → Type 0 where
+    tuple_bare : {ts rest : Forms} {fields : List FieldTree} → IsSchema ts fields rest → IsTuple ts fields rest
+    tuple_word : {ts rest : Forms} {fields : List FieldTree} → IsSchema ts fields rest → IsTuple (f.Keyword k.Tuple ∷ ts) fields rest
+
+  -- '{' [ Ident ':' ] [ TUPLE ] schema '}'
+  pub data IsBag : Forms → List FieldTree → Forms → Type 0 where
+    bag_bare : {ts rest : Forms} {fields : List FieldTree} → IsTuple ts fields (f.Symbol s.CloseBrace ∷ rest) → IsBag (f.Symbol s.OpenBrace ∷ ts) fields rest
+    bag_named : {ts rest : Forms} {name : List ℕ} {fields : List FieldTree} → IsTuple ts fields (f.Symbol s.CloseBrace ∷ rest)
+        → IsBag (f.Symbol s.OpenBrace ∷ f.Ident name ∷ f.Symbol s.Colon ∷ ts) fields rest
+
+  -- '[' [ type ] ']'
+  pub data IsMap : Forms → Option TypeTree → Forms → Type 0 where
+    map_bare : {ts : Forms} → IsMap (f.Symbol s.OpenBracket ∷ f.Symbol s.CloseBracket ∷ ts) None ts
+    map_typed : {ts rest : Forms} {type : TypeTree} → IsType ts type (f.Symbol s.CloseBracket ∷ rest) → IsMap (f.Symbol s.OpenBracket ∷ ts) (Some type) rest
+
+  -- schema = '(' field { ',' field } ')'
+  pub data IsSchema : Forms → List FieldTree → Forms → Type 0 where
+    schema : {ts rest : Forms} {fields : List FieldTree} → AreFields ts fields (f.Symbol s.CloseParen ∷ rest) → IsSchema (f.Symbol s.OpenParen ∷ ts) fields rest
+
+  -- field { ',' field }
+  pub data AreFields : Forms → List FieldTree → Forms → Type 0 where
+    fields_last : {ts rest : Forms} {field : FieldTree} → IsField ts field rest → AreFields ts (field ∷ []) rest
+    fields_more : {ts mid rest : Forms} {field : FieldTree} {fields : List FieldTree} → IsField ts field (f.Symbol s.Comma ∷ mid) → AreFields mid fields rest → AreFields ts (field ∷ fields) rest
+
+  -- field = Ident [ ':' type ]
+  pub data IsField : Forms → FieldTree → Forms → Type 0 where
+    field_bare : {ts : Forms} {text : List ℕ} → IsField (f.Ident text ∷ ts) (record { name = text; kind = None }) ts
+    field_typed : {ts rest : Forms} {text : List ℕ} {type : TypeTree} → IsType ts type rest → IsField (f.Ident text ∷ f.Symbol s.Colon ∷ ts) (record { name = text; kind = Some type }) rest
+
+-- ctype = scalar | TUPLE schema | BAG '{' [ Ident ':' ] [ TUPLE ] schema '}' | MAP '[' [ type ] ']'
+pub data IsCastType : Forms → TypeTree → Forms → Type 0 where
+  cast_scalar : {ts : Forms} {word : Keyword} {type : TypeTree} → scalar_of word ≡ Some type → IsCastType (f.Keyword word ∷ ts) type ts
+  cast_tuple : {ts rest : Forms} {fields : List FieldTree} → IsSchema ts fields rest → IsCastType (f.Keyword k.Tuple ∷ ts) (type.Tuple fields) rest
+  cast_bag : {ts rest : Forms} {fields : List FieldTree} → IsBag ts fields rest → IsCastType (f.Keyword k.Bag ∷ ts) (type.Bag fields) rest
+  cast_map : {ts rest : Forms} {values : Option TypeTree} → IsMap ts values rest → IsCastType (f.Keyword k.Map ∷ ts) (type.Map values) rest
+
+-- ---- expressions
+
+-- the rules of expressions, from the one that binds least
+pub data Level : Type 0 where
+  expr conj neg comp sum term unary casted post prim : Level
+
+-- relop = '==' | '!=' | '<' | '<=' | '>' | '>='
+abbrev pub rel_of : TokenForm → Option Rel
+rel_of (f.Symbol s.Equal) = Some rel.Eq
+rel_of (f.Symbol s.NotEqual) = Some rel.Ne
+rel_of (f.Symbol s.Less) = Some rel.Lt
+rel_of (f.Symbol s.LessEqual) = Some rel.Le
+rel_of (f.Symbol s.Greater) = Some rel.Gt
+rel_of (f.Symbol s.GreaterEqual) = Some rel.Ge
+rel_of _ = None
+
+-- the operators of the chains: OR, AND, '+' and '-', '*' and '/' and '%'
+abbrev pub chain_op : Level → TokenForm → Option ChainOp
+chain_op expr (f.Keyword k.Or) = Some op.Or
+chain_op conj (f.Keyword k.And) = Some op.And
+chain_op sum (f.Symbol s.Plus) = Some op.Add
+chain_op sum (f.Symbol s.Minus) = Some op.Sub
+chain_op term (f.Symbol s.Star) = Some op.Mul
+chain_op term (f.Symbol s.Slash) = Some op.Div
+chain_op term (f.Symbol s.Percent) = Some op.Rem
+chain_op _ _ = None
+
+-- Int | Long | Float | Text | TRUE | FALSE | NULL
+abbrev pub literal_of : TokenForm → Option Expr
+literal_of (f.Int n) = Some (e.Int n)
+literal_of (f.Long n) = Some (e.Long n)
+literal_of f.Float = Some e.Float
+literal_of (f.Text text) = Some (e.Text text)
+literal_of (f.Keyword k.True) = Some (e.Bool true)
+literal_of (f.Keyword k.False) = Some (e.Bool false)
+literal_of (f.Keyword k.Null) = Some e.Null
+literal_of _ = None
+
+-- { '.' sel | '#' Text }
+pub data ArePostSteps : Forms → List PostStep → Forms → Type 0 where
+  none : {ts : Forms} → ArePostSteps ts [] ts
+  project : {ts mid rest : Forms} {p : PostStep} {ps : List PostStep} → IsSelection ts p mid → ArePostSteps mid ps rest → ArePostSteps (f.Symbol s.Dot ∷ ts) (p ∷ ps) rest
+  look : {ts rest : Forms} {key : List ℕ} {ps : List PostStep} → ArePostSteps ts ps rest → ArePostSteps (f.Symbol s.Hash ∷ f.Text key ∷ ts) (step.Look key ∷ ps) rest
+
+mutual
+  pub data Reads : Level → Forms → Expr → Forms → Type 0 where
+    -- expr = conj { OR conj }
+    expr_one : {ts rest : Forms} {a : Expr} → Reads conj ts a rest → Reads expr ts a rest
+    expr_more : {ts mid rest : Forms} {a : Expr} {l : Link} {ls : List Link} → Reads conj ts a mid → Links expr conj mid (l ∷ ls) rest → Reads expr ts (e.Chain a (l ∷ ls)) rest
+    -- conj = neg { AND neg }
+    conj_one : {ts rest : Forms} {a : Expr} → Reads neg ts a rest → Reads conj ts a rest
+    conj_more : {ts mid rest : Forms} {a : Expr} {l : Link} {ls : List Link} → Reads neg ts a mid → Links conj neg mid (l ∷ ls) rest → Reads conj ts (e.Chain a (l ∷ ls)) rest
+    -- neg = [ NOT ] comp
+    neg_none : {ts rest : Forms} {a : Expr} → Reads comp ts a rest → Reads neg ts a rest
+    neg_not : {ts rest : Forms} {a : Expr} → Reads comp ts a rest → Reads neg (f.Keyword k.Not ∷ ts) (e.Not a) rest
+    -- comp = sum [ relop sum ] | sum IS [ NOT ] NULL
+    comp_one : {ts rest : Forms} {a : Expr} → Reads sum ts a rest → Reads comp ts a rest
+    comp_rel : {ts mid rest : Forms} {t : TokenForm} {r : Rel} {a b : Expr} → Reads sum ts a (t ∷ mid) → rel_of t ≡ Some r → Reads sum mid b rest → Reads comp ts (e.Compare r a b) rest
+    comp_null : {ts rest : Forms} {a : Expr} → Reads sum ts a (f.Keyword k.Is ∷ f.Keyword k.Null ∷ rest) → Reads comp ts (e.IsNull a false) rest
+    comp_not_null : {ts rest : Forms} {a : Expr} → Reads sum ts a (f.Keyword k.Is ∷ f.Keyword k.Not ∷ f.Keyword k.Null ∷ rest) → Reads comp ts (e.IsNull a true) rest
+    -- sum = term { ( '+' | '-' ) term }
+    sum_one : {ts rest : Forms} {a : Expr} → Reads term ts a rest → Reads sum ts a rest
+    sum_more : {ts mid rest : Forms} {a : Expr} {l : Link} {ls : List Link} → Reads term ts a mid → Links sum term mid (l ∷ ls) rest → Reads sum ts (e.Chain a (l ∷ ls)) rest
+    -- term = unary { ( '*' | '/' | '%' ) unary }
+    term_one : {ts rest : Forms} {a : Expr} → Reads unary ts a rest → Reads term ts a rest
+    term_more : {ts mid rest : Forms} {a : Expr} {l : Link} {ls : List Link} → Reads unary ts a mid → Links term unary mid (l ∷ ls) rest → Reads term ts (e.Chain a (l ∷ ls)) rest
+    -- unary = [ '-' ] casted
+    unary_none : {ts rest : Forms} {a : Expr} → Reads casted ts a rest → Reads unary ts a rest
+    unary_minus : {ts rest : Forms} {a : Expr} → Reads casted ts a rest → Reads unary (f.Symbol s.Minus ∷ ts) (e.Minus a) rest
+    -- casted = [ '(' ctype ')' ] post
+    casted_none : {ts rest : Forms} {a : Expr} → Reads post ts a rest → Reads casted ts a rest
+    casted_cast : {ts mid rest : Forms} {type : TypeTree} {a : Expr} → IsCastType ts type (f.Symbol s.CloseParen ∷ mid) → Reads post mid a rest → Reads casted (f.Symbol s.OpenParen ∷ ts) (e.Cast type a) rest
+    -- post = prim { '.' sel | '#' Text }
+    post_one : {ts rest : Forms} {a : Expr} → Reads prim ts a rest → Reads post ts a rest
+    post_more : {ts mid rest : Forms} {a : Expr} {p : PostStep} {ps : List PostStep} → Reads prim ts a mid → ArePostSteps mid (p ∷ ps) rest → Reads post ts (e.Post a (p ∷ ps)) rest
+    -- prim = Int | Long | Float | Text | TRUE | FALSE | NULL | fref
+    --      | Ident '(' [ expr { ',' expr } ] ')'
+    --      | '(' expr ')' | '(' expr '?' expr ':' expr ')'
+    prim_literal : {ts : Forms} {t : TokenForm} {a : Expr} → literal_of t ≡ Some a → Reads prim (t ∷ ts) a ts
+    prim_field : {ts rest : Forms} {r : FieldRef} → IsFieldRef ts r rest → Reads prim ts (e.Field r) rest
+    prim_call_none : {ts : Forms} {name : List ℕ} → Reads prim (f.Ident name ∷ f.Symbol s.OpenParen ∷ f.Symbol s.CloseParen ∷ ts) (e.Call name []) ts
+    prim_call : {ts rest : Forms} {name : List ℕ} {args : List Expr} → AreExprs ts args (f.Symbol s.CloseParen ∷ rest) → Reads prim (f.Ident name ∷ f.Symbol s.OpenParen ∷ ts) (e.Call name args) rest
+    prim_paren : {ts rest : Forms} {a : Expr} → Reads expr ts a (f.Symbol s.CloseParen ∷ rest) → Reads prim (f.Symbol s.OpenParen ∷ ts) a rest
+    prim_choose : {ts left right rest : Forms} {a b c : Expr} → Reads expr ts a (f.Symbol s.Question ∷ left) → Reads expr left b (f.Symbol s.Colon ∷ right)
+        → Reads expr right c (f.Symbol s.CloseParen ∷ rest) → Reads prim (f.Symbol s.OpenParen ∷ ts) (e.Choose a b c) rest
+
+  -- { operator operand }, of one chain
+  pub data Links : Level → Level → Forms → List Link → Forms → Type 0 where
+    links_none : {chain member : Level} {ts : Forms} → Links chain member ts [] ts
+    links_link : {chain member : Level} {t : TokenForm} {ts mid rest : Forms} {o : ChainOp} {a : Expr} {ls : List Link} → chain_op chain t ≡ Some o → Reads member ts a mid
+        → Links chain member mid ls rest → Links chain member (t ∷ ts) (record { op = o; a = a } ∷ ls) rest
+
+  -- expr { ',' expr }
+  pub data AreExprs : Forms → List Expr → Forms → Type 0 where
+    exprs_last : {ts rest : Forms} {a : Expr} → Reads expr ts a rest → AreExprs ts (a ∷ []) rest
+    exprs_more : {ts mid rest : Forms} {a : Expr} {others : List Expr} → Reads expr ts a (f.Symbol s.Comma ∷ mid) → AreExprs mid others rest → AreExprs ts (a ∷ others) rest

@@ -1,0 +1,287 @@
+ghost use Rattle.std.specs.Prelude.{◌≡◌, [], ◌∷◌, length, map};
+ghost use Rattle.pig_parser.specs.Grammar.{Forms};
+ghost use Rattle.pig_parser.specs.Reader.{forms, Gives};
+ghost use Rattle.pig_parser.specs.StatementReader.{names_at, naming_at, flattened_at, value_at, item_at, bag_selection_at, bag_ref_at, nested_filter_at, nested_order_at, nested_limit_at, nested_at, step_turn, steps_at};
+
+use crate::exprs::MOST_NESTED;
+use crate::names::{field_ref, selection};
+use crate::parts::{by_word, count, expression, order_keys, semicolon};
+use crate::reading::{ParseFault, Rule, Turning, close_paren, repeat};
+use crate::types::{field, schema};
+use pig_syntax::{
+    AsNames, BagRef, Item, Keyword, Nested, PostStep, Step, Steps, Symbol, Token, TokenForm,
+};
+use std::alloc::Global;
+
+// The names behind AS.
+#[tactic(auto, unfolding(crate::specs::StatementReader::names_at))]
+fn names(alloc: Global, tokens: &[Token]) -> Result<(AsNames, &[Token]), ParseFault>
+    ensures { Gives (names_at 65 (forms tokens.now)) result }
+{
+    match tokens {
+        [
+            Token {
+                form: TokenForm::Ident(_),
+                ..
+            },
+            ..
+        ] => {
+            let (name, rest) = field(alloc, tokens, MOST_NESTED)?;
+            Ok((AsNames::One(name), rest))
+        }
+        _ => {
+            let (fields, rest) = schema(alloc, tokens, MOST_NESTED)?;
+            Ok((AsNames::Several(fields), rest))
+        }
+    }
+}
+
+// AS and its names, where they stand.
+#[tactic(auto, unfolding(crate::specs::StatementReader::naming_at))]
+fn naming(alloc: Global, tokens: &[Token]) -> Result<(Option<AsNames>, &[Token]), ParseFault>
+    ensures { Gives (naming_at 65 (forms tokens.now)) result }
+{
+    match tokens {
+        [
+            Token {
+                form: TokenForm::Keyword(Keyword::As),
+                ..
+            },
+            rest @ ..,
+        ] => {
+            let (names, rest) = names(alloc, rest)?;
+            Ok((Some(names), rest))
+        }
+        _ => Ok((None, tokens)),
+    }
+}
+
+// An item behind FLATTEN and `(`.
+#[tactic(auto, unfolding(crate::specs::StatementReader::flattened_at))]
+fn flattened(alloc: Global, tokens: &[Token]) -> Result<(Item, &[Token]), ParseFault>
+    ensures { Gives (flattened_at 65 (forms tokens.now)) result }
+{
+    let (value, rest) = expression(alloc, tokens)?;
+    let rest = close_paren(rest)?;
+    let (names, rest) = naming(alloc, rest)?;
+    let flatten = true;
+    Ok((
+        Item::Value {
+            value,
+            flatten,
+            names,
+        },
+        rest,
+    ))
+}
+
+// An item that is an expression.
+#[tactic(auto, unfolding(crate::specs::StatementReader::value_at))]
+fn value(alloc: Global, tokens: &[Token]) -> Result<(Item, &[Token]), ParseFault>
+    ensures { Gives (value_at 65 (forms tokens.now)) result }
+{
+    let (value, rest) = expression(alloc, tokens)?;
+    let (names, rest) = naming(alloc, rest)?;
+    let flatten = false;
+    Ok((
+        Item::Value {
+            value,
+            flatten,
+            names,
+        },
+        rest,
+    ))
+}
+
+/// Items as members of a list.
+#[derive(Clone, Copy, Drop)]
+pub struct ItemRule {
+    pub alloc: Global,
+}
+
+impl Rule for ItemRule {
+    type Tree = Item;
+
+    ghost ready = { λ _. Unit {0} };
+
+    ghost finds = { λ _. item_at 65 };
+
+    #[tactic(auto, unfolding(crate::specs::StatementReader::item_at))]
+    fn read<'a>(&self, tokens: &'a [Token]) -> Result<(Item, &'a [Token]), ParseFault> {
+        match tokens {
+            [
+                Token {
+                    form: TokenForm::Symbol(Symbol::Star),
+                    ..
+                },
+                rest @ ..,
+            ] => Ok((Item::All, rest)),
+            [
+                Token {
+                    form: TokenForm::Keyword(Keyword::Flatten),
+                    ..
+                },
+                Token {
+                    form: TokenForm::Symbol(Symbol::OpenParen),
+                    ..
+                },
+                rest @ ..,
+            ] => flattened(self.alloc, rest),
+            _ => value(self.alloc, tokens),
+        }
+    }
+}
+
+// The projection behind a bag, where one stands.
+#[tactic(auto, unfolding(crate::specs::StatementReader::bag_selection_at))]
+fn bag_selection(
+    alloc: Global,
+    tokens: &[Token],
+) -> Result<(Option<PostStep>, &[Token]), ParseFault>
+    ensures { Gives (bag_selection_at (forms tokens.now)) result }
+{
+    match tokens {
+        [
+            Token {
+                form: TokenForm::Symbol(Symbol::Dot),
+                ..
+            },
+            rest @ ..,
+        ] => {
+            let (step, rest) = selection(alloc, rest)?;
+            Ok((Some(step), rest))
+        }
+        _ => Ok((None, tokens)),
+    }
+}
+
+// A bag in a block.
+#[tactic(auto, unfolding(crate::specs::StatementReader::bag_ref_at))]
+fn bag_ref(alloc: Global, tokens: &[Token]) -> Result<(BagRef, &[Token]), ParseFault>
+    ensures { Gives (bag_ref_at (forms tokens.now)) result }
+{
+    let (field, rest) = field_ref(alloc, tokens)?;
+    let (sel, rest) = bag_selection(alloc, rest)?;
+    Ok((BagRef { field, sel }, rest))
+}
+
+// What stands behind FILTER in a block.
+#[tactic(auto, unfolding(crate::specs::StatementReader::nested_filter_at))]
+fn nested_filter(alloc: Global, tokens: &[Token]) -> Result<(Nested, &[Token]), ParseFault>
+    ensures { Gives (nested_filter_at 65 (forms tokens.now)) result }
+{
+    let (from, rest) = bag_ref(alloc, tokens)?;
+    let rest = by_word(rest)?;
+    let (cond, rest) = expression(alloc, rest)?;
+    Ok((Nested::Filter { from, cond }, rest))
+}
+
+// What stands behind ORDER in a block.
+#[tactic(auto, unfolding(crate::specs::StatementReader::nested_order_at))]
+fn nested_order(alloc: Global, tokens: &[Token]) -> Result<(Nested, &[Token]), ParseFault>
+    ensures { Gives (nested_order_at (forms tokens.now)) result }
+{
+    let (from, rest) = bag_ref(alloc, tokens)?;
+    let rest = by_word(rest)?;
+    let (keys, rest) = order_keys(alloc, rest)?;
+    Ok((Nested::Order { from, keys }, rest))
+}
+
+// What stands behind LIMIT in a block.
+#[tactic(auto, unfolding(crate::specs::StatementReader::nested_limit_at))]
+fn nested_limit(alloc: Global, tokens: &[Token]) -> Result<(Nested, &[Token]), ParseFault>
+    ensures { Gives (nested_limit_at (forms tokens.now)) result }
+{
+    let (from, rest) = bag_ref(alloc, tokens)?;
+    let (count, rest) = count(rest)?;
+    Ok((Nested::Limit { from, count }, rest))
+}
+
+// What a nested alias is made by.
+#[tactic(auto, unfolding(crate::specs::StatementReader::nested_at))]
+fn nested(alloc: Global, tokens: &[Token]) -> Result<(Nested, &[Token]), ParseFault>
+    ensures { Gives (nested_at 65 (forms tokens.now)) result }
+{
+    match tokens {
+        [
+            Token {
+                form: TokenForm::Keyword(Keyword::Filter),
+                ..
+            },
+            rest @ ..,
+        ] => nested_filter(alloc, rest),
+        [
+            Token {
+                form: TokenForm::Keyword(Keyword::Distinct),
+                ..
+            },
+            rest @ ..,
+        ] => {
+            let (from, rest) = bag_ref(alloc, rest)?;
+            Ok((Nested::Distinct { from }, rest))
+        }
+        [
+            Token {
+                form: TokenForm::Keyword(Keyword::Order),
+                ..
+            },
+            rest @ ..,
+        ] => nested_order(alloc, rest),
+        [
+            Token {
+                form: TokenForm::Keyword(Keyword::Limit),
+                ..
+            },
+            rest @ ..,
+        ] => nested_limit(alloc, rest),
+        _ => {
+            let (from, rest) = bag_ref(alloc, tokens)?;
+            Ok((Nested::Take { from }, rest))
+        }
+    }
+}
+
+// The steps of a block.
+#[derive(Clone, Copy, Drop)]
+struct StepTurns {
+    alloc: Global,
+}
+
+impl Turning for StepTurns {
+    type Tree = Step;
+
+    ghost ready = { λ _. Unit {0} };
+
+    ghost finds = { λ _. step_turn 65 };
+
+    #[tactic(auto, unfolding(crate::specs::StatementReader::step_turn))]
+    fn turn<'a>(&self, tokens: &'a [Token]) -> Result<Option<(Step, &'a [Token])>, ParseFault> {
+        match tokens {
+            [
+                Token {
+                    form: TokenForm::Ident(name),
+                    ..
+                },
+                Token {
+                    form: TokenForm::Symbol(Symbol::Assign),
+                    ..
+                },
+                rest @ ..,
+            ] => {
+                let (nested, rest) = nested(self.alloc, rest)?;
+                let rest = semicolon(rest)?;
+                let alias = name.copy(self.alloc)?;
+                Ok(Some((Step { alias, nested }, rest)))
+            }
+            _ => Ok(None),
+        }
+    }
+}
+
+/// The steps of a block.
+#[tactic(auto, unfolding(crate::specs::StatementReader::steps_at))]
+pub fn steps(alloc: Global, tokens: &[Token]) -> Result<(Steps, &[Token]), ParseFault>
+    ensures { Gives (steps_at 65 (forms tokens.now)) result }
+{
+    repeat(&StepTurns { alloc }, Steps::new(alloc), tokens)
+}

@@ -1,0 +1,536 @@
+ghost use Rattle.std.specs.Prelude.{◌≡◌, [], ◌∷◌, Some, IfOk, length, map};
+ghost use Rattle.pig_parser.specs.Grammar.{Forms};
+ghost use Rattle.pig_parser.specs.Statements.{side_of};
+ghost use Rattle.pig_parser.specs.Reader.{forms, Gives, Leaves};
+ghost use Rattle.pig_parser.specs.StatementReader.{generate_word, block_end, inner_at, group_input_at, join_input_at, after_outer, side_at, on_schema_at, load_at, filter_at, block_at, foreach_at, groups_at, group_at, join_at, union_at, distinct_at, order_at, limit_at, op_at};
+
+use crate::blocks::{ItemRule, steps};
+use crate::exprs::MOST_NESTED;
+use crate::parts::{
+    IdentRule, after_parallel, as_word, comma, count, expression, keys, order_keys, several,
+    using_func, using_text,
+};
+use crate::reading::{ParseFault, Rule, listed};
+use crate::types::schema;
+use pig_syntax::{GroupInput, JoinInput, JoinInputs, Keyword, Op, Steps, Symbol, Token, TokenForm};
+use pig_value::{Seq, Side, Text};
+use std::alloc::{AllocError, Global};
+
+// The tokens behind GENERATE.
+#[tactic(auto, unfolding(crate::specs::StatementReader::generate_word))]
+fn generate_word(tokens: &[Token]) -> Result<&[Token], ParseFault>
+    ensures { Leaves (generate_word (forms tokens.now)) result }
+{
+    match tokens {
+        [
+            Token {
+                form: TokenForm::Keyword(Keyword::Generate),
+                ..
+            },
+            rest @ ..,
+        ] => Ok(rest),
+        _ => Err(ParseFault::Off),
+    }
+}
+
+// The tokens behind `;` and `}`.
+#[tactic(auto, unfolding(crate::specs::StatementReader::block_end))]
+fn block_end(tokens: &[Token]) -> Result<&[Token], ParseFault>
+    ensures { Leaves (block_end (forms tokens.now)) result }
+{
+    match tokens {
+        [
+            Token {
+                form: TokenForm::Symbol(Symbol::Semicolon),
+                ..
+            },
+            Token {
+                form: TokenForm::Symbol(Symbol::CloseBrace),
+                ..
+            },
+            rest @ ..,
+        ] => Ok(rest),
+        _ => Err(ParseFault::Off),
+    }
+}
+
+// Whether groups without a tuple of an input are left out.
+#[tactic(auto, unfolding(crate::specs::StatementReader::inner_at))]
+fn inner(tokens: &[Token]) -> (bool, &[Token])
+    ensures { inner_at (forms tokens.now) ≡ Some (result.0, forms result.1.now) }
+{
+    match tokens {
+        [
+            Token {
+                form: TokenForm::Keyword(Keyword::Inner),
+                ..
+            },
+            rest @ ..,
+        ] => (true, rest),
+        [
+            Token {
+                form: TokenForm::Keyword(Keyword::Outer),
+                ..
+            },
+            rest @ ..,
+        ] => (false, rest),
+        _ => (false, tokens),
+    }
+}
+
+// Inputs of a GROUP as members of a list.
+#[derive(Clone, Copy, Drop)]
+struct GroupInputRule {
+    alloc: Global,
+}
+
+impl Rule for GroupInputRule {
+    type Tree = GroupInput;
+
+    ghost ready = { λ _. Unit {0} };
+
+    ghost finds = { λ _. group_input_at 65 };
+
+    #[tactic(auto, unfolding(crate::specs::StatementReader::group_input_at))]
+    fn read<'a>(&self, tokens: &'a [Token]) -> Result<(GroupInput, &'a [Token]), ParseFault> {
+        match tokens {
+            [
+                Token {
+                    form: TokenForm::Ident(name),
+                    ..
+                },
+                Token {
+                    form: TokenForm::Keyword(Keyword::By),
+                    ..
+                },
+                rest @ ..,
+            ] => {
+                let (keys, rest) = keys(self.alloc, rest)?;
+                let (inner, rest) = inner(rest);
+                let from = name.copy(self.alloc)?;
+                Ok((GroupInput { from, keys, inner }, rest))
+            }
+            _ => Err(ParseFault::Off),
+        }
+    }
+}
+
+// Inputs of a JOIN as members of a list.
+#[derive(Clone, Copy, Drop)]
+struct JoinInputRule {
+    alloc: Global,
+}
+
+impl Rule for JoinInputRule {
+    type Tree = JoinInput;
+
+    ghost ready = { λ _. Unit {0} };
+
+    ghost finds = { λ _. join_input_at 65 };
+
+    #[tactic(auto, unfolding(crate::specs::StatementReader::join_input_at))]
+    fn read<'a>(&self, tokens: &'a [Token]) -> Result<(JoinInput, &'a [Token]), ParseFault> {
+        match tokens {
+            [
+                Token {
+                    form: TokenForm::Ident(name),
+                    ..
+                },
+                Token {
+                    form: TokenForm::Keyword(Keyword::By),
+                    ..
+                },
+                rest @ ..,
+            ] => {
+                let (keys, rest) = keys(self.alloc, rest)?;
+                let from = name.copy(self.alloc)?;
+                Ok((JoinInput { from, keys }, rest))
+            }
+            _ => Err(ParseFault::Off),
+        }
+    }
+}
+
+// The tokens behind OUTER, where it stands.
+#[tactic(auto, unfolding(crate::specs::StatementReader::after_outer))]
+fn after_outer(tokens: &[Token]) -> &[Token]
+    ensures { forms result.now ≡ after_outer (forms tokens.now) }
+{
+    match tokens {
+        [
+            Token {
+                form: TokenForm::Keyword(Keyword::Outer),
+                ..
+            },
+            rest @ ..,
+        ] => rest,
+        _ => tokens,
+    }
+}
+
+// The side that a token is.
+fn side_of(token: &Token) -> Option<Side>
+    ensures { result ≡ side_of token.now.form }
+{
+    match &token.form {
+        TokenForm::Keyword(Keyword::Left) => Some(Side::Left),
+        TokenForm::Keyword(Keyword::Right) => Some(Side::Right),
+        TokenForm::Keyword(Keyword::Full) => Some(Side::Full),
+        _ => None,
+    }
+}
+
+// The side of a JOIN that keeps its tuples without a partner.
+#[tactic(auto, unfolding(crate::specs::StatementReader::side_at))]
+fn side(tokens: &[Token]) -> (Side, &[Token])
+    ensures { side_at (forms tokens.now) ≡ Some (result.0, forms result.1.now) }
+{
+    match tokens {
+        [first, rest @ ..] => match side_of(first) {
+            Some(side) => (side, after_outer(rest)),
+            None => (Side::Inner, tokens),
+        },
+        _ => (Side::Inner, tokens),
+    }
+}
+
+// Whether ONSCHEMA stands there.
+#[tactic(auto, unfolding(crate::specs::StatementReader::on_schema_at))]
+fn on_schema(tokens: &[Token]) -> (bool, &[Token])
+    ensures { on_schema_at (forms tokens.now) ≡ Some (result.0, forms result.1.now) }
+{
+    match tokens {
+        [
+            Token {
+                form: TokenForm::Keyword(Keyword::OnSchema),
+                ..
+            },
+            rest @ ..,
+        ] => (true, rest),
+        _ => (false, tokens),
+    }
+}
+
+// A LOAD, behind its word.
+#[tactic(auto, unfolding(crate::specs::StatementReader::load_at))]
+fn load(alloc: Global, tokens: &[Token]) -> Result<(Op, &[Token]), ParseFault>
+    ensures { Gives (load_at 65 (forms tokens.now)) result }
+{
+    match tokens {
+        [
+            Token {
+                form: TokenForm::Text(path),
+                ..
+            },
+            rest @ ..,
+        ] => {
+            let (func, rest) = using_func(alloc, rest)?;
+            let rest = as_word(rest)?;
+            let (schema, rest) = schema(alloc, rest, MOST_NESTED)?;
+            let path = path.copy(alloc)?;
+            Ok((Op::Load { path, func, schema }, rest))
+        }
+        _ => Err(ParseFault::Off),
+    }
+}
+
+// A FILTER, behind its word.
+#[tactic(auto, unfolding(crate::specs::StatementReader::filter_at))]
+fn filter(alloc: Global, tokens: &[Token]) -> Result<(Op, &[Token]), ParseFault>
+    ensures { Gives (filter_at 65 (forms tokens.now)) result }
+{
+    match tokens {
+        [
+            Token {
+                form: TokenForm::Ident(name),
+                ..
+            },
+            Token {
+                form: TokenForm::Keyword(Keyword::By),
+                ..
+            },
+            rest @ ..,
+        ] => {
+            let (cond, rest) = expression(alloc, rest)?;
+            let from = name.copy(alloc)?;
+            Ok((Op::Filter { from, cond }, rest))
+        }
+        _ => Err(ParseFault::Off),
+    }
+}
+
+// A nested block, behind its `{`.
+#[tactic(auto, unfolding(crate::specs::StatementReader::block_at))]
+fn block<'a>(
+    alloc: Global,
+    name: &Text,
+    tokens: &'a [Token],
+) -> Result<(Op, &'a [Token]), ParseFault>
+    ensures { Gives (block_at 65 name.now (forms tokens.now)) result }
+{
+    let (steps, rest) = steps(alloc, tokens)?;
+    let rest = generate_word(rest)?;
+    let (items, rest) = listed(alloc, &ItemRule { alloc }, rest)?;
+    let rest = block_end(rest)?;
+    let from = name.copy(alloc)?;
+    Ok((Op::Foreach { from, steps, items }, rest))
+}
+
+// A FOREACH, behind its word.
+#[tactic(auto, unfolding(crate::specs::StatementReader::foreach_at))]
+fn foreach(alloc: Global, tokens: &[Token]) -> Result<(Op, &[Token]), ParseFault>
+    ensures { Gives (foreach_at 65 (forms tokens.now)) result }
+{
+    match tokens {
+        [
+            Token {
+                form: TokenForm::Ident(name),
+                ..
+            },
+            Token {
+                form: TokenForm::Keyword(Keyword::Generate),
+                ..
+            },
+            rest @ ..,
+        ] => {
+            let (items, rest) = listed(alloc, &ItemRule { alloc }, rest)?;
+            let from = name.copy(alloc)?;
+            let steps = Steps::new(alloc);
+            Ok((Op::Foreach { from, steps, items }, rest))
+        }
+        [
+            Token {
+                form: TokenForm::Ident(name),
+                ..
+            },
+            Token {
+                form: TokenForm::Symbol(Symbol::OpenBrace),
+                ..
+            },
+            rest @ ..,
+        ] => block(alloc, name, rest),
+        _ => Err(ParseFault::Off),
+    }
+}
+
+// The inputs of a GROUP, and what stands behind them.
+#[tactic(auto, unfolding(crate::specs::StatementReader::groups_at))]
+fn groups(alloc: Global, tokens: &[Token]) -> Result<(Op, &[Token]), ParseFault>
+    ensures { Gives (groups_at 65 (forms tokens.now)) result }
+{
+    let (inputs, rest) = listed(alloc, &GroupInputRule { alloc }, tokens)?;
+    let (using, rest) = using_text(alloc, rest)?;
+    Ok((Op::Group { inputs, using }, after_parallel(rest)))
+}
+
+// A GROUP or COGROUP, behind its word.
+#[tactic(auto, unfolding(crate::specs::StatementReader::group_at))]
+fn group(alloc: Global, tokens: &[Token]) -> Result<(Op, &[Token]), ParseFault>
+    ensures { Gives (group_at 65 (forms tokens.now)) result }
+{
+    match tokens {
+        [
+            Token {
+                form: TokenForm::Ident(name),
+                ..
+            },
+            Token {
+                form: TokenForm::Keyword(Keyword::All),
+                ..
+            },
+            rest @ ..,
+        ] => {
+            let (using, rest) = using_text(alloc, rest)?;
+            let from = name.copy(alloc)?;
+            Ok((Op::GroupAll { from, using }, after_parallel(rest)))
+        }
+        _ => groups(alloc, tokens),
+    }
+}
+
+// The first input before the others.
+fn with_first(first: JoinInput, others: JoinInputs) -> Result<JoinInputs, AllocError>
+    ensures { IfOk result (λ all. all ≡ first ∷ others) }
+{
+    let mut all = others.into_vec();
+    all.insert(0, first)?;
+    Ok(Seq::from_vec(all))
+}
+
+// A JOIN, behind its word.
+#[tactic(auto, unfolding(crate::specs::StatementReader::join_at))]
+fn join(alloc: Global, tokens: &[Token]) -> Result<(Op, &[Token]), ParseFault>
+    ensures { Gives (join_at 65 (forms tokens.now)) result }
+{
+    let (first, rest) = JoinInputRule { alloc }.read(tokens)?;
+    let (side, rest) = side(rest);
+    let rest = comma(rest)?;
+    let (others, rest) = listed(alloc, &JoinInputRule { alloc }, rest)?;
+    let (using, rest) = using_text(alloc, rest)?;
+    let inputs = with_first(first, others)?;
+    Ok((
+        Op::Join {
+            inputs,
+            side,
+            using,
+        },
+        after_parallel(rest),
+    ))
+}
+
+// A UNION, behind its word.
+#[tactic(auto, unfolding(crate::specs::StatementReader::union_at))]
+fn union(alloc: Global, tokens: &[Token]) -> Result<(Op, &[Token]), ParseFault>
+    ensures { Gives (union_at (forms tokens.now)) result }
+{
+    let (onschema, rest) = on_schema(tokens);
+    let (names, rest) = listed(alloc, &IdentRule { alloc }, rest)?;
+    let from = several(names)?;
+    Ok((Op::Union { onschema, from }, rest))
+}
+
+// A DISTINCT, behind its word.
+#[tactic(auto, unfolding(crate::specs::StatementReader::distinct_at))]
+fn distinct(alloc: Global, tokens: &[Token]) -> Result<(Op, &[Token]), ParseFault>
+    ensures { Gives (distinct_at (forms tokens.now)) result }
+{
+    match tokens {
+        [
+            Token {
+                form: TokenForm::Ident(name),
+                ..
+            },
+            rest @ ..,
+        ] => {
+            let from = name.copy(alloc)?;
+            Ok((Op::Distinct { from }, after_parallel(rest)))
+        }
+        _ => Err(ParseFault::Off),
+    }
+}
+
+// An ORDER, behind its word.
+#[tactic(auto, unfolding(crate::specs::StatementReader::order_at))]
+fn order(alloc: Global, tokens: &[Token]) -> Result<(Op, &[Token]), ParseFault>
+    ensures { Gives (order_at (forms tokens.now)) result }
+{
+    match tokens {
+        [
+            Token {
+                form: TokenForm::Ident(name),
+                ..
+            },
+            Token {
+                form: TokenForm::Keyword(Keyword::By),
+                ..
+            },
+            rest @ ..,
+        ] => {
+            let (keys, rest) = order_keys(alloc, rest)?;
+            let from = name.copy(alloc)?;
+            Ok((Op::Order { from, keys }, after_parallel(rest)))
+        }
+        _ => Err(ParseFault::Off),
+    }
+}
+
+// A LIMIT, behind its word.
+#[tactic(auto, unfolding(crate::specs::StatementReader::limit_at))]
+fn limit(alloc: Global, tokens: &[Token]) -> Result<(Op, &[Token]), ParseFault>
+    ensures { Gives (limit_at (forms tokens.now)) result }
+{
+    match tokens {
+        [
+            Token {
+                form: TokenForm::Ident(name),
+                ..
+            },
+            rest @ ..,
+        ] => {
+            let (count, rest) = count(rest)?;
+            let from = name.copy(alloc)?;
+            Ok((Op::Limit { from, count }, rest))
+        }
+        _ => Err(ParseFault::Off),
+    }
+}
+
+/// What a relation is made by.
+#[tactic(auto, unfolding(crate::specs::StatementReader::op_at))]
+pub fn operator(alloc: Global, tokens: &[Token]) -> Result<(Op, &[Token]), ParseFault>
+    ensures { Gives (op_at 65 (forms tokens.now)) result }
+{
+    match tokens {
+        [
+            Token {
+                form: TokenForm::Keyword(Keyword::Load),
+                ..
+            },
+            rest @ ..,
+        ] => load(alloc, rest),
+        [
+            Token {
+                form: TokenForm::Keyword(Keyword::Filter),
+                ..
+            },
+            rest @ ..,
+        ] => filter(alloc, rest),
+        [
+            Token {
+                form: TokenForm::Keyword(Keyword::Foreach),
+                ..
+            },
+            rest @ ..,
+        ] => foreach(alloc, rest),
+        [
+            Token {
+                form: TokenForm::Keyword(Keyword::Group),
+                ..
+            },
+            rest @ ..,
+        ] => group(alloc, rest),
+        [
+            Token {
+                form: TokenForm::Keyword(Keyword::Cogroup),
+                ..
+            },
+            rest @ ..,
+        ] => group(alloc, rest),
+        [
+            Token {
+                form: TokenForm::Keyword(Keyword::Join),
+                ..
+            },
+            rest @ ..,
+        ] => join(alloc, rest),
+        [
+            Token {
+                form: TokenForm::Keyword(Keyword::Union),
+                ..
+            },
+            rest @ ..,
+        ] => union(alloc, rest),
+        [
+            Token {
+                form: TokenForm::Keyword(Keyword::Distinct),
+                ..
+            },
+            rest @ ..,
+        ] => distinct(alloc, rest),
+        [
+            Token {
+                form: TokenForm::Keyword(Keyword::Order),
+                ..
+            },
+            rest @ ..,
+        ] => order(alloc, rest),
+        [
+            Token {
+                form: TokenForm::Keyword(Keyword::Limit),
+                ..
+            },
+            rest @ ..,
+        ] => limit(alloc, rest),
+        _ => Err(ParseFault::Off),
+    }
+}

@@ -1,0 +1,429 @@
+ghost use Rattle.std.specs.Prelude.{◌≡◌, [], ◌∷◌, Some, IfOk, length, map, option_map};
+ghost use Rattle.pig_parser.specs.Grammar.{Forms};
+ghost use Rattle.pig_parser.specs.Statements.{count_of};
+ghost use Rattle.pig_parser.specs.Reader.{forms, Gives, Leaves};
+ghost use Rattle.pig_parser.specs.ExprReader.{expr_at};
+ghost use Rattle.pig_parser.specs.StatementReader.{Tells, comma, semicolon, as_word, by_word, several, key_list_at, keys_at, dir_at, order_field_at, order_keys_at, text_at, ident_at, func_at, using_func_at, using_text_at, after_parallel, count_at};
+
+use crate::exprs::{MOST_NESTED, expr};
+use crate::names::field_ref;
+use crate::reading::{ParseFault, Rule, close_paren, listed, one};
+use pig_syntax::{
+    Expr, Exprs, Func, Keyword, OrderField, OrderKeys, Symbol, Texts, Token, TokenForm,
+};
+use pig_value::{Dir, Seq, Text};
+use std::alloc::Global;
+
+/// The tokens behind a `,`.
+#[tactic(auto, unfolding(crate::specs::StatementReader::comma))]
+pub fn comma(tokens: &[Token]) -> Result<&[Token], ParseFault>
+    ensures { Leaves (comma (forms tokens.now)) result }
+{
+    match tokens {
+        [
+            Token {
+                form: TokenForm::Symbol(Symbol::Comma),
+                ..
+            },
+            rest @ ..,
+        ] => Ok(rest),
+        _ => Err(ParseFault::Off),
+    }
+}
+
+/// The tokens behind a `;`.
+#[tactic(auto, unfolding(crate::specs::StatementReader::semicolon))]
+pub fn semicolon(tokens: &[Token]) -> Result<&[Token], ParseFault>
+    ensures { Leaves (semicolon (forms tokens.now)) result }
+{
+    match tokens {
+        [
+            Token {
+                form: TokenForm::Symbol(Symbol::Semicolon),
+                ..
+            },
+            rest @ ..,
+        ] => Ok(rest),
+        _ => Err(ParseFault::Off),
+    }
+}
+
+/// The tokens behind AS.
+#[tactic(auto, unfolding(crate::specs::StatementReader::as_word))]
+pub fn as_word(tokens: &[Token]) -> Result<&[Token], ParseFault>
+    ensures { Leaves (as_word (forms tokens.now)) result }
+{
+    match tokens {
+        [
+            Token {
+                form: TokenForm::Keyword(Keyword::As),
+                ..
+            },
+            rest @ ..,
+        ] => Ok(rest),
+        _ => Err(ParseFault::Off),
+    }
+}
+
+/// The tokens behind BY.
+#[tactic(auto, unfolding(crate::specs::StatementReader::by_word))]
+pub fn by_word(tokens: &[Token]) -> Result<&[Token], ParseFault>
+    ensures { Leaves (by_word (forms tokens.now)) result }
+{
+    match tokens {
+        [
+            Token {
+                form: TokenForm::Keyword(Keyword::By),
+                ..
+            },
+            rest @ ..,
+        ] => Ok(rest),
+        _ => Err(ParseFault::Off),
+    }
+}
+
+/// The members, where they are two at least.
+#[tactic(auto, unfolding(crate::specs::StatementReader::several))]
+pub fn several<T: Drop>(members: Seq<T>) -> Result<Seq<T>, ParseFault>
+    ensures { Tells (several members) result }
+{
+    match members.as_slice() {
+        [_first, _second, _others @ ..] => Ok(members),
+        _ => Err(ParseFault::Off),
+    }
+}
+
+/// An expression.
+pub fn expression(alloc: Global, tokens: &[Token]) -> Result<(Expr, &[Token]), ParseFault>
+    ensures { Gives (expr_at 65 65 (forms tokens.now)) result }
+{
+    expr(alloc, tokens, MOST_NESTED)
+}
+
+// Expressions as members of a list.
+#[derive(Clone, Copy, Drop)]
+struct ExpressionRule {
+    alloc: Global,
+}
+
+impl Rule for ExpressionRule {
+    type Tree = Expr;
+
+    ghost ready = { λ _. Unit {0} };
+
+    ghost finds = { λ _. expr_at 65 65 };
+
+    fn read<'a>(&self, tokens: &'a [Token]) -> Result<(Expr, &'a [Token]), ParseFault> {
+        expression(self.alloc, tokens)
+    }
+}
+
+// Two keys or more in parentheses.
+#[tactic(auto, unfolding(crate::specs::StatementReader::key_list_at))]
+fn key_list(alloc: Global, tokens: &[Token]) -> Result<(Exprs, &[Token]), ParseFault>
+    ensures { Gives (key_list_at 65 (forms tokens.now)) result }
+{
+    match tokens {
+        [
+            Token {
+                form: TokenForm::Symbol(Symbol::OpenParen),
+                ..
+            },
+            rest @ ..,
+        ] => {
+            let (keys, rest) = listed(alloc, &ExpressionRule { alloc }, rest)?;
+            let keys = several(keys)?;
+            let rest = close_paren(rest)?;
+            Ok((keys, rest))
+        }
+        _ => Err(ParseFault::Off),
+    }
+}
+
+/// Keys: one expression, or several in parentheses. Parentheses may also be those of the one expression,
+/// so it is tried first.
+#[tactic(auto, unfolding(crate::specs::StatementReader::keys_at))]
+pub fn keys(alloc: Global, tokens: &[Token]) -> Result<(Exprs, &[Token]), ParseFault>
+    ensures { Gives (keys_at 65 (forms tokens.now)) result }
+{
+    match expression(alloc, tokens) {
+        Ok((key, rest)) => {
+            let keys = one(alloc, key)?;
+            Ok((keys, rest))
+        }
+        Err(ParseFault::Off) => key_list(alloc, tokens),
+        Err(ParseFault::OutOfMemory) => Err(ParseFault::OutOfMemory),
+    }
+}
+
+// A direction, which is ascending where none is written.
+#[tactic(auto, unfolding(crate::specs::StatementReader::dir_at))]
+fn dir(tokens: &[Token]) -> (Dir, &[Token])
+    ensures { dir_at (forms tokens.now) ≡ Some (result.0, forms result.1.now) }
+{
+    match tokens {
+        [
+            Token {
+                form: TokenForm::Keyword(Keyword::Asc),
+                ..
+            },
+            rest @ ..,
+        ] => (Dir::Asc, rest),
+        [
+            Token {
+                form: TokenForm::Keyword(Keyword::Desc),
+                ..
+            },
+            rest @ ..,
+        ] => (Dir::Desc, rest),
+        _ => (Dir::Asc, tokens),
+    }
+}
+
+// A field with its direction.
+#[tactic(auto, unfolding(crate::specs::StatementReader::order_field_at))]
+fn order_field(alloc: Global, tokens: &[Token]) -> Result<(OrderField, &[Token]), ParseFault>
+    ensures { Gives (order_field_at (forms tokens.now)) result }
+{
+    let (field, rest) = field_ref(alloc, tokens)?;
+    let (dir, rest) = dir(rest);
+    Ok((OrderField { field, dir }, rest))
+}
+
+// Fields with their directions as members of a list.
+#[derive(Clone, Copy, Drop)]
+struct OrderFieldRule {
+    alloc: Global,
+}
+
+impl Rule for OrderFieldRule {
+    type Tree = OrderField;
+
+    ghost ready = { λ _. Unit {0} };
+
+    ghost finds = { λ _. order_field_at };
+
+    fn read<'a>(&self, tokens: &'a [Token]) -> Result<(OrderField, &'a [Token]), ParseFault> {
+        order_field(self.alloc, tokens)
+    }
+}
+
+/// The keys of an ORDER.
+#[tactic(auto, unfolding(crate::specs::StatementReader::order_keys_at))]
+pub fn order_keys(alloc: Global, tokens: &[Token]) -> Result<(OrderKeys, &[Token]), ParseFault>
+    ensures { Gives (order_keys_at (forms tokens.now)) result }
+{
+    match tokens {
+        [
+            Token {
+                form: TokenForm::Symbol(Symbol::Star),
+                ..
+            },
+            rest @ ..,
+        ] => {
+            let (dir, rest) = dir(rest);
+            Ok((OrderKeys::All(dir), rest))
+        }
+        _ => {
+            let (fields, rest) = listed(alloc, &OrderFieldRule { alloc }, tokens)?;
+            Ok((OrderKeys::Fields(fields), rest))
+        }
+    }
+}
+
+// Texts as members of a list.
+#[derive(Clone, Copy, Drop)]
+struct TextRule {
+    alloc: Global,
+}
+
+impl Rule for TextRule {
+    type Tree = Text;
+
+    ghost ready = { λ _. Unit {0} };
+
+    ghost finds = { λ _. text_at };
+
+    #[tactic(auto, unfolding(crate::specs::StatementReader::text_at))]
+    fn read<'a>(&self, tokens: &'a [Token]) -> Result<(Text, &'a [Token]), ParseFault> {
+        match tokens {
+            [
+                Token {
+                    form: TokenForm::Text(content),
+                    ..
+                },
+                rest @ ..,
+            ] => {
+                let content = content.copy(self.alloc)?;
+                Ok((content, rest))
+            }
+            _ => Err(ParseFault::Off),
+        }
+    }
+}
+
+/// Names of relations as members of a list.
+#[derive(Clone, Copy, Drop)]
+pub struct IdentRule {
+    pub alloc: Global,
+}
+
+impl Rule for IdentRule {
+    type Tree = Text;
+
+    ghost ready = { λ _. Unit {0} };
+
+    ghost finds = { λ _. ident_at };
+
+    #[tactic(auto, unfolding(crate::specs::StatementReader::ident_at))]
+    fn read<'a>(&self, tokens: &'a [Token]) -> Result<(Text, &'a [Token]), ParseFault> {
+        match tokens {
+            [
+                Token {
+                    form: TokenForm::Ident(name),
+                    ..
+                },
+                rest @ ..,
+            ] => {
+                let name = name.copy(self.alloc)?;
+                Ok((name, rest))
+            }
+            _ => Err(ParseFault::Off),
+        }
+    }
+}
+
+// A storage function with its arguments.
+#[tactic(auto, unfolding(crate::specs::StatementReader::func_at))]
+fn func(alloc: Global, tokens: &[Token]) -> Result<(Func, &[Token]), ParseFault>
+    ensures { Gives (func_at (forms tokens.now)) result }
+{
+    match tokens {
+        [
+            Token {
+                form: TokenForm::Ident(name),
+                ..
+            },
+            Token {
+                form: TokenForm::Symbol(Symbol::OpenParen),
+                ..
+            },
+            Token {
+                form: TokenForm::Symbol(Symbol::CloseParen),
+                ..
+            },
+            rest @ ..,
+        ] => {
+            let name = name.copy(alloc)?;
+            let args = Texts::new(alloc);
+            Ok((Func { name, args }, rest))
+        }
+        [
+            Token {
+                form: TokenForm::Ident(name),
+                ..
+            },
+            Token {
+                form: TokenForm::Symbol(Symbol::OpenParen),
+                ..
+            },
+            rest @ ..,
+        ] => {
+            let (args, rest) = listed(alloc, &TextRule { alloc }, rest)?;
+            let rest = close_paren(rest)?;
+            let name = name.copy(alloc)?;
+            Ok((Func { name, args }, rest))
+        }
+        _ => Err(ParseFault::Off),
+    }
+}
+
+/// The storage function behind USING, where one stands.
+#[tactic(auto, unfolding(crate::specs::StatementReader::using_func_at))]
+pub fn using_func(alloc: Global, tokens: &[Token]) -> Result<(Option<Func>, &[Token]), ParseFault>
+    ensures { Gives (using_func_at (forms tokens.now)) result }
+{
+    match tokens {
+        [
+            Token {
+                form: TokenForm::Keyword(Keyword::Using),
+                ..
+            },
+            rest @ ..,
+        ] => {
+            let (func, rest) = func(alloc, rest)?;
+            Ok((Some(func), rest))
+        }
+        _ => Ok((None, tokens)),
+    }
+}
+
+/// The text behind USING, where one stands.
+#[tactic(auto, unfolding(crate::specs::StatementReader::using_text_at))]
+pub fn using_text(alloc: Global, tokens: &[Token]) -> Result<(Option<Text>, &[Token]), ParseFault>
+    ensures { Gives (using_text_at (forms tokens.now)) result }
+{
+    match tokens {
+        [
+            Token {
+                form: TokenForm::Keyword(Keyword::Using),
+                ..
+            },
+            Token {
+                form: TokenForm::Text(content),
+                ..
+            },
+            rest @ ..,
+        ] => {
+            let content = content.copy(alloc)?;
+            Ok((Some(content), rest))
+        }
+        _ => Ok((None, tokens)),
+    }
+}
+
+/// The tokens behind PARALLEL and its number, where they stand.
+#[tactic(auto, unfolding(crate::specs::StatementReader::after_parallel))]
+pub fn after_parallel(tokens: &[Token]) -> &[Token]
+    ensures { forms result.now ≡ after_parallel (forms tokens.now) }
+{
+    match tokens {
+        [
+            Token {
+                form: TokenForm::Keyword(Keyword::Parallel),
+                ..
+            },
+            Token {
+                form: TokenForm::Int(_),
+                ..
+            },
+            rest @ ..,
+        ] => rest,
+        _ => tokens,
+    }
+}
+
+// The count that a token is.
+fn count_of(token: &Token) -> Option<u64>
+    ensures { result ≡ count_of token.now.form }
+{
+    match &token.form {
+        TokenForm::Int(count) => u64::try_from(*count).ok(),
+        TokenForm::Long(count) => u64::try_from(*count).ok(),
+        _ => None,
+    }
+}
+
+/// A count of tuples.
+#[tactic(auto, unfolding(crate::specs::StatementReader::count_at))]
+pub fn count(tokens: &[Token]) -> Result<(u64, &[Token]), ParseFault>
+    ensures { Gives (count_at (forms tokens.now)) result }
+{
+    match tokens {
+        [first, rest @ ..] => match count_of(first) {
+            Some(count) => Ok((count, rest)),
+            None => Err(ParseFault::Off),
+        },
+        _ => Err(ParseFault::Off),
+    }
+}

@@ -1,0 +1,307 @@
+ghost use Rattle.std.specs.Prelude.{◌≡◌, [], ◌∷◌, Some, length, map};
+ghost use Rattle.pig_parser.specs.Grammar.{Forms};
+ghost use Rattle.pig_parser.specs.Statements.{is_unsupported_word};
+ghost use Rattle.pig_parser.specs.Reader.{forms, Gives};
+ghost use Rattle.pig_parser.specs.StatementReader.{Tells, branch_with, branch_at, branch_turn, branches_at, otherwise_at, split_at, store_at, is_unsupported, assign_at, front_at, ended, statement_at};
+
+use crate::operators::operator;
+use crate::parts::{expression, using_func};
+use crate::reading::{ParseFault, Turning, one, repeat};
+use pig_syntax::{Branch, Branches, Keyword, Stmt, Symbol, Token, TokenForm};
+use pig_value::Text;
+use std::alloc::Global;
+
+// A branch, behind its name and IF.
+#[tactic(auto, unfolding(crate::specs::StatementReader::branch_with))]
+fn branch_with<'a>(
+    alloc: Global,
+    name: &Text,
+    tokens: &'a [Token],
+) -> Result<(Branch, &'a [Token]), ParseFault>
+    ensures { Gives (branch_with 65 name.now (forms tokens.now)) result }
+{
+    let (cond, rest) = expression(alloc, tokens)?;
+    let alias = name.copy(alloc)?;
+    Ok((Branch { alias, cond }, rest))
+}
+
+// A branch of a SPLIT.
+#[tactic(auto, unfolding(crate::specs::StatementReader::branch_at))]
+fn branch(alloc: Global, tokens: &[Token]) -> Result<(Branch, &[Token]), ParseFault>
+    ensures { Gives (branch_at 65 (forms tokens.now)) result }
+{
+    match tokens {
+        [
+            Token {
+                form: TokenForm::Ident(name),
+                ..
+            },
+            Token {
+                form: TokenForm::Keyword(Keyword::If),
+                ..
+            },
+            rest @ ..,
+        ] => branch_with(alloc, name, rest),
+        _ => Err(ParseFault::Off),
+    }
+}
+
+// The branches of a SPLIT behind the first.
+#[derive(Clone, Copy, Drop)]
+struct BranchTurns {
+    alloc: Global,
+}
+
+impl Turning for BranchTurns {
+    type Tree = Branch;
+
+    ghost ready = { λ _. Unit {0} };
+
+    ghost finds = { λ _. branch_turn 65 };
+
+    #[tactic(auto, unfolding(crate::specs::StatementReader::branch_turn))]
+    fn turn<'a>(&self, tokens: &'a [Token]) -> Result<Option<(Branch, &'a [Token])>, ParseFault> {
+        match tokens {
+            [
+                Token {
+                    form: TokenForm::Symbol(Symbol::Comma),
+                    ..
+                },
+                Token {
+                    form: TokenForm::Ident(name),
+                    ..
+                },
+                Token {
+                    form: TokenForm::Keyword(Keyword::If),
+                    ..
+                },
+                rest @ ..,
+            ] => {
+                let (branch, rest) = branch_with(self.alloc, name, rest)?;
+                Ok(Some((branch, rest)))
+            }
+            _ => Ok(None),
+        }
+    }
+}
+
+// The branches of a SPLIT.
+#[tactic(auto, unfolding(crate::specs::StatementReader::branches_at))]
+fn branches(alloc: Global, tokens: &[Token]) -> Result<(Branches, &[Token]), ParseFault>
+    ensures { Gives (branches_at 65 (forms tokens.now)) result }
+{
+    let (first, rest) = branch(alloc, tokens)?;
+    let branches = one(alloc, first)?;
+    repeat(&BranchTurns { alloc }, branches, rest)
+}
+
+// The relation of the tuples that no branch takes, where there is one.
+#[tactic(auto, unfolding(crate::specs::StatementReader::otherwise_at))]
+fn otherwise(alloc: Global, tokens: &[Token]) -> Result<(Option<Text>, &[Token]), ParseFault>
+    ensures { Gives (otherwise_at (forms tokens.now)) result }
+{
+    match tokens {
+        [
+            Token {
+                form: TokenForm::Symbol(Symbol::Comma),
+                ..
+            },
+            Token {
+                form: TokenForm::Ident(name),
+                ..
+            },
+            Token {
+                form: TokenForm::Keyword(Keyword::Otherwise),
+                ..
+            },
+            rest @ ..,
+        ] => {
+            let name = name.copy(alloc)?;
+            Ok((Some(name), rest))
+        }
+        _ => Ok((None, tokens)),
+    }
+}
+
+// A SPLIT, behind its word.
+#[tactic(auto, unfolding(crate::specs::StatementReader::split_at))]
+fn split(alloc: Global, tokens: &[Token]) -> Result<(Stmt, &[Token]), ParseFault>
+    ensures { Gives (split_at 65 (forms tokens.now)) result }
+{
+    match tokens {
+        [
+            Token {
+                form: TokenForm::Ident(name),
+                ..
+            },
+            Token {
+                form: TokenForm::Keyword(Keyword::Into),
+                ..
+            },
+            rest @ ..,
+        ] => {
+            let (branches, rest) = branches(alloc, rest)?;
+            let (otherwise, rest) = otherwise(alloc, rest)?;
+            let from = name.copy(alloc)?;
+            Ok((
+                Stmt::Split {
+                    from,
+                    branches,
+                    otherwise,
+                },
+                rest,
+            ))
+        }
+        _ => Err(ParseFault::Off),
+    }
+}
+
+// A STORE, behind its word.
+#[tactic(auto, unfolding(crate::specs::StatementReader::store_at))]
+fn store(alloc: Global, tokens: &[Token]) -> Result<(Stmt, &[Token]), ParseFault>
+    ensures { Gives (store_at (forms tokens.now)) result }
+{
+    match tokens {
+        [
+            Token {
+                form: TokenForm::Ident(name),
+                ..
+            },
+            Token {
+                form: TokenForm::Keyword(Keyword::Into),
+                ..
+            },
+            Token {
+                form: TokenForm::Text(path),
+                ..
+            },
+            rest @ ..,
+        ] => {
+            let (func, rest) = using_func(alloc, rest)?;
+            let from = name.copy(alloc)?;
+            let path = path.copy(alloc)?;
+            Ok((Stmt::Store { from, path, func }, rest))
+        }
+        _ => Err(ParseFault::Off),
+    }
+}
+
+// Whether a statement of another dialect begins with the word.
+fn is_unsupported_word(word: Keyword) -> bool
+    ensures { result ≡ is_unsupported_word word }
+{
+    matches!(
+        word,
+        Keyword::Register
+            | Keyword::Define
+            | Keyword::Stream
+            | Keyword::MapReduce
+            | Keyword::Sample
+            | Keyword::Cross
+            | Keyword::Dump
+            | Keyword::Illustrate
+            | Keyword::Describe
+            | Keyword::Explain
+            | Keyword::Import
+            | Keyword::Set
+    )
+}
+
+// Whether a statement of another dialect stands there.
+#[tactic(auto, unfolding(crate::specs::StatementReader::is_unsupported))]
+fn is_unsupported(tokens: &[Token]) -> bool
+    ensures { result ≡ is_unsupported (forms tokens.now) }
+{
+    match tokens {
+        [
+            Token {
+                form: TokenForm::Keyword(word),
+                ..
+            },
+            ..
+        ] => is_unsupported_word(*word),
+        _ => false,
+    }
+}
+
+// What stands behind a name and `=`.
+#[tactic(auto, unfolding(crate::specs::StatementReader::assign_at))]
+fn assign<'a>(
+    alloc: Global,
+    name: &Text,
+    tokens: &'a [Token],
+) -> Result<(Stmt, &'a [Token]), ParseFault>
+    ensures { Gives (assign_at 65 name.now (forms tokens.now)) result }
+{
+    if is_unsupported(tokens) {
+        return Ok((Stmt::Unsupported, &[]));
+    }
+    let (op, rest) = operator(alloc, tokens)?;
+    let alias = name.copy(alloc)?;
+    Ok((Stmt::Assign { alias, op }, rest))
+}
+
+// A statement that isn't empty.
+#[tactic(auto, unfolding(crate::specs::StatementReader::front_at))]
+fn front(alloc: Global, tokens: &[Token]) -> Result<(Stmt, &[Token]), ParseFault>
+    ensures { Gives (front_at 65 (forms tokens.now)) result }
+{
+    match tokens {
+        [
+            Token {
+                form: TokenForm::Ident(name),
+                ..
+            },
+            Token {
+                form: TokenForm::Symbol(Symbol::Assign),
+                ..
+            },
+            rest @ ..,
+        ] => assign(alloc, name, rest),
+        [
+            Token {
+                form: TokenForm::Keyword(Keyword::Split),
+                ..
+            },
+            rest @ ..,
+        ] => split(alloc, rest),
+        [
+            Token {
+                form: TokenForm::Keyword(Keyword::Store),
+                ..
+            },
+            rest @ ..,
+        ] => store(alloc, rest),
+        _ => {
+            if is_unsupported(tokens) {
+                return Ok((Stmt::Unsupported, &[]));
+            }
+            Err(ParseFault::Off)
+        }
+    }
+}
+
+// The tree, where no token is left.
+#[tactic(auto, unfolding(crate::specs::StatementReader::ended))]
+fn ended(tree: Stmt, rest: &[Token]) -> Result<Stmt, ParseFault>
+    ensures { Tells (ended tree (forms rest.now)) result }
+{
+    match rest {
+        [] => Ok(tree),
+        _ => Err(ParseFault::Off),
+    }
+}
+
+/// The tree of a statement's tokens.
+#[tactic(auto, unfolding(crate::specs::StatementReader::statement_at))]
+pub fn statement(alloc: Global, tokens: &[Token]) -> Result<Stmt, ParseFault>
+    ensures { Tells (statement_at 65 (forms tokens.now)) result }
+{
+    match tokens {
+        [] => Ok(Stmt::Empty),
+        _ => {
+            let (tree, rest) = front(alloc, tokens)?;
+            ended(tree, rest)
+        }
+    }
+}
