@@ -14,5 +14,6 @@ pub mod Texts
 pub mod Recognised
 pub mod Streams
 pub mod LineFree
-mod CutLaws
-mod CutSteps
+pub mod CutLaws
+pub mod CutSteps
+pub mod Totals

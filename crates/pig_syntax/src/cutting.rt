@@ -164,9 +164,10 @@ fn closes_bracket(token: &Token) -> bool
     )
 }
 
-/// Tokens have one list of statements alone.
+/// Tokens have one list of statements and no other.
 pub fn statements_are_one()
-    ensures { (ts : List Token) (ps qs : List Piece) → AreStatements ts ps → AreStatements ts qs → ps ≡ qs }
+    ensures some { (ts : List Token) → (ps : List Piece) × AreStatements ts ps }
+    ensures one { (ts : List Token) (ps qs : List Piece) → AreStatements ts ps → AreStatements ts qs → ps ≡ qs }
 {}
 
 /// The statements lie within the tokens, and there are at most as many of them as tokens.
@@ -175,7 +176,8 @@ pub fn statements_lie_within()
     ensures few { (ts : List Token) (ps : List Piece) → AreStatements ts ps → length ps ≤ length ts }
 {}
 
-/// A statement has one depth alone.
+/// A statement has one depth and no other.
 pub fn depth_is_one()
-    ensures { (ts : List Token) (a b : ℕ) → IsDepth ts a → IsDepth ts b → a ≡ b }
+    ensures some { (ts : List Token) → (depth : ℕ) × IsDepth ts depth }
+    ensures one { (ts : List Token) (a b : ℕ) → IsDepth ts a → IsDepth ts b → a ≡ b }
 {}
