@@ -18,3 +18,4 @@ pub mod Depths
 pub mod TreeOf
 pub mod TreesInTurn
 pub mod OneAnswer
+pub mod SomeAnswer

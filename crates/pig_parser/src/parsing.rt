@@ -1,4 +1,4 @@
-ghost use Rattle.std.specs.Prelude.{◌≡◌, ◌<◌, ◌≤◌, ◌+◌, ◌^◌, ◌↔◌, ℕ, true, List, length, slice_get, Some, IsTrue, IfOk, IfErr, All};
+ghost use Rattle.std.specs.Prelude.{◌≡◌, ◌<◌, ◌≤◌, ◌+◌, ◌^◌, ◌↔◌, ◌⊎◌, ℕ, true, List, length, slice_get, Some, IsTrue, IfOk, IfErr, All};
 ghost use Rattle.std.specs.Option.{option_map};
 ghost use Rattle.pig_syntax.specs.declared.cutting.Piece.{Piece};
 ghost use Rattle.pig_syntax.specs.declared.tokens.Token.{Token};
@@ -105,6 +105,7 @@ pub fn a_statement_has_one_tree()
 
 /// A script has one list of trees, or one first statement that is off the grammar, and not both.
 pub fn a_script_has_one_answer()
+    ensures some { (ts : List Token) (ps : List Piece) → All (IsShallow ts) ps → ((ss : List Stmt) × AreTrees ts ps ss) ⊎ ((n : ℕ) × IsFirstOff ts ps n) }
     ensures trees { (ts : List Token) (ps : List Piece) (ss us : List Stmt) → AreTrees ts ps ss → AreTrees ts ps us → ss ≡ us }
     ensures first { (ts : List Token) (ps : List Piece) (m n : ℕ) → IsFirstOff ts ps m → IsFirstOff ts ps n → m ≡ n }
     ensures not_both { (ts : List Token) (ps : List Piece) (ss : List Stmt) (n : ℕ) → AreTrees ts ps ss → IsFirstOff ts ps n → ⊥ }
