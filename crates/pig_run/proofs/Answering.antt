@@ -8,10 +8,12 @@ use Rattle.pig_run.specs.declared.outcome.RunFault.TheVariants as fault
 use Rattle.pig_run.specs.declared.outcome.Counts.{Counts}
 use Rattle.pig_run.specs.declared.first_form.FirstForm.{FirstForm}
 use Rattle.pig_run.specs.declared.plan.Plan.{Plan}
-use Rattle.pig_run.specs.Answers.{IsDue, usage, no_script, not_yet, no_input, output_exists, runs, IsFree, IsAnswer, IsRun, Leaves, LeftOpen, Verdict, Refused, Runs, Tells, TellsOf}
+use Rattle.pig_run.specs.Answers.{IsDue, usage, no_script, script_refused, no_input, output_exists, runs, IsFree, IsAnswer, IsRun, Leaves, LeftOpen, Verdict, Refused, Runs, Tells, TellsOf}
 use Rattle.pig_run.specs.Steps.{IsReady, IsDepotStep}
 use Rattle.pig_run.specs.Running.{HasLengths, IsRunStep}
 use Rattle.pig_run.specs.Told.{IsTold, EndedWell, RefusedBefore, BrokeOff}
+use Rattle.pig_run.specs.Reading.{IsScriptFault}
+use Rattle.pig_run.proofs.Readings.{found_refusal}
 use Rattle.pig_run.proofs.Verdicts.{one_due}
 
 -- a host that tells its inputs, tells those of the shelf
@@ -29,6 +31,9 @@ left_by_run : (f : RunFault) (form : FirstForm) (pieces : List (List ℕ)) (old 
     → (f ≡ fault.HostFault → new ≡ old) → Leaves f (Runs form pieces) old new
 left_by_run fault.Usage form pieces old new step left host = absurd step
 left_by_run fault.NoScript form pieces old new step left host = absurd step
+left_by_run (fault.Lex offset) form pieces old new step left host = absurd step
+left_by_run (fault.Syntax statement) form pieces old new step left host = absurd step
+left_by_run (fault.TooLarge which) form pieces old new step left host = absurd step
 left_by_run fault.NotYet form pieces old new step left host = absurd step
 left_by_run (fault.NoInput path) form pieces old new step left host = absurd step
 left_by_run (fault.OutputExists dir) form pieces old new step left host = absurd step
@@ -75,6 +80,9 @@ module _ (words : List (List ℕ)) (s : Shelf) (inputs : Option (List Input)) (o
 free_step : (f : RunFault) → IsRunStep f → IsFree f
 free_step fault.Usage step = step
 free_step fault.NoScript step = step
+free_step (fault.Lex offset) step = step
+free_step (fault.Syntax statement) step = step
+free_step (fault.TooLarge which) step = step
 free_step fault.NotYet step = step
 free_step (fault.NoInput path) step = step
 free_step (fault.OutputExists dir) step = step
@@ -85,6 +93,9 @@ free_step fault.OutOfMemory step = tt
 free_before : (f : RunFault) → IsDepotStep f → IsFree f
 free_before fault.Usage step = step
 free_before fault.NoScript step = step
+free_before (fault.Lex offset) step = step
+free_before (fault.Syntax statement) step = step
+free_before (fault.TooLarge which) step = step
 free_before fault.NotYet step = step
 free_before (fault.NoInput path) step = step
 free_before (fault.OutputExists dir) step = step
@@ -107,6 +118,9 @@ left_alone (Runs form pieces) old new same = inl same
 left_step : (f : RunFault) (v : Verdict) (old new : Option Shelf) → IsDepotStep f → new ≡ old → Leaves f v old new
 left_step fault.Usage v old new step same = absurd step
 left_step fault.NoScript v old new step same = absurd step
+left_step (fault.Lex offset) v old new step same = absurd step
+left_step (fault.Syntax statement) v old new step same = absurd step
+left_step (fault.TooLarge which) v old new step same = absurd step
 left_step fault.NotYet v old new step same = absurd step
 left_step (fault.NoInput path) v old new step same = absurd step
 left_step (fault.OutputExists dir) v old new step same = absurd step
@@ -115,11 +129,18 @@ left_step (fault.DepotFault (Some store)) v old new step same = absurd step
 left_step fault.HostFault v old new step same = absurd step
 left_step fault.OutOfMemory v old new step same = left_alone v old new same
 
+left_refused : (f : RunFault) (v : Verdict) (old new : Option Shelf) → IsScriptFault f → new ≡ old → Leaves f v old new
+left_refused (fault.Lex offset) v old new is same = same
+left_refused (fault.Syntax statement) v old new is same = same
+left_refused (fault.TooLarge which) v old new is same = same
+left_refused fault.NotYet v old new is same = same
+left_refused f v old new is same = absurd is
+
 -- what is due as a refusal is no fault of the depot
 due_left : (words : List (List ℕ)) (s : Shelf) (f : RunFault) (v w : Verdict) (old new : Option Shelf) → w ≡ Refused f → IsDue words s w → new ≡ old → Leaves f v old new
 due_left words s f v _ old new is (usage n) same = subst (λ g. Leaves g v old new) (of_refused is) same
 due_left words s f v _ old new is (no_script a x) same = subst (λ g. Leaves g v old new) (of_refused is) same
-due_left words s f v _ old new is (not_yet a t x) same = subst (λ g. Leaves g v old new) (of_refused is) same
+due_left words s f v _ old new is (script_refused {found = g} a t x) same = subst (λ g. Leaves g v old new) (of_refused is) (left_refused g v old new (found_refusal x) same)
 due_left words s f v _ old new is (no_input a t js x) same = subst (λ g. Leaves g v old new) (of_refused is) same
 due_left words s f v _ old new is (output_exists a t js x d) same = subst (λ g. Leaves g v old new) (of_refused is) same
 due_left words s f v _ old new is (runs a t js x d) same = absurd (cc)
@@ -150,6 +171,9 @@ completes fault.HostFault form pieces D H depot host (inr free) sound hosted = a
 completes fault.OutOfMemory form pieces D H depot host (inr free) sound hosted = refl
 completes fault.Usage form pieces D H depot host (inr free) sound hosted = absurd free
 completes fault.NoScript form pieces D H depot host (inr free) sound hosted = absurd free
+completes (fault.Lex offset) form pieces D H depot host (inr free) sound hosted = absurd free
+completes (fault.Syntax statement) form pieces D H depot host (inr free) sound hosted = absurd free
+completes (fault.TooLarge which) form pieces D H depot host (inr free) sound hosted = absurd free
 completes fault.NotYet form pieces D H depot host (inr free) sound hosted = absurd free
 completes (fault.NoInput path) form pieces D H depot host (inr free) sound hosted = absurd free
 completes (fault.OutputExists dir) form pieces D H depot host (inr free) sound hosted = absurd free

@@ -7,10 +7,9 @@ use Rattle.std.specs.declared.alloc.AllocError.{AllocError}
 use Rattle.pig_outside.specs.Shelf.{Shelf, script_of, pieces_of, has_dir}
 use Rattle.pig_run.specs.declared.first_form.FirstForm.{FirstForm}
 use Rattle.pig_run.specs.declared.outcome.RunFault.TheVariants as fault
-use Rattle.pig_run.specs.FirstForm.{IsFirstForm}
-use Rattle.pig_run.specs.FormReader.{Pieces, pieces_at, form_of}
-use Rattle.pig_run.specs.Answers.{AreWords, HasWords, is_option, IsScript, IsDue, usage, no_script, not_yet, no_input, output_exists, runs, Verdict, Refused, Runs}
-use Rattle.pig_run.proofs.FormSound.{Answers, form_told, none_told}
+use Rattle.pig_run.specs.Reading.{Finding, Refuses, Finds, IsFound}
+use Rattle.pig_run.specs.Answers.{AreWords, HasWords, is_option, IsDue, usage, no_script, script_refused, no_input, output_exists, runs, Verdict, Refused, Runs}
+use Rattle.pig_run.proofs.Readings.{some_found}
 
 -- the words are a command or not
 two : (verb path : List ℕ) → HasWords (verb ∷ path ∷ []) ⊎ ((p : List ℕ) → ¬ AreWords (verb ∷ path ∷ []) p)
@@ -28,43 +27,26 @@ words_decided (verb ∷ []) = inr (λ p a. let e = a.are in cc)
 words_decided (verb ∷ path ∷ []) = two verb path
 words_decided (verb ∷ path ∷ third ∷ more) = inr (λ p a. let e = a.are in cc)
 
--- the script is of a form or of none
-found_decided : (script : List ℕ) (found : Option FirstForm) → Answers script found → ((f : FirstForm) × IsFirstForm f script) ⊎ ((f : FirstForm) → ¬ IsFirstForm f script)
-found_decided script None h = inr h
-found_decided script (Some f) h = inl (f, h)
-
-pieces_decided : (script : List ℕ) (found : Option Pieces) → found ≡ pieces_at script → ((f : FirstForm) × IsFirstForm f script) ⊎ ((f : FirstForm) → ¬ IsFirstForm f script)
-pieces_decided script None is = inr (none_told script is)
-pieces_decided script (Some p) is = found_decided script (form_of p) (form_told {E = AllocError} script p (Ok (form_of p)) is refl)
-
-script_decided : (script : List ℕ) → ((f : FirstForm) × IsScript f script) ⊎ ((f : FirstForm) → ¬ IsScript f script)
-script_decided script = elim (pieces_decided script (pieces_at script) refl) [
-  | inl form ↦ elim (cases_lt (2 ^ 20) (length script)) [
-    | inl long ↦ inr (λ f is. let short = is.short in omega (arith, long, short))
-    | inr short ↦ inl (form.0, record { short = short; is = form.1 })
-  ]
-  | inr none ↦ inr (λ f is. none f is.is)
-]
-
 module _ (words : List (List ℕ)) (s : Shelf) where
-  by_output : (path script : List ℕ) (form : FirstForm) (pieces : List (List ℕ)) → AreWords words path → script_of path s ≡ Some script → IsScript form script
+  by_output : (path script : List ℕ) (form : FirstForm) (pieces : List (List ℕ)) → AreWords words path → script_of path s ≡ Some script → IsFound script (Finds form)
       → pieces_of form.input s.inputs ≡ Some pieces → (v : Verdict) × IsDue words s v
   by_output path script form pieces are there is input = elim (cases_Bool (has_dir form.output s)) [
     | inl exists ↦ (Refused (fault.OutputExists form.output), output_exists are there is input exists)
     | inr absent ↦ (Runs form pieces, runs are there is input absent)
   ]
 
-  by_input : (path script : List ℕ) (form : FirstForm) (found : Option (List (List ℕ))) → AreWords words path → script_of path s ≡ Some script → IsScript form script
+  by_input : (path script : List ℕ) (form : FirstForm) (found : Option (List (List ℕ))) → AreWords words path → script_of path s ≡ Some script → IsFound script (Finds form)
       → pieces_of form.input s.inputs ≡ found → (v : Verdict) × IsDue words s v
   by_input path script form None are there is input = (Refused (fault.NoInput form.input), no_input are there is input)
   by_input path script form (Some pieces) are there is input = by_output path script form pieces are there is input
 
+  by_finding : (path script : List ℕ) (finding : Finding) → AreWords words path → script_of path s ≡ Some script → IsFound script finding → (v : Verdict) × IsDue words s v
+  by_finding path script (Refuses f) are there is = (Refused f, script_refused are there is)
+  by_finding path script (Finds form) are there is = by_input path script form (pieces_of form.input s.inputs) are there is refl
+
   by_script : (path : List ℕ) (found : Option (List ℕ)) → AreWords words path → script_of path s ≡ found → (v : Verdict) × IsDue words s v
   by_script path None are there = (Refused fault.NoScript, no_script are there)
-  by_script path (Some script) are there = elim (script_decided script) [
-    | inl form ↦ by_input path script form.0 (pieces_of form.0.input s.inputs) are there form.1 refl
-    | inr none ↦ (Refused fault.NotYet, not_yet are there none)
-  ]
+  by_script path (Some script) are there = let found = some_found script in by_finding path script found.0 are there found.1
 
   pub some_due : (v : Verdict) × IsDue words s v
   some_due = elim (words_decided words) [

@@ -5,7 +5,7 @@ use Rattle.pig_outside.specs.Shelf.{Shelf, pieces_of, lengths_of, lengths_at, ha
 use Rattle.pig_run.specs.declared.outcome.RunFault.{RunFault}
 use Rattle.pig_run.specs.declared.outcome.RunFault.TheVariants as fault
 use Rattle.pig_run.specs.declared.first_form.FirstForm.{FirstForm}
-use Rattle.pig_run.specs.Answers.{AreWords, HasWords, IsDue, usage, no_script, not_yet, no_input, output_exists, Refused}
+use Rattle.pig_run.specs.Answers.{AreWords, HasWords, IsDue, usage, no_script, script_refused as refused_script, no_input, output_exists, Refused}
 use Rattle.pig_run.specs.Steps.{IsScripted, IsReady, IsRefused, ScriptRefusal, IsDepotStep, IsPlanFault, IsNotUsage}
 
 due_as : (words : List (List ℕ)) (s : Shelf) (f g : RunFault) → f ≡ g → IsDue words s (Refused g) → IsDue words s (Refused f)
@@ -16,7 +16,7 @@ words_refused words s f h = inl (due_as words s f fault.Usage h.0 (usage (λ pat
 
 pub script_refused : (words : List (List ℕ)) (s : Shelf) (path : List ℕ) → AreWords words path → (f : RunFault) → ScriptRefusal path s f → IsRefused words s f
 script_refused words s path are f (inl (is, none)) = inl (due_as words s f fault.NoScript is (no_script are none))
-script_refused words s path are f (inr (inl (is, none))) = inl (due_as words s f fault.NotYet is (not_yet are none.there none.none))
+script_refused words s path are f (inr (inl at)) = inl (refused_script are at.there at.is)
 script_refused words s path are f (inr (inr step)) = inr step
 
 -- the pieces behind the lengths that are told
@@ -50,9 +50,12 @@ module _ (words : List (List ℕ)) (s : Shelf) (form : FirstForm) (is : IsScript
 pub not_usage : (f : RunFault) → IsPlanFault f → IsNotUsage f
 not_usage fault.Usage h = h
 not_usage fault.NoScript h = tt
+not_usage (fault.Lex offset) h = tt
+not_usage (fault.Syntax statement) h = tt
 not_usage fault.NotYet h = tt
 not_usage (fault.NoInput path) h = tt
 not_usage (fault.OutputExists dir) h = tt
 not_usage (fault.DepotFault store) h = tt
 not_usage fault.HostFault h = tt
 not_usage fault.OutOfMemory h = tt
+not_usage (fault.TooLarge which) h = tt

@@ -1,5 +1,7 @@
 pub mod FormLemmas
 pub mod FormFound
+mod Readings
+mod ReadingSteps
 mod Answering
 mod Decided
 mod Done

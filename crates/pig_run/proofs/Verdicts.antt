@@ -3,9 +3,10 @@ use Rattle.std.proofs.Common.{◌≡◌, ℕ, true, false, List, Some, None, ref
 use Rattle.pig_outside.specs.Shelf.{Shelf, script_of, pieces_of, has_dir}
 use Rattle.pig_run.specs.declared.outcome.RunFault.TheVariants as fault
 use Rattle.pig_run.specs.declared.first_form.FirstForm.{FirstForm}
-use Rattle.pig_run.specs.FirstForm.{IsFirstForm}
-use Rattle.pig_run.specs.Answers.{AreWords, IsScript, IsDue, usage, no_script, not_yet, no_input, output_exists, runs, Verdict, Refused, Runs}
-use Rattle.pig_run.proofs.FormComplete.{one_reading}
+use Rattle.pig_run.specs.declared.outcome.RunFault.{RunFault}
+use Rattle.pig_run.specs.Reading.{Finding, Refuses, Finds, IsFound}
+use Rattle.pig_run.specs.Answers.{AreWords, IsDue, usage, no_script, script_refused, no_input, output_exists, runs, Verdict, Refused, Runs}
+use Rattle.pig_run.proofs.Readings.{one_found}
 
 just : {A : Type 0} {x y : A} → Some x ≡ Some y → x ≡ y
 just e = cc
@@ -20,13 +21,17 @@ module _ (words : List (List ℕ)) (s : Shelf) where
   no_such : {p q u : List ℕ} → AreWords words p → AreWords words q → script_of p s ≡ None → script_of q s ≡ Some u → ⊥
   no_such a b none there = let e = sym none ∙ ap (λ x. script_of x s) (same_path a b) ∙ there in cc
 
-  formless : {p q t u : List ℕ} {g : FirstForm} → AreWords words p → AreWords words q → script_of p s ≡ Some t → script_of q s ≡ Some u
-      → ((form : FirstForm) → ¬ IsScript form t) → IsScript g u → ⊥
-  formless {g = g} a b there other none is = none g (subst (IsScript g) (sym (same_script a b there other)) is)
+  same_finding : {p q t u : List ℕ} {v w : Finding} → AreWords words p → AreWords words q → script_of p s ≡ Some t → script_of q s ≡ Some u
+      → IsFound t v → IsFound u w → v ≡ w
+  same_finding {t = t} {v = v} {w = w} a b there other is js = one_found t v w is (subst (λ x. IsFound x w) (sym (same_script a b there other)) js)
+
+  refused_and_not : {p q t u : List ℕ} {f : RunFault} {g : FirstForm} → AreWords words p → AreWords words q → script_of p s ≡ Some t → script_of q s ≡ Some u
+      → IsFound t (Refuses f) → IsFound u (Finds g) → ⊥
+  refused_and_not a b there other is js = let e = same_finding a b there other is js in cc
 
   same_form : {p q t u : List ℕ} {f g : FirstForm} → AreWords words p → AreWords words q → script_of p s ≡ Some t → script_of q s ≡ Some u
-      → IsScript f t → IsScript g u → f ≡ g
-  same_form {t = t} {f = f} {g = g} a b there other is js = one_reading f g t is.is (subst (IsFirstForm g) (sym (same_script a b there other)) js.is)
+      → IsFound t (Finds f) → IsFound u (Finds g) → f ≡ g
+  same_form a b there other is js = let e = same_finding a b there other is js in cc
 
   no_pieces : {f g : FirstForm} {ps : List (List ℕ)} → f ≡ g → pieces_of f.input s.inputs ≡ None → pieces_of g.input s.inputs ≡ Some ps → ⊥
   no_pieces same none there = let e = sym none ∙ ap (λ f. pieces_of f.input s.inputs) same ∙ there in cc
@@ -40,37 +45,37 @@ module _ (words : List (List ℕ)) (s : Shelf) where
 pub one_due : (words : List (List ℕ)) (s : Shelf) (v w : Verdict) → IsDue words s v → IsDue words s w → v ≡ w
 one_due words s _ _ (usage n) (usage m) = refl
 one_due words s _ _ (usage n) (no_script {path = p} b _) = absurd (n p b)
-one_due words s _ _ (usage n) (not_yet {path = p} b _ _) = absurd (n p b)
+one_due words s _ _ (usage n) (script_refused {path = p} b _ _) = absurd (n p b)
 one_due words s _ _ (usage n) (no_input {path = p} b _ _ _) = absurd (n p b)
 one_due words s _ _ (usage n) (output_exists {path = p} b _ _ _ _) = absurd (n p b)
 one_due words s _ _ (usage n) (runs {path = p} b _ _ _ _) = absurd (n p b)
 one_due words s _ _ (no_script {path = p} a _) (usage m) = absurd (m p a)
 one_due words s _ _ (no_script a x) (no_script b y) = refl
-one_due words s _ _ (no_script a x) (not_yet b t _) = absurd (no_such words s a b x t)
+one_due words s _ _ (no_script a x) (script_refused b t _) = absurd (no_such words s a b x t)
 one_due words s _ _ (no_script a x) (no_input b t _ _) = absurd (no_such words s a b x t)
 one_due words s _ _ (no_script a x) (output_exists b t _ _ _) = absurd (no_such words s a b x t)
 one_due words s _ _ (no_script a x) (runs b t _ _ _) = absurd (no_such words s a b x t)
-one_due words s _ _ (not_yet {path = p} a _ _) (usage m) = absurd (m p a)
-one_due words s _ _ (not_yet a t x) (no_script b y) = absurd (no_such words s b a y t)
-one_due words s _ _ (not_yet a t x) (not_yet b u y) = refl
-one_due words s _ _ (not_yet a t x) (no_input b u is _) = absurd (formless words s a b t u x is)
-one_due words s _ _ (not_yet a t x) (output_exists b u is _ _) = absurd (formless words s a b t u x is)
-one_due words s _ _ (not_yet a t x) (runs b u is _ _) = absurd (formless words s a b t u x is)
+one_due words s _ _ (script_refused {path = p} a _ _) (usage m) = absurd (m p a)
+one_due words s _ _ (script_refused a t x) (no_script b y) = absurd (no_such words s b a y t)
+one_due words s _ _ (script_refused {found = f} a t x) (script_refused {found = g} b u y) = let e = same_finding words s a b t u x y in let same : f ≡ g = cc in ap Refused same
+one_due words s _ _ (script_refused a t x) (no_input b u is _) = absurd (refused_and_not words s a b t u x is)
+one_due words s _ _ (script_refused a t x) (output_exists b u is _ _) = absurd (refused_and_not words s a b t u x is)
+one_due words s _ _ (script_refused a t x) (runs b u is _ _) = absurd (refused_and_not words s a b t u x is)
 one_due words s _ _ (no_input {path = p} a _ _ _) (usage m) = absurd (m p a)
 one_due words s _ _ (no_input a t is x) (no_script b y) = absurd (no_such words s b a y t)
-one_due words s _ _ (no_input a t is x) (not_yet b u y) = absurd (formless words s b a u t y is)
+one_due words s _ _ (no_input a t is x) (script_refused b u y) = absurd (refused_and_not words s b a u t y is)
 one_due words s _ _ (no_input a t is x) (no_input b u js y) = ap (λ f. Refused (fault.NoInput f.input)) (same_form words s a b t u is js)
 one_due words s _ _ (no_input a t is x) (output_exists b u js y _) = absurd (no_pieces words s (same_form words s a b t u is js) x y)
 one_due words s _ _ (no_input a t is x) (runs b u js y _) = absurd (no_pieces words s (same_form words s a b t u is js) x y)
 one_due words s _ _ (output_exists {path = p} a _ _ _ _) (usage m) = absurd (m p a)
 one_due words s _ _ (output_exists a t is x d) (no_script b y) = absurd (no_such words s b a y t)
-one_due words s _ _ (output_exists a t is x d) (not_yet b u y) = absurd (formless words s b a u t y is)
+one_due words s _ _ (output_exists a t is x d) (script_refused b u y) = absurd (refused_and_not words s b a u t y is)
 one_due words s _ _ (output_exists a t is x d) (no_input b u js y) = absurd (no_pieces words s (same_form words s b a u t js is) y x)
 one_due words s _ _ (output_exists a t is x d) (output_exists b u js y e) = ap (λ f. Refused (fault.OutputExists f.output)) (same_form words s a b t u is js)
 one_due words s _ _ (output_exists a t is x d) (runs b u js y e) = absurd (there_and_not words s (same_form words s a b t u is js) d e)
 one_due words s _ _ (runs {path = p} a _ _ _ _) (usage m) = absurd (m p a)
 one_due words s _ _ (runs a t is x d) (no_script b y) = absurd (no_such words s b a y t)
-one_due words s _ _ (runs a t is x d) (not_yet b u y) = absurd (formless words s b a u t y is)
+one_due words s _ _ (runs a t is x d) (script_refused b u y) = absurd (refused_and_not words s b a u t y is)
 one_due words s _ _ (runs a t is x d) (no_input b u js y) = absurd (no_pieces words s (same_form words s b a u t js is) y x)
 one_due words s _ _ (runs a t is x d) (output_exists b u js y e) = absurd (there_and_not words s (same_form words s b a u t js is) e d)
 one_due words s _ _ (runs {form = f} {pieces = ps} a t is x d) (runs {form = g} b u js y e) =

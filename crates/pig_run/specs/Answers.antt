@@ -10,7 +10,7 @@ use Rattle.pig_run.specs.declared.outcome.RunFault.{RunFault}
 use Rattle.pig_run.specs.declared.outcome.RunFault.TheVariants as fault
 use Rattle.pig_run.specs.declared.outcome.Counts.{Counts}
 use Rattle.pig_run.specs.declared.first_form.FirstForm.{FirstForm}
-use Rattle.pig_run.specs.FirstForm.{IsFirstForm}
+use Rattle.pig_run.specs.Reading.{IsFound, Refuses, Finds}
 use Rattle.pig_run.specs.Meaning.{meaning, line_count}
 
 -- a word that begins with `-`
@@ -27,11 +27,6 @@ pub record AreWords (words : List (List ℕ)) (path : List ℕ) : Type 0 where
 abbrev pub HasWords : List (List ℕ) → Type 0
 HasWords words = (path : List ℕ) × AreWords words path
 
--- a script of the first form, within the limit on its length
-pub record IsScript (form : FirstForm) (script : List ℕ) : Type 0 where
-  pub short : length script ≤ 2 ^ 20
-  pub is : IsFirstForm form script
-
 -- a refusal, or the run of a form over the pieces of its input
 pub data Verdict : Type 0 where
   Refused : RunFault → Verdict
@@ -43,19 +38,19 @@ pub data IsDue (words : List (List ℕ)) (shelf : Shelf) : Verdict → Type 0 wh
   usage : ((path : List ℕ) → ¬ AreWords words path) → IsDue words shelf (Refused fault.Usage)
   -- there is no such script
   no_script : {path : List ℕ} → AreWords words path → script_of path shelf ≡ None → IsDue words shelf (Refused fault.NoScript)
-  -- the script is of no form that is built yet
-  not_yet : {path script : List ℕ} → AreWords words path → script_of path shelf ≡ Some script
-      → ((form : FirstForm) → ¬ IsScript form script) → IsDue words shelf (Refused fault.NotYet)
+  -- the script is refused
+  script_refused : {path script : List ℕ} {found : RunFault} → AreWords words path → script_of path shelf ≡ Some script
+      → IsFound script (Refuses found) → IsDue words shelf (Refused found)
   -- there is no such input
   no_input : {path script : List ℕ} {form : FirstForm} → AreWords words path → script_of path shelf ≡ Some script
-      → IsScript form script → pieces_of form.input shelf.inputs ≡ None → IsDue words shelf (Refused (fault.NoInput form.input))
+      → IsFound script (Finds form) → pieces_of form.input shelf.inputs ≡ None → IsDue words shelf (Refused (fault.NoInput form.input))
   -- the output is there already
   output_exists : {path script : List ℕ} {form : FirstForm} {pieces : List (List ℕ)} → AreWords words path → script_of path shelf ≡ Some script
-      → IsScript form script → pieces_of form.input shelf.inputs ≡ Some pieces → has_dir form.output shelf ≡ true
+      → IsFound script (Finds form) → pieces_of form.input shelf.inputs ≡ Some pieces → has_dir form.output shelf ≡ true
       → IsDue words shelf (Refused (fault.OutputExists form.output))
   -- nothing is in the way
   runs : {path script : List ℕ} {form : FirstForm} {pieces : List (List ℕ)} → AreWords words path → script_of path shelf ≡ Some script
-      → IsScript form script → pieces_of form.input shelf.inputs ≡ Some pieces → has_dir form.output shelf ≡ false
+      → IsFound script (Finds form) → pieces_of form.input shelf.inputs ≡ Some pieces → has_dir form.output shelf ≡ false
       → IsDue words shelf (Runs form pieces)
 
 -- the faults that a device or want of memory causes
@@ -112,12 +107,15 @@ abbrev pub status_of : Option RunFault → ℕ
 status_of None = 0
 status_of (Some fault.Usage) = 1
 status_of (Some fault.NoScript) = 2
+status_of (Some (fault.Lex _)) = 3
+status_of (Some (fault.Syntax _)) = 3
 status_of (Some fault.NotYet) = 3
 status_of (Some (fault.NoInput _)) = 4
 status_of (Some (fault.OutputExists _)) = 5
 status_of (Some (fault.DepotFault _)) = 6
 status_of (Some fault.HostFault) = 7
 status_of (Some fault.OutOfMemory) = 9
+status_of (Some (fault.TooLarge _)) = 11
 
 -- a host that tells its inputs tells those of the depot's shelf
 abbrev pub TellsOf : Option Shelf → Option (List Input) → Type 0

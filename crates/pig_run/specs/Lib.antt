@@ -1,6 +1,7 @@
 pub mod FirstForm
 pub mod FormReader
 pub mod FormParts
+pub mod Reading
 pub mod Meaning
 pub mod Answers
 pub mod Steps

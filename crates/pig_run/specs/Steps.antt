@@ -8,7 +8,8 @@ use Rattle.pig_run.specs.declared.outcome.RunFault.{RunFault}
 use Rattle.pig_run.specs.declared.outcome.RunFault.TheVariants as fault
 use Rattle.pig_run.specs.declared.first_form.FirstForm.{FirstForm}
 use Rattle.pig_run.specs.declared.plan.Plan.{Plan}
-use Rattle.pig_run.specs.Answers.{AreWords, HasWords, IsScript, IsDue, Refused}
+use Rattle.pig_run.specs.Reading.{Finding, IsFound, Refuses, Finds}
+use Rattle.pig_run.specs.Answers.{AreWords, HasWords, IsDue, Refused}
 
 -- the fault that an error of the depot is
 abbrev pub depot_fault_of : OutsideError → Option ℕ → RunFault
@@ -33,27 +34,21 @@ pub record DepotCause {T : Type 0} (before now : ℕ) (result : Result T RunFaul
   pub later : before ≤ now
   pub failed : (store : Option ℕ) → IsErrOf result (fault.DepotFault store) → FailedRose before now
 
--- the script at the path is of this form
-pub record IsScriptAt (path : List ℕ) (shelf : Shelf) (form : FirstForm) : Type 0 where
+-- the script at the path is found to be this
+pub record IsScriptAt (path : List ℕ) (shelf : Shelf) (finding : Finding) : Type 0 where
   pub script : List ℕ
   pub there : script_of path shelf ≡ Some script
-  pub is : IsScript form script
-
--- the script at the path is of no form
-pub record HasNoForm (path : List ℕ) (shelf : Shelf) : Type 0 where
-  pub script : List ℕ
-  pub there : script_of path shelf ≡ Some script
-  pub none : (form : FirstForm) → ¬ IsScript form script
+  pub is : IsFound script finding
 
 -- why there is no form
 abbrev pub ScriptRefusal : List ℕ → Shelf → RunFault → Type 0
-ScriptRefusal path shelf found = ((found ≡ fault.NoScript) × (script_of path shelf ≡ None)) ⊎ ((found ≡ fault.NotYet) × HasNoForm path shelf) ⊎ IsDepotStep found
+ScriptRefusal path shelf found = ((found ≡ fault.NoScript) × (script_of path shelf ≡ None)) ⊎ IsScriptAt path shelf (Refuses found) ⊎ IsDepotStep found
 
 -- the words name a script of this form
 pub record IsScripted (words : List (List ℕ)) (shelf : Shelf) (form : FirstForm) : Type 0 where
   pub path : List ℕ
   pub words_are : AreWords words path
-  pub script_is : IsScriptAt path shelf form
+  pub script_is : IsScriptAt path shelf (Finds form)
 
 -- the fault is what is due, or that of a device or of memory
 abbrev pub IsRefused : List (List ℕ) → Shelf → RunFault → Type 0

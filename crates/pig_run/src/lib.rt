@@ -6,12 +6,13 @@ mod filtering;
 mod first_form;
 mod outcome;
 mod plan;
+mod reading;
 mod running;
 mod stored;
 mod top;
 
 pub use first_form::{
-    FieldType, FirstForm, FormField, FormFields, Literal, first_form as read_form, one_first_form,
+    FieldType, FirstForm, FormField, FormFields, Literal, one_first_form,
 };
-pub use outcome::{Counts, Outcome, RunFault};
+pub use outcome::{Counts, Outcome, RunFault, TooLarge};
 pub use top::{one_verdict, pig_main};

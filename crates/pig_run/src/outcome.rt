@@ -16,7 +16,13 @@ pub enum RunFault {
     /// The depot has no such script.
     #[error("there is no such script")]
     NoScript,
-    /// The script is of no form that is built yet.
+    /// At this offset of the script, the first such, no token begins.
+    #[error("no token begins at byte {offset}")]
+    Lex { offset: u64 },
+    /// The statement of this number, counted from 1, is the first that is off the grammar.
+    #[error("statement {statement} is off the grammar")]
+    Syntax { statement: u32 },
+    /// The script is in the grammar, and of no form that is built yet.
     #[error("the script is of no form that is built yet")]
     NotYet,
     /// The depot has no input at the path of a LOAD.
@@ -35,6 +41,23 @@ pub enum RunFault {
     /// Memory was wanting.
     #[error("out of memory")]
     OutOfMemory,
+    /// A counted size passes its limit.
+    #[error("too large: {which}")]
+    TooLarge { which: TooLarge },
+}
+
+/// What passes its limit.
+#[derive(Debug, Clone, Copy, PartialEq, Eq, Drop, Error)]
+pub enum TooLarge {
+    /// The script has more than 1,048,576 bytes.
+    #[error("script")]
+    Script,
+    /// The script has more than 4,096 statements, empty ones included.
+    #[error("statements")]
+    Statements,
+    /// More than 64 brackets are open at a token of a statement.
+    #[error("depth")]
+    Depth,
 }
 
 impl RunFault {
@@ -45,12 +68,13 @@ impl RunFault {
         match self {
             RunFault::Usage => 1,
             RunFault::NoScript => 2,
-            RunFault::NotYet => 3,
+            RunFault::Lex { .. } | RunFault::Syntax { .. } | RunFault::NotYet => 3,
             RunFault::NoInput { .. } => 4,
             RunFault::OutputExists { .. } => 5,
             RunFault::DepotFault { .. } => 6,
             RunFault::HostFault => 7,
             RunFault::OutOfMemory => 9,
+            RunFault::TooLarge { .. } => 11,
         }
     }
 }

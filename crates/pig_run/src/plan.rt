@@ -3,19 +3,16 @@ ghost use Rattle.std.specs.Option.{ForSome};
 ghost use Rattle.pig_outside.specs.Shelf.{lengths_at, has_dir};
 ghost use Rattle.pig_run.specs.Answers.{AreWords, HasWords, is_option};
 ghost use Rattle.pig_run.specs.Steps.{IsScriptAt, IsScripted, IsReady, IsRefused, ScriptRefusal, IsDepotStep, IsPlanFault, DepotCause, SaysWords, depot_fault_of};
+ghost use Rattle.pig_run.specs.Reading.{Finds};
 ghost use Rattle.pig_run.specs.Running.{IsForm};
 ghost use Rattle.pig_run.specs.declared.first_form.FirstForm.{FirstForm};
 ghost use Rattle.pig_run.specs.declared.outcome.RunFault.TheVariants as fault;
 
-use crate::first_form::first_form;
+use crate::reading::{MOST_SCRIPT, read_script};
 use crate::{FirstForm, RunFault};
 use pig_outside::{Depot, OutsideError};
-use pig_syntax::Stmts;
 use pig_value::{Lengths, Text, Words};
 use std::alloc::Global;
-
-/// The limit on the length of a script, in bytes.
-const MOST_SCRIPT: u64 = 1_048_576;
 
 /// The fault that an error of the depot is, in the commit of that STORE or before.
 pub fn depot_fault(error: OutsideError, store: Option<u32>) -> RunFault
@@ -56,7 +53,7 @@ fn begins_option(word: &Text) -> bool
 
 /// The form of the script at a path.
 fn load_form<D: Depot>(alloc: Global, depot: &mut D, path: &str) -> Result<FirstForm, RunFault>
-    ensures told { ForSome (D.shelf depot.old) (λ s. MatchResult result (λ f. IsScriptAt path.now s f) (λ f. ScriptRefusal path.now s f)) }
+    ensures told { ForSome (D.shelf depot.old) (λ s. MatchResult result (λ f. IsScriptAt path.now s (Finds f)) (λ f. ScriptRefusal path.now s f)) }
     ensures form { IfOk result IsForm }
     ensures fault { IfErr result IsPlanFault }
     ensures shelf { D.shelf depot.new ≡ D.shelf depot.old }
@@ -68,13 +65,7 @@ fn load_form<D: Depot>(alloc: Global, depot: &mut D, path: &str) -> Result<First
         Ok(false) => return Err(RunFault::NoScript),
         Err(error) => return Err(depot_fault(error, None)),
     }
-    if script.len() > 1_048_576 {
-        return Err(RunFault::NotYet);
-    }
-    match first_form(alloc, &Stmts::new(alloc))? {
-        Some(form) => Ok(form),
-        None => Err(RunFault::NotYet),
-    }
+    read_script(alloc, script.as_slice())
 }
 
 /// The form of the script that the words name.

@@ -1,0 +1,35 @@
+-- The steps of the reading of a script.
+use Rattle.std.proofs.Common.{◌≡◌, ◌+◌, ◌<◌, ◌≤◌, ℕ, List, [], ◌∷◌, ◌++◌, length, take, get_or, Option, Some, None, MatchOption, Result, Ok, Err, sym, ◌∙◌, ap, subst, inl, inr, add-one}
+use Rattle.std.specs.List.{All}
+use Rattle.std.proofs.Math.Seq.{take-suc}
+use Rattle.std.proofs.lemmas.List.{take_all}
+use Rattle.std.proofs.lemmas.List.Elements.{All-append, All-cons, All-nil}
+use Rattle.pig_run.specs.declared.outcome.RunFault.{RunFault}
+use Rattle.pig_run.specs.declared.first_form.FirstForm.{FirstForm}
+use Rattle.pig_run.specs.Reading.{Finding, Refuses, Finds, TellsForm}
+
+-- what a stage finds, the stage before it finds
+pub tells_weaker : (P Q : Finding → Type 0) → ((v : Finding) → P v → Q v) → (r : Result FirstForm RunFault) → TellsForm P r → TellsForm Q r
+tells_weaker P Q weaker (Ok form) h = weaker (Finds form) h
+tells_weaker P Q weaker (Err f) (inl h) = inl (weaker (Refuses f) h)
+tells_weaker P Q weaker (Err f) (inr h) = inr h
+
+-- what is known of an option that is none, or some
+module _ {A : Type 0} (P : Type 0) (Q : A → Type 0) where
+  pub of_none : (o : Option A) → MatchOption o P Q → o ≡ None → P
+  of_none None h is = h
+  of_none (Some x) h is = absurd (cc)
+
+  pub of_some : (o : Option A) (x : A) → MatchOption o P Q → o ≡ Some x → Q x
+  of_some None x h is = absurd (cc)
+  of_some (Some y) x h is = let same : y ≡ x = cc in subst Q same h
+
+-- one more member passes
+pub passes_more : {X : Type 0} (P : X → Type 0) (xs : List X) (i : ℕ) (x : X) → i < length xs → x ≡ get_or xs i x → P x → All P (take i xs) → All P (take (i + 1) xs)
+passes_more P xs i x within at h sofar =
+    subst (All P) (sym (take-suc xs i x within ∙ ap (λ y. take i xs ++ y ∷ []) (sym at)) ∙ ap (λ n. take n xs) (sym (add-one i)))
+    (All-append P (take i xs) (x ∷ []) sofar (All-cons P x [] h (All-nil P)))
+
+-- all have passed
+pub all_passed : {X : Type 0} (P : X → Type 0) (xs ys : List X) (i : ℕ) → ys ≡ xs → length ys ≤ i → All P (take i ys) → All P xs
+all_passed P xs ys i same ended h = subst (All P) (take_all i ys ended ∙ same) h
