@@ -1,3 +1,5 @@
+mod ClapRows
+mod ClapTurns
 pub mod FormLemmas
 pub mod FormComplete
 pub mod FormSound

@@ -10,9 +10,11 @@ mod running;
 mod scanning;
 mod stored;
 mod top;
+mod words;
 
 pub use first_form::{
     FieldType, FirstForm, FormField, FormFields, Literal, first_form as read_form, one_first_form,
 };
 pub use outcome::{Counts, Outcome, RunFault};
 pub use top::{one_verdict, pig_main};
+pub use words::{Command, Verb};
