@@ -92,10 +92,10 @@ at_put (Value Reducers) v g = refl
 at_put (Value Split) v g = refl
 
 -- another place has another name, and stays as it is
-abbrev Differs : Slot → Slot → Type 0
+abbrev pub Differs : Slot → Slot → Type 0
 Differs x y = (bytes_eq (id_of x) (id_of y) ≡ false) × ((v : Word) (g : Given) → at y (put x v g) ≡ at y g)
 
-same_or_other : (x y : Slot) → (x ≡ y) ⊎ Differs x y
+pub same_or_other : (x y : Slot) → (x ≡ y) ⊎ Differs x y
 same_or_other Operand Operand = inl refl
 same_or_other Operand (Value Workers) = inr (refl, λ v g. refl)
 same_or_other Operand (Value Reducers) = inr (refl, λ v g. refl)

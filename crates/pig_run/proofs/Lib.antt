@@ -1,5 +1,6 @@
 mod ClapRows
 mod ClapTurns
+mod ClapReads
 pub mod FormLemmas
 pub mod FormComplete
 pub mod FormSound
