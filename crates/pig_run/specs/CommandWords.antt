@@ -89,14 +89,18 @@ pub record IsCount (word : Word) : Type 0 where
   pub some : 1 ≤ digits_value 10 word
   pub few : digits_value 10 word ≤ 100000
 
--- The words are the command, where there are so many hosts.
-pub record IsCommand (hosts : ℕ) (words : List Word) (c : Command) : Type 0 where
-  pub rest : List Word
-  pub given : Given
-  pub verb : words ≡ verb_word c.verb ∷ rest
-  pub gives : Gives nothing_given rest given
+-- What was given makes the command, where there are so many hosts.
+pub record Makes (hosts : ℕ) (given : Given) (c : Command) : Type 0 where
   pub operand : given.operand ≡ Some c.operand
   pub workers : IsSet given.workers (min 4 hosts) hosts c.workers
   pub reducers : IsSet given.reducers 4 256 c.reducers
   pub split : IsSet given.split 1048576 67108864 c.split
   pub count : c.verb ≡ verbs.Demo → IsCount c.operand
+
+-- The words are the command: its verb, and words that give what makes it.
+pub record IsCommand (hosts : ℕ) (words : List Word) (c : Command) : Type 0 where
+  pub rest : List Word
+  pub given : Given
+  pub begins : words ≡ verb_word c.verb ∷ rest
+  pub gives : Gives nothing_given rest given
+  pub makes : Makes hosts given c
