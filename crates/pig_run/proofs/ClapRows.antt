@@ -230,7 +230,8 @@ shows_none (Value Workers) = refl
 shows_none (Value Reducers) = refl
 shows_none (Value Split) = refl
 
+pub given_by_places : (a b : Given) → ((x : Slot) → at x a ≡ at x b) → a ≡ b
+given_by_places a b same = λ i. record { operand = same Operand i; workers = same (Value Workers) i; reducers = same (Value Reducers) i; split = same (Value Split) i }
+
 pub same_given : (a b : Given) (rows : List Row) → Shows a rows → Shows b rows → a ≡ b
-same_given a b rows h k =
-    let same : (x : Slot) → at x a ≡ at x b = λ x. sym (first_is_given x a rows h) ∙ first_is_given x b rows k in
-    λ i. record { operand = same Operand i; workers = same (Value Workers) i; reducers = same (Value Reducers) i; split = same (Value Split) i }
+same_given a b rows h k = given_by_places a b (λ x. sym (first_is_given x a rows h) ∙ first_is_given x b rows k)

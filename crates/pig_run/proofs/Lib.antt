@@ -1,6 +1,8 @@
 mod ClapRows
 mod ClapTurns
 mod ClapReads
+mod ClapFinds
+mod WordNumbers
 pub mod FormLemmas
 pub mod FormComplete
 pub mod FormSound

@@ -1,5 +1,5 @@
 -- The command that clap reads the words by, and what it finds.
-use Rattle.std.specs.Prelude.{◌≡◌, ◌&&◌, ℕ, Bool, true, List, length, nat_le, if◌then◌else◌, Option, Some, None, option_map, codes}
+use Rattle.std.specs.Prelude.{◌≡◌, ◌&&◌, ℕ, Bool, true, List, length, nat_le, if◌then◌else◌, min, is_some, Option, Some, None, option_map, option_and_then, codes}
 use Rattle.std.specs.Borrow.{Bor}
 use Rattle.std.specs.Char.{is_ascii_digit}
 use Rattle.std.specs.List.{list_all}
@@ -9,6 +9,8 @@ use Rattle.clap.specs.Simple.{on_top}
 use Rattle.clap.specs.declared.builder.action.ArgAction.TheVariants.{Set}
 use Rattle.pig_run.specs.CommandWords.{Given, Gives, IsValue, Setting, Workers, Reducers, Split, Word, nothing_given, value_of}
 use Rattle.pig_run.specs.declared.words.Found.{Found}
+use Rattle.pig_run.specs.declared.words.Verb.{Verb}
+use Rattle.pig_run.specs.declared.words.Verb.TheVariants as verbs
 
 -- the name under which clap keeps the value of an option, which is the option's long name
 abbrev pub name_of : Setting → Word
@@ -60,3 +62,20 @@ number_at most word = if is_value word && nat_le 1 (digits_value 10 word) && nat
 abbrev pub setting_at : ℕ → ℕ → Option Word → Option ℕ
 setting_at default most None = Some default
 setting_at default most (Some word) = number_at most word
+
+infixl 10 ◌>>=◌
+abbrev pub ◌>>=◌ : {A B : Type 0} → Option A → (A → Option B) → Option B
+o >>= f = option_and_then f o
+
+-- the numbers of workers and of reduce tasks, and the length of a split
+unfoldable pub numbers_at : ℕ → Given → Option (ℕ × ℕ × ℕ)
+numbers_at hosts g = do
+  workers ← setting_at (min 4 hosts) hosts g.workers
+  reducers ← setting_at 4 256 g.reducers
+  split ← setting_at 1048576 67108864 g.split
+  Some (workers, reducers, split)
+
+-- `demo` takes a count
+abbrev pub takes : Verb → Word → Bool
+takes verbs.Demo word = is_some (number_at 100000 word)
+takes _ word = true

@@ -17,4 +17,4 @@ pub use first_form::{
 };
 pub use outcome::{Counts, Outcome, RunFault};
 pub use top::{one_verdict, pig_main};
-pub use words::{Command, Verb};
+pub use words::{Command, Verb, one_command, read_words};

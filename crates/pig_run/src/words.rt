@@ -1,13 +1,14 @@
-ghost use Rattle.std.specs.Prelude.{◌≡◌, ◌≢◌, ◌≤◌, if◌then◌else◌, ℕ, List, length, map, drop, codes, Option, Some, None, IfOk, IfErr, IsUtf8, option_map};
+ghost use Rattle.std.specs.Prelude.{◌≡◌, ◌≢◌, ◌≤◌, if◌then◌else◌, ℕ, List, length, map, drop, codes, Option, Some, None, IfOk, IfErr, IsUtf8, All, MatchOption, ◌∷◌, option_map};
 ghost use Rattle.std.specs.Char.{is_ascii_digit};
-ghost use Rattle.std.specs.List.{list_all, AllByRecursion};
+ghost use Rattle.std.specs.List.{list_all};
 ghost use Rattle.std.specs.Str.Parse.{digits_value};
 ghost use Rattle.clap.specs.Words.{FailsBy, kind_of, app_of, fault_of, found_of, matches_of, rows_of};
 ghost use Rattle.clap.specs.declared.error.kind.ErrorKind.TheVariants as kind;
 ghost use Rattle.pig_value.specs.declared.shared.WordFault.TheVariants as faults;
 ghost use Rattle.pig_run.specs.CommandWords.{IsCommand, Makes, verb_word};
-ghost use Rattle.pig_run.specs.ClapWords.{pig, given_of, AreValues, AreRead, LackOperand, is_value, number_at, setting_at};
+ghost use Rattle.pig_run.specs.ClapWords.{pig, given_of, AreValues, AreRead, LackOperand, is_value, number_at, numbers_at, setting_at, takes};
 ghost use Rattle.pig_run.specs.declared.words.Command.{Command};
+ghost use Rattle.pig_run.specs.declared.words.Verb.{Verb};
 
 use clap::{Arg, ArgAction, ArgMatches};
 use clap::error::ErrorKind;
@@ -41,6 +42,7 @@ pub struct Command {
 }
 
 // What clap found: the operand, and the options that were given.
+#[derive(Drop)]
 struct Found<'a> {
     operand: &'a str,
     workers: Option<&'a str>,
@@ -76,7 +78,7 @@ fn matches<'a>(alloc: Global, words: &'a [&'a str]) -> Result<ArgMatches<'a>, cl
 // The words as texts that clap takes.
 fn texts(alloc: Global, words: &Words) -> Result<Vec<&str>, AllocError>
     ensures same { IfOk result (λ v. map (λ w. w.now) v.items ≡ words.now) }
-    ensures utf8 { IfOk result (λ v. AllByRecursion IsUtf8 (map (λ w. w.now) v.items)) }
+    ensures utf8 { IfOk result (λ v. All IsUtf8 (map (λ w. w.now) v.items)) }
 {
     let mut texts = Vec::new(alloc);
     for word in words.as_slice() {
@@ -87,7 +89,7 @@ fn texts(alloc: Global, words: &Words) -> Result<Vec<&str>, AllocError>
 
 // What the words behind the first give, or `Usage` where they give no operand.
 fn read_options<'a>(alloc: Global, words: &'a [&'a str]) -> Result<Found<'a>, WordFault>
-    requires utf8 { AllByRecursion IsUtf8 (map (λ w. w.now) words.now) }
+    requires utf8 { All IsUtf8 (map (λ w. w.now) words.now) }
     ensures read { IfOk result (λ f. AreRead (drop 1 (map (λ w. w.now) words.now)) (given_of f)) }
     ensures usage { IfErr result (λ f. f ≡ faults.Usage → LackOperand (drop 1 (map (λ w. w.now) words.now))) }
 {
@@ -116,7 +118,7 @@ fn fault_of(error: &clap::Error) -> WordFault
 }
 
 // The number of 1 to 9 ASCII digits.
-fn value(word: &str) -> Option<u64>
+fn value(word: &str) -> Option<u32>
     ensures { result ≡ (if is_value word.now then Some (digits_value 10 word.now) else None) }
 {
     if !is_value(word.as_bytes()) {
@@ -129,11 +131,17 @@ fn value(word: &str) -> Option<u64>
 fn is_value(word: &[u8]) -> bool
     ensures { result ≡ is_value word.now }
 {
-    !word.is_empty() && word.len() <= MOST_DIGITS && word.iter().all(|b| b.is_ascii_digit())
+    !word.is_empty() && word.len() <= MOST_DIGITS && all_digits(word)
+}
+
+fn all_digits(word: &[u8]) -> bool
+    ensures { result ≡ list_all is_ascii_digit word.now }
+{
+    word.iter().all(|b| b.is_ascii_digit())
 }
 
 // The number of a value, where it is from 1 to `most`.
-fn number(word: &str, most: u64) -> Option<u64>
+fn number(word: &str, most: u32) -> Option<u32>
     ensures { result ≡ number_at most word.now }
 {
     let number = value(word)?;
@@ -145,11 +153,104 @@ fn number(word: &str, most: u64) -> Option<u64>
 }
 
 // The number that an option sets; `default` where it is not given.
-fn setting(value: Option<&str>, default: u64, most: u64) -> Option<u64>
-    ensures { result ≡ setting_at default most (option_map (λ s. s.now) value) }
+fn setting(value: Option<&str>, default: u32, most: u32) -> Option<u32>
+    ensures { result ≡ setting_at default most (option_map (λ s. s.now) value.entry) }
 {
     match value {
         Some(word) => number(word, most),
         None => Some(default),
     }
+}
+
+// The verb that a word is.
+fn verb_of(word: &Text) -> Option<Verb>
+    ensures { MatchOption result ((v : Verb) → word.now ≢ verb_word v) (λ v. word.now ≡ verb_word v) }
+{
+    match word.as_str() {
+        "run" => Some(Verb::Run),
+        "explain" => Some(Verb::Explain),
+        "check" => Some(Verb::Check),
+        "demo" => Some(Verb::Demo),
+        _ => None,
+    }
+}
+
+// The verb that the words begin with.
+fn first_verb(words: &Words) -> Option<Verb>
+    ensures { MatchOption result ((v : Verb) (rest : List (List ℕ)) → words.now ≢ verb_word v ∷ rest) (λ v. words.now ≡ verb_word v ∷ drop 1 words.now) }
+{
+    match words.as_slice() {
+        [first, ..] => verb_of(first),
+        [] => None,
+    }
+}
+
+// The numbers of workers and of reduce tasks, and the length of a split.
+#[tactic(auto, unfolding(crate::specs::ClapWords::numbers_at))]
+fn numbers(found: &Found, hosts: u32) -> Option<(u32, u32, u32)>
+    ensures { result ≡ numbers_at hosts (given_of found.now) }
+{
+    let workers = setting(found.workers, hosts.min(4), hosts)?;
+    let reducers = setting(found.reducers, 4, 256)?;
+    let split = setting(found.split, 1_048_576, 67_108_864)?;
+    Some((workers, reducers, split))
+}
+
+// Whether an operand is one that the verb takes: `demo` takes a count.
+fn takes(verb: Verb, operand: &str) -> bool
+    ensures { result ≡ takes verb operand.now }
+{
+    match verb {
+        Verb::Demo => number(operand, 100_000).is_some(),
+        _ => true,
+    }
+}
+
+// The command of a verb and of what was given.
+fn make_command(alloc: Global, verb: Verb, found: &Found, hosts: u32) -> Result<Command, WordFault>
+    ensures makes { IfOk result (λ c. (c.verb ≡ verb) × AreValues (given_of found.now) × Makes hosts (given_of found.now) c) }
+    ensures usage { IfErr result (λ f. f ≡ faults.Usage → (c : Command) → c.verb ≡ verb → AreValues (given_of found.now) → ¬ Makes hosts (given_of found.now) c) }
+{
+    if !takes(verb, found.operand) {
+        return Err(WordFault::Usage);
+    }
+    let Some((workers, reducers, split)) = numbers(found, hosts) else {
+        return Err(WordFault::Usage);
+    };
+    match Text::from_str(alloc, found.operand) {
+        Ok(operand) => Ok(Command {
+            verb,
+            operand,
+            workers,
+            reducers,
+            split: u64::from(split),
+        }),
+        Err(_) => Err(WordFault::OutOfMemory),
+    }
+}
+
+/// The command that the words of a command line are, without the program's name, where there are so many hosts.
+///
+/// The first word is the verb: `run`, `explain`, `check` or `demo`. Then come one operand, and at most once each
+/// `--workers`, `--reducers` and `--split` with a number, as two words or as one with `=`; behind a word `--` only
+/// the operand may stand. `Usage` comes exactly where the words are no command.
+pub fn read_words(alloc: Global, words: &Words, hosts: u32) -> Result<Command, WordFault>
+    requires some { 1 ≤ hosts }
+    requires few { hosts ≤ 256 }
+    ensures command { IfOk result (IsCommand hosts words.now) }
+    ensures usage { IfErr result (λ f. f ≡ faults.Usage → (c : Command) → ¬ IsCommand hosts words.now c) }
+{
+    let Some(verb) = first_verb(words) else {
+        return Err(WordFault::Usage);
+    };
+    match texts(alloc, words) {
+        Ok(texts) => make_command(alloc, verb, &read_options(alloc, texts.as_slice())?, hosts),
+        Err(_) => Err(WordFault::OutOfMemory),
+    }
+}
+
+/// Words are at most one command.
+pub fn one_command()
+    ensures { (hosts : ℕ) (words : List (List ℕ)) (c d : Command) → IsCommand hosts words c → IsCommand hosts words d → c ≡ d }
+{
 }
