@@ -3,6 +3,7 @@ mod ClapTurns
 mod ClapReads
 mod ClapFinds
 mod WordNumbers
+mod Commands
 pub mod FormLemmas
 pub mod FormComplete
 pub mod FormSound
