@@ -66,7 +66,7 @@ fault_is words =
     ap (λ a. built_fault a nothing_held rest) pig_is
     ∙ ap₂ (λ e k. level_fault top [] nothing_held rest (is_some e) k) (entered_nothing stop) (entered_passes stop)
     ∙ ap₂ (λ d r. or_else (walk_fault top [] start rest) (or_else (settle_fault args false (last_held start rest)) (or_else d (check_fault top r false))))
-      (defaults_none slots (last_rows start rest)) (defaults_same slots (last_rows start rest))
+    (defaults_none slots (last_rows start rest)) (defaults_same slots (last_rows start rest))
 
 rows_are : (words : List Word) → matches_of pig words ≡ last_rows start (drop 1 words)
 rows_are words = ap (λ (a : App). Rattle.clap.specs.Walk.rows_after a.top.rules (Rattle.clap.specs.Simple.names_of a) (drop 1 words)) pig_is ∙ defaults_same slots (last_rows start (drop 1 words))

@@ -229,12 +229,12 @@ module _ (rows : List Row) (pending : Pending) (waiting : Waiting) (t : Bool) (w
   pub operand_walked : walked args [] (stand rows pending waiting 1 t) word ≡ stand (settled_rows args pending rows) (Some (codes "operand", word ∷ [])) idle 2 t
   operand_walked = walked_is rows pending waiting 1 t word _ _ met
       ∙ ap₂ (λ b trails. record {
-          held = pushed (codes "operand") word (cond b (held rows pending) (settled args (held rows pending)));
-          waiting = idle;
-          position = 2;
-          is_trailing = trails;
-          stopped = None;
-        }) (and_nothing (is_pending (arg_of Operand) pending)) (or_nothing t)
+        held = pushed (codes "operand") word (cond b (held rows pending) (settled args (held rows pending)));
+        waiting = idle;
+        position = 2;
+        is_trailing = trails;
+        stopped = None;
+      }) (and_nothing (is_pending (arg_of Operand) pending)) (or_nothing t)
 
 -- and where one is
 pub stray_turn : (rows : List Row) (pending : Pending) (waiting : Waiting) (t : Bool) (word : Text) → word_met args [] t waiting 2 word (held rows pending) ≡ (held rows pending, Step.value)

@@ -62,8 +62,11 @@ made hosts v g word w r s t o e =
 pub numbers_of_made : (hosts : ℕ) (g : Given) (c : Command) → AreValues g → Makes hosts g c → numbers_at hosts g ≡ Some (c.workers, c.reducers, c.split)
 unfolding numbers_at
 numbers_of_made hosts g c values m =
-    rw (set_setting g.workers (min 4 hosts) hosts c.workers (values Workers) m.workers, set_setting g.reducers 4 256 c.reducers (values Reducers) m.reducers,
-    set_setting g.split 1048576 67108864 c.split (values Split) m.split) refl
+    rw (
+      set_setting g.workers (min 4 hosts) hosts c.workers (values Workers) m.workers,
+      set_setting g.reducers 4 256 c.reducers (values Reducers) m.reducers,
+      set_setting g.split 1048576 67108864 c.split (values Split) m.split,
+    ) refl
 
 pub taken_of_made : (hosts : ℕ) (g : Given) (c : Command) (word : Word) → g.operand ≡ Some word → Makes hosts g c → takes c.verb word ≡ true
 taken_of_made hosts g c word o m =

@@ -21,14 +21,17 @@ name_of Split = codes "split"
 abbrev pub operand_rule : Rule
 operand_rule = record (new_rule (codes "operand")) { required = true; action = Some Set }
 
-abbrev pub option_rule : Setting → Rule
-option_rule s = record (new_rule (name_of s)) { long = Some (name_of s); action = Some Set }
+abbrev pub option_rule : Word → Rule
+option_rule name = record (new_rule name) { long = Some name; action = Some Set }
 
--- a command with one operand and three options, and no flag for help or the version
+-- no flag for help or the version
+abbrev pub bare_pig : App
+bare_pig = on_top (λ s. record s { disable_help_flag = true; disable_version_flag = true }) (new_app (codes "pig"))
+
+-- a command with one operand and three options
 abbrev pub pig : App
-pig = with_rule (with_rule (with_rule (with_rule
-    (on_top (λ s. record s { disable_help_flag = true; disable_version_flag = true }) (new_app (codes "pig")))
-    operand_rule) (option_rule Workers)) (option_rule Reducers)) (option_rule Split)
+pig = with_rule (with_rule (with_rule (with_rule bare_pig operand_rule)
+    (option_rule (name_of Workers))) (option_rule (name_of Reducers))) (option_rule (name_of Split))
 
 -- what clap found, as what was given
 abbrev pub given_of : Found → Given

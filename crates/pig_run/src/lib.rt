@@ -11,6 +11,8 @@ mod scanning;
 mod stored;
 mod top;
 mod words;
+#[cfg(test)]
+mod words_tests;
 
 pub use first_form::{
     FieldType, FirstForm, FormField, FormFields, Literal, first_form as read_form, one_first_form,

@@ -1,17 +1,17 @@
-ghost use Rattle.std.specs.Prelude.{◌≡◌, ◌≢◌, ◌≤◌, if◌then◌else◌, ℕ, List, length, map, drop, codes, Option, Some, None, IfOk, IfErr, IsUtf8, All, MatchOption, ◌∷◌, option_map};
+ghost use Rattle.std.specs.Prelude.{◌≡◌, ◌≢◌, ◌≤◌, if◌then◌else◌, ℕ, List, length, map, drop, codes, Option, Some, None, IfOk, IfErr, IsUtf8, All, MatchOption, false, ◌∷◌, option_map};
 ghost use Rattle.std.specs.Char.{is_ascii_digit};
 ghost use Rattle.std.specs.List.{list_all};
 ghost use Rattle.std.specs.Str.Parse.{digits_value};
-ghost use Rattle.clap.specs.Words.{FailsBy, kind_of, app_of, fault_of, found_of, matches_of, rows_of};
+ghost use Rattle.clap.specs.Words.{FailsBy, kind_of, app_of, fault_of, found_of, matches_of, rows_of, rule_of};
 ghost use Rattle.clap.specs.declared.error.kind.ErrorKind.TheVariants as kind;
 ghost use Rattle.pig_value.specs.declared.shared.WordFault.TheVariants as faults;
 ghost use Rattle.pig_run.specs.CommandWords.{IsCommand, Makes, verb_word};
-ghost use Rattle.pig_run.specs.ClapWords.{pig, given_of, AreValues, AreRead, LackOperand, is_value, number_at, numbers_at, setting_at, takes};
+ghost use Rattle.pig_run.specs.ClapWords.{pig, bare_pig, operand_rule, option_rule, given_of, AreValues, AreRead, LackOperand, is_value, number_at, numbers_at, setting_at, takes};
 ghost use Rattle.pig_run.specs.declared.words.Command.{Command};
 ghost use Rattle.pig_run.specs.declared.words.Verb.{Verb};
 
-use clap::{Arg, ArgAction, ArgMatches};
 use clap::error::ErrorKind;
+use clap::{Arg, ArgAction, ArgMatches};
 use pig_value::{Text, WordFault, Words};
 use std::alloc::{AllocError, Global};
 
@@ -21,9 +21,13 @@ const MOST_DIGITS: usize = 9;
 /// What is to be done.
 #[derive(Debug, Clone, Copy, PartialEq, Eq, Drop)]
 pub enum Verb {
+    /// A script is run.
     Run,
+    /// The plan of a script is shown.
     Explain,
+    /// A script is checked.
     Check,
+    /// The script of the demonstration is run on its own data.
     Demo,
 }
 
@@ -31,13 +35,13 @@ pub enum Verb {
 #[derive(Debug, Drop)]
 pub struct Command {
     pub verb: Verb,
-    /// The path of the script, or for `demo` its count in decimal digits.
+    /// The path of the script; for `demo` a number from 1 to 100,000, in at most 9 decimal digits.
     pub operand: Text,
-    /// The number of workers.
+    /// The number of workers, from 1 to the number of hosts.
     pub workers: u32,
-    /// The number of reduce tasks of a wave.
+    /// The number of reduce tasks of a wave, from 1 to 256.
     pub reducers: u32,
-    /// The length of a split, in bytes.
+    /// The length of a split, from 1 to 67,108,864 bytes.
     pub split: u64,
 }
 
@@ -50,21 +54,42 @@ struct Found<'a> {
     split: Option<&'a str>,
 }
 
-// The operand and the three options, and no flag for help or the version.
-fn options<'a>(alloc: Global) -> Result<clap::Command<'a>, AllocError>
-    ensures { IfOk result (λ c. app_of c ≡ pig) }
+// The one operand.
+fn operand<'a>(alloc: Global) -> Arg<'a>
+    ensures rule { rule_of result ≡ operand_rule }
+    ensures local { result.global ≡ false }
 {
-    let operand = Arg::new(alloc, "operand").required(true).action(ArgAction::Set);
-    let workers = Arg::new(alloc, "workers").long("workers").action(ArgAction::Set);
-    let reducers = Arg::new(alloc, "reducers").long("reducers").action(ArgAction::Set);
-    let split = Arg::new(alloc, "split").long("split").action(ArgAction::Set);
+    Arg::new(alloc, "operand")
+        .required(true)
+        .action(ArgAction::Set)
+}
+
+// The option `--name`, which takes a value.
+fn option<'a>(alloc: Global, name: &'a str) -> Arg<'a>
+    ensures rule { rule_of result ≡ option_rule name.entry.now }
+    ensures local { result.global ≡ false }
+{
+    Arg::new(alloc, name).long(name).action(ArgAction::Set)
+}
+
+// A command without arguments, and without flags for help and the version.
+fn bare<'a>(alloc: Global) -> clap::Command<'a>
+    ensures { app_of result ≡ bare_pig }
+{
     clap::Command::new(alloc, "pig")
         .disable_help_flag(true)
         .disable_version_flag(true)
-        .arg(operand)?
-        .arg(workers)?
-        .arg(reducers)?
-        .arg(split)
+}
+
+// The command of the operand and the three options.
+fn options<'a>(alloc: Global) -> Result<clap::Command<'a>, AllocError>
+    ensures { IfOk result (λ c. app_of c ≡ pig) }
+{
+    bare(alloc)
+        .arg(operand(alloc))?
+        .arg(option(alloc, "workers"))?
+        .arg(option(alloc, "reducers"))?
+        .arg(option(alloc, "split"))
 }
 
 // What clap makes of the words, of which the first stands for the program's name.
@@ -252,5 +277,4 @@ pub fn read_words(alloc: Global, words: &Words, hosts: u32) -> Result<Command, W
 /// Words are at most one command.
 pub fn one_command()
     ensures { (hosts : ℕ) (words : List (List ℕ)) (c d : Command) → IsCommand hosts words c → IsCommand hosts words d → c ≡ d }
-{
-}
+{}

@@ -15,5 +15,5 @@ returns-in-Ok-clause-makes c =
     let m = made c.args.hosts c.args.verb g c.args.found.now.operand.now c.in-Some.workers c.in-Some.reducers c.in-Some.split (search rules) refl (sym c.numbers.ensures ∙ c.in-Some.is) in
     let command : Command = record { verb = c.args.verb; operand = c.in-Ok.operand; workers = c.in-Some.workers; reducers = c.in-Some.reducers; split = c.from.result } in
     let same : ◌≡◌ {A = Command} (record { verb = c.args.verb; operand = c.args.found.now.operand.now; workers = c.in-Some.workers; reducers = c.in-Some.reducers; split = c.in-Some.split }) command =
-        λ i. record { verb = c.args.verb; operand = sym c.in-Ok.ensures i; workers = c.in-Some.workers; reducers = c.in-Some.reducers; split = sym c.from.ensures i } in
+    λ i. record { verb = c.args.verb; operand = sym c.in-Ok.ensures i; workers = c.in-Some.workers; reducers = c.in-Some.reducers; split = sym c.from.ensures i } in
     (refl, m.0, subst (Makes c.args.hosts g) same m.1)

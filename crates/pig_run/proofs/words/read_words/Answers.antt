@@ -14,5 +14,5 @@ returns-in_ok-read_options-in-Ok-clause-usage c =
     let g = given_of c.in_ok-read_options-in-Ok.field-0 in
     let read : AreRead (drop 1 c.args.words.now) g = subst (λ ws. AreRead (drop 1 ws) g) words_are c.in_ok-read_options-in-Ok.ensures.read in
     IfErr-weaker c.make_command.result _ _ (λ fault refused usage command is.
-        let m = made_of_read c.args.hosts c.args.words.now c.in-Some.verb g command c.in-Some.ensures read is in
-        refused usage command m.0 m.1 m.2) c.make_command.ensures.usage
+    let m = made_of_read c.args.hosts c.args.words.now c.in-Some.verb g command c.in-Some.ensures read is in
+    refused usage command m.0 m.1 m.2) c.make_command.ensures.usage
