@@ -1,3 +1,9 @@
+mod ClapRows
+mod ClapTurns
+mod ClapReads
+mod ClapFinds
+mod WordNumbers
+mod Commands
 pub mod FormLemmas
 pub mod FormFound
 mod Readings

@@ -7,3 +7,5 @@ pub mod Answers
 pub mod Steps
 pub mod Running
 pub mod Told
+pub mod CommandWords
+pub mod ClapWords
