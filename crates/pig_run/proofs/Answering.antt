@@ -8,7 +8,7 @@ use Rattle.pig_run.specs.declared.outcome.RunFault.TheVariants as fault
 use Rattle.pig_run.specs.declared.outcome.Counts.{Counts}
 use Rattle.pig_run.specs.declared.first_form.FirstForm.{FirstForm}
 use Rattle.pig_run.specs.declared.plan.Plan.{Plan}
-use Rattle.pig_run.specs.Answers.{IsDue, usage, no_script, script_refused, no_input, output_exists, runs, IsFree, IsAnswer, IsRun, Leaves, LeftOpen, Verdict, Refused, Runs, Tells, TellsOf}
+use Rattle.pig_run.specs.Answers.{CommandLine, IsDue, usage, no_script, script_refused, no_input, output_exists, runs, IsFree, IsAnswer, IsRun, Leaves, LeftOpen, Verdict, Refused, Runs, Tells, TellsOf}
 use Rattle.pig_run.specs.Steps.{IsReady, IsDepotStep}
 use Rattle.pig_run.specs.Running.{HasLengths, IsRunStep}
 use Rattle.pig_run.specs.Told.{IsTold, EndedWell, RefusedBefore, BrokeOff}
@@ -21,10 +21,10 @@ pub shelf_inputs : (shelf : Option Shelf) (i : List Input) → option_map (λ s.
 shelf_inputs None i h = absurd (cc)
 shelf_inputs (Some s) i h = (s, refl, cc)
 
-pub ready_lengths : (words : List (List ℕ)) (s : Shelf) (plan : Plan) → IsReady words s plan → (i : List Input) → s.inputs ≡ i → HasLengths plan.form.input plan.lengths i
+pub ready_lengths : (words : CommandLine) (s : Shelf) (plan : Plan) → IsReady words s plan → (i : List Input) → s.inputs ≡ i → HasLengths plan.form.input plan.lengths i
 ready_lengths words s plan ready i same = record { pieces = ready.pieces; there = subst (λ x. pieces_of plan.form.input x ≡ Some ready.pieces) same ready.there; are = ready.lengths }
 
-ready_due : (words : List (List ℕ)) (s : Shelf) (plan : Plan) (ready : IsReady words s plan) → IsDue words s (Runs plan.form ready.pieces)
+ready_due : (words : CommandLine) (s : Shelf) (plan : Plan) (ready : IsReady words s plan) → IsDue words s (Runs plan.form ready.pieces)
 ready_due words s plan ready = runs ready.scripted.words_are ready.scripted.script_is.there ready.scripted.script_is.is ready.there ready.absent
 
 left_by_run : (f : RunFault) (form : FirstForm) (pieces : List (List ℕ)) (old new : Option Shelf) → IsRunStep f → LeftOpen form.output old new
@@ -43,7 +43,7 @@ left_by_run fault.HostFault form pieces old new step left host = host refl
 left_by_run fault.OutOfMemory form pieces old new step left host = left
 
 -- how a run that was ready ended
-pub run_told : (words : List (List ℕ)) (s : Shelf) (inputs : Option (List Input)) (old new : Option Shelf) (plan : Plan) (ready : IsReady words s plan) (r : Result Counts RunFault)
+pub run_told : (words : CommandLine) (s : Shelf) (inputs : Option (List Input)) (old new : Option Shelf) (plan : Plan) (ready : IsReady words s plan) (r : Result Counts RunFault)
     → old ≡ Some s → TellsOf old inputs
     → ForSome inputs (λ i. (pieces : List (List ℕ)) → pieces_of plan.form.input i ≡ Some pieces → IfOk r (IsRun plan.form pieces old new))
     → OnErr r (LeftOpen plan.form.output old new) → IfErr r (λ f. f ≡ fault.HostFault → new ≡ old) → IfErr r IsRunStep → IsTold words s inputs new r
@@ -64,7 +64,7 @@ run_told words s inputs old new plan ready (Err f) told tells done left host ste
 })
 
 -- the clauses of the top call, where the run ended well
-module _ (words : List (List ℕ)) (s : Shelf) (inputs : Option (List Input)) (old new : Option Shelf) (counts : Counts) (told : old ≡ Some s) (well : EndedWell words s inputs new counts) where
+module _ (words : CommandLine) (s : Shelf) (inputs : Option (List Input)) (old new : Option Shelf) (counts : Counts) (told : old ≡ Some s) (well : EndedWell words s inputs new counts) where
   pub answers_none : (v : Verdict) → IsDue words s v → IsAnswer v None
   answers_none v due = subst (λ w. IsAnswer w None) (one_due words s (Runs well.form well.pieces) v well.due due) tt
 
@@ -137,7 +137,7 @@ left_refused fault.NotYet v old new is same = same
 left_refused f v old new is same = absurd is
 
 -- what is due as a refusal is no fault of the depot
-due_left : (words : List (List ℕ)) (s : Shelf) (f : RunFault) (v w : Verdict) (old new : Option Shelf) → w ≡ Refused f → IsDue words s w → new ≡ old → Leaves f v old new
+due_left : (words : CommandLine) (s : Shelf) (f : RunFault) (v w : Verdict) (old new : Option Shelf) → w ≡ Refused f → IsDue words s w → new ≡ old → Leaves f v old new
 due_left words s f v _ old new is (usage n) same = subst (λ g. Leaves g v old new) (of_refused is) same
 due_left words s f v _ old new is (no_script a x) same = subst (λ g. Leaves g v old new) (of_refused is) same
 due_left words s f v _ old new is (script_refused {found = g} a t x) same = subst (λ g. Leaves g v old new) (of_refused is) (left_refused g v old new (found_refusal x) same)
@@ -146,7 +146,7 @@ due_left words s f v _ old new is (output_exists a t js x d) same = subst (λ g.
 due_left words s f v _ old new is (runs a t js x d) same = absurd (cc)
 
 -- the clauses of the top call, where the run did not end well
-module _ (words : List (List ℕ)) (s : Shelf) (old new : Option Shelf) (f : RunFault) (told : old ≡ Some s) where
+module _ (words : CommandLine) (s : Shelf) (old new : Option Shelf) (f : RunFault) (told : old ≡ Some s) where
   pub answers_fault : RefusedBefore words s new f ⊎ BrokeOff words s new f → (v : Verdict) → IsDue words s v → IsAnswer v (Some f)
   answers_fault (inl refused) v due = elim refused.is [
     | inl is ↦ answer_of v f (inl (one_due words s v (Refused f) due is))

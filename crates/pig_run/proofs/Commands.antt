@@ -129,7 +129,7 @@ values_given (apart {g = g} {value = value} s is v free more) h = values_given m
 values_given (dashes is) h = h
 values_given (operand_last {g = g} {last = last} is free) h = are_values (with_operand last g) (h Workers) (h Reducers) (h Split)
 
-none_given : AreValues nothing_given
+pub none_given : AreValues nothing_given
 none_given = are_values nothing_given (λ v e. cc) (λ v e. cc) (λ v e. cc)
 
 -- a command of words whose options were read is made of what was read

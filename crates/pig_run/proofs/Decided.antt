@@ -8,26 +8,30 @@ use Rattle.pig_outside.specs.Shelf.{Shelf, script_of, pieces_of, has_dir}
 use Rattle.pig_run.specs.declared.first_form.FirstForm.{FirstForm}
 use Rattle.pig_run.specs.declared.outcome.RunFault.TheVariants as fault
 use Rattle.pig_run.specs.Reading.{Finding, Refuses, Finds, IsFound}
-use Rattle.pig_run.specs.Answers.{AreWords, HasWords, is_option, IsDue, usage, no_script, script_refused, no_input, output_exists, runs, Verdict, Refused, Runs}
+use Rattle.pig_run.specs.Answers.{CommandLine, AreWords, HasWords, IsDue, usage, no_script, script_refused, no_input, output_exists, runs, Verdict, Refused, Runs}
+use Rattle.pig_run.specs.declared.words.Verb.{Verb}
+use Rattle.pig_run.specs.declared.words.Verb.TheVariants as verbs
+use Rattle.pig_run.proofs.Commands.{one_command}
+use Rattle.pig_run.proofs.Decisions.{command_decided}
 use Rattle.pig_run.proofs.Readings.{some_found}
 
--- the words are a command or not
-two : (verb path : List ℕ) → HasWords (verb ∷ path ∷ []) ⊎ ((p : List ℕ) → ¬ AreWords (verb ∷ path ∷ []) p)
-two verb path = elim (cases_Bool (bytes_eq verb (codes "run"))) [
-  | inl run ↦ elim (cases_Bool (is_option path)) [
-    | inl option ↦ inr (λ p a. let same : path ≡ p = (let e = a.are in cc) in let e = sym option ∙ ap is_option same ∙ a.plain in cc)
-    | inr plain ↦ inl (path, record { are = ap (λ v. v ∷ path ∷ []) ((bytes_eq-Decides verb (codes "run")).0 run); plain = plain })
+-- the words are a command that is built or not
+verb_built : (v : Verb) → (v ≡ verbs.Run) ⊎ (v ≡ verbs.Run → ⊥)
+verb_built verbs.Run = inl refl
+verb_built verbs.Explain = inr (λ e. cc)
+verb_built verbs.Check = inr (λ e. cc)
+verb_built verbs.Demo = inr (λ e. cc)
+
+words_decided : (words : CommandLine) → HasWords words ⊎ ((p : List ℕ) → ¬ AreWords words p)
+words_decided words = elim (command_decided words.hosts words.words) [
+  | inr none ↦ inr (λ p a. none a.command a.is)
+  | inl command ↦ elim (verb_built command.0.verb) [
+    | inl run ↦ inl (command.0.operand, record { command = command.0; is = command.1; runs_it = run; operand = refl })
+    | inr other ↦ inr (λ p a. other (ap (λ c. c.verb) (one_command words.hosts words.words command.0 a.command command.1 a.is) ∙ a.runs_it))
   ]
-  | inr other ↦ inr (λ p a. let same : verb ≡ codes "run" = (let e = a.are in cc) in let e = sym other ∙ (bytes_eq-Decides verb (codes "run")).1 same in cc)
 ]
 
-words_decided : (words : List (List ℕ)) → HasWords words ⊎ ((p : List ℕ) → ¬ AreWords words p)
-words_decided [] = inr (λ p a. let e = a.are in cc)
-words_decided (verb ∷ []) = inr (λ p a. let e = a.are in cc)
-words_decided (verb ∷ path ∷ []) = two verb path
-words_decided (verb ∷ path ∷ third ∷ more) = inr (λ p a. let e = a.are in cc)
-
-module _ (words : List (List ℕ)) (s : Shelf) where
+module _ (words : CommandLine) (s : Shelf) where
   by_output : (path script : List ℕ) (form : FirstForm) (pieces : List (List ℕ)) → AreWords words path → script_of path s ≡ Some script → IsFound script (Finds form)
       → pieces_of form.input s.inputs ≡ Some pieces → (v : Verdict) × IsDue words s v
   by_output path script form pieces are there is input = elim (cases_Bool (has_dir form.output s)) [

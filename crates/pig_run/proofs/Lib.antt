@@ -4,6 +4,7 @@ mod ClapReads
 mod ClapFinds
 mod WordNumbers
 mod Commands
+mod Decisions
 pub mod FormLemmas
 pub mod FormFound
 mod Readings

@@ -1,5 +1,5 @@
 -- What the bytes that were read of a script say of it, where one byte more than the limit is asked for.
-use Rattle.std.proofs.Common.{◌≡◌, Result, Ok, Err, MatchResult, get_or, ℕ, ◌+◌, ◌<◌, ◌≤◌, ◌^◌, true, List, [], ◌∷◌, ◌++◌, Option, Some, None, take, length, refl, sym, ◌∙◌, ap, subst, arith, inl, inr}
+use Rattle.std.proofs.Common.{◌≡◌, Result, Ok, Err, MatchResult, ℕ, ◌+◌, ◌<◌, ◌≤◌, ◌^◌, true, List, [], ◌∷◌, ◌++◌, Option, Some, None, take, length, refl, sym, ◌∙◌, ap, subst, arith, inl, inr}
 use Rattle.std.specs.Option.{is_some, unwrap_or}
 use Rattle.std.proofs.lemmas.Bool.{cases_lt}
 use Rattle.std.proofs.lemmas.List.{length-take, take_all}
@@ -47,10 +47,3 @@ pub script_told : (n : ℕ) → n ≡ 2 ^ 20 → (path : List ℕ) (s : Shelf) (
 script_told n limit path s bytes r (Ok form) h = found_whole n limit path s bytes r (Finds form) h
 script_told n limit path s bytes r (Err f) (inl h) = inr (inl (found_whole n limit path s bytes r (Refuses f) h))
 script_told n limit path s bytes r (Err f) (inr h) = inr (inr (subst IsDepotStep (sym h) tt))
-
--- the two words of a list of two
-pub two_words : (ws : List (List ℕ)) (verb path : List ℕ) → 2 ≤ length ws → length ws < 3 → get_or ws 0 verb ≡ verb → get_or ws 1 path ≡ path → ws ≡ verb ∷ path ∷ []
-two_words [] verb path some few v p = absurd (omega (arith, some))
-two_words (a ∷ []) verb path some few v p = absurd (omega (arith, some))
-two_words (a ∷ b ∷ []) verb path some few v p = ap (λ x. x ∷ b ∷ []) v ∙ ap (λ x. verb ∷ x ∷ []) p
-two_words (a ∷ b ∷ d ∷ more) verb path some few v p = absurd (omega (arith, few))

@@ -5,16 +5,17 @@ use Rattle.pig_run.specs.declared.outcome.RunFault.TheVariants as fault
 use Rattle.pig_run.specs.declared.first_form.FirstForm.{FirstForm}
 use Rattle.pig_run.specs.declared.outcome.RunFault.{RunFault}
 use Rattle.pig_run.specs.Reading.{Finding, Refuses, Finds, IsFound}
-use Rattle.pig_run.specs.Answers.{AreWords, IsDue, usage, no_script, script_refused, no_input, output_exists, runs, Verdict, Refused, Runs}
+use Rattle.pig_run.specs.Answers.{CommandLine, AreWords, IsDue, usage, no_script, script_refused, no_input, output_exists, runs, Verdict, Refused, Runs}
+use Rattle.pig_run.proofs.Commands.{one_command}
 use Rattle.pig_run.proofs.Readings.{one_found}
 
 just : {A : Type 0} {x y : A} → Some x ≡ Some y → x ≡ y
 just e = cc
 
-same_path : {words : List (List ℕ)} {p q : List ℕ} → AreWords words p → AreWords words q → p ≡ q
-same_path a b = let e = sym a.are ∙ b.are in cc
+same_path : {words : CommandLine} {p q : List ℕ} → AreWords words p → AreWords words q → p ≡ q
+same_path {words = words} a b = sym a.operand ∙ ap (λ c. c.operand) (one_command words.hosts words.words a.command b.command a.is b.is) ∙ b.operand
 
-module _ (words : List (List ℕ)) (s : Shelf) where
+module _ (words : CommandLine) (s : Shelf) where
   same_script : {p q t u : List ℕ} → AreWords words p → AreWords words q → script_of p s ≡ Some t → script_of q s ≡ Some u → t ≡ u
   same_script a b there other = just (sym there ∙ ap (λ x. script_of x s) (same_path a b) ∙ other)
 
@@ -42,7 +43,7 @@ module _ (words : List (List ℕ)) (s : Shelf) where
   there_and_not : {f g : FirstForm} → f ≡ g → has_dir f.output s ≡ true → has_dir g.output s ≡ false → ⊥
   there_and_not same there absent = let e = sym there ∙ ap (λ f. has_dir f.output s) same ∙ absent in cc
 
-pub one_due : (words : List (List ℕ)) (s : Shelf) (v w : Verdict) → IsDue words s v → IsDue words s w → v ≡ w
+pub one_due : (words : CommandLine) (s : Shelf) (v w : Verdict) → IsDue words s v → IsDue words s w → v ≡ w
 one_due words s _ _ (usage n) (usage m) = refl
 one_due words s _ _ (usage n) (no_script {path = p} b _) = absurd (n p b)
 one_due words s _ _ (usage n) (script_refused {path = p} b _ _) = absurd (n p b)

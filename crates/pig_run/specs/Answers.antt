@@ -11,21 +11,29 @@ use Rattle.pig_run.specs.declared.outcome.RunFault.TheVariants as fault
 use Rattle.pig_run.specs.declared.outcome.Counts.{Counts}
 use Rattle.pig_run.specs.declared.first_form.FirstForm.{FirstForm}
 use Rattle.pig_run.specs.Reading.{IsFound, Refuses, Finds}
+use Rattle.pig_run.specs.CommandWords.{IsCommand}
+use Rattle.pig_run.specs.declared.words.Command.{Command}
+use Rattle.pig_run.specs.declared.words.Verb.TheVariants as verbs
 use Rattle.pig_run.specs.Meaning.{meaning, line_count}
 
--- a word that begins with `-`
-abbrev pub is_option : List ℕ → Bool
-is_option [] = false
-is_option (b ∷ bs) = b == 45
+-- the words of a command line, and the number of hosts that there are
+pub record CommandLine : Type 0 where
+  pub hosts : ℕ
+  pub words : List (List ℕ)
 
--- the words are `run` and the path of a script, which does not begin with `-`
-pub record AreWords (words : List (List ℕ)) (path : List ℕ) : Type 0 where
-  pub are : words ≡ codes "run" ∷ path ∷ []
-  pub plain : is_option path ≡ false
+abbrev pub line_of : {H : Type 0} → List H → List (List ℕ) → CommandLine
+line_of hosts words = record { hosts = length hosts; words = words }
 
--- the words are a command
-abbrev pub HasWords : List (List ℕ) → Type 0
-HasWords words = (path : List ℕ) × AreWords words path
+-- the words are a command that runs the script at a path. Its numbers have no effect yet
+pub record AreWords (line : CommandLine) (path : List ℕ) : Type 0 where
+  pub command : Command
+  pub is : IsCommand line.hosts line.words command
+  pub runs_it : command.verb ≡ verbs.Run
+  pub operand : command.operand ≡ path
+
+-- the words are a command that is built
+abbrev pub HasWords : CommandLine → Type 0
+HasWords line = (path : List ℕ) × AreWords line path
 
 -- a refusal, or the run of a form over the pieces of its input
 pub data Verdict : Type 0 where
@@ -33,25 +41,25 @@ pub data Verdict : Type 0 where
   Runs : FirstForm → List (List ℕ) → Verdict
 
 -- What is due: one rule for each answer, in the order of the refusals.
-pub data IsDue (words : List (List ℕ)) (shelf : Shelf) : Verdict → Type 0 where
-  -- the words are no command
-  usage : ((path : List ℕ) → ¬ AreWords words path) → IsDue words shelf (Refused fault.Usage)
+pub data IsDue (line : CommandLine) (shelf : Shelf) : Verdict → Type 0 where
+  -- the words are no command that is built
+  usage : ((path : List ℕ) → ¬ AreWords line path) → IsDue line shelf (Refused fault.Usage)
   -- there is no such script
-  no_script : {path : List ℕ} → AreWords words path → script_of path shelf ≡ None → IsDue words shelf (Refused fault.NoScript)
+  no_script : {path : List ℕ} → AreWords line path → script_of path shelf ≡ None → IsDue line shelf (Refused fault.NoScript)
   -- the script is refused
-  script_refused : {path script : List ℕ} {found : RunFault} → AreWords words path → script_of path shelf ≡ Some script
-      → IsFound script (Refuses found) → IsDue words shelf (Refused found)
+  script_refused : {path script : List ℕ} {found : RunFault} → AreWords line path → script_of path shelf ≡ Some script
+      → IsFound script (Refuses found) → IsDue line shelf (Refused found)
   -- there is no such input
-  no_input : {path script : List ℕ} {form : FirstForm} → AreWords words path → script_of path shelf ≡ Some script
-      → IsFound script (Finds form) → pieces_of form.input shelf.inputs ≡ None → IsDue words shelf (Refused (fault.NoInput form.input))
+  no_input : {path script : List ℕ} {form : FirstForm} → AreWords line path → script_of path shelf ≡ Some script
+      → IsFound script (Finds form) → pieces_of form.input shelf.inputs ≡ None → IsDue line shelf (Refused (fault.NoInput form.input))
   -- the output is there already
-  output_exists : {path script : List ℕ} {form : FirstForm} {pieces : List (List ℕ)} → AreWords words path → script_of path shelf ≡ Some script
+  output_exists : {path script : List ℕ} {form : FirstForm} {pieces : List (List ℕ)} → AreWords line path → script_of path shelf ≡ Some script
       → IsFound script (Finds form) → pieces_of form.input shelf.inputs ≡ Some pieces → has_dir form.output shelf ≡ true
-      → IsDue words shelf (Refused (fault.OutputExists form.output))
+      → IsDue line shelf (Refused (fault.OutputExists form.output))
   -- nothing is in the way
-  runs : {path script : List ℕ} {form : FirstForm} {pieces : List (List ℕ)} → AreWords words path → script_of path shelf ≡ Some script
+  runs : {path script : List ℕ} {form : FirstForm} {pieces : List (List ℕ)} → AreWords line path → script_of path shelf ≡ Some script
       → IsFound script (Finds form) → pieces_of form.input shelf.inputs ≡ Some pieces → has_dir form.output shelf ≡ false
-      → IsDue words shelf (Runs form pieces)
+      → IsDue line shelf (Runs form pieces)
 
 -- the faults that a device or want of memory causes
 abbrev pub IsFree : RunFault → Type 0

@@ -9,7 +9,7 @@ use Rattle.pig_run.specs.declared.outcome.RunFault.TheVariants as fault
 use Rattle.pig_run.specs.declared.first_form.FirstForm.{FirstForm}
 use Rattle.pig_run.specs.declared.plan.Plan.{Plan}
 use Rattle.pig_run.specs.Reading.{Finding, IsFound, Refuses, Finds}
-use Rattle.pig_run.specs.Answers.{AreWords, HasWords, IsDue, Refused}
+use Rattle.pig_run.specs.Answers.{CommandLine, AreWords, HasWords, IsDue, Refused}
 
 -- the fault that an error of the depot is
 abbrev pub depot_fault_of : OutsideError → Option ℕ → RunFault
@@ -45,18 +45,18 @@ abbrev pub ScriptRefusal : List ℕ → Shelf → RunFault → Type 0
 ScriptRefusal path shelf found = ((found ≡ fault.NoScript) × (script_of path shelf ≡ None)) ⊎ IsScriptAt path shelf (Refuses found) ⊎ IsDepotStep found
 
 -- the words name a script of this form
-pub record IsScripted (words : List (List ℕ)) (shelf : Shelf) (form : FirstForm) : Type 0 where
+pub record IsScripted (line : CommandLine) (shelf : Shelf) (form : FirstForm) : Type 0 where
   pub path : List ℕ
-  pub words_are : AreWords words path
+  pub words_are : AreWords line path
   pub script_is : IsScriptAt path shelf (Finds form)
 
 -- the fault is what is due, or that of a device or of memory
-abbrev pub IsRefused : List (List ℕ) → Shelf → RunFault → Type 0
-IsRefused words shelf found = IsDue words shelf (Refused found) ⊎ IsDepotStep found
+abbrev pub IsRefused : CommandLine → Shelf → RunFault → Type 0
+IsRefused line shelf found = IsDue line shelf (Refused found) ⊎ IsDepotStep found
 
 -- the form's input is there in pieces of these lengths, and its output isn't there
-pub record IsReady (words : List (List ℕ)) (shelf : Shelf) (plan : Plan) : Type 0 where
-  pub scripted : IsScripted words shelf plan.form
+pub record IsReady (line : CommandLine) (shelf : Shelf) (plan : Plan) : Type 0 where
+  pub scripted : IsScripted line shelf plan.form
   pub pieces : List (List ℕ)
   pub there : pieces_of plan.form.input shelf.inputs ≡ Some pieces
   pub lengths : plan.lengths ≡ lengths_of pieces
@@ -73,6 +73,6 @@ abbrev pub IsNotUsage : RunFault → Type 0
 IsNotUsage fault.Usage = ⊥
 IsNotUsage _ = Unit {0}
 
--- the fault is that of wrong words exactly where the words are no command
-abbrev pub SaysWords : List (List ℕ) → RunFault → Type 0
-SaysWords words found = ((found ≡ fault.Usage) × (¬ HasWords words)) ⊎ (IsNotUsage found × HasWords words)
+-- the fault is that of wrong words only where the words are no command, and another only where they are one or memory was wanting
+abbrev pub SaysWords : CommandLine → RunFault → Type 0
+SaysWords line found = ((found ≡ fault.Usage) × (¬ HasWords line)) ⊎ (IsNotUsage found × (HasWords line ⊎ (found ≡ fault.OutOfMemory)))

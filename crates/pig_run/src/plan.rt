@@ -1,7 +1,7 @@
-ghost use Rattle.std.specs.Prelude.{◌≡◌, ◌⊎◌, true, false, Some, None, MatchResult, IfOk, IfErr};
+ghost use Rattle.std.specs.Prelude.{◌≡◌, ◌≤◌, ◌⊎◌, true, false, Some, None, MatchResult, IfOk, IfErr};
 ghost use Rattle.std.specs.Option.{ForSome};
 ghost use Rattle.pig_outside.specs.Shelf.{lengths_at, has_dir};
-ghost use Rattle.pig_run.specs.Answers.{AreWords, HasWords, is_option};
+ghost use Rattle.pig_run.specs.Answers.{AreWords, HasWords};
 ghost use Rattle.pig_run.specs.Steps.{IsScriptAt, IsScripted, IsReady, IsRefused, ScriptRefusal, IsDepotStep, IsPlanFault, DepotCause, SaysWords, depot_fault_of};
 ghost use Rattle.pig_run.specs.Reading.{Finds};
 ghost use Rattle.pig_run.specs.Running.{IsForm};
@@ -9,9 +9,9 @@ ghost use Rattle.pig_run.specs.declared.first_form.FirstForm.{FirstForm};
 ghost use Rattle.pig_run.specs.declared.outcome.RunFault.TheVariants as fault;
 
 use crate::reading::{MOST_SCRIPT, read_script};
-use crate::{FirstForm, RunFault};
+use crate::{FirstForm, RunFault, Verb, read_words};
 use pig_outside::{Depot, OutsideError};
-use pig_value::{Lengths, Text, Words};
+use pig_value::{Lengths, Text, WordFault, Words};
 use std::alloc::Global;
 
 /// The fault that an error of the depot is, in the commit of that STORE or before.
@@ -24,30 +24,20 @@ pub fn depot_fault(error: OutsideError, store: Option<u32>) -> RunFault
     }
 }
 
-/// The path of the script that the words name.
-pub fn read_words(words: &Words) -> Result<&str, RunFault>
-    ensures found { IfOk result (λ path. AreWords words.now path.now) }
-    ensures usage { IfErr result (λ f. (f ≡ fault.Usage) × (¬ HasWords words.now)) }
+/// The path of the script that the words, of a program with so many hosts, name.
+fn read_path(alloc: Global, words: &Words, hosts: u32) -> Result<Text, RunFault>
+    requires some { 1 ≤ hosts }
+    requires few { hosts ≤ 256 }
+    ensures found { IfOk result (λ path. AreWords (record { hosts = hosts; words = words.now }) path) }
+    ensures usage { IfErr result (λ f. ((f ≡ fault.Usage) × (¬ HasWords (record { hosts = hosts; words = words.now }))) ⊎ (f ≡ fault.OutOfMemory)) }
 {
-    match words.as_slice() {
-        [verb, path] => {
-            if verb.as_str() == "run" && !begins_option(path) {
-                Ok(path.as_str())
-            } else {
-                Err(RunFault::Usage)
-            }
-        }
-        _ => Err(RunFault::Usage),
-    }
-}
-
-/// Whether a word begins with `-`.
-fn begins_option(word: &Text) -> bool
-    ensures { result ≡ is_option word.now }
-{
-    match word.as_bytes() {
-        [b'-', ..] => true,
-        _ => false,
+    match read_words(alloc, words, hosts) {
+        Ok(command) => match command.verb {
+            Verb::Run => Ok(command.operand),
+            _ => Err(RunFault::Usage),
+        },
+        Err(WordFault::Usage) => Err(RunFault::Usage),
+        Err(WordFault::OutOfMemory) => Err(RunFault::OutOfMemory),
     }
 }
 
@@ -69,16 +59,23 @@ fn load_form<D: Depot>(alloc: Global, depot: &mut D, path: &str) -> Result<First
 }
 
 /// The form of the script that the words name.
-fn read_plan<D: Depot>(alloc: Global, words: &Words, depot: &mut D) -> Result<FirstForm, RunFault>
-    ensures told { ForSome (D.shelf depot.old) (λ s. MatchResult result (λ f. IsScripted words.now s f) (λ f. IsRefused words.now s f)) }
+fn read_plan<D: Depot>(
+    alloc: Global,
+    words: &Words,
+    hosts: u32,
+    depot: &mut D,
+) -> Result<FirstForm, RunFault>
+    requires some_hosts { 1 ≤ hosts }
+    requires few_hosts { hosts ≤ 256 }
+    ensures told { ForSome (D.shelf depot.old) (λ s. MatchResult result (λ f. IsScripted (record { hosts = hosts; words = words.now }) s f) (λ f. IsRefused (record { hosts = hosts; words = words.now }) s f)) }
     ensures form { IfOk result IsForm }
     ensures fault { IfErr result (λ f. (f ≡ fault.Usage) ⊎ IsPlanFault f) }
-    ensures words { MatchResult result (λ _. HasWords words.now) (SaysWords words.now) }
+    ensures words { MatchResult result (λ _. HasWords (record { hosts = hosts; words = words.now })) (SaysWords (record { hosts = hosts; words = words.now })) }
     ensures shelf { D.shelf depot.new ≡ D.shelf depot.old }
     ensures cause { DepotCause (D.faults depot.old) (D.faults depot.new) result }
 {
-    let path = read_words(words)?;
-    load_form(alloc, depot, path)
+    let path = read_path(alloc, words, hosts)?;
+    load_form(alloc, depot, path.as_str())
 }
 
 /// The lengths of the pieces of the form's input.
@@ -125,15 +122,22 @@ pub struct Plan {
 }
 
 /// What is to be run: a form whose input is there and whose output isn't.
-pub fn prepare<D: Depot>(alloc: Global, words: &Words, depot: &mut D) -> Result<Plan, RunFault>
-    ensures told { ForSome (D.shelf depot.old) (λ s. MatchResult result (λ p. IsReady words.now s p) (λ f. IsRefused words.now s f)) }
+pub fn prepare<D: Depot>(
+    alloc: Global,
+    words: &Words,
+    hosts: u32,
+    depot: &mut D,
+) -> Result<Plan, RunFault>
+    requires some_hosts { 1 ≤ hosts }
+    requires few_hosts { hosts ≤ 256 }
+    ensures told { ForSome (D.shelf depot.old) (λ s. MatchResult result (λ p. IsReady (record { hosts = hosts; words = words.now }) s p) (λ f. IsRefused (record { hosts = hosts; words = words.now }) s f)) }
     ensures form { IfOk result (λ p. IsForm p.form) }
     ensures fault { IfErr result (λ f. (f ≡ fault.Usage) ⊎ IsPlanFault f) }
-    ensures words { MatchResult result (λ _. HasWords words.now) (SaysWords words.now) }
+    ensures words { MatchResult result (λ _. HasWords (record { hosts = hosts; words = words.now })) (SaysWords (record { hosts = hosts; words = words.now })) }
     ensures shelf { D.shelf depot.new ≡ D.shelf depot.old }
     ensures cause { DepotCause (D.faults depot.old) (D.faults depot.new) result }
 {
-    let form = read_plan(alloc, words, depot)?;
+    let form = read_plan(alloc, words, hosts, depot)?;
     let lengths = find_input(alloc, depot, &form)?;
     check_output(alloc, depot, &form)?;
     Ok(Plan { form, lengths })

@@ -8,23 +8,23 @@ use Rattle.pig_run.proofs.plan.prepare.Goals as goal
 
 pub returns-in_err-lengths-clause-told : goal.returns-in_err-lengths-clause-told
 returns-in_err-lengths-clause-told g c s told =
-    let is : IsScripted c.args.words.now s c.in_ok-form.form = search rules in
-    let refused : MatchResult c.from_residual-in_err-lengths.result (λ p. IsReady c.args.words.now s p)
+    let is : IsScripted (record { hosts = c.args.hosts; words = c.args.words.now }) s c.in_ok-form.form = search rules in
+    let refused : MatchResult c.from_residual-in_err-lengths.result (λ p. IsReady (record { hosts = c.args.hosts; words = c.args.words.now }) s p)
     (λ f. ((f ≡ fault.NoInput c.in_ok-form.form.input) × (lengths_at c.in_ok-form.form.input s ≡ None)) ⊎ IsDepotStep f) = search rules in
-    MatchResult-weaker c.from_residual-in_err-lengths.result refused (λ p h. h) (λ f h. input_refused c.args.words.now s c.in_ok-form.form is f h)
+    MatchResult-weaker c.from_residual-in_err-lengths.result refused (λ p h. h) (λ f h. input_refused (record { hosts = c.args.hosts; words = c.args.words.now }) s c.in_ok-form.form is f h)
 
 pub returns-in_err-check_output-clause-told : goal.returns-in_err-check_output-clause-told
 returns-in_err-check_output-clause-told g c s told =
-    let is : IsScripted c.args.words.now s c.in_ok-form.form = search rules in
+    let is : IsScripted (record { hosts = c.args.hosts; words = c.args.words.now }) s c.in_ok-form.form = search rules in
     let there : lengths_at c.in_ok-form.form.input s ≡ Some c.in_ok-lengths.lengths = search rules in
-    let refused : MatchResult c.from_residual-in_err-check_output.result (λ p. IsReady c.args.words.now s p)
+    let refused : MatchResult c.from_residual-in_err-check_output.result (λ p. IsReady (record { hosts = c.args.hosts; words = c.args.words.now }) s p)
     (λ f. ((f ≡ fault.OutputExists c.in_ok-form.form.output) × (has_dir c.in_ok-form.form.output s ≡ true)) ⊎ IsDepotStep f) = search rules in
     MatchResult-weaker c.from_residual-in_err-check_output.result refused (λ p h. h)
-    (λ f h. output_refused c.args.words.now s c.in_ok-form.form is c.in_ok-lengths.lengths there f h)
+    (λ f h. output_refused (record { hosts = c.args.hosts; words = c.args.words.now }) s c.in_ok-form.form is c.in_ok-lengths.lengths there f h)
 
 pub returns-clause-told : goal.returns-clause-told
 returns-clause-told g c s told =
-    let is : IsScripted c.args.words.now s c.in_ok-form.form = search rules in
+    let is : IsScripted (record { hosts = c.args.hosts; words = c.args.words.now }) s c.in_ok-form.form = search rules in
     let there : lengths_at c.in_ok-form.form.input s ≡ Some c.in_ok-lengths.lengths = search rules in
     let absent : has_dir c.in_ok-form.form.output s ≡ false = search rules in
-    is_ready c.args.words.now s c.in_ok-form.form is c.in_ok-lengths.lengths there absent
+    is_ready (record { hosts = c.args.hosts; words = c.args.words.now }) s c.in_ok-form.form is c.in_ok-lengths.lengths there absent

@@ -8,10 +8,10 @@ use Rattle.pig_run.proofs.plan.read_plan.Goals as goal
 
 pub returns-in_err-path-clause-told : goal.returns-in_err-path-clause-told
 returns-in_err-path-clause-told g c s told =
-    let refused : MatchResult c.from_residual.result (λ f. IsScripted c.args.words.now s f) (λ f. (f ≡ fault.Usage) × (¬ HasWords c.args.words.now)) = search rules in
-    MatchResult-weaker c.from_residual.result refused (λ f h. h) (λ f h. words_refused c.args.words.now s f h)
+    let refused : MatchResult c.from_residual.result (λ f. IsScripted (record { hosts = c.args.hosts; words = c.args.words.now }) s f) (λ f. (f ≡ fault.Usage) × (¬ HasWords c.args.words.now)) = search rules in
+    MatchResult-weaker c.from_residual.result refused (λ f h. h) (λ f h. words_refused (record { hosts = c.args.hosts; words = c.args.words.now }) s f h)
 
 pub returns-clause-told : goal.returns-clause-told
 returns-clause-told g c s told =
     let are : AreWords c.args.words.now c.in_ok-path.path.now = search rules in
-    MatchResult-weaker c.load_form.result (c.load_form.ensures.told s told) (λ f h. record { path = c.in_ok-path.path.now; words_are = are; script_is = h }) (λ f h. script_refused c.args.words.now s c.in_ok-path.path.now are f h)
+    MatchResult-weaker c.load_form.result (c.load_form.ensures.told s told) (λ f h. record { path = c.in_ok-path.path.now; words_are = are; script_is = h }) (λ f h. script_refused (record { hosts = c.args.hosts; words = c.args.words.now }) s c.in_ok-path.path.now are f h)
