@@ -7,3 +7,4 @@ pub mod TextLists
 pub mod LineFree
 pub mod Walks
 pub mod StoredRows
+pub mod RowKinds

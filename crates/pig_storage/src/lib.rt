@@ -17,7 +17,7 @@ mod rows;
 mod tests;
 mod writing;
 
-pub use laws::{rows_of_lines_are_line_free, texts_of_rows_are_lines};
+pub use laws::{rows_are_of_their_kinds, rows_of_lines_are_line_free, texts_of_rows_are_lines};
 pub use lines::{Span, next_line};
 pub use rows::line_row;
 pub use writing::write_row;
