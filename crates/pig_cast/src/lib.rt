@@ -26,5 +26,6 @@ pub use casting::cast;
 pub use fields::read_field;
 pub use laws::{
     a_field_has_one_value, casts_are_of_their_kind, fields_are_line_free, fields_are_of_their_kind,
+    plain_fields_read_back,
 };
 pub use numbers::number;
