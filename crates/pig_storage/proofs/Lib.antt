@@ -8,3 +8,4 @@ pub mod LineFree
 pub mod Walks
 pub mod StoredRows
 pub mod RowKinds
+pub mod RowsBack

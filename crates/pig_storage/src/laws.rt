@@ -8,6 +8,7 @@ ghost use Rattle.pig_value.specs.Stored.{StoresList, StoresBag};
 ghost use Rattle.pig_value.specs.Texts.{HasNoLf, AreLineFreeRows, row_text, rows_text};
 ghost use Rattle.pig_value.specs.Trees.{Tree, kind_tree};
 ghost use Rattle.pig_value.specs.Valid.{IsRow};
+ghost use Rattle.pig_storage.specs.ReadBack.{StandInTurn, IsPlainRow, IsPlainLine};
 
 /// The row of a line is a row of values, as many as there are columns and each of its column's kind.
 pub fn rows_are_of_their_kinds()
@@ -36,4 +37,16 @@ pub fn texts_of_rows_are_lines()
         StoresList delimiter bytes rows → StoresBag delimiter bytes rows }
     ensures delimiter { (text : List ℕ) (delimiter : ℕ) →
         delimiter_of text ≡ Some delimiter → IsDelimiter delimiter }
+{}
+
+/// A plain row is read again from its text, at columns that stand in turn: each of its values is plain, and
+/// no text of one holds the delimiter. So are all rows of an output, where besides no value holds an LF and
+/// no row's text ends in a CR.
+pub fn plain_rows_read_back()
+    ensures row { (columns : List Column) (delimiter : ℕ) (row : List Tree) →
+        StandInTurn 0 columns → IsPlainRow columns delimiter row →
+        row_of columns delimiter (row_text delimiter row) ≡ row }
+    ensures rows { (columns : List Column) (delimiter : ℕ) (rows : List (List Tree)) →
+        StandInTurn 0 columns → delimiter ≢ 10 → All (IsPlainLine columns delimiter) rows →
+        map (row_of columns delimiter) (lines (rows_text delimiter rows)) ≡ rows }
 {}

@@ -17,7 +17,10 @@ mod rows;
 mod tests;
 mod writing;
 
-pub use laws::{rows_are_of_their_kinds, rows_of_lines_are_line_free, texts_of_rows_are_lines};
+pub use laws::{
+    plain_rows_read_back, rows_are_of_their_kinds, rows_of_lines_are_line_free,
+    texts_of_rows_are_lines,
+};
 pub use lines::{Span, next_line};
 pub use rows::line_row;
 pub use writing::write_row;
