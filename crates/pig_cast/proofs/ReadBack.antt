@@ -1,16 +1,14 @@
 -- A plain value is read again from its text.
-use Rattle.std.proofs.Common.{◌≡◌, ◌≢◌, ◌==◌, ◌<◌, ◌++◌, ℕ, suc, ℤ, pos, negsuc, neg_ℤ, FitsSigned, Bool, true, false, cond, inl, inr, List, [], ◌∷◌, length, map, drop, Option, None, Some, refl, sym, ◌∙◌, ap, subst, arith}
+use Rattle.std.proofs.Common.{◌≡◌, ◌≢◌, ◌==◌, ◌<◌, ◌++◌, ℕ, suc, ℤ, pos, negsuc, neg_ℤ, FitsSigned, Bool, true, false, cond, inl, inr, List, [], ◌∷◌, length, drop, Option, Some, refl, sym, ◌∙◌, ap, subst, arith}
 use Rattle.std.specs.BTreeMap.{insert_entry}
-use Rattle.std.specs.Char.{digit_value}
 use Rattle.std.specs.Fmt.{decimal, signed_decimal}
 use Rattle.std.specs.Int.{Width, w32, w64}
-use Rattle.std.specs.List.{All, AllByRecursion, join_with_byte}
+use Rattle.std.specs.List.{AllByRecursion, join_with_byte}
 use Rattle.std.specs.Option.{option_and_then, option_map, unwrap_or}
 use Rattle.std.specs.Ordering.{match_ordering, ordering_reverse}
-use Rattle.std.specs.Str.{IsUtf8}
 use Rattle.std.specs.Str.Lossy.{utf8_lossy}
-use Rattle.std.specs.Str.Parse.{AllDigits, IsNumeral, digits_value, signed_digits_value, without_leading_sign}
-use Rattle.std.specs.declared.cmp.Ordering.TheVariants.{Less, Equal, Greater}
+use Rattle.std.specs.Str.Parse.{IsNumeral, digits_value, signed_digits_value, without_leading_sign}
+use Rattle.std.specs.declared.cmp.Ordering.TheVariants.{Less, Greater}
 use Rattle.std.proofs.lemmas.Bool.{ne_eqb}
 use Rattle.std.proofs.lemmas.Cmp.{nat_list_cmp_total}
 use Rattle.std.proofs.lemmas.Fmt.{decimal_is_IsNumeral}
@@ -18,19 +16,19 @@ use Rattle.std.proofs.lemmas.List.{append_assoc, append-nil}
 use Rattle.std.proofs.lemmas.Str.{utf8_lossy-IsUtf8}
 use Rattle.std.proofs.lemmas.Str.Parse.{digit_from_value}
 use Rattle.pig_value.specs.Brackets.{items}
-use Rattle.pig_value.specs.Fields.{IsNumberText, all_of, bool_of, by_key, case_of, cut_at, field_of, fields_in, number_of, pair_in, pairs_in, put_pairs, row_in, rows_in, value_in}
+use Rattle.pig_value.specs.Fields.{all_of, by_key, case_of, field_of, fields_in, number_of, pair_in, put_pairs, row_in, value_in}
 use Rattle.pig_value.specs.Kinds.{IsOf, FieldsOf, TuplesOf, EntriesOf}
 use Rattle.pig_value.specs.Orders.{bag_of, text_cmp}
 use Rattle.pig_value.specs.Texts.{bool_text, entry_texts, field_texts, text_of, tuple_text, tuple_texts}
 use Rattle.pig_value.specs.TreeLaws.{entries_there, fields_there, tuples_there}
 use Rattle.pig_value.specs.Trees.{Tree, Fields, Tuples, Entries, v_null, v_bool, v_int, v_long, v_chars, v_bytes, v_tuple, v_bag, v_listed, v_map, no_fields, more_fields, no_tuples, more_tuples, no_entries, more_entries, fields_of, fields_list, tuples_of, tuples_list, entries_of, entries_list, KindTree, KindTrees, k_boolean, k_int, k_long, k_chars, k_bytes, k_tuple, k_bag, k_map, no_kinds, more_kinds}
-use Rattle.pig_value.specs.Valid.{IsValue, AreFields, AreTuples, AreEntries, TextsAscend}
+use Rattle.pig_value.specs.Valid.{IsValue, AreFields, AreTuples, AreEntries}
 use Rattle.pig_cast.specs.Plain.{EntriesArePlain, FieldsArePlain, IsPlain, IsPlainField, TuplesArePlain}
 use Rattle.pig_cast.proofs.CastKinds.{int_fits_long}
 use Rattle.pig_cast.proofs.FieldKinds.{KeysAscend, ascends_rest}
 use Rattle.pig_cast.proofs.FieldLaw.{cut_there}
 use Rattle.pig_cast.proofs.NumberText.{number_cases}
-use Rattle.pig_cast.proofs.TextItems.{IsItem, body_there, entry_items, field_items, joined_balanced, joined_items, listed_back, tuple_items}
+use Rattle.pig_cast.proofs.TextItems.{body_there, entry_items, field_items, joined_balanced, joined_items, listed_back, tuple_items}
 
 -- a text that is not empty reads as what its case gives
 value_there : (f : List ℕ → Option Tree) (bs : List ℕ) (v : Tree) → bs ≢ [] → f bs ≡ Some v → value_in f bs ≡ v

@@ -1,9 +1,9 @@
 -- The text of a plain value is one item among others.
-use Rattle.std.proofs.Common.{◌≡◌, ◌≢◌, ◌==◌, ◌&&◌, ◌||◌, ◌+◌, ◌-◌, ◌<◌, ℕ, zero, suc, ℤ, pos, negsuc, FitsSigned, Bool, true, false, cond, List, [], ◌∷◌, ◌++◌, length, Option, None, Some, if◌then◌else◌, refl, sym, ◌∙◌, ap, subst, arith, rules}
+use Rattle.std.proofs.Common.{◌≡◌, ◌≢◌, ◌==◌, ◌&&◌, ◌||◌, ◌+◌, ◌-◌, ◌<◌, ℕ, suc, ℤ, pos, negsuc, FitsSigned, Bool, true, false, cond, List, [], ◌∷◌, ◌++◌, Option, None, Some, if◌then◌else◌, refl, sym, ◌∙◌, ap, subst, arith, rules}
 use Rattle.std.specs.Fmt.{decimal, signed_decimal}
 use Rattle.std.specs.Int.{w64}
 use Rattle.std.specs.Char.{digit_value}
-use Rattle.std.specs.List.{All, AllByRecursion, join_with_byte, onto_first}
+use Rattle.std.specs.List.{AllByRecursion, join_with_byte, onto_first}
 use Rattle.std.specs.Option.{option_and_then}
 use Rattle.std.specs.Str.Parse.{AllDigits}
 use Rattle.std.proofs.lemmas.Bool.{ne_eqb}
@@ -11,9 +11,9 @@ use Rattle.std.proofs.lemmas.Fmt.{decimal_is_IsNumeral}
 use Rattle.std.proofs.lemmas.List.{append_assoc, append-nil}
 use Rattle.std.proofs.lemmas.List.Elements.{All-cons, All-from_recursion, All-head, All-nil, All-tail}
 use Rattle.std.proofs.lemmas.Str.Parse.{digit_from_value}
-use Rattle.pig_value.specs.Brackets.{IsBalanced, nothing, plain, nested, body_of, closing_of, depth_after, inside, is_bracketed, is_closing, is_opening, is_separator, items, items_at, items_or_none}
+use Rattle.pig_value.specs.Brackets.{IsBalanced, nothing, plain, nested, body_of, closing_of, depth_after, inside, is_closing, is_opening, is_separator, items, items_at, items_or_none}
 use Rattle.pig_value.specs.Fields.{all_of}
-use Rattle.pig_value.specs.Texts.{bool_text, bracketed, entry_texts, field_texts, text_of, tuple_text, tuple_texts}
+use Rattle.pig_value.specs.Texts.{bool_text, bracketed, entry_texts, field_texts, text_of, tuple_texts}
 use Rattle.pig_value.specs.Trees.{Tree, Fields, Tuples, Entries, v_null, v_bool, v_int, v_long, v_chars, v_bytes, v_tuple, v_bag, v_listed, v_map, no_fields, more_fields, no_tuples, more_tuples, no_entries, more_entries}
 use Rattle.pig_value.specs.Valid.{IsValue, AreFields, AreTuples, AreEntries}
 use Rattle.pig_cast.specs.Plain.{EntriesArePlain, FieldsArePlain, HasNoMark, IsPlain, TuplesArePlain, is_mark}
@@ -57,12 +57,12 @@ around d b inner more rest s o passes behind =
     let both = closing_closes b in
     let last : List (List ℕ) = items_at d rest in
     let closed : items_at (suc d) (close ∷ (more ++ rest)) ≡ onto_front (close ∷ more) last =
-        goes_on (suc d) close (more ++ rest) (within d close)
-        ∙ (ap (λ n. onto_first close (items_at n (more ++ rest))) (closes_depth d close both.0 both.1) ∙ (ap (onto_first close) behind ∙ front_first close more last)) in
+    goes_on (suc d) close (more ++ rest) (within d close)
+    ∙ (ap (λ n. onto_first close (items_at n (more ++ rest))) (closes_depth d close both.0 both.1) ∙ (ap (onto_first close) behind ∙ front_first close more last)) in
     ap (λ l. items_at d (b ∷ l)) (append_assoc inner (close ∷ more) rest)
     ∙ (goes_on d b (inner ++ close ∷ (more ++ rest)) s
-      ∙ (ap (λ n. onto_first b (items_at n (inner ++ close ∷ (more ++ rest)))) (opens_depth d b o)
-        ∙ (ap (onto_first b) (passes (close ∷ (more ++ rest)) ∙ (ap (onto_front inner) closed ∙ front_twice inner (close ∷ more) last)) ∙ front_first b (inner ++ close ∷ more) last)))
+    ∙ (ap (λ n. onto_first b (items_at n (inner ++ close ∷ (more ++ rest)))) (opens_depth d b o)
+    ∙ (ap (onto_first b) (passes (close ∷ (more ++ rest)) ∙ (ap (onto_front inner) closed ∙ front_twice inner (close ∷ more) last)) ∙ front_first b (inner ++ close ∷ more) last)))
 
 -- balanced text within brackets holds no end of an item
 passes_within : (t rest : List ℕ) (d : ℕ) → IsBalanced t → items_at (suc d) (t ++ rest) ≡ onto_front t (items_at (suc d) rest)
@@ -165,9 +165,9 @@ no_mark c h =
     let other : (m : ℕ) → (c ≡ m → ⊥) → (c == m) ≡ false = λ m no. ne_eqb c m no in
     let digit = digit_from_value c h in
     λ i.
-        (other 40 (λ e. omega (arith, digit)) i || other 91 (λ e. omega (arith, digit)) i || other 123 (λ e. omega (arith, digit)) i)
-        || (other 41 (λ e. omega (arith, digit)) i || other 93 (λ e. omega (arith, digit)) i || other 125 (λ e. omega (arith, digit)) i)
-        || other 44 (λ e. omega (arith, digit)) i
+    (other 40 (λ e. omega (arith, digit)) i || other 91 (λ e. omega (arith, digit)) i || other 123 (λ e. omega (arith, digit)) i)
+    || (other 41 (λ e. omega (arith, digit)) i || other 93 (λ e. omega (arith, digit)) i || other 125 (λ e. omega (arith, digit)) i)
+    || other 44 (λ e. omega (arith, digit)) i
 
 digits_unmarked : (ds : List ℕ) → AllDigits 10 ds → HasNoMark ds
 digits_unmarked [] h = All-nil NoMark

@@ -1,6 +1,6 @@
 -- A plain row is read again from its text.
-use Rattle.std.proofs.Common.{◌≡◌, ◌≢◌, ◌==◌, ◌-◌, ℕ, zero, suc, Bool, true, false, cond, List, [], ◌∷◌, length, map, take, drop, Option, None, Some, refl, sym, ◌∙◌, ap, subst}
-use Rattle.std.specs.List.{All, join_with_byte, slice_get, slice_index, slice_split}
+use Rattle.std.proofs.Common.{◌≡◌, ◌≢◌, ◌==◌, ◌-◌, ℕ, zero, suc, false, cond, List, [], ◌∷◌, length, map, take, drop, Some, refl, ◌∙◌, ap}
+use Rattle.std.specs.List.{All, slice_get, slice_index}
 use Rattle.std.specs.Option.{option_map_or}
 use Rattle.std.specs.Str.Lines.{strip_carriage_return}
 use Rattle.std.proofs.lemmas.Bool.{ne_eqb}
@@ -9,11 +9,9 @@ use Rattle.std.proofs.lemmas.List.Elements.{All-head, All-tail, All-weaker}
 use Rattle.std.proofs.lemmas.List.Splits.{slice_split_at, slice_split_none}
 use Rattle.pig_value.specs.declared.shared.Column.{Column}
 use Rattle.pig_value.specs.Fields.{column_of, field_of, pieces, row_of}
-use Rattle.pig_value.specs.Kinds.{IsRowOf}
 use Rattle.pig_value.specs.Lines.{lines}
 use Rattle.pig_value.specs.Texts.{AreLineFreeRows, IsLineFreeRow, row_text, rows_text, text_of}
 use Rattle.pig_value.specs.Trees.{Tree, v_null, KindTree, kind_tree}
-use Rattle.pig_value.specs.Valid.{IsRow}
 use Rattle.pig_cast.proofs.ReadBack.{field_back}
 use Rattle.pig_storage.specs.ReadBack.{EndsInNoCr, IsPlainBetween, IsPlainLine, IsPlainRow, StandInTurn}
 use Rattle.pig_storage.proofs.StoredRows.{rows_stored}
