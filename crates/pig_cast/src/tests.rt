@@ -107,8 +107,9 @@ fn reads(alloc: Global, text: &[u8], kind: &Kind, expected: &Value) -> Result<bo
 #[test]
 fn reads_ints_and_longs(rt: HostRuntime) -> Result<(), Fail> {
     let alloc = rt.alloc();
-    let cases: [(&[u8], Option<i32>, Option<i64>); 10] = [
+    let cases: [(&[u8], Option<i32>, Option<i64>); 11] = [
         (b"", None, None),
+        (b"2)", None, None),
         (b"+5", Some(5), Some(5)),
         (b"-", None, None),
         (b"--5", None, None),
@@ -191,9 +192,10 @@ fn reads_bytes_as_text(rt: HostRuntime) -> Result<(), Fail> {
 #[test]
 fn reads_tuples(rt: HostRuntime) -> Result<(), Fail> {
     let alloc = rt.alloc();
-    let cases: [(&[u8], u32, Option<&[Option<i32>]>); 16] = [
+    let cases: [(&[u8], u32, Option<&[Option<i32>]>); 17] = [
         (b"", 2, None),
         (b"(", 2, None),
+        (b"(1", 2, None),
         (b")", 2, None),
         (b"()", 1, Some(&[None])),
         (b"()", 0, Some(&[])),

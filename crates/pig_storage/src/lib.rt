@@ -6,8 +6,9 @@
 //!
 //! Each is proved to be what pig_value's `specs/` define: `Lines` (`lines`, `stored_lines`), `Fields`
 //! (`row_of`, by pig_cast's `read_field`) and `Texts` (`text_of`, `row_text`, `IsLineFree`). What follows of
-//! these definitions for whole inputs and outputs is in `laws`; crates above cite the lemmas of
-//! `proofs/Walks`, `proofs/LineFree` and `proofs/StoredRows`.
+//! these definitions for whole inputs and outputs is in `laws`: what a row of a line is, that its text is one
+//! line, and which rows are read again from their text (`specs/ReadBack`). Crates above cite the lemmas of
+//! `proofs/Walks`, `proofs/LineFree`, `proofs/StoredRows`, `proofs/RowKinds` and `proofs/RowsBack`.
 #![tactic(auto)]
 
 mod laws;
