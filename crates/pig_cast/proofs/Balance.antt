@@ -6,7 +6,7 @@ use Rattle.std.proofs.lemmas.List.{append_assoc, append-nil}
 use Rattle.pig_value.specs.Brackets.{IsBalanced, nothing, plain, nested, closes, closing_of, is_balanced, is_closing, is_opening, takes}
 
 -- a closing bracket of an opening one closes, and opens nothing
-closing_closes : (b : ℕ) → (is_opening (closing_of b) ≡ false) × (is_closing (closing_of b) ≡ true)
+pub closing_closes : (b : ℕ) → (is_opening (closing_of b) ≡ false) × (is_closing (closing_of b) ≡ true)
 closing_closes b = by_tests (b == 40) (b == 91)
   where
     by_tests : (round square : Bool) → (is_opening (cond round 41 (cond square 93 125)) ≡ false) × (is_closing (cond round 41 (cond square 93 125)) ≡ true)

@@ -9,7 +9,7 @@ use Rattle.pig_value.specs.Valid.{IsValue}
 use Rattle.pig_cast.proofs.FieldKinds.{field_of_kind, field_is_value}
 
 -- an int is in the range of a long
-int_fits_long : (z : ℤ) → FitsSigned w32 z → FitsSigned w64 z
+pub int_fits_long : (z : ℤ) → FitsSigned w32 z → FitsSigned w64 z
 int_fits_long z h = omega (arith, h.sfits)
 
 -- what is not cast to another kind stays as it is

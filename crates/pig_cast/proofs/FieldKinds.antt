@@ -76,7 +76,7 @@ insert_of k (e ∷ es) p h is = by_order (insert_entry text_cmp es p.0 p.1) (ins
     by_order rest r Greater = (h.0, r)
 
 -- their keys ascend
-abbrev KeysAscend : List (List ℕ × Tree) → Type 0
+abbrev pub KeysAscend : List (List ℕ × Tree) → Type 0
 KeysAscend es = TextsAscend (map (λ p. p.0) es)
 
 -- the first key, if there is one, stands behind a key
@@ -88,7 +88,7 @@ ascends_cons : (e : List ℕ × Tree) (es : List (List ℕ × Tree)) → Behind 
 ascends_cons e [] first rest = tt
 ascends_cons e (f ∷ es) first rest = (first, rest)
 
-ascends_rest : (e : List ℕ × Tree) (es : List (List ℕ × Tree)) → KeysAscend (e ∷ es) → Behind e.0 es × KeysAscend es
+pub ascends_rest : (e : List ℕ × Tree) (es : List (List ℕ × Tree)) → KeysAscend (e ∷ es) → Behind e.0 es × KeysAscend es
 ascends_rest e [] h = (tt, tt)
 ascends_rest e (f ∷ es) h = h
 

@@ -117,7 +117,7 @@ listed_reads {Y} {Z} opening closing P f reads form bs z = (there, λ e. first (
     first None e h = absurd (none_is_no_value z h)
 
 -- a key, `#` and a value
-cut_there : (key text : List ℕ) → All (λ b. b ≢ 35) key → cut_at 35 (key ++ 35 ∷ text) ≡ Some (key, text)
+pub cut_there : (key text : List ℕ) → All (λ b. b ≢ 35) key → cut_at 35 (key ++ 35 ∷ text) ≡ Some (key, text)
 cut_there [] text none = refl
 cut_there (b ∷ key) text none =
     let bs : List ℕ = key ++ 35 ∷ text in

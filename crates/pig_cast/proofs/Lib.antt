@@ -10,3 +10,5 @@ mod OfRead
 pub mod FieldKinds
 pub mod CastKinds
 pub mod CastFree
+pub mod TextItems
+pub mod ReadBack

@@ -2,9 +2,10 @@ ghost use Rattle.std.specs.Prelude.{◌≡◌, ◌↔◌, ℕ, List};
 ghost use Rattle.pig_value.specs.Casts.{CanCast, cast_of};
 ghost use Rattle.pig_value.specs.Fields.{IsField, field_of};
 ghost use Rattle.pig_value.specs.Kinds.{IsOf};
-ghost use Rattle.pig_value.specs.Texts.{HasNoLf, IsLineFree};
+ghost use Rattle.pig_value.specs.Texts.{HasNoLf, IsLineFree, text_of};
 ghost use Rattle.pig_value.specs.Trees.{Tree, KindTree};
 ghost use Rattle.pig_value.specs.Valid.{IsValue};
+ghost use Rattle.pig_cast.specs.Plain.{IsPlainField};
 
 /// Every field reads as exactly one value, that of the function which the contracts cite.
 pub fn a_field_has_one_value()
@@ -29,4 +30,10 @@ pub fn casts_are_of_their_kind()
 pub fn fields_are_line_free()
     ensures field { (k : KindTree) (bytes : List ℕ) → HasNoLf bytes → IsLineFree (field_of k bytes) }
     ensures cast { (k : KindTree) (v : Tree) → IsLineFree v → IsLineFree (cast_of k v) }
+{}
+
+/// A plain value is read again from its text: no text, bytearray or key within brackets holds a bracket or a
+/// comma, no text and no bytearray is empty, no key holds a `#`, and no bag has an order of its own.
+pub fn plain_fields_read_back()
+    ensures { (k : KindTree) (v : Tree) → IsOf v k → IsValue v → IsPlainField v → field_of k (text_of v) ≡ v }
 {}

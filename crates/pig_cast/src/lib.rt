@@ -6,8 +6,9 @@
 //! [`a_field_has_one_value`] ties the relation `IsField`, which has one case for each kind, to the function
 //! `field_of` that the contracts cite. [`fields_are_of_their_kind`] and [`casts_are_of_their_kind`] say that
 //! what is read or cast is a value of its kind, and [`fields_are_line_free`] that it holds no LF where its
-//! text holds none. Crates above cite the lemmas of `proofs/FieldLaw`, `proofs/FieldKinds`,
-//! `proofs/CastKinds`, `proofs/FieldFree` and `proofs/CastFree`.
+//! text holds none; [`plain_fields_read_back`] says which values are read again from their text
+//! (`specs/Plain`). Crates above cite the lemmas of `proofs/FieldLaw`, `proofs/FieldKinds`,
+//! `proofs/CastKinds`, `proofs/FieldFree`, `proofs/CastFree` and `proofs/ReadBack`.
 //!
 //! No call goes deeper than the kind does. At each level of the kind the bytes between two brackets are gone
 //! over twice: once for their brackets, once for their items.
@@ -26,5 +27,6 @@ pub use casting::cast;
 pub use fields::read_field;
 pub use laws::{
     a_field_has_one_value, casts_are_of_their_kind, fields_are_line_free, fields_are_of_their_kind,
+    plain_fields_read_back,
 };
 pub use numbers::number;

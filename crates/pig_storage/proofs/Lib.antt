@@ -7,3 +7,5 @@ pub mod TextLists
 pub mod LineFree
 pub mod Walks
 pub mod StoredRows
+pub mod RowKinds
+pub mod RowsBack

@@ -3,16 +3,18 @@ use Rattle.std.proofs.Common.{◌≡◌, ◌≢◌, ℕ, Bool, true, false, List
 use Rattle.std.specs.List.{slice_split}
 use Rattle.std.specs.List.Sorted.{IsPermutation}
 use Rattle.std.proofs.lemmas.Bool.Decides.{Decides-eqb}
-use Rattle.std.proofs.lemmas.List.{append_assoc}
+use Rattle.std.proofs.lemmas.List.{append_assoc, append-nil}
 use Rattle.std.proofs.lemmas.List.Elements.{All-head, All-tail, All-weaker}
 use Rattle.std.proofs.lemmas.List.Sorted.{IsPermutation-refl}
 use Rattle.std.proofs.lemmas.List.Splits.{slice_split_at}
+use Rattle.pig_value.specs.declared.shared.Column.{Column}
+use Rattle.pig_value.specs.Fields.{row_of}
 use Rattle.pig_value.specs.Lines.{is_lf, stored_lines, without_last_empty}
 use Rattle.pig_value.specs.Stored.{StoresBag, StoresList}
 use Rattle.pig_value.specs.Texts.{AreLineFreeRows, HasNoLf, IsLineFreeRow, row_text, rows_text}
 use Rattle.pig_value.specs.Trees.{Tree}
 use Rattle.pig_storage.proofs.FirstLine.{cut_leaves, stays_before}
-use Rattle.pig_storage.proofs.LineFree.{row_text_free}
+use Rattle.pig_storage.proofs.LineFree.{row_free, row_text_free}
 
 -- a test of a byte other than LF fails
 no_lf : (b : ℕ) → b ≢ 10 → is_lf b ≡ false
@@ -34,6 +36,12 @@ rows_stored d other [] free = refl
 rows_stored d other (row ∷ rows) free =
     let here : HasNoLf (row_text d row) = row_text_free d other row (All-head IsLineFreeRow row rows free) in
     stored_line (row_text d row) (rows_text d rows) here ∙ ap (λ l. row_text d row ∷ l) (rows_stored d other rows (All-tail IsLineFreeRow row rows free))
+
+-- so the text of the row of a line is one line
+pub row_is_one_line : (columns : List Column) (from to : ℕ) (line : List ℕ) → to ≢ 10 → HasNoLf line → stored_lines (row_text to (row_of columns from line) ++ 10 ∷ []) ≡ row_text to (row_of columns from line) ∷ []
+row_is_one_line columns from to line other free =
+    let text : List ℕ = row_text to (row_of columns from line) in
+    ap stored_lines (sym (append-nil (text ++ 10 ∷ []))) ∙ stored_line text [] (row_text_free to other (row_of columns from line) (row_free columns from line free))
 
 -- what stores a list stores it as a bag
 pub stored_in_order : (d : ℕ) (bytes : List ℕ) (rows : List (List Tree)) → StoresList d bytes rows → StoresBag d bytes rows

@@ -1,3 +1,4 @@
 pub mod NextLine
 pub mod Pieces
 pub mod Written
+pub mod ReadBack

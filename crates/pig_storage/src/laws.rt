@@ -1,17 +1,31 @@
-ghost use Rattle.std.specs.Prelude.{◌≡◌, ◌≢◌, ℕ, List, Some, map, All};
+ghost use Rattle.std.specs.Prelude.{◌≡◌, ◌≢◌, ◌++◌, [], ◌∷◌, ℕ, List, Some, map, All};
 ghost use Rattle.pig_value.specs.declared.shared.Column.{Column};
 ghost use Rattle.pig_value.specs.Delimiters.{IsDelimiter, delimiter_of};
 ghost use Rattle.pig_value.specs.Fields.{row_of};
-ghost use Rattle.pig_value.specs.Lines.{lines};
+ghost use Rattle.pig_value.specs.Kinds.{IsRowOf};
+ghost use Rattle.pig_value.specs.Lines.{lines, stored_lines};
 ghost use Rattle.pig_value.specs.Stored.{StoresList, StoresBag};
-ghost use Rattle.pig_value.specs.Texts.{HasNoLf, AreLineFreeRows, rows_text};
-ghost use Rattle.pig_value.specs.Trees.{Tree};
+ghost use Rattle.pig_value.specs.Texts.{HasNoLf, AreLineFreeRows, row_text, rows_text};
+ghost use Rattle.pig_value.specs.Trees.{Tree, kind_tree};
+ghost use Rattle.pig_value.specs.Valid.{IsRow};
+ghost use Rattle.pig_storage.specs.ReadBack.{StandInTurn, IsPlainRow, IsPlainLine};
 
-/// No line of an input holds an LF, and no value that is read from a line does.
+/// The row of a line is a row of values, as many as there are columns and each of its column's kind.
+pub fn rows_are_of_their_kinds()
+    ensures kinds { (columns : List Column) (delimiter : ℕ) (line : List ℕ) →
+        IsRowOf (row_of columns delimiter line) (map (λ column. kind_tree column.kind) columns) }
+    ensures values { (columns : List Column) (delimiter : ℕ) (line : List ℕ) →
+        IsRow (row_of columns delimiter line) }
+{}
+
+/// No line of an input holds an LF, and no value that is read from a line does. So the text of a row that is
+/// read from a line is one line, whichever delimiter it is written with.
 pub fn rows_of_lines_are_line_free()
     ensures lines { (bytes : List ℕ) → All HasNoLf (lines bytes) }
     ensures rows { (columns : List Column) (delimiter : ℕ) (bytes : List ℕ) →
         AreLineFreeRows (map (row_of columns delimiter) (lines bytes)) }
+    ensures text { (columns : List Column) (from to : ℕ) (line : List ℕ) → to ≢ 10 → HasNoLf line →
+        stored_lines (row_text to (row_of columns from line) ++ 10 ∷ []) ≡ row_text to (row_of columns from line) ∷ [] }
 {}
 
 /// The texts of line-free rows, each with an LF behind it, have these texts as their lines, since no
@@ -23,4 +37,16 @@ pub fn texts_of_rows_are_lines()
         StoresList delimiter bytes rows → StoresBag delimiter bytes rows }
     ensures delimiter { (text : List ℕ) (delimiter : ℕ) →
         delimiter_of text ≡ Some delimiter → IsDelimiter delimiter }
+{}
+
+/// A plain row is read again from its text, at columns that stand in turn: each of its values is plain, and
+/// no text of one holds the delimiter. So are all rows of an output, where besides no value holds an LF and
+/// no row's text ends in a CR.
+pub fn plain_rows_read_back()
+    ensures row { (columns : List Column) (delimiter : ℕ) (row : List Tree) →
+        StandInTurn 0 columns → IsPlainRow columns delimiter row →
+        row_of columns delimiter (row_text delimiter row) ≡ row }
+    ensures rows { (columns : List Column) (delimiter : ℕ) (rows : List (List Tree)) →
+        StandInTurn 0 columns → delimiter ≢ 10 → All (IsPlainLine columns delimiter) rows →
+        map (row_of columns delimiter) (lines (rows_text delimiter rows)) ≡ rows }
 {}

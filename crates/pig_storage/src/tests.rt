@@ -155,6 +155,55 @@ fn stores_nested_text(rt: HostRuntime) -> Result<(), Fail> {
     Ok(())
 }
 
+// Two columns of text at each kind of delimiter; a further field is dropped, a missing one is null.
+#[test]
+fn cuts_at_each_delimiter(rt: HostRuntime) -> Result<(), Fail> {
+    let alloc = rt.alloc();
+    let columns = columns(alloc, &[(b'C', 0), (b'C', 1)])?;
+    let cases: [(&str, &[u8], &[u8]); 8] = [
+        ("\t", b"a,b\tc\td\ne\n", b"a,b\tc\ne\t\n"),
+        ("\\t", b"\ta\n", b"\ta\n"),
+        (",", b"a\tb,c,d\n", b"a\tb,c\n"),
+        ("\0", b"a\0\0c\n", b"a\0\n"),
+        ("\u{7f}", b"a\x7fb\xc3\xa9\n", b"a\x7fb\xc3\xa9\n"),
+        ("x", b"oxenx\n", b"oxen\n"),
+        ("(", b"(a(b)\n", b"(a\n"),
+        ("\\", b"a\\tb\n", b"a\\tb\n"),
+    ];
+    for (delim, input, expected) in cases {
+        let delim = Delim::new(delim).ok().ok_or("a delimiter")?;
+        let out = stored(alloc, input, delim, &columns)?;
+        assert_eq!(rt; out.as_slice(), expected, "for {input:?}");
+    }
+    Ok(())
+}
+
+#[test]
+fn reads_a_line_of_a_million_fields(rt: HostRuntime) -> Result<(), Fail> {
+    let alloc = rt.alloc();
+    let mut line = Vec::with_capacity(alloc, 1_000_002)?;
+    for _ in 0..999_999 {
+        line.push(b',')?;
+    }
+    line.extend_from_slice(b"end")?;
+    let comma = Delim::new(",").ok().ok_or("a comma")?;
+    let columns = columns(
+        alloc,
+        &[
+            (b'C', 1_000_000),
+            (b'C', 999_999),
+            (b'C', 0),
+            (b'C', 999_999),
+        ],
+    )?;
+    let row = line_row(alloc, &line, comma, &columns)?;
+    let mut out = Vec::new(alloc);
+    write_row(&row, Delim::tab(), &mut out)?;
+    let expected: &[u8] = b"\tend\t\tend\n";
+    assert_eq!(rt; out.as_slice(), expected);
+    Ok(())
+}
+
 fn text(alloc: Global, text: &str) -> Result<Value, AllocError> {
     Ok(Value::Chars(Text::from_str(alloc, text)?))
 }

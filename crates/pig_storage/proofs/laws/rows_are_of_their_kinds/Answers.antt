@@ -1,0 +1,8 @@
+use Rattle.pig_storage.proofs.RowKinds.{row_of_kinds, row_is_values}
+use Rattle.pig_storage.proofs.laws.rows_are_of_their_kinds.Goals as goal
+
+pub returns-clause-kinds : goal.returns-clause-kinds
+returns-clause-kinds c = row_of_kinds
+
+pub returns-clause-values : goal.returns-clause-values
+returns-clause-values c = row_is_values
