@@ -1,5 +1,5 @@
 //! What no clause says: that each form is read with ample memory, as the tree that the grammar gives it.
-ghost use Rattle.std.specs.Prelude.{◌<◌, ◌^◌, ◌→◌, IsTrue, All, length};
+ghost use Rattle.std.specs.Prelude.{◌<◌, ◌^◌, IsTrue, All, length};
 ghost use Rattle.pig_syntax.specs.Cutting.{IsWithin};
 ghost use Rattle.pig_parser.specs.Parsing.{IsShallow};
 
@@ -845,15 +845,20 @@ STORE top INTO 'top';
 // The number of links in the condition of a script's first FILTER.
 fn links(trees: &Stmts) -> usize {
     match trees.get(0) {
-        Some(
-            Stmt::Assign {
-                op: Op::Filter {
-                    cond: Expr::Chain { rest, .. },
-                    ..
-                },
-                ..
-            },
-        ) => rest.len(),
+        Some(tree) => match tree {
+            Stmt::Assign { op, .. } => links_of(op),
+            _ => 0,
+        },
+        None => 0,
+    }
+}
+
+fn links_of(op: &Op) -> usize {
+    match op {
+        Op::Filter { cond, .. } => match cond {
+            Expr::Chain { rest, .. } => rest.len(),
+            _ => 0,
+        },
         _ => 0,
     }
 }
