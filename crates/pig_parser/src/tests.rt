@@ -879,6 +879,48 @@ fn reads_a_long_chain(rt: HostRuntime) -> Result<(), Fail> {
     Ok(())
 }
 
+// A statement with so many brackets, one in the other, between its front and its end.
+fn nested(
+    alloc: Global,
+    parts: (&str, &str, &str, &str, &str),
+    times: usize,
+) -> Result<String, AllocError> {
+    let (front, open, middle, close, end) = parts;
+    let mut script = String::from_str(alloc, front)?;
+    for _ in 0..times {
+        script.push_str(open)?;
+    }
+    script.push_str(middle)?;
+    for _ in 0..times {
+        script.push_str(close)?;
+    }
+    script.push_str(end)?;
+    Ok(script)
+}
+
+#[test]
+fn reads_brackets_64_deep(rt: HostRuntime) -> Result<(), Fail> {
+    let alloc = rt.alloc();
+    let cases: [((&str, &str, &str, &str, &str), usize); 7] = [
+        (("x = FILTER a BY ", "(", "b", ")", ";"), 64),
+        (("x = FILTER a BY ", "- (", "b", ")", ";"), 64),
+        (("x = FILTER a BY ", "f(c, ", "b", ")", ";"), 64),
+        (("x = FILTER a BY ", "(c ? b : ", "b", ")", ";"), 64),
+        (("x = GROUP a BY (", "(", "b", ")", ", c);"), 63),
+        (("x = LOAD 'p' AS (a: ", "[", "int", "]", ");"), 63),
+        (("x = LOAD 'p' AS ", "(a: ", "int", ")", ";"), 64),
+    ];
+    for (parts, times) in cases {
+        let script = nested(alloc, parts, times)?;
+        let number = match parsed(alloc, script.as_str())? {
+            Answer::Trees(trees) => trees.len(),
+            _ => 0,
+        };
+        assert_eq!(rt; number, 1, "{script}");
+    }
+    Ok(())
+}
+
 #[test]
 fn shows_faults(rt: HostRuntime) -> Result<(), Fail> {
     let alloc = rt.alloc();
