@@ -345,7 +345,7 @@ unfoldable pub branch_at : ℕ → Forms → Found Branch
 branch_at most (f.Ident name ∷ f.Keyword k.If ∷ ts) = branch_with most name ts
 branch_at most _ = None
 
--- one more branch; a comma before anything else goes on with no branch
+-- one more branch; before anything but a name and IF a comma ends the branches
 unfoldable pub branch_turn : ℕ → Forms → Turn Branch
 branch_turn most (f.Symbol s.Comma ∷ f.Ident name ∷ f.Keyword k.If ∷ ts) = option_map Some (branch_with most name ts)
 branch_turn most ts = Some None

@@ -1,4 +1,4 @@
-ghost use Rattle.std.specs.Prelude.{◌≡◌, [], ◌∷◌, ℕ, Option, IfOk, length};
+ghost use Rattle.std.specs.Prelude.{◌≡◌, [], ◌∷◌, ◌++◌, ℕ, Option, IfOk, length};
 ghost use Rattle.pig_parser.specs.Grammar.{Forms};
 ghost use Rattle.pig_parser.specs.Reader.{Found, Turn, forms, Gives, Turns, Leaves, repeat, comma_turn, listed, close_paren, close_brace, close_bracket};
 
@@ -97,6 +97,15 @@ impl<R: Rule> Turning for Commas<'_, R> {
     }
 }
 
+// The elements with one more behind them.
+fn with_last<T: Drop>(elements: Seq<T>, last: T) -> Result<Seq<T>, AllocError>
+    ensures { IfOk result (λ all. all ≡ elements ++ last ∷ []) }
+{
+    let mut all = elements;
+    all.push(last)?;
+    Ok(all)
+}
+
 /// Reads elements as long as there are some, behind those that are read.
 pub fn repeat<'a, T: Turning>(
     turning: &T,
@@ -111,7 +120,7 @@ pub fn repeat<'a, T: Turning>(
     for _turn in 0..tokens.len() {
         match turning.turn(rest) {
             Ok(Some((element, behind))) => {
-                found.push(element)?;
+                found = with_last(found, element)?;
                 rest = behind;
             }
             Ok(None) => return Ok((found, rest)),

@@ -1,5 +1,5 @@
 //! What no clause says: that each form is read with ample memory, as the tree that the grammar gives it.
-ghost use Rattle.std.specs.Prelude.{◌<◌, ◌^◌, ◌→◌, IsTrue, All, length};
+ghost use Rattle.std.specs.Prelude.{◌<◌, ◌^◌, IsTrue, All, length};
 ghost use Rattle.pig_syntax.specs.Cutting.{IsWithin};
 ghost use Rattle.pig_parser.specs.Parsing.{IsShallow};
 
@@ -845,15 +845,20 @@ STORE top INTO 'top';
 // The number of links in the condition of a script's first FILTER.
 fn links(trees: &Stmts) -> usize {
     match trees.get(0) {
-        Some(
-            Stmt::Assign {
-                op: Op::Filter {
-                    cond: Expr::Chain { rest, .. },
-                    ..
-                },
-                ..
-            },
-        ) => rest.len(),
+        Some(tree) => match tree {
+            Stmt::Assign { op, .. } => links_of(op),
+            _ => 0,
+        },
+        None => 0,
+    }
+}
+
+fn links_of(op: &Op) -> usize {
+    match op {
+        Op::Filter { cond, .. } => match cond {
+            Expr::Chain { rest, .. } => rest.len(),
+            _ => 0,
+        },
         _ => 0,
     }
 }
@@ -871,6 +876,48 @@ fn reads_a_long_chain(rt: HostRuntime) -> Result<(), Fail> {
         _ => 0,
     };
     assert_eq!(rt; number, 100_000);
+    Ok(())
+}
+
+// A statement with so many brackets, one in the other, between its front and its end.
+fn nested(
+    alloc: Global,
+    parts: (&str, &str, &str, &str, &str),
+    times: usize,
+) -> Result<String, AllocError> {
+    let (front, open, middle, close, end) = parts;
+    let mut script = String::from_str(alloc, front)?;
+    for _ in 0..times {
+        script.push_str(open)?;
+    }
+    script.push_str(middle)?;
+    for _ in 0..times {
+        script.push_str(close)?;
+    }
+    script.push_str(end)?;
+    Ok(script)
+}
+
+#[test]
+fn reads_brackets_64_deep(rt: HostRuntime) -> Result<(), Fail> {
+    let alloc = rt.alloc();
+    let cases: [((&str, &str, &str, &str, &str), usize); 7] = [
+        (("x = FILTER a BY ", "(", "b", ")", ";"), 64),
+        (("x = FILTER a BY ", "- (", "b", ")", ";"), 64),
+        (("x = FILTER a BY ", "f(c, ", "b", ")", ";"), 64),
+        (("x = FILTER a BY ", "(c ? b : ", "b", ")", ";"), 64),
+        (("x = GROUP a BY (", "(", "b", ")", ", c);"), 63),
+        (("x = LOAD 'p' AS (a: ", "[", "int", "]", ");"), 63),
+        (("x = LOAD 'p' AS ", "(a: ", "int", ")", ";"), 64),
+    ];
+    for (parts, times) in cases {
+        let script = nested(alloc, parts, times)?;
+        let number = match parsed(alloc, script.as_str())? {
+            Answer::Trees(trees) => trees.len(),
+            _ => 0,
+        };
+        assert_eq!(rt; number, 1, "{script}");
+    }
     Ok(())
 }
 
