@@ -1,5 +1,5 @@
 -- Words are a command or none.
-use Rattle.std.proofs.Common.{◌≡◌, ◌≢◌, ◌≤◌, ℕ, zero, suc, Bool, true, false, List, [], ◌∷◌, ◌++◌, length, Option, Some, None, codes, refl, sym, ◌∙◌, ap, subst, arith, inl, inr, ◌⊎◌}
+use Rattle.std.proofs.Common.{◌≡◌, ◌≢◌, ◌≤◌, ℕ, zero, suc, ◌==◌, ◌+◌, Bool, true, false, get_or, drop, List, [], ◌∷◌, ◌++◌, length, Option, Some, None, codes, refl, sym, ◌∙◌, ap, subst, arith, inl, inr, ◌⊎◌}
 use Rattle.std.specs.Str.{bytes_eq}
 use Rattle.std.proofs.lemmas.Bool.{cases_Bool}
 use Rattle.std.proofs.lemmas.Bool.Decides.{Decides-eqb}
@@ -65,7 +65,7 @@ valued_decided word Split = elim (prefix_decided (codes "--split=") word) [ inl 
 
 look : (word : Word) → Look word
 look word = elim (cases_Bool (is_dashed word)) [
-  | inr no ↦ plain no
+  | inr flat ↦ plain flat
   | inl dashed ↦ elim (text_decided word (codes "--")) [
     | inl is ↦ both_dashes is
     | inr other ↦ elim (each_setting (λ s. word ≡ option_word s) (λ s. text_decided word (option_word s))) [
@@ -103,38 +103,42 @@ not_dashes_valued Workers v e = cc
 not_dashes_valued Reducers v e = cc
 not_dashes_valued Split v e = cc
 
+-- options differ in their third byte
+abbrev third : Word → ℕ
+third word = get_or word 2 0
+
 same_alone : (s t : Setting) → option_word s ≡ option_word t → s ≡ t
 same_alone Workers Workers e = refl
-same_alone Workers Reducers e = absurd (cc)
-same_alone Workers Split e = absurd (cc)
-same_alone Reducers Workers e = absurd (cc)
+same_alone Workers Reducers e = absurd (let wrong : 119 ≡ 114 = ap third e in omega (arith, wrong))
+same_alone Workers Split e = absurd (let wrong : 119 ≡ 115 = ap third e in omega (arith, wrong))
+same_alone Reducers Workers e = absurd (let wrong : 114 ≡ 119 = ap third e in omega (arith, wrong))
 same_alone Reducers Reducers e = refl
-same_alone Reducers Split e = absurd (cc)
-same_alone Split Workers e = absurd (cc)
-same_alone Split Reducers e = absurd (cc)
+same_alone Reducers Split e = absurd (let wrong : 114 ≡ 115 = ap third e in omega (arith, wrong))
+same_alone Split Workers e = absurd (let wrong : 115 ≡ 119 = ap third e in omega (arith, wrong))
+same_alone Split Reducers e = absurd (let wrong : 115 ≡ 114 = ap third e in omega (arith, wrong))
 same_alone Split Split e = refl
 
 alone_not_valued : (s t : Setting) (v : Word) → option_word s ≢ option_word t ++ 61 ∷ v
-alone_not_valued Workers Workers v e = cc
-alone_not_valued Workers Reducers v e = cc
-alone_not_valued Workers Split v e = cc
-alone_not_valued Reducers Workers v e = cc
-alone_not_valued Reducers Reducers v e = cc
-alone_not_valued Reducers Split v e = cc
-alone_not_valued Split Workers v e = cc
-alone_not_valued Split Reducers v e = cc
-alone_not_valued Split Split v e = cc
+alone_not_valued Workers Workers v e = let wrong = ap length e in omega (arith, wrong)
+alone_not_valued Workers Reducers v e = let wrong : 119 ≡ 114 = ap third e in omega (arith, wrong)
+alone_not_valued Workers Split v e = let wrong : 119 ≡ 115 = ap third e in omega (arith, wrong)
+alone_not_valued Reducers Workers v e = let wrong : 114 ≡ 119 = ap third e in omega (arith, wrong)
+alone_not_valued Reducers Reducers v e = let wrong = ap length e in omega (arith, wrong)
+alone_not_valued Reducers Split v e = let wrong : 114 ≡ 115 = ap third e in omega (arith, wrong)
+alone_not_valued Split Workers v e = let wrong : 115 ≡ 119 = ap third e in omega (arith, wrong)
+alone_not_valued Split Reducers v e = let wrong : 115 ≡ 114 = ap third e in omega (arith, wrong)
+alone_not_valued Split Split v e = let wrong = ap length e in omega (arith, wrong)
 
 same_valued : (s t : Setting) (v w : Word) → option_word s ++ 61 ∷ v ≡ option_word t ++ 61 ∷ w → (s ≡ t) × (v ≡ w)
-same_valued Workers Workers v w e = (refl, cc)
-same_valued Workers Reducers v w e = absurd (cc)
-same_valued Workers Split v w e = absurd (cc)
-same_valued Reducers Workers v w e = absurd (cc)
-same_valued Reducers Reducers v w e = (refl, cc)
-same_valued Reducers Split v w e = absurd (cc)
-same_valued Split Workers v w e = absurd (cc)
-same_valued Split Reducers v w e = absurd (cc)
-same_valued Split Split v w e = (refl, cc)
+same_valued Workers Workers v w e = (refl, ap (drop 10) e)
+same_valued Workers Reducers v w e = absurd (let wrong : 119 ≡ 114 = ap third e in omega (arith, wrong))
+same_valued Workers Split v w e = absurd (let wrong : 119 ≡ 115 = ap third e in omega (arith, wrong))
+same_valued Reducers Workers v w e = absurd (let wrong : 114 ≡ 119 = ap third e in omega (arith, wrong))
+same_valued Reducers Reducers v w e = (refl, ap (drop 11) e)
+same_valued Reducers Split v w e = absurd (let wrong : 114 ≡ 115 = ap third e in omega (arith, wrong))
+same_valued Split Workers v w e = absurd (let wrong : 115 ≡ 119 = ap third e in omega (arith, wrong))
+same_valued Split Reducers v w e = absurd (let wrong : 115 ≡ 114 = ap third e in omega (arith, wrong))
+same_valued Split Split v w e = (refl, ap (drop 8) e)
 
 -- ---- what words give, or that they give nothing
 
@@ -152,40 +156,40 @@ none_decided None = inl refl
 none_decided (Some x) = inr (λ e. cc)
 
 -- a word that is no option
-module _ (g : Given) (word : Word) (rest : List Word) (h : is_dashed word ≡ false) where
-  no_operand : g.operand ≢ None → (end : Given) → Gives g (word ∷ rest) end → ⊥
-  no_operand given end (operand _ none _) = given none
-  no_operand given end (joined s v is _ _ _) = not_plain h is (dashed_valued s v)
-  no_operand given end (apart s is _ _ _) = not_plain h is (dashed_alone s)
-  no_operand given end (dashes is) = not_plain h is refl
-  no_operand given end (operand_last is _) = not_plain h is refl
+module _ (g : Given) (word : Word) (h : is_dashed word ≡ false) where
+  no_operand : g.operand ≢ None → (rest : List Word) (end : Given) → Gives g (word ∷ rest) end → ⊥
+  no_operand given rest end (operand _ none _) = given none
+  no_operand given rest end (joined s v is _ _ _) = not_plain h is (dashed_valued s v)
+  no_operand given _ end (apart s is _ _ _) = not_plain h is (dashed_alone s)
+  no_operand given _ end (dashes is) = not_plain h is refl
+  no_operand given _ end (operand_last is _) = not_plain h is refl
 
-  no_more : ((end : Given) → Gives (with_operand word g) rest end → ⊥) → (end : Given) → Gives g (word ∷ rest) end → ⊥
-  no_more later end (operand _ none more) = later end more
-  no_more later end (joined s v is _ _ _) = not_plain h is (dashed_valued s v)
-  no_more later end (apart s is _ _ _) = not_plain h is (dashed_alone s)
-  no_more later end (dashes is) = not_plain h is refl
-  no_more later end (operand_last is _) = not_plain h is refl
+  no_more : (rest : List Word) → ((end : Given) → Gives (with_operand word g) rest end → ⊥) → (end : Given) → Gives g (word ∷ rest) end → ⊥
+  no_more rest later end (operand _ none more) = later end more
+  no_more rest later end (joined s v is _ _ _) = not_plain h is (dashed_valued s v)
+  no_more _ later end (apart s is _ _ _) = not_plain h is (dashed_alone s)
+  no_more _ later end (dashes is) = not_plain h is refl
+  no_more _ later end (operand_last is _) = not_plain h is refl
 
-  by_plain : Decided (with_operand word g) rest → Decided g (word ∷ rest)
-  by_plain later = elim (none_decided g.operand) [
-    | inr given ↦ inr (no_operand given)
+  by_plain : (rest : List Word) → Decided (with_operand word g) rest → Decided g (word ∷ rest)
+  by_plain rest later = elim (none_decided g.operand) [
+    | inr given ↦ inr (no_operand given rest)
     | inl none ↦ elim later [
       | inl gives ↦ inl (gives.0, operand h none gives.1)
-      | inr nothing ↦ inr (no_more nothing)
+      | inr nothing ↦ inr (no_more rest nothing)
     ]
   ]
 
 -- `--`
 module _ (g : Given) (word : Word) (h : word ≡ codes "--") where
   no_last : (x : Word) → g.operand ≢ None → (end : Given) → Gives g (word ∷ x ∷ []) end → ⊥
-  no_last x given end (operand plain _ _) = not_plain plain h refl
+  no_last x given end (operand flat _ _) = not_plain flat h refl
   no_last x given end (joined s v is _ _ _) = not_dashes_valued s v (sym h ∙ is)
   no_last x given end (apart s is _ _ _) = not_dashes_alone s (sym h ∙ is)
   no_last x given end (operand_last _ none) = given none
 
   too_many_words : (x y : Word) (rest : List Word) (end : Given) → Gives g (word ∷ x ∷ y ∷ rest) end → ⊥
-  too_many_words x y rest end (operand plain _ _) = not_plain plain h refl
+  too_many_words x y rest end (operand flat _ _) = not_plain flat h refl
   too_many_words x y rest end (joined s v is _ _ _) = not_dashes_valued s v (sym h ∙ is)
   too_many_words x y rest end (apart s is _ _ _) = not_dashes_alone s (sym h ∙ is)
 
@@ -200,13 +204,13 @@ module _ (g : Given) (word : Word) (h : word ≡ codes "--") where
 -- `--name`
 module _ (g : Given) (word : Word) (s : Setting) (h : word ≡ option_word s) where
   no_word_left : (end : Given) → Gives g (word ∷ []) end → ⊥
-  no_word_left end (operand plain _ _) = not_plain plain h (dashed_alone s)
+  no_word_left end (operand flat _ _) = not_plain flat h (dashed_alone s)
   no_word_left end (joined t v is _ _ _) = alone_not_valued s t v (sym h ∙ is)
   no_word_left end (dashes is) = not_dashes_alone s (sym is ∙ h)
 
   -- what its value has to be
   behind_name : (value : Word) (rest : List Word) (end : Given) → Gives g (word ∷ value ∷ rest) end → IsValue value × (value_of s g ≡ None) × Gives (with_value s value g) rest end
-  behind_name value rest end (operand plain _ _) = absurd (not_plain plain h (dashed_alone s))
+  behind_name value rest end (operand flat _ _) = absurd (not_plain flat h (dashed_alone s))
   behind_name value rest end (joined t v is _ _ _) = absurd (alone_not_valued s t v (sym h ∙ is))
   behind_name value rest end (apart t is isv none more) =
       let same : t ≡ s = same_alone t s (sym is ∙ h) in
@@ -226,44 +230,44 @@ module _ (g : Given) (word : Word) (s : Setting) (h : word ≡ option_word s) wh
   ]
 
 -- `--name=value`
-module _ (g : Given) (word : Word) (rest : List Word) (s : Setting) (value : Word) (h : word ≡ option_word s ++ 61 ∷ value) where
-  in_word : (end : Given) → Gives g (word ∷ rest) end → IsValue value × (value_of s g ≡ None) × Gives (with_value s value g) rest end
-  in_word end (operand plain _ _) = absurd (not_plain plain h (dashed_valued s value))
-  in_word end (joined t v is isv none more) =
+module _ (g : Given) (word : Word) (s : Setting) (value : Word) (h : word ≡ option_word s ++ 61 ∷ value) where
+  in_word : (rest : List Word) (end : Given) → Gives g (word ∷ rest) end → IsValue value × (value_of s g ≡ None) × Gives (with_value s value g) rest end
+  in_word rest end (operand flat _ _) = absurd (not_plain flat h (dashed_valued s value))
+  in_word rest end (joined t v is isv none more) =
       let same = same_valued t s v value (sym is ∙ h) in
       (subst IsValue same.1 isv, subst (λ u. value_of u g ≡ None) same.0 none, subst (λ w. Gives (with_value s w g) rest end) same.1 (subst (λ u. Gives (with_value u v g) rest end) same.0 more))
-  in_word end (apart t is _ _ _) = absurd (alone_not_valued t s value (sym is ∙ h))
-  in_word end (dashes is) = absurd (not_dashes_valued s value (sym is ∙ h))
-  in_word end (operand_last is _) = absurd (not_dashes_valued s value (sym is ∙ h))
+  in_word _ end (apart t is _ _ _) = absurd (alone_not_valued t s value (sym is ∙ h))
+  in_word _ end (dashes is) = absurd (not_dashes_valued s value (sym is ∙ h))
+  in_word _ end (operand_last is _) = absurd (not_dashes_valued s value (sym is ∙ h))
 
-  by_valued : Decided (with_value s value g) rest → Decided g (word ∷ rest)
-  by_valued later = elim (value_decided value) [
-    | inr other ↦ inr (λ end gives. other (in_word end gives).0)
+  by_valued : (rest : List Word) → Decided (with_value s value g) rest → Decided g (word ∷ rest)
+  by_valued rest later = elim (value_decided value) [
+    | inr other ↦ inr (λ end gives. other (in_word rest end gives).0)
     | inl isv ↦ elim (none_decided (value_of s g)) [
-      | inr given ↦ inr (λ end gives. given (in_word end gives).1)
+      | inr given ↦ inr (λ end gives. given (in_word rest end gives).1)
       | inl none ↦ elim later [
         | inl gives ↦ inl (gives.0, joined s value h isv none gives.1)
-        | inr nothing ↦ inr (λ end gives. nothing end (in_word end gives).2)
+        | inr nothing ↦ inr (λ end gives. nothing end (in_word rest end gives).2)
       ]
     ]
   ]
 
 -- another word
-nothing_stands : (g : Given) (word : Word) (rest : List Word) → is_dashed word ≡ true → word ≢ codes "--" → ((s : Setting) → word ≢ option_word s) → ((s : Setting) (v : Word) → word ≢ option_word s ++ 61 ∷ v)
-    → (end : Given) → Gives g (word ∷ rest) end → ⊥
-nothing_stands g word rest dashed other name value end (operand plain _ _) = let wrong = sym plain ∙ dashed in cc
-nothing_stands g word rest dashed other name value end (joined s v is _ _ _) = value s v is
-nothing_stands g word rest dashed other name value end (apart s is _ _ _) = name s is
-nothing_stands g word rest dashed other name value end (dashes is) = other is
-nothing_stands g word rest dashed other name value end (operand_last is _) = other is
+nothing_stands : (g : Given) (word : Word) → is_dashed word ≡ true → word ≢ codes "--" → ((s : Setting) → word ≢ option_word s) → ((s : Setting) (v : Word) → word ≢ option_word s ++ 61 ∷ v)
+    → (rest : List Word) (end : Given) → Gives g (word ∷ rest) end → ⊥
+nothing_stands g word dashed other name value rest end (operand flat _ _) = let wrong = sym flat ∙ dashed in cc
+nothing_stands g word dashed other name value rest end (joined s v is _ _ _) = value s v is
+nothing_stands g word dashed other name value _ end (apart s is _ _ _) = name s is
+nothing_stands g word dashed other name value _ end (dashes is) = other is
+nothing_stands g word dashed other name value _ end (operand_last is _) = other is
 
 by_look : (g : Given) (word : Word) (rest : List Word) → Look word → ((h : Given) → Decided h rest) → ((value : Word) (more : List Word) → rest ≡ value ∷ more → (h : Given) → Decided h more) → Decided g (word ∷ rest)
-by_look g word rest (plain h) one two = by_plain g word rest h (one (with_operand word g))
+by_look g word rest (plain h) one two = by_plain g word h rest (one (with_operand word g))
 by_look g word rest (both_dashes h) one two = by_dashes g word h rest
 by_look g word [] (alone s h) one two = inr (no_word_left g word s h)
 by_look g word (value ∷ more) (alone s h) one two = by_alone g word s h value more (two value more refl (with_value s value g))
-by_look g word rest (valued s v h) one two = by_valued g word rest s v h (one (with_value s v g))
-by_look g word rest (strange dashed other name value) one two = inr (nothing_stands g word rest dashed other name value)
+by_look g word rest (valued s v h) one two = by_valued g word s v h rest (one (with_value s v g))
+by_look g word rest (strange dashed other name value) one two = inr (nothing_stands g word dashed other name value rest)
 
 none_left : (g : Given) → Decided g []
 none_left g = inl (g, finished)

@@ -9,13 +9,15 @@ use Rattle.pig_run.proofs.top.pig_main.Goals as goal
 pub returns-in-Ok-clause-answer : goal.returns-in-Ok-clause-answer
 returns-in-Ok-clause-answer g c s told =
     let host = c.index_mut.result.now in
-    let well : EndedWell (line_of c.args.hosts.now.items c.args.words.now) s (g.H.Host.inputs host) (g.D.Depot.shelf c.run.new.depot) c.in-Ok.counts = c.in-Ok.ensures.told s told in
+    let well : EndedWell (line_of c.args.hosts.now.items c.args.words.now) s (g.H.Host.inputs host) (g.D.Depot.shelf c.run.new.depot) c.in-Ok.counts =
+    subst (λ n. EndedWell (record { hosts = n; words = c.args.words.now }) s (g.H.Host.inputs host) (g.D.Depot.shelf c.run.new.depot) c.in-Ok.counts) (search rules) (c.in-Ok.ensures.told s told) in
     answers_none (line_of c.args.hosts.now.items c.args.words.now) s (g.H.Host.inputs host) (g.D.Depot.shelf c.args.depot.now) (g.D.Depot.shelf c.run.new.depot) c.in-Ok.counts told well
 
 pub returns-in-Ok-clause-done : goal.returns-in-Ok-clause-done
 returns-in-Ok-clause-done g c s told form pieces due tell none =
     let host = c.index_mut.result.now in
-    let well : EndedWell (line_of c.args.hosts.now.items c.args.words.now) s (g.H.Host.inputs host) (g.D.Depot.shelf c.run.new.depot) c.in-Ok.counts = c.in-Ok.ensures.told s told in
+    let well : EndedWell (line_of c.args.hosts.now.items c.args.words.now) s (g.H.Host.inputs host) (g.D.Depot.shelf c.run.new.depot) c.in-Ok.counts =
+    subst (λ n. EndedWell (record { hosts = n; words = c.args.words.now }) s (g.H.Host.inputs host) (g.D.Depot.shelf c.run.new.depot) c.in-Ok.counts) (search rules) (c.in-Ok.ensures.told s told) in
     let value : slice_index_or c.args.hosts.now.items 0 host ≡ host = search rules in
     let some : 0 < length c.args.hosts.now.items = search rules in
     let tells : Tells (g.H.Host.inputs host) = subst (λ h. Tells (g.H.Host.inputs h)) value (tell 0 host some) in
@@ -23,19 +25,22 @@ returns-in-Ok-clause-done g c s told form pieces due tell none =
 
 pub returns-in-Err-clause-answer : goal.returns-in-Err-clause-answer
 returns-in-Err-clause-answer g c s told =
-    let broke : RefusedBefore (line_of c.args.hosts.now.items c.args.words.now) s (g.D.Depot.shelf c.run.new.depot) c.in-Err.fault ⊎ BrokeOff (line_of c.args.hosts.now.items c.args.words.now) s (g.D.Depot.shelf c.run.new.depot) c.in-Err.fault = c.in-Err.ensures.told s told in
+    let broke : RefusedBefore (line_of c.args.hosts.now.items c.args.words.now) s (g.D.Depot.shelf c.run.new.depot) c.in-Err.fault ⊎ BrokeOff (line_of c.args.hosts.now.items c.args.words.now) s (g.D.Depot.shelf c.run.new.depot) c.in-Err.fault =
+    subst (λ n. RefusedBefore (record { hosts = n; words = c.args.words.now }) s (g.D.Depot.shelf c.run.new.depot) c.in-Err.fault ⊎ BrokeOff (record { hosts = n; words = c.args.words.now }) s (g.D.Depot.shelf c.run.new.depot) c.in-Err.fault) (search rules) (c.in-Err.ensures.told s told) in
     answers_fault (line_of c.args.hosts.now.items c.args.words.now) s (g.D.Depot.shelf c.args.depot.now) (g.D.Depot.shelf c.run.new.depot) c.in-Err.fault told broke
 
 pub returns-in-Err-clause-state : goal.returns-in-Err-clause-state
 returns-in-Err-clause-state g c s told =
-    let broke : RefusedBefore (line_of c.args.hosts.now.items c.args.words.now) s (g.D.Depot.shelf c.run.new.depot) c.in-Err.fault ⊎ BrokeOff (line_of c.args.hosts.now.items c.args.words.now) s (g.D.Depot.shelf c.run.new.depot) c.in-Err.fault = c.in-Err.ensures.told s told in
+    let broke : RefusedBefore (line_of c.args.hosts.now.items c.args.words.now) s (g.D.Depot.shelf c.run.new.depot) c.in-Err.fault ⊎ BrokeOff (line_of c.args.hosts.now.items c.args.words.now) s (g.D.Depot.shelf c.run.new.depot) c.in-Err.fault =
+    subst (λ n. RefusedBefore (record { hosts = n; words = c.args.words.now }) s (g.D.Depot.shelf c.run.new.depot) c.in-Err.fault ⊎ BrokeOff (record { hosts = n; words = c.args.words.now }) s (g.D.Depot.shelf c.run.new.depot) c.in-Err.fault) (search rules) (c.in-Err.ensures.told s told) in
     leaves (line_of c.args.hosts.now.items c.args.words.now) s (g.D.Depot.shelf c.args.depot.now) (g.D.Depot.shelf c.run.new.depot) c.in-Err.fault told broke
 
 pub returns-in-Err-clause-complete : goal.returns-in-Err-clause-complete
 returns-in-Err-clause-complete g c s told form pieces due sound hosted =
     let old = g.D.Depot.shelf c.args.depot.now in
     let new = g.D.Depot.shelf c.run.new.depot in
-    let broke : RefusedBefore (line_of c.args.hosts.now.items c.args.words.now) s new c.in-Err.fault ⊎ BrokeOff (line_of c.args.hosts.now.items c.args.words.now) s new c.in-Err.fault = c.in-Err.ensures.told s told in
+    let broke : RefusedBefore (line_of c.args.hosts.now.items c.args.words.now) s new c.in-Err.fault ⊎ BrokeOff (line_of c.args.hosts.now.items c.args.words.now) s new c.in-Err.fault =
+    subst (λ n. RefusedBefore (record { hosts = n; words = c.args.words.now }) s new c.in-Err.fault ⊎ BrokeOff (record { hosts = n; words = c.args.words.now }) s new c.in-Err.fault) (search rules) (c.in-Err.ensures.told s told) in
     let depot : (store : Option ℕ) → c.in-Err.fault ≡ fault.DepotFault store → FailedRose (g.D.Depot.faults c.args.depot.now) (g.D.Depot.faults c.run.new.depot) = search rules in
     let host : c.in-Err.fault ≡ fault.HostFault → FailedRose (first_of g.H.Host.faults c.args.hosts.now.items) (first_of g.H.Host.faults (slice_set c.args.hosts.now.items 0 c.run.new.host)) = search rules in
     inr (ap (λ f. Some f) (completes c.in-Err.fault form pieces (FailedRose (g.D.Depot.faults c.args.depot.now) (g.D.Depot.faults c.run.new.depot))
