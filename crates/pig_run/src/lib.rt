@@ -14,9 +14,7 @@ mod words;
 #[cfg(test)]
 mod words_tests;
 
-pub use first_form::{
-    FieldType, FirstForm, FormField, FormFields, Literal, one_first_form,
-};
+pub use first_form::{FieldType, FirstForm, FormField, FormFields, Literal, one_first_form};
 pub use outcome::{Counts, Outcome, RunFault, TooLarge};
 pub use top::{one_verdict, pig_main};
 pub use words::{Command, Verb, one_command, read_words};
