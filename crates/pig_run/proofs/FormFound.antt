@@ -1,8 +1,8 @@
 -- The code finds the first form exactly where it stands.
-use Rattle.std.proofs.Common.{◌≡◌, ℕ, pos, negsuc, ◌≤◌, ◌≢◌, List, [], ◌∷◌, Bool, true, false, cond, refl, sym, ap, ◌∙◌, subst, length, map, arith}
-use Rattle.std.specs.Prelude.{◌+◌, Option, Some, None, position, option_map, option_and_then, codes, get_or, ◌==◌, ◌&&◌, nat_le, slice_get, bytes_eq, MatchOption, IfOk, Result, Ok, Err}
+use Rattle.std.proofs.Common.{◌≡◌, ℕ, pos, negsuc, ◌≤◌, List, [], ◌∷◌, true, cond, refl, sym, ap, ◌∙◌, subst, length, map}
+use Rattle.std.specs.Prelude.{◌+◌, Option, Some, None, position, option_map, option_and_then, codes, get_or, ◌==◌, ◌&&◌, nat_le, slice_get, bytes_eq, MatchOption}
 use Rattle.std.specs.Char.{is_ascii_lowercase}
-use Rattle.std.specs.Cmp.Lexicographic.{same_text, other_text}
+use Rattle.std.specs.Cmp.Lexicographic.{other_text}
 use Rattle.std.specs.List.{filter, list_all, IsDistinct}
 use Rattle.std.proofs.lemmas.Slice.Eq.{bytes_eq-Decides}
 use Rattle.pig_value.specs.declared.shared.Rel.{Rel}
@@ -14,7 +14,6 @@ use Rattle.pig_syntax.specs.declared.trees.Expr.TheViews.{out-Expr, roll-Expr, r
 use Rattle.pig_syntax.specs.declared.trees.FieldRef.TheVariants as ref
 use Rattle.pig_syntax.specs.declared.trees.FieldTree.{FieldTree}
 use Rattle.pig_syntax.specs.declared.trees.Link.{Link}
-use Rattle.pig_syntax.specs.declared.trees.Op.{Op}
 use Rattle.pig_syntax.specs.declared.trees.Op.TheVariants as op
 use Rattle.pig_syntax.specs.declared.trees.Stmt.{Stmt}
 use Rattle.pig_syntax.specs.declared.trees.Stmt.TheVariants as stmt

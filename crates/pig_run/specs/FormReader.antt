@@ -1,6 +1,6 @@
 -- What each part of the code that recognises the first form finds in its tree; nothing where another tree stands there. `IsFirstForm`
 -- says what the first form is.
-use Rattle.std.specs.Prelude.{◌+◌, ℕ, ℤ, pos, negsuc, Bool, true, false, not, ◌&&◌, ◌==◌, nat_le, List, [], ◌∷◌, length, codes, Option, Some, None, option_map, option_and_then, slice_get, position, bytes_eq, if◌then◌else◌}
+use Rattle.std.specs.Prelude.{◌+◌, ℕ, ℤ, pos, negsuc, Bool, true, false, ◌&&◌, ◌==◌, nat_le, List, [], ◌∷◌, length, codes, Option, Some, None, option_and_then, slice_get, position, bytes_eq, if◌then◌else◌}
 use Rattle.std.specs.Char.{is_ascii_lowercase}
 use Rattle.std.specs.List.{list_all, list_any}
 use Rattle.pig_value.specs.declared.shared.Rel.{Rel}
