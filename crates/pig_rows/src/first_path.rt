@@ -181,7 +181,7 @@ fn refuses_in_order(rt: HostRuntime) -> Result<(), Fail> {
         (
             ["run", "s"].as_slice(),
             arrow.as_str(),
-            "3 the script is of no form that is built yet: none",
+            "3 statement 2 is off the grammar: none",
         ),
         (
             ["run", "s"].as_slice(),
@@ -204,9 +204,9 @@ fn each_failing_call_has_its_answer(rt: HostRuntime) -> Result<(), Fail> {
         (Method::Pieces, "6 the depot failed: none"),
         (Method::Exists, "6 the depot failed: none"),
         (Method::Read, "7 the host failed: none"),
-        (Method::Create, "6 the depot failed: none"),
-        (Method::Put, "6 the depot failed: open"),
-        (Method::Finish, "6 the depot failed: open 5\n"),
+        (Method::Create, "6 the depot failed, store 3: none"),
+        (Method::Put, "6 the depot failed, store 3: open"),
+        (Method::Finish, "6 the depot failed, store 3: open 5\n"),
         (Method::Begin, "0 read 1 stored 1: whole 5\n"),
         (Method::Write, "0 read 1 stored 1: whole 5\n"),
     ] {

@@ -5,4 +5,6 @@
 #[cfg(test)]
 mod first_path;
 #[cfg(test)]
+mod scripts;
+#[cfg(test)]
 mod setting;
