@@ -17,6 +17,8 @@ mod operators;
 mod parsing;
 mod parts;
 mod reading;
+#[cfg(test)]
+mod script_tests;
 mod statements;
 #[cfg(test)]
 mod tests;

@@ -1,4 +1,5 @@
 ghost use Rattle.std.specs.Prelude.{◌≡◌, [], ◌∷◌, Some, IfOk, length, map};
+ghost use Rattle.pig_syntax.specs.declared.tokens.TokenForm.TheVariants as f;
 ghost use Rattle.pig_parser.specs.Grammar.{Forms};
 ghost use Rattle.pig_parser.specs.Statements.{side_of};
 ghost use Rattle.pig_parser.specs.Reader.{forms, Gives, Leaves};
@@ -463,74 +464,30 @@ pub fn operator(alloc: Global, tokens: &[Token]) -> Result<(Op, &[Token]), Parse
     match tokens {
         [
             Token {
-                form: TokenForm::Keyword(Keyword::Load),
+                form: TokenForm::Keyword(word),
                 ..
             },
             rest @ ..,
-        ] => load(alloc, rest),
-        [
-            Token {
-                form: TokenForm::Keyword(Keyword::Filter),
-                ..
-            },
-            rest @ ..,
-        ] => filter(alloc, rest),
-        [
-            Token {
-                form: TokenForm::Keyword(Keyword::Foreach),
-                ..
-            },
-            rest @ ..,
-        ] => foreach(alloc, rest),
-        [
-            Token {
-                form: TokenForm::Keyword(Keyword::Group),
-                ..
-            },
-            rest @ ..,
-        ] => group(alloc, rest),
-        [
-            Token {
-                form: TokenForm::Keyword(Keyword::Cogroup),
-                ..
-            },
-            rest @ ..,
-        ] => group(alloc, rest),
-        [
-            Token {
-                form: TokenForm::Keyword(Keyword::Join),
-                ..
-            },
-            rest @ ..,
-        ] => join(alloc, rest),
-        [
-            Token {
-                form: TokenForm::Keyword(Keyword::Union),
-                ..
-            },
-            rest @ ..,
-        ] => union(alloc, rest),
-        [
-            Token {
-                form: TokenForm::Keyword(Keyword::Distinct),
-                ..
-            },
-            rest @ ..,
-        ] => distinct(alloc, rest),
-        [
-            Token {
-                form: TokenForm::Keyword(Keyword::Order),
-                ..
-            },
-            rest @ ..,
-        ] => order(alloc, rest),
-        [
-            Token {
-                form: TokenForm::Keyword(Keyword::Limit),
-                ..
-            },
-            rest @ ..,
-        ] => limit(alloc, rest),
+        ] => operator_of(alloc, *word, rest),
+        _ => Err(ParseFault::Off),
+    }
+}
+
+// The operator that begins with the word, behind it.
+#[tactic(auto, unfolding(crate::specs::StatementReader::op_at))]
+fn operator_of(alloc: Global, word: Keyword, tokens: &[Token]) -> Result<(Op, &[Token]), ParseFault>
+    ensures { Gives (op_at 65 (f.Keyword word ∷ forms tokens.now)) result }
+{
+    match word {
+        Keyword::Load => load(alloc, tokens),
+        Keyword::Filter => filter(alloc, tokens),
+        Keyword::Foreach => foreach(alloc, tokens),
+        Keyword::Group | Keyword::Cogroup => group(alloc, tokens),
+        Keyword::Join => join(alloc, tokens),
+        Keyword::Union => union(alloc, tokens),
+        Keyword::Distinct => distinct(alloc, tokens),
+        Keyword::Order => order(alloc, tokens),
+        Keyword::Limit => limit(alloc, tokens),
         _ => Err(ParseFault::Off),
     }
 }

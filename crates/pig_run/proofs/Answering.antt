@@ -27,7 +27,7 @@ ready_lengths words s plan ready i same = record { pieces = ready.pieces; there 
 ready_due : (words : CommandLine) (s : Shelf) (plan : Plan) (ready : IsReady words s plan) → IsDue words s (Runs plan.form ready.pieces)
 ready_due words s plan ready = runs ready.scripted.words_are ready.scripted.script_is.there ready.scripted.script_is.is ready.there ready.absent
 
-left_by_run : (f : RunFault) (form : FirstForm) (pieces : List (List ℕ)) (old new : Option Shelf) → IsRunStep f → LeftOpen form.output old new
+left_by_run : (f : RunFault) (form : FirstForm) (pieces : List (List ℕ)) (old new : Option Shelf) → IsRunStep form.store f → LeftOpen form.output old new
     → (f ≡ fault.HostFault → new ≡ old) → Leaves f (Runs form pieces) old new
 left_by_run fault.Usage form pieces old new step left host = absurd step
 left_by_run fault.NoScript form pieces old new step left host = absurd step
@@ -46,7 +46,7 @@ left_by_run fault.OutOfMemory form pieces old new step left host = left
 pub run_told : (words : CommandLine) (s : Shelf) (inputs : Option (List Input)) (old new : Option Shelf) (plan : Plan) (ready : IsReady words s plan) (r : Result Counts RunFault)
     → old ≡ Some s → TellsOf old inputs
     → ForSome inputs (λ i. (pieces : List (List ℕ)) → pieces_of plan.form.input i ≡ Some pieces → IfOk r (IsRun plan.form pieces old new))
-    → OnErr r (LeftOpen plan.form.output old new) → IfErr r (λ f. f ≡ fault.HostFault → new ≡ old) → IfErr r IsRunStep → IsTold words s inputs new r
+    → OnErr r (LeftOpen plan.form.output old new) → IfErr r (λ f. f ≡ fault.HostFault → new ≡ old) → IfErr r (IsRunStep plan.form.store) → IsTold words s inputs new r
 run_told words s inputs old new plan ready (Ok counts) told tells done left host step = record {
   form = plan.form;
   pieces = ready.pieces;
@@ -77,18 +77,18 @@ module _ (words : CommandLine) (s : Shelf) (inputs : Option (List Input)) (old n
       (subst (λ f. IsRun f pieces (Some s) new counts) forms (subst (λ ps. IsRun well.form ps (Some s) new counts) lists (well.done tells)))
 
 -- a device or want of memory may end a run
-free_step : (f : RunFault) → IsRunStep f → IsFree f
-free_step fault.Usage step = step
-free_step fault.NoScript step = step
-free_step (fault.Lex offset) step = step
-free_step (fault.Syntax statement) step = step
-free_step (fault.TooLarge which) step = step
-free_step fault.NotYet step = step
-free_step (fault.NoInput path) step = step
-free_step (fault.OutputExists dir) step = step
-free_step (fault.DepotFault store) step = tt
-free_step fault.HostFault step = tt
-free_step fault.OutOfMemory step = tt
+free_step : (n : ℕ) (f : RunFault) → IsRunStep n f → IsFree f
+free_step n fault.Usage step = step
+free_step n fault.NoScript step = step
+free_step n (fault.Lex offset) step = step
+free_step n (fault.Syntax statement) step = step
+free_step n (fault.TooLarge which) step = step
+free_step n fault.NotYet step = step
+free_step n (fault.NoInput path) step = step
+free_step n (fault.OutputExists dir) step = step
+free_step n (fault.DepotFault store) step = tt
+free_step n fault.HostFault step = tt
+free_step n fault.OutOfMemory step = tt
 
 free_before : (f : RunFault) → IsDepotStep f → IsFree f
 free_before fault.Usage step = step
@@ -152,7 +152,7 @@ module _ (words : CommandLine) (s : Shelf) (old new : Option Shelf) (f : RunFaul
     | inl is ↦ answer_of v f (inl (one_due words s v (Refused f) due is))
     | inr step ↦ answer_of v f (inr (free_before f step))
   ]
-  answers_fault (inr broke) v due = answer_of v f (inr (free_step f broke.step))
+  answers_fault (inr broke) v due = answer_of v f (inr (free_step broke.form.store f broke.step))
 
   pub leaves : RefusedBefore words s new f ⊎ BrokeOff words s new f → (v : Verdict) → IsDue words s v → Leaves f v old new
   leaves (inl refused) v due = elim refused.is [
@@ -161,6 +161,25 @@ module _ (words : CommandLine) (s : Shelf) (old new : Option Shelf) (f : RunFaul
   ]
   leaves (inr broke) v due =
       subst (λ w. Leaves f w old new) (one_due words s (Runs broke.form broke.pieces) v broke.due due) (subst (λ o. Leaves f (Runs broke.form broke.pieces) o new) (sym told) broke.left)
+
+-- a commit that failed was that of the form's STORE
+named : (n store : ℕ) (f : RunFault) → IsRunStep n f → f ≡ fault.DepotFault (Some store) → store ≡ n
+named n store f step is = let e : IsRunStep n (fault.DepotFault (Some store)) = subst (IsRunStep n) is step in e
+
+not_before : (store : ℕ) (f : RunFault) → IsDepotStep f → f ≡ fault.DepotFault (Some store) → ⊥
+not_before store f step is = let e : IsDepotStep (fault.DepotFault (Some store)) = subst IsDepotStep is step in e
+
+pub store_named : (words : CommandLine) (s : Shelf) (new : Option Shelf) (f : RunFault) → RefusedBefore words s new f ⊎ BrokeOff words s new f
+    → (form : FirstForm) (pieces : List (List ℕ)) → IsDue words s (Runs form pieces) → (store : ℕ) → Some f ≡ Some (fault.DepotFault (Some store)) → store ≡ form.store
+store_named words s new f (inl refused) form pieces due store is = elim refused.is [
+  | inl other ↦ absurd (let e = one_due words s (Refused f) (Runs form pieces) other due in cc)
+  | inr step ↦ absurd (not_before store f step (let same : f ≡ fault.DepotFault (Some store) = cc in same))
+]
+store_named words s new f (inr broke) form pieces due store is =
+    let e = one_due words s (Runs broke.form broke.pieces) (Runs form pieces) broke.due due in
+    let forms : broke.form ≡ form = cc in
+    let same : f ≡ fault.DepotFault (Some store) = cc in
+    named broke.form.store store f broke.step same ∙ ap (λ g. g.store) forms
 
 -- where no device failed, only want of memory can keep a run that is due from its end
 pub completes : (f : RunFault) (form : FirstForm) (pieces : List (List ℕ)) (D H : Type 0) → ((store : Option ℕ) → f ≡ fault.DepotFault store → D) → (f ≡ fault.HostFault → H)

@@ -1,23 +1,21 @@
 -- What clap's answer on the words says of what they give.
-use Rattle.std.proofs.Common.{◌≡◌, ◌≢◌, ◌∙◌, ◌⊎◌, ◌&&◌, ◌||◌, not, ℕ, Bool, cond, codes, true, false, suc, refl, sym, ap, ap₂, subst, List, [], ◌∷◌, map, drop, length, Option, Some, None, is_some, inl, inr, IsUtf8, All, true≢false, arith}
-use Rattle.std.specs.List.{AllByRecursion, fold, list_any}
+use Rattle.std.proofs.Common.{◌≡◌, ◌∙◌, ◌||◌, Bool, cond, codes, true, false, refl, sym, ap, ap₂, subst, List, [], ◌∷◌, map, drop, Option, Some, None, is_some, IsUtf8, All}
+use Rattle.std.specs.List.{fold}
 use Rattle.std.proofs.lemmas.List.Elements.{All-drop, recursion_from_All}
-use Rattle.clap.specs.Walk.{Held, Row, Rule, Walk, finished as with_defaults, first_of, has_row, nothing_held, rows_of, settled, with_default}
-use Rattle.clap.specs.Simple.{App, built, entered, matches_of}
+use Rattle.clap.specs.Walk.{Row, Walk, first_of, has_row, idle, nothing_held, rows_after, rows_of, walked, with_default}
+use Rattle.clap.specs.Simple.{App, entered, matches_of, names_of}
 use Rattle.clap.specs.Takes.{is_given}
 use Rattle.clap.specs.Kinds.{IsAmong, Kinds, or_else}
 use Rattle.clap.specs.Matches.{first_value}
 use Rattle.clap.specs.Faults.{built_fault, check_fault, default_fault, defaults_fault, entered_fault, fault_of, level_fault, settle_fault, walk_fault}
 use Rattle.clap.specs.declared.error.kind.ErrorKind.{ErrorKind}
-use Rattle.clap.specs.declared.error.kind.ErrorKind.TheVariants as kind
 use Rattle.clap.specs.declared.parser.matches.Found.{Found}
 use Rattle.clap.proofs.WalkLemmas.{first_value-rows}
-use Rattle.pig_run.specs.CommandWords.{Given, Gives, Setting, Workers, Reducers, Split, Word, nothing_given}
-use Rattle.pig_run.specs.ClapWords.{AreRead, LackOperand, pig}
+use Rattle.pig_run.specs.CommandWords.{Given, Gives, Workers, Reducers, Split, Word, nothing_given}
+use Rattle.pig_run.specs.ClapWords.{AreRead, AreValues, LackOperand, pig}
 use Rattle.pig_run.proofs.ClapRows.{Slot, Operand, Value, Shows, arg_of, args, at, first_is_given, given_by_places, given_is_given, id_of, pig_is, same_given, shows_none, top}
 use Rattle.pig_run.proofs.ClapTurns.{stand}
-use Rattle.pig_run.proofs.ClapReads.{Comes, Passes, Reaches, Ready, complete, first_none, last_held, last_rows, some_kind, sound, then_none}
-use Rattle.clap.specs.Walk.{idle}
+use Rattle.pig_run.proofs.ClapReads.{Passes, Reaches, Ready, complete, first_none, last_held, last_rows, some_kind, sound, then_none}
 
 abbrev start : Walk
 start = stand [] None idle 1 false
@@ -62,14 +60,14 @@ fault_is : (words : List Word) → fault_of pig words
     ≡ or_else (walk_fault top [] start (drop 1 words)) (or_else (settle_fault args false (last_held start (drop 1 words))) (check_fault top (last_rows start (drop 1 words)) false))
 fault_is words =
     let rest = drop 1 words in
-    let stop = (fold (Rattle.clap.specs.Walk.walked args []) start rest).stopped in
+    let stop = (fold (walked args []) start rest).stopped in
     ap (λ a. built_fault a nothing_held rest) pig_is
     ∙ ap₂ (λ e k. level_fault top [] nothing_held rest (is_some e) k) (entered_nothing stop) (entered_passes stop)
     ∙ ap₂ (λ d r. or_else (walk_fault top [] start rest) (or_else (settle_fault args false (last_held start rest)) (or_else d (check_fault top r false))))
     (defaults_none slots (last_rows start rest)) (defaults_same slots (last_rows start rest))
 
 rows_are : (words : List Word) → matches_of pig words ≡ last_rows start (drop 1 words)
-rows_are words = ap (λ (a : App). Rattle.clap.specs.Walk.rows_after a.top.rules (Rattle.clap.specs.Simple.names_of a) (drop 1 words)) pig_is ∙ defaults_same slots (last_rows start (drop 1 words))
+rows_are words = ap (λ (a : App). rows_after a.top.rules (names_of a) (drop 1 words)) pig_is ∙ defaults_same slots (last_rows start (drop 1 words))
 
 operand_there : (rows : List Row) → is_given (codes "operand") rows ≡ true → check_fault top rows false ≡ []
 operand_there rows e = rw e refl
@@ -104,7 +102,7 @@ are_read words f g utf8 none rows values =
     let comes = sound (drop 1 words) (recursion_from_All IsUtf8 (drop 1 words) (All-drop IsUtf8 1 words utf8)) nothing_given [] None ready (passes words none) in
     let same : (end : Given) → Shows end (last_rows start (drop 1 words)) → end ≡ g = λ end shows. given_by_places end g (λ x. value_found words f end rows shows x ∙ sym (values x)) in
     record {
-      gives = subst (λ e. Rattle.pig_run.specs.ClapWords.AreValues e → Gives nothing_given (drop 1 words) e) (same comes.end comes.shows) comes.gives;
+      gives = subst (λ e. AreValues e → Gives nothing_given (drop 1 words) e) (same comes.end comes.shows) comes.gives;
       only = λ end d. same end (shown_end words end d).shows;
     }
 

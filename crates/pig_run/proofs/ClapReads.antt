@@ -1,17 +1,17 @@
 -- clap passes exactly the words that give something, and finds what they give.
-use Rattle.std.proofs.Common.{◌≡◌, ◌≢◌, ◌∙◌, ◌⊎◌, ◌&&◌, ◌==◌, ◌≤◌, ◌<◌, ℕ, Bool, cond, codes, true, false, suc, refl, sym, ap, ap₂, subst, List, [], ◌∷◌, ◌++◌, length, Option, Some, None, is_some, inl, inr, IsUtf8, true≢false, arith, unwrap_or}
+use Rattle.std.proofs.Common.{◌≡◌, ◌≢◌, ◌∙◌, ◌&&◌, ◌==◌, ℕ, Bool, codes, true, false, suc, refl, sym, ap, ap₂, subst, List, [], ◌∷◌, ◌++◌, length, Option, Some, None, is_some, inl, inr, IsUtf8, true≢false, arith}
 use Rattle.std.specs.Char.{is_ascii_digit}
-use Rattle.std.specs.List.{AllByRecursion, fold, list_all}
+use Rattle.std.specs.List.{AllByRecursion, fold}
 use Rattle.std.specs.Option.{option_map_or}
 use Rattle.std.specs.Str.{bytes_eq}
 use Rattle.std.proofs.lemmas.Bool.Decides.{nat_tests}
-use Rattle.clap.specs.Walk.{Held, Row, Rule, Waiting, Walk, arg_by_id, arg_by_long, has_row, idle, option, settled_rows, used, used_by_id, walked}
+use Rattle.clap.specs.Walk.{Held, Row, Waiting, Walk, arg_by_id, arg_by_long, has_row, idle, option, settled_rows, used, used_by_id, walked}
 use Rattle.clap.specs.Lexer.{long_of}
 use Rattle.clap.specs.Kinds.{Kinds, or_else}
 use Rattle.clap.specs.Faults.{settle_fault, turn_fault, use_fault, walk_fault}
 use Rattle.clap.specs.declared.error.kind.ErrorKind.{ErrorKind}
 use Rattle.clap.specs.declared.error.kind.ErrorKind.TheVariants as kind
-use Rattle.pig_run.specs.CommandWords.{Given, Gives, finished, operand, joined, apart, dashes, operand_last, IsValue, Setting, Workers, Reducers, Split, Word, is_dashed, option_word, value_of, with_operand, with_value}
+use Rattle.pig_run.specs.CommandWords.{Given, Gives, finished, operand, joined, apart, dashes, operand_last, IsValue, Setting, Workers, Reducers, Split, Word, is_dashed, value_of, with_operand, with_value}
 use Rattle.pig_run.specs.ClapWords.{name_of}
 use Rattle.pig_run.proofs.ClapRows.{Slot, Operand, Value, Shows, arg_of, args, at, at_put, id_of, put, row_is_given, same_or_other, shows_put, top, use_fails, use_passes, used_new}
 use Rattle.pig_run.proofs.ClapTurns.{IsPlain, Look, Pending, two_dashes, with_equals, name_alone, one_dash, undashed, alone_long, alone_plain, alone_turn, alone_walked, dashes_turn, dashes_walked, held, joined_long, joined_plain, joined_turn, joined_walked, known, look, lookup, operand_turn, operand_walked, plain_from, plain_met, plain_none, short_turn, stand, stray_turn, trailing_met, trailing_none, unknown_turn, value_turn, value_walked, word_alone, word_joined}
@@ -350,9 +350,8 @@ module _ (word value : Word) (rest : List Word) (sees : Look value) (u : AllByRe
           (rest_of _ _ value rest (value_walked (settled_rows args pending rows) s (place o) value (plain_from value undash)) then))
       go undash None f =
           let stepped = value_walked (settled_rows args pending rows) s (place o) value (plain_from value undash) in
-          let c = comes_value undash f (next (with_value s value g) (settled_rows args pending rows) (Some (name_of s, value ∷ [])) o (keeps_operand s value g ∙ e)
-          (ready_put (Value s) value g (settled_rows args pending rows) r.shows f) (rest_of _ _ value rest stepped then)) in
-          c
+          comes_value undash f (next (with_value s value g) (settled_rows args pending rows) (Some (name_of s, value ∷ [])) o (keeps_operand s value g ∙ e)
+          (ready_put (Value s) value g (settled_rows args pending rows) r.shows f) (rest_of _ _ value rest stepped then))
 
       at_value : Look value → Comes g (stand rows pending idle (place o) false) (word ∷ value ∷ rest)
       at_value (two_dashes same) = absurd (stopped_behind rest (settled_rows args pending rows) (waits s) (option (name_of s)) o lacks

@@ -1,6 +1,5 @@
 -- What one word does to clap's walk over the words.
-use Rattle.std.proofs.Common.{◌≡◌, ◌≢◌, ◌∙◌, ◌⊎◌, ◌&&◌, ◌||◌, ◌==◌, ◌+◌, ◌<◌, ℕ, Bool, cond, codes, true, false, zero, suc, refl, sym, ap, ap₂, subst, List, [], ◌∷◌, ◌++◌, length, Option, Some, None, is_some, inl, inr, IsUtf8, chars, encode_utf8, encode_utf8_all, true≢false, arith, eqb-true}
-use Rattle.std.specs.List.{fold}
+use Rattle.std.proofs.Common.{◌≡◌, ◌∙◌, ◌⊎◌, ◌&&◌, ◌||◌, ◌==◌, ℕ, Bool, cond, codes, true, false, zero, suc, refl, sym, ap, ap₂, subst, List, [], ◌∷◌, ◌++◌, length, Option, Some, None, inl, inr, IsUtf8, chars, encode_utf8_all, arith, eqb-true}
 use Rattle.std.specs.Str.{bytes_eq}
 use Rattle.std.specs.Prelude.{slice_get}
 use Rattle.std.proofs.lemmas.Str.{IsUtf8-past_char, encodes-chars, encode_ascii}
@@ -10,13 +9,13 @@ use Rattle.clap.specs.Lexer.{long_of, name_and_value, short_of}
 use Rattle.clap.specs.Walk.{Held, Row, Step, Text, Waiting, Walk, Rule, after_flag, after_step, arg_by_long, idle, long_met, long_or_other, option_met, is_pending, plain_word, pushed, settled, short_or_plain, option, positional, settled_rows, subcommand_met, subcommand_or_other, used, walked, word_met}
 use Rattle.clap.specs.Kinds.{Kinds, or_else}
 use Rattle.std.specs.Option.{option_map_or}
-use Rattle.clap.specs.Faults.{bundle_fault, bundle_step_fault, long_fault, flag_word_fault, flags_fault, other_fault, settle_fault, step_fault, turn_fault, use_fault, walk_fault, word_fault}
+use Rattle.clap.specs.Faults.{bundle_fault, bundle_step_fault, long_fault, flag_word_fault, flags_fault, other_fault, settle_fault, step_fault, turn_fault, use_fault, word_fault}
 use Rattle.clap.specs.declared.error.kind.ErrorKind.TheVariants as kind
 use Rattle.clap.proofs.CutLemmas.{Lacks}
 use Rattle.clap.proofs.LexerLemmas.{name_and_value-at, name_and_value-without}
 use Rattle.pig_run.specs.CommandWords.{Setting, Workers, Reducers, Split, Word, is_dashed, option_word}
 use Rattle.pig_run.specs.ClapWords.{name_of}
-use Rattle.pig_run.proofs.ClapRows.{Slot, Operand, Value, arg_of, args, id_of, top}
+use Rattle.pig_run.proofs.ClapRows.{Operand, Value, arg_of, args, top}
 
 -- ---- what a word looks like
 

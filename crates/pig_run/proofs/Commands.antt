@@ -1,10 +1,10 @@
 -- How what was given makes a command, and that words are at most one.
-use Rattle.std.proofs.Common.{◌≡◌, ◌∙◌, ◌==◌, ◌≤◌, ℕ, Bool, cond, true, false, refl, sym, ap, subst, List, [], ◌∷◌, length, drop, min, Option, Some, None, is_some, option_and_then, true≢false, unwrap_or, slice_index_or, inl, inr}
+use Rattle.std.proofs.Common.{◌≡◌, ◌∙◌, ◌==◌, ◌≤◌, ℕ, cond, true, refl, sym, ap, subst, List, [], ◌∷◌, length, drop, min, Option, Some, None, is_some, option_and_then, true≢false, unwrap_or, slice_index_or}
 use Rattle.std.specs.Str.Parse.{digits_value}
 use Rattle.pig_run.specs.declared.words.Command.{Command}
 use Rattle.pig_run.specs.declared.words.Verb.{Verb}
 use Rattle.pig_run.specs.declared.words.Verb.TheVariants as verbs
-use Rattle.pig_run.specs.CommandWords.{Given, Gives, finished, operand, joined, apart, dashes, operand_last, IsCommand, IsCount, IsSet, IsValue, Makes, Setting, Workers, Reducers, Split, Word, nothing_given, value_of, verb_word, with_operand, with_value}
+use Rattle.pig_run.specs.CommandWords.{Given, Gives, finished, operand, joined, apart, dashes, operand_last, IsCommand, IsCount, IsSet, IsValue, Makes, Setting, Workers, Reducers, Split, Word, nothing_given, verb_word, with_operand, with_value}
 use Rattle.pig_run.specs.ClapWords.{AreRead, AreValues, LackOperand, number_at, numbers_at, setting_at, takes}
 use Rattle.pig_run.proofs.ClapFinds.{one_given}
 use Rattle.pig_run.proofs.WordNumbers.{number_set, set_number, set_setting, setting_set}

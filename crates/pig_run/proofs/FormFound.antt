@@ -1,9 +1,9 @@
 -- The code finds the first form exactly where it stands.
-use Rattle.std.proofs.Common.{◌≡◌, ℕ, pos, negsuc, ◌≤◌, ◌≢◌, List, [], ◌∷◌, Bool, true, false, cond, refl, sym, ap, ◌∙◌, subst, length, map, arith}
-use Rattle.std.specs.Prelude.{Option, Some, None, option_map, option_and_then, codes, get_or, ◌==◌, ◌&&◌, nat_le, slice_get, bytes_eq, MatchOption, IfOk, Result, Ok, Err}
+use Rattle.std.proofs.Common.{◌≡◌, ℕ, pos, negsuc, ◌≤◌, List, [], ◌∷◌, true, cond, refl, sym, ap, ◌∙◌, subst, length, map}
+use Rattle.std.specs.Prelude.{◌+◌, Option, Some, None, position, option_map, option_and_then, codes, get_or, ◌==◌, ◌&&◌, nat_le, slice_get, bytes_eq, MatchOption}
 use Rattle.std.specs.Char.{is_ascii_lowercase}
-use Rattle.std.specs.Cmp.Lexicographic.{same_text, other_text}
-use Rattle.std.specs.List.{list_all, IsDistinct}
+use Rattle.std.specs.Cmp.Lexicographic.{other_text}
+use Rattle.std.specs.List.{filter, list_all, IsDistinct}
 use Rattle.std.proofs.lemmas.Slice.Eq.{bytes_eq-Decides}
 use Rattle.pig_value.specs.declared.shared.Rel.{Rel}
 use Rattle.pig_value.specs.Fields.{all_of}
@@ -14,7 +14,6 @@ use Rattle.pig_syntax.specs.declared.trees.Expr.TheViews.{out-Expr, roll-Expr, r
 use Rattle.pig_syntax.specs.declared.trees.FieldRef.TheVariants as ref
 use Rattle.pig_syntax.specs.declared.trees.FieldTree.{FieldTree}
 use Rattle.pig_syntax.specs.declared.trees.Link.{Link}
-use Rattle.pig_syntax.specs.declared.trees.Op.{Op}
 use Rattle.pig_syntax.specs.declared.trees.Op.TheVariants as op
 use Rattle.pig_syntax.specs.declared.trees.Stmt.{Stmt}
 use Rattle.pig_syntax.specs.declared.trees.Stmt.TheVariants as stmt
@@ -26,9 +25,9 @@ use Rattle.pig_run.specs.declared.first_form.FormField.{FormField}
 use Rattle.pig_run.specs.declared.first_form.Literal.{Literal}
 use Rattle.pig_run.specs.declared.first_form.Literal.TheVariants.{Number, Letters}
 use Rattle.pig_run.specs.declared.first_form.FirstForm.{FirstForm}
-use Rattle.pig_run.specs.FirstForm.{type_tree, field_tree, literal_tree, names, trees_of, present, IsPath, IsNumber, IsWord, IsLiteralOf, IsFirstForm}
-use Rattle.pig_run.specs.FormReader.{is_word, is_path, letter_of, type_of, field_of, names_differ, fields_of, literal_in, literal_of, name_in, name_of, compared_by, condition_in, condition_of, load_of, filter_of, store_of, may_compare, compared_at, Seen, seen_of, seen_in, form_of_seen, form_of}
-use Rattle.pig_run.proofs.FormLemmas.{some_same, bind_some, cond_then, cond_else, both_first, both_second, le_from, le_true, told_other, some_and, distinct_sound, distinct_done, name_at, lower_at, compared_sound, compared_done}
+use Rattle.pig_run.specs.FirstForm.{type_tree, field_tree, literal_tree, names, store_tree, trees_of, present, IsPath, IsNumber, IsWord, IsLiteralOf, IsFirstForm}
+use Rattle.pig_run.specs.FormReader.{is_word, is_path, letter_of, type_of, field_of, names_differ, fields_of, literal_in, literal_of, name_in, name_of, compared_by, condition_in, condition_of, load_of, filter_of, store_of, may_compare, compared_at, Seen, is_store, seen_of, seen_in, form_of_seen, form_of}
+use Rattle.pig_run.proofs.FormLemmas.{some_same, bind_some, cond_then, cond_else, both_first, both_second, le_from, le_true, told_other, some_and, distinct_sound, distinct_done, name_at, lower_at, compared_sound, compared_done, first_at, stands_at}
 
 -- ---- texts
 
@@ -96,9 +95,10 @@ all_are (t ∷ ts) fs h =
     let a = bind_some (field_of t) _ fs h in
     let b = map_some (all_of field_of ts) (λ gs. a.0 ∷ gs) fs a.2 in
     let first = field_is t a.0 a.1 in
-    let rest = all_are ts b.0 b.1 in
-    ((λ i. first.0 i ∷ rest.0 i) ∙ ap (map field_tree) b.2,
-    subst (λ gs. list_all is_ascii_lowercase (names gs) ≡ true) b.2 (rw (first.1) rest.1))
+    let rest = all_are ts b.0 b.1 in (
+      (λ i. first.0 i ∷ rest.0 i) ∙ ap (map field_tree) b.2,
+      subst (λ gs. list_all is_ascii_lowercase (names gs) ≡ true) b.2 (rw (first.1) rest.1),
+    )
   where
     map_some : {A B : Type 0} (o : Option A) (f : A → B) (y : B) → option_map f o ≡ Some y → (x : A) × (o ≡ Some x) × (f x ≡ y)
     map_some None f y k = absurd (cc)
@@ -107,8 +107,10 @@ all_are (t ∷ ts) fs h =
 all_done : (fs : List FormField) → list_all is_ascii_lowercase (names fs) ≡ true → all_of field_of (map field_tree fs) ≡ Some fs
 all_done [] h = refl
 all_done (f ∷ fs) h =
-    rw (field_done f (both_first (is_ascii_lowercase f.name) (list_all is_ascii_lowercase (names fs)) h),
-    all_done fs (both_second (is_ascii_lowercase f.name) (list_all is_ascii_lowercase (names fs)) h)) refl
+    rw (
+      field_done f (both_first (is_ascii_lowercase f.name) (list_all is_ascii_lowercase (names fs)) h),
+      all_done fs (both_second (is_ascii_lowercase f.name) (list_all is_ascii_lowercase (names fs)) h),
+    ) refl
 
 record AreFormFields (ts : List FieldTree) (fs : List FormField) : Type 0 where
   trees : ts ≡ map field_tree fs
@@ -263,10 +265,20 @@ store_done path h = rw (path_done path h) refl
 
 -- ---- the form
 
+-- no STORE is empty
+one_store : (ss : List Stmt) → filter is_store ss ≡ filter is_store (present ss)
+one_store [] = refl
+one_store (stmt.Empty ∷ ss) = one_store ss
+one_store (stmt.Assign alias o ∷ ss) = one_store ss
+one_store (stmt.Split source branches otherwise ∷ ss) = one_store ss
+one_store (stmt.Store source path func ∷ ss) = ap (λ us. stmt.Store source path func ∷ us) (one_store ss)
+one_store (stmt.Assert source cond message ∷ ss) = one_store ss
+one_store (stmt.Unsupported ∷ ss) = one_store ss
+
 -- where the form is found, it stands
-three_is : (a b c : Stmt) (f : FirstForm) → (ss : List Stmt) → present ss ≡ a ∷ b ∷ c ∷ [] → (s : Seen) → seen_of a b c ≡ Some s → form_of_seen s ≡ Some f → IsFirstForm f ss
+three_is : (a b c : Stmt) (f : FirstForm) → (ss : List Stmt) → present ss ≡ a ∷ b ∷ c ∷ [] → (at : ℕ) → position is_store ss ≡ Some at → (s : Seen) → seen_of a b c ≡ Some s → form_of_seen (at + 1) s ≡ Some f → IsFirstForm f ss
 unfolding seen_of form_of_seen
-three_is a b c f ss are s seen h =
+three_is a b c f ss are at found_at s seen h =
     let x = bind_some (load_of a) _ s seen in
     let y = bind_some (filter_of b) _ s x.2 in
     let z = bind_some (store_of c) _ s y.2 in
@@ -275,19 +287,21 @@ three_is a b c f ss are s seen h =
     let store = store_is c z.0 z.1 in
     let t : Seen = record { input = x.0.0; schema = x.0.1; name = y.0.0; relation = y.0.1; literal = y.0.2; output = z.0 } in
     let back : t ≡ s = some_same z.2 in
-    let found : form_of_seen t ≡ Some f = ap form_of_seen back ∙ h in
+    let found : form_of_seen (at + 1) t ≡ Some f = ap (form_of_seen (at + 1)) back ∙ h in
     let fields = bind_some (fields_of x.0.1) _ f found in
     let place = bind_some (compared_at fields.0 y.0.0 y.0.2) _ f fields.2 in
     let other = cond_else (bytes_eq x.0.0 z.0) _ f place.2 in
     let are_fields = fields_are x.0.1 fields.0 fields.1 in
     let compared = compared_sound fields.0 y.0.0 y.0.2 place.0 place.1 in
     let name : y.0.0 ≡ get_or (names fields.0) place.0 0 = sym compared.named ∙ sym (name_at fields.0 place.0 compared.field compared.there) in
-    let form : FirstForm = record { input = x.0.0; fields = fields.0; compared = place.0; relation = y.0.1; literal = y.0.2; output = z.0 } in
+    let form : FirstForm = record { input = x.0.0; fields = fields.0; compared = place.0; relation = y.0.1; literal = y.0.2; output = z.0; store = at + 1 } in
     let first : a ≡ stmt.Assign (codes "a") (op.Load x.0.0 None (map field_tree fields.0)) = load.tree ∙ ap (λ v. stmt.Assign (codes "a") (op.Load x.0.0 None v)) are_fields.trees in
     let second : b ≡ stmt.Assign (codes "b") (op.Filter (codes "a") (e.Compare y.0.1 (e.Field (ref.Name (get_or (names fields.0) place.0 0 ∷ []))) (literal_tree y.0.2))) =
     condition.tree ∙ ap (λ v. stmt.Assign (codes "b") (op.Filter (codes "a") (e.Compare y.0.1 (e.Field (ref.Name (v ∷ []))) (literal_tree y.0.2)))) name in
+    let trees : present ss ≡ trees_of form = are ∙ (λ i. first i ∷ second i ∷ store.tree i ∷ []) in
     let is : IsFirstForm form ss = record {
-      trees = are ∙ (λ i. first i ∷ second i ∷ store.tree i ∷ []);
+      trees = trees;
+      store = record { place = at; there = stands_at is_store ss at (store_tree form) (one_store ss ∙ ap (filter is_store) trees) found_at; number = refl };
       input = load.path;
       output = store.path_is;
       apart = λ same. other_text x.0.0 z.0 (sym other.0) same;
@@ -299,15 +313,15 @@ three_is a b c f ss are s seen h =
     } in
     subst (λ v. IsFirstForm v ss) (some_same other.1) is
 
-form_is_three : (ss : List Stmt) (f : FirstForm) (three : List Stmt) → present ss ≡ three → option_and_then form_of_seen (seen_in three) ≡ Some f → IsFirstForm f ss
-form_is_three ss f [] are h = absurd (cc)
-form_is_three ss f (a ∷ []) are h = absurd (cc)
-form_is_three ss f (a ∷ b ∷ []) are h = absurd (cc)
-form_is_three ss f (a ∷ b ∷ c ∷ []) are h = let s = bind_some (seen_of a b c) form_of_seen f h in three_is a b c f ss are s.0 s.1 s.2
-form_is_three ss f (a ∷ b ∷ c ∷ d ∷ more) are h = absurd (cc)
+form_is_three : (ss : List Stmt) (f : FirstForm) (at : ℕ) → position is_store ss ≡ Some at → (three : List Stmt) → present ss ≡ three → option_and_then (form_of_seen (at + 1)) (seen_in three) ≡ Some f → IsFirstForm f ss
+form_is_three ss f at found [] are h = absurd (cc)
+form_is_three ss f at found (a ∷ []) are h = absurd (cc)
+form_is_three ss f at found (a ∷ b ∷ []) are h = absurd (cc)
+form_is_three ss f at found (a ∷ b ∷ c ∷ []) are h = let s = bind_some (seen_of a b c) (form_of_seen (at + 1)) f h in three_is a b c f ss are at found s.0 s.1 s.2
+form_is_three ss f at found (a ∷ b ∷ c ∷ d ∷ more) are h = absurd (cc)
 
 pub form_is : (ss : List Stmt) (f : FirstForm) → form_of ss ≡ Some f → IsFirstForm f ss
-form_is ss f h = form_is_three ss f (present ss) refl h
+form_is ss f h = let at = bind_some (position is_store ss) _ f h in form_is_three ss f at.0 at.1 (present ss) refl at.2
 
 -- where it stands, it is found
 module _ (f : FirstForm) (ss : List Stmt) (h : IsFirstForm f ss) where
@@ -323,12 +337,12 @@ module _ (f : FirstForm) (ss : List Stmt) (h : IsFirstForm f ss) where
   abbrev what_is_seen : Seen
   what_is_seen = record { input = f.input; schema = map field_tree f.fields; name = get_or (names f.fields) f.compared 0; relation = f.relation; literal = f.literal; output = f.output }
 
-  seen_done : option_and_then form_of_seen (seen_in (trees_of f)) ≡ form_of_seen what_is_seen
+  seen_done : option_and_then (form_of_seen f.store) (seen_in (trees_of f)) ≡ form_of_seen f.store what_is_seen
   unfolding seen_of
   seen_done =
       rw (load_done f.input (map field_tree f.fields) h.input, filter_done (get_or (names f.fields) f.compared 0) f.relation the_field.0.kind f.literal lower_name the_field.2, store_done f.output h.output) refl
 
-  form_seen : form_of_seen what_is_seen ≡ Some f
+  form_seen : form_of_seen f.store what_is_seen ≡ Some f
   unfolding form_of_seen
   form_seen =
       rw (
@@ -339,7 +353,11 @@ module _ (f : FirstForm) (ss : List Stmt) (h : IsFirstForm f ss) where
       ) refl
 
   pub form_done : form_of ss ≡ Some f
-  form_done = ap (λ ss. option_and_then form_of_seen (seen_in ss)) h.trees ∙ seen_done ∙ form_seen
+  form_done =
+      ap (λ o. option_and_then (λ at. option_and_then (form_of_seen (at + 1)) (seen_in (present ss))) o)
+      (first_at is_store ss h.store.place (store_tree f) (store_tree f) h.store.there refl (one_store ss ∙ ap (filter is_store) h.trees))
+      ∙ ap (λ n. option_and_then (form_of_seen n) (seen_in (present ss))) (sym h.store.number)
+      ∙ ap (λ three. option_and_then (form_of_seen f.store) (seen_in three)) h.trees ∙ seen_done ∙ form_seen
 
 -- statements are of one form at most
 pub one_form : (f g : FirstForm) (ss : List Stmt) → IsFirstForm f ss → IsFirstForm g ss → f ≡ g

@@ -1,15 +1,15 @@
 -- Facts about the parts of the first form.
-use Rattle.std.proofs.Common.{◌≡◌, ℕ, zero, suc, ◌+◌, ◌≤◌, ◌≢◌, List, [], ◌∷◌, Bool, true, false, cond, refl, sym, ap, ◌∙◌, subst, length, arith}
-use Rattle.std.specs.Prelude.{Option, Some, None, option_map, option_and_then, ◌==◌, ◌&&◌, ◌||◌, nat_le, get_or, slice_get, position, bytes_eq, IsSomeAnd}
+use Rattle.std.proofs.Common.{◌≡◌, ℕ, zero, suc, ◌+◌, ◌≤◌, ◌≢◌, List, [], ◌∷◌, Bool, true, false, cond, refl, sym, ap, ◌∙◌, subst, arith}
+use Rattle.std.specs.Prelude.{Option, Some, None, option_and_then, ◌==◌, ◌&&◌, ◌||◌, nat_le, get_or, slice_get, position, bytes_eq, IsSomeAnd}
 use Rattle.std.specs.Char.{is_ascii_lowercase}
 use Rattle.std.specs.Cmp.Lexicographic.{same_text}
-use Rattle.std.specs.List.{list_all, list_any, IsDistinct, AllByRecursion, position_from}
+use Rattle.std.specs.List.{filter, list_all, list_any, IsDistinct, AllByRecursion, position_from}
 use Rattle.std.proofs.lemmas.Bool.Decides.{nat_tests}
 use Rattle.std.proofs.lemmas.Grind.{common_steps}
 use Rattle.std.proofs.lemmas.Iterator.Adapters.{position_from-zero}
 use Rattle.std.proofs.lemmas.List.Quantifiers.{position-Some}
 use Rattle.std.proofs.lemmas.Map.Keys.{IsDistinct-cons, IsDistinct-head, IsDistinct-tail}
-use Rattle.std.proofs.lemmas.Option.{get_or_from_slice_get}
+use Rattle.std.proofs.lemmas.Option.{get_or_from_slice_get, slice_get-get_or}
 use Rattle.pig_run.specs.declared.first_form.FieldType.TheVariants.{Int, Chararray}
 use Rattle.pig_run.specs.declared.first_form.FieldType.{FieldType}
 use Rattle.pig_run.specs.declared.first_form.FormField.{FormField}
@@ -67,6 +67,57 @@ told_other a b false e h = refl
 pub some_and : {A : Type 0} (o : Option A) (P : A → Type 0) → IsSomeAnd o P → (x : A) × (o ≡ Some x) × P x
 some_and None P h = absurd h
 some_and (Some x) P h = (x, refl, h)
+
+-- ---- the one element that passes a test
+
+module _ {X : Type 0} (p : X → Bool) where
+  none_at : (xs : List X) (at : ℕ) (x : X) → filter p xs ≡ [] → slice_get xs at ≡ Some x → p x ≡ true → ⊥
+  none_at [] at x h is passes = cc
+  none_at (z ∷ zs) zero x h is passes =
+      let same : z ≡ x = cc in
+      let yes : p z ≡ true = ap p same ∙ passes in
+      let wrong = sym (ap (λ b. cond b (z ∷ filter p zs) (filter p zs)) yes) ∙ h in cc
+  none_at (z ∷ zs) (suc at) x h is passes = by_test (none_at zs at x) (p z) refl h is
+    where
+      by_test : (filter p zs ≡ [] → slice_get zs at ≡ Some x → p x ≡ true → ⊥) → (b : Bool) → p z ≡ b → cond b (z ∷ filter p zs) (filter p zs) ≡ [] → slice_get zs at ≡ Some x → ⊥
+      by_test later true e k i = cc
+      by_test later false e k i = later k i passes
+
+  pub only_one : (xs : List X) (at : ℕ) (x y : X) → slice_get xs at ≡ Some x → p x ≡ true → filter p xs ≡ y ∷ [] → x ≡ y
+  only_one [] at x y is passes h = absurd (cc)
+  only_one (z ∷ zs) zero x y is passes h =
+      let same : z ≡ x = cc in
+      let yes : p z ≡ true = ap p same ∙ passes in
+      let whole = sym (ap (λ b. cond b (z ∷ filter p zs) (filter p zs)) yes) ∙ h in
+      let first : z ≡ y = cc in sym same ∙ first
+  only_one (z ∷ zs) (suc at) x y is passes h = by_test (only_one zs at x y is passes) (p z) refl h
+    where
+      by_test : (filter p zs ≡ y ∷ [] → x ≡ y) → (b : Bool) → p z ≡ b → cond b (z ∷ filter p zs) (filter p zs) ≡ y ∷ [] → x ≡ y
+      by_test later true e k = let nothing : filter p zs ≡ [] = cc in absurd (none_at zs at x nothing is passes)
+      by_test later false e k = later k
+
+  first_from : (xs : List X) (at i : ℕ) (x y : X) → slice_get xs at ≡ Some x → p x ≡ true → filter p xs ≡ y ∷ [] → position_from p i xs ≡ Some (i + at)
+  first_from [] at i x y is passes h = absurd (cc)
+  first_from (z ∷ zs) zero i x y is passes h =
+      let same : z ≡ x = cc in
+      let yes : p z ≡ true = ap p same ∙ passes in
+      rw yes (ap Some (omega arith))
+  first_from (z ∷ zs) (suc at) i x y is passes h = by_test (λ k. first_from zs at (i + 1) x y is passes k) (p z) refl h
+    where
+      by_test : (filter p zs ≡ y ∷ [] → position_from p (i + 1) zs ≡ Some (i + 1 + at)) → (b : Bool) → p z ≡ b → cond b (z ∷ filter p zs) (filter p zs) ≡ y ∷ [] → position_from p i (z ∷ zs) ≡ Some (i + suc at)
+      by_test later true e k = let nothing : filter p zs ≡ [] = cc in absurd (none_at zs at x nothing is passes)
+      by_test later false e k = rw e (later k ∙ ap Some (omega arith))
+
+  -- it is the first that passes
+  pub first_at : (xs : List X) (at : ℕ) (x y : X) → slice_get xs at ≡ Some x → p x ≡ true → filter p xs ≡ y ∷ [] → position p xs ≡ Some at
+  first_at xs at x y is passes h = position_from-zero p xs ∙ first_from xs at 0 x y is passes h ∙ ap Some (omega arith)
+
+  -- and what stands at its place
+  pub stands_at : (xs : List X) (at : ℕ) (y : X) → filter p xs ≡ y ∷ [] → position p xs ≡ Some at → slice_get xs at ≡ Some y
+  stands_at xs at y h found =
+      let passes = position-Some p xs at y found in
+      let there : slice_get xs at ≡ Some (get_or xs at y) = slice_get-get_or xs at y passes.0 in
+      there ∙ ap Some (only_one xs at (get_or xs at y) y there passes.1 h)
 
 -- ---- names
 

@@ -1,24 +1,22 @@
 -- A script is found to be one thing and no other.
-use Rattle.std.proofs.Common.{◌≡◌, ◌<◌, ◌≤◌, ◌^◌, ℕ, List, [], ◌∷◌, length, Option, Some, None, Result, Ok, Err, IfOk, IfErr, refl, sym, ◌∙◌, ap, subst, arith, inl, inr, ◌⊎◌}
+use Rattle.std.proofs.Common.{◌≡◌, ◌≤◌, ◌^◌, ℕ, List, [], ◌∷◌, length, Option, Some, None, Result, Ok, Err, IfOk, IfErr, refl, sym, ◌∙◌, ap, subst, arith, inl, inr, ◌⊎◌}
 use Rattle.std.specs.List.{All}
 use Rattle.std.proofs.lemmas.Bool.{cases_lt}
 use Rattle.std.proofs.lemmas.List.Elements.{All-nil, All-cons, All-head, All-tail}
 use Rattle.pig_syntax.specs.declared.cutting.Piece.{Piece}
 use Rattle.pig_syntax.specs.declared.tokens.Token.{Token}
 use Rattle.pig_syntax.specs.declared.trees.Stmt.{Stmt}
-use Rattle.pig_syntax.specs.Tokens.{AreTokens, IsBadAt}
 use Rattle.pig_syntax.specs.Cutting.{AreStatements, IsDepth, piece_of}
 use Rattle.pig_syntax.proofs.CutLaws.{same_statements}
 use Rattle.pig_syntax.proofs.Streams.{not_both as tokens_not_both, one_list, one_place}
 use Rattle.pig_syntax.proofs.Totals.{depth_some, statements_some, tokens_or_bad}
-use Rattle.pig_parser.specs.Parsing.{AreTrees, IsFirstOff, IsShallow}
+use Rattle.pig_parser.specs.Parsing.{IsShallow}
 use Rattle.pig_parser.proofs.OneAnswer.{not_both, one_first, same_trees}
 use Rattle.pig_parser.proofs.SomeAnswer.{trees_or_off}
 use Rattle.pig_run.specs.declared.outcome.RunFault.{RunFault}
 use Rattle.pig_run.specs.declared.outcome.RunFault.TheVariants as fault
 use Rattle.pig_run.specs.declared.outcome.TooLarge.TheVariants as large
 use Rattle.pig_run.specs.declared.first_form.FirstForm.{FirstForm}
-use Rattle.pig_run.specs.FirstForm.{IsFirstForm}
 use Rattle.pig_run.specs.FormReader.{form_of}
 use Rattle.pig_run.specs.Reading.{Finding, Refuses, Finds, IsFormed, not_built, formed, IsParsed, off_grammar, parsed, IsMeasured, too_many, too_deep, measured, IsLexed, no_token, lexed, IsFound, too_long, short, IsScriptFault, TellsForm}
 use Rattle.pig_run.specs.Running.{IsForm}

@@ -1,5 +1,5 @@
 -- What the bytes that were read of a script say of it, where one byte more than the limit is asked for.
-use Rattle.std.proofs.Common.{◌≡◌, Result, Ok, Err, MatchResult, ℕ, ◌+◌, ◌<◌, ◌≤◌, ◌^◌, true, List, [], ◌∷◌, ◌++◌, Option, Some, None, take, length, refl, sym, ◌∙◌, ap, subst, arith, inl, inr}
+use Rattle.std.proofs.Common.{◌≡◌, Result, Ok, Err, MatchResult, ℕ, ◌+◌, ◌<◌, ◌≤◌, ◌^◌, true, List, [], ◌++◌, Option, Some, None, take, length, refl, sym, ◌∙◌, subst, arith, inl, inr}
 use Rattle.std.specs.Option.{is_some, unwrap_or}
 use Rattle.std.proofs.lemmas.Bool.{cases_lt}
 use Rattle.std.proofs.lemmas.List.{length-take, take_all}

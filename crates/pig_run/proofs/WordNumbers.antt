@@ -1,5 +1,5 @@
 -- What the numbers of values say.
-use Rattle.std.proofs.Common.{◌≡◌, ◌≢◌, ◌∙◌, ◌⊎◌, ◌&&◌, ◌^◌, ◌<◌, ◌≤◌, ℕ, Bool, cond, true, false, refl, sym, ap, subst, List, length, Option, Some, None, Result, Ok, inl, inr, true≢false, arith, nat_le, rules, le-leb, leb-true, take, take-suc, add-one, get_or, ◌+◌, ◌++◌, [], ◌∷◌}
+use Rattle.std.proofs.Common.{◌≡◌, ◌∙◌, ◌&&◌, ◌^◌, ◌<◌, ◌≤◌, ℕ, Bool, cond, true, false, refl, sym, ap, subst, List, length, Option, Some, None, Result, true≢false, arith, nat_le, rules, le-leb, leb-true, take, take-suc, add-one, get_or, ◌+◌, ◌++◌, [], ◌∷◌}
 use Rattle.std.specs.Char.{is_ascii_digit}
 use Rattle.std.specs.List.{list_all}
 use Rattle.std.specs.Result.{result_ok}

@@ -1,6 +1,5 @@
 -- The command that clap reads the words by, and what it finds.
 use Rattle.std.specs.Prelude.{◌≡◌, ◌&&◌, ℕ, Bool, true, List, length, nat_le, if◌then◌else◌, min, is_some, Option, Some, None, option_map, option_and_then, codes}
-use Rattle.std.specs.Borrow.{Bor}
 use Rattle.std.specs.Char.{is_ascii_digit}
 use Rattle.std.specs.List.{list_all}
 use Rattle.std.specs.Str.Parse.{digits_value}

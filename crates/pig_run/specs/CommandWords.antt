@@ -48,7 +48,7 @@ with_value Workers value g = record g { workers = Some value }
 with_value Reducers value g = record g { reducers = Some value }
 with_value Split value g = record g { split = Some value }
 
--- a word that begins with `-` and is longer than one byte
+-- a word that begins with `-`, the byte 45, and is longer than one byte
 abbrev pub is_dashed : Word → Bool
 is_dashed [] = false
 is_dashed (b ∷ []) = false
@@ -67,7 +67,7 @@ pub data Gives : Given → List Word → Given → Type 0 where
   -- the operand
   operand : {g end : Given} {word : Word} {rest : List Word} → is_dashed word ≡ false → g.operand ≡ None
       → Gives (with_operand word g) rest end → Gives g (word ∷ rest) end
-  -- `--name=value`
+  -- `--name=value`; the byte 61 is `=`
   joined : {g end : Given} {word : Word} {rest : List Word} (s : Setting) (value : Word) → word ≡ option_word s ++ 61 ∷ value → IsValue value
       → value_of s g ≡ None → Gives (with_value s value g) rest end → Gives g (word ∷ rest) end
   -- `--name value`

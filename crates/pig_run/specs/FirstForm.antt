@@ -1,5 +1,5 @@
 -- The first form of a script: the trees of its three statements, and what stands in them.
-use Rattle.std.specs.Prelude.{◌≡◌, ◌≢◌, ◌≤◌, ℕ, pos, Bool, true, false, not, ◌==◌, List, [], ◌∷◌, length, map, filter, codes, slice_get, slice_index, Some, None, IsSomeAnd}
+use Rattle.std.specs.Prelude.{◌≡◌, ◌≢◌, ◌≤◌, ◌+◌, ℕ, pos, Bool, true, false, not, ◌==◌, List, [], ◌∷◌, length, map, filter, codes, slice_get, slice_index, Some, None, IsSomeAnd}
 use Rattle.std.specs.Char.{is_ascii_lowercase}
 use Rattle.std.specs.List.{list_all, IsDistinct}
 use Rattle.pig_syntax.specs.declared.trees.Expr.{Expr}
@@ -66,6 +66,12 @@ present ss = filter (λ s. not (is_empty s)) ss
 
 -- ---- what stands in them
 
+-- the number of STORE among all statements, counted from 1
+pub record IsStoreNumber (f : FirstForm) (ss : List Stmt) : Type 0 where
+  pub place : ℕ
+  pub there : slice_get ss place ≡ Some (store_tree f)
+  pub number : f.store ≡ place + 1
+
 -- a path: 1 to 20 lower-case letters
 pub record IsPath (path : List ℕ) : Type 0 where
   pub letters : list_all is_ascii_lowercase path ≡ true
@@ -91,6 +97,7 @@ IsLiteralOf Chararray (Letters letters) = IsWord letters
 -- the statements, without the empty ones, are of the first form, with these parts
 pub record IsFirstForm (f : FirstForm) (ss : List Stmt) : Type 0 where
   pub trees : present ss ≡ trees_of f
+  pub store : IsStoreNumber f ss
   pub input : IsPath f.input
   pub output : IsPath f.output
   pub apart : f.input ≢ f.output

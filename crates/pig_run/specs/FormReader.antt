@@ -1,6 +1,6 @@
 -- What each part of the code that recognises the first form finds in its tree; nothing where another tree stands there. `IsFirstForm`
 -- says what the first form is.
-use Rattle.std.specs.Prelude.{ℕ, ℤ, pos, negsuc, Bool, true, false, not, ◌&&◌, ◌==◌, nat_le, List, [], ◌∷◌, length, codes, Option, Some, None, option_map, option_and_then, slice_get, position, bytes_eq, if◌then◌else◌}
+use Rattle.std.specs.Prelude.{◌+◌, ℕ, ℤ, pos, negsuc, Bool, true, false, ◌&&◌, ◌==◌, nat_le, List, [], ◌∷◌, length, codes, Option, Some, None, option_and_then, slice_get, position, bytes_eq, if◌then◌else◌}
 use Rattle.std.specs.Char.{is_ascii_lowercase}
 use Rattle.std.specs.List.{list_all, list_any}
 use Rattle.pig_value.specs.declared.shared.Rel.{Rel}
@@ -146,13 +146,18 @@ seen_of first second third = do
   output ← store_of third
   Some (record { input = load.0; schema = load.1; name = condition.0; relation = condition.1; literal = condition.2; output = output })
 
--- the form, where the fields are some that the comparison fits and the paths differ
-unfoldable pub form_of_seen : Seen → Option FirstForm
-form_of_seen s = do
+-- the statement is a STORE
+abbrev pub is_store : Stmt → Bool
+is_store (stmt.Store _ _ _) = true
+is_store _ = false
+
+-- the form, where the fields are some that the comparison fits and the paths differ, with the number of STORE
+unfoldable pub form_of_seen : ℕ → Seen → Option FirstForm
+form_of_seen store s = do
   fields ← fields_of s.schema
   at ← compared_at fields s.name s.literal
   if bytes_eq s.input s.output then None
-      else Some (record { input = s.input; fields = fields; compared = at; relation = s.relation; literal = s.literal; output = s.output })
+      else Some (record { input = s.input; fields = fields; compared = at; relation = s.relation; literal = s.literal; output = s.output; store = store })
 
 -- what they say, where they are three
 abbrev pub seen_in : List Stmt → Option Seen
@@ -161,4 +166,4 @@ seen_in _ = None
 
 -- the form of the statements that are not empty
 abbrev pub form_of : List Stmt → Option FirstForm
-form_of ss = seen_in (present ss) >>= form_of_seen
+form_of ss = position is_store ss >>= (λ at. seen_in (present ss) >>= form_of_seen (at + 1))

@@ -83,12 +83,16 @@ IsHostStep fault.HostFault = Unit {0}
 IsHostStep fault.OutOfMemory = Unit {0}
 IsHostStep _ = ⊥
 
--- how a run may end behind the steps before it
-abbrev pub IsRunStep : RunFault → Type 0
-IsRunStep fault.HostFault = Unit {0}
-IsRunStep (fault.DepotFault (Some store)) = store ≡ 3
-IsRunStep fault.OutOfMemory = Unit {0}
-IsRunStep _ = ⊥
+-- how a run may end behind the steps before it, where its STORE has this number
+abbrev pub IsRunStep : ℕ → RunFault → Type 0
+IsRunStep number fault.HostFault = Unit {0}
+IsRunStep number (fault.DepotFault (Some store)) = store ≡ number
+IsRunStep number fault.OutOfMemory = Unit {0}
+IsRunStep number _ = ⊥
+
+-- the same for a STORE of some number
+abbrev pub IsRunEnd : RunFault → Type 0
+IsRunEnd found = (number : ℕ) × IsRunStep number found
 
 -- the host's count has not fallen, and has risen where the host is blamed
 pub record HostCause {T : Type 0} (before now : ℕ) (result : Result T RunFault) : Type 0 where

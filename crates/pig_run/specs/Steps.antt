@@ -62,11 +62,11 @@ pub record IsReady (line : CommandLine) (shelf : Shelf) (plan : Plan) : Type 0 w
   pub lengths : plan.lengths ≡ lengths_of pieces
   pub absent : has_dir plan.form.output shelf ≡ false
 
--- how the commit of the script's STORE may end
-abbrev pub IsCommitFault : RunFault → Type 0
-IsCommitFault (fault.DepotFault (Some store)) = store ≡ 3
-IsCommitFault fault.OutOfMemory = Unit {0}
-IsCommitFault _ = ⊥
+-- how the commit of the STORE of this number may end
+abbrev pub IsCommitFault : ℕ → RunFault → Type 0
+IsCommitFault number (fault.DepotFault (Some store)) = store ≡ number
+IsCommitFault number fault.OutOfMemory = Unit {0}
+IsCommitFault number _ = ⊥
 
 -- another fault than that of wrong words
 abbrev pub IsNotUsage : RunFault → Type 0

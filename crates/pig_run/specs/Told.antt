@@ -26,7 +26,7 @@ pub record BrokeOff (line : CommandLine) (shelf : Shelf) (new : Option Shelf) (f
   pub form : FirstForm
   pub pieces : List (List ℕ)
   pub due : IsDue line shelf (Runs form pieces)
-  pub step : IsRunStep found
+  pub step : IsRunStep form.store found
   pub left : Leaves found (Runs form pieces) (Some shelf) new
 
 abbrev pub IsTold : CommandLine → Shelf → Option (List Input) → Option Shelf → Result Counts RunFault → Type 0

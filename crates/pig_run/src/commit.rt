@@ -8,25 +8,22 @@ use crate::RunFault;
 use crate::plan::depot_fault;
 use pig_outside::Depot;
 
-/// The number of the STORE in a script of the first form.
-const STORE: u32 = 3;
-
-/// Makes a directory with one part, and marks it.
-pub fn commit<D: Depot>(depot: &mut D, dir: &str, bytes: &[u8]) -> Result<(), RunFault>
+/// Makes the directory of the STORE of this number, with one part, and marks it.
+pub fn commit<D: Depot>(depot: &mut D, dir: &str, bytes: &[u8], store: u32) -> Result<(), RunFault>
     requires { ForSome (D.shelf depot.old) (CanCreate dir.now) }
     ensures ok { OnOk result (D.shelf depot.new ≡ option_map (with_dir dir.now (whole_state (bytes.now ∷ []))) (D.shelf depot.old)) }
     ensures err { OnErr result (LeftOpen dir.now (D.shelf depot.old) (D.shelf depot.new)) }
-    ensures fault { IfErr result IsCommitFault }
+    ensures fault { IfErr result (IsCommitFault store) }
     ensures cause { DepotCause (D.faults depot.old) (D.faults depot.new) result }
 {
     if let Err(error) = depot.create(dir) {
-        return Err(depot_fault(error, Some(STORE)));
+        return Err(depot_fault(error, Some(store)));
     }
     if let Err(error) = depot.put(dir, 0, bytes) {
-        return Err(depot_fault(error, Some(STORE)));
+        return Err(depot_fault(error, Some(store)));
     }
     if let Err(error) = depot.finish(dir) {
-        return Err(depot_fault(error, Some(STORE)));
+        return Err(depot_fault(error, Some(store)));
     }
     Ok(())
 }

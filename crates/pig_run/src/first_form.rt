@@ -1,11 +1,11 @@
-ghost use Rattle.std.specs.Prelude.{◌≡◌, ℕ, List, ◌==◌, Some, map, option_map, position, IfOk, MatchOption};
+ghost use Rattle.std.specs.Prelude.{◌≡◌, ◌<◌, ◌+◌, ◌^◌, ℕ, List, length, ◌==◌, Some, map, option_map, position, IfOk, MatchOption};
 ghost use Rattle.std.specs.List.{list_all, list_any};
 ghost use Rattle.std.specs.Char.{is_ascii_lowercase};
 ghost use Rattle.pig_value.specs.Fields.{all_of};
 ghost use Rattle.pig_syntax.specs.declared.trees.Stmt.{Stmt};
 ghost use Rattle.pig_run.specs.declared.first_form.FirstForm.{FirstForm};
 ghost use Rattle.pig_run.specs.FirstForm.{IsFirstForm, is_empty, present};
-ghost use Rattle.pig_run.specs.FormReader.{is_word, is_path, letter_of, type_of, field_of, names_differ, fields_of, number_of, literal_of, name_of, compared_by, condition_of, load_of, filter_of, store_of, may_compare, compared_at, seen_of, seen_in, form_of_seen, form_of};
+ghost use Rattle.pig_run.specs.FormReader.{is_word, is_path, letter_of, type_of, field_of, names_differ, fields_of, number_of, literal_of, name_of, compared_by, condition_of, load_of, filter_of, store_of, may_compare, compared_at, seen_of, seen_in, is_store, form_of_seen, form_of};
 ghost use Rattle.pig_run.specs.FormParts.{whole, seen};
 
 use pig_syntax::{Expr, FieldRef, FieldTree, Fields, Op, Stmt, Stmts, TypeTree};
@@ -51,6 +51,8 @@ pub struct FirstForm {
     pub literal: Literal,
     /// The path that STORE writes.
     pub output: Text,
+    /// The number of the STORE among the statements, counted from 1, empty ones included.
+    pub store: u32,
 }
 
 // A literal within a tree.
@@ -232,12 +234,11 @@ fn load(statement: &Stmt) -> Option<(&Text, &Fields)>
     match statement {
         Stmt::Assign {
             alias,
-            op:
-                Op::Load {
-                    path,
-                    func: None,
-                    schema,
-                },
+            op: Op::Load {
+                path,
+                func: None,
+                schema,
+            },
         } if alias.as_str() == "a" && is_path(path) => Some((path, schema)),
         _ => None,
     }
@@ -345,8 +346,8 @@ fn three_parts<'a>(first: &'a Stmt, second: &'a Stmt, third: &'a Stmt) -> Option
 
 // The form of the parts, where their fields are some that the comparison fits and the paths differ.
 #[tactic(auto, unfolding(crate::specs::FormReader::form_of_seen))]
-fn form(alloc: Global, parts: &Parts<'_>) -> Result<Option<FirstForm>, AllocError>
-    ensures { IfOk result (λ found. found ≡ form_of_seen (seen parts.now)) }
+fn form(alloc: Global, parts: &Parts<'_>, store: u32) -> Result<Option<FirstForm>, AllocError>
+    ensures { IfOk result (λ found. found ≡ form_of_seen store (seen parts.now)) }
 {
     let fields = match fields(alloc, parts.schema)? {
         Some(fields) => fields,
@@ -369,6 +370,7 @@ fn form(alloc: Global, parts: &Parts<'_>) -> Result<Option<FirstForm>, AllocErro
         relation: parts.relation,
         literal,
         output,
+        store,
     }))
 }
 
@@ -404,13 +406,36 @@ fn parts_in<'a>(present: &[&'a Stmt]) -> Option<Parts<'a>>
     }
 }
 
+// The place of the first STORE among the statements.
+fn store_place(statements: &[Stmt]) -> Option<usize>
+    ensures { result ≡ position is_store statements.now }
+{
+    statements
+        .iter()
+        .position(|statement| matches!(statement, Stmt::Store { .. }))
+}
+
+// The number of the first STORE among the statements, counted from 1.
+fn store_number(statements: &Stmts) -> Option<u32>
+    requires { length statements.now < 2 ^ 32 }
+    ensures { result ≡ option_map (λ at. at + 1) (position is_store statements.now) }
+{
+    let place = store_place(statements.as_slice())?;
+    Some(place as u32 + 1)
+}
+
 // The form of the statements that are not empty.
 fn form_found(alloc: Global, statements: &Stmts) -> Result<Option<FirstForm>, AllocError>
+    requires { length statements.now < 2 ^ 32 }
     ensures { IfOk result (λ found. found ≡ form_of statements.now) }
 {
+    let store = match store_number(statements) {
+        Some(store) => store,
+        None => return Ok(None),
+    };
     let present = present(alloc, statements)?;
     match parts_in(present.as_slice()) {
-        Some(parts) => form(alloc, &parts),
+        Some(parts) => form(alloc, &parts, store),
         None => Ok(None),
     }
 }
@@ -420,6 +445,7 @@ fn form_found(alloc: Global, statements: &Stmts) -> Result<Option<FirstForm>, Al
 /// Fails only for want of memory.
 #[tactic(auto, using(crate::proofs::FormFound::form_told))]
 pub fn first_form(alloc: Global, statements: &Stmts) -> Result<Option<FirstForm>, AllocError>
+    requires { length statements.now < 2 ^ 32 }
     ensures { IfOk result (λ found. MatchOption found ((f : FirstForm) → ¬ IsFirstForm f statements.now) (λ f. IsFirstForm f statements.now)) }
 {
     let found = form_found(alloc, statements)?;

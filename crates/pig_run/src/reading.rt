@@ -23,6 +23,7 @@ const MOST_DEPTH: u32 = 64;
 
 /// The form of trees.
 fn form_of_trees(alloc: Global, statements: &Stmts) -> Result<FirstForm, RunFault>
+    requires { length statements.now < 2 ^ 32 }
     ensures { TellsForm (IsFormed statements.now) result }
 {
     match first_form(alloc, statements)? {

@@ -90,7 +90,7 @@ pub fn perform<D: Depot, H: Host>(
     ensures done { ForSome (H.inputs host.old) (λ i. (pieces : List (List ℕ)) → pieces_of plan.now.form.input i ≡ Some pieces → IfOk result (IsRun plan.now.form pieces (D.shelf depot.old) (D.shelf depot.new))) }
     ensures left { OnErr result (LeftOpen plan.now.form.output (D.shelf depot.old) (D.shelf depot.new)) }
     ensures host_left { IfErr result (λ f. f ≡ fault.HostFault → D.shelf depot.new ≡ D.shelf depot.old) }
-    ensures fault { IfErr result IsRunStep }
+    ensures fault { IfErr result (IsRunStep plan.now.form.store) }
     ensures depot { DepotCause (D.faults depot.old) (D.faults depot.new) result }
     ensures host { HostCause (H.faults host.old) (H.faults host.new) result }
 {
@@ -102,7 +102,12 @@ pub fn perform<D: Depot, H: Host>(
         plan.form.input.as_str(),
         &plan.lengths,
     )?;
-    commit(depot, plan.form.output.as_str(), stored.bytes.as_slice())?;
+    commit(
+        depot,
+        plan.form.output.as_str(),
+        stored.bytes.as_slice(),
+        plan.form.store,
+    )?;
     Ok(Counts {
         read: stored.read,
         shuffled: 0,

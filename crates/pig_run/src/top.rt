@@ -4,7 +4,7 @@ ghost use Rattle.pig_outside.specs.Faults.{FailedRose};
 ghost use Rattle.pig_outside.specs.Shelf.{Shelf};
 ghost use Rattle.pig_run.specs.Answers.{CommandLine, line_of, HasWords, IsDue, Verdict, Runs, IsAnswer, Leaves, IsRun, TellsOf, Tells, first_of, status_of, no_counts};
 ghost use Rattle.pig_run.specs.Steps.{DepotCause, IsPlanFault, SaysWords};
-ghost use Rattle.pig_run.specs.Running.{IsRunStep, HostCause};
+ghost use Rattle.pig_run.specs.Running.{IsRunEnd, HostCause};
 ghost use Rattle.pig_run.specs.Told.{IsTold};
 ghost use Rattle.pig_run.specs.declared.first_form.FirstForm.{FirstForm};
 ghost use Rattle.pig_run.specs.declared.outcome.RunFault.TheVariants as fault;
@@ -29,7 +29,7 @@ fn run<D: Depot, H: Host>(
     requires few_hosts { hosts ≤ 256 }
     requires tells { TellsOf (D.shelf depot.old) (H.inputs host.old) }
     ensures told { ForSome (D.shelf depot.old) (λ s. IsTold (record { hosts = hosts; words = words.now }) s (H.inputs host.old) (D.shelf depot.new) result) }
-    ensures fault { IfErr result (λ f. (f ≡ fault.Usage) ⊎ IsPlanFault f ⊎ IsRunStep f) }
+    ensures fault { IfErr result (λ f. (f ≡ fault.Usage) ⊎ IsPlanFault f ⊎ IsRunEnd f) }
     ensures words { MatchResult result (λ _. HasWords (record { hosts = hosts; words = words.now })) (SaysWords (record { hosts = hosts; words = words.now })) }
     ensures depot { DepotCause (D.faults depot.old) (D.faults depot.new) result }
     ensures host { HostCause (H.faults host.old) (H.faults host.new) result }
@@ -61,7 +61,8 @@ pub fn pig_main<R: Threads + Sync, D: Depot, H: Host + Send, C: Console>(
     ensures usage { result.fault ≡ Some fault.Usage → ¬ HasWords (line_of hosts.old.items words.now) }
     ensures off_words { ¬ HasWords (line_of hosts.old.items words.now) → (result.fault ≡ Some fault.Usage) ⊎ (result.fault ≡ Some fault.OutOfMemory) }
     ensures depot_fault { (store : Option ℕ) → result.fault ≡ Some (fault.DepotFault store) → FailedRose (D.faults depot.old) (D.faults depot.new) }
-    ensures store { (store : ℕ) → result.fault ≡ Some (fault.DepotFault (Some store)) → store ≡ 3 }
+    ensures store { ForSome (D.shelf depot.old) (λ s. (form : FirstForm) (pieces : List (List ℕ)) → IsDue (line_of hosts.old.items words.now) s (Runs form pieces)
+        → (store : ℕ) → result.fault ≡ Some (fault.DepotFault (Some store)) → store ≡ form.store) }
     ensures host_fault { result.fault ≡ Some fault.HostFault → FailedRose (first_of H.faults hosts.old.items) (first_of H.faults hosts.new.items) }
     ensures complete { ForSome (D.shelf depot.old) (λ s. (form : FirstForm) (pieces : List (List ℕ)) → IsDue (line_of hosts.old.items words.now) s (Runs form pieces)
         → ¬ FailedRose (D.faults depot.old) (D.faults depot.new) → ¬ FailedRose (first_of H.faults hosts.old.items) (first_of H.faults hosts.new.items)

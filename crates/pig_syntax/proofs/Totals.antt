@@ -1,11 +1,10 @@
 -- Every script has its tokens or a first place where none begins; all tokens have statements, and each statement has a depth.
-use Rattle.std.proofs.Common.{◌≡◌, ◌<◌, ◌≤◌, ◌+◌, ◌-◌, ℕ, zero, suc, Bool, true, false, List, [], ◌∷◌, length, take, refl, sym, subst, arith, ap, ◌∙◌, cond, inl, inr, ◌⊎◌, max}
-use Rattle.std.specs.Prelude.{Option, Some, None, slice_get, codes, option_and_then, take_while, drop, ◌==◌}
+use Rattle.std.proofs.Common.{◌≡◌, ◌<◌, ◌≤◌, ◌+◌, ◌-◌, ℕ, zero, suc, Bool, true, false, List, [], ◌∷◌, length, take, refl, subst, arith, ap, ◌∙◌, cond, inl, inr, ◌⊎◌, max}
+use Rattle.std.specs.Prelude.{Option, Some, None, slice_get, codes, option_and_then, take_while, drop}
 use Rattle.std.specs.Option.{option_map_or}
 use Rattle.std.proofs.lemmas.List.{length-append, length-drop}
 use Rattle.std.specs.List.{slice_range}
 use Rattle.std.specs.Option.{option_map}
-use Rattle.std.proofs.Math.Nat.{eq-or-lt_of_le}
 use Rattle.std.proofs.lemmas.Bool.{cases_lt}
 use Rattle.pig_syntax.specs.declared.cutting.Piece.{Piece}
 use Rattle.pig_syntax.specs.declared.tokens.Token.{Token}
@@ -13,7 +12,6 @@ use Rattle.pig_syntax.specs.declared.tokens.TokenForm.{TokenForm}
 use Rattle.pig_syntax.specs.Cutting.{is_semicolon, open_braces, close_braces, opened, closed, IsCut, NoCut, Statements, none, last, next, IsDepth}
 use Rattle.pig_syntax.specs.Scanner.{token_at}
 use Rattle.pig_syntax.specs.Tokens.{AreTokens, Begins, IsBadAt, Reads, Stops, here, skips, takes, after_close, after_comment, after_gap, from_lf, is_in_line, is_space, strip}
-use Rattle.pig_syntax.proofs.CutLaws.{cut_within}
 use Rattle.pig_syntax.proofs.CutSteps.{IsDeepest, deepest_more, uncut_more}
 use Rattle.pig_syntax.proofs.Prefixes.{strip_split}
 use Rattle.pig_syntax.proofs.Recognised.{nothing_begins, token_begins}

@@ -1,4 +1,4 @@
-use Rattle.std.proofs.Common.{rules, ◌≡◌, refl, inl}
+use Rattle.std.proofs.Common.{rules, refl, inl}
 use Rattle.pig_run.specs.declared.words.Command.{Command}
 use Rattle.pig_run.specs.CommandWords.{IsCommand}
 use Rattle.pig_run.proofs.plan.read_path.Goals as goal

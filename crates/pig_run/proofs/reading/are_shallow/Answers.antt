@@ -1,5 +1,4 @@
-use Rattle.std.proofs.Common.{rules, ◌≡◌, ◌<◌, true, get_or, length, take, All, refl}
-use Rattle.std.proofs.lemmas.List.{take_all}
+use Rattle.std.proofs.Common.{rules, refl}
 use Rattle.pig_parser.specs.Parsing.{IsShallow}
 use Rattle.pig_run.proofs.ReadingSteps.{all_passed, passes_more}
 use Rattle.pig_run.proofs.reading.are_shallow.Goals as goal

@@ -1,4 +1,4 @@
-use Rattle.std.proofs.Common.{rules, ◌≡◌, ◌<◌, ◌≤◌, length, true, false, All, inl}
+use Rattle.std.proofs.Common.{rules, ◌≤◌, length, All, inl}
 use Rattle.pig_parser.specs.Parsing.{IsShallow}
 use Rattle.pig_run.specs.Reading.{IsParsed, IsMeasured, too_many, too_deep, measured}
 use Rattle.pig_run.proofs.ReadingSteps.{tells_weaker}

@@ -1,7 +1,7 @@
 use Rattle.std.proofs.Common.{rules, inl}
 use Rattle.pig_parser.specs.Parsing.{AreTrees}
 use Rattle.pig_run.specs.Reading.{IsFormed, IsParsed, off_grammar, parsed, TellsForm}
-use Rattle.pig_run.proofs.ReadingSteps.{tells_weaker}
+use Rattle.pig_run.proofs.ReadingSteps.{few_trees, tells_weaker}
 use Rattle.pig_run.proofs.reading.form_of_statements.Goals as goal
 
 pub returns-in-Ok : goal.returns-in-Ok
@@ -12,3 +12,6 @@ returns-in-Ok c =
 
 pub returns-in-Err-Syntax : goal.returns-in-Err-Syntax
 returns-in-Err-Syntax c = inl (off_grammar (search rules))
+
+pub form_of_trees-requires : goal.form_of_trees-requires
+form_of_trees-requires c = few_trees c.args.tokens.now c.args.pieces.now c.in-Ok.trees (search rules) c.requires.few_statements

@@ -3,7 +3,7 @@ use Rattle.pig_outside.specs.Faults.{FailedRose}
 use Rattle.pig_run.specs.declared.outcome.RunFault.TheVariants as fault
 use Rattle.pig_run.specs.Answers.{line_of, Tells, Runs, first_of}
 use Rattle.pig_run.specs.Told.{EndedWell, RefusedBefore, BrokeOff}
-use Rattle.pig_run.proofs.Answering.{answers_none, is_done, answers_fault, leaves, completes}
+use Rattle.pig_run.proofs.Answering.{answers_none, is_done, answers_fault, leaves, completes, store_named}
 use Rattle.pig_run.proofs.top.pig_main.Goals as goal
 
 pub returns-in-Ok-clause-answer : goal.returns-in-Ok-clause-answer
@@ -46,3 +46,10 @@ returns-in-Err-clause-complete g c s told form pieces due sound hosted =
     inr (ap (λ f. Some f) (completes c.in-Err.fault form pieces (FailedRose (g.D.Depot.faults c.args.depot.now) (g.D.Depot.faults c.run.new.depot))
     (FailedRose (first_of g.H.Host.faults c.args.hosts.now.items) (first_of g.H.Host.faults (slice_set c.args.hosts.now.items 0 c.run.new.host))) depot host
     (answers_fault (line_of c.args.hosts.now.items c.args.words.now) s old new c.in-Err.fault told broke (Runs form pieces) due) sound hosted))
+
+pub returns-in-Err-clause-store : goal.returns-in-Err-clause-store
+returns-in-Err-clause-store g c s told form pieces due store is =
+    let new = g.D.Depot.shelf c.run.new.depot in
+    let broke : RefusedBefore (line_of c.args.hosts.now.items c.args.words.now) s new c.in-Err.fault ⊎ BrokeOff (line_of c.args.hosts.now.items c.args.words.now) s new c.in-Err.fault =
+    subst (λ n. RefusedBefore (record { hosts = n; words = c.args.words.now }) s new c.in-Err.fault ⊎ BrokeOff (record { hosts = n; words = c.args.words.now }) s new c.in-Err.fault) (search rules) (c.in-Err.ensures.told s told) in
+    store_named (line_of c.args.hosts.now.items c.args.words.now) s new c.in-Err.fault broke form pieces due store is

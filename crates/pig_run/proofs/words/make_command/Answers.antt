@@ -1,8 +1,8 @@
-use Rattle.std.proofs.Common.{rules, ◌≡◌, ◌∙◌, refl, sym, ap, subst}
-use Rattle.pig_run.specs.ClapWords.{AreValues, given_of}
+use Rattle.std.proofs.Common.{rules, ◌≡◌, ◌∙◌, refl, sym, subst}
+use Rattle.pig_run.specs.ClapWords.{given_of}
 use Rattle.pig_run.specs.CommandWords.{Makes}
 use Rattle.pig_run.specs.declared.words.Command.{Command}
-use Rattle.pig_run.proofs.Commands.{made, numbers_of_made, taken_of_made}
+use Rattle.pig_run.proofs.Commands.{made, numbers_of_made}
 use Rattle.pig_run.proofs.words.make_command.Goals as goal
 
 pub returns-in_default-clause-usage : goal.returns-in_default-clause-usage

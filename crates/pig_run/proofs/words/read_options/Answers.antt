@@ -1,7 +1,6 @@
-use Rattle.std.proofs.Common.{rules, ◌≡◌, ◌∙◌, ap, sym, map, List, ℕ, Some, ⊎_elim}
+use Rattle.std.proofs.Common.{◌∙◌, ap, sym, map, ⊎_elim}
 use Rattle.std.specs.Option.{option_map}
 use Rattle.clap.specs.Words.{found_of, kind_of}
-use Rattle.pig_run.specs.ClapWords.{given_of}
 use Rattle.pig_run.proofs.ClapFinds.{are_read, none_found, refused, value_places}
 use Rattle.pig_run.proofs.words.read_options.Goals as goal
 

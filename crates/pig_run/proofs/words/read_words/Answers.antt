@@ -1,7 +1,7 @@
-use Rattle.std.proofs.Common.{rules, ◌≡◌, ◌∙◌, List, ℕ, Bor, All, IsUtf8, map, drop, ap, refl, sym, subst}
+use Rattle.std.proofs.Common.{◌≡◌, ◌∙◌, List, ℕ, Bor, All, IsUtf8, map, drop, ap, sym, subst}
 use Rattle.std.proofs.lemmas.Result.{IfErr-weaker}
 use Rattle.pig_run.specs.ClapWords.{AreRead, given_of}
-use Rattle.pig_run.proofs.Commands.{command_of_made, made_of_read, no_command}
+use Rattle.pig_run.proofs.Commands.{made_of_read}
 use Rattle.pig_run.proofs.words.read_words.Goals as goal
 
 pub read_options-requires : goal.read_options-requires
