@@ -1,5 +1,6 @@
 // Scripts of the whole grammar: those that are run, those that are refused, and the order of refusals.
 use crate::setting::{told, told_beside_output};
+use pig_outside::Method;
 use std::alloc::{AllocError, Global};
 use std::test::Fail;
 
@@ -35,6 +36,23 @@ fn layout_and_case_are_free(rt: HostRuntime) -> Result<(), Fail> {
     for script in WRITTEN {
         let got = told(&rt, alloc, &RUN, script, INPUT, None)?;
         assert_eq!(rt; got.as_str(), KEPT, "at {script}");
+    }
+    Ok(())
+}
+
+#[test]
+fn a_fault_of_a_commit_names_the_store(rt: HostRuntime) -> Result<(), Fail> {
+    let alloc = rt.alloc();
+    // Two empty statements before the LOAD, two behind it, and one behind the FILTER: the STORE is the eighth.
+    let script = format!(in alloc; ";;{LOAD};;b = FILTER a BY k > 4;;{STORE};")?;
+    for (method, want) in [
+        (Method::Exists, "6 the depot failed: none"),
+        (Method::Create, "6 the depot failed, store 8: none"),
+        (Method::Put, "6 the depot failed, store 8: open"),
+        (Method::Finish, "6 the depot failed, store 8: open 5\ty\n"),
+    ] {
+        let got = told(&rt, alloc, &RUN, script.as_str(), INPUT, Some((method, 1)))?;
+        assert_eq!(rt; got.as_str(), want);
     }
     Ok(())
 }
