@@ -147,32 +147,13 @@ fn refuses_in_order(rt: HostRuntime) -> Result<(), Fail> {
     let alloc = rt.alloc();
     let good = script(alloc, "k:int", "k > 4")?;
     let arrow = script(alloc, "k:int", "k => 4")?;
+    let usage = "1 usage: pig run SCRIPT [--workers N] [--reducers N] [--split BYTES]: none";
     for (words, script, want) in [
-        (
-            [].as_slice(),
-            good.as_str(),
-            "1 usage: pig run SCRIPT: none",
-        ),
-        (
-            ["run"].as_slice(),
-            good.as_str(),
-            "1 usage: pig run SCRIPT: none",
-        ),
-        (
-            ["run", "-s"].as_slice(),
-            good.as_str(),
-            "1 usage: pig run SCRIPT: none",
-        ),
-        (
-            ["check", "s"].as_slice(),
-            good.as_str(),
-            "1 usage: pig run SCRIPT: none",
-        ),
-        (
-            ["run", "s", "t"].as_slice(),
-            good.as_str(),
-            "1 usage: pig run SCRIPT: none",
-        ),
+        ([].as_slice(), good.as_str(), usage),
+        (["run"].as_slice(), good.as_str(), usage),
+        (["run", "-s"].as_slice(), good.as_str(), usage),
+        (["check", "s"].as_slice(), good.as_str(), usage),
+        (["run", "s", "t"].as_slice(), good.as_str(), usage),
         (
             ["run", "t"].as_slice(),
             good.as_str(),

@@ -154,7 +154,7 @@ fn an_input_is_looked_for_before_an_output(rt: HostRuntime) -> Result<(), Fail> 
 #[test]
 fn words_are_read_before_the_script(rt: HostRuntime) -> Result<(), Fail> {
     let alloc = rt.alloc();
-    let usage = "1 usage: pig run SCRIPT: none";
+    let usage = "1 usage: pig run SCRIPT [--workers N] [--reducers N] [--split BYTES]: none";
     let no_script = "2 there is no such script: none";
     let good = format!(in alloc; "{LOAD} b = FILTER a BY k > 4; {STORE}")?;
     for (words, want) in [

@@ -10,8 +10,8 @@ use thiserror::Error;
 /// Why a run did not end well.
 #[derive(Debug, Drop, Error)]
 pub enum RunFault {
-    /// The words are not `run` and the path of a script.
-    #[error("usage: pig run SCRIPT")]
+    /// The words are no command that is built: `run`, the path of one script, and options.
+    #[error("usage: pig run SCRIPT [--workers N] [--reducers N] [--split BYTES]")]
     Usage,
     /// The depot has no such script.
     #[error("there is no such script")]
