@@ -1,0 +1,4 @@
+pub mod TextOrder
+pub mod NumberOrder
+pub mod CodeOrder
+pub mod Turned

@@ -1,0 +1,1 @@
+-- Codes turned round compare in reverse.
