@@ -63,5 +63,5 @@ mutual
   entries_order (more_entries key v ps) no_entries h k s t = refl
   entries_order (more_entries key v ps) (more_entries l w qs) h k s t =
       chained (text_code key) (text_code l) (code v ++ entries_code ps) (code w ++ entries_code qs) s t (text_cmp key l) (ordering_then (tree_cmp v w) (entries_cmp ps qs)) (text_order key l)
-          (chained (code v) (code w) (entries_code ps) (entries_code qs) s t (tree_cmp v w) (entries_cmp ps qs) (code_order v w h.0 k.0) (entries_order ps qs h.1 k.1 s t))
+      (chained (code v) (code w) (entries_code ps) (entries_code qs) s t (tree_cmp v w) (entries_cmp ps qs) (code_order v w h.0 k.0) (entries_order ps qs h.1 k.1 s t))
       ∙ ap (λ r. ordering_then r (slice_cmp nat_cmp s t)) (sym (then_assoc (text_cmp key l) (tree_cmp v w) (entries_cmp ps qs)))

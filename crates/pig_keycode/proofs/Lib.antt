@@ -1,4 +1,6 @@
 pub mod TextOrder
 pub mod NumberOrder
 pub mod CodeOrder
+pub mod Unique
+pub mod CodeBytes
 pub mod Turned

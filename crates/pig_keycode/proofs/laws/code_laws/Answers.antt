@@ -1,0 +1,14 @@
+use Rattle.pig_keycode.proofs.Turned.{whole_order, turned_order, no_prefix, one_value}
+use Rattle.pig_keycode.proofs.laws.code_laws.Goals as goal
+
+pub returns-clause-ascending : goal.returns-clause-ascending
+returns-clause-ascending c = whole_order
+
+pub returns-clause-descending : goal.returns-clause-descending
+returns-clause-descending c = turned_order
+
+pub returns-clause-no_prefix : goal.returns-clause-no_prefix
+returns-clause-no_prefix c = no_prefix
+
+pub returns-clause-one_value : goal.returns-clause-one_value
+returns-clause-one_value c = one_value
