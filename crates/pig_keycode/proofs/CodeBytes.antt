@@ -1,14 +1,12 @@
 -- A code is of bytes where the value's texts are.
-use Rattle.std.proofs.Common.{◌≡◌, ◌<◌, ◌+◌, ◌/◌, ◌%◌, ℕ, zero, suc, Bool, true, false, ◌&&◌, List, [], ◌∷◌, ◌++◌, refl, arith, sym, ◌∙◌, ap, subst, inl, inr}
-use Rattle.std.specs.List.{AllByRecursion}
+use Rattle.std.proofs.Common.{◌≡◌, ◌<◌, ℕ, zero, suc, Bool, true, false, ◌&&◌, List, [], ◌∷◌, ◌++◌, refl, arith, subst, inl, inr}
 use Rattle.std.specs.Str.{IsUtf8}
 use Rattle.std.specs.Int.{byte_at, bytes_high_first}
 use Rattle.std.proofs.lemmas.Nat.{mod_below}
 use Rattle.std.proofs.lemmas.Bool.{cases_lt, lt-ltb, le-ltb}
-use Rattle.std.proofs.lemmas.Bool.Decides.{nat_tests}
 use lib.Utf8.{encode, encodes, scalar, scalars, scalar_cases}
 use Rattle.pig_value.specs.Trees.{Tree, Fields, Tuples, Entries, v_null, v_bool, v_int, v_long, v_chars, v_bytes, v_tuple, v_bag, v_listed, v_map, no_fields, more_fields, no_tuples, more_tuples, no_entries, more_entries}
-use Rattle.pig_keycode.specs.Codes.{bool_code, biased, escaped, text_code, code, fields_code, tuples_code, entries_code}
+use Rattle.pig_keycode.specs.Codes.{bool_code, escaped, text_code, code, fields_code, tuples_code, entries_code}
 use Rattle.pig_keycode.specs.Codable.{AreBytes, HasText, FieldsHaveText, TuplesHaveText, EntriesHaveText}
 
 pub bytes-append : (xs ys : List ℕ) → AreBytes xs → AreBytes ys → AreBytes (xs ++ ys)

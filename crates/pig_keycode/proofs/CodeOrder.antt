@@ -1,13 +1,11 @@
 -- Codes compare as values do, whatever follows them. All the laws of the code come from this.
-use Rattle.std.proofs.Common.{◌≡◌, ℕ, Bool, true, false, List, [], ◌∷◌, ◌++◌, refl, sym, ◌∙◌, ap}
+use Rattle.std.proofs.Common.{◌≡◌, ℕ, Bool, true, false, List, ◌∷◌, ◌++◌, refl, sym, ◌∙◌, ap}
 use Rattle.std.specs.Ordering.{nat_cmp, bool_cmp, ordering_then}
 use Rattle.std.specs.Cmp.Lexicographic.{slice_cmp}
 use Rattle.std.specs.declared.cmp.Ordering.{Ordering}
-use Rattle.std.specs.declared.cmp.Ordering.TheVariants.{Less, Equal, Greater}
-use Rattle.std.proofs.lemmas.List.{append_assoc, append-nil}
+use Rattle.std.proofs.lemmas.List.{append_assoc}
 use Rattle.pig_value.specs.Trees.{Tree, Fields, Tuples, Entries, v_null, v_bool, v_int, v_long, v_chars, v_bytes, v_tuple, v_bag, v_listed, v_map, no_fields, more_fields, no_tuples, more_tuples, no_entries, more_entries}
 use Rattle.pig_value.specs.Orders.{text_cmp, tree_cmp, fields_cmp, tuples_cmp, entries_cmp}
-use Rattle.pig_value.specs.OrderLaws.{tree_same}
 use Rattle.pig_value.specs.Valid.{IsValue, AreFields, AreTuples, AreEntries}
 use Rattle.pig_keycode.specs.Codes.{bool_code, text_code, code, fields_code, tuples_code, entries_code}
 use Rattle.pig_keycode.proofs.TextOrder.{then_assoc, text_order}

@@ -4,3 +4,4 @@ pub mod CodeOrder
 pub mod Unique
 pub mod CodeBytes
 pub mod Turned
+pub mod Writing

@@ -1,5 +1,5 @@
 -- Numbers as they are written compare as numbers do, whatever follows them.
-use Rattle.std.proofs.Common.{◌≡◌, ◌<◌, ◌≤◌, ◌+◌, ◌-◌, ◌*◌, ◌/◌, ◌%◌, ◌^◌, ℕ, zero, suc, ℤ, pos, negsuc, List, [], ◌∷◌, ◌++◌, refl, arith, sym, ◌∙◌, ap, subst, pow-suc, mul_comm}
+use Rattle.std.proofs.Common.{◌≡◌, ◌<◌, ◌≤◌, ◌+◌, ◌*◌, ◌%◌, ◌^◌, ℕ, zero, suc, ℤ, pos, negsuc, List, ◌++◌, refl, arith, sym, ◌∙◌, ap, subst, pow-suc, mul_comm}
 use Rattle.std.specs.Prelude.{FitsSigned, ◌<ℤ◌}
 use Rattle.std.proofs.Math.Nat.{pow-le-pow_right, mod-eq_of_lt}
 use Rattle.std.proofs.Math.Arith.{mod-mul}

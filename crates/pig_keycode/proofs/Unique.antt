@@ -1,18 +1,18 @@
 -- What a code stands before is told apart from the code: equal bytes begin with equal parts.
 use Rattle.std.proofs.Common.{◌≡◌, ℕ, List, [], ◌∷◌, ◌++◌, refl, sym, ◌∙◌, ap}
-use Rattle.std.specs.Ordering.{nat_cmp, ordering_then, MatchOrdering}
+use Rattle.std.specs.Ordering.{nat_cmp, ordering_then}
 use Rattle.std.specs.Cmp.Lexicographic.{slice_cmp}
 use Rattle.std.specs.declared.cmp.Ordering.{Ordering}
 use Rattle.std.specs.declared.cmp.Ordering.TheVariants.{Less, Equal, Greater}
 use Rattle.std.proofs.lemmas.Cmp.{ranked}
 use Rattle.std.specs.Cmp.{nat_cmp_is}
-use Rattle.pig_value.specs.Trees.{Tree, Fields, Tuples, Entries}
-use Rattle.pig_value.specs.Orders.{text_cmp, tree_cmp, fields_cmp, tuples_cmp, entries_cmp}
+use Rattle.pig_value.specs.Trees.{Tree}
+use Rattle.pig_value.specs.Orders.{text_cmp, tree_cmp}
 use Rattle.pig_value.specs.OrderLaws.{tree_same}
-use Rattle.pig_value.specs.Valid.{IsValue, AreFields}
-use Rattle.pig_keycode.specs.Codes.{text_code, code, fields_code}
+use Rattle.pig_value.specs.Valid.{IsValue}
+use Rattle.pig_keycode.specs.Codes.{text_code, code}
 use Rattle.pig_keycode.proofs.TextOrder.{text_order}
-use Rattle.pig_keycode.proofs.CodeOrder.{code_order, fields_order}
+use Rattle.pig_keycode.proofs.CodeOrder.{code_order}
 
 pub itself : (xs : List ℕ) → slice_cmp nat_cmp xs xs ≡ Equal
 itself [] = refl

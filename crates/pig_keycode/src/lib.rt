@@ -6,6 +6,9 @@
 //! none is a proper prefix of another, and codes compare as values do.
 #![tactic(auto)]
 
+mod encoding;
 mod laws;
+mod tags;
 
+pub use encoding::encode;
 pub use laws::code_laws;
