@@ -5,3 +5,6 @@ pub mod Unique
 pub mod CodeBytes
 pub mod Turned
 pub mod Writing
+pub mod Sequences
+pub mod Passing
+pub mod Numbers

@@ -6,6 +6,7 @@
 //! none is a proper prefix of another, and codes compare as values do.
 #![tactic(auto)]
 
+mod decoding;
 mod encoding;
 mod laws;
 mod tags;
