@@ -8,3 +8,5 @@ pub mod Writing
 pub mod Sequences
 pub mod Passing
 pub mod Numbers
+pub mod Forms
+pub mod Wholes

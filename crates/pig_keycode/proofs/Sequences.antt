@@ -6,8 +6,20 @@ use Rattle.std.specs.declared.option.Option.{Option}
 use Rattle.std.specs.declared.option.Option.TheVariants.{Some, None}
 use Rattle.pig_keycode.specs.Codes.{escaped, escaped_byte, text_code}
 use Rattle.pig_keycode.specs.Codable.{AreBytes}
-use Rattle.pig_keycode.specs.Reading.{StandsFirst, NoneFirst, sequence_code, marked, list_code, mark_code, AnyMark, byte_code, IsByteOrEnd}
+use Rattle.pig_keycode.specs.Reading.{StandsFirst, NoneFirst, mark_code, AnyMark, byte_code, IsByteOrEnd}
 use Rattle.pig_keycode.proofs.Unique.{text_told}
+
+-- steps one after another, and an end
+abbrev pub sequence_code : {X : Type 0} → (X → List ℕ) → List ℕ → List X → List ℕ
+sequence_code step end [] = end
+sequence_code step end (x ∷ xs) = step x ++ sequence_code step end xs
+
+-- a mark before each item, and one behind the last
+abbrev pub marked : {X : Type 0} → (X → List ℕ) → X → List ℕ
+marked item x = 1 ∷ item x
+
+abbrev pub list_code : {X : Type 0} → (X → List ℕ) → List X → List ℕ
+list_code item = sequence_code (marked item) (0 ∷ [])
 
 -- what was read of a sequence, and that what is left tells the rest of it
 pub record Goes {X : Type 0} (step : X → List ℕ) (end : List ℕ) (Good : X → Type 0) (bytes rest : List ℕ) (done : List X) : Type 0 where
@@ -28,7 +40,7 @@ module _ {X : Type 0} (step : X → List ℕ) (end : List ℕ) (Good : X → Typ
   none_here bytes no_end no_step (x ∷ xs) rest h = no_step x (sequence_code step end xs ++ rest) (record { is = h.is ∙ append_assoc (step x) (sequence_code step end xs) rest; good = h.good.0 })
 
   module _ (told : (x y : X) (s t : List ℕ) → Good x → Good y → step x ++ s ≡ step y ++ t → (x ≡ y) × (s ≡ t))
-    (apart : (x : X) (s t : List ℕ) → step x ++ s ≡ end ++ t → ⊥) where
+      (apart : (x : X) (s t : List ℕ) → step x ++ s ≡ end ++ t → ⊥) where
     none_on : (bytes after : List ℕ) (x : X) → StandsFirst step Good bytes x after → NoneFirst (sequence_code step end) (AllByRecursion Good) after → NoneFirst (sequence_code step end) (AllByRecursion Good) bytes
     none_on bytes after x a none [] rest h = apart x after rest (sym a.is ∙ h.is)
     none_on bytes after x a none (y ∷ ys) rest h =
@@ -97,12 +109,12 @@ text_ends bytes rest left text g h =
 pub text_off : (bytes rest text : List ℕ) → TextGoes bytes rest text → NoneFirst byte_code IsByteOrEnd rest → NoneFirst text_code AreBytes bytes
 text_off bytes rest text g none x left h =
     g.off
-        (none_here escaped_byte (0 ∷ 0 ∷ []) (λ b. b < 256) rest
-            (λ l e. none None l (record { is = e; good = tt }))
-            (λ b l e. none (Some b) l (record { is = e.is; good = e.good })))
-        x
-        left
-        (record { is = h.is ∙ ap (λ l. l ++ left) (sym (text_is x)); good = h.good })
+    (none_here escaped_byte (0 ∷ 0 ∷ []) (λ b. b < 256) rest
+    (λ l e. none None l (record { is = e; good = tt }))
+    (λ b l e. none (Some b) l (record { is = e.is; good = e.good })))
+    x
+    left
+    (record { is = h.is ∙ ap (λ l. l ++ left) (sym (text_is x)); good = h.good })
 
 -- ---- lists
 
@@ -116,22 +128,22 @@ module _ {X : Type 0} (item : X → List ℕ) (Good : X → Type 0) where
   pub list_off : (bytes rest : List ℕ) (done : List X) → ListGoes bytes rest done → NoneFirst mark_code AnyMark rest → NoneFirst (list_code item) (AllByRecursion Good) bytes
   list_off bytes rest done g none =
       g.off
-          (none_here (marked item) (0 ∷ []) Good rest
-              (λ l e. none false l (record { is = e; good = tt }))
-              (λ x l e. none true (item x ++ l) (record { is = e.is; good = tt })))
+      (none_here (marked item) (0 ∷ []) Good rest
+      (λ l e. none false l (record { is = e; good = tt }))
+      (λ x l e. none true (item x ++ l) (record { is = e.is; good = tt })))
 
   pub item_off : (bytes rest left : List ℕ) (done : List X) → ListGoes bytes rest done → StandsFirst mark_code AnyMark rest true left → NoneFirst item Good left → NoneFirst (list_code item) (AllByRecursion Good) bytes
   item_off bytes rest left done g h none =
       g.off
-          (none_here (marked item) (0 ∷ []) Good rest
-              (λ l e. let wrong = heads 1 0 left l (sym h.is ∙ e) in omega (arith, wrong))
-              (λ x l e. none x l (record { is = tails 1 1 left (item x ++ l) (sym h.is ∙ e.is); good = e.good })))
+      (none_here (marked item) (0 ∷ []) Good rest
+      (λ l e. let wrong = heads 1 0 left l (sym h.is ∙ e) in omega (arith, wrong))
+      (λ x l e. none x l (record { is = tails 1 1 left (item x ++ l) (sym h.is ∙ e.is); good = e.good })))
 
   module _ (told : (x y : X) (s t : List ℕ) → Good x → Good y → item x ++ s ≡ item y ++ t → (x ≡ y) × (s ≡ t)) where
     pub list_goes_on : (bytes rest left after : List ℕ) (done : List X) (x : X) → ListGoes bytes rest done → StandsFirst mark_code AnyMark rest true left → StandsFirst item Good left x after → ListGoes bytes after (done ++ x ∷ [])
     list_goes_on bytes rest left after done x g h a =
         goes_on (marked item) (0 ∷ []) Good
-            (λ x y s t p q e. told x y s t p q (tails 1 1 (item x ++ s) (item y ++ t) e))
-            (λ x s t e. let wrong = heads 1 0 (item x ++ s) t e in omega (arith, wrong))
-            bytes rest after done x g
-            (record { is = h.is ∙ ap (λ l. 1 ∷ l) a.is; good = a.good })
+        (λ x y s t p q e. told x y s t p q (tails 1 1 (item x ++ s) (item y ++ t) e))
+        (λ x s t e. let wrong = heads 1 0 (item x ++ s) t e in omega (arith, wrong))
+        bytes rest after done x g
+        (record { is = h.is ∙ ap (λ l. 1 ∷ l) a.is; good = a.good })

@@ -37,7 +37,7 @@ same_bytes (x ∷ xs) (y ∷ ys) h =
     ap (λ z. z ∷ xs) (same_byte x y (nat_cmp x y) refl both.0) ∙ ap (λ zs. y ∷ zs) (same_bytes xs ys both.1)
 
 -- bytes that compare part by part are equal part by part
-parts_equal : (xs ys s t : List ℕ) (r : Ordering) → slice_cmp nat_cmp xs ys ≡ ordering_then r (slice_cmp nat_cmp s t) → xs ≡ ys → (r ≡ Equal) × (s ≡ t)
+pub parts_equal : (xs ys s t : List ℕ) (r : Ordering) → slice_cmp nat_cmp xs ys ≡ ordering_then r (slice_cmp nat_cmp s t) → xs ≡ ys → (r ≡ Equal) × (s ≡ t)
 parts_equal xs ys s t r law e =
     let both = both_equal r (slice_cmp nat_cmp s t) (sym law ∙ (ap (λ l. slice_cmp nat_cmp xs l) (sym e) ∙ itself xs)) in
     (both.0, same_bytes s t both.1)

@@ -11,5 +11,6 @@ mod encoding;
 mod laws;
 mod tags;
 
+pub use decoding::decode;
 pub use encoding::encode;
 pub use laws::code_laws;

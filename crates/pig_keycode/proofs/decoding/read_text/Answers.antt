@@ -17,10 +17,10 @@ returns-in_err-byte c =
 pub returns-in-None : goal.returns-in-None
 returns-in-None c =
     text_ends c.args.bytes.now c.loop-text.rest.now c.in_ok-byte.left.now c.loop-text.text c.loop-text.invariant
-        (subst (λ b. StandsFirst byte_code IsByteOrEnd c.loop-text.rest.now b c.in_ok-byte.left.now) c.in-None.is c.in_ok-byte.ensures)
+    (subst (λ b. StandsFirst byte_code IsByteOrEnd c.loop-text.rest.now b c.in_ok-byte.left.now) c.in-None.is c.in_ok-byte.ensures)
 
 pub loop-text-preserved : goal.loop-text-preserved
 loop-text-preserved c =
     subst (λ text. TextGoes c.args.bytes.now c.in_ok-byte.left.now text) (sym c.in_ok-push-in-Some.ensures.ok)
-        (text_goes_on c.args.bytes.now c.loop-text.rest.now c.in_ok-byte.left.now c.loop-text.text c.in-Some.byte c.loop-text.invariant
-            (subst (λ b. StandsFirst byte_code IsByteOrEnd c.loop-text.rest.now b c.in_ok-byte.left.now) c.in-Some.is c.in_ok-byte.ensures))
+    (text_goes_on c.args.bytes.now c.loop-text.rest.now c.in_ok-byte.left.now c.loop-text.text c.in-Some.byte c.loop-text.invariant
+    (subst (λ b. StandsFirst byte_code IsByteOrEnd c.loop-text.rest.now b c.in_ok-byte.left.now) c.in-Some.is c.in_ok-byte.ensures))
