@@ -1,22 +1,21 @@
 -- A value of each form by its content, and what rules out that there is one.
-use Rattle.std.proofs.Common.{◌≡◌, ◌<◌, ◌≤◌, ◌+◌, ℕ, ℤ, Bool, true, false, List, [], ◌∷◌, ◌++◌, length, map, refl, sym, ◌∙◌, ap, subst, arith}
-use Rattle.std.specs.Prelude.{◌^◌, FitsSigned, ◌↔◌}
+use Rattle.std.proofs.Common.{◌≡◌, ◌<◌, ◌≤◌, ◌+◌, ℕ, Bool, true, false, List, [], ◌∷◌, ◌++◌, length, refl, sym, ◌∙◌, ap, subst, arith}
+use Rattle.std.specs.Prelude.{◌^◌, FitsSigned}
 use Rattle.std.specs.Int.{w32, w64, to_be_bytes}
 use Rattle.std.specs.List.{AllByRecursion}
 use Rattle.std.specs.Str.{IsUtf8}
 use Rattle.std.proofs.lemmas.List.{append_assoc, length-append}
-use Rattle.std.specs.declared.cmp.Ordering.TheVariants.{Less, Equal, Greater}
-use Rattle.pig_value.specs.Trees.{Tree, Fields, Tuples, Entries, v_null, v_bool, v_int, v_long, v_chars, v_bytes, v_tuple, v_bag, v_listed, v_map, no_fields, more_fields, no_tuples, more_tuples, no_entries, more_entries, fields_of, fields_list, tuples_of, tuples_list, entries_of, entries_list}
+use Rattle.pig_value.specs.Trees.{Tree, Fields, Tuples, Entries, v_null, v_bool, v_int, v_long, v_chars, v_bytes, v_tuple, v_bag, v_listed, v_map, no_fields, no_tuples, no_entries, fields_of, fields_list, tuples_of, tuples_list, entries_of, entries_list}
 use Rattle.pig_value.specs.TreeLaws.{fields_back, fields_there, tuples_back, tuples_there, entries_back, entries_there}
-use Rattle.pig_value.specs.Orders.{rank, row_cmp, bag_of, tuples_cmp, entries_cmp}
+use Rattle.pig_value.specs.Orders.{rank, row_cmp, bag_of, entries_cmp}
 use Rattle.pig_value.specs.Sorts.{Ascends}
 use Rattle.pig_value.specs.Bags.{sorted_is, sort_ascends}
 use Rattle.pig_value.specs.OrderLaws.{tree_same, row_total}
-use Rattle.pig_value.specs.Valid.{IsValue, AreFields, AreTuples, AreEntries, TextsAscend}
+use Rattle.pig_value.specs.Valid.{AreTuples, AreEntries, TextsAscend}
 use Rattle.pig_keycode.specs.Codes.{bool_code, biased, text_code, code, fields_code, tuples_code, entries_code}
-use Rattle.pig_keycode.specs.Codable.{AreBytes, HasText, FieldsHaveText, TuplesHaveText, EntriesHaveText, IsCodable}
-use Rattle.pig_keycode.specs.Reading.{StandsFirst, NoneFirst, mark_code, AnyMark, row_code, fields_part, IsCodableRow, rows_part, AreCodableRows, pair_code, IsCodablePair, pairs_part, AreCodablePairs, keys_of, KeyRises}
-use Rattle.pig_keycode.proofs.CodeOrder.{tuples_order, entries_order}
+use Rattle.pig_keycode.specs.Codable.{AreBytes, TuplesHaveText, EntriesHaveText, IsCodable}
+use Rattle.pig_keycode.specs.Reading.{StandsFirst, NoneFirst, mark_code, AnyMark, row_code, fields_part, IsCodableRow, rows_part, AreCodableRows, pair_code, IsCodablePair, pairs_part, AreCodablePairs, keys_of}
+use Rattle.pig_keycode.proofs.CodeOrder.{entries_order}
 use Rattle.pig_keycode.proofs.Sequences.{list_code, ListGoes, list_ends, list_off, item_off, heads, tails}
 use Rattle.pig_keycode.proofs.Unique.{code_told, text_told, parts_equal}
 

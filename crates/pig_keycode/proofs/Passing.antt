@@ -2,7 +2,7 @@
 use Rattle.std.proofs.Common.{◌≡◌, ℕ, List, sym, subst}
 use Rattle.std.specs.Borrow.{Bor}
 use Rattle.std.specs.declared.result.Result.{Result}
-use Rattle.std.specs.declared.result.Result.TheVariants.{Ok, Err}
+use Rattle.std.specs.declared.result.Result.TheVariants.{Err}
 use Rattle.pig_keycode.specs.Reading.{Reads, NoneFirst}
 use Rattle.pig_keycode.specs.declared.decoding.ReadFault.{ReadFault}
 use Rattle.pig_keycode.specs.declared.decoding.ReadFault.TheVariants as fault

@@ -1,13 +1,11 @@
 -- Steps one after another up to an end, as they are read from the front.
-use Rattle.std.proofs.Common.{◌≡◌, ◌<◌, ◌+◌, ℕ, zero, suc, Bool, true, false, List, [], ◌∷◌, ◌++◌, length, map, refl, sym, ◌∙◌, ap, subst, arith}
+use Rattle.std.proofs.Common.{◌≡◌, ◌<◌, ℕ, zero, suc, true, false, List, [], ◌∷◌, ◌++◌, length, refl, sym, ◌∙◌, ap, subst, arith}
 use Rattle.std.specs.List.{AllByRecursion}
-use Rattle.std.proofs.lemmas.List.{append_assoc, append-nil, length-append, map-append}
-use Rattle.std.specs.declared.option.Option.{Option}
+use Rattle.std.proofs.lemmas.List.{append_assoc, append-nil}
 use Rattle.std.specs.declared.option.Option.TheVariants.{Some, None}
 use Rattle.pig_keycode.specs.Codes.{escaped, escaped_byte, text_code}
 use Rattle.pig_keycode.specs.Codable.{AreBytes}
 use Rattle.pig_keycode.specs.Reading.{StandsFirst, NoneFirst, mark_code, AnyMark, byte_code, IsByteOrEnd}
-use Rattle.pig_keycode.proofs.Unique.{text_told}
 
 -- steps one after another, and an end
 abbrev pub sequence_code : {X : Type 0} → (X → List ℕ) → List ℕ → List X → List ℕ

@@ -10,6 +10,8 @@ mod decoding;
 mod encoding;
 mod laws;
 mod tags;
+#[cfg(test)]
+mod tests;
 
 pub use decoding::decode;
 pub use encoding::encode;

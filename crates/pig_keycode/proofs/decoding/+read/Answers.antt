@@ -1,15 +1,15 @@
-use Rattle.std.proofs.Common.{rules, ◌≡◌, ◌≤◌, ◌+◌, ℕ, Bool, true, false, List, [], ◌∷◌, ◌++◌, length, map, sym, ap, ◌∙◌, subst, arith}
+use Rattle.std.proofs.Common.{rules, ◌≡◌, ◌≤◌, ◌+◌, true, [], ◌∷◌, ◌++◌, length, map, sym, ap, ◌∙◌, subst, arith}
 use Rattle.std.specs.declared.result.Result.TheVariants.{Err}
 use Rattle.std.proofs.lemmas.List.{map-append}
-use Rattle.pig_value.specs.Trees.{tree, row_tree, rows_tree, entry_of, v_tuple, v_bag, v_map}
-use Rattle.pig_value.specs.TreeLaws.{tree-Tuple, tree-Bag, tree-Listed, tree-Map, entry_is}
+use Rattle.pig_value.specs.Trees.{tree, row_tree, rows_tree, entry_of}
+use Rattle.pig_value.specs.TreeLaws.{tree-Bag, tree-Map, entry_is}
 use Rattle.pig_value.specs.Orders.{row_cmp}
 use Rattle.pig_value.specs.Sorts.{Ascends}
 use Rattle.pig_value.specs.Valid.{TextsAscend}
 use Rattle.pig_keycode.specs.Codes.{code}
 use Rattle.pig_keycode.specs.Codable.{IsCodable}
 use Rattle.pig_keycode.specs.Reading.{StandsFirst, mark_code, AnyMark, row_code, fields_part, IsCodableRow, rows_part, AreCodableRows, pair_code, IsCodablePair, pairs_part, AreCodablePairs, keys_of}
-use Rattle.pig_keycode.proofs.Forms.{not_longer, one_shorter, fields_end, fields_off, fields_item_off, none_tuple, row_told, rows_end, rows_off, rows_item_off, stands_bag, none_bag, none_listed, off_bag, pairs_end, pairs_off, pairs_item_off, stands_map, none_map, off_map, stands_pair, none_key, none_after, pair_told, value_told}
+use Rattle.pig_keycode.proofs.Forms.{not_longer, one_shorter, fields_end, fields_off, fields_item_off, none_tuple, row_told, rows_end, rows_off, rows_item_off, stands_bag, none_bag, none_listed, off_bag, pairs_end, pairs_off, pairs_item_off, stands_map, none_map, off_map, stands_pair, none_after, pair_told, value_told}
 use Rattle.pig_keycode.proofs.Passing.{passes_on}
 use Rattle.pig_keycode.proofs.Sequences.{ListGoes, list_goes_on}
 use Rattle.pig_keycode.proofs.decoding.+read.Goals as goal

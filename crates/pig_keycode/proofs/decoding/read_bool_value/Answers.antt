@@ -1,4 +1,4 @@
-use Rattle.std.proofs.Common.{rules, ◌≡◌, ◌∷◌, ℕ}
+use Rattle.std.proofs.Common.{rules, ◌≡◌, ◌∷◌}
 use Rattle.std.specs.declared.result.Result.TheVariants.{Err}
 use Rattle.pig_keycode.specs.Reading.{mark_code, AnyMark}
 use Rattle.pig_value.specs.Trees.{tree}

@@ -1,7 +1,5 @@
-use Rattle.std.proofs.Common.{rules, ◌≡◌, ◌<◌, ℕ, [], ◌∷◌, ◌++◌, ap, sym, ◌∙◌, subst}
-use Rattle.std.specs.Str.{IsUtf8}
-use Rattle.std.specs.declared.option.Option.TheVariants.{Some, None}
-use Rattle.std.specs.declared.result.Result.TheVariants.{Ok, Err}
+use Rattle.std.proofs.Common.{rules, ◌≡◌, sym, subst}
+use Rattle.std.specs.declared.result.Result.TheVariants.{Err}
 use Rattle.pig_keycode.specs.Codes.{text_code}
 use Rattle.pig_keycode.specs.Codable.{AreBytes}
 use Rattle.pig_keycode.specs.Reading.{StandsFirst, byte_code, IsByteOrEnd}
