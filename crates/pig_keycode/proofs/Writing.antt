@@ -1,8 +1,10 @@
 -- Steps of the loops that write codes.
-use Rattle.std.proofs.Common.{◌≡◌, ℕ, ◌+◌, ◌<◌, List, [], ◌∷◌, ◌++◌, length, map, drop, get_or, sym, ◌∙◌, ap}
+use Rattle.std.proofs.Common.{◌≡◌, ℕ, suc, ◌+◌, ◌<◌, List, [], ◌∷◌, ◌++◌, length, map, drop, get_or, sym, ◌∙◌, ap, subst}
 use Rattle.std.proofs.lemmas.List.{append_assoc, drop_more}
 use Rattle.pig_value.specs.Trees.{Tree, entries_of}
 use Rattle.pig_keycode.specs.Codes.{text_code, code, entries_code}
+use Rattle.std.specs.Str.{IsUtf8}
+use Rattle.pig_keycode.specs.Codable.{AreBytes, HasText, EntriesHaveText}
 use Rattle.pig_keycode.specs.Grown.{IsGrown}
 
 -- a pair is written: the mark, the key as a chararray and the value
@@ -36,3 +38,17 @@ grown_thrice start old marked with_key new a mark b c = record {
       ∙ (ap (λ l. l ++ 1 ∷ (b.more ++ c.more)) a.is
       ∙ append_assoc start a.more (1 ∷ (b.more ++ c.more)))))));
 }
+
+-- a pair has text, and those behind it
+pub pair_has_text : {V : Type 0} (entry : V → List ℕ × Tree) (xs : List V) (i : ℕ) (x : V) (key : List ℕ) (v : Tree)
+    → i < length xs → x ≡ get_or xs i x → entry x ≡ (key, v) → IsUtf8 key → HasText v
+    → EntriesHaveText (entries_of (map entry (drop (i + 1) xs))) → EntriesHaveText (entries_of (map entry (drop i xs)))
+pair_has_text entry xs i x key v within at is utf8 text behind =
+    let here : drop i xs ≡ x ∷ drop (i + 1) xs = drop_more xs i x within ∙ ap (λ y. y ∷ drop (i + 1) xs) (sym at) in
+    subst (λ l. EntriesHaveText (entries_of (map entry l))) (sym here)
+    (subst (λ p. EntriesHaveText (entries_of (p ∷ map entry (drop (i + 1) xs)))) (sym is) (utf8, text, behind))
+
+-- bytes, by index
+pub bytes_at : (bs : List ℕ) → ((i : ℕ) → get_or bs i 0 < 256) → AreBytes bs
+bytes_at [] h = tt
+bytes_at (b ∷ bs) h = (h 0, bytes_at bs (λ i. let next : get_or (b ∷ bs) (suc i) 0 < 256 = h (suc i) in next))

@@ -3,17 +3,20 @@ ghost use Rattle.std.specs.Int.{w32, w64, to_be_bytes};
 ghost use Rattle.pig_value.specs.Trees.{tree, row_tree, rows_tree, entry_of, fields_of, tuples_of, entries_of};
 ghost use Rattle.pig_value.specs.declared.shared.Dir.{Dir};
 ghost use Rattle.pig_keycode.specs.Codes.{bool_code, biased, escaped, escaped_byte, text_code, code, fields_code, tuples_code, entries_code, turned, in_direction, code_in};
+ghost use Rattle.std.specs.Str.{IsUtf8};
+ghost use Rattle.pig_keycode.specs.Codable.{AreBytes, HasText, FieldsHaveText, TuplesHaveText, EntriesHaveText};
 ghost use Rattle.pig_keycode.specs.Grown.{IsGrown};
 
 use crate::tags::{
     BAG, BOOL, BYTES, CHARS, END, ESCAPED, INT, ITEM, LISTED, LONG, MAP, NULL, TUPLE,
 };
-use pig_value::{Dir, Pairs, Rows, Tuple, Value};
+use pig_value::{Blob, Dir, Pairs, Rows, Text, Tuple, Value};
 use std::alloc::AllocError;
 
 /// Appends the code of a value in a direction. Where memory is wanting, `out` stays as it was.
 pub fn encode(v: &Value, dir: Dir, out: &mut Vec<u8>) -> Result<(), AllocError>
     ensures ok { OnOk result (out.new.items ≡ out.old.items ++ code_in dir (tree v.now)) }
+    ensures text { OnOk result (HasText (tree v.now)) }
     ensures err { OnErr result (out.new.items ≡ out.old.items) }
 {
     let start = out.len();
@@ -33,6 +36,7 @@ pub fn encode(v: &Value, dir: Dir, out: &mut Vec<u8>) -> Result<(), AllocError>
 #[cycle(code)]
 fn write_value(value: &Value, out: &mut Vec<u8>) -> Result<(), AllocError>
     ensures ok { OnOk result (out.new.items ≡ out.old.items ++ code (tree value.now)) }
+    ensures text { OnOk result (HasText (tree value.now)) }
     ensures grows { IsGrown out.old.items out.new.items }
 {
     match value {
@@ -40,8 +44,8 @@ fn write_value(value: &Value, out: &mut Vec<u8>) -> Result<(), AllocError>
         Value::Bool(truth) => write_bytes(&[BOOL, bool_byte(*truth)], out),
         Value::Int(number) => write_int(*number, out),
         Value::Long(number) => write_long(*number, out),
-        Value::Chars(text) => write_text(CHARS, text.as_bytes(), out),
-        Value::Bytes(bytes) => write_text(BYTES, bytes.as_slice(), out),
+        Value::Chars(text) => write_chars(text, out),
+        Value::Bytes(bytes) => write_blob(bytes, out),
         Value::Tuple(fields) => write_fields(TUPLE, fields, out),
         Value::Bag(rows) => write_rows(BAG, rows, out),
         Value::Listed(rows) => write_rows(LISTED, rows, out),
@@ -53,6 +57,7 @@ fn write_value(value: &Value, out: &mut Vec<u8>) -> Result<(), AllocError>
 #[cycle(code)]
 fn write_fields(tag: u8, fields: &Tuple, out: &mut Vec<u8>) -> Result<(), AllocError>
     ensures ok { OnOk result (out.new.items ≡ out.old.items ++ tag ∷ fields_code (fields_of (row_tree fields.now))) }
+    ensures text { OnOk result (FieldsHaveText (fields_of (row_tree fields.now))) }
     ensures grows { IsGrown out.old.items out.new.items }
 {
     out.push(tag)?;
@@ -67,6 +72,7 @@ fn write_fields(tag: u8, fields: &Tuple, out: &mut Vec<u8>) -> Result<(), AllocE
 #[cycle(code)]
 fn write_rows(tag: u8, rows: &Rows, out: &mut Vec<u8>) -> Result<(), AllocError>
     ensures ok { OnOk result (out.new.items ≡ out.old.items ++ tag ∷ tuples_code (tuples_of (rows_tree rows.now))) }
+    ensures text { OnOk result (TuplesHaveText (tuples_of (rows_tree rows.now))) }
     ensures grows { IsGrown out.old.items out.new.items }
 {
     out.push(tag)?;
@@ -81,16 +87,42 @@ fn write_rows(tag: u8, rows: &Rows, out: &mut Vec<u8>) -> Result<(), AllocError>
 #[cycle(code)]
 fn write_pairs(tag: u8, pairs: &Pairs, out: &mut Vec<u8>) -> Result<(), AllocError>
     ensures ok { OnOk result (out.new.items ≡ out.old.items ++ tag ∷ entries_code (entries_of (map entry_of pairs.now))) }
+    ensures text { OnOk result (EntriesHaveText (entries_of (map entry_of pairs.now))) }
     ensures grows { IsGrown out.old.items out.new.items }
 {
     out.push(tag)?;
     for pair in pairs.as_slice() {
         out.push(ITEM)?;
-        write_text(CHARS, pair.key.as_bytes(), out)?;
+        write_chars(&pair.key, out)?;
         write_value(&pair.value, out)?;
     }
     out.push(END)?;
     Ok(())
+}
+
+// Appends the code of a chararray, whose bytes are UTF-8.
+fn write_chars(text: &Text, out: &mut Vec<u8>) -> Result<(), AllocError>
+    ensures ok { OnOk result (out.new.items ≡ out.old.items ++ 4 ∷ text_code text.now) }
+    ensures text { IsUtf8 text.now }
+    ensures grows { IsGrown out.old.items out.new.items }
+{
+    write_text(CHARS, text.as_str().as_bytes(), out)
+}
+
+fn write_blob(bytes: &Blob, out: &mut Vec<u8>) -> Result<(), AllocError>
+    ensures ok { OnOk result (out.new.items ≡ out.old.items ++ 5 ∷ text_code bytes.now) }
+    ensures text { AreBytes bytes.now }
+    ensures grows { IsGrown out.old.items out.new.items }
+{
+    write_text(BYTES, known_bytes(bytes.as_slice()), out)
+}
+
+// The same bytes, known to be bytes.
+fn known_bytes(bytes: &[u8]) -> &[u8]
+    ensures same { result.now ≡ bytes.now }
+    ensures small { AreBytes result.now }
+{
+    bytes
 }
 
 // Appends a tag, and the bytes of a text with the mark of its end.

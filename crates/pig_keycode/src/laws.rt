@@ -6,7 +6,7 @@ ghost use Rattle.pig_value.specs.Orders.{tree_cmp};
 ghost use Rattle.pig_value.specs.Valid.{IsValue};
 ghost use Rattle.pig_value.specs.declared.shared.Dir.TheVariants.{Asc, Desc};
 ghost use Rattle.pig_keycode.specs.Codes.{code, code_in};
-ghost use Rattle.pig_keycode.specs.Codable.{HasText};
+ghost use Rattle.pig_keycode.specs.Codable.{HasText, IsCodeOf};
 
 /// Codes as bytes stand in the order of their values, in reverse for descending ones; none is a proper
 /// prefix of another, and a code tells its value.
@@ -15,4 +15,5 @@ pub fn code_laws()
     ensures descending { (a b : Tree) → IsValue a → IsValue b → HasText a → HasText b → slice_cmp nat_cmp (code_in Desc a) (code_in Desc b) ≡ ordering_reverse (tree_cmp a b) }
     ensures no_prefix { (a b : Tree) (more : List ℕ) → IsValue a → IsValue b → code a ++ more ≡ code b → more ≡ [] }
     ensures one_value { (a b : Tree) → IsValue a → IsValue b → code a ≡ code b → a ≡ b }
+    ensures round_trip { (bytes : List ℕ) (a b : Tree) → IsCodeOf bytes a → IsCodeOf bytes b → a ≡ b }
 {}

@@ -1,4 +1,5 @@
 use Rattle.pig_keycode.proofs.Turned.{whole_order, turned_order, no_prefix, one_value}
+use Rattle.pig_keycode.proofs.Wholes.{one_decoded}
 use Rattle.pig_keycode.proofs.laws.code_laws.Goals as goal
 
 pub returns-clause-ascending : goal.returns-clause-ascending
@@ -12,3 +13,6 @@ returns-clause-no_prefix c = no_prefix
 
 pub returns-clause-one_value : goal.returns-clause-one_value
 returns-clause-one_value c = one_value
+
+pub returns-clause-round_trip : goal.returns-clause-round_trip
+returns-clause-round_trip c = one_decoded
