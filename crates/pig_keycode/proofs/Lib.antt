@@ -10,3 +10,4 @@ pub mod Passing
 pub mod Numbers
 pub mod Forms
 pub mod Wholes
+mod Samples

@@ -15,7 +15,7 @@ use Rattle.pig_keycode.specs.Codes.{code, turned}
 use Rattle.pig_keycode.specs.Codable.{AreBytes, HasText}
 use Rattle.pig_keycode.proofs.CodeOrder.{code_order}
 use Rattle.pig_keycode.proofs.CodeBytes.{code_bytes}
-use Rattle.pig_keycode.proofs.Unique.{itself, code_told}
+use Rattle.pig_keycode.proofs.Unique.{code_told}
 
 then_nothing : (r : Ordering) → ordering_then r Equal ≡ r
 then_nothing Less = refl
@@ -34,42 +34,54 @@ no_prefix a b more h k e = (code_told a b more [] h k (e ∙ sym (append-nil (co
 pub one_value : (a b : Tree) → IsValue a → IsValue b → code a ≡ code b → a ≡ b
 one_value a b h k e = (code_told a b [] [] h k (ap (λ l. l ++ []) e)).0
 
--- where the first bytes that differ are less, they are greater turned round; bytes that go on are not less
-first_differs : (x y : ℕ) (xs ys : List ℕ) (r : Ordering) → y < 256 → r ≡ nat_cmp x y
-    → (slice_cmp nat_cmp (xs ++ 256 ∷ []) ys ≡ Less → slice_cmp nat_cmp (turned xs) (turned ys) ≡ Greater)
+-- where the first bytes that differ are less, they are greater turned round, whatever follows; bytes that go on are
+-- not less
+first_differs : (x y : ℕ) (xs ys s t : List ℕ) (r : Ordering) → y < 256 → r ≡ nat_cmp x y
+    → (slice_cmp nat_cmp (xs ++ 256 ∷ []) ys ≡ Less → slice_cmp nat_cmp (turned xs ++ s) (turned ys ++ t) ≡ Greater)
     → ordering_then r (slice_cmp nat_cmp (xs ++ 256 ∷ []) ys) ≡ Less
-    → ordering_then (nat_cmp (255 - x) (255 - y)) (slice_cmp nat_cmp (turned xs) (turned ys)) ≡ Greater
-first_differs x y xs ys Less small is rest h =
+    → ordering_then (nat_cmp (255 - x) (255 - y)) (slice_cmp nat_cmp (turned xs ++ s) (turned ys ++ t)) ≡ Greater
+first_differs x y xs ys s t Less small is rest h =
     let less : x < y = ranked x y Less is in
-    ap (λ r. ordering_then r (slice_cmp nat_cmp (turned xs) (turned ys))) (sym (nat_cmp_is (255 - x) (255 - y) Greater (omega arith)))
-first_differs x y xs ys Equal small is rest h =
+    ap (λ r. ordering_then r (slice_cmp nat_cmp (turned xs ++ s) (turned ys ++ t))) (sym (nat_cmp_is (255 - x) (255 - y) Greater (omega arith)))
+first_differs x y xs ys s t Equal small is rest h =
     let same : x ≡ y = ranked x y Equal is in
-    ap (λ r. ordering_then r (slice_cmp nat_cmp (turned xs) (turned ys))) (sym (nat_cmp_is (255 - x) (255 - y) Equal (ap (λ z. 255 - z) same))) ∙ rest h
-first_differs x y xs ys Greater small is rest h = absurd (cc)
+    ap (λ r. ordering_then r (slice_cmp nat_cmp (turned xs ++ s) (turned ys ++ t))) (sym (nat_cmp_is (255 - x) (255 - y) Equal (ap (λ z. 255 - z) same))) ∙ rest h
+first_differs x y xs ys s t Greater small is rest h = absurd (cc)
 
 not_less : (y : ℕ) (more : Ordering) (r : Ordering) → y < 256 → r ≡ nat_cmp 256 y → ordering_then r more ≡ Less → 256 < y
 not_less y more Less small is h = ranked 256 y Less is
 not_less y more Equal small is h = absurd (let e : 256 ≡ y = ranked 256 y Equal is in omega arith)
 not_less y more Greater small is h = absurd (cc)
 
-less_turned : (xs ys : List ℕ) → AreBytes ys → slice_cmp nat_cmp (xs ++ 256 ∷ []) ys ≡ Less → slice_cmp nat_cmp (turned xs) (turned ys) ≡ Greater
-less_turned [] [] b h = absurd (cc)
-less_turned [] (y ∷ ys) b h = absurd (let wrong : 256 < y = not_less y (slice_cmp nat_cmp [] ys) (nat_cmp 256 y) b.0 refl h in let small : y < 256 = b.0 in omega arith)
-less_turned (x ∷ xs) [] b h = absurd (cc)
-less_turned (x ∷ xs) (y ∷ ys) b h = first_differs x y xs ys (nat_cmp x y) b.0 refl (less_turned xs ys b.1) h
+less_turned : (xs ys s t : List ℕ) → AreBytes ys → slice_cmp nat_cmp (xs ++ 256 ∷ []) ys ≡ Less → slice_cmp nat_cmp (turned xs ++ s) (turned ys ++ t) ≡ Greater
+less_turned [] [] s t b h = absurd (cc)
+less_turned [] (y ∷ ys) s t b h = absurd (let wrong : 256 < y = not_less y (slice_cmp nat_cmp [] ys) (nat_cmp 256 y) b.0 refl h in let small : y < 256 = b.0 in omega arith)
+less_turned (x ∷ xs) [] s t b h = absurd (cc)
+less_turned (x ∷ xs) (y ∷ ys) s t b h = first_differs x y xs ys s t (nat_cmp x y) b.0 refl (less_turned xs ys s t b.1) h
 
-code_turned : (a b : Tree) → IsValue a → IsValue b → HasText b → tree_cmp a b ≡ Less → slice_cmp nat_cmp (turned (code a)) (turned (code b)) ≡ Greater
-code_turned a b h k text less =
-    less_turned (code a) (code b) (code_bytes b text)
+code_turned : (a b : Tree) (s t : List ℕ) → IsValue a → IsValue b → HasText b → tree_cmp a b ≡ Less → slice_cmp nat_cmp (turned (code a) ++ s) (turned (code b) ++ t) ≡ Greater
+code_turned a b s t h k text less =
+    less_turned (code a) (code b) s t (code_bytes b text)
     (ap (λ l. slice_cmp nat_cmp (code a ++ 256 ∷ []) l) (sym (append-nil (code b)))
     ∙ (code_order a b h k (256 ∷ []) [] ∙ ap (λ r. ordering_then r Greater) less))
 
-pub turned_order : (a b : Tree) → IsValue a → IsValue b → HasText a → HasText b → slice_cmp nat_cmp (turned (code a)) (turned (code b)) ≡ ordering_reverse (tree_cmp a b)
-turned_order a b h k f g = by (tree_cmp a b) refl
+-- the same bytes before others
+behind_same : (xs s t : List ℕ) → slice_cmp nat_cmp (xs ++ s) (xs ++ t) ≡ slice_cmp nat_cmp s t
+behind_same [] s t = refl
+behind_same (x ∷ xs) s t = ap (λ r. ordering_then r (slice_cmp nat_cmp (xs ++ s) (xs ++ t))) (sym (nat_cmp_is x x Equal refl)) ∙ behind_same xs s t
+
+pub turned_followed : (a b : Tree) (s t : List ℕ) → IsValue a → IsValue b → HasText a → HasText b → slice_cmp nat_cmp (turned (code a) ++ s) (turned (code b) ++ t) ≡ ordering_then (ordering_reverse (tree_cmp a b)) (slice_cmp nat_cmp s t)
+turned_followed a b s t h k f g = by (tree_cmp a b) refl
   where
-    by : (r : Ordering) → tree_cmp a b ≡ r → slice_cmp nat_cmp (turned (code a)) (turned (code b)) ≡ ordering_reverse r
-    by Less e = code_turned a b h k g e
-    by Equal e = ap (λ v. slice_cmp nat_cmp (turned (code a)) (turned (code v))) (sym (tree_same a b e)) ∙ itself (turned (code a))
+    by : (r : Ordering) → tree_cmp a b ≡ r → slice_cmp nat_cmp (turned (code a) ++ s) (turned (code b) ++ t) ≡ ordering_then (ordering_reverse r) (slice_cmp nat_cmp s t)
+    by Less e = code_turned a b s t h k g e
+    by Equal e = ap (λ v. slice_cmp nat_cmp (turned (code a) ++ s) (turned (code v) ++ t)) (sym (tree_same a b e)) ∙ behind_same (turned (code a)) s t
     by Greater e =
-        (lists_total nat_cmp_total).antisymm (turned (code a)) (turned (code b))
-        ∙ ap ordering_reverse (code_turned b a k h f (tree_total.antisymm b a ∙ ap ordering_reverse e))
+        (lists_total nat_cmp_total).antisymm (turned (code a) ++ s) (turned (code b) ++ t)
+        ∙ ap ordering_reverse (code_turned b a t s k h f (tree_total.antisymm b a ∙ ap ordering_reverse e))
+
+pub turned_order : (a b : Tree) → IsValue a → IsValue b → HasText a → HasText b → slice_cmp nat_cmp (turned (code a)) (turned (code b)) ≡ ordering_reverse (tree_cmp a b)
+turned_order a b h k f g =
+    ap (λ l. slice_cmp nat_cmp l (turned (code b))) (sym (append-nil (turned (code a))))
+    ∙ (ap (λ l. slice_cmp nat_cmp (turned (code a) ++ []) l) (sym (append-nil (turned (code b))))
+    ∙ (turned_followed a b [] [] h k f g ∙ then_nothing (ordering_reverse (tree_cmp a b))))

@@ -366,6 +366,8 @@ fn key_rises(pair: &Pair, others: &[Pair]) -> bool
 
 /// The value of an ascending code, or none where the bytes are not the code of a value in the grammar: texts
 /// in UTF-8, bags in their order, the keys of a map ascending and different, and nothing behind the code.
+///
+/// The calls nest as deep as the value does, and for bytes off the grammar at most as deep as half their number.
 pub fn decode(alloc: Global, bytes: &[u8]) -> Result<Option<Value>, AllocError>
     ensures value { IfOk result (λ found. MatchOption found ((v : Tree) → ¬ (IsCodeOf bytes.now v)) (λ v. IsCodeOf bytes.now (tree v))) }
     ensures round_trip { (v : Tree) → IsCodeOf bytes.now v → IfOk result (λ found. option_map tree found ≡ Some v) }

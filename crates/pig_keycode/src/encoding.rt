@@ -14,6 +14,8 @@ use pig_value::{Blob, Dir, Pairs, Rows, Text, Tuple, Value};
 use std::alloc::AllocError;
 
 /// Appends the code of a value in a direction. Where memory is wanting, `out` stays as it was.
+///
+/// The calls nest as deep as the value does.
 pub fn encode(v: &Value, dir: Dir, out: &mut Vec<u8>) -> Result<(), AllocError>
     ensures ok { OnOk result (out.new.items ≡ out.old.items ++ code_in dir (tree v.now)) }
     ensures text { OnOk result (HasText (tree v.now)) }
