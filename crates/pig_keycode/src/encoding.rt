@@ -1,0 +1,220 @@
+ghost use Rattle.std.specs.Prelude.{◌≡◌, ◌≤◌, ◌^◌, [], ◌∷◌, ◌++◌, length, take, drop, map, ◌-◌, OnOk, OnErr};
+ghost use Rattle.std.specs.Int.{w32, w64, to_be_bytes};
+ghost use Rattle.pig_value.specs.Trees.{tree, row_tree, rows_tree, entry_of, fields_of, tuples_of, entries_of};
+ghost use Rattle.pig_value.specs.declared.shared.Dir.{Dir};
+ghost use Rattle.pig_keycode.specs.Codes.{bool_code, biased, escaped, escaped_byte, text_code, code, fields_code, tuples_code, entries_code, turned, in_direction, code_in};
+ghost use Rattle.std.specs.Str.{IsUtf8};
+ghost use Rattle.pig_keycode.specs.Codable.{AreBytes, HasText, FieldsHaveText, TuplesHaveText, EntriesHaveText};
+ghost use Rattle.pig_keycode.specs.Grown.{IsGrown};
+
+use crate::tags::{
+    BAG, BOOL, BYTES, CHARS, END, ESCAPED, INT, ITEM, LISTED, LONG, MAP, NULL, TUPLE,
+};
+use pig_value::{Blob, Dir, Pairs, Rows, Text, Tuple, Value};
+use std::alloc::AllocError;
+
+/// Appends the code of a value in a direction. Where memory is wanting, `out` stays as it was.
+///
+/// The calls nest as deep as the value does.
+pub fn encode(v: &Value, dir: Dir, out: &mut Vec<u8>) -> Result<(), AllocError>
+    ensures ok { OnOk result (out.new.items ≡ out.old.items ++ code_in dir (tree v.now)) }
+    ensures text { OnOk result (HasText (tree v.now)) }
+    ensures err { OnErr result (out.new.items ≡ out.old.items) }
+{
+    let start = out.len();
+    match write_value(v, out) {
+        Ok(()) => {
+            direct(dir, start, out);
+            Ok(())
+        }
+        Err(fault) => {
+            out.truncate(start);
+            Err(fault)
+        }
+    }
+}
+
+// Appends the ascending code of a value.
+#[cycle(code)]
+fn write_value(value: &Value, out: &mut Vec<u8>) -> Result<(), AllocError>
+    ensures ok { OnOk result (out.new.items ≡ out.old.items ++ code (tree value.now)) }
+    ensures text { OnOk result (HasText (tree value.now)) }
+    ensures grows { IsGrown out.old.items out.new.items }
+{
+    match value {
+        Value::Null => write_bytes(&[NULL], out),
+        Value::Bool(truth) => write_bytes(&[BOOL, bool_byte(*truth)], out),
+        Value::Int(number) => write_int(*number, out),
+        Value::Long(number) => write_long(*number, out),
+        Value::Chars(text) => write_chars(text, out),
+        Value::Bytes(bytes) => write_blob(bytes, out),
+        Value::Tuple(fields) => write_fields(TUPLE, fields, out),
+        Value::Bag(rows) => write_rows(BAG, rows, out),
+        Value::Listed(rows) => write_rows(LISTED, rows, out),
+        Value::Map(pairs) => write_pairs(MAP, pairs, out),
+    }
+}
+
+// Appends a tag, and the codes of fields.
+#[cycle(code)]
+fn write_fields(tag: u8, fields: &Tuple, out: &mut Vec<u8>) -> Result<(), AllocError>
+    ensures ok { OnOk result (out.new.items ≡ out.old.items ++ tag ∷ fields_code (fields_of (row_tree fields.now))) }
+    ensures text { OnOk result (FieldsHaveText (fields_of (row_tree fields.now))) }
+    ensures grows { IsGrown out.old.items out.new.items }
+{
+    out.push(tag)?;
+    for value in fields.as_slice() {
+        out.push(ITEM)?;
+        write_value(value, out)?;
+    }
+    out.push(END)?;
+    Ok(())
+}
+
+#[cycle(code)]
+fn write_rows(tag: u8, rows: &Rows, out: &mut Vec<u8>) -> Result<(), AllocError>
+    ensures ok { OnOk result (out.new.items ≡ out.old.items ++ tag ∷ tuples_code (tuples_of (rows_tree rows.now))) }
+    ensures text { OnOk result (TuplesHaveText (tuples_of (rows_tree rows.now))) }
+    ensures grows { IsGrown out.old.items out.new.items }
+{
+    out.push(tag)?;
+    for row in rows.as_slice() {
+        out.push(ITEM)?;
+        write_fields(TUPLE, row, out)?;
+    }
+    out.push(END)?;
+    Ok(())
+}
+
+#[cycle(code)]
+fn write_pairs(tag: u8, pairs: &Pairs, out: &mut Vec<u8>) -> Result<(), AllocError>
+    ensures ok { OnOk result (out.new.items ≡ out.old.items ++ tag ∷ entries_code (entries_of (map entry_of pairs.now))) }
+    ensures text { OnOk result (EntriesHaveText (entries_of (map entry_of pairs.now))) }
+    ensures grows { IsGrown out.old.items out.new.items }
+{
+    out.push(tag)?;
+    for pair in pairs.as_slice() {
+        out.push(ITEM)?;
+        write_chars(&pair.key, out)?;
+        write_value(&pair.value, out)?;
+    }
+    out.push(END)?;
+    Ok(())
+}
+
+// Appends the code of a chararray, whose bytes are UTF-8.
+fn write_chars(text: &Text, out: &mut Vec<u8>) -> Result<(), AllocError>
+    ensures ok { OnOk result (out.new.items ≡ out.old.items ++ 4 ∷ text_code text.now) }
+    ensures text { IsUtf8 text.now }
+    ensures grows { IsGrown out.old.items out.new.items }
+{
+    write_text(CHARS, text.as_str().as_bytes(), out)
+}
+
+fn write_blob(bytes: &Blob, out: &mut Vec<u8>) -> Result<(), AllocError>
+    ensures ok { OnOk result (out.new.items ≡ out.old.items ++ 5 ∷ text_code bytes.now) }
+    ensures text { AreBytes bytes.now }
+    ensures grows { IsGrown out.old.items out.new.items }
+{
+    write_text(BYTES, known_bytes(bytes.as_slice()), out)
+}
+
+// The same bytes, known to be bytes.
+fn known_bytes(bytes: &[u8]) -> &[u8]
+    ensures same { result.now ≡ bytes.now }
+    ensures small { AreBytes result.now }
+{
+    bytes
+}
+
+// Appends a tag, and the bytes of a text with the mark of its end.
+fn write_text(tag: u8, text: &[u8], out: &mut Vec<u8>) -> Result<(), AllocError>
+    ensures ok { OnOk result (out.new.items ≡ out.old.items ++ tag ∷ text_code text.now) }
+    ensures grows { IsGrown out.old.items out.new.items }
+{
+    out.push(tag)?;
+    for byte in text {
+        write_escaped(*byte, out)?;
+    }
+    write_bytes(&[END, END], out)
+}
+
+fn write_escaped(byte: u8, out: &mut Vec<u8>) -> Result<(), AllocError>
+    ensures ok { OnOk result (out.new.items ≡ out.old.items ++ escaped_byte byte) }
+    ensures grows { IsGrown out.old.items out.new.items }
+{
+    out.push(byte)?;
+    if byte == 0 {
+        out.push(ESCAPED)?;
+    }
+    Ok(())
+}
+
+fn write_int(number: i32, out: &mut Vec<u8>) -> Result<(), AllocError>
+    ensures ok { OnOk result (out.new.items ≡ out.old.items ++ 2 ∷ to_be_bytes w32 (biased (2 ^ 31) number)) }
+    ensures grows { IsGrown out.old.items out.new.items }
+{
+    out.push(INT)?;
+    write_bytes(&biased_int(number).to_be_bytes(), out)
+}
+
+fn write_long(number: i64, out: &mut Vec<u8>) -> Result<(), AllocError>
+    ensures ok { OnOk result (out.new.items ≡ out.old.items ++ 3 ∷ to_be_bytes w64 (biased (2 ^ 63) number)) }
+    ensures grows { IsGrown out.old.items out.new.items }
+{
+    out.push(LONG)?;
+    write_bytes(&biased_long(number).to_be_bytes(), out)
+}
+
+// The number from the least of its width on, so that the bytes of a negative one stand first.
+fn biased_int(number: i32) -> u32
+    ensures { result ≡ biased (2 ^ 31) number }
+{
+    number.cast_unsigned().wrapping_add(1 << 31)
+}
+
+fn biased_long(number: i64) -> u64
+    ensures { result ≡ biased (2 ^ 63) number }
+{
+    number.cast_unsigned().wrapping_add(1 << 63)
+}
+
+fn bool_byte(truth: bool) -> u8
+    ensures { result ≡ bool_code truth }
+{
+    if truth { 1 } else { 0 }
+}
+
+fn write_bytes(bytes: &[u8], out: &mut Vec<u8>) -> Result<(), AllocError>
+    ensures ok { OnOk result (out.new.items ≡ out.old.items ++ bytes.now) }
+    ensures grows { IsGrown out.old.items out.new.items }
+{
+    out.extend_from_slice(bytes)?;
+    Ok(())
+}
+
+// Puts an ascending code from a place on into a direction.
+fn direct(dir: Dir, from: usize, out: &mut Vec<u8>)
+    requires { from ≤ length out.old.items }
+    ensures { out.new.items ≡ take from out.old.items ++ in_direction dir (drop from out.old.items) }
+{
+    match dir {
+        Dir::Asc => {}
+        Dir::Desc => turn_from(from, out),
+    }
+}
+
+fn turn_from(from: usize, out: &mut Vec<u8>)
+    requires { from ≤ length out.old.items }
+    ensures { out.new.items ≡ take from out.old.items ++ turned (drop from out.old.items) }
+{
+    for i in from..out.len() {
+        out[i] = turned_byte(out[i]);
+    }
+}
+
+fn turned_byte(byte: u8) -> u8
+    ensures { result ≡ 255 - byte }
+{
+    255 - byte
+}
