@@ -17,6 +17,7 @@ pub mod KindLaws
 pub mod Valid
 pub mod ValidLaws
 pub mod Lines
+pub mod Extended
 pub mod Brackets
 pub mod Fields
 pub mod Texts
