@@ -7,6 +7,7 @@ pub mod Orders
 pub mod Kinds
 pub mod Valid
 pub mod Lines
+pub mod Extended
 pub mod Brackets
 pub mod Fields
 pub mod FieldReader
