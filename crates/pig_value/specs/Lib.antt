@@ -16,3 +16,4 @@ pub mod FieldRows
 pub mod Texts
 pub mod Casts
 pub mod Stored
+pub mod TreeCode
