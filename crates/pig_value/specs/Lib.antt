@@ -22,3 +22,5 @@ pub mod Fields
 pub mod Texts
 pub mod Casts
 pub mod Stored
+pub mod Functions
+pub mod FunctionKinds

@@ -18,6 +18,7 @@
 mod boxes;
 mod comparing;
 mod copying;
+mod functions;
 mod laws;
 mod lists;
 mod shapes;
@@ -31,6 +32,7 @@ mod values;
 pub use boxes::Boxed;
 pub use comparing::{order, order_rows, same};
 pub use copying::{copy, copy_kind, copy_row};
+pub use functions::Function;
 pub use laws::{bag_laws, order_laws, row_order_laws};
 pub use lists::Seq;
 pub use shapes::{is_of, same_kind};
