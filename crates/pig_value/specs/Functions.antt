@@ -6,7 +6,7 @@ use Rattle.std.specs.Int.{w32, w64, int_wrap}
 use Rattle.std.specs.List.{filter, filter_map, find, concat, last_or, range_with_len, slice_split, starts_with, ends_with}
 use Rattle.std.specs.Option.{option_map, option_or, unwrap_or}
 use Rattle.std.specs.Str.{chars, encode_utf8_all}
-use Rattle.pig_value.specs.Fields.{all_of}
+use Rattle.pig_value.specs.FieldReader.{all_of}
 use Rattle.pig_value.specs.Orders.{tree_cmp, bag_of}
 use Rattle.pig_value.specs.Sorts.{sort}
 use Rattle.pig_value.specs.Trees.{Tree, v_null, v_bool, v_int, v_long, v_chars, v_bytes, v_tuple, v_bag, v_listed, v_map, fields_of, fields_list, tuples_of, tuples_list, entries_list}
