@@ -17,3 +17,5 @@ pub mod Texts
 pub mod Casts
 pub mod Stored
 pub mod TreeCode
+pub mod Functions
+pub mod FunctionKinds
