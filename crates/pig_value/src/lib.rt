@@ -33,7 +33,7 @@ mod values;
 
 pub use boxes::Boxed;
 pub use comparing::{order, order_rows, same};
-pub use copying::{copy, copy_kind, copy_row};
+pub use copying::{copy, copy_kind, copy_kinds, copy_row};
 pub use delimiters::{BadDelimiter, Delim};
 pub use functions::Function;
 pub use inputs::{Column, Columns, Input, Inputs};
