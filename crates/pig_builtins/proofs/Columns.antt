@@ -5,21 +5,12 @@ use Rattle.std.specs.Borrow.{Bor}
 use Rattle.std.specs.Option.{option_map, option_copied}
 use Rattle.std.proofs.Math.Seq.{take-suc}
 use Rattle.std.proofs.lemmas.List.{map-append}
-use Rattle.pig_value.specs.Functions.{or_null, column_found}
+use Rattle.pig_value.specs.Functions.{column_found}
 use Rattle.pig_value.specs.declared.functions.Function.{Function}
 use Rattle.pig_builtins.specs.declared.folding.Fold.{Fold}
-use Rattle.pig_builtins.specs.Folds.{field_tree, field_at, fold_function, fold_found}
-use Rattle.pig_value.specs.Trees.{Tree, tree, rows_tree}
+use Rattle.pig_builtins.specs.Folds.{fold_function, fold_found}
+use Rattle.pig_value.specs.Trees.{Tree, field_tree, tree, rows_tree}
 use Rattle.pig_value.specs.declared.values.Value.{Value}
-
--- an element of a mapped list
-pub get-map : {X Y : Type 0} (f : X → Y) (xs : List X) (i : ℕ) → option_map f (slice_get xs i) ≡ slice_get (map f xs) i
-get-map f [] i = refl
-get-map f (x ∷ xs) zero = refl
-get-map f (x ∷ xs) (suc i) = get-map f xs i
-
-pub field_is : (field : Option (Bor Value)) (row : List Value) (i : ℕ) → option_copied field ≡ slice_get row i → field_tree field ≡ field_at i (map tree row)
-field_is field row i is = ap (λ o. or_null (option_map tree o)) is ∙ ap or_null (get-map tree row i)
 
 -- up to the next row
 pub next_row : (look : List Tree → Tree) (rows : List (List Value)) (i : ℕ) (row : List Value) → i < length rows → row ≡ get_or rows i row

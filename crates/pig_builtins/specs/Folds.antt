@@ -3,7 +3,7 @@ use Rattle.std.specs.Prelude.{ℕ, pos, ◌+ℤ◌, Bool, true, false, List, map
 use Rattle.std.specs.Borrow.{Bor}
 use Rattle.std.specs.Option.{option_copied, option_map}
 use Rattle.std.specs.Ordering.{is_gt}
-use Rattle.pig_value.specs.Functions.{or_null, long_of}
+use Rattle.pig_value.specs.Functions.{long_of}
 use Rattle.pig_value.specs.Orders.{dir_cmp}
 use Rattle.pig_value.specs.Trees.{Tree, v_null, v_long, tree}
 use Rattle.pig_value.specs.declared.functions.Function.{Function}
@@ -25,13 +25,6 @@ is_algebraic f = false
 -- a lent value as a tree
 abbrev pub lent_tree : Option (Bor Value) → Option Tree
 lent_tree value = option_map tree (option_copied value)
-
--- a field of a row as a tree, null where the row has no such field
-abbrev pub field_tree : Option (Bor Value) → Tree
-field_tree field = or_null (lent_tree field)
-
-abbrev pub field_at : ℕ → List Tree → Tree
-field_at n row = or_null (slice_get row n)
 
 -- what two parts of a column give together, where each may have found nothing
 abbrev pub together : (Tree → Tree → Tree) → Option Tree → Option Tree → Option Tree

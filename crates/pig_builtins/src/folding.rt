@@ -2,13 +2,13 @@ ghost use Rattle.std.specs.Prelude.{◌≡◌, ◌++◌, ◌+ℤ◌, [], ◌∷�
 ghost use Rattle.std.specs.Int.{w64, int_wrap};
 ghost use Rattle.std.specs.List.{filter, filter_map};
 ghost use Rattle.std.specs.Option.{option_map};
-ghost use Rattle.pig_value.specs.Functions.{column_found, column_tree, first_found, is_present, length_of, looked_at as looked_at_of, number_of, one_field, or_null, sum_found};
-ghost use Rattle.pig_value.specs.Trees.{Tree, rows_tree, tree, v_long};
+ghost use Rattle.pig_value.specs.Functions.{column_found, column_tree, first_found, is_present, length_of, looked_at as looked_at_of, number_of, one_field, sum_found};
+ghost use Rattle.pig_value.specs.Trees.{Tree, at, field_tree, or_null, rows_tree, tree, v_long};
 ghost use Rattle.pig_value.specs.declared.functions.Function.TheVariants.{Sum};
 ghost use Rattle.pig_value.specs.declared.operators.Dir.TheVariants.{Asc, Desc};
-ghost use Rattle.pig_builtins.specs.Folds.{first_of, lent_tree, field_at, field_tree, fold_found, fold_function, is_algebraic, merge_found};
+ghost use Rattle.pig_builtins.specs.Folds.{first_of, lent_tree, fold_found, fold_function, is_algebraic, merge_found};
 
-use pig_value::{Dir, Function, Tuple, Value, copy, order};
+use pig_value::{Dir, Function, Tuple, Value, copy, field_at, order};
 use std::alloc::{AllocError, Global};
 use std::cmp::Ordering;
 
@@ -151,21 +151,13 @@ fn better<'a>(dir: Dir, a: Option<&'a Value>, b: Option<&'a Value>) -> Option<&'
     }
 }
 
-// The field at a position of a row.
-#[tactic(auto, using(crate::proofs::Columns::field_is))]
-fn field(row: &Tuple, position: u32) -> Option<&Value>
-    ensures { field_tree result ≡ field_at position (map tree row.now) }
-{
-    row.get(position as usize)
-}
-
 // The field of a row that the function looks at.
 fn looked_at(function: Function, row: &Tuple) -> Option<&Value>
     ensures { field_tree result ≡ looked_at_of function (map tree row.now) }
 {
     match function {
         Function::Sum | Function::Min | Function::Max => only_field(row),
-        _ => field(row, 0),
+        _ => field_at(row, 0),
     }
 }
 
@@ -181,13 +173,13 @@ fn only_field(row: &Tuple) -> Option<&Value>
 /// What an algebraic function gives of the values of a column, the field at a position of each row; null where
 /// the function is not algebraic. The rows are read in place.
 pub fn apply_column(alloc: Global, function: Function, rows: &[Tuple], position: u32) -> Result<Value, AllocError>
-    ensures { IfOk result (λ v. tree v ≡ column_tree function (map (field_at position) (rows_tree rows.now))) }
+    ensures { IfOk result (λ v. tree v ≡ column_tree function (map (at position) (rows_tree rows.now))) }
 {
     match Fold::start(function) {
         Some(start) => {
             let mut fold = start;
             for row in rows {
-                fold = fold.add(field(row, position));
+                fold = fold.add(field_at(row, position));
             }
             fold.end(alloc)
         }
