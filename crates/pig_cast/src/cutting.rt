@@ -3,7 +3,7 @@ ghost use Rattle.std.specs.Option.{option_copied, option_map};
 ghost use Rattle.pig_value.specs.Brackets.{is_opening, is_closing, closing_of, is_balanced as balanced, depth_after, is_separator, items as items_of, items_or_none as items_if_any, is_bracketed as bracketed, inside as inside_of, body_of};
 ghost use Rattle.pig_value.specs.Fields.{cut_at};
 
-use memchr::memchr;
+use bstr::ByteSlice;
 use std::alloc::{AllocError, Global};
 
 fn opens(byte: u8) -> bool
@@ -144,7 +144,7 @@ pub(crate) fn body<'a>(
 pub(crate) fn key_and_value(item: &[u8]) -> Option<(&[u8], &[u8])>
     ensures { option_map (λ p. (p.0.now, p.1.now)) result ≡ cut_at 35 item.now }
 {
-    match memchr(b'#', item) {
+    match item.find_byte(b'#') {
         Some(at) => Some((&item[..at], &item[at + 1..])),
         None => None,
     }
