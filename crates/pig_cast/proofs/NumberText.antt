@@ -1,7 +1,8 @@
 -- What the tests of a number's text tell.
-use Rattle.std.proofs.Common.{◌≡◌, ℕ, ℤ, ◌<◌, ◌==◌, cond, Bool, true, false, ◌⊎◌, inl, inr, List, [], ◌∷◌, length, drop, None, Some, Result, Ok, Err, refl, sym, ◌∙◌, ap, subst, FitsSigned, arith}
+use Rattle.std.proofs.Common.{◌≡◌, ℕ, ℤ, ◌<◌, ◌==◌, cond, Bool, true, false, ◌⊎◌, inl, inr, List, [], ◌∷◌, length, drop, Option, None, Some, Result, Ok, Err, refl, sym, ◌∙◌, ap, subst, FitsSigned, arith}
 use Rattle.std.specs.Bool.{Decides}
 use Rattle.std.specs.Int.{Width, int_wrap}
+use Rattle.std.specs.Option.{SomeIff}
 use Rattle.std.specs.Result.{result_ok}
 use Rattle.std.specs.Str.{IsAscii, IsUtf8, all_ascii_digits}
 use Rattle.std.specs.Str.Parse.{AllDigits, ParsesSigned, signed_digits_value, without_leading_sign}
@@ -56,3 +57,12 @@ signed_ascii (b ∷ bs) h = by_sign (b == 45) (b == 43) refl refl h
 -- bytes that are no UTF-8 write no number
 pub no_number : (w : Width) (bs : List ℕ) → ¬ IsUtf8 bs → number_of w bs ≡ None
 no_number w bs bad = elim (number_cases w bs) [ inl some ↦ absurd (bad (IsUtf8-from_ascii bs (signed_ascii bs some.0.0.1))) | inr none ↦ none.1 ]
+
+-- a number's text has its number, and no other text has one
+pub some_iff : (w : Width) (bs : List ℕ) (o : Option ℤ) → o ≡ number_of w bs → SomeIff o (IsNumberText w bs) (signed_digits_value 10 bs)
+some_iff w bs o is =
+    let P : Option ℤ → Type 0 = λ x. SomeIff x (IsNumberText w bs) (signed_digits_value 10 bs) in
+    elim (number_cases w bs) [
+      | inl some ↦ subst P (sym (is ∙ some.1)) (some.0, refl)
+      | inr none ↦ subst P (sym (is ∙ none.1)) none.0
+    ]
