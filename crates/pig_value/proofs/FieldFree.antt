@@ -6,7 +6,7 @@ use Rattle.std.specs.Str.Lossy.{replacement_bytes, utf8_lossy}
 use Rattle.std.proofs.lemmas.List.Elements.{All-from_recursion}
 use Rattle.pig_value.proofs.LeafLaws.{RowLeavesAre, entries_from_each, tuples_from_each, rows-sort}
 use Rattle.pig_value.proofs.LossyTexts.{lossy_keeps}
-use Rattle.pig_value.proofs.ReadLaws.{EachOf, HoldsOfForms, PairOf, by_key_keeps, field_read}
+use Rattle.pig_value.proofs.ReadLaws.{EachOf, HoldsOfForms, by_key_keeps, field_read}
 use Rattle.pig_value.specs.FieldReader.{field_value}
 use Rattle.pig_value.specs.Fields.{entries_by_key}
 use Rattle.pig_value.specs.Leaves.{Leaf, LeavesAre}

@@ -1,5 +1,5 @@
 -- The test of a number's text decides it.
-use Rattle.std.proofs.Common.{◌≡◌, ℕ, ℤ, ◌<◌, Bool, true, false, ◌⊎◌, inl, inr, List, length, None, Some, refl, subst, FitsSigned}
+use Rattle.std.proofs.Common.{◌≡◌, ℕ, ℤ, Bool, true, false, ◌⊎◌, inl, inr, List, length, None, Some, refl, subst, FitsSigned}
 use Rattle.std.specs.Bool.{Decides}
 use Rattle.std.specs.Int.{Width, int_wrap}
 use Rattle.std.specs.Str.{all_ascii_digits}

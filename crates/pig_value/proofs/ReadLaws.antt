@@ -1,5 +1,5 @@
 -- A law of everything that is read: where it holds of each form, it holds of what the bytes of any field read as.
-use Rattle.std.proofs.Common.{◌+◌, ◌-◌, ◌==◌, ℕ, suc, ℤ, inl, inr, FitsSigned, Bool, true, false, cond, if◌then◌else◌, List, [], ◌∷◌, length, drop, Option, None, Some, sym, subst}
+use Rattle.std.proofs.Common.{◌-◌, ◌==◌, ℕ, ℤ, inl, inr, FitsSigned, Bool, true, false, cond, if◌then◌else◌, List, [], ◌∷◌, length, drop, Option, None, Some, sym, subst}
 use Rattle.std.specs.Bool.{⊤}
 use Rattle.std.specs.BTreeMap.{insert_entry}
 use Rattle.std.specs.Int.{Width, w32, w64}
