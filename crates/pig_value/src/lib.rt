@@ -38,7 +38,7 @@ pub use copying::{copy, copy_kind, copy_kinds, copy_row};
 pub use delimiters::{BadDelimiter, Delim};
 pub use functions::Function;
 pub use inputs::{Column, Columns, Input, Inputs};
-pub use kinds::{casts_to, holds_bag_or_map, is_of, kind_depth, kind_width, same_kind};
+pub use kinds::{casts_to, holds_bag_or_map, is_of, kind_depth, kind_width, same_kind, same_kinds};
 pub use laws::{bag_laws, cast_laws, direction_laws, order_laws, row_order_laws};
 pub use lists::Seq;
 pub use operators::{ChainOp, Dir, Dirs, Rel, Side};
