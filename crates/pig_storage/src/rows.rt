@@ -1,10 +1,11 @@
 ghost use Rattle.std.specs.Prelude.{◌≡◌, ◌<◌, ◌≤◌, length, drop, slice_get, IfOk};
 ghost use Rattle.std.specs.Option.{option_copied, option_map_or};
-ghost use Rattle.pig_value.specs.Fields.{field_of, pieces, row_of};
+ghost use Rattle.pig_value.specs.FieldReader.{field_value};
+ghost use Rattle.pig_value.specs.FieldRows.{pieces, row_of};
 ghost use Rattle.pig_value.specs.Trees.{tree, row_tree, kind_tree, v_null};
 ghost use Rattle.pig_storage.specs.Pieces.{IsPiece};
 
-use memchr::memchr;
+use crate::places::place_of;
 use pig_cast::read_field;
 use pig_value::{Column, Columns, Delim, Kind, Seq, Tuple, Value};
 use std::alloc::{AllocError, Global};
@@ -91,10 +92,7 @@ fn piece_from(line: &[u8], byte: u8, from: usize, position: u32) -> Piece
     ensures piece { IsPiece byte line.now result }
     ensures position { result.position ≡ position }
 {
-    let to = match memchr(byte, &line[from..]) {
-        Some(at) => from + at,
-        None => line.len(),
-    };
+    let to = from + place_of(byte, &line[from..]);
     Piece { position, from, to }
 }
 
@@ -113,7 +111,7 @@ fn bytes_at(line: &[u8], byte: u8, piece: Piece, position: u32) -> Option<&[u8]>
 
 // The value of a field, or null where the line has no such field.
 fn field_or_null(alloc: Global, bytes: Option<&[u8]>, kind: &Kind) -> Result<Value, AllocError>
-    ensures { IfOk result (λ v. tree v ≡ option_map_or (field_of (kind_tree kind.now)) (option_copied bytes.entry) v_null) }
+    ensures { IfOk result (λ v. tree v ≡ option_map_or (field_value (kind_tree kind.now)) (option_copied bytes.entry) v_null) }
 {
     match bytes {
         Some(bytes) => read_field(alloc, bytes, kind),
