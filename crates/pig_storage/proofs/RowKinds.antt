@@ -1,6 +1,6 @@
 -- The row of a line is of the columns' kinds, and of a line of bytes it is a row of values.
 use Rattle.std.proofs.Common.{◌<◌, ℕ, zero, suc, List, [], ◌∷◌, map}
-use Rattle.std.specs.List.{All, AllByRecursion, slice_get}
+use Rattle.std.specs.List.{All, slice_get}
 use Rattle.std.specs.Option.{option_map_or}
 use Rattle.std.proofs.lemmas.List.Elements.{All-from_recursion, All-head, All-tail, recursion_from_All}
 use Rattle.pig_value.specs.declared.inputs.Column.{Column}
