@@ -1,5 +1,5 @@
 //! Texts of values and their hashes, by hand.
-use pig_text::{append_row, text_hash};
+use pig_text::{write_row, text_hash};
 use pig_value::{Blob, Delim, Pair, Seq, Text, Tuple, Value};
 use std::alloc::{AllocError, Global};
 use std::test::Fail;
@@ -38,10 +38,10 @@ fn each_form(alloc: Global) -> Result<Tuple, AllocError> {
 #[test]
 fn rows_are_appended(rt: HostRuntime) -> Result<(), Fail> {
     let mut out = Vec::from_slice(rt.alloc(), b"old\n")?;
-    append_row(&each_form(rt.alloc())?, Delim::tab(), &mut out)?;
+    write_row(&each_form(rt.alloc())?, Delim::tab(), &mut out)?;
     let expected: &[u8] = b"old\n\ttrue\t-5\t7\tx\t\xff\t(1,b)\t{(1,b),(1,b)}\t{}\t[k#1]\n";
     assert!(rt; out.as_slice() == expected, "{out:?}");
-    append_row(&Seq::new(rt.alloc()), Delim::tab(), &mut out)?;
+    write_row(&Seq::new(rt.alloc()), Delim::tab(), &mut out)?;
     assert!(rt; out.len() == expected.len() + 1, "the row of no fields");
     Ok(())
 }

@@ -31,7 +31,7 @@ impl TextSink for TextBuffer {
 
 /// Appends the text of a row, its fields' texts with the delimiter between each two, and an LF. Where
 /// memory is wanting, `out` stays as it was.
-pub fn append_row(row: &Tuple, delim: Delim, out: &mut Vec<u8>) -> Result<(), AllocError>
+pub fn write_row(row: &Tuple, delim: Delim, out: &mut Vec<u8>) -> Result<(), AllocError>
     ensures ok { OnOk result (out.new.items ≡ out.old.items ++ (row_text delim (row_tree row.now) ++ 10 ∷ [])) }
     ensures err { OnErr result (out.new.items ≡ out.old.items) }
 {

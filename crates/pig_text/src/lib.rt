@@ -1,7 +1,7 @@
 //! The text of values, told piece by piece to anything that takes bytes. The walk takes no memory.
 //!
 //! [`tell_value`] and [`tell_row`] go over any [`TextSink`]. [`text_hash`] tells a value's text to a hash, and
-//! [`append_row`] a row's to a buffer.
+//! [`write_row`] a row's to a buffer.
 #![tactic(auto)]
 
 mod buffers;
@@ -9,7 +9,7 @@ mod hashing;
 mod sinks;
 mod telling;
 
-pub use buffers::append_row;
+pub use buffers::write_row;
 pub use hashing::{TextHash, text_hash};
 pub use sinks::TextSink;
 pub use telling::{tell_row, tell_value};
