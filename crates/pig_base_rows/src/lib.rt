@@ -3,4 +3,6 @@
 #![tactic(auto)]
 
 #[cfg(test)]
+mod text;
+#[cfg(test)]
 mod values;
