@@ -3,4 +3,8 @@
 #![tactic(auto)]
 
 #[cfg(test)]
+mod casts;
+#[cfg(test)]
+mod storage;
+#[cfg(test)]
 mod values;

@@ -1,5 +1,5 @@
 //! Lines, rows and texts by hand: what is stored for an input, and the text of each form of value.
-use crate::{line_row, next_line, write_row};
+use pig_storage::{Span, line_row, next_line, write_row};
 use pig_value::{
     Blob, Boxed, Column, Columns, Delim, Kind, Kinds, Pair, Pairs, Rows, Seq, Text, Tuple, Value,
 };
@@ -63,6 +63,35 @@ fn stored(
         from = span.next;
     }
     Ok(out)
+}
+
+// The place of each line's first byte, the one behind its last, and the one behind its LF.
+#[test]
+fn finds_each_line(rt: HostRuntime) -> Result<(), Fail> {
+    let cases: [(&[u8], &[(usize, usize, usize)]); 6] = [
+        (b"", &[]),
+        (b"a\n\r\n", &[(0, 1, 2), (2, 2, 4)]),
+        (b"a\r\n\nb\r", &[(0, 1, 3), (3, 3, 4), (4, 5, 6)]),
+        (b"\n\n", &[(0, 0, 1), (1, 1, 2)]),
+        (b"\r\r\n\r", &[(0, 1, 3), (3, 3, 4)]),
+        (b"abc", &[(0, 3, 3)]),
+    ];
+    for (input, spans) in cases {
+        let mut place = 0;
+        for (from, to, next) in spans {
+            let expected = Span {
+                from: *from,
+                to: *to,
+                next: *next,
+            };
+            assert_eq!(rt; place, *from, "in {input:?}");
+            assert_eq!(rt; next_line(input, *from), Some(expected), "in {input:?}");
+            place = *next;
+        }
+        assert_eq!(rt; next_line(input, input.len()), None, "in {input:?}");
+        assert_eq!(rt; place, input.len(), "in {input:?}");
+    }
+    Ok(())
 }
 
 #[test]
