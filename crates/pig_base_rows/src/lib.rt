@@ -7,4 +7,6 @@ mod casts;
 #[cfg(test)]
 mod storage;
 #[cfg(test)]
+mod text;
+#[cfg(test)]
 mod values;

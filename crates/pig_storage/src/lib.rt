@@ -2,7 +2,7 @@
 //!
 //! An input is bytes that are cut into lines at each LF, a line into fields at each delimiter.
 //! [`next_line`] walks the lines, [`line_row`] reads a line's row at the columns of a LOAD, and
-//! [`write_row`] appends the text of a row and an LF.
+//! [`write_row`], of pig_text, appends the text of a row and an LF.
 //!
 //! Each is proved to be what pig_value's `specs/` define: `Lines` (`lines`, `stored_lines`, `lines_within`),
 //! `FieldRows` (`row_of`, by pig_cast's `read_field`) and `Texts` (`text_of`, `row_text`, `IsLineFree`). What
@@ -15,7 +15,6 @@ mod laws;
 mod lines;
 mod places;
 mod rows;
-mod writing;
 
 pub use laws::{
     lines_start_in_ranges, plain_rows_read_back, rows_are_of_their_kinds,
@@ -23,4 +22,4 @@ pub use laws::{
 };
 pub use lines::{Span, next_line};
 pub use rows::line_row;
-pub use writing::write_row;
+pub use pig_text::write_row;
