@@ -3,6 +3,10 @@
 #![tactic(auto)]
 
 #[cfg(test)]
+mod casts;
+#[cfg(test)]
+mod storage;
+#[cfg(test)]
 mod text;
 #[cfg(test)]
 mod values;

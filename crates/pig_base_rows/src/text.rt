@@ -1,5 +1,5 @@
 //! Texts of values and their hashes, by hand.
-use pig_text::{write_row, text_hash};
+use pig_text::{text_hash, write_row};
 use pig_value::{Blob, Delim, Pair, Seq, Text, Tuple, Value};
 use std::alloc::{AllocError, Global};
 use std::test::Fail;

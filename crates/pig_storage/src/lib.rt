@@ -7,8 +7,9 @@
 //! Each is proved to be what pig_value's `specs/` define: `Lines` (`lines`, `stored_lines`, `lines_within`),
 //! `FieldRows` (`row_of`, by pig_cast's `read_field`) and `Texts` (`text_of`, `row_text`, `IsLineFree`). What
 //! follows of these definitions for whole inputs and outputs is in `laws`: which lines start in a range, what a
-//! row of a line is, that its text is one line, and which rows are read again from their text (`specs/ReadBack`). Crates above cite the lemmas of
-//! `proofs/Walks`, `proofs/LineFree`, `proofs/StoredRows`, `proofs/RowKinds` and `proofs/RowsBack`.
+//! row of a line is, that its text is one line, and which rows are read again from their text
+//! (`specs/ReadBack`). Crates above cite the lemmas of `proofs/Walks`, `proofs/Starts`, `proofs/LineFree`,
+//! `proofs/StoredRows`, `proofs/RowKinds` and `proofs/RowsBack`.
 #![tactic(auto)]
 
 mod laws;
@@ -21,5 +22,5 @@ pub use laws::{
     rows_of_lines_are_line_free, texts_of_rows_are_lines,
 };
 pub use lines::{Span, next_line};
-pub use rows::line_row;
 pub use pig_text::write_row;
+pub use rows::line_row;
