@@ -14,4 +14,4 @@ mod tests;
 
 pub use laws::a_name_means_one_field;
 pub use naming::{NameFault, at, find};
-pub use schema::{Field, Schema, kinds, schemas_cross_threads};
+pub use schema::{Field, Schema, copy_field, copy_schema, kinds, schemas_cross_threads};
