@@ -5,3 +5,4 @@ pub mod TreeLaws
 pub mod OrderLaws
 pub mod KindLaws
 pub mod ValidLaws
+pub mod LeafLaws

@@ -5,6 +5,7 @@ pub mod Sorts
 pub mod Gathering
 pub mod Orders
 pub mod Kinds
+pub mod Leaves
 pub mod Valid
 pub mod Lines
 pub mod Extended

@@ -42,7 +42,7 @@ pub use lists::Seq;
 pub use operators::{ChainOp, Dir, Dirs, Rel, Side};
 pub use outcomes::{Kept, KeptList, WordFault};
 pub use sorting::bag;
-pub use texts::{Blob, Text};
+pub use texts::{Blob, Text, known_bytes};
 pub use values::{Kind, Kinds, Pair, Pairs, Rows, Tuple, Value};
 
 /// A list of texts, as the words of a command line.
