@@ -1,6 +1,6 @@
 -- The places that a test finds: none, one or two of them stand for no field, one or two that have the property.
-use Rattle.std.proofs.Common.{◌≡◌, ◌∙◌, ◌+◌, ℕ, zero, suc, List, [], ◌∷◌, Bool, true, false, refl, sym, ap, subst, arith}
-use Rattle.std.specs.Prelude.{Option, Some, None, slice_get, if◌then◌else◌}
+use Rattle.std.proofs.Common.{◌≡◌, ◌+◌, ℕ, zero, suc, List, [], ◌∷◌, Bool, true, false, refl, ap, subst, arith}
+use Rattle.std.specs.Prelude.{Option, if◌then◌else◌}
 use Rattle.std.specs.Bool.{Decides}
 use Rattle.pig_schema.specs.Names.{StandsAt, Nowhere, IsOnly, AreTwo, places}
 

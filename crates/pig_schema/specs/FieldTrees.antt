@@ -1,5 +1,5 @@
 -- Fields and schemas as trees, and when the inner fields of a field are those of its kind.
-use Rattle.std.specs.Prelude.{◌≡◌, ℕ, List, [], ◌∷◌, map, ⊤}
+use Rattle.std.specs.Prelude.{◌≡◌, ℕ, List, [], ◌∷◌, map}
 use Rattle.std.specs.declared.option.Option.{Option}
 use Rattle.pig_value.specs.Trees.{KindTree, KindTrees, k_tuple, k_bag, k_map, no_kinds, more_kinds, kind_tree}
 use Rattle.pig_value.specs.declared.values.Kind.{Kind}

@@ -1,4 +1,4 @@
-use Rattle.std.proofs.Common.{◌≡◌, ◌∙◌, ap, sym, subst}
+use Rattle.std.proofs.Common.{◌∙◌, ap, sym, subst}
 use Rattle.std.specs.Prelude.{IfOk, IfErr}
 use Rattle.pig_schema.specs.FieldTrees.{names_of}
 use Rattle.pig_schema.specs.Names.{meaning, IsMeant, IsNameFault}

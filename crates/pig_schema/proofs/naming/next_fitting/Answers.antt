@@ -1,5 +1,4 @@
-use Rattle.std.proofs.Common.{◌≡◌, true, false, sym, ◌∙◌}
-use Rattle.pig_schema.specs.FieldTrees.{name_of}
+use Rattle.std.proofs.Common.{sym, ◌∙◌}
 use Rattle.pig_schema.specs.Names.{fits_field}
 use Rattle.pig_schema.proofs.Searching.{found_at, not_at}
 use Rattle.pig_schema.proofs.naming.next_fitting.Goals as goal

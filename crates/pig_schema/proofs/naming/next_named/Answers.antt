@@ -1,5 +1,4 @@
-use Rattle.std.proofs.Common.{◌≡◌, true, false, sym, ◌∙◌}
-use Rattle.pig_schema.specs.FieldTrees.{name_of}
+use Rattle.std.proofs.Common.{sym, ◌∙◌}
 use Rattle.pig_schema.specs.Names.{has_name}
 use Rattle.pig_schema.proofs.Searching.{found_at, not_at}
 use Rattle.pig_schema.proofs.naming.next_named.Goals as goal

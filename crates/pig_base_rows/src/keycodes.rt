@@ -1,6 +1,6 @@
-//! Values by hand, in ascending order, against their codes, which are written out from the table.
-use crate::{decode, encode};
-use pig_value::{Blob, Dir, Pair, Pairs, Rows, Seq, Text, Tuple, Value, same};
+//! pig_keycode: values by hand, in ascending order, against their codes, which are written out from the table.
+use pig_keycode::{decode, decode_row, encode, encode_key, encode_row, read_code};
+use pig_value::{Blob, Dir, Dirs, Pair, Pairs, Rows, Seq, Text, Tuple, Value, same};
 use std::alloc::{AllocError, Global};
 use std::test::Fail;
 
@@ -178,16 +178,6 @@ fn codes_are_read(rt: HostRuntime) -> Result<(), Fail> {
 }
 
 #[test]
-fn codes_ascend(rt: HostRuntime) -> Result<(), Fail> {
-    for i in 0..VALUES {
-        for j in 0..VALUES {
-            assert!(rt; code(i).cmp(code(j)) == i.cmp(&j), "values {i} and {j}");
-        }
-    }
-    Ok(())
-}
-
-#[test]
 fn bytes_off_the_grammar(rt: HostRuntime) -> Result<(), Fail> {
     let cases: [&[u8]; 14] = [
         b"",
@@ -218,19 +208,73 @@ fn bytes_off_the_grammar(rt: HostRuntime) -> Result<(), Fail> {
     Ok(())
 }
 
-#[test]
-fn a_deep_value_comes_back(rt: HostRuntime) -> Result<(), Fail> {
-    let mut value = Value::Int(1);
-    for _ in 0..64 {
-        let mut row = Seq::new(rt.alloc());
+// The null inside so many tuples.
+fn nested_null(alloc: Global, tuples: usize) -> Result<Value, AllocError> {
+    let mut value = Value::Null;
+    for _ in 0..tuples {
+        let mut row = Seq::new(alloc);
         row.push(value)?;
         value = Value::Tuple(row);
     }
+    Ok(value)
+}
+
+#[test]
+fn values_nest_256_deep(rt: HostRuntime) -> Result<(), Fail> {
+    let deepest = nested_null(rt.alloc(), 255)?;
     let mut bytes = Vec::new(rt.alloc());
-    encode(&value, Dir::Asc, &mut bytes)?;
+    encode(&deepest, Dir::Asc, &mut bytes)?;
     match decode(rt.alloc(), bytes.as_slice())? {
-        Some(found) => assert!(rt; same(&found, &value), "a deep value"),
-        None => panic!(rt; "a deep value"),
+        Some(found) => assert!(rt; same(&found, &deepest), "the deepest value"),
+        None => panic!(rt; "the deepest value"),
     }
+    let deeper = nested_null(rt.alloc(), 256)?;
+    bytes.clear();
+    encode(&deeper, Dir::Asc, &mut bytes)?;
+    assert!(rt; decode(rt.alloc(), bytes.as_slice()).is_err(), "a deeper value");
+    Ok(())
+}
+
+#[test]
+fn rows_are_written_as_tuples_and_read(rt: HostRuntime) -> Result<(), Fail> {
+    let row = booleans(rt.alloc(), &[false, true])?;
+    let mut bytes = Vec::new(rt.alloc());
+    bytes.push(7)?;
+    encode_row(&row, &mut bytes)?;
+    assert!(rt; bytes.as_slice() == b"\x07\x06\x01\x01\x00\x01\x01\x01\x00");
+    match decode_row(rt.alloc(), &bytes.as_slice()[1..])? {
+        Some(found) => assert!(rt; same(&Value::Tuple(found), &Value::Tuple(row))),
+        None => panic!(rt; "no row"),
+    }
+    assert!(rt; decode_row(rt.alloc(), b"\x00")?.is_none(), "the null is no row");
+    assert!(rt; decode_row(rt.alloc(), b"\x06")?.is_none(), "a row without its end");
+    Ok(())
+}
+
+#[test]
+fn codes_are_read_from_the_front(rt: HostRuntime) -> Result<(), Fail> {
+    match read_code(rt.alloc(), b"\x04a\x00\xff\x00\x00\x01\x02")? {
+        Some((found, rest)) => {
+            assert!(rt; same(&found, &chars(rt.alloc(), "a\0")?), "the text");
+            assert!(rt; rest == b"\x01\x02", "what is behind it");
+        }
+        None => panic!(rt; "no code"),
+    }
+    assert!(rt; read_code(rt.alloc(), b"\x04a\x00\x01\x00\x00")?.is_none());
+    Ok(())
+}
+
+#[test]
+fn keys_are_written_in_directions(rt: HostRuntime) -> Result<(), Fail> {
+    let key = Value::Tuple(booleans(rt.alloc(), &[false, true])?);
+    let mut dirs = Dirs::new(rt.alloc());
+    let mut bytes = Vec::new(rt.alloc());
+    encode_key(&key, &dirs, &mut bytes)?;
+    assert!(rt; bytes.as_slice() == b"\x06\x01\x01\x00\x01\x01\x01\x00", "no directions");
+    dirs.push(Dir::Desc)?;
+    dirs.push(Dir::Asc)?;
+    bytes.clear();
+    encode_key(&key, &dirs, &mut bytes)?;
+    assert!(rt; bytes.as_slice() == b"\xfe\xff\x01\x01", "descending, then ascending");
     Ok(())
 }

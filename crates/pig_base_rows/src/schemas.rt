@@ -1,6 +1,6 @@
-//! Names and positions by hand, in schemas that are written as the names of their fields.
-use crate::{Field, NameFault, Schema, at, find, kinds};
-use pig_value::{Kind, Seq, Text, same_kind};
+//! pig_schema: names and positions by hand, in schemas that are written as the names of their fields.
+use pig_schema::{Field, NameFault, Schema, at, copy_field, copy_schema, find, kinds};
+use pig_value::{Boxed, Kind, Seq, Text, same_kind};
 use std::alloc::{AllocError, Global};
 use std::test::Fail;
 
@@ -109,5 +109,48 @@ fn kinds_stand_in_order(rt: HostRuntime) -> Result<(), Fail> {
     assert!(rt; same_kind(text, &Kind::Chararray));
     assert!(rt; same_kind(flag, &Kind::Boolean));
     assert!(rt; matches!(fields, Kind::Tuple(inner) if inner.len() == 1));
+    Ok(())
+}
+
+// A bag of tuples of an int `a`, under a name.
+fn bag_field(alloc: Global, name: &str) -> Result<Field, AllocError> {
+    let mut columns = Seq::new(alloc);
+    columns.push(Kind::Int)?;
+    let mut bag = field(alloc, name, Kind::Bag(columns))?;
+    bag.inner.push(field(alloc, "a", Kind::Int)?)?;
+    Ok(bag)
+}
+
+// Whether this is the bag above, under this name.
+fn is_bag_field(found: &Field, name: &str) -> bool {
+    let named = match &found.name {
+        Some(text) => text.as_str() == name,
+        None => false,
+    };
+    let of_ints = match &found.kind {
+        Kind::Bag(columns) => {
+            matches!(columns.as_slice(), [only] if same_kind(only, &Kind::Int))
+        }
+        _ => false,
+    };
+    named && of_ints && find(&found.inner, "a") == Ok(0) && found.inner.len() == 1
+}
+
+#[test]
+fn fields_and_schemas_are_copied(rt: HostRuntime) -> Result<(), Fail> {
+    let alloc = rt.alloc();
+    let bag = bag_field(alloc, "b")?;
+    assert!(rt; is_bag_field(&copy_field(alloc, &bag)?, "b"), "a field");
+    let mut whole = Seq::new(alloc);
+    whole.push(bag)?;
+    whole.push(field(alloc, "", Kind::Map(Boxed::new(alloc, Kind::Long)?))?)?;
+    let copied = copy_schema(alloc, &whole)?;
+    let [first, second] = copied.as_slice() else {
+        return Err(Fail::new("not two fields"));
+    };
+    assert!(rt; is_bag_field(first, "b"), "the first field");
+    assert!(rt; second.name.is_none(), "no name");
+    assert!(rt; matches!(&second.kind, Kind::Map(of) if same_kind(of.get(), &Kind::Long)));
+    assert!(rt; second.inner.is_empty(), "nothing inside");
     Ok(())
 }
