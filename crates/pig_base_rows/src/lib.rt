@@ -1,8 +1,10 @@
-//! Tests of the public calls of the crates that everything stands on. One file for each crate; their values are written
-//! by hand.
+//! Worked rows of the base: values, fields, text, schemas and key codes, each against values written by hand from
+//! the definitions. It has tests alone, one file for each crate.
 #![tactic(auto)]
 
 #[cfg(test)]
 mod keycodes;
 #[cfg(test)]
 mod schemas;
+#[cfg(test)]
+mod values;

@@ -1,5 +1,6 @@
 mod Ends
 mod KindEnds
+mod FunctionSamples
 pub mod list_laws
 pub mod TreeLaws
 pub mod OrderLaws
