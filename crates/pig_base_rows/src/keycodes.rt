@@ -130,7 +130,7 @@ fn nested_code(at: usize) -> &'static [u8] {
     match at {
         20 => b"\x06\x00",
         21 => b"\x06\x01\x01\x00\x00",
-        22 => b"\x06\x01\x01\x00\x01\x01\x01\x00",
+        22 => b"\x06\x01\x01\x00\x01\x01\x01\x00".as_slice(),
         23 => b"\x06\x01\x01\x01\x00",
         24 => b"\x06\x01\x02\x80\x00\x00\x05\x01\x00\x01\x04a\x00\xff\x00\x00\x00",
         25 => b"\x07\x00",
@@ -231,7 +231,10 @@ fn values_nest_256_deep(rt: HostRuntime) -> Result<(), Fail> {
     let deeper = nested_null(rt.alloc(), 256)?;
     bytes.clear();
     encode(&deeper, Dir::Asc, &mut bytes)?;
-    assert!(rt; decode(rt.alloc(), bytes.as_slice()).is_err(), "a deeper value");
+    assert!(rt;
+        decode(rt.alloc(), bytes.as_slice()).is_err(),
+        "a deeper value"
+    );
     Ok(())
 }
 
@@ -241,13 +244,19 @@ fn rows_are_written_as_tuples_and_read(rt: HostRuntime) -> Result<(), Fail> {
     let mut bytes = Vec::new(rt.alloc());
     bytes.push(7)?;
     encode_row(&row, &mut bytes)?;
-    assert!(rt; bytes.as_slice() == b"\x07\x06\x01\x01\x00\x01\x01\x01\x00");
+    assert!(rt; bytes.as_slice() == b"\x07\x06\x01\x01\x00\x01\x01\x01\x00".as_slice());
     match decode_row(rt.alloc(), &bytes.as_slice()[1..])? {
         Some(found) => assert!(rt; same(&Value::Tuple(found), &Value::Tuple(row))),
         None => panic!(rt; "no row"),
     }
-    assert!(rt; decode_row(rt.alloc(), b"\x00")?.is_none(), "the null is no row");
-    assert!(rt; decode_row(rt.alloc(), b"\x06")?.is_none(), "a row without its end");
+    assert!(rt;
+        decode_row(rt.alloc(), b"\x00")?.is_none(),
+        "the null is no row"
+    );
+    assert!(rt;
+        decode_row(rt.alloc(), b"\x06")?.is_none(),
+        "a row without its end"
+    );
     Ok(())
 }
 
@@ -256,7 +265,7 @@ fn codes_are_read_from_the_front(rt: HostRuntime) -> Result<(), Fail> {
     match read_code(rt.alloc(), b"\x04a\x00\xff\x00\x00\x01\x02")? {
         Some((found, rest)) => {
             assert!(rt; same(&found, &chars(rt.alloc(), "a\0")?), "the text");
-            assert!(rt; rest == b"\x01\x02", "what is behind it");
+            assert!(rt; rest == b"\x01\x02".as_slice(), "what is behind it");
         }
         None => panic!(rt; "no code"),
     }
@@ -270,11 +279,17 @@ fn keys_are_written_in_directions(rt: HostRuntime) -> Result<(), Fail> {
     let mut dirs = Dirs::new(rt.alloc());
     let mut bytes = Vec::new(rt.alloc());
     encode_key(&key, &dirs, &mut bytes)?;
-    assert!(rt; bytes.as_slice() == b"\x06\x01\x01\x00\x01\x01\x01\x00", "no directions");
+    assert!(rt;
+        bytes.as_slice() == b"\x06\x01\x01\x00\x01\x01\x01\x00".as_slice(),
+        "no directions"
+    );
     dirs.push(Dir::Desc)?;
     dirs.push(Dir::Asc)?;
     bytes.clear();
     encode_key(&key, &dirs, &mut bytes)?;
-    assert!(rt; bytes.as_slice() == b"\xfe\xff\x01\x01", "descending, then ascending");
+    assert!(rt;
+        bytes.as_slice() == b"\xfe\xff\x01\x01".as_slice(),
+        "descending, then ascending"
+    );
     Ok(())
 }

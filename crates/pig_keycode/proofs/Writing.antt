@@ -67,7 +67,7 @@ pub zero_written : (old out new whole rest plain more : List ℕ) → out ≡ ol
     → HasNoZero plain → rest ≡ plain ++ 0 ∷ more → old ++ text_code rest ≡ whole → new ++ text_code more ≡ whole
 zero_written old out new whole rest plain more first second none is so_far =
     let split : escaped rest ≡ plain ++ 0 ∷ 255 ∷ escaped more =
-        ap escaped is ∙ (escaped-append plain (0 ∷ more) ∙ ap (λ l. l ++ 0 ∷ 255 ∷ escaped more) (escaped_plain plain none))
+    ap escaped is ∙ (escaped-append plain (0 ∷ more) ∙ ap (λ l. l ++ 0 ∷ 255 ∷ escaped more) (escaped_plain plain none))
     in
     ap (λ l. l ++ text_code more) second
     ∙ (append_assoc out (0 ∷ 255 ∷ []) (text_code more)

@@ -11,10 +11,10 @@ ghost use Rattle.pig_keycode.specs.Codes.{biased, text_code, code};
 ghost use Rattle.pig_keycode.specs.Codable.{IsCodeOf, IsCodeOfRow};
 ghost use Rattle.pig_keycode.specs.Reading.{Reads, StandsFirst, NoneFirst, mark_code, AnyMark, byte_code, IsByteOrEnd, row_code, fields_part, rows_part, pair_code, IsCodedPair, pairs_part, AreCodedPairs, keys_of, KeyRises};
 
-use crate::zeros::plain_length;
 use crate::tags::{
     BAG, BOOL, BYTES, CHARS, END, ESCAPED, INT, ITEM, LISTED, LONG, MAP, NULL, TUPLE,
 };
+use crate::zeros::plain_length;
 use pig_value::{Blob, Pair, Pairs, Rows, Seq, Text, Tuple, Value, known_bytes, order_rows};
 use std::alloc::{AllocError, Global};
 use std::cmp::Ordering;
@@ -175,7 +175,12 @@ fn read_value(alloc: Global, levels: u32, bytes: &[u8]) -> Result<(Value, &[u8])
 }
 
 #[cycle(read)]
-fn read_content(alloc: Global, levels: u32, tag: u8, content: &[u8]) -> Result<(Value, &[u8]), ReadFault>
+fn read_content(
+    alloc: Global,
+    levels: u32,
+    tag: u8,
+    content: &[u8],
+) -> Result<(Value, &[u8]), ReadFault>
     ensures { Reads tree code IsValue (tag ∷ content.now) result }
 {
     match tag {
@@ -250,7 +255,11 @@ fn read_bag_value(alloc: Global, levels: u32, content: &[u8]) -> Result<(Value, 
 }
 
 #[cycle(read)]
-fn read_listed_value(alloc: Global, levels: u32, content: &[u8]) -> Result<(Value, &[u8]), ReadFault>
+fn read_listed_value(
+    alloc: Global,
+    levels: u32,
+    content: &[u8],
+) -> Result<(Value, &[u8]), ReadFault>
     ensures { Reads tree code IsValue (8 ∷ content.now) result }
 {
     let (rows, rest) = read_rows(alloc, levels, content)?;
