@@ -6,6 +6,7 @@ use Rattle.std.specs.declared.cmp.Ordering.{Ordering}
 use Rattle.std.specs.declared.cmp.Ordering.TheVariants.{Less, Equal, Greater}
 use Rattle.std.specs.Cmp.{IsTotalOrder}
 use Rattle.std.proofs.lemmas.Cmp.{then_total, on_total, tied_itself}
+use Rattle.std.proofs.lemmas.List.{append-nil}
 use Rattle.pig_value.specs.Trees.{Tree, v_tuple, fields_of}
 use Rattle.pig_value.specs.Orders.{tree_cmp, dir_cmp, dirs_cmp}
 use Rattle.pig_value.specs.Valid.{IsValue, IsRow}
@@ -15,7 +16,7 @@ use Rattle.pig_value.proofs.OrderLaws.{tree_total, tree_same, dirs_total, dirs_s
 use Rattle.pig_keycode.specs.Codes.{code_in}
 use Rattle.pig_keycode.specs.Keys.{IsKey, fields_in, key_cmp, codes_in, key_code}
 use Rattle.pig_keycode.proofs.CodeOrder.{chained, code_order}
-use Rattle.pig_keycode.proofs.Turned.{turned_followed}
+use Rattle.pig_keycode.proofs.Turned.{turned_followed, then_nothing}
 use Rattle.pig_keycode.proofs.Unique.{both_equal, parts_equal}
 
 -- one field in its direction
@@ -52,6 +53,12 @@ key_order [] a b h k s t = code_order a b h k s t
 key_order (d ∷ ds) a b h k s t =
     fields_order (d ∷ ds) (fields_in a) (fields_in b) h.2 k.2 (subst IsValue h.1 h.0) (subst IsValue k.1 k.0) s t
     ∙ ap (λ r. ordering_then r (slice_cmp nat_cmp s t)) (sym (key_cmp_is d ds a b h k))
+
+pub whole_key_order : (ds : List Dir) (a b : Tree) → IsKey ds a → IsKey ds b → slice_cmp nat_cmp (key_code ds a) (key_code ds b) ≡ key_cmp ds a b
+whole_key_order ds a b h k =
+    ap (λ l. slice_cmp nat_cmp l (key_code ds b)) (sym (append-nil (key_code ds a)))
+    ∙ (ap (λ l. slice_cmp nat_cmp (key_code ds a ++ []) l) (sym (append-nil (key_code ds b)))
+    ∙ (key_order ds a b h k [] [] ∙ then_nothing (key_cmp ds a b)))
 
 -- the order of keys is total, and tells keys apart
 pub key_total : (ds : List Dir) → IsTotalOrder (key_cmp ds)

@@ -17,7 +17,7 @@ use Rattle.pig_keycode.proofs.CodeOrder.{code_order}
 use Rattle.pig_keycode.proofs.CodeBytes.{code_bytes}
 use Rattle.pig_keycode.proofs.Unique.{code_told}
 
-then_nothing : (r : Ordering) → ordering_then r Equal ≡ r
+pub then_nothing : (r : Ordering) → ordering_then r Equal ≡ r
 then_nothing Less = refl
 then_nothing Equal = refl
 then_nothing Greater = refl

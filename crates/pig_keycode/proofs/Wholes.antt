@@ -8,8 +8,8 @@ use Rattle.pig_value.proofs.TreeLaws.{fields_back}
 use Rattle.pig_value.specs.declared.values.Value.{Value}
 use Rattle.pig_keycode.specs.Codes.{code}
 use Rattle.pig_keycode.specs.Codable.{IsCodeOf, IsCodeOfRow}
-use Rattle.pig_value.specs.Valid.{IsValue}
-use Rattle.pig_keycode.specs.Reading.{StandsFirst, NoneFirst}
+use Rattle.pig_value.specs.Valid.{IsValue, IsRow}
+use Rattle.pig_keycode.specs.Reading.{StandsFirst, NoneFirst, row_code}
 use Rattle.pig_keycode.proofs.Unique.{code_told}
 
 -- what `decode` finds in bytes
@@ -58,3 +58,8 @@ row_back bytes (option.Some found) h row k =
 pub decoded_back : (bytes : List ℕ) (found : Option Value) → IsDecoded bytes found → (v : Tree) → IsCodeOf bytes v → option_map tree found ≡ Some v
 decoded_back bytes option.None h v k = absurd (h v k)
 decoded_back bytes (option.Some w) h v k = ap (λ u. option.Some u) (one_decoded bytes (tree w) v h k)
+
+-- the code of a row tells it
+pub one_row : (x y : List Tree) → IsRow x → IsRow y → row_code x ≡ row_code y → x ≡ y
+one_row x y h k e =
+    sym (fields_back x) ∙ (ap fields_held (code_told (v_tuple (fields_of x)) (v_tuple (fields_of y)) [] [] h k (ap (λ l. l ++ []) e)).0 ∙ fields_back y)
