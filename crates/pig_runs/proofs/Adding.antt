@@ -64,8 +64,8 @@ module _ (ds : List Dir) (e : Keyed) (old new : List ℕ) (slots grown : List Sl
       (λ i. map (found_at (bytes i)) (more i))
       ∙ (map-append (found_at (old ++ added)) slots (slot ∷ [])
       ∙ (let kept = all_kept old added slots within in
-        let found = found_new old (packed ds e).key (packed ds e).row e.input in
-        λ i. kept i ++ found i ∷ []))
+      let found = found_new old (packed ds e).key (packed ds e).row e.input in
+      λ i. kept i ++ found i ∷ []))
 
   pub held_after : {T E : Type 0} (r : Result T E) → IsEntry ds e → AllByRecursion (IsWithin (length old)) slots → Held ds (map (found_at old) slots)
       → OnOk r (new ≡ old ++ ((packed ds e).key ++ (packed ds e).row)) → OnOk r (grown ≡ slots ++ slot ∷ []) → OnErr r (new ≡ old) → OnErr r (grown ≡ slots) → Held ds (map (found_at new) grown)
@@ -92,6 +92,7 @@ module _ (ds : List Dir) (e : Keyed) (old new : List ℕ) (slots grown : List Sl
       (bytes : OnOk r (new ≡ old ++ ((packed ds e).key ++ (packed ds e).row))) (more : OnOk r (grown ≡ slots ++ slot ∷ [])) (same_bytes : OnErr r (new ≡ old)) (same_slots : OnErr r (grown ≡ slots))
       (given : Held ds (map (found_at new) grown)) (b : InDirections) → b ≡ record { dirs = ds; entries = held.0 }
       → OnOk r (record { dirs = ds; entries = given.0 } ≡ and_entry e b) × OnErr r (record { dirs = ds; entries = given.0 } ≡ b)
+  unfolding held_after
   seen_after {T} {E} (Ok u) good within held bytes more same_bytes same_slots given b was =
       let after = held_after {T = T} {E = E} (Ok u) good within held bytes more same_bytes same_slots in
       let is : given.0 ≡ held.0 ++ e ∷ [] = ap (λ h. h.0) (held_prop ds (map (found_at new) grown) given after) in

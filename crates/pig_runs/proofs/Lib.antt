@@ -1,2 +1,4 @@
 pub mod Order
 pub mod Adding
+pub mod Reading
+pub mod SortedSlots

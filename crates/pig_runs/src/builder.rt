@@ -2,11 +2,10 @@ ghost use Rattle.std.specs.Prelude.{◌≡◌, ◌<◌, [], length, map, option_
 ghost use Rattle.pig_runs.specs.Entries.{run_of};
 ghost use Rattle.pig_runs.specs.Packed.{found_at, Held, held_prop};
 
-use crate::packing::{add_entry, part, sorted};
+use crate::packing::{add_entry, read_key, read_row, slot_at, sort_slots};
 use crate::run::Run;
 use crate::slots::Slot;
-use pig_keycode::{decode, decode_row};
-use pig_value::{Dirs, Seq, Tuple, Value};
+use pig_value::{Dirs, Tuple, Value};
 use std::alloc::{AllocError, Global};
 use std::marker::Model;
 
@@ -60,14 +59,29 @@ impl RunBuilder {
         ensures ok { OnOk result (self.new ≡ and_entry (record { key = tree key.now; input = input; row = row_tree row.now }) self.old) }
         ensures err { OnErr result (self.new ≡ self.old) }
     {
-        add_entry(&self.dirs, &mut self.bytes, &mut self.slots, key, input, row)
+        add_entry(
+            &self.dirs,
+            &mut self.bytes,
+            &mut self.slots,
+            key,
+            input,
+            row,
+        )
     }
 
     /// The sorted run of the entries.
     pub fn finish(self) -> Run
         ensures { result ≡ run_of self.dirs self.entries }
     {
-        Run::from_sorted(in_order(self))
+        let mut built = self;
+        built.sort();
+        Run::from_sorted(built)
+    }
+
+    fn sort(&mut self)
+        ensures { self.new ≡ run_of self.old.dirs self.old.entries }
+    {
+        sort_slots(self.bytes.as_slice(), &mut self.slots);
     }
 
     /// The number of entries.
@@ -82,7 +96,8 @@ impl RunBuilder {
         requires { at < length self.now.entries }
         ensures { option_map (λ e. e.input) (slice_get self.now.entries at) ≡ Some result }
     {
-        self.slots[at].input
+        let slot = slot_at(self.slots.as_slice(), at);
+        slot.input
     }
 
     // The row of an entry.
@@ -90,12 +105,8 @@ impl RunBuilder {
         requires { at < length self.now.entries }
         ensures { IfOk result (λ row. option_map (λ e. e.row) (slice_get self.now.entries at) ≡ Some (row_tree row)) }
     {
-        let slot = self.slots[at];
-        match decode_row(alloc, part(self.bytes.as_slice(), slot.row_at, slot.row_len)) {
-            Ok(Some(row)) => Ok(row),
-            Ok(None) => Ok(Seq::new(alloc)),
-            Err(fault) => Err(fault),
-        }
+        let slot = slot_at(self.slots.as_slice(), at);
+        read_row(alloc, self.bytes.as_slice(), slot)
     }
 
     // The key of an entry, where keys have no directions.
@@ -104,20 +115,7 @@ impl RunBuilder {
         requires ascending { self.now.dirs ≡ [] }
         ensures { IfOk result (λ key. option_map (λ e. e.key) (slice_get self.now.entries at) ≡ Some (tree key)) }
     {
-        let slot = self.slots[at];
-        match decode(alloc, part(self.bytes.as_slice(), slot.key_at, slot.key_len)) {
-            Ok(Some(key)) => Ok(key),
-            Ok(None) => Ok(Value::Null),
-            Err(fault) => Err(fault),
-        }
+        let slot = slot_at(self.slots.as_slice(), at);
+        read_key(alloc, self.bytes.as_slice(), slot)
     }
-}
-
-// The entries in their order.
-fn in_order(builder: RunBuilder) -> RunBuilder
-    ensures { result ≡ run_of builder.dirs builder.entries }
-{
-    let RunBuilder { dirs, bytes, slots } = builder;
-    let slots = sorted(bytes.as_slice(), slots);
-    RunBuilder { dirs, bytes, slots }
 }

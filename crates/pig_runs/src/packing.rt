@@ -1,16 +1,17 @@
-ghost use Rattle.std.specs.Prelude.{◌≡◌, ◌++◌, ◌∷◌, [], ◌+◌, length, map, OnOk, OnErr, IfOk, IsPermutation};
+ghost use Rattle.std.specs.Prelude.{◌≡◌, ◌<◌, ◌++◌, ◌∷◌, [], ◌+◌, List, Some, slice_get, length, map, OnOk, OnErr, IfOk, IsPermutation};
 ghost use Rattle.std.specs.Ordering.{ordering_then, nat_cmp};
 ghost use Rattle.pig_value.specs.Orders.{text_cmp};
 ghost use Rattle.pig_value.specs.Sorts.{sort};
-ghost use Rattle.pig_value.specs.Trees.{tree, row_tree};
+ghost use Rattle.pig_value.specs.Trees.{Tree, tree, row_tree};
+ghost use Rattle.pig_keycode.specs.Codable.{IsCodeOf, IsCodeOfRow};
 ghost use Rattle.pig_keycode.specs.Keys.{key_code};
 ghost use Rattle.pig_keycode.specs.Reading.{row_code};
 ghost use Rattle.pig_runs.specs.Packed.{part, found_at, packed_cmp, slot_of};
 
 use crate::slots::Slot;
-use pig_keycode::{encode_key, encode_row};
-use pig_value::{Dirs, Tuple, Value};
-use std::alloc::AllocError;
+use pig_keycode::{decode, decode_row, encode_key, encode_row};
+use pig_value::{Dirs, Seq, Tuple, Value};
+use std::alloc::{AllocError, Global};
 use std::cmp::Ordering;
 
 // So many bytes from a place on.
@@ -113,12 +114,39 @@ pub(crate) fn add_entry(
     }
 }
 
-// The slots in the order of their entries.
-pub(crate) fn sorted(bytes: &[u8], slots: Vec<Slot>) -> Vec<Slot>
-    ensures order { map (found_at bytes.now) result.items ≡ sort packed_cmp (map (found_at bytes.now) slots.items) }
-    ensures same { IsPermutation slots.items result.items }
+// Sorts slots by their entries.
+pub(crate) fn sort_slots(bytes: &[u8], slots: &mut Vec<Slot>)
+    ensures order { map (found_at bytes.now) slots.new.items ≡ sort packed_cmp (map (found_at bytes.now) slots.old.items) }
+    ensures same { IsPermutation slots.old.items slots.new.items }
 {
-    let mut slots = slots;
     slots.sort_unstable_by(|a, b| compare(bytes, a, b));
-    slots
+}
+
+pub(crate) fn slot_at(slots: &[Slot], at: usize) -> Slot
+    requires { at < length slots.now }
+    ensures { slice_get slots.now at ≡ Some result }
+{
+    slots[at]
+}
+
+// The row of a slot.
+pub(crate) fn read_row(alloc: Global, bytes: &[u8], slot: Slot) -> Result<Tuple, AllocError>
+    ensures { (row : List Tree) → IsCodeOfRow (part bytes.now slot.row_at slot.row_len) row → IfOk result (λ found. row_tree found ≡ row) }
+{
+    match decode_row(alloc, part(bytes, slot.row_at, slot.row_len)) {
+        Ok(Some(row)) => Ok(row),
+        Ok(None) => Ok(Seq::new(alloc)),
+        Err(fault) => Err(fault),
+    }
+}
+
+// The key of a slot.
+pub(crate) fn read_key(alloc: Global, bytes: &[u8], slot: Slot) -> Result<Value, AllocError>
+    ensures { (key : Tree) → IsCodeOf (part bytes.now slot.key_at slot.key_len) key → IfOk result (λ found. tree found ≡ key) }
+{
+    match decode(alloc, part(bytes, slot.key_at, slot.key_len)) {
+        Ok(Some(key)) => Ok(key),
+        Ok(None) => Ok(Value::Null),
+        Err(fault) => Err(fault),
+    }
 }

@@ -8,8 +8,7 @@ use Rattle.pig_runs.proofs.builder.RunBuilder.add.Goals as goal
 pub invariant_of-self-inside : goal.invariant_of-self-inside
 invariant_of-self-inside c =
     let e : Keyed = record { key = tree c.args.key.now; input = c.args.input; row = row_tree c.args.row.now } in
-    let good : IsEntry c.self.inside.dirs e = record { key = subst (λ ds. IsKey ds e.key) (sym (ap (λ b. b.dirs) c.self.view_is)) c.requires.key; row = c.requires.row } in
-    (
+    let good : IsEntry c.self.inside.dirs e = record { key = subst (λ ds. IsKey ds e.key) (sym (ap (λ b. b.dirs) c.self.view_is)) c.requires.key; row = c.requires.row } in (
       held_after c.self.inside.dirs e c.self.inside.bytes.items c.add_entry.new.bytes.items c.self.inside.slots.items c.add_entry.new.slots.items c.add_entry.result good c.self.invariant c.self.inside.held c.add_entry.ensures.bytes c.add_entry.ensures.slots c.add_entry.ensures.err_bytes c.add_entry.ensures.err_slots,
       tt,
     )
@@ -23,10 +22,10 @@ pub returns-clause-ok : goal.returns-clause-ok
 returns-clause-ok c =
     let e : Keyed = record { key = tree c.args.key.now; input = c.args.input; row = row_tree c.args.row.now } in
     let good : IsEntry c.self.inside.dirs e = record { key = subst (λ ds. IsKey ds e.key) (sym (ap (λ b. b.dirs) c.self.view_is)) c.requires.key; row = c.requires.row } in
-    (seen_after c.self.inside.dirs e c.self.inside.bytes.items c.add_entry.new.bytes.items c.self.inside.slots.items c.add_entry.new.slots.items c.add_entry.result good c.self.invariant c.self.inside.held c.add_entry.ensures.bytes c.add_entry.ensures.slots c.add_entry.ensures.err_bytes c.add_entry.ensures.err_slots _ c.args.self.now (sym c.self.view_is)).0
+    (seen_after c.self.inside.dirs e c.self.inside.bytes.items c.add_entry.new.bytes.items c.self.inside.slots.items c.add_entry.new.slots.items c.add_entry.result good c.self.invariant c.self.inside.held c.add_entry.ensures.bytes c.add_entry.ensures.slots c.add_entry.ensures.err_bytes c.add_entry.ensures.err_slots c.self-1.given.0 c.args.self.now (sym c.self.view_is)).0
 
 pub returns-clause-err : goal.returns-clause-err
 returns-clause-err c =
     let e : Keyed = record { key = tree c.args.key.now; input = c.args.input; row = row_tree c.args.row.now } in
     let good : IsEntry c.self.inside.dirs e = record { key = subst (λ ds. IsKey ds e.key) (sym (ap (λ b. b.dirs) c.self.view_is)) c.requires.key; row = c.requires.row } in
-    (seen_after c.self.inside.dirs e c.self.inside.bytes.items c.add_entry.new.bytes.items c.self.inside.slots.items c.add_entry.new.slots.items c.add_entry.result good c.self.invariant c.self.inside.held c.add_entry.ensures.bytes c.add_entry.ensures.slots c.add_entry.ensures.err_bytes c.add_entry.ensures.err_slots _ c.args.self.now (sym c.self.view_is)).1
+    (seen_after c.self.inside.dirs e c.self.inside.bytes.items c.add_entry.new.bytes.items c.self.inside.slots.items c.add_entry.new.slots.items c.add_entry.result good c.self.invariant c.self.inside.held c.add_entry.ensures.bytes c.add_entry.ensures.slots c.add_entry.ensures.err_bytes c.add_entry.ensures.err_slots c.self-1.given.0 c.args.self.now (sym c.self.view_is)).1
