@@ -1,10 +1,10 @@
 -- What a slot finds is the entry at its place.
-use Rattle.std.proofs.Common.{◌≡◌, ◌<◌, ℕ, List, [], map, length, refl, sym, ◌∙◌, ap, subst}
+use Rattle.std.proofs.Common.{◌≡◌, ◌<◌, ℕ, List, [], map, length, get_or, refl, sym, ◌∙◌, ap, subst}
 use Rattle.std.specs.Prelude.{Option, Some, None, Result, Ok, Err, IfOk, option_map, slice_get}
 use Rattle.std.specs.Coded.{Coded-set, coded_list}
 use Rattle.std.proofs.Math.Logic.{∥∥₁_elim}
 use Rattle.std.proofs.lemmas.List.{length-map}
-use Rattle.std.proofs.lemmas.Option.{slice_get-map}
+use Rattle.std.proofs.lemmas.Option.{slice_get-map, slice_get_read}
 use Rattle.pig_value.specs.Trees.{Tree, tree, row_tree}
 use Rattle.pig_value.specs.TreeCode.{coded_tree}
 use Rattle.pig_value.specs.declared.values.Value.{Value}
@@ -12,8 +12,9 @@ use Rattle.pig_value.specs.declared.operators.Dir.{Dir}
 use Rattle.pig_value.proofs.list_laws.Listing.{each_at}
 use Rattle.pig_keycode.specs.Codable.{IsCodeOf, IsCodeOfRow}
 use Rattle.pig_keycode.specs.Keys.{IsKey, key_code}
+use Rattle.pig_runs.specs.declared.entries.Entry.{Entry}
 use Rattle.pig_runs.specs.declared.slots.Slot.{Slot}
-use Rattle.pig_runs.specs.Entries.{Keyed, IsEntry}
+use Rattle.pig_runs.specs.Entries.{Keyed, keyed, IsEntry, AreEntries}
 use Rattle.pig_runs.specs.Packed.{Packed, packed, part, found_at, Held}
 
 module _ (ds : List Dir) (bytes : List ℕ) (slots : List Slot) (held : Held ds (map (found_at bytes) slots)) where
@@ -59,3 +60,8 @@ module _ (ds : List Dir) (bytes : List ℕ) (slots : List Slot) (held : Held ds 
       }))
       in
       ap (option_map (λ e. e.key)) found.1 ∙ ap Some (sym is)
+
+-- what holds of the entries of a list holds of the one at an index
+pub entry_at : (ds : List Dir) (es : List Entry) (i : ℕ) (e : Entry) → i < length es → e ≡ get_or es i e → AreEntries ds (map keyed es) → IsEntry ds (keyed e)
+entry_at ds es i e within at h =
+    each_at (IsEntry ds) (map keyed es) i (keyed e) (slice_get-map keyed es i ∙ ap (option_map keyed) (slice_get_read es (length es) i e refl within at)) h

@@ -44,12 +44,17 @@ run_cmp ds e f = ordering_then (key_cmp ds e.key f.key) (ordering_then (nat_cmp 
 abbrev pub run_of : List Dir → List Keyed → InDirections
 run_of ds es = record { dirs = ds; entries = sort (run_cmp ds) es }
 
--- no entries yet, and one entry more
+-- no entries yet, and more entries behind others
 abbrev pub no_entries_in : List Dir → InDirections
 no_entries_in ds = record { dirs = ds; entries = [] }
 
-abbrev pub and_entry : Keyed → InDirections → InDirections
-and_entry e b = record { dirs = b.dirs; entries = b.entries ++ e ∷ [] }
+abbrev pub and_entries : List Keyed → InDirections → InDirections
+and_entries es b = record { dirs = b.dirs; entries = b.entries ++ es }
+
+-- all entries of runs, one run after another
+abbrev pub entries_of_all : List InDirections → List Keyed
+entries_of_all [] = []
+entries_of_all (r ∷ rs) = r.entries ++ entries_of_all rs
 
 -- ---- codes, which the `Model`s of builders and runs ask for
 

@@ -42,6 +42,10 @@ found_at bytes s = record { key = part bytes s.key_at s.key_len; input = s.input
 abbrev pub slot_of : ℕ → List ℕ → List ℕ → ℕ → Slot
 slot_of size key row input = record { key_at = size; key_len = length key; row_at = size + length key; row_len = length row; input = input }
 
+-- a slot whose bytes are moved behind so many others
+abbrev pub moved : ℕ → Slot → Slot
+moved base s = record { key_at = base + s.key_at; key_len = s.key_len; row_at = base + s.row_at; row_len = s.row_len; input = s.input }
+
 -- both places of a slot lie within so many bytes
 pub record IsWithin (size : ℕ) (s : Slot) : Type 0 where
   pub key : s.key_at + s.key_len ≤ size

@@ -1,8 +1,8 @@
-ghost use Rattle.std.specs.Prelude.{◌≡◌, ◌<◌, [], length, map, option_map, slice_get, Some, OnOk, OnErr, IfOk};
+ghost use Rattle.std.specs.Prelude.{◌≡◌, ◌<◌, [], ◌∷◌, length, map, option_map, slice_get, Some, OnOk, OnErr, IfOk};
 ghost use Rattle.pig_runs.specs.Entries.{run_of};
 ghost use Rattle.pig_runs.specs.Packed.{found_at, Held, held_prop};
 
-use crate::packing::{add_entry, read_key, read_row, slot_at, sort_slots};
+use crate::packing::{add_entry, append_entries, read_key, read_row, slot_at, sort_slots};
 use crate::run::Run;
 use crate::slots::Slot;
 use pig_value::{Dirs, Tuple, Value};
@@ -36,7 +36,7 @@ impl Model for RunBuilder {
 }
 
 impl RunBuilder {
-    ghost use Rattle.pig_runs.specs.Entries.{no_entries_in, and_entry};
+    ghost use Rattle.pig_runs.specs.Entries.{no_entries_in, and_entries};
     ghost use Rattle.pig_keycode.specs.Keys.{IsKey};
     ghost use Rattle.pig_value.specs.Trees.{tree, row_tree};
     ghost use Rattle.pig_value.specs.Valid.{IsRow};
@@ -56,7 +56,7 @@ impl RunBuilder {
     pub fn add(&mut self, key: &Value, input: u32, row: &Tuple) -> Result<(), AllocError>
         requires key { IsKey self.old.dirs (tree key.now) }
         requires row { IsRow (row_tree row.now) }
-        ensures ok { OnOk result (self.new ≡ and_entry (record { key = tree key.now; input = input; row = row_tree row.now }) self.old) }
+        ensures ok { OnOk result (self.new ≡ and_entries (record { key = tree key.now; input = input; row = row_tree row.now } ∷ []) self.old) }
         ensures err { OnErr result (self.new ≡ self.old) }
     {
         add_entry(
@@ -67,6 +67,16 @@ impl RunBuilder {
             input,
             row,
         )
+    }
+
+    // Adds all entries of another builder. Where memory is wanting, the entries stay as they were.
+    pub(crate) fn append(&mut self, other: &RunBuilder) -> Result<(), AllocError>
+        requires { other.now.dirs ≡ self.old.dirs }
+        ensures ok { OnOk result (self.new ≡ and_entries other.now.entries self.old) }
+        ensures err { OnErr result (self.new ≡ self.old) }
+    {
+        let more = other.bytes.as_slice();
+        append_entries(&mut self.bytes, &mut self.slots, more, other.slots.as_slice())
     }
 
     /// The sorted run of the entries.

@@ -10,5 +10,5 @@ mod sorting;
 
 pub use builder::RunBuilder;
 pub use entries::{Entries, Entry};
-pub use run::Run;
-pub use sorting::sort_run;
+pub use run::{Run, Runs};
+pub use sorting::{merge, sort_run};

@@ -1,4 +1,5 @@
-ghost use Rattle.std.specs.Prelude.{◌≡◌, ◌<◌, ◌++◌, ◌∷◌, [], ◌+◌, List, Some, slice_get, length, map, OnOk, OnErr, IfOk, IsPermutation};
+ghost use Rattle.std.specs.Prelude.{◌≡◌, ◌<◌, ◌≤◌, ◌^◌, ◌++◌, ◌∷◌, [], ◌+◌, List, Some, slice_get, length, map, OnOk, OnErr, IfOk, IsPermutation};
+ghost use Rattle.std.specs.List.{AllByRecursion};
 ghost use Rattle.std.specs.Ordering.{ordering_then, nat_cmp};
 ghost use Rattle.pig_value.specs.Orders.{text_cmp};
 ghost use Rattle.pig_value.specs.Sorts.{sort};
@@ -6,7 +7,7 @@ ghost use Rattle.pig_value.specs.Trees.{Tree, tree, row_tree};
 ghost use Rattle.pig_keycode.specs.Codable.{IsCodeOf, IsCodeOfRow};
 ghost use Rattle.pig_keycode.specs.Keys.{key_code};
 ghost use Rattle.pig_keycode.specs.Reading.{row_code};
-ghost use Rattle.pig_runs.specs.Packed.{part, found_at, packed_cmp, slot_of};
+ghost use Rattle.pig_runs.specs.Packed.{part, found_at, packed_cmp, slot_of, moved, IsWithin};
 
 use crate::slots::Slot;
 use pig_keycode::{decode, decode_row, encode_key, encode_row};
@@ -149,4 +150,89 @@ pub(crate) fn read_key(alloc: Global, bytes: &[u8], slot: Slot) -> Result<Value,
         Ok(None) => Ok(Value::Null),
         Err(fault) => Err(fault),
     }
+}
+
+// A slot whose bytes are moved behind others.
+fn moved(slot: Slot, base: usize) -> Slot
+    requires key { base + slot.key_at < 2 ^ 64 }
+    requires row { base + slot.row_at < 2 ^ 64 }
+    ensures { result ≡ moved base slot }
+{
+    Slot {
+        key_at: base + slot.key_at,
+        row_at: base + slot.row_at,
+        ..slot
+    }
+}
+
+// Slots whose bytes are moved behind others, which then end at a place.
+fn all_moved(
+    alloc: Global,
+    slots: &[Slot],
+    base: usize,
+    end: usize,
+) -> Result<Vec<Slot>, AllocError>
+    requires { AllByRecursion (λ s. (base + s.key_at ≤ end) × (base + s.row_at ≤ end)) slots.now }
+    ensures { IfOk result (λ all. all.items ≡ map (moved base) slots.now) }
+{
+    let mut all = Vec::with_capacity(alloc, slots.len())?;
+    for slot in slots {
+        all.push(moved(*slot, base))?;
+    }
+    Ok(all)
+}
+
+fn extend_bytes(bytes: &mut Vec<u8>, more: &[u8]) -> Result<(), AllocError>
+    ensures ok { OnOk result (bytes.new.items ≡ bytes.old.items ++ more.now) }
+    ensures err { OnErr result (bytes.new.items ≡ bytes.old.items) }
+{
+    bytes.extend_from_slice(more)?;
+    Ok(())
+}
+
+fn extend_slots(slots: &mut Vec<Slot>, more: &[Slot]) -> Result<(), AllocError>
+    ensures ok { OnOk result (slots.new.items ≡ slots.old.items ++ more.now) }
+    ensures err { OnErr result (slots.new.items ≡ slots.old.items) }
+{
+    slots.extend_from_slice(more)?;
+    Ok(())
+}
+
+// Appends the bytes of other entries, and their slots. Where memory is wanting, both stay as they were.
+pub(crate) fn append_entries(
+    bytes: &mut Vec<u8>,
+    slots: &mut Vec<Slot>,
+    more: &[u8],
+    more_slots: &[Slot],
+) -> Result<(), AllocError>
+    requires { AllByRecursion (IsWithin (length more.now)) more_slots.now }
+    ensures bytes { OnOk result (bytes.new.items ≡ bytes.old.items ++ more.now) }
+    ensures slots { OnOk result (slots.new.items ≡ slots.old.items ++ map (moved (length bytes.old.items)) more_slots.now) }
+    ensures err_bytes { OnErr result (bytes.new.items ≡ bytes.old.items) }
+    ensures err_slots { OnErr result (slots.new.items ≡ slots.old.items) }
+{
+    let base = bytes.len();
+    extend_bytes(bytes, more)?;
+    match push_moved(slots, more_slots, base, bytes.len()) {
+        Ok(()) => Ok(()),
+        Err(fault) => {
+            bytes.truncate(base);
+            Err(fault)
+        }
+    }
+}
+
+fn push_moved(
+    slots: &mut Vec<Slot>,
+    more: &[Slot],
+    base: usize,
+    end: usize,
+) -> Result<(), AllocError>
+    requires { AllByRecursion (λ s. (base + s.key_at ≤ end) × (base + s.row_at ≤ end)) more.now }
+    ensures ok { OnOk result (slots.new.items ≡ slots.old.items ++ map (moved base) more.now) }
+    ensures err { OnErr result (slots.new.items ≡ slots.old.items) }
+{
+    let alloc = *slots.allocator();
+    let more = all_moved(alloc, more, base, end)?;
+    extend_slots(slots, more.as_slice())
 }

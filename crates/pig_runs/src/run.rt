@@ -3,7 +3,7 @@ ghost use Rattle.pig_value.specs.Sorts.{Ascends};
 ghost use Rattle.pig_runs.specs.Entries.{run_cmp};
 
 use crate::builder::RunBuilder;
-use pig_value::{Tuple, Value};
+use pig_value::{Seq, Tuple, Value};
 use std::alloc::{AllocError, Global};
 use std::marker::Model;
 
@@ -15,6 +15,9 @@ pub struct Run {
     built: RunBuilder,
     ghost up: { ∥ Ascends (run_cmp built.dirs) built.entries ∥₁ },
 }
+
+/// A list of runs.
+pub type Runs = Seq<Run>;
 
 impl Model for Run {
     ghost use Rattle.pig_runs.specs.Entries.{InDirections, coded_in_directions};
@@ -34,6 +37,13 @@ impl Run {
         ensures { result ≡ built }
     {
         Run { built }
+    }
+
+    // The entries, in order.
+    pub(crate) fn as_builder(&self) -> &RunBuilder
+        ensures { result.now ≡ self.now }
+    {
+        &self.built
     }
 
     /// The number of entries.
