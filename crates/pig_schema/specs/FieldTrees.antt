@@ -48,13 +48,13 @@ schema_tree = map field_tree
 
 -- what stands in the tree of a field
 abbrev pub tree_name : FieldTree → Option (List ℕ)
-tree_name (a_field name kind inner) = name
+tree_name (a_field name _ _) = name
 
 abbrev pub tree_kind : FieldTree → KindTree
-tree_kind (a_field name kind inner) = kind
+tree_kind (a_field _ kind _) = kind
 
 abbrev pub tree_inner : FieldTree → FieldTrees
-tree_inner (a_field name kind inner) = inner
+tree_inner (a_field _ _ inner) = inner
 
 -- The fields inside a field are those of its kind: of a tuple, or of a bag's tuples, one for each field and of that
 -- field's kind; of a map those of its values; of other kinds none.
