@@ -7,4 +7,6 @@ mod keycodes;
 #[cfg(test)]
 mod schemas;
 #[cfg(test)]
+mod text;
+#[cfg(test)]
 mod values;

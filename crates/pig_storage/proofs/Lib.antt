@@ -3,9 +3,9 @@ pub mod Delims
 pub mod FirstLine
 mod Pieces
 mod Loops
-pub mod TextLists
 pub mod LineFree
 pub mod Walks
 pub mod StoredRows
 pub mod RowKinds
 pub mod RowsBack
+pub mod Starts

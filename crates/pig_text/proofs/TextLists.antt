@@ -2,7 +2,7 @@
 use Rattle.std.proofs.Common.{◌≡◌, ℕ, List, [], ◌∷◌, map, refl, ◌∙◌, ap}
 use Rattle.pig_value.specs.Texts.{text_of, field_texts, tuple_texts, entry_texts, tuple_text}
 use Rattle.pig_value.specs.Trees.{Tree, fields_of, tuples_of, entries_of}
-use Rattle.pig_storage.specs.Written.{row_as_tuple, pair_text}
+use Rattle.pig_text.specs.Texts.{row_as_tuple, pair_text}
 
 pub texts_of_fields : (vs : List Tree) → field_texts (fields_of vs) ≡ map text_of vs
 texts_of_fields [] = refl
