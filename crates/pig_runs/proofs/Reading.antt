@@ -1,6 +1,8 @@
 -- What a slot finds is the entry at its place.
-use Rattle.std.proofs.Common.{◌≡◌, ◌<◌, ℕ, List, [], map, length, get_or, refl, sym, ◌∙◌, ap, subst}
+use Rattle.std.proofs.Common.{◌≡◌, ◌<◌, ℕ, Bool, List, [], map, length, get_or, refl, sym, ◌∙◌, ap, subst}
 use Rattle.std.specs.Prelude.{Option, Some, None, Result, Ok, Err, IfOk, option_map, slice_get}
+use Rattle.std.specs.Bool.{Decides}
+use Rattle.pig_keycode.proofs.KeyOrder.{one_key}
 use Rattle.std.specs.Coded.{Coded-set, coded_list}
 use Rattle.std.proofs.Math.Logic.{∥∥₁_elim}
 use Rattle.std.proofs.lemmas.List.{length-map}
@@ -16,6 +18,9 @@ use Rattle.pig_runs.specs.declared.entries.Entry.{Entry}
 use Rattle.pig_runs.specs.declared.slots.Slot.{Slot}
 use Rattle.pig_runs.specs.Entries.{Keyed, keyed, IsEntry, AreEntries}
 use Rattle.pig_runs.specs.Packed.{Packed, packed, part, found_at, Held}
+
+some_same : {X : Type 0} {x y : X} → Some x ≡ Some y → x ≡ y
+some_same h = cc
 
 module _ (ds : List Dir) (bytes : List ℕ) (slots : List Slot) (held : Held ds (map (found_at bytes) slots)) where
   pub as_many : length held.0 ≡ length slots
@@ -60,6 +65,29 @@ module _ (ds : List Dir) (bytes : List ℕ) (slots : List Slot) (held : Held ds 
       }))
       in
       ap (option_map (λ e. e.key)) found.1 ∙ ap Some (sym is)
+
+  -- two keys are the same where their bytes are
+  pub same_keys : (at other : ℕ) (s t : Slot) (r : Bool) → slice_get slots at ≡ Some s → slice_get slots other ≡ Some t
+      → Decides r (part bytes s.key_at s.key_len ≡ part bytes t.key_at t.key_len) → Decides r (option_map (λ e. e.key) (slice_get held.0 at) ≡ option_map (λ e. e.key) (slice_get held.0 other))
+  same_keys at other s t r here there d =
+      let a = at_slot at s here in
+      let b = at_slot other t there in
+      let left : option_map (λ e. e.key) (slice_get held.0 at) ≡ Some a.0.key = ap (option_map (λ e. e.key)) a.1 in
+      let right : option_map (λ e. e.key) (slice_get held.0 other) ≡ Some b.0.key = ap (option_map (λ e. e.key)) b.1 in
+      let a_code : key_code ds a.0.key ≡ part bytes s.key_at s.key_len = ap (λ p. p.key) a.2 in
+      let b_code : key_code ds b.0.key ≡ part bytes t.key_at t.key_len = ap (λ p. p.key) b.2 in
+      (
+        λ yes.
+          let codes : key_code ds a.0.key ≡ key_code ds b.0.key = a_code ∙ (d.0 yes ∙ sym b_code) in
+          let keys : a.0.key ≡ b.0.key =
+              ∥∥₁_elim held.1.0 (Coded-set coded_tree a.0.key b.0.key)
+              (λ h. one_key ds a.0.key b.0.key (each_at (IsEntry ds) held.0 at a.0 a.1 h).key (each_at (IsEntry ds) held.0 other b.0 b.1 h).key codes)
+          in
+          left ∙ (ap Some keys ∙ sym right),
+        λ same.
+          let keys : a.0.key ≡ b.0.key = some_same (sym left ∙ (same ∙ right)) in
+          d.1 (sym a_code ∙ (ap (key_code ds) keys ∙ b_code)),
+      )
 
 -- what holds of the entries of a list holds of the one at an index
 pub entry_at : (ds : List Dir) (es : List Entry) (i : ℕ) (e : Entry) → i < length es → e ≡ get_or es i e → AreEntries ds (map keyed es) → IsEntry ds (keyed e)

@@ -1,5 +1,5 @@
 -- Entries, their order, and runs, as contracts see them.
-use Rattle.std.specs.Prelude.{◌≡◌, ℕ, List, [], ◌∷◌, ◌++◌, map, refl}
+use Rattle.std.specs.Prelude.{◌≡◌, ℕ, List, [], ◌∷◌, ◌++◌, map, refl, Option, option_map, slice_get}
 use Rattle.std.specs.List.{AllByRecursion}
 use Rattle.std.specs.Ordering.{ordering_then, nat_cmp}
 use Rattle.std.specs.declared.cmp.Ordering.{Ordering}
@@ -39,6 +39,10 @@ AreEntries ds = AllByRecursion (IsEntry ds)
 -- the order of a run: by key in its directions, then by input, then by row
 abbrev pub run_cmp : List Dir → Keyed → Keyed → Ordering
 run_cmp ds e f = ordering_then (key_cmp ds e.key f.key) (ordering_then (nat_cmp e.input f.input) (row_cmp e.row f.row))
+
+-- the key at a place, where there is one
+abbrev pub key_at : InDirections → ℕ → Option Tree
+key_at b at = option_map (λ e. e.key) (slice_get b.entries at)
 
 -- the sorted run of entries
 abbrev pub run_of : List Dir → List Keyed → InDirections

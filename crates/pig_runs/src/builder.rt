@@ -2,7 +2,7 @@ ghost use Rattle.std.specs.Prelude.{◌≡◌, ◌<◌, [], ◌∷◌, length, m
 ghost use Rattle.pig_runs.specs.Entries.{run_of};
 ghost use Rattle.pig_runs.specs.Packed.{found_at, Held, held_prop};
 
-use crate::packing::{add_entry, append_entries, read_key, read_row, slot_at, sort_slots};
+use crate::packing::{add_entry, append_entries, read_key, read_row, same_key_bytes, slot_at, sort_slots};
 use crate::run::Run;
 use crate::slots::Slot;
 use pig_value::{Dirs, Tuple, Value};
@@ -36,7 +36,8 @@ impl Model for RunBuilder {
 }
 
 impl RunBuilder {
-    ghost use Rattle.pig_runs.specs.Entries.{no_entries_in, and_entries};
+    ghost use Rattle.pig_runs.specs.Entries.{no_entries_in, and_entries, key_at};
+    ghost use Rattle.std.specs.Bool.{Decides};
     ghost use Rattle.pig_keycode.specs.Keys.{IsKey};
     ghost use Rattle.pig_value.specs.Trees.{tree, row_tree};
     ghost use Rattle.pig_value.specs.Valid.{IsRow};
@@ -123,9 +124,19 @@ impl RunBuilder {
     pub(crate) fn key(&self, alloc: Global, at: usize) -> Result<Value, AllocError>
         requires within { at < length self.now.entries }
         requires ascending { self.now.dirs ≡ [] }
-        ensures { IfOk result (λ key. option_map (λ e. e.key) (slice_get self.now.entries at) ≡ Some (tree key)) }
+        ensures { IfOk result (λ key. key_at self.now at ≡ Some (tree key)) }
     {
         let slot = slot_at(self.slots.as_slice(), at);
         read_key(alloc, self.bytes.as_slice(), slot)
+    }
+
+    // Whether two entries have the same key.
+    pub(crate) fn same_key(&self, at: usize, other: usize) -> bool
+        requires here { at < length self.now.entries }
+        requires there { other < length self.now.entries }
+        ensures { Decides result (key_at self.now at ≡ key_at self.now other) }
+    {
+        let slots = self.slots.as_slice();
+        same_key_bytes(self.bytes.as_slice(), slot_at(slots, at), slot_at(slots, other))
     }
 }

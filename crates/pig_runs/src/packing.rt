@@ -1,4 +1,5 @@
 ghost use Rattle.std.specs.Prelude.{◌≡◌, ◌<◌, ◌≤◌, ◌^◌, ◌++◌, ◌∷◌, [], ◌+◌, List, Some, slice_get, length, map, OnOk, OnErr, IfOk, IsPermutation};
+ghost use Rattle.std.specs.Bool.{Decides};
 ghost use Rattle.std.specs.List.{AllByRecursion};
 ghost use Rattle.std.specs.Ordering.{ordering_then, nat_cmp};
 ghost use Rattle.pig_value.specs.Orders.{text_cmp};
@@ -235,4 +236,11 @@ fn push_moved(
     let alloc = *slots.allocator();
     let more = all_moved(alloc, more, base, end)?;
     extend_slots(slots, more.as_slice())
+}
+
+// Whether the keys of two slots have the same bytes.
+pub(crate) fn same_key_bytes(bytes: &[u8], a: Slot, b: Slot) -> bool
+    ensures { Decides result (part bytes.now a.key_at a.key_len ≡ part bytes.now b.key_at b.key_len) }
+{
+    part(bytes, a.key_at, a.key_len) == part(bytes, b.key_at, b.key_len)
 }

@@ -30,7 +30,9 @@ impl Model for Run {
 }
 
 impl Run {
+    ghost use Rattle.std.specs.Bool.{Decides};
     ghost use Rattle.pig_value.specs.Trees.{tree, row_tree};
+    ghost use Rattle.pig_runs.specs.Entries.{key_at};
 
     pub(crate) fn from_sorted(built: RunBuilder) -> Run
         requires { Ascends (run_cmp built.dirs) built.entries }
@@ -74,8 +76,17 @@ impl Run {
     pub fn key(&self, alloc: Global, at: usize) -> Result<Value, AllocError>
         requires within { at < length self.now.entries }
         requires ascending { self.now.dirs ≡ [] }
-        ensures { IfOk result (λ key. option_map (λ e. e.key) (slice_get self.now.entries at) ≡ Some (tree key)) }
+        ensures { IfOk result (λ key. key_at self.now at ≡ Some (tree key)) }
     {
         self.built.key(alloc, at)
+    }
+
+    /// Whether two entries have the same key. Their bytes are compared, and nothing is decoded.
+    pub fn same_key(&self, at: usize, other: usize) -> bool
+        requires here { at < length self.now.entries }
+        requires there { other < length self.now.entries }
+        ensures { Decides result (key_at self.now at ≡ key_at self.now other) }
+    {
+        self.built.same_key(at, other)
     }
 }
