@@ -1,9 +1,13 @@
-//! Worked rows of the base: values, fields, text, schemas and key codes, each against values written by hand from
-//! the definitions. It has tests alone, one file for each crate.
+//! Worked rows of the base: values, fields, text, schemas, key codes and devices, each against values written by hand
+//! from the definitions. It has tests alone, one file for each crate.
 #![tactic(auto)]
 
 #[cfg(test)]
 mod casts;
+#[cfg(test)]
+mod keycodes;
+#[cfg(test)]
+mod schemas;
 #[cfg(test)]
 mod storage;
 #[cfg(test)]
