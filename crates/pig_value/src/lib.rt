@@ -19,6 +19,7 @@ mod boxes;
 mod comparing;
 mod copying;
 mod delimiters;
+mod functions;
 mod inputs;
 mod kinds;
 mod laws;
@@ -35,6 +36,7 @@ pub use boxes::Boxed;
 pub use comparing::{order, order_rows, same};
 pub use copying::{copy, copy_kind, copy_row};
 pub use delimiters::{BadDelimiter, Delim};
+pub use functions::Function;
 pub use inputs::{Column, Columns, Input, Inputs};
 pub use kinds::{is_of, same_kind};
 pub use laws::{bag_laws, order_laws, row_order_laws};
@@ -42,7 +44,7 @@ pub use lists::Seq;
 pub use operators::{ChainOp, Dir, Dirs, Rel, Side};
 pub use outcomes::{Kept, KeptList, WordFault};
 pub use sorting::bag;
-pub use texts::{Blob, Text};
+pub use texts::{Blob, Text, known_bytes};
 pub use values::{Kind, Kinds, Pair, Pairs, Rows, Tuple, Value};
 
 /// A list of texts, as the words of a command line.

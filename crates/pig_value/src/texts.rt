@@ -1,3 +1,5 @@
+ghost use Rattle.std.specs.Str.{IsUtf8};
+ghost use Rattle.pig_value.specs.Leaves.{AreBytes};
 ghost use Rattle.std.specs.Prelude.{◌≡◌, [], ◌∷◌, ◌++◌, length, IfOk, OnOk, OnErr, string_bytes};
 
 use std::alloc::{AllocError, Global};
@@ -44,16 +46,18 @@ impl Text {
 
     /// The text as a `&str`.
     pub fn as_str(&self) -> &str
-        ensures { result.now ≡ self.now }
+        ensures text { result.now ≡ self.now }
+        ensures utf8 { IsUtf8 result.now }
     {
         self.text.as_str()
     }
 
     /// The bytes of the text.
     pub fn as_bytes(&self) -> &[u8]
-        ensures { result.now ≡ self.now }
+        ensures bytes { result.now ≡ self.now }
+        ensures utf8 { IsUtf8 result.now }
     {
-        self.text.as_bytes()
+        self.as_str().as_bytes()
     }
 
     /// The length in bytes.
@@ -120,9 +124,10 @@ impl Blob {
 
     /// The bytes as a slice.
     pub fn as_slice(&self) -> &[u8]
-        ensures { result.now ≡ self.now }
+        ensures bytes { result.now ≡ self.now }
+        ensures small { AreBytes result.now }
     {
-        self.bytes.as_slice()
+        known_bytes(self.bytes.as_slice())
     }
 
     /// The number of bytes.
@@ -147,4 +152,12 @@ impl Blob {
     {
         Blob::from_slice(alloc, self.bytes.as_slice())
     }
+}
+
+/// The same bytes, of which contracts then know that each is below 256.
+pub fn known_bytes(bytes: &[u8]) -> &[u8]
+    ensures same { result.now ≡ bytes.now }
+    ensures small { AreBytes result.now }
+{
+    bytes
 }
