@@ -1,7 +1,9 @@
 -- What the tree of each form is, and that the lists of a tree come back.
-use Rattle.std.specs.Prelude.{◌≡◌, ℕ, ℤ, Bool, List, [], ◌∷◌, map, refl}
+use Rattle.std.specs.Prelude.{◌≡◌, ℕ, ℤ, Bool, List, [], ◌∷◌, map, slice_get, refl}
+use Rattle.std.specs.Option.{option_map}
 use Rattle.std.proofs.Common.{ap, sym, ◌∙◌}
-use Rattle.pig_value.specs.Trees.{Tree, Fields, Tuples, Entries, v_null, v_bool, v_int, v_long, v_chars, v_bytes, v_tuple, v_bag, v_listed, v_map, no_fields, more_fields, no_tuples, more_tuples, no_entries, more_entries, fields_of, fields_list, tuples_of, tuples_list, entries_of, entries_list, tree_step, entry_step, tree, entry_of, KindTree, k_boolean, k_int, k_long, k_chars, k_bytes, k_tuple, k_bag, k_map, kinds_of, kinds_list, kind_step, kind_tree}
+use Rattle.pig_value.specs.Trees.{at, or_null, Tree, Fields, Tuples, Entries, v_null, v_bool, v_int, v_long, v_chars, v_bytes, v_tuple, v_bag, v_listed, v_map, no_fields, more_fields, no_tuples, more_tuples, no_entries, more_entries, fields_of, fields_list, tuples_of, tuples_list, entries_of, entries_list, tree_step, entry_step, tree, entry_of, KindTree, k_boolean, k_int, k_long, k_chars, k_bytes, k_tuple, k_bag, k_map, kinds_of, kinds_list, kind_step, kind_tree}
+use Rattle.pig_value.proofs.list_laws.Indexing.{get_map}
 use Rattle.pig_value.specs.declared.values.Value.{Value}
 use Rattle.pig_value.specs.declared.values.Value.TheOpen.{Value-F}
 use Rattle.pig_value.specs.declared.values.Value.TheFolds.{fold-roll-Value, fold_out-Pair}
@@ -97,3 +99,7 @@ entries_there (more_entries key v ps) = ap (λ more. more_entries key v more) (e
 pub kinds_back : (ks : List KindTree) → kinds_list (kinds_of ks) ≡ ks
 kinds_back [] = refl
 kinds_back (k ∷ ks) = ap (λ more. k ∷ more) (kinds_back ks)
+
+-- the field of a row of values at a place
+pub at_map : (row : List Value) (place : ℕ) → at place (map tree row) ≡ or_null (option_map tree (slice_get row place))
+at_map row place = ap or_null (get_map tree row place)

@@ -3,13 +3,15 @@
 -- (Pig Latin Basics and Built In Functions, "Eval Functions", "String Functions" and "Tuple, Bag, Map Functions".)
 use Rattle.std.specs.Prelude.{ℕ, ℤ, pos, negsuc, ◌+ℤ◌, ◌-◌, ◌+◌, min, unsigned_abs, Bool, true, false, ◌||◌, ◌==◌, nat_eq, nat_lt, nat_le, List, [], ◌∷◌, length, map, take, drop, replicate, codes, Option, Some, None, slice_get, bytes_eq, if◌then◌else◌}
 use Rattle.std.specs.Int.{w32, w64, int_wrap}
-use Rattle.std.specs.List.{filter, filter_map, find, concat, last_or, range_with_len, slice_split, starts_with, ends_with}
+use Rattle.std.specs.List.{filter, filter_map, find, concat, range_with_len, slice_split, starts_with, ends_with}
 use Rattle.std.specs.Option.{option_map, option_or, unwrap_or}
 use Rattle.std.specs.Str.{chars, encode_utf8_all}
 use Rattle.pig_value.specs.FieldReader.{all_of}
-use Rattle.pig_value.specs.Orders.{tree_cmp, bag_of}
+use Rattle.pig_value.specs.Orders.{dir_cmp, bag_of}
 use Rattle.pig_value.specs.Sorts.{sort}
 use Rattle.pig_value.specs.Trees.{Tree, v_null, v_bool, v_int, v_long, v_chars, v_bytes, v_tuple, v_bag, v_listed, v_map, fields_of, fields_list, tuples_of, tuples_list, entries_list}
+use Rattle.pig_value.specs.declared.operators.Dir.{Dir}
+use Rattle.pig_value.specs.declared.operators.Dir.TheVariants as dir
 use Rattle.pig_value.specs.declared.functions.Function.{Function}
 use Rattle.pig_value.specs.declared.functions.Function.TheVariants as f
 
@@ -86,18 +88,25 @@ abbrev pub sum_ℤ : List ℤ → ℤ
 sum_ℤ [] = pos 0
 sum_ℤ (z ∷ zs) = z +ℤ sum_ℤ zs
 
-abbrev pub sum_tree : List ℤ → Tree
-sum_tree [] = v_null
-sum_tree (z ∷ zs) = long_of (sum_ℤ (z ∷ zs))
+abbrev pub sum_found : List ℤ → Option Tree
+sum_found [] = None
+sum_found (z ∷ zs) = Some (long_of (sum_ℤ (z ∷ zs)))
 
--- an algebraic function over the values of a column
+-- the first in a direction of the values that are ranked: the least ascending, the greatest descending
+abbrev pub first_found : Dir → List Tree → Option Tree
+first_found d vs = slice_get (sort (dir_cmp d) (filter is_ranked vs)) 0
+
+-- what an algebraic function finds in the values of a column, if anything
+abbrev pub column_found : Function → List Tree → Option Tree
+column_found f.Count vs = Some (length_of (filter is_present vs))
+column_found f.CountStar vs = Some (length_of vs)
+column_found f.Sum vs = sum_found (filter_map number_of vs)
+column_found f.Min vs = first_found dir.Asc vs
+column_found f.Max vs = first_found dir.Desc vs
+column_found f vs = None
+
 abbrev pub column_tree : Function → List Tree → Tree
-column_tree f.Count vs = length_of (filter is_present vs)
-column_tree f.CountStar vs = length_of vs
-column_tree f.Sum vs = sum_tree (filter_map number_of vs)
-column_tree f.Min vs = or_null (slice_get (sort tree_cmp (filter is_ranked vs)) 0)
-column_tree f.Max vs = or_null (last_or None (sort tree_cmp (filter is_ranked vs)))
-column_tree f vs = v_null
+column_tree f vs = or_null (column_found f vs)
 
 -- What the function looks at in a tuple: COUNT the first field, SUM, MIN and MAX the one field, so that a tuple of
 -- another number of fields counts as null there.

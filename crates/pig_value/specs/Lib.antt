@@ -16,5 +16,6 @@ pub mod FieldRows
 pub mod Texts
 pub mod Casts
 pub mod Stored
+pub mod TreeCode
 pub mod Functions
 pub mod FunctionKinds

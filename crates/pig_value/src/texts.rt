@@ -1,6 +1,6 @@
 ghost use Rattle.std.specs.Str.{IsUtf8};
 ghost use Rattle.pig_value.specs.Leaves.{AreBytes};
-ghost use Rattle.std.specs.Prelude.{◌≡◌, [], ◌∷◌, ◌++◌, length, IfOk, OnOk, OnErr, string_bytes};
+ghost use Rattle.std.specs.Prelude.{◌≡◌, [], ◌∷◌, ◌++◌, length, IfOk, OnOk, OnErr, slice_get, string_bytes};
 
 use std::alloc::{AllocError, Global};
 use std::marker::Model;
@@ -135,6 +135,22 @@ impl Blob {
         ensures { result ≡ length self.now }
     {
         self.bytes.len()
+    }
+
+    /// The byte at a place, counted from 0.
+    pub fn get(&self, at: usize) -> Option<u8>
+        ensures { result ≡ slice_get self.now at }
+    {
+        self.bytes.get(at).copied()
+    }
+
+    /// Adds bytes at the end; where memory is wanting, the bytes stay as they were.
+    pub fn extend_from_slice(&mut self, more: &[u8]) -> Result<(), AllocError>
+        ensures ok { OnOk result (self.new ≡ self.old ++ more.now) }
+        ensures err { OnErr result (self.new ≡ self.old) }
+    {
+        self.bytes.extend_from_slice(more)?;
+        Ok(())
     }
 
     /// Adds a byte at the end; where memory is wanting, the bytes stay as they were.
