@@ -4,26 +4,15 @@ use Rattle.std.specs.Prelude.{ℕ, Bool, true, false, not, ◌||◌, ◌==◌, L
 use Rattle.std.specs.List.{flat_map, list_all}
 use Rattle.std.specs.Option.{option_map_or}
 use Rattle.pig_value.specs.FieldReader.{all_of}
+use Rattle.pig_value.specs.Kinds.{has_bag_or_map}
 use Rattle.pig_value.specs.Trees.{KindTree, KindTrees, k_boolean, k_tuple, k_bag, k_map, no_kinds, more_kinds, kinds_list}
 use Rattle.pig_typed.specs.declared.blocks.SortKey.{SortKey}
 use Rattle.pig_typed.specs.ExprKinds.{◌>>=◌, expr_kind}
 use Rattle.pig_typed.specs.Typed.{TypedStep, TypedItem, TypedBlock, s_filter, s_order, s_limit, s_distinct, s_take}
 
--- whether a bag or a map is within values of the kind; rows are neither sorted nor grouped by these
-abbrev mutual
-  pub holds_bag_or_map : KindTree → Bool
-  holds_bag_or_map (k_tuple kinds) = any_holds_bag_or_map kinds
-  holds_bag_or_map (k_bag kinds) = true
-  holds_bag_or_map (k_map k) = true
-  holds_bag_or_map k = false
-
-  pub any_holds_bag_or_map : KindTrees → Bool
-  any_holds_bag_or_map no_kinds = false
-  any_holds_bag_or_map (more_kinds k kinds) = holds_bag_or_map k || any_holds_bag_or_map kinds
-
 -- whether rows may be sorted by the field at a position
 abbrev pub is_key : List KindTree → ℕ → Bool
-is_key kinds position = option_map_or (λ k. not (holds_bag_or_map k)) (slice_get kinds position) false
+is_key kinds position = option_map_or (λ k. not (has_bag_or_map k)) (slice_get kinds position) false
 
 abbrev pub are_keys : List KindTree → List SortKey → Bool
 are_keys kinds keys = list_all (λ key. is_key kinds key.position) keys

@@ -7,10 +7,9 @@ use Rattle.std.specs.Ordering.{ordering_then}
 use Rattle.std.specs.declared.cmp.Ordering.{Ordering}
 use Rattle.pig_value.specs.Orders.{dir_cmp, row_cmp}
 use Rattle.pig_value.specs.Sorts.{distinct, sort}
-use Rattle.pig_value.specs.Trees.{Tree, v_null, v_tuple, v_bag, v_listed, fields_list, tuples_of, tuples_list}
+use Rattle.pig_value.specs.Trees.{at, Tree, v_null, v_tuple, v_bag, v_listed, fields_list, tuples_of, tuples_list}
 use Rattle.pig_typed.specs.declared.blocks.SortKey.{SortKey}
 use Rattle.pig_typed.specs.Evaluation.{ev, passes}
-use Rattle.pig_typed.specs.Operators.{at}
 use Rattle.pig_typed.specs.Products.{product}
 use Rattle.pig_typed.specs.Typed.{TypedStep, TypedItem, TypedBlock, s_filter, s_order, s_limit, s_distinct, s_take}
 

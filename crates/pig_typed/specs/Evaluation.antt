@@ -4,8 +4,8 @@
 use Rattle.std.specs.Prelude.{Bool, List, [], ◌∷◌}
 use Rattle.pig_value.specs.Casts.{cast_of}
 use Rattle.pig_value.specs.Functions.{apply_tree}
-use Rattle.pig_value.specs.Trees.{Tree, v_null, v_bool, v_int, v_long, v_chars}
-use Rattle.pig_typed.specs.Operators.{at, chain_tree, chosen, compare_tree, is_true, look_tree, minus_tree, not_tree, null_test, project_tree, truth_of}
+use Rattle.pig_value.specs.Trees.{at, Tree, v_null, v_bool, v_int, v_long, v_chars}
+use Rattle.pig_typed.specs.Operators.{chain_tree, chosen, compare_tree, is_true, look_tree, minus_tree, not_tree, null_test, project_tree, truth_of}
 use Rattle.pig_typed.specs.Typed.{Typed, TypedLinks, TypedArgs, x_null, x_bool, x_int, x_long, x_chars, x_field, x_local, x_chain, x_compare, x_is_null, x_not, x_minus, x_choose, x_cast, x_project, x_look, x_call, no_links, more_links, no_args, more_args}
 
 abbrev mutual

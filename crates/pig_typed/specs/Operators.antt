@@ -2,21 +2,17 @@
 -- where an operand is of a kind that the operator doesn't take.
 -- (Pig Latin Basics: "Arithmetic Operators and More", "Boolean Operators", "Comparison Operators", "Nulls", "Dereference
 -- Operators". The tables of AND, OR and NOT, wrapping numbers and null for a zero divisor are choices of this profile.)
-use Rattle.std.specs.Prelude.{ℕ, ℤ, pos, int_div, int_rem, Bool, true, false, not, List, map, Option, Some, None, slice_get, bytes_eq, if◌then◌else◌}
+use Rattle.std.specs.Prelude.{ℕ, ℤ, pos, int_div, int_rem, Bool, true, false, not, List, map, Option, Some, None, bytes_eq, if◌then◌else◌}
 use Rattle.std.specs.Int.{Width, w32, w64, int_wrapping_add, int_wrapping_sub, int_wrapping_mul, int_wrapping_div, int_wrapping_neg}
 use Rattle.std.specs.List.{find}
 use Rattle.std.specs.Option.{option_map}
 use Rattle.std.specs.Ordering.{int_eq}
-use Rattle.pig_value.specs.Functions.{or_null, bag_tree, first_field, is_present}
+use Rattle.pig_value.specs.Functions.{bag_tree, first_field, is_present}
 use Rattle.pig_value.specs.Orders.{tree_cmp, rel_holds}
-use Rattle.pig_value.specs.Trees.{Tree, v_null, v_bool, v_int, v_long, v_tuple, v_bag, v_listed, v_map, fields_of, fields_list, tuples_of, tuples_list, entries_list}
+use Rattle.pig_value.specs.Trees.{at, or_null, Tree, v_null, v_bool, v_int, v_long, v_tuple, v_bag, v_listed, v_map, fields_of, fields_list, tuples_of, tuples_list, entries_list}
 use Rattle.pig_value.specs.declared.operators.ChainOp.{ChainOp}
 use Rattle.pig_value.specs.declared.operators.ChainOp.TheVariants as op
 use Rattle.pig_value.specs.declared.operators.Rel.{Rel}
-
--- the field at a position
-abbrev pub at : ℕ → List Tree → Tree
-at n row = or_null (slice_get row n)
 
 -- ---- truth: true, false or unknown, which a null is
 

@@ -1,10 +1,9 @@
 ghost use Rattle.std.specs.Prelude.{◌≡◌, IfOk};
 
 use crate::{
-    Block, BlockItem, BlockItems, BlockStep, BlockSteps, Positions, SortKeys, TExpr, TExprs, TLink,
-    TLinks,
+    Block, BlockItem, BlockItems, BlockStep, BlockSteps, SortKeys, TExpr, TExprs, TLink, TLinks,
 };
-use pig_value::{Boxed, Seq, copy_kind};
+use pig_value::{Boxed, Positions, Seq, copy_kind};
 use std::alloc::{AllocError, Global};
 
 /// A copy of an expression, which holds memory of its own.

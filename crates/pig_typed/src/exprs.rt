@@ -1,11 +1,9 @@
-use pig_value::{Boxed, ChainOp, Function, Kind, Rel, Seq, Text};
+use pig_value::{Boxed, ChainOp, Function, Kind, Positions, Rel, Seq, Text};
 
 /// Typed expressions in order, as the arguments of a function or the keys of a relation.
 pub type TExprs = Seq<TExpr>;
 /// The links of a chain, from left to right.
 pub type TLinks = Seq<TLink>;
-/// Positions of fields, from 0.
-pub type Positions = Seq<u32>;
 
 /// An expression with its fields by position and every cast written out.
 ///

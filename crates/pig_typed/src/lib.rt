@@ -4,7 +4,9 @@
 mod blocks;
 mod copying;
 mod exprs;
+mod operators;
+mod seen;
 
 pub use blocks::{Block, BlockItem, BlockItems, BlockStep, BlockSteps, SortKey, SortKeys};
 pub use copying::{copy_block, copy_expr, copy_exprs, copy_keys, copy_positions};
-pub use exprs::{Positions, TExpr, TExprs, TLink, TLinks};
+pub use exprs::{TExpr, TExprs, TLink, TLinks};
