@@ -4,11 +4,12 @@
 use Rattle.std.specs.Prelude.{ℕ, ℤ, pos, negsuc, ◌+ℤ◌, ◌-◌, ◌+◌, min, unsigned_abs, Bool, true, false, ◌||◌, ◌==◌, nat_eq, nat_lt, nat_le, List, [], ◌∷◌, length, map, take, drop, replicate, codes, Option, Some, None, slice_get, bytes_eq, if◌then◌else◌}
 use Rattle.std.specs.Int.{w32, w64, int_wrap}
 use Rattle.std.specs.List.{filter, filter_map, find, concat, range_with_len, slice_split, starts_with, ends_with}
-use Rattle.std.specs.Option.{option_map, option_or, unwrap_or}
+use Rattle.std.specs.Option.{option_map, option_or}
 use Rattle.std.specs.Str.{chars, encode_utf8_all}
 use Rattle.pig_value.specs.FieldReader.{all_of}
 use Rattle.pig_value.specs.Orders.{dir_cmp, bag_of}
 use Rattle.pig_value.specs.Sorts.{sort}
+pub use Rattle.pig_value.specs.Trees.{or_null}
 use Rattle.pig_value.specs.Trees.{Tree, v_null, v_bool, v_int, v_long, v_chars, v_bytes, v_tuple, v_bag, v_listed, v_map, fields_of, fields_list, tuples_of, tuples_list, entries_list}
 use Rattle.pig_value.specs.declared.operators.Dir.{Dir}
 use Rattle.pig_value.specs.declared.operators.Dir.TheVariants as dir
@@ -46,9 +47,6 @@ unfoldable pub function_named : List ℕ → Option Function
 function_named name = find (λ function. bytes_eq (function_name function) name) functions
 
 -- ---- what they give is made of
-
-abbrev pub or_null : Option Tree → Tree
-or_null value = unwrap_or value v_null
 
 -- a whole number as a long, modulo 2 ^ 64 into its range, and the length of a list as one
 abbrev pub long_of : ℤ → Tree

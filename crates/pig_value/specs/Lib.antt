@@ -16,6 +16,7 @@ pub mod FieldRows
 pub mod Texts
 pub mod Casts
 pub mod Stored
+pub mod TreeViews
 pub mod TreeCode
 pub mod Functions
 pub mod FunctionKinds

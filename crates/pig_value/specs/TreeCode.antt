@@ -1,5 +1,5 @@
 -- A code for trees, which the `Model` of a type that contracts see as trees asks for: that of the values.
-use Rattle.std.specs.Prelude.{◌≡◌, ℕ, List, [], ◌∷◌, map, refl}
+use Rattle.std.specs.Prelude.{◌≡◌, List, [], ◌∷◌, map, refl}
 use Rattle.std.proofs.Common.{ap, ◌∙◌}
 use Rattle.std.specs.Coded.{Coded, code_by}
 use Rattle.pig_value.specs.Trees.{Tree, Fields, Tuples, Entries, v_null, v_bool, v_int, v_long, v_chars, v_bytes, v_tuple, v_bag, v_listed, v_map, no_fields, more_fields, no_tuples, more_tuples, no_entries, more_entries, fields_of, tuples_of, entries_of, entry_of, tree}
@@ -7,7 +7,7 @@ use Rattle.pig_value.specs.contracts.values.Value as row
 use Rattle.pig_value.specs.declared.values.Value.{Value}
 use Rattle.pig_value.specs.declared.values.Value.TheVariants as value
 use Rattle.pig_value.specs.declared.values.Pair.{Pair}
-use Rattle.pig_value.proofs.TreeLaws.{tree-Null, tree-Bool, tree-Int, tree-Long, tree-Chars, tree-Bytes, tree-Tuple, tree-Bag, tree-Listed, tree-Map, entry_is}
+use Rattle.pig_value.specs.TreeViews.{tree-Null, tree-Bool, tree-Int, tree-Long, tree-Chars, tree-Bytes, tree-Tuple, tree-Bag, tree-Listed, tree-Map, entry_is}
 
 -- the value of a tree
 abbrev mutual

@@ -27,8 +27,6 @@ mod lists;
 mod operators;
 mod outcomes;
 mod sorting;
-#[cfg(test)]
-mod tests;
 mod texts;
 mod threads;
 mod values;

@@ -1,7 +1,8 @@
 //! What workers share or hand over may cross threads.
 use crate::{
-    BadDelimiter, Blob, Blobs, Boxed, ChainOp, Columns, Delim, Dir, Dirs, Inputs, KeptList, Kind,
-    Kinds, Lengths, Numbers, OutList, Pairs, Rel, Rows, Side, Text, Texts, Tuple, Value, WordFault,
+    BadDelimiter, Blob, Blobs, Boxed, ChainOp, Columns, Delim, Dir, Dirs, Function, Inputs,
+    KeptList, Kind, Kinds, Lengths, Numbers, OutList, Pairs, Rel, Rows, Side, Text, Texts, Tuple,
+    Value, WordFault,
 };
 
 fn crosses<T: Send + Sync>() {}
@@ -27,6 +28,7 @@ pub fn values_cross_threads<O: Send + Sync>() {
     crosses::<Rel>();
     crosses::<Side>();
     crosses::<ChainOp>();
+    crosses::<Function>();
     crosses::<Delim>();
     crosses::<BadDelimiter>();
     crosses::<Columns>();

@@ -1,5 +1,5 @@
 -- A list beside a loop over it that goes by index: what an index finds, what stands before it and from it on.
-use Rattle.std.specs.Prelude.{◌≡◌, ◌<◌, ◌+◌, ℕ, zero, suc, List, [], ◌∷◌, ◌++◌, length, take, drop, slice_get, Some, refl}
+use Rattle.std.specs.Prelude.{◌≡◌, ◌<◌, ◌+◌, ℕ, zero, suc, List, [], ◌∷◌, ◌++◌, length, take, drop, slice_get, Some, refl, map}
 use Rattle.std.proofs.Common.{ap, sym, ◌∙◌, arith, add-one}
 use Rattle.std.specs.Option.{option_map}
 use Rattle.std.proofs.Math.Seq.{drop-nil, drop-cons, take-suc}
