@@ -1,2 +1,3 @@
 mod ExprSamples
 mod BlockSamples
+mod SignatureLaws

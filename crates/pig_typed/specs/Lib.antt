@@ -3,6 +3,7 @@ pub mod Operators
 pub mod Evaluation
 pub mod ExprKinds
 pub mod Seen
+pub mod Signatures
 pub mod Products
 pub mod Blocks
 pub mod BlockKinds

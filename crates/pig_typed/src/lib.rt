@@ -2,11 +2,15 @@
 #![tactic(auto)]
 
 mod blocks;
+mod calls;
 mod copying;
 mod exprs;
+mod kinds;
 mod operators;
+mod projections;
 mod seen;
 
 pub use blocks::{Block, BlockItem, BlockItems, BlockStep, BlockSteps, SortKey, SortKeys};
 pub use copying::{copy_block, copy_expr, copy_exprs, copy_keys, copy_positions};
 pub use exprs::{TExpr, TExprs, TLink, TLinks};
+pub use kinds::kind_of;

@@ -14,6 +14,7 @@ pub enum SeenKind<'a> {
 }
 
 /// The kinds of a row's fields and of a block's steps so far.
+#[derive(Clone, Copy, Drop)]
 pub struct Scope<'a> {
     pub row: &'a Kinds,
     pub locals: &'a Kinds,
