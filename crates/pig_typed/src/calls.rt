@@ -17,11 +17,7 @@ pub fn called(alloc: Global, function: Function, kinds: Kinds) -> Result<Option<
     by_signature(alloc, function, kinds)
 }
 
-fn by_signature(
-    alloc: Global,
-    function: Function,
-    kinds: Kinds,
-) -> Result<Option<Kind>, AllocError>
+fn by_signature(alloc: Global, function: Function, kinds: Kinds) -> Result<Option<Kind>, AllocError>
     ensures { IfOk result (λ found. option_map kind_tree found ≡ signature_kind function (map kind_tree kinds)) }
 {
     match function {
@@ -77,11 +73,7 @@ fn to_tuple(kinds: Kinds) -> Option<Kind>
     }
 }
 
-fn to_bag(
-    alloc: Global,
-    width: Option<u32>,
-    kinds: &[Kind],
-) -> Result<Option<Kind>, AllocError>
+fn to_bag(alloc: Global, width: Option<u32>, kinds: &[Kind]) -> Result<Option<Kind>, AllocError>
     ensures { IfOk result (λ found. option_map kind_tree found ≡ tobag_kind width (map kind_tree kinds.now)) }
 {
     let [first, rest @ ..] = kinds else {

@@ -115,7 +115,7 @@ fn chain<'a>(
 ) -> Result<Option<SeenKind<'a>>, AllocError>
     ensures { IfOk result (λ found. option_map seen_kind found
         ≡ links_kind (seen_kind first.entry) (links_of (map link_of links.now))
-            (map kind_tree scope.now.row.now) (map kind_tree scope.now.locals.now)) }
+        (map kind_tree scope.now.row.now) (map kind_tree scope.now.locals.now)) }
 {
     let mut so_far = first;
     for link in links.as_slice() {

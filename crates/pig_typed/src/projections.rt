@@ -40,11 +40,7 @@ fn of_tuple(
     }
 }
 
-fn of_bag(
-    alloc: Global,
-    kinds: &Kinds,
-    fields: &Positions,
-) -> Result<Option<Kind>, AllocError>
+fn of_bag(alloc: Global, kinds: &Kinds, fields: &Positions) -> Result<Option<Kind>, AllocError>
     ensures { IfOk result (λ found. option_map kind_tree found
         ≡ option_map (λ picked. k_bag (kinds_of picked)) (picked_kinds fields.now (map kind_tree kinds.now))) }
 {
@@ -65,11 +61,7 @@ fn selects(fields: &Positions, single: bool) -> bool
 }
 
 /// The kinds at these positions, where each is within the fields.
-fn picked(
-    alloc: Global,
-    kinds: &Kinds,
-    fields: &Positions,
-) -> Result<Option<Kinds>, AllocError>
+fn picked(alloc: Global, kinds: &Kinds, fields: &Positions) -> Result<Option<Kinds>, AllocError>
     ensures { IfOk result (λ found. option_map (map kind_tree) found ≡ picked_kinds fields.now (map kind_tree kinds.now)) }
 {
     let fields = fields.as_slice();

@@ -5,4 +5,4 @@ use Rattle.pig_value.proofs.TreeLaws.{kinds_back}
 use Rattle.pig_typed.proofs.calls.has_width.Goals as goal
 
 pub returns : goal.returns
-returns c = rw (kinds_back (map kind_tree c.args.fields.now), length-map kind_tree c.args.fields.now) refl
+returns c = rw (kinds_back (map kind_tree c.args.fields.now), length-map c.args.fields.now kind_tree) refl
