@@ -1,3 +1,5 @@
 mod ExprSamples
 mod BlockSamples
 mod SignatureLaws
+pub mod Found
+pub mod KindsKept

@@ -7,7 +7,7 @@ use Rattle.std.specs.Int.{Width, w32, w64, int_wrapping_add, int_wrapping_sub, i
 use Rattle.std.specs.List.{find}
 use Rattle.std.specs.Option.{option_map}
 use Rattle.std.specs.Ordering.{int_eq}
-use Rattle.pig_value.specs.Functions.{bag_tree, first_field, is_present}
+use Rattle.pig_value.specs.Functions.{bag_tree, is_present}
 use Rattle.pig_value.specs.Orders.{tree_cmp, rel_holds}
 use Rattle.pig_value.specs.Trees.{at, or_null, Tree, v_null, v_bool, v_int, v_long, v_tuple, v_bag, v_listed, v_map, fields_of, fields_list, tuples_of, tuples_list, entries_list}
 use Rattle.pig_value.specs.declared.operators.ChainOp.{ChainOp}
@@ -99,7 +99,7 @@ pick ns row = map (λ n. at n row) ns
 
 -- Of a tuple the one field, or a tuple of the fields; of a bag the bag of such tuples, of a listed one the tuples in its order.
 abbrev pub project_tree : List ℕ → Bool → Tree → Tree
-project_tree ns single (v_tuple vs) = if single then first_field (pick ns (fields_list vs)) else v_tuple (fields_of (pick ns (fields_list vs)))
+project_tree ns single (v_tuple vs) = if single then at 0 (pick ns (fields_list vs)) else v_tuple (fields_of (pick ns (fields_list vs)))
 project_tree ns single (v_bag rs) = bag_tree (map (pick ns) (tuples_list rs))
 project_tree ns single (v_listed rs) = v_listed (tuples_of (map (pick ns) (tuples_list rs)))
 project_tree ns single v = v_null
