@@ -3,3 +3,4 @@ mod BlockSamples
 mod SignatureLaws
 pub mod Found
 pub mod KindsKept
+pub mod BlocksKept
