@@ -4,3 +4,4 @@ mod SignatureLaws
 pub mod Found
 pub mod KindsKept
 pub mod BlocksKept
+pub mod Carried

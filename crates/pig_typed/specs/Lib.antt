@@ -4,6 +4,7 @@ pub mod Evaluation
 pub mod ExprKinds
 pub mod Seen
 pub mod Signatures
+pub mod Literals
 pub mod Products
 pub mod Blocks
 pub mod BlockKinds
