@@ -18,10 +18,11 @@ use Rattle.pig_typed.specs.BlockKinds.{are_keys, bag_kinds, bag_rows, filtered_k
 use Rattle.pig_typed.specs.Blocks.{flattened, foreach_rows, from_rows, item_lists, keys_cmp, on_rows, step_value, steps_values}
 use Rattle.pig_typed.specs.Evaluation.{ev, passes}
 use Rattle.pig_typed.specs.ExprKinds.{expr_kind}
+use Rattle.pig_typed.specs.Premises.{FunctionsKeepKinds}
 use Rattle.pig_typed.specs.Products.{joined, product}
 use Rattle.pig_typed.specs.Typed.{Typed, TypedBlock, TypedItem, TypedStep, s_filter, s_order, s_limit, s_distinct, s_take}
 use Rattle.pig_typed.proofs.Found.{tested, then_found}
-use Rattle.pig_typed.proofs.KindsKept.{FunctionsKeepKinds, fields_listed, kept, tuples_listed}
+use Rattle.pig_typed.proofs.KindsKept.{fields_listed, kept, tuples_listed}
 
 -- ---- steps
 
@@ -79,12 +80,12 @@ module _ (functions : FunctionsKeepKinds) (row : List Tree) (ks : List KindTree)
   step_kept (s_filter from cond) locals ls g =
       then_found (IsBagOf (ev from row locals)) (IsOf (step_value (s_filter from cond) row locals)) (filtered_kind cond)
       (λ rows i. filtered_kept (step_value (s_filter from cond) row locals) rows
-        (bag_of_rows rows (ev from row locals) (filter (passes cond)) (λ rs j. rows_of-filter rows (passes cond) rs j) i) (expr_kind cond rows []))
+      (bag_of_rows rows (ev from row locals) (filter (passes cond)) (λ rs j. rows_of-filter rows (passes cond) rs j) i) (expr_kind cond rows []))
       (bag_rows from ks ls) (bag_rows_kept from locals ls g)
   step_kept (s_order from keys) locals ls g =
       then_found (IsBagOf (ev from row locals)) (IsOf (step_value (s_order from keys) row locals)) (sorted_kind keys)
       (λ rows i. tested (IsOf (step_value (s_order from keys) row locals)) (are_keys rows keys) (Some (k_bag (kinds_of rows)))
-        (λ e. bag_from_rows rows (ev from row locals) (λ rs. v_listed (tuples_of (sort (keys_cmp keys) rs))) (λ rs j. sort_kept keys rows rs j) i))
+      (λ e. bag_from_rows rows (ev from row locals) (λ rs. v_listed (tuples_of (sort (keys_cmp keys) rs))) (λ rs j. sort_kept keys rows rs j) i))
       (bag_rows from ks ls) (bag_rows_kept from locals ls g)
   step_kept (s_limit from count) locals ls g =
       kind_kept (ev from row locals) (step_value (s_limit from count) row locals) (bag_rows from ks ls)
@@ -162,11 +163,11 @@ module _ (functions : FunctionsKeepKinds) (row : List Tree) (ks : List KindTree)
   items_kept (item ∷ items) locals ls g =
       then_found (AreRowsOf (item_lists item row locals)) (AreRowsOf (product (map (λ item. item_lists item row locals) (item ∷ items)))) _
       (λ kinds i. then_found (AreRowsOf (product (map (λ item. item_lists item row locals) items))) (AreRowsOf (product (map (λ item. item_lists item row locals) (item ∷ items))))
-        (λ more. Some (kinds ++ more)) (λ more j. joined_kept kinds more (item_lists item row locals) (product (map (λ item. item_lists item row locals) items)) i j)
-        (items_kinds items ks ls) (items_kept items locals ls g))
+      (λ more. Some (kinds ++ more)) (λ more j. joined_kept kinds more (item_lists item row locals) (product (map (λ item. item_lists item row locals) items)) i j)
+      (items_kinds items ks ls) (items_kept items locals ls g))
       (item_kinds item ks ls)
       (then_found (IsOf (ev item.value row locals)) (AreRowsOf (item_lists item row locals)) _ (λ k i. item_kept item k (ev item.value row locals) i)
-        (expr_kind item.value ks ls) (kept functions row locals ks ls h g item.value))
+      (expr_kind item.value ks ls) (kept functions row locals ks ls h g item.value))
 
   pub block_kept : (block : TypedBlock) → OfRead (AreRowsOf (foreach_rows block row)) (row_kinds block ks)
   block_kept block =

@@ -19,3 +19,7 @@ module _ {X : Type 0} where
   pub found_is : (P : X → Type 0) (o : Option X) (x : X) → o ≡ Some x → OfRead P o → P x
   found_is P (Some y) x e h = let both : y ≡ x = cc in subst P both h
   found_is P None x e h = absurd (cc)
+
+  pub of_found : (P : X → Type 0) (o : Option X) → ((x : X) → o ≡ Some x → P x) → OfRead P o
+  of_found P None h = tt
+  of_found P (Some x) h = h x refl

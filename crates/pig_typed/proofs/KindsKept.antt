@@ -20,12 +20,9 @@ use Rattle.pig_value.proofs.OfRead.{OfRead}
 use Rattle.pig_typed.specs.Evaluation.{ev, ev_args, ev_links}
 use Rattle.pig_typed.specs.ExprKinds.{args_kinds, cast_kind, chain_kind, choose_kind, compare_kind, expr_kind, is_selection, links_kind, look_kind, may_compare, minus_kind, not_kind, number_kind, part_kind, picked_kinds, project_kind, selected_kind, truth_kind}
 use Rattle.pig_typed.specs.Operators.{and_truth, arithmetic, chain_tree, chosen, compare_tree, look_tree, minus_tree, not_tree, null_test, number_by, or_truth, pick, project_tree, truth_of, truth_tree}
+use Rattle.pig_typed.specs.Premises.{FunctionsKeepKinds}
 use Rattle.pig_typed.specs.Typed.{Typed, TypedLinks, TypedArgs, x_null, x_bool, x_int, x_long, x_chars, x_field, x_local, x_chain, x_compare, x_is_null, x_not, x_minus, x_choose, x_cast, x_project, x_look, x_call, no_links, more_links, no_args, more_args}
-use Rattle.pig_typed.proofs.Found.{then_found, tested}
-
--- what a function gives of arguments of the kinds that it takes is of its kind
-abbrev pub FunctionsKeepKinds : Type 0
-FunctionsKeepKinds = (f : Function) (args : List Tree) (kinds : List KindTree) → IsRowOf args kinds → OfRead (IsOf (apply_tree f args)) (function_kind f kinds)
+use Rattle.pig_typed.proofs.Found.{of_found, tested, then_found}
 
 -- ---- operators
 
@@ -232,7 +229,7 @@ module _ (functions : FunctionsKeepKinds) (row locals : List Tree) (ks ls : List
     kept (x_look a key) =
         then_found (IsOf (ev a row locals)) (IsOf (ev (x_look a key) row locals)) look_kind (λ k i. look_kept key k (ev a row locals) i) (expr_kind a ks ls) (kept a)
     kept (x_call f args) =
-        then_found (IsRowOf (ev_args args row locals)) (IsOf (ev (x_call f args) row locals)) (function_kind f) (λ kinds i. functions f (ev_args args row locals) kinds i) (args_kinds args ks ls) (args_kept args)
+        then_found (IsRowOf (ev_args args row locals)) (IsOf (ev (x_call f args) row locals)) (function_kind f) (λ kinds i. of_found (IsOf (apply_tree f (ev_args args row locals))) (function_kind f kinds) (λ k e. functions f (ev_args args row locals) kinds k i e)) (args_kinds args ks ls) (args_kept args)
 
     links_kept : (links : TypedLinks) (k : KindTree) (v : Tree) → IsOf v k → OfRead (IsOf (ev_links v links row locals)) (links_kind k links ks ls)
     links_kept no_links k v i = i

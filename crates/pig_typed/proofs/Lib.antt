@@ -5,3 +5,6 @@ pub mod Found
 pub mod KindsKept
 pub mod BlocksKept
 pub mod Carried
+mod Widths
+pub mod ValuesCarried
+pub mod LinesCarried

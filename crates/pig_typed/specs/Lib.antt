@@ -5,6 +5,7 @@ pub mod ExprKinds
 pub mod Seen
 pub mod Signatures
 pub mod Literals
+pub mod Premises
 pub mod Products
 pub mod Blocks
 pub mod BlockKinds
