@@ -16,6 +16,10 @@ FunctionsKeepKinds = (f : Function) (args : List Tree) (kinds : List KindTree) (
 abbrev pub FunctionsKeepValues : Type 0
 FunctionsKeepValues = (f : Function) (args : List Tree) → IsRow args → IsValue (apply_tree f args)
 
--- and of what holds no LF it gives what holds none
+-- and of values without an LF it gives one without
 abbrev pub FunctionsKeepLines : Type 0
-FunctionsKeepLines = (f : Function) (args : List Tree) → IsLineFreeRow args → IsLineFree (apply_tree f args)
+FunctionsKeepLines = (f : Function) (args : List Tree) → IsRow args → IsLineFreeRow args → IsLineFree (apply_tree f args)
+
+-- a value without an LF
+abbrev pub IsLineFreeValue : Tree → Type 0
+IsLineFreeValue v = IsValue v × IsLineFree v

@@ -7,7 +7,7 @@ ghost use Rattle.pig_value.specs.Trees.{kind_tree, kinds_list, kinds_of, k_bag, 
 ghost use Rattle.pig_typed.specs.Signatures.{chosen_kind, column, counted_kind, cut_kind, emptied_kind, is_int, is_text, one_kind, only, signature_kind, summed_kind, text_and_ints, two_texts};
 
 use crate::operators::minus;
-use pig_value::{Function, Kind, Kinds, Seq, copy_kind, same_kind};
+use pig_value::{Function, Kind, Kinds, Seq, copy_kind, copy_kinds, same_kind};
 use std::alloc::{AllocError, Global};
 
 /// The kind of what a function gives of arguments of these kinds: none where it takes no such arguments.
@@ -90,24 +90,13 @@ fn to_bag(alloc: Global, width: Option<u32>, kinds: &[Kind]) -> Result<Option<Ki
         }
         (Some(width), Kind::Tuple(fields)) => {
             if has_width(fields.as_slice(), width) && all_same(first, rest) {
-                Ok(Some(Kind::Bag(copy_fields(alloc, fields)?)))
+                Ok(Some(Kind::Bag(copy_kinds(alloc, fields.as_slice())?)))
             } else {
                 Ok(None)
             }
         }
         (Some(_), _) => Ok(None),
     }
-}
-
-fn copy_fields(alloc: Global, fields: &Kinds) -> Result<Kinds, AllocError>
-    ensures { IfOk result (λ made. made ≡ fields.now) }
-{
-    let fields = fields.as_slice();
-    let mut made = Vec::with_capacity(alloc, fields.len())?;
-    for kind in fields {
-        made.push(copy_kind(alloc, kind)?)?;
-    }
-    Ok(Seq::from_vec(made))
 }
 
 /// A bag of one field.

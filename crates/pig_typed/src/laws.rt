@@ -10,7 +10,7 @@ ghost use Rattle.pig_typed.specs.Blocks.{foreach_all, foreach_rows};
 ghost use Rattle.pig_typed.specs.Evaluation.{ev};
 ghost use Rattle.pig_typed.specs.ExprKinds.{expr_kind};
 ghost use Rattle.pig_typed.specs.Literals.{BlockLiteralsAre, LiteralsAre};
-ghost use Rattle.pig_typed.specs.Premises.{FunctionsKeepKinds, FunctionsKeepLines, FunctionsKeepValues};
+ghost use Rattle.pig_typed.specs.Premises.{FunctionsKeepKinds, FunctionsKeepLines, FunctionsKeepValues, IsLineFreeValue};
 ghost use Rattle.pig_typed.specs.Typed.{Typed, TypedBlock};
 
 /// What has a kind is never evaluated at a wrong one: on a row and locals of the kinds that it was typed for,
@@ -31,13 +31,15 @@ pub fn values_are_kept()
         → BlockLiteralsAre IsValue block → IsRow row → AreRows (foreach_rows block row) }
 {}
 
-/// Of a row, locals and literals without an LF an expression gives a value without one, and a block such rows,
-/// as functions do.
+/// Of values and literals without an LF an expression gives a value without one, and a block rows of such
+/// values, as functions do.
 pub fn lines_are_kept()
-    ensures expression { FunctionsKeepLines → (e : Typed) (row locals : List Tree)
-        → LiteralsAre IsLineFree e → IsLineFreeRow row → IsLineFreeRow locals → IsLineFree (ev e row locals) }
-    ensures block { FunctionsKeepLines → (block : TypedBlock) (row : List Tree)
-        → BlockLiteralsAre IsLineFree block → IsLineFreeRow row → AreLineFreeRows (foreach_rows block row) }
+    ensures expression { FunctionsKeepValues → FunctionsKeepLines → (e : Typed) (row locals : List Tree)
+        → LiteralsAre IsLineFreeValue e → IsRow row → IsLineFreeRow row → IsRow locals → IsLineFreeRow locals
+        → IsLineFree (ev e row locals) }
+    ensures block { FunctionsKeepValues → FunctionsKeepLines → (block : TypedBlock) (row : List Tree)
+        → BlockLiteralsAre IsLineFreeValue block → IsRow row → IsLineFreeRow row
+        → AreLineFreeRows (foreach_rows block row) }
 {}
 
 /// A block goes row by row: what it makes of joined rows is what it makes of each part, in turn, and of rows in
