@@ -2,5 +2,7 @@
 #![tactic(auto)]
 
 mod folding;
+mod sizes;
+mod texts;
 
 pub use folding::{Fold, apply_column, apply_rows};
