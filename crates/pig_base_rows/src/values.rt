@@ -1,8 +1,8 @@
 //! Values by hand, in ascending order, against each call.
 use pig_value::{
     Blob, Boxed, Function, Kind, Kinds, Pair, Pairs, Rows, Seq, Text, Tuple, Value, bag, casts_to,
-    copy, copy_kind, copy_row, field_at, holds_bag_or_map, is_of, kind_depth, kind_width, order,
-    order_rows, same, same_kind,
+    copy, copy_kind, copy_kinds, copy_row, field_at, holds_bag_or_map, is_of, kind_depth,
+    kind_width, order, order_rows, same, same_kind,
 };
 use std::alloc::{AllocError, Global};
 use std::cmp::Ordering;
@@ -89,7 +89,7 @@ fn nested(alloc: Global, at: usize) -> Result<Value, AllocError> {
 fn deep_kind(alloc: Global) -> Result<Kind, AllocError> {
     let mut kinds = one_kind(alloc, kind(alloc, b'g')?)?;
     kinds.push(kind(alloc, b'm')?)?;
-    Ok(Kind::Tuple(kinds))
+    Ok(Kind::Tuple(copy_kinds(alloc, kinds.as_slice())?))
 }
 
 fn one_kind(alloc: Global, kind: Kind) -> Result<Kinds, AllocError> {
