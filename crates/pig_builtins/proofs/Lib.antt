@@ -3,3 +3,5 @@ pub mod Merging
 pub mod Columns
 pub mod Trees
 pub mod Characters
+pub mod Pieces
+pub mod Joined

@@ -1,9 +1,10 @@
 -- What the trees of values hold.
-use Rattle.std.proofs.Common.{◌≡◌, ap, ◌∙◌, [], ◌∷◌, List, ℕ}
-use Rattle.std.specs.Prelude.{Some, pos, length, map, nat_eq}
+use Rattle.std.proofs.Common.{◌≡◌, refl, ap, ◌∙◌, [], ◌∷◌, List, ℕ}
+use Rattle.std.specs.Prelude.{Some, None, pos, length, map, nat_eq, ◌==◌, if◌then◌else◌}
 use Rattle.std.proofs.lemmas.List.{length-map}
-use Rattle.pig_value.specs.Functions.{rows_in, size_tree, isempty_tree, long_of}
-use Rattle.pig_value.specs.Trees.{tree, entry_of, rows_tree, v_bool, fields_list, fields_of, tuples_list, tuples_of, entries_list, entries_of}
+use Rattle.pig_value.specs.Functions.{rows_in, size_tree, isempty_tree, long_of, bag_tree, row_from, totuple_tree}
+use Rattle.pig_value.specs.Orders.{bag_of}
+use Rattle.pig_value.specs.Trees.{Tree, tree, entry_of, rows_tree, v_bag, v_bool, fields_list, fields_of, tuples_list, tuples_of, entries_list, entries_of}
 use Rattle.pig_value.proofs.TreeLaws.{tree-Tuple, tree-Bag, tree-Listed, tree-Map, fields_back, tuples_back, entries_back}
 use Rattle.pig_value.specs.declared.values.Pair.{Pair}
 use Rattle.pig_value.specs.declared.values.Value.{Value}
@@ -45,3 +46,17 @@ listed_is_empty rows = ap (λ v. isempty_tree (v ∷ [])) (tree-Listed rows) ∙
 
 pub map_is_empty : (pairs : List Pair) → isempty_tree (tree (value.Map pairs) ∷ []) ≡ v_bool (nat_eq (length pairs) 0)
 map_is_empty pairs = ap (λ v. isempty_tree (v ∷ [])) (tree-Map pairs) ∙ ap (λ n. v_bool (nat_eq n 0)) (pairs_counted pairs)
+
+-- the bag of rows
+pub bag_made : (rows : List (List Value)) (made : List (List Tree)) → rows_tree rows ≡ bag_of made → tree (value.Bag rows) ≡ bag_tree made
+bag_made rows made is = tree-Bag rows ∙ ap (λ rs. v_bag (tuples_of rs)) is
+
+-- the tuple of values, and the row of TOBAG that a tuple gives
+pub tuple_made : (vs : List Value) → ¬ (vs ≡ []) → tree (value.Tuple vs) ≡ totuple_tree (map tree vs)
+tuple_made [] h = absurd (h refl)
+tuple_made (v ∷ vs) h = tree-Tuple (v ∷ vs)
+
+pub tuple_row : (width : ℕ) (vs : List Value) → row_from (Some width) (tree (value.Tuple vs)) ≡ (if length vs == width then Some (map tree vs) else None)
+tuple_row width vs =
+    ap (row_from (Some width)) (tree-Tuple vs)
+    ∙ (λ i. if fields_counted vs i == width then Some (fields_back (map tree vs) i) else None)

@@ -2,7 +2,9 @@
 #![tactic(auto)]
 
 mod folding;
+mod making;
 mod sizes;
 mod texts;
+mod tokens;
 
 pub use folding::{Fold, apply_column, apply_rows};
