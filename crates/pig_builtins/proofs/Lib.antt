@@ -5,3 +5,4 @@ pub mod Trees
 pub mod Characters
 pub mod Pieces
 pub mod Joined
+pub mod Arity

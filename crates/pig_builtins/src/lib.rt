@@ -1,10 +1,12 @@
 //! The functions of the language: what each gives of its arguments.
 #![tactic(auto)]
 
+mod applying;
 mod folding;
 mod making;
 mod sizes;
 mod texts;
 mod tokens;
 
+pub use applying::{apply, apply_one, apply_three, apply_two, is_variadic};
 pub use folding::{Fold, apply_column, apply_rows};
