@@ -13,6 +13,7 @@ use Rattle.std.proofs.lemmas.Bool.{le-leb, lt-leb}
 use Rattle.std.specs.Option.{option_map}
 use Rattle.bstr.specs.Find.{OccursAt, NoneBefore, Nowhere}
 use Rattle.memchr.proofs.lemmas.MatchLemmas.{OccursAt-split, OccursAt-from_part}
+use Rattle.std.proofs.Math.Utf8.{scalar}
 use Rattle.pig_value.specs.Functions.{first_place, substring}
 use Rattle.pig_value.proofs.list_laws.Bags.{either_way}
 
@@ -226,6 +227,12 @@ pub scalars_drop : (n : ℕ) (cs : List ℕ) → all_scalars cs ≡ true → all
 scalars_drop zero cs h = h
 scalars_drop (suc n) [] h = refl
 scalars_drop (suc n) (c ∷ cs) h = scalars_drop n cs (right_of _ (all_scalars cs) h)
+
+pub scalars_take : (n : ℕ) (cs : List ℕ) → all_scalars cs ≡ true → all_scalars (take n cs) ≡ true
+scalars_take zero cs h = refl
+scalars_take (suc n) [] h = refl
+scalars_take (suc n) (c ∷ cs) h =
+    ap (λ b. b && all_scalars (take n cs)) (left_of (scalar c) (all_scalars cs) h) ∙ scalars_take n cs (right_of (scalar c) (all_scalars cs) h)
 
 pub utf8_from : (cs : List ℕ) → all_scalars cs ≡ true → IsUtf8 (encode_utf8_all cs)
 utf8_from cs h = (cs, (h, refl))

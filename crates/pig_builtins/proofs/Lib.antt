@@ -6,3 +6,6 @@ pub mod Characters
 pub mod Pieces
 pub mod Joined
 pub mod Arity
+pub mod Kept
+pub mod ValuesKept
+pub mod LineFree

@@ -1,12 +1,12 @@
 -- What TOKENIZE cuts a text into.
-use Rattle.std.proofs.Common.{◌≡◌, ◌<◌, ◌≤◌, ◌+◌, ℕ, List, [], ◌∷◌, ◌++◌, length, take, drop, get_or, refl, sym, ap, ◌∙◌, arith, length-drop}
+use Rattle.std.proofs.Common.{◌≡◌, ◌<◌, ◌≤◌, ◌+◌, ℕ, zero, suc, List, [], ◌∷◌, ◌++◌, length, take, drop, get_or, refl, sym, ap, ◌∙◌, subst, arith, length-drop}
 use Rattle.std.specs.Prelude.{Bool, true, false, not, ◌||◌, ◌==◌, nat_lt, cond, slice_index}
-use Rattle.std.specs.List.{slice_split, position_or_len}
+use Rattle.std.specs.List.{slice_split, position_or_len, AllByRecursion}
 use Rattle.std.specs.Str.{IsUtf8, IsCharBoundary}
-use Rattle.std.proofs.lemmas.Str.{IsCharBoundary-before_ascii, IsCharBoundary-after_ascii}
+use Rattle.std.proofs.lemmas.Str.{IsCharBoundary-before_ascii, IsCharBoundary-after_ascii, IsUtf8-take, IsUtf8-drop}
 use Rattle.std.proofs.lemmas.Bool.{ne_eqb, ltb-true, ltb-false, true≢false}
 use Rattle.std.proofs.lemmas.List.Elements.{All-from_get_or}
-use Rattle.std.proofs.lemmas.List.Sums.{position_or_len_is, prefix_len_passes}
+use Rattle.std.proofs.lemmas.List.Sums.{position_or_len_is, prefix_len_passes, passes_at_first, fails_before_first}
 use Rattle.std.proofs.lemmas.List.Splits.{slice_split_first, slice_split_none}
 use Rattle.bstr.specs.Bytes.{is_in}
 use Rattle.bstr.specs.Find.{NoneBefore, Nowhere, Passes}
@@ -82,3 +82,29 @@ uncut text none =
 -- the rows of one piece, then those of the others
 pub piece_first : (piece : List ℕ) (pieces : List (List ℕ)) → piece_rows (piece ∷ pieces) ≡ piece_rows (piece ∷ []) ++ piece_rows pieces
 piece_first piece pieces = either_way (nat_lt 0 (length piece)) (λ e. rw e refl) (λ e. rw e refl)
+
+-- what a cut at a separator keeps on both sides holds of each piece
+module _ (Q : List ℕ → Type 0) (keeps : (text : List ℕ) (at : ℕ) → at < length text → is_separator (get_or text at 0) ≡ true → Q text → Q (take at text) × Q (drop (at + 1) text)) where
+  by_length : (fuel : ℕ) (text : List ℕ) → length text < fuel → Q text → AllByRecursion Q (slice_split is_separator text)
+  by_length zero text within h = absurd (omega (arith, within))
+  by_length (suc fuel) text within h = either_way (nat_lt (position_or_len is_separator text) (length text))
+      (λ e. let at = position_or_len is_separator text in
+        let here : at < length text = ltb-true at (length text) e in
+        let both = keeps text at here (passes_at_first is_separator text 0 here) h in
+        let left = length-drop (at + 1) text in
+        subst (AllByRecursion Q) (sym (slice_split_first is_separator text 0 here)) (both.0, by_length fuel (drop (at + 1) text) (omega arith) both.1))
+      (λ e. let past = ltb-false (position_or_len is_separator text) (length text) e in
+        subst (AllByRecursion Q) (sym (slice_split_none is_separator text (All-from_get_or (λ x. is_separator x ≡ false) text 0
+          (λ k i. fails_before_first is_separator text k 0 (omega arith))))) (h, tt))
+
+  pub pieces_each : (text : List ℕ) → Q text → AllByRecursion Q (slice_split is_separator text)
+  pieces_each text h = by_length (suc (length text)) text (omega arith) h
+
+-- a text is cut into texts
+pub cut_utf8 : (text : List ℕ) (at : ℕ) → at < length text → is_separator (get_or text at 0) ≡ true → IsUtf8 text → IsUtf8 (take at text) × IsUtf8 (drop (at + 1) text)
+cut_utf8 text at within here u =
+    let low = ascii (get_or text at 0) here in
+    (IsUtf8-take text at u (IsCharBoundary-before_ascii text at within low), IsUtf8-drop text (at + 1) u (IsCharBoundary-after_ascii text at u within low))
+
+pub texts_each : (text : List ℕ) → IsUtf8 text → AllByRecursion IsUtf8 (slice_split is_separator text)
+texts_each = pieces_each IsUtf8 cut_utf8

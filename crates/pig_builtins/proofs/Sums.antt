@@ -53,3 +53,7 @@ int_magnitude z h = ap (cast_signed w32) (sym (mod-eq_of_lt (int_magnitude_below
 pub int_place : (n : ℕ) → cast_signed w32 (n % 2 ^ 32) ≡ int_wrap w32 (pos n)
 unfolding int_wrap
 int_place n = refl
+
+pub minus_one_is : int_wrap w32 (negsuc 0) ≡ negsuc 0
+unfolding int_wrap
+minus_one_is = refl

@@ -3,10 +3,12 @@
 
 mod applying;
 mod folding;
+mod laws;
 mod making;
 mod sizes;
 mod texts;
 mod tokens;
 
 pub use applying::{apply, apply_one, apply_three, apply_two, is_variadic};
+pub use laws::{column_laws, function_laws};
 pub use folding::{Fold, apply_column, apply_rows};
