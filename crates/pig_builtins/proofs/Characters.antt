@@ -23,7 +23,7 @@ occurs_between xs needle zs =
     let n = length-append xs (needle ++ zs) in
     let m = length-append needle zs in
     OccursAt-from_part (xs ++ (needle ++ zs)) needle (length xs) (omega arith)
-      (ap (take (length needle)) (drop-append_seam xs (needle ++ zs)) ∙ take-append_seam needle zs)
+    (ap (take (length needle)) (drop-append_seam xs (needle ++ zs)) ∙ take-append_seam needle zs)
 
 -- characters whose bytes begin with those of others begin with the others
 begun : (cs ds rest : List ℕ) → encode_utf8_all cs ≡ encode_utf8_all ds ++ rest → (es : List ℕ) × (cs ≡ ds ++ es)
@@ -43,9 +43,9 @@ started cs ds h = sym (take-append-drop (length ds) cs) ∙ ap (λ l. l ++ drop 
 pub starts_is : (cs ds : List ℕ) → Decides (starts_with nat_eq cs ds) (OccursAt (encode_utf8_all cs) (encode_utf8_all ds) 0)
 starts_is cs ds = (
   λ h. let more = drop (length ds) cs in
-    subst (λ bytes. OccursAt bytes (encode_utf8_all ds) 0) (sym (ap encode_utf8_all (started cs ds h) ∙ encodes-append ds more))
+      subst (λ bytes. OccursAt bytes (encode_utf8_all ds) 0) (sym (ap encode_utf8_all (started cs ds h) ∙ encodes-append ds more))
       (occurs_between [] (encode_utf8_all ds) (encode_utf8_all more)),
-  λ at. let split = begun cs ds _ (OccursAt-split (encode_utf8_all cs) (encode_utf8_all ds) 0 at) in starts cs ds split.0 split.1
+  λ at. let split = begun cs ds _ (OccursAt-split (encode_utf8_all cs) (encode_utf8_all ds) 0 at) in starts cs ds split.0 split.1,
 )
 
 -- the first number from `a` on that passes, and that none does
@@ -58,8 +58,8 @@ found_from test a (suc n) (suc k) within passes before =
     let e : a + 0 ≡ a = omega arith in
     let move : (j : ℕ) → a + suc j ≡ a + 1 + j = λ j. omega arith in
     rw (ap test (sym e) ∙ before 0 (omega arith))
-      (found_from test (a + 1) n k (omega (arith, within)) (ap test (sym (move k)) ∙ passes) (λ j h. ap test (sym (move j)) ∙ before (suc j) (omega (arith, h)))
-      ∙ ap Some (sym (move k)))
+    (found_from test (a + 1) n k (omega (arith, within)) (ap test (sym (move k)) ∙ passes) (λ j h. ap test (sym (move j)) ∙ before (suc j) (omega (arith, h)))
+    ∙ ap Some (sym (move k)))
 
 none_from : (test : ℕ → Bool) (a n : ℕ) → ((j : ℕ) → j < n → test (a + j) ≡ false) → find test (range_with_len a n) ≡ None
 none_from test a zero fails = refl
@@ -86,12 +86,12 @@ not_true false h = refl
 by_bytes : (b : Bool) (hay needle : List ℕ) → IsUtf8 hay → IsUtf8 needle → Decides b (OccursAt (encode_utf8_all (chars hay)) (encode_utf8_all (chars needle)) 0) → Decides b (OccursAt hay needle 0)
 by_bytes b hay needle u v h =
     subst (λ n. Decides b (OccursAt hay n 0)) (encodes-chars needle v)
-      (subst (λ x. Decides b (OccursAt x (encode_utf8_all (chars needle)) 0)) (encodes-chars hay u) h)
+    (subst (λ x. Decides b (OccursAt x (encode_utf8_all (chars needle)) 0)) (encodes-chars hay u) h)
 
 pub starts_text : (text front : List ℕ) (b : Bool) → IsUtf8 text → IsUtf8 front → (IsTrue b ↔ OccursAt text front 0) → b ≡ starts_with nat_eq (chars text) (chars front)
 starts_text text front b u v h =
     one_answer b (starts_with nat_eq (chars text) (chars front)) (h.0, h.1)
-      (by_bytes (starts_with nat_eq (chars text) (chars front)) text front u v (starts_is (chars text) (chars front)))
+    (by_bytes (starts_with nat_eq (chars text) (chars front)) text front u v (starts_is (chars text) (chars front)))
 
 -- where other characters begin within characters, their bytes stand
 occurs_on : (cs ds : List ℕ) (q : ℕ) → starts_with nat_eq (drop q cs) ds ≡ true → OccursAt (encode_utf8_all cs) (encode_utf8_all ds) (length (encode_utf8_all (take q cs)))
@@ -99,9 +99,9 @@ occurs_on cs ds q h =
     let more = drop (length ds) (drop q cs) in
     let is : cs ≡ take q cs ++ (ds ++ more) = sym (take-append-drop q cs) ∙ ap (λ l. take q cs ++ l) (started (drop q cs) ds h) in
     let bytes : encode_utf8_all cs ≡ encode_utf8_all (take q cs) ++ (encode_utf8_all ds ++ encode_utf8_all more)
-        = ap encode_utf8_all is ∙ encodes-append (take q cs) (ds ++ more) ∙ ap (λ l. encode_utf8_all (take q cs) ++ l) (encodes-append ds more) in
+    = ap encode_utf8_all is ∙ encodes-append (take q cs) (ds ++ more) ∙ ap (λ l. encode_utf8_all (take q cs) ++ l) (encodes-append ds more) in
     subst (λ x. OccursAt x (encode_utf8_all ds) (length (encode_utf8_all (take q cs)))) (sym bytes)
-      (occurs_between (encode_utf8_all (take q cs)) (encode_utf8_all ds) (encode_utf8_all more))
+    (occurs_between (encode_utf8_all (take q cs)) (encode_utf8_all ds) (encode_utf8_all more))
 
 -- a text stands only where a character begins
 boundary_at : (hay needle : List ℕ) (k : ℕ) → IsUtf8 needle → OccursAt hay needle k → 0 < length needle → IsCharBoundary hay k
@@ -133,8 +133,8 @@ shorter : (front back : List ℕ) (q : ℕ) → q < length front → length (enc
 shorter front back q h =
     let cut : take q (front ++ back) ≡ take q front = take-append-le q front back (omega (arith, h)) in
     let whole : length (encode_utf8_all front) ≡ length (encode_utf8_all (take q front)) + length (encode_utf8_all (drop q front))
-        = ap (λ l. length (encode_utf8_all l)) (sym (take-append-drop q front)) ∙ ap length (encodes-append (take q front) (drop q front))
-        ∙ length-append (encode_utf8_all (take q front)) (encode_utf8_all (drop q front)) in
+    = ap (λ l. length (encode_utf8_all l)) (sym (take-append-drop q front)) ∙ ap length (encodes-append (take q front) (drop q front))
+    ∙ length-append (encode_utf8_all (take q front)) (encode_utf8_all (drop q front)) in
     let some = length-le-encodes (drop q front) in
     let left = length-drop q front in
     let same = ap (λ l. length (encode_utf8_all l)) cut in
@@ -152,16 +152,16 @@ place_found hay needle k u v none at =
     let fits : length (take k hay) ≡ k = length-take-le k hay edge.0 in
     let size : length (encode_utf8_all front) ≡ k = ap length (encodes-chars (take k hay) (IsUtf8-take hay k u edge)) ∙ fits in
     let here : starts_with nat_eq (drop (length front) cs) ds ≡ true
-        = ap (λ l. starts_with nat_eq (drop (length front) l) ds) is ∙ ap (λ l. starts_with nat_eq l ds) (drop-append_seam front back)
-        ∙ (by_bytes (starts_with nat_eq back ds) (drop k hay) needle (IsUtf8-drop hay k u edge) v (starts_is back ds)).1 (occurs_dropped hay needle k at) in
+    = ap (λ l. starts_with nat_eq (drop (length front) l) ds) is ∙ ap (λ l. starts_with nat_eq l ds) (drop-append_seam front back)
+    ∙ (by_bytes (starts_with nat_eq back ds) (drop k hay) needle (IsUtf8-drop hay k u edge) v (starts_is back ds)).1 (occurs_dropped hay needle k at) in
     let not_before : (j : ℕ) → j < length front → starts_with nat_eq (drop j cs) ds ≡ false
-        = λ j h. not_true (starts_with nat_eq (drop j cs) ds) (λ e.
-          let stands : OccursAt hay needle (length (encode_utf8_all (take j cs)))
-              = subst (λ x. OccursAt x needle (length (encode_utf8_all (take j cs)))) (encodes-chars hay u)
-                (subst (λ n. OccursAt (encode_utf8_all cs) n (length (encode_utf8_all (take j cs)))) (encodes-chars needle v) (occurs_on cs ds j e)) in
-          let less = shorter front back j h in
-          let same = ap (λ l. length (encode_utf8_all (take j l))) is in
-          none.before (length (encode_utf8_all (take j cs))) (omega arith) (omega arith) stands) in
+    = λ j h. not_true (starts_with nat_eq (drop j cs) ds) (λ e.
+    let stands : OccursAt hay needle (length (encode_utf8_all (take j cs)))
+    = subst (λ x. OccursAt x needle (length (encode_utf8_all (take j cs)))) (encodes-chars hay u)
+    (subst (λ n. OccursAt (encode_utf8_all cs) n (length (encode_utf8_all (take j cs)))) (encodes-chars needle v) (occurs_on cs ds j e)) in
+    let less = shorter front back j h in
+    let same = ap (λ l. length (encode_utf8_all (take j l))) is in
+    none.before (length (encode_utf8_all (take j cs))) (omega arith) (omega arith) stands) in
     let total : length cs ≡ length front + length back = ap length is ∙ length-append front back in
     found (λ place. starts_with nat_eq (drop place cs) ds) (length cs + 1) (length front) (omega arith) here not_before
 
@@ -170,11 +170,11 @@ place_lost hay needle u v nowhere =
     let cs = chars hay in
     let ds = chars needle in
     none_found (λ place. starts_with nat_eq (drop place cs) ds) (length cs + 1) (λ j h. not_true (starts_with nat_eq (drop j cs) ds) (λ e.
-      let stands : OccursAt hay needle (length (encode_utf8_all (take j cs)))
-          = subst (λ x. OccursAt x needle (length (encode_utf8_all (take j cs)))) (encodes-chars hay u)
-            (subst (λ n. OccursAt (encode_utf8_all cs) n (length (encode_utf8_all (take j cs)))) (encodes-chars needle v) (occurs_on cs ds j e)) in
-      let fits = stands.fits in
-      nowhere (length (encode_utf8_all (take j cs))) (omega arith) (omega arith) stands))
+    let stands : OccursAt hay needle (length (encode_utf8_all (take j cs)))
+    = subst (λ x. OccursAt x needle (length (encode_utf8_all (take j cs)))) (encodes-chars hay u)
+    (subst (λ n. OccursAt (encode_utf8_all cs) n (length (encode_utf8_all (take j cs)))) (encodes-chars needle v) (occurs_on cs ds j e)) in
+    let fits = stands.fits in
+    nowhere (length (encode_utf8_all (take j cs))) (omega arith) (omega arith) stands))
 
 -- by its characters a text ends with another where it does by its bytes
 ends : (text end xs : List ℕ) → text ≡ xs ++ end → (length end ≤ length text) × OccursAt text end (length text - length end)
@@ -191,23 +191,23 @@ ends_is : (text end : List ℕ) → IsUtf8 text → IsUtf8 end
     → Decides (ends_with nat_eq (chars text) (chars end)) ((length end ≤ length text) × OccursAt text end (length text - length end))
 ends_is text end u v = (
   λ h. let cs = chars text in
-    let n = length cs - length (chars end) in
-    ends text end (encode_utf8_all (take n cs))
+      let n = length cs - length (chars end) in
+      ends text end (encode_utf8_all (take n cs))
       (sym (encodes-chars text u) ∙ ap encode_utf8_all (sym (take-append-drop n cs)) ∙ encodes-append (take n cs) (drop n cs)
       ∙ ap (λ l. encode_utf8_all (take n cs) ++ encode_utf8_all l) (sym ((bytes_eq-Decides (chars end) (drop n cs)).0 h))
       ∙ ap (λ l. encode_utf8_all (take n cs) ++ l) (encodes-chars end v)),
   λ h. let k = length text - length end in
-    let edge = last_boundary text end u v h.1 in
-    let within = h.0 in
-    let whole : k + length end ≡ length text = omega arith in
-    let rest : drop k text ≡ end
-        = OccursAt-split text end k h.1 ∙ ap (λ l. end ++ l) (ap (λ i. drop i text) whole ∙ drop-length text) ∙ append-nil end in
-    let front = chars (take k text) in
-    let is : chars text ≡ front ++ chars end = parted text k u edge ∙ ap (λ l. front ++ chars l) rest in
-    let size : length (chars text) ≡ length front + length (chars end) = ap length is ∙ length-append front (chars end) in
-    let at : length (chars text) - length (chars end) ≡ length front = omega arith in
-    (bytes_eq-Decides (chars end) (drop (length (chars text) - length (chars end)) (chars text))).1
-      (sym (ap (λ i. drop i (chars text)) at ∙ ap (drop (length front)) is ∙ drop-append_seam front (chars end)))
+      let edge = last_boundary text end u v h.1 in
+      let within = h.0 in
+      let whole : k + length end ≡ length text = omega arith in
+      let rest : drop k text ≡ end
+      = OccursAt-split text end k h.1 ∙ ap (λ l. end ++ l) (ap (λ i. drop i text) whole ∙ drop-length text) ∙ append-nil end in
+      let front = chars (take k text) in
+      let is : chars text ≡ front ++ chars end = parted text k u edge ∙ ap (λ l. front ++ chars l) rest in
+      let size : length (chars text) ≡ length front + length (chars end) = ap length is ∙ length-append front (chars end) in
+      let at : length (chars text) - length (chars end) ≡ length front = omega arith in
+      (bytes_eq-Decides (chars end) (drop (length (chars text) - length (chars end)) (chars text))).1
+      (sym (ap (λ i. drop i (chars text)) at ∙ ap (drop (length front)) is ∙ drop-append_seam front (chars end))),
 )
 
 pub ends_text : (text end : List ℕ) (b : Bool) → IsUtf8 text → IsUtf8 end → (IsTrue b ↔ ((length end ≤ length text) × OccursAt text end (length text - length end)))
@@ -215,11 +215,11 @@ pub ends_text : (text end : List ℕ) (b : Bool) → IsUtf8 text → IsUtf8 end 
 ends_text text end b u v h = one_answer b (ends_with nat_eq (chars text) (chars end)) (h.0, h.1) (ends_is text end u v)
 
 -- scalar values stay so in a part, and spell a text
-right_of : (b c : Bool) → b && c ≡ true → c ≡ true
+pub right_of : (b c : Bool) → b && c ≡ true → c ≡ true
 right_of true c h = h
 right_of false c h = absurd (cc)
 
-left_of : (b c : Bool) → b && c ≡ true → b ≡ true
+pub left_of : (b c : Bool) → b && c ≡ true → b ≡ true
 left_of true c h = refl
 left_of false c h = absurd (cc)
 
@@ -261,9 +261,11 @@ seam text rest n u is =
     let front = encode_utf8_all (take n cs) in
     let whole : text ≡ front ++ rest = sym (encodes-chars text u) ∙ ap encode_utf8_all (sym (take-append-drop n cs)) ∙ encodes-append (take n cs) (drop n cs) ∙ ap (λ l. front ++ l) (sym is) in
     let size : length text ≡ length front + length rest = ap length whole ∙ length-append front rest in
-    let at : length text - length rest ≡ length front = omega arith in
-    (omega arith, ap (λ i. take i text) at ∙ ap (take (length front)) whole ∙ take-append_seam front rest,
-      subst (IsCharBoundary text) (sym at) (IsCharBoundary-at_seam text front rest whole (subst IsUtf8 (sym is) (utf8_from (drop n cs) (scalars_drop n cs (scalars-chars text u))))))
+    let at : length text - length rest ≡ length front = omega arith in (
+      omega arith,
+      ap (λ i. take i text) at ∙ ap (take (length front)) whole ∙ take-append_seam front rest,
+      subst (IsCharBoundary text) (sym at) (IsCharBoundary-at_seam text front rest whole (subst IsUtf8 (sym is) (utf8_from (drop n cs) (scalars_drop n cs (scalars-chars text u))))),
+    )
 
 -- a range from the front on
 pub front_range : (text : List ℕ) (k : ℕ) → slice_range text 0 k ≡ take k text
@@ -282,7 +284,7 @@ part_is cs rest out start stop scalar order within is made =
     let cut : min stop (length cs) - start ≡ min (stop - start) (length (drop start cs)) = omega arith in
     let there : leb start (min stop (length cs)) ≡ true = le-leb start (min stop (length cs)) (omega arith) in
     let same : take (stop - start) (chars rest) ≡ take (min stop (length cs) - start) (drop start cs)
-        = ap (take (stop - start)) left ∙ sym (take_min (stop - start) (drop start cs)) ∙ ap (λ n. take n (drop start cs)) (sym cut) in
+    = ap (take (stop - start)) left ∙ sym (take_min (stop - start) (drop start cs)) ∙ ap (λ n. take n (drop start cs)) (sym cut) in
     rw there (ap Some (made ∙ ap encode_utf8_all same))
 
 pub part_lost : (cs : List ℕ) (start stop : ℕ) → min stop (length cs) < start → None ≡ option_map encode_utf8_all (substring cs (pos start) (pos stop))

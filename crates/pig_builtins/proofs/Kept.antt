@@ -49,7 +49,7 @@ there_map P g None h = tt
 there_map P g (Some x) h = h
 
 -- of a list that is read whole
-all_there : {X Y : Type 0} (P : X → Type 0) (Q : Y → Type 0) (read : X → Option Y) → ((x : X) → P x → IfThere Q (read x)) → (xs : List X) → AllByRecursion P xs
+pub all_there : {X Y : Type 0} (P : X → Type 0) (Q : Y → Type 0) (read : X → Option Y) → ((x : X) → P x → IfThere Q (read x)) → (xs : List X) → AllByRecursion P xs
     → IfThere (AllByRecursion Q) (all_of read xs)
 all_there P Q read keeps [] h = tt
 all_there {X} {Y} P Q read keeps (x ∷ xs) h = step (read x) (all_of read xs) (keeps x h.0) (all_there P Q read keeps xs h.1)
@@ -120,7 +120,7 @@ module _ (P : Tree → Type 0) (k : Keeps P) where
   concat_kept (v ∷ w ∷ more) h =
       let args = v ∷ w ∷ more in
       joined (all_of text_in args) (all_of bytes_in args) (all_there P (λ text. P (v_chars text)) text_in text_kept args h)
-        (all_there P (λ text. P (v_bytes text)) bytes_in bytes_kept args h)
+      (all_there P (λ text. P (v_bytes text)) bytes_in bytes_kept args h)
 
   token_rows : (pieces : List (List ℕ)) → AllByRecursion (λ piece. P (v_chars piece)) pieces → AllByRecursion (AllByRecursion P) (map (λ piece. v_chars piece ∷ []) pieces)
   token_rows [] h = tt
@@ -181,7 +181,7 @@ module _ (P : Tree → Type 0) (k : Keeps P) where
   substring_kept : (args : List Tree) → AllByRecursion P args → P (substring_tree args)
   substring_kept (v_chars text ∷ v_int start ∷ v_int stop ∷ []) h =
       found _ (there_map P (λ cs. v_chars (encode_utf8_all cs)) (substring (chars text) start stop)
-        (there (λ cs. P (v_chars (encode_utf8_all cs))) (substring (chars text) start stop) (λ cs is. k.part text start stop cs h.0 is)))
+      (there (λ cs. P (v_chars (encode_utf8_all cs))) (substring (chars text) start stop) (λ cs is. k.part text start stop cs h.0 is)))
   substring_kept args h = k.null
 
   startswith_kept : (args : List Tree) → P (startswith_tree args)

@@ -9,3 +9,4 @@ pub mod Arity
 pub mod Kept
 pub mod ValuesKept
 pub mod LineFree
+pub mod KindsKept

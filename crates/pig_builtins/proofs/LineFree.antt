@@ -36,12 +36,12 @@ no_lf_joined (text ∷ texts) h = All-append (λ b. b ≢ 10) text (concat texts
 no_lf_drop : (n : ℕ) (cs : List ℕ) → HasNoLf (encode_utf8_all cs) → HasNoLf (encode_utf8_all (drop n cs))
 no_lf_drop n cs h =
     no_lf_right (encode_utf8_all (take n cs)) (encode_utf8_all (drop n cs))
-      (subst HasNoLf (ap encode_utf8_all (sym (take-append-drop n cs)) ∙ encodes-append (take n cs) (drop n cs)) h)
+    (subst HasNoLf (ap encode_utf8_all (sym (take-append-drop n cs)) ∙ encodes-append (take n cs) (drop n cs)) h)
 
 no_lf_take : (n : ℕ) (cs : List ℕ) → HasNoLf (encode_utf8_all cs) → HasNoLf (encode_utf8_all (take n cs))
 no_lf_take n cs h =
     no_lf_left (encode_utf8_all (take n cs)) (encode_utf8_all (drop n cs))
-      (subst HasNoLf (ap encode_utf8_all (sym (take-append-drop n cs)) ∙ encodes-append (take n cs) (drop n cs)) h)
+    (subst HasNoLf (ap encode_utf8_all (sym (take-append-drop n cs)) ∙ encodes-append (take n cs) (drop n cs)) h)
 
 no_lf_part : (cs out : List ℕ) (start stop : ℤ) → HasNoLf (encode_utf8_all cs) → substring cs start stop ≡ Some out → HasNoLf (encode_utf8_all out)
 no_lf_part cs out (pos start) (pos stop) h is = chosen (nat_le start (min stop (length cs))) is
@@ -80,27 +80,27 @@ plain_keeps = record {
   nowhere = (value_keeps.nowhere, tt);
   texts = λ texts h. (
     value_keeps.texts texts (each_weaker (λ t. Plain (v_chars t)) IsUtf8 (λ t both. both.0) texts h),
-    no_lf_joined texts (each_weaker (λ t. Plain (v_chars t)) HasNoLf (λ t both. both.1) texts h)
+    no_lf_joined texts (each_weaker (λ t. Plain (v_chars t)) HasNoLf (λ t both. both.1) texts h),
   );
   bytes = λ texts h. (
     value_keeps.bytes texts (each_weaker (λ t. Plain (v_bytes t)) AreBytes (λ t both. both.0) texts h),
-    no_lf_joined texts (each_weaker (λ t. Plain (v_bytes t)) HasNoLf (λ t both. both.1) texts h)
+    no_lf_joined texts (each_weaker (λ t. Plain (v_bytes t)) HasNoLf (λ t both. both.1) texts h),
   );
   part = λ text start stop cs h is. (
     value_keeps.part text start stop cs h.0 is,
-    no_lf_part (chars text) cs start stop (subst HasNoLf (sym (encodes-chars text h.0)) h.1) is
+    no_lf_part (chars text) cs start stop (subst HasNoLf (sym (encodes-chars text h.0)) h.1) is,
   );
   pieces = pieces_each (λ t. Plain (v_chars t)) (λ text at within here h.
-    let utf8 = cut_utf8 text at within here h.0 in
-    ((utf8.0, All-take (λ b. b ≢ 10) at text h.1), (utf8.1, All-drop (λ b. b ≢ 10) (at + 1) text h.1)));
+      let utf8 = cut_utf8 text at within here h.0 in
+      ((utf8.0, All-take (λ b. b ≢ 10) at text h.1), (utf8.1, All-drop (λ b. b ≢ 10) (at + 1) text h.1)));
   tuple = λ vs h. (value_keeps.tuple vs (values vs h), free vs h);
   fields = λ vs h. fields_are vs h.0 h.1;
   bag = λ rows h. (
     value_keeps.bag rows (each_weaker (AllByRecursion Plain) (AllByRecursion IsValue) values rows h),
-    rows-sort line_free rows (tuples_from_each line_free rows (each_weaker (AllByRecursion Plain) (RowLeavesAre line_free) free rows h))
+    rows-sort line_free rows (tuples_from_each line_free rows (each_weaker (AllByRecursion Plain) (RowLeavesAre line_free) free rows h)),
   );
   rows = λ rows h. tuples_are rows h.0.1 h.1;
-  listed = λ rows h. tuples_are rows h.0 h.1.1
+  listed = λ rows h. tuples_are rows h.0 h.1.1;
 }
 
 both_each : (args : List Tree) → AllByRecursion IsValue args → IsLineFreeRow args → AllByRecursion Plain args

@@ -72,11 +72,11 @@ module _ {X : Type 0} (R : X → X → Ordering) (total : IsTotalOrder R) where
   earlier_assoc : (a b c : X) → earlier a (earlier b c) ≡ earlier (earlier a b) c
   earlier_assoc a b c = either_way (is_gt (R b c))
       (λ k. ap (earlier a) (earlier_is b c k) ∙ either_way (is_gt (R a b))
-        (λ h. earlier_is a c (beyond a b c h k) ∙ sym (earlier_is b c k) ∙ ap (λ x. earlier x c) (sym (earlier_is a b h)))
-        (λ h. ap (λ x. earlier x c) (sym (earlier_stays a b h))))
+      (λ h. earlier_is a c (beyond a b c h k) ∙ sym (earlier_is b c k) ∙ ap (λ x. earlier x c) (sym (earlier_is a b h)))
+      (λ h. ap (λ x. earlier x c) (sym (earlier_stays a b h))))
       (λ k. ap (earlier a) (earlier_stays b c k) ∙ either_way (is_gt (R a b))
-        (λ h. earlier_is a b h ∙ sym (earlier_stays b c k) ∙ ap (λ x. earlier x c) (sym (earlier_is a b h)))
-        (λ h. earlier_stays a b h ∙ sym (earlier_stays a c (upto a b c h k)) ∙ ap (λ x. earlier x c) (sym (earlier_stays a b h))))
+      (λ h. earlier_is a b h ∙ sym (earlier_stays b c k) ∙ ap (λ x. earlier x c) (sym (earlier_is a b h)))
+      (λ h. earlier_stays a b h ∙ sym (earlier_stays a c (upto a b c h k)) ∙ ap (λ x. earlier x c) (sym (earlier_stays a b h))))
 
   either_assoc : (a b c : Option X) → either a (either b c) ≡ either (either a b) c
   either_assoc None b c = refl

@@ -60,7 +60,7 @@ module _ (text : List ℕ) (at : ℕ) (before : NoneBefore (Passes (is_in separa
   place =
       let high : at < length text = before.high in
       sym (position_or_len_is is_separator text at 0 (omega arith)
-        (λ k h. sym (separators_are (get_or text k 0)) ∙ fails (is_in separators (get_or text k 0)) (before.before k (omega arith) h)) (λ _. found))
+      (λ k h. sym (separators_are (get_or text k 0)) ∙ fails (is_in separators (get_or text k 0)) (before.before k (omega arith) h)) (λ _. found))
 
   pub cut_at : slice_split is_separator text ≡ take at text ∷ slice_split is_separator (drop (at + 1) text)
   cut_at = let high : at < length text = before.high in rw place (slice_split_first is_separator text 0 (rw (sym place) high))
@@ -74,10 +74,10 @@ module _ (text : List ℕ) (at : ℕ) (before : NoneBefore (Passes (is_in separa
 pub uncut : (text : List ℕ) → Nowhere (Passes (is_in separators) text) 0 (length text) → slice_split is_separator text ≡ text ∷ []
 uncut text none =
     let past : length text ≡ position_or_len is_separator text
-        = sym (position_or_len_is is_separator text (length text) 0 (omega arith)
-          (λ k h. sym (separators_are (get_or text k 0)) ∙ fails (is_in separators (get_or text k 0)) (none k (omega arith) h)) (λ h. absurd (omega arith))) in
+    = sym (position_or_len_is is_separator text (length text) 0 (omega arith)
+    (λ k h. sym (separators_are (get_or text k 0)) ∙ fails (is_in separators (get_or text k 0)) (none k (omega arith) h)) (λ h. absurd (omega arith))) in
     slice_split_none is_separator text (All-from_get_or (λ x. is_separator x ≡ false) text 0
-      (λ k h. not_passing (is_separator (get_or text k 0)) (prefix_len_passes (λ x. not (is_separator x)) text k 0 (omega arith))))
+    (λ k h. not_passing (is_separator (get_or text k 0)) (prefix_len_passes (λ x. not (is_separator x)) text k 0 (omega arith))))
 
 -- the rows of one piece, then those of the others
 pub piece_first : (piece : List ℕ) (pieces : List (List ℕ)) → piece_rows (piece ∷ pieces) ≡ piece_rows (piece ∷ []) ++ piece_rows pieces
@@ -89,13 +89,13 @@ module _ (Q : List ℕ → Type 0) (keeps : (text : List ℕ) (at : ℕ) → at 
   by_length zero text within h = absurd (omega (arith, within))
   by_length (suc fuel) text within h = either_way (nat_lt (position_or_len is_separator text) (length text))
       (λ e. let at = position_or_len is_separator text in
-        let here : at < length text = ltb-true at (length text) e in
-        let both = keeps text at here (passes_at_first is_separator text 0 here) h in
-        let left = length-drop (at + 1) text in
-        subst (AllByRecursion Q) (sym (slice_split_first is_separator text 0 here)) (both.0, by_length fuel (drop (at + 1) text) (omega arith) both.1))
+      let here : at < length text = ltb-true at (length text) e in
+      let both = keeps text at here (passes_at_first is_separator text 0 here) h in
+      let left = length-drop (at + 1) text in
+      subst (AllByRecursion Q) (sym (slice_split_first is_separator text 0 here)) (both.0, by_length fuel (drop (at + 1) text) (omega arith) both.1))
       (λ e. let past = ltb-false (position_or_len is_separator text) (length text) e in
-        subst (AllByRecursion Q) (sym (slice_split_none is_separator text (All-from_get_or (λ x. is_separator x ≡ false) text 0
-          (λ k i. fails_before_first is_separator text k 0 (omega arith))))) (h, tt))
+      subst (AllByRecursion Q) (sym (slice_split_none is_separator text (All-from_get_or (λ x. is_separator x ≡ false) text 0
+      (λ k i. fails_before_first is_separator text k 0 (omega arith))))) (h, tt))
 
   pub pieces_each : (text : List ℕ) → Q text → AllByRecursion Q (slice_split is_separator text)
   pieces_each text h = by_length (suc (length text)) text (omega arith) h

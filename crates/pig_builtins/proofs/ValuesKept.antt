@@ -66,7 +66,7 @@ value_keeps = record {
   fields = fields_are;
   bag = λ rows h. bag_is_value rows (rows_from_each rows (each_weaker (AllByRecursion IsValue) IsRow row_from_each rows h));
   rows = λ rows h. tuples_are rows h.1;
-  listed = tuples_are
+  listed = tuples_are;
 }
 
 pub values_kept : (function : Function) (args : List Tree) → IsRow args → IsValue (apply_tree function args)

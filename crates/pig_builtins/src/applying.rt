@@ -34,7 +34,10 @@ pub fn apply(alloc: Global, function: Function, args: &Tuple) -> Result<Value, A
 pub fn is_variadic(function: Function) -> bool
     ensures { result ≡ is_variadic_function function }
 {
-    matches!(function, Function::Concat | Function::ToTuple | Function::ToBag { .. })
+    matches!(
+        function,
+        Function::Concat | Function::ToTuple | Function::ToBag { .. }
+    )
 }
 
 fn apply_variadic(alloc: Global, function: Function, args: &Tuple) -> Result<Value, AllocError>
@@ -120,7 +123,13 @@ fn of_texts(function: Function, a: &Text, b: &Text) -> Value
 }
 
 /// What a function gives of three arguments, which are read in place.
-pub fn apply_three(alloc: Global, function: Function, a: &Value, b: &Value, c: &Value) -> Result<Value, AllocError>
+pub fn apply_three(
+    alloc: Global,
+    function: Function,
+    a: &Value,
+    b: &Value,
+    c: &Value,
+) -> Result<Value, AllocError>
     requires { is_variadic_function function ≡ false }
     ensures { IfOk result (λ v. tree v ≡ apply_tree function (tree a.now ∷ tree b.now ∷ tree c.now ∷ [])) }
 {

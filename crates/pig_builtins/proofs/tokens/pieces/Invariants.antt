@@ -9,7 +9,7 @@ use Rattle.pig_builtins.proofs.tokens.pieces.Given as goal
 abbrev pub invariant-loop-piece : goal.invariant-loop-piece
 invariant-loop-piece l = record {
   so_far : rows_tree l.rows ++ piece_rows (slice_split is_separator l.rest) ≡ piece_rows (slice_split is_separator l.fn.text);
-  utf8 : IsUtf8 l.rest
+  utf8 : IsUtf8 l.rest;
 }
 
 abbrev pub decreases-loop-piece : goal.decreases-loop-piece
