@@ -1,8 +1,8 @@
 -- A function gives null of another number of arguments than it takes.
-use Rattle.std.proofs.Common.{◌≡◌, ℕ, List, [], ◌∷◌, length, refl, ap, ◌∙◌}
-use Rattle.std.specs.Prelude.{true, false}
+use Rattle.std.proofs.Common.{◌≡◌, List, [], ◌∷◌, length, refl}
+use Rattle.std.specs.Prelude.{false}
 use Rattle.pig_value.specs.Functions.{aggregate, apply_tree, abs_tree, size_tree, isempty_tree, tokenize_tree, startswith_tree, endswith_tree, indexof_tree, substring_tree}
-use Rattle.pig_value.specs.Trees.{Tree, v_null, v_chars, v_int, v_bag, v_listed}
+use Rattle.pig_value.specs.Trees.{Tree, v_null, v_chars, v_int, v_bag}
 use Rattle.pig_value.specs.declared.functions.Function.{Function}
 use Rattle.pig_value.specs.declared.functions.Function.TheVariants as f
 use Rattle.pig_builtins.specs.Arities.{is_variadic}

@@ -15,7 +15,6 @@ use Rattle.bstr.specs.Find.{OccursAt, NoneBefore, Nowhere}
 use Rattle.memchr.proofs.lemmas.MatchLemmas.{OccursAt-split, OccursAt-from_part}
 use Rattle.std.proofs.Math.Utf8.{scalar}
 use Rattle.pig_value.specs.Functions.{first_place, substring}
-use Rattle.pig_value.proofs.list_laws.Bags.{either_way}
 
 -- bytes that stand between others
 occurs_between : (xs needle zs : List ℕ) → OccursAt (xs ++ (needle ++ zs)) needle (length xs)

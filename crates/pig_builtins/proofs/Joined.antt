@@ -1,12 +1,12 @@
 -- CONCAT and TOBAG over all arguments.
-use Rattle.std.proofs.Common.{◌≡◌, ◌<◌, ◌≤◌, ℕ, List, [], ◌∷◌, length, map, refl, sym, ap, ◌∙◌, arith}
+use Rattle.std.proofs.Common.{◌≡◌, ◌<◌, ◌≤◌, ℕ, List, [], ◌∷◌, length, refl, sym, ap, ◌∙◌, arith}
 use Rattle.std.specs.Prelude.{Option, Some, None}
 use Rattle.std.specs.List.{concat}
 use Rattle.std.specs.Option.{option_map, option_or}
 use Rattle.pig_value.specs.FieldReader.{all_of}
 use Rattle.pig_value.specs.Functions.{bag_tree, bytes_in, concat_tree, row_from, text_in, tobag_tree}
 use Rattle.pig_value.specs.Orders.{bag_of}
-use Rattle.pig_value.specs.Trees.{Tree, or_null, v_null, v_chars, v_bytes, row_tree, rows_tree, tree}
+use Rattle.pig_value.specs.Trees.{or_null, v_null, v_chars, v_bytes, row_tree, rows_tree, tree}
 use Rattle.pig_value.specs.declared.values.Value.{Value}
 use Rattle.pig_value.specs.declared.values.Value.TheVariants as value
 use Rattle.pig_builtins.proofs.Trees.{bag_made}

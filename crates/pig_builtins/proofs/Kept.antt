@@ -1,6 +1,6 @@
 -- What holds of each argument holds of what a function gives, where it is kept by the few ways in which values are made.
-use Rattle.std.proofs.Common.{◌≡◌, ℕ, zero, suc, List, [], ◌∷◌, refl, sym, ap, ◌∙◌, subst, map}
-use Rattle.std.specs.Prelude.{ℤ, pos, negsuc, Bool, true, false, ⊤, Option, Some, None, slice_get, length, cond, ◌==◌, nat_lt}
+use Rattle.std.proofs.Common.{◌≡◌, ℕ, zero, suc, List, [], ◌∷◌, refl, map}
+use Rattle.std.specs.Prelude.{ℤ, pos, negsuc, Bool, true, false, ⊤, Option, Some, None, length, cond, ◌==◌, nat_lt}
 use Rattle.std.specs.List.{AllByRecursion, concat, filter, filter_map, slice_split}
 use Rattle.std.specs.Option.{option_and_then, option_map, option_or}
 use Rattle.std.specs.Str.{chars, encode_utf8_all}

@@ -1,6 +1,6 @@
 -- A function gives a value of its kind of arguments of the kinds that it takes.
-use Rattle.std.proofs.Common.{◌≡◌, ℕ, zero, suc, List, [], ◌∷◌, length, map, refl, sym, ap, ◌∙◌, subst}
-use Rattle.std.specs.Prelude.{ℤ, Bool, true, false, ◌&&◌, ◌==◌, ⊤, Option, Some, None, cond}
+use Rattle.std.proofs.Common.{◌≡◌, ℕ, List, [], ◌∷◌, length, map, refl, sym, ap, subst}
+use Rattle.std.specs.Prelude.{ℤ, Bool, true, false, ◌==◌, ⊤, Option, Some, None, cond}
 use Rattle.std.specs.List.{AllByRecursion, concat, filter, filter_map, list_all}
 use Rattle.std.specs.Option.{option_map, option_or}
 use Rattle.std.specs.Str.{chars, encode_utf8_all}
@@ -10,9 +10,9 @@ use Rattle.pig_value.specs.FieldReader.{all_of}
 use Rattle.pig_value.specs.FunctionKinds.{function_kind, sum_kind, ranked_kind, concat_kind, tobag_kind}
 use Rattle.pig_value.specs.Functions.{abs_tree, apply_tree, bag_tree, bytes_in, column_tree, concat_tree, endswith_tree, first_found, first_place, indexof_tree, isempty_tree, looked_at, number_of, one_field, place_or_none, row_from, rows_in, size_tree, startswith_tree, substring, substring_tree, sum_found, text_in, tobag_tree, tokenize_tree, tokens, totuple_tree, is_ranked}
 use Rattle.pig_value.specs.Kinds.{IsOf, FieldsOf, TuplesOf, IsRowOf, AreRowsOf, kind_eq}
-use Rattle.pig_value.specs.Orders.{bag_of, dir_cmp}
+use Rattle.pig_value.specs.Orders.{dir_cmp}
 use Rattle.pig_value.specs.Sorts.{sort}
-use Rattle.pig_value.specs.Trees.{Tree, Fields, Tuples, or_null, at, v_null, v_bool, v_int, v_long, v_chars, v_bytes, v_tuple, v_bag, v_listed, v_map, no_fields, more_fields, no_tuples, more_tuples, fields_of, fields_list, tuples_list, tuples_of, KindTree, KindTrees, k_boolean, k_int, k_long, k_chars, k_bytes, k_tuple, k_bag, k_map, no_kinds, more_kinds, kinds_of, kinds_list}
+use Rattle.pig_value.specs.Trees.{Tree, Tuples, or_null, at, v_null, v_bool, v_int, v_long, v_chars, v_bytes, v_tuple, v_bag, v_listed, v_map, no_fields, more_fields, no_tuples, more_tuples, fields_list, tuples_list, KindTree, KindTrees, k_boolean, k_int, k_long, k_chars, k_bytes, k_tuple, k_bag, k_map, no_kinds, more_kinds, kinds_of, kinds_list}
 use Rattle.pig_value.proofs.KindLaws.{kind_same, rows_of_from_each, rows_of_sorted, row_of_nulls}
 use Rattle.pig_value.proofs.TreeLaws.{fields_there}
 use Rattle.pig_value.proofs.list_laws.Bags.{each-sort}

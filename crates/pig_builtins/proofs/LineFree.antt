@@ -1,17 +1,16 @@
 -- A function gives a line-free value of line-free ones.
-use Rattle.std.proofs.Common.{◌≡◌, ◌≢◌, ◌+◌, ◌-◌, ℕ, zero, suc, List, [], ◌∷◌, ◌++◌, length, take, drop, get_or, refl, sym, ap, ◌∙◌, subst, arith}
-use Rattle.std.specs.Prelude.{ℤ, pos, negsuc, Bool, true, false, Option, Some, None, All, min, nat_le, cond}
-use Rattle.std.specs.List.{AllByRecursion, concat, slice_split}
+use Rattle.std.proofs.Common.{◌≡◌, ◌≢◌, ◌+◌, ◌-◌, ℕ, List, [], ◌∷◌, ◌++◌, length, take, drop, sym, ap, ◌∙◌, subst, arith}
+use Rattle.std.specs.Prelude.{ℤ, pos, negsuc, Bool, true, false, Some, None, min, nat_le, cond}
+use Rattle.std.specs.List.{AllByRecursion, concat}
 use Rattle.std.specs.Str.{chars, encode_utf8_all, IsUtf8}
 use Rattle.std.proofs.Math.Seq.{take-append_seam, drop-append_seam}
 use Rattle.std.proofs.lemmas.List.{take-append-drop}
 use Rattle.std.proofs.lemmas.List.Elements.{All-append, All-head, All-tail, All-take, All-drop}
-use Rattle.std.proofs.lemmas.Str.{encodes-append, encodes-chars, IsUtf8-take, IsUtf8-drop}
-use Rattle.pig_value.specs.Functions.{apply_tree, bag_tree, is_separator, substring}
-use Rattle.pig_value.specs.Leaves.{LeavesAre, FieldLeavesAre, TupleLeavesAre}
-use Rattle.pig_value.specs.Orders.{bag_of}
+use Rattle.std.proofs.lemmas.Str.{encodes-append, encodes-chars}
+use Rattle.pig_value.specs.Functions.{apply_tree, substring}
+use Rattle.pig_value.specs.Leaves.{FieldLeavesAre, TupleLeavesAre}
 use Rattle.pig_value.specs.Texts.{HasNoLf, IsLineFree, IsLineFreeRow, line_free}
-use Rattle.pig_value.specs.Trees.{Tree, Fields, Tuples, fields_of, fields_list, tuples_list, tuples_of, v_bag, v_tuple, v_listed, v_bytes, v_chars, no_fields, more_fields, no_tuples, more_tuples}
+use Rattle.pig_value.specs.Trees.{Tree, Fields, Tuples, fields_list, tuples_list, v_bytes, v_chars, no_fields, more_fields, no_tuples, more_tuples}
 use Rattle.pig_value.specs.Leaves.{AreBytes}
 use Rattle.pig_value.specs.Valid.{IsValue, AreFields, AreTuples, IsRow}
 use Rattle.pig_value.proofs.LeafLaws.{fields_from_each, tuples_from_each, rows-sort, RowLeavesAre}

@@ -1,6 +1,6 @@
 -- Numbers that are reduced to the range of a long.
 use Rattle.std.proofs.Common.{◌≡◌, sym, ap, ◌∙◌, refl, arith}
-use Rattle.std.specs.Prelude.{ℕ, suc, ◌<◌, ◌%◌, ◌^◌, ℤ, pos, negsuc, ◌+ℤ◌, unsigned_abs, FitsSigned, List, [], ◌∷◌, ◌++◌}
+use Rattle.std.specs.Prelude.{ℕ, ◌<◌, ◌%◌, ◌^◌, ℤ, pos, negsuc, ◌+ℤ◌, unsigned_abs, FitsSigned, List, [], ◌∷◌, ◌++◌}
 use Rattle.std.specs.Int.{w32, w64, int_wrap, cast_signed}
 use Rattle.std.proofs.Math.Nat.{mod-eq_of_lt}
 use Rattle.std.proofs.lemmas.Int.{int_wrap_fits, int_wrap-add_left, int_wrap-add_right}

@@ -1,24 +1,23 @@
 -- A function gives a value of values.
-use Rattle.std.proofs.Common.{◌≡◌, ◌≢◌, ◌<◌, ◌≤◌, ◌+◌, ◌-◌, ℕ, zero, suc, List, [], ◌∷◌, ◌++◌, length, take, drop, refl, sym, ap, ◌∙◌, subst, arith}
-use Rattle.std.specs.Prelude.{ℤ, pos, negsuc, Bool, true, false, ⊤, Option, Some, None, All, FitsSigned, min, nat_le, cond}
-use Rattle.std.specs.Int.{w32, w64, int_wrap}
+use Rattle.std.proofs.Common.{◌≡◌, ◌<◌, ◌-◌, ℕ, List, [], ◌∷◌, length, take, drop, ap, subst}
+use Rattle.std.specs.Prelude.{ℤ, pos, negsuc, Bool, true, false, Some, None, FitsSigned, min, nat_le, cond}
+use Rattle.std.specs.Int.{w32, w64}
 use Rattle.std.specs.Option.{unwrap_or}
-use Rattle.std.specs.List.{AllByRecursion, concat, slice_split}
-use Rattle.std.specs.Str.{all_scalars, chars, encode_utf8_all, IsUtf8}
+use Rattle.std.specs.List.{AllByRecursion, concat}
+use Rattle.std.specs.Str.{all_scalars, chars, IsUtf8}
 use Rattle.std.proofs.lemmas.Int.{SFits-int_wrap}
-use Rattle.std.proofs.lemmas.Str.{IsUtf8-append, IsUtf8-nil, encodes-append, encodes-chars, scalars-chars}
-use Rattle.std.proofs.lemmas.List.{take-append-drop}
-use Rattle.pig_value.specs.Functions.{apply_tree, bag_tree, is_separator, long_of, substring}
+use Rattle.std.proofs.lemmas.Str.{IsUtf8-append, IsUtf8-nil, scalars-chars}
+use Rattle.pig_value.specs.Functions.{apply_tree, substring}
 use Rattle.pig_value.specs.Leaves.{AreBytes}
-use Rattle.pig_value.specs.Trees.{Tree, Fields, Tuples, fields_of, fields_list, tuples_of, tuples_list, v_bag, v_tuple, v_listed, no_fields, more_fields, no_tuples, more_tuples}
-use Rattle.pig_value.specs.Valid.{IsValue, AreFields, AreTuples, IsRow, AreRows}
+use Rattle.pig_value.specs.Trees.{Tree, Fields, Tuples, fields_list, tuples_list, no_fields, more_fields, no_tuples, more_tuples}
+use Rattle.pig_value.specs.Valid.{IsValue, AreFields, AreTuples, IsRow}
 use Rattle.pig_value.proofs.ValidLaws.{bag_is_value, row_each, row_from_each, rows_from_each}
 use Rattle.pig_value.proofs.list_laws.Listing.{each-append, each_weaker}
 use Rattle.pig_value.specs.declared.functions.Function.{Function}
 use Rattle.pig_builtins.proofs.Characters.{scalars_drop, scalars_take, utf8_from}
 use Rattle.pig_builtins.proofs.Kept.{Keeps, kept}
 use Rattle.pig_builtins.proofs.Sums.{minus_one_is, one_is}
-use Rattle.pig_builtins.proofs.Pieces.{pieces_each, texts_each}
+use Rattle.pig_builtins.proofs.Pieces.{texts_each}
 
 -- fields and rows of values
 fields_are : (vs : Fields) → AreFields vs → AllByRecursion IsValue (fields_list vs)

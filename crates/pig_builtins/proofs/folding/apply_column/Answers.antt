@@ -1,6 +1,5 @@
-use Rattle.std.proofs.Common.{◌≡◌, ap, sym, ◌∙◌, map, take, ◌++◌, [], ◌∷◌, rules}
-use Rattle.pig_value.specs.Functions.{column_found}
-use Rattle.pig_value.specs.Trees.{at, rows_tree, tree}
+use Rattle.std.proofs.Common.{rules}
+use Rattle.pig_value.specs.Trees.{at}
 use Rattle.pig_builtins.proofs.Columns.{next_value}
 use Rattle.pig_builtins.proofs.folding.apply_column.Goals as goal
 

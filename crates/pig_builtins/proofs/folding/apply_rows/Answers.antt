@@ -1,6 +1,5 @@
-use Rattle.std.proofs.Common.{◌≡◌, ap, sym, ◌∙◌, map, take, ◌++◌, [], ◌∷◌, rules}
+use Rattle.std.proofs.Common.{rules}
 use Rattle.pig_value.specs.Functions.{looked_at}
-use Rattle.pig_value.specs.Trees.{rows_tree, tree}
 use Rattle.pig_builtins.proofs.Columns.{next_value}
 use Rattle.pig_builtins.proofs.folding.apply_rows.Goals as goal
 
