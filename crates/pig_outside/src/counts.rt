@@ -27,6 +27,7 @@ impl FaultCounts {
     /// One more failure, of a call that makes no directory. It is Failed, and counted, and want of memory where
     /// the count can't go on.
     pub fn fail(&mut self) -> OutsideError
+        ensures later { all_faults self.old ≤ all_faults self.new }
         ensures failed { result ≡ OutsideError.Failed → all_faults self.old < all_faults self.new }
         ensures memory { result ≡ OutsideError.OutOfMemory → all_faults self.new ≡ all_faults self.old }
         ensures full { result ≡ OutsideError.OutOfMemory → all_faults self.old ≡ count_end }
@@ -41,6 +42,8 @@ impl FaultCounts {
 
     /// The same of a call that makes a directory.
     pub fn fail_store(&mut self) -> OutsideError
+        ensures later { all_faults self.old ≤ all_faults self.new }
+        ensures stores_later { stores_failed self.old ≤ stores_failed self.new }
         ensures failed { result ≡ OutsideError.Failed → all_faults self.old < all_faults self.new }
         ensures memory { result ≡ OutsideError.OutOfMemory → all_faults self.new ≡ all_faults self.old }
         ensures full { result ≡ OutsideError.OutOfMemory → all_faults self.old ≡ count_end }

@@ -1,5 +1,5 @@
 //! Commands by hand, and words that are none.
-use crate::read_words;
+use pig_run::read_words;
 use pig_value::{Text, WordFault, Words};
 use std::alloc::{AllocError, Global};
 use std::test::Fail;
