@@ -27,15 +27,13 @@ mod lists;
 mod operators;
 mod outcomes;
 mod sorting;
-#[cfg(test)]
-mod tests;
 mod texts;
 mod threads;
 mod values;
 
 pub use boxes::Boxed;
 pub use comparing::{order, order_rows, same};
-pub use copying::{copy, copy_kind, copy_row};
+pub use copying::{copy, copy_kind, copy_kinds, copy_row};
 pub use delimiters::{BadDelimiter, Delim};
 pub use functions::Function;
 pub use inputs::{Column, Columns, Input, Inputs};

@@ -1,7 +1,8 @@
 //! Values by hand, in ascending order, against each call.
-use crate::{
-    Blob, Boxed, Kind, Kinds, Pair, Pairs, Rows, Seq, Text, Tuple, Value, bag, copy, copy_kind,
-    is_of, order, order_rows, same, same_kind,
+use pig_value::{
+    Blob, Boxed, Function, Kind, Kinds, Pair, Pairs, Rows, Seq, Text, Tuple, Value, bag, casts_to,
+    copy, copy_kind, copy_kinds, copy_row, field_at, holds_bag_or_map, is_of, kind_depth, kind_width, order,
+    order_rows, same, same_kind,
 };
 use std::alloc::{AllocError, Global};
 use std::cmp::Ordering;
@@ -84,6 +85,13 @@ fn nested(alloc: Global, at: usize) -> Result<Value, AllocError> {
     }
 }
 
+// A tuple of a bag of ints and a map of ints.
+fn deep_kind(alloc: Global) -> Result<Kind, AllocError> {
+    let mut kinds = one_kind(alloc, kind(alloc, b'g')?)?;
+    kinds.push(kind(alloc, b'm')?)?;
+    Ok(Kind::Tuple(copy_kinds(alloc, kinds.as_slice())?))
+}
+
 fn one_kind(alloc: Global, kind: Kind) -> Result<Kinds, AllocError> {
     let mut kinds = Seq::new(alloc);
     kinds.push(kind)?;
@@ -160,8 +168,98 @@ fn bags_are_sorted(rt: HostRuntime) -> Result<(), Fail> {
         let expected = rows(rt.alloc(), after)?;
         assert!(rt; sorted.len() == expected.len(), "{before:?}");
         for (a, b) in sorted.as_slice().iter().zip(expected.as_slice()) {
-            assert!(rt; order_rows(a, b) == Ordering::Equal, "{before:?}");
+            let copied = copy_row(rt.alloc(), a)?;
+            assert!(rt; order_rows(&copied, b) == Ordering::Equal, "{before:?}");
         }
+    }
+    Ok(())
+}
+
+#[test]
+fn kinds_cast(rt: HostRuntime) -> Result<(), Fail> {
+    // The kinds that each kind casts to.
+    let expected: [(u8, &str); 8] = [
+        (b'b', "bc"),
+        (b'i', "ilc"),
+        (b'l', "ilc"),
+        (b'c', "bilc"),
+        (b'y', "bilcytgm"),
+        (b't', "t"),
+        (b'g', "g"),
+        (b'm', "m"),
+    ];
+    for (from, letters) in expected {
+        let kind_from = kind(rt.alloc(), from)?;
+        for to in b"bilcytgm" {
+            let is = letters.as_bytes().contains(to);
+            let kind_to = kind(rt.alloc(), *to)?;
+            assert!(rt; casts_to(&kind_from, &kind_to) == is, "kind {from} to {to}");
+        }
+    }
+    Ok(())
+}
+
+#[test]
+fn kinds_are_measured(rt: HostRuntime) -> Result<(), Fail> {
+    // Each kind's width and depth, and whether it holds a bag or a map; 0 is the deep one.
+    let expected: [(u8, usize, usize, bool); 5] = [
+        (b'i', 1, 1, false),
+        (b't', 2, 2, false),
+        (b'g', 2, 2, true),
+        (b'm', 2, 2, true),
+        (0, 5, 3, true),
+    ];
+    for (letter, width, depth, holds) in expected {
+        let kind = if letter == 0 {
+            deep_kind(rt.alloc())?
+        } else {
+            kind(rt.alloc(), letter)?
+        };
+        assert!(rt; kind_width(&kind) == width, "kind {letter}");
+        assert!(rt; kind_depth(&kind) == depth, "kind {letter}");
+        assert!(rt; holds_bag_or_map(&kind) == holds, "kind {letter}");
+    }
+    Ok(())
+}
+
+#[test]
+fn lists_grow(rt: HostRuntime) -> Result<(), Fail> {
+    let mut row: Tuple = Seq::with_capacity(rt.alloc(), 2)?;
+    row.push(Value::Int(7))?;
+    row.extend(ints(rt.alloc(), &[8, 9])?)?;
+    assert!(rt; row.len() == 3, "pushed and extended");
+    for (place, number) in [(0, 7), (1, 8), (2, 9)] {
+        let found = field_at(&row, place);
+        assert!(rt;
+            found.is_some_and(|v| same(v, &Value::Int(number))),
+            "field {place}"
+        );
+    }
+    assert!(rt; field_at(&row, 3).is_none(), "no field");
+    let mut bytes = Blob::new(rt.alloc());
+    bytes.push(1)?;
+    bytes.extend_from_slice(&[2, 255])?;
+    assert!(rt;
+        bytes.copy(rt.alloc())?.as_slice() == [1, 2, 255].as_slice(),
+        "bytes"
+    );
+    assert!(rt;
+        bytes.get(2) == Some(255) && bytes.get(3).is_none(),
+        "bytes by place"
+    );
+    Ok(())
+}
+
+#[test]
+fn functions_have_names(rt: HostRuntime) -> Result<(), Fail> {
+    let names = "COUNT COUNT_STAR SUM MIN MAX SIZE CONCAT IsEmpty TOKENIZE SUBSTRING STARTSWITH \
+                 ENDSWITH INDEXOF ABS TOTUPLE TOBAG";
+    for name in names.split_ascii_whitespace() {
+        let found = Function::named(name);
+        assert!(rt; found.is_some_and(|f| f.name() == name), "{name}");
+    }
+    for other in ["AVG", "count", "ISEMPTY", ""] {
+        assert!(rt; Function::named(other).is_none(), "{other}");
     }
     Ok(())
 }
