@@ -3,4 +3,8 @@
 #![tactic(auto)]
 
 #[cfg(test)]
+mod files;
+#[cfg(test)]
+mod outside;
+#[cfg(test)]
 mod values;

@@ -20,8 +20,6 @@ mod lookups;
 mod memory_console;
 mod memory_depot;
 mod memory_host;
-#[cfg(test)]
-mod tests;
 
 pub use console::Console;
 pub use contents::{DirState, Directory, Parts, Source, Sources};

@@ -2,7 +2,7 @@ use Rattle.std.proofs.Common.{◌≡◌, ◌∙◌, ◌∷◌, [], List, Some, r
 use Rattle.pig_value.specs.declared.inputs.Input.{Input}
 use Rattle.pig_outside.specs.Shelf.{HasRange}
 use Rattle.pig_outside.specs.Memory.{told_inputs}
-use Rattle.pig_outside.proofs.tests.a_host_reads_a_range.Goals as goal
+use Rattle.pig_base_rows.proofs.outside.a_host_reads_a_range.Goals as goal
 
 -- The input `in` with its one piece `xyz`.
 abbrev one_input : List Input

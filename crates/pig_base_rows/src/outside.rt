@@ -1,7 +1,7 @@
-// What no clause says: that each call succeeds with ample memory, at the devices in memory.
+// Devices in memory: that each call succeeds with ample memory, and those that are to fail.
 ghost use Rattle.std.specs.Prelude.{◌≡◌, ◌∷◌, [], IfOk};
 
-use crate::*;
+use pig_outside::*;
 use pig_value::{Blob, Input, Inputs, Seq, Text};
 use std::alloc::{AllocError, Global};
 use std::test::Fail;

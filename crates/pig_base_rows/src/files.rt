@@ -1,13 +1,10 @@
-// What no clause says of real files: which pieces a folder has, what is read, and which files an output has.
-use crate::files::{FileDepot, FileHost, StdConsole};
+// Devices over files: which pieces a folder has, what is read, which files an output has, and what is a failure.
+use pig_files::{FileDepot, FileHost};
 use pig_outside::{Depot, Host, OutsideError};
-use pig_run::pig_main;
-use pig_value::{Text, Words};
-use std::fs;
-use std::io;
 use std::os::fd::AsRawFd;
 use std::os::unix::fs::symlink;
 use std::test::Fail;
+use std::{fs, io};
 
 #[test]
 fn a_folder_is_an_input_and_an_output(rt: HostRuntime) -> Result<(), Fail> {
@@ -83,13 +80,28 @@ fn what_is_no_file_is_a_failure(rt: HostRuntime) -> Result<(), Fail> {
     symlink(&rt, "nowhere", "left/_a")?;
     symlink(&rt, "/dev/null", "left/.a")?;
     assert!(rt; os::create(b"odd/\xff") >= 0);
-    for path in ["/dev/null", pipe.as_str(), "device", "piped", "dangling", "odd"] {
+    for path in [
+        "/dev/null",
+        pipe.as_str(),
+        "device",
+        "piped",
+        "dangling",
+        "odd",
+    ] {
         assert!(rt; fails(&mut depot, path));
     }
     let left = depot.pieces("left")?.expect(&rt, "the folder");
     assert_eq!(rt; left.len(), 0);
     let mut into = [0; 1];
-    for path in ["/dev/null", pipe.as_str(), "device", "piped", "dangling", "odd", "left"] {
+    for path in [
+        "/dev/null",
+        pipe.as_str(),
+        "device",
+        "piped",
+        "dangling",
+        "odd",
+        "left",
+    ] {
         assert_eq!(rt; host.read(path, 0, 0, &mut into), Err(OutsideError::Failed));
     }
     Ok(())
@@ -112,34 +124,5 @@ fn a_host_lists_a_folder_once(rt: HostRuntime) -> Result<(), Fail> {
     let mut other = FileHost::new(rt.clone()?, alloc);
     other.read("in", 1, 0, &mut into)?;
     assert_eq!(rt; into, [b'b']);
-    Ok(())
-}
-
-#[test]
-fn a_run_over_files_stores_its_lines(rt: HostRuntime) -> Result<(), Fail> {
-    let alloc = rt.alloc();
-    let script =
-        "a = LOAD 'p' AS (k:int, v:chararray);\nb = FILTER a BY k > 4;\nSTORE b INTO 'q';\n";
-    fs::write(&rt, "s", script)?;
-    fs::write(&rt, "p", "1\tx\n5\ty\n\tz\n7\n")?;
-    let mut words = Words::new(alloc);
-    for word in ["run", "s"] {
-        words.push(Text::from_str(alloc, word)?)?;
-    }
-    let mut depot = FileDepot::new(rt.clone()?, alloc);
-    let mut hosts = Vec::new(alloc);
-    hosts.push(FileHost::new(rt.clone()?, alloc))?;
-    let mut console = StdConsole::new(rt.clone()?);
-    let done = pig_main(&rt, alloc, &words, &mut depot, &mut hosts, &mut console);
-    assert_eq!(rt; done.status, 0);
-    assert_eq!(rt;
-        fs::read_to_string(&rt, "q/part-00000")?.as_str(),
-        "5\ty\n7\t\n"
-    );
-    assert_eq!(rt; fs::read_to_string(&rt, "q/_SUCCESS")?.as_str(), "");
-    let mut hosts = Vec::new(alloc);
-    hosts.push(FileHost::new(rt.clone()?, alloc))?;
-    let again = pig_main(&rt, alloc, &words, &mut depot, &mut hosts, &mut console);
-    assert_eq!(rt; again.status, 5);
     Ok(())
 }
