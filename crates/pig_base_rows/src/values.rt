@@ -1,8 +1,8 @@
 //! Values by hand, in ascending order, against each call.
 use pig_value::{
     Blob, Boxed, Function, Kind, Kinds, Pair, Pairs, Rows, Seq, Text, Tuple, Value, bag, casts_to,
-    copy, copy_kind, copy_kinds, copy_row, field_at, holds_bag_or_map, is_of, kind_depth, kind_width, order,
-    order_rows, same, same_kind,
+    copy, copy_kind, copy_kinds, copy_row, field_at, holds_bag_or_map, is_of, kind_depth,
+    kind_width, order, order_rows, same, same_kind,
 };
 use std::alloc::{AllocError, Global};
 use std::cmp::Ordering;

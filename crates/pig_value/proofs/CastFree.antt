@@ -5,7 +5,7 @@ use Rattle.std.proofs.lemmas.List.Elements.{All-cons, All-from_recursion, All-ni
 use Rattle.pig_value.specs.Casts.{cast_of}
 use Rattle.pig_value.specs.Texts.{HasNoLf, IsLineFree, bool_text}
 use Rattle.pig_value.specs.Trees.{Tree, v_bool, v_int, v_long, v_chars, v_bytes, KindTree, k_boolean, k_int, k_long, k_chars, k_bytes, k_tuple, k_bag, k_map}
-use Rattle.pig_cast.proofs.FieldFree.{field_free}
+use Rattle.pig_value.proofs.FieldFree.{field_free}
 
 -- a byte other than LF
 abbrev NotLf : ℕ → Type 0
