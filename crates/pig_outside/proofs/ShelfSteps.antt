@@ -3,7 +3,7 @@ use Rattle.std.proofs.Common.{◌≡◌, ◌∙◌, ◌++◌, ℕ, List, [], ◌
 use Rattle.std.proofs.lemmas.Result.{on_ok_weaker, on_err_weaker}
 use Rattle.pig_outside.specs.declared.contents.Directory.{Directory}
 use Rattle.pig_outside.specs.Shelf.{Shelf, parts_in, with_new, open_state, IsOpen, IsOpenIn, CanCreate, LeftUnmarked}
-use Rattle.pig_outside.specs.ShelfLaws.{set_dir-new, unmarked_as_before}
+use Rattle.pig_outside.proofs.ShelfLaws.{set_dir-new, unmarked_as_before}
 
 -- A shelf with these directories.
 abbrev pub with_dirs : Shelf → List Directory → Shelf

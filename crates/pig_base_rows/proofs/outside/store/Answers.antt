@@ -1,7 +1,7 @@
 use Rattle.std.proofs.Common.{◌≡◌, ◌∙◌, ◌∷◌, [], ap}
 use Rattle.std.specs.Option.{option_map}
 use Rattle.pig_outside.specs.Shelf.{with_dir, with_part, open_state}
-use Rattle.pig_outside.specs.ShelfLaws.{can_put, can_finish, part_added}
+use Rattle.pig_outside.proofs.ShelfLaws.{can_put, can_finish, part_added}
 use Rattle.pig_base_rows.proofs.outside.store.Goals as goal
 
 pub put-requires : goal.put-requires

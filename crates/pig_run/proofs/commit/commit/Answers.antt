@@ -1,7 +1,7 @@
 use Rattle.std.proofs.Common.{rules, ◌≡◌, ◌∷◌, [], sym, ◌∙◌, ap, subst, inr}
 use Rattle.std.specs.Option.{option_map}
 use Rattle.pig_outside.specs.Shelf.{with_dir, with_new, with_part, with_mark, open_state, LeftUnmarked}
-use Rattle.pig_outside.specs.ShelfLaws.{part_added, mark_set, left_unmarked, can_put, can_finish}
+use Rattle.pig_outside.proofs.ShelfLaws.{part_added, mark_set, left_unmarked, can_put, can_finish}
 use Rattle.pig_run.proofs.commit.commit.Goals as goal
 
 pub put-requires : goal.put-requires

@@ -1,7 +1,7 @@
 use Rattle.std.proofs.Common.{◌≡◌, List, ℕ, Some, sym, ◌∙◌, subst, IfOk, IfErr, OnErr}
 use Rattle.std.specs.Option.{ForSome}
 use Rattle.pig_outside.specs.Shelf.{pieces_of}
-use Rattle.pig_outside.specs.ShelfLaws.{can_create}
+use Rattle.pig_outside.proofs.ShelfLaws.{can_create}
 use Rattle.pig_run.specs.declared.outcome.RunFault.TheVariants as fault
 use Rattle.pig_run.specs.Answers.{IsRun, LeftOpen}
 use Rattle.pig_run.specs.Steps.{IsReady}
