@@ -17,7 +17,7 @@ use Rattle.pig_value.specs.Orders.{bag_of}
 use Rattle.pig_value.specs.Texts.{bool_text}
 use Rattle.pig_value.specs.Trees.{Tree, v_null, v_bool, v_int, v_long, v_chars, v_bytes, v_tuple, v_bag, v_map, fields_of, tuples_of, entries_of, KindTree, KindTrees, k_boolean, k_int, k_long, k_chars, k_bytes, k_tuple, k_bag, k_map, no_kinds, more_kinds}
 use Rattle.pig_cast.proofs.Between.{bracketed_gives, bracketed_is, inside_is}
-use Rattle.pig_cast.proofs.NumberText.{number_cases}
+use Rattle.pig_value.proofs.NumberTexts.{number_cases}
 
 -- P holds of exactly what the reader answers
 abbrev pub Reads : {Y : Type 0} → (Y → Type 0) → Option Y → Type 0

@@ -7,10 +7,5 @@ pub mod Balance
 pub mod OnePass
 pub mod Between
 pub mod FieldLaw
-pub mod FieldFree
-mod OfRead
-pub mod FieldKinds
-pub mod CastKinds
-pub mod CastFree
 pub mod TextItems
 pub mod ReadBack

@@ -24,11 +24,12 @@ use Rattle.pig_value.specs.Texts.{bool_text, entry_texts, field_texts, text_of, 
 use Rattle.pig_value.proofs.TreeLaws.{entries_there, fields_there, tuples_there}
 use Rattle.pig_value.specs.Trees.{Tree, Fields, Tuples, Entries, v_null, v_bool, v_int, v_long, v_chars, v_bytes, v_tuple, v_bag, v_listed, v_map, no_fields, more_fields, no_tuples, more_tuples, no_entries, more_entries, fields_of, fields_list, tuples_of, tuples_list, entries_of, entries_list, KindTree, KindTrees, k_boolean, k_int, k_long, k_chars, k_bytes, k_tuple, k_bag, k_map, no_kinds, more_kinds}
 use Rattle.pig_value.specs.Valid.{IsValue, AreFields, AreTuples, AreEntries}
-use Rattle.pig_cast.specs.Plain.{EntriesArePlain, FieldsArePlain, IsPlain, IsPlainField, TuplesArePlain}
-use Rattle.pig_cast.proofs.CastKinds.{int_fits_long}
-use Rattle.pig_cast.proofs.FieldKinds.{KeysAscend, ascends_rest}
+use Rattle.pig_value.specs.Leaves.{EntryLeavesAre, FieldLeavesAre, TupleLeavesAre}
+use Rattle.pig_cast.specs.Plain.{IsPlain, IsPlainField, plain_leaf}
+use Rattle.pig_value.proofs.CastKinds.{int_fits_long}
+use Rattle.pig_value.proofs.FieldKinds.{KeysAscend, ascends_rest}
 use Rattle.pig_cast.proofs.FieldLaw.{cut_there}
-use Rattle.pig_cast.proofs.NumberText.{number_cases}
+use Rattle.pig_value.proofs.NumberTexts.{number_cases}
 use Rattle.pig_cast.proofs.TextItems.{body_there, entry_items, field_items, joined_balanced, joined_items, listed_back, tuple_items}
 
 -- a text that is not empty reads as what its case gives
@@ -107,12 +108,12 @@ entries_some no_entries = tt
 entries_some (more_entries key v ps) = (pair_some key (text_of v), entries_some ps)
 
 -- the fields of a tuple's text
-row_back : (ks : KindTrees) (vs : Fields) → FieldsOf vs ks → AreFields vs → FieldsArePlain vs → fields_in ks (field_texts vs) ≡ fields_list vs → row_in (fields_in ks) (tuple_text (field_texts vs)) ≡ Some (fields_list vs)
+row_back : (ks : KindTrees) (vs : Fields) → FieldsOf vs ks → AreFields vs → FieldLeavesAre plain_leaf vs → fields_in ks (field_texts vs) ≡ fields_list vs → row_in (fields_in ks) (tuple_text (field_texts vs)) ≡ Some (fields_list vs)
 row_back ks vs of is h read =
     let texts : List (List ℕ) = field_texts vs in
     ap (option_map (λ body. fields_in ks (items body))) (body_there 40 41 (join_with_byte 44 texts) (joined_balanced texts (field_items vs is h))) ∙ ap Some (by_form ks vs of is h read)
   where
-    by_form : (ks : KindTrees) (vs : Fields) → FieldsOf vs ks → AreFields vs → FieldsArePlain vs → fields_in ks (field_texts vs) ≡ fields_list vs → fields_in ks (items (join_with_byte 44 (field_texts vs))) ≡ fields_list vs
+    by_form : (ks : KindTrees) (vs : Fields) → FieldsOf vs ks → AreFields vs → FieldLeavesAre plain_leaf vs → fields_in ks (field_texts vs) ≡ fields_list vs → fields_in ks (items (join_with_byte 44 (field_texts vs))) ≡ fields_list vs
     by_form no_kinds no_fields of is h read = refl
     by_form (more_kinds k ks) no_fields of is h read = absurd of
     by_form ks (more_fields v vs) of is h read = ap (fields_in ks) (joined_items (text_of v) (field_texts vs) (field_items (more_fields v vs) is h)) ∙ read
@@ -123,7 +124,7 @@ mutual
   value_back k_boolean (v_bool b) of is h = bool_back b
   value_back k_int (v_int z) of is h = value_there (case_of k_int) (signed_decimal z) (v_int z) (number_text z (int_fits_long z is)).2 (ap (option_map v_int) (number_back w32 z (int_fits_long z is) is))
   value_back k_long (v_long z) of is h = value_there (case_of k_long) (signed_decimal z) (v_long z) (number_text z is).2 (ap (option_map v_long) (number_back w64 z is is))
-  value_back k_chars (v_chars text) of is h = value_there (case_of k_chars) text (v_chars text) h.0 (ap (λ t. Some (v_chars t)) (utf8_lossy-IsUtf8 text h.1))
+  value_back k_chars (v_chars text) of is h = value_there (case_of k_chars) text (v_chars text) h.0 (ap (λ t. Some (v_chars t)) (utf8_lossy-IsUtf8 text is))
   value_back k_bytes (v_bytes bytes) of is h = value_there (case_of k_bytes) bytes (v_bytes bytes) h.0 refl
   value_back (k_tuple ks) (v_tuple vs) of is h =
       ap (λ o. unwrap_or (option_map (λ row. v_tuple (fields_of row)) o) v_null) (row_back ks vs of is h (fields_back ks vs of is h)) ∙ ap v_tuple (fields_there vs)
@@ -131,10 +132,10 @@ mutual
       ap (λ o. unwrap_or (option_map (λ rows. v_bag (tuples_of (bag_of rows))) o) v_null) (listed_back 123 125 (row_in (fields_in ks)) (tuple_texts rs) (tuples_list rs) (tuple_items rs is.1 h) (tuples_some rs) (tuples_back ks rs of is.1 h)) ∙ (ap (λ rows. v_bag (tuples_of rows)) is.0 ∙ ap v_bag (tuples_there rs))
   value_back (k_map k) (v_map ps) of is h =
       ap (λ o. unwrap_or (option_map (λ pairs. v_map (entries_of (entries_by_key pairs))) o) v_null) (listed_back 91 93 (pair_in (value_in (case_of k))) (entry_texts ps) (entries_list ps) (entry_items ps is.1 h) (entries_some ps) (entries_back k ps of is.1 h)) ∙ (ap (λ pairs. v_map (entries_of pairs)) (put_all [] (entries_list ps) is.0) ∙ ap v_map (entries_there ps))
-  value_back k (v_listed rs) of is h = absurd h
+  value_back k (v_listed rs) of is h = absurd h.0
   value_back k v of is h = absurd of
 
-  fields_back : (ks : KindTrees) (vs : Fields) → FieldsOf vs ks → AreFields vs → FieldsArePlain vs → fields_in ks (field_texts vs) ≡ fields_list vs
+  fields_back : (ks : KindTrees) (vs : Fields) → FieldsOf vs ks → AreFields vs → FieldLeavesAre plain_leaf vs → fields_in ks (field_texts vs) ≡ fields_list vs
   fields_back no_kinds no_fields of is h = refl
   fields_back (more_kinds k ks) no_fields of is h = absurd of
   fields_back no_kinds (more_fields v vs) of is h = absurd of
@@ -143,25 +144,25 @@ mutual
       let more = fields_back ks vs of.1 is.1 h.1 in
       λ i. here i ∷ more i
 
-  tuples_back : (ks : KindTrees) (rs : Tuples) → TuplesOf rs ks → AreTuples rs → TuplesArePlain rs → all_of (row_in (fields_in ks)) (tuple_texts rs) ≡ Some (tuples_list rs)
+  tuples_back : (ks : KindTrees) (rs : Tuples) → TuplesOf rs ks → AreTuples rs → TupleLeavesAre plain_leaf rs → all_of (row_in (fields_in ks)) (tuple_texts rs) ≡ Some (tuples_list rs)
   tuples_back ks no_tuples of is h = refl
   tuples_back ks (more_tuples r rs) of is h =
       let rest : Option (List (List Tree)) = all_of (row_in (fields_in ks)) (tuple_texts rs) in
       ap (option_and_then (λ y. option_map (λ ys. y ∷ ys) rest)) (row_back ks r of.0 is.0 h.0 (fields_back ks r of.0 is.0 h.0)) ∙ ap (option_map (λ ys. fields_list r ∷ ys)) (tuples_back ks rs of.1 is.1 h.1)
 
-  entries_back : (k : KindTree) (ps : Entries) → EntriesOf ps k → AreEntries ps → EntriesArePlain ps → all_of (pair_in (value_in (case_of k))) (entry_texts ps) ≡ Some (entries_list ps)
+  entries_back : (k : KindTree) (ps : Entries) → EntriesOf ps k → AreEntries ps → EntryLeavesAre plain_leaf ps → all_of (pair_in (value_in (case_of k))) (entry_texts ps) ≡ Some (entries_list ps)
   entries_back k no_entries of is h = refl
   entries_back k (more_entries key v ps) of is h =
       let f : List ℕ → Option (List ℕ × Tree) = pair_in (value_in (case_of k)) in
       let rest : Option (List (List ℕ × Tree)) = all_of f (entry_texts ps) in
-      let lossy : utf8_lossy key ≡ key = utf8_lossy-IsUtf8 key h.0 in
-      let value : value_in (case_of k) (text_of v) ≡ v = value_back k v of.0 is.0 h.3 in
-      let pair : f (key ++ 35 ∷ text_of v) ≡ Some (key, v) = ap (option_map (λ p. (utf8_lossy p.0, value_in (case_of k) p.1))) (cut_there key (text_of v) h.2) ∙ (λ i. Some (lossy i, value i)) in
-      ap (option_and_then (λ y. option_map (λ ys. y ∷ ys) rest)) pair ∙ ap (option_map (λ ys. (key, v) ∷ ys)) (entries_back k ps of.1 is.1 h.4)
+      let lossy : utf8_lossy key ≡ key = utf8_lossy-IsUtf8 key is.0 in
+      let value : value_in (case_of k) (text_of v) ≡ v = value_back k v of.0 is.1 h.1 in
+      let pair : f (key ++ 35 ∷ text_of v) ≡ Some (key, v) = ap (option_map (λ p. (utf8_lossy p.0, value_in (case_of k) p.1))) (cut_there key (text_of v) h.0.1) ∙ (λ i. Some (lossy i, value i)) in
+      ap (option_and_then (λ y. option_map (λ ys. y ∷ ys) rest)) pair ∙ ap (option_map (λ ys. (key, v) ∷ ys)) (entries_back k ps of.1 is.2 h.2)
 
 -- a field's text and bytes may hold brackets and commas
 pub field_back : (k : KindTree) (v : Tree) → IsOf v k → IsValue v → IsPlainField v → field_value k (text_of v) ≡ v
-field_back k_chars (v_chars text) of is h = value_there (case_of k_chars) text (v_chars text) h.0 (ap (λ t. Some (v_chars t)) (utf8_lossy-IsUtf8 text h.1))
+field_back k_chars (v_chars text) of is h = value_there (case_of k_chars) text (v_chars text) h (ap (λ t. Some (v_chars t)) (utf8_lossy-IsUtf8 text is))
 field_back k_bytes (v_bytes bytes) of is h = value_there (case_of k_bytes) bytes (v_bytes bytes) h refl
 field_back k v_null of is h = refl
 field_back k (v_bool b) of is h = value_back k (v_bool b) of is h
@@ -169,6 +170,6 @@ field_back k (v_int z) of is h = value_back k (v_int z) of is h
 field_back k (v_long z) of is h = value_back k (v_long z) of is h
 field_back k (v_tuple vs) of is h = value_back k (v_tuple vs) of is h
 field_back k (v_bag rs) of is h = value_back k (v_bag rs) of is h
-field_back k (v_listed rs) of is h = absurd h
+field_back k (v_listed rs) of is h = absurd h.0
 field_back k (v_map ps) of is h = value_back k (v_map ps) of is h
 field_back k v of is h = absurd of

@@ -1,5 +1,5 @@
 -- The text of a plain value is one item among others.
-use Rattle.std.proofs.Common.{◌≡◌, ◌≢◌, ◌==◌, ◌&&◌, ◌||◌, ◌+◌, ◌-◌, ◌<◌, ℕ, suc, ℤ, pos, negsuc, FitsSigned, Bool, true, false, cond, List, [], ◌∷◌, ◌++◌, Option, None, Some, if◌then◌else◌, refl, sym, ◌∙◌, ap, subst, arith, rules}
+use Rattle.std.proofs.Common.{◌≡◌, ◌≢◌, ◌==◌, ◌&&◌, ◌||◌, ◌<◌, ℕ, suc, ℤ, pos, negsuc, FitsSigned, Bool, true, false, cond, List, [], ◌∷◌, ◌++◌, Option, None, Some, if◌then◌else◌, refl, sym, ◌∙◌, ap, subst, arith, rules}
 use Rattle.std.specs.Fmt.{decimal, signed_decimal}
 use Rattle.std.specs.Int.{w64}
 use Rattle.std.specs.Char.{digit_value}
@@ -16,10 +16,11 @@ use Rattle.pig_value.specs.FieldReader.{all_of}
 use Rattle.pig_value.specs.Texts.{bool_text, bracketed, entry_texts, field_texts, text_of, tuple_texts}
 use Rattle.pig_value.specs.Trees.{Tree, Fields, Tuples, Entries, v_null, v_bool, v_int, v_long, v_chars, v_bytes, v_tuple, v_bag, v_listed, v_map, no_fields, more_fields, no_tuples, more_tuples, no_entries, more_entries}
 use Rattle.pig_value.specs.Valid.{IsValue, AreFields, AreTuples, AreEntries}
-use Rattle.pig_cast.specs.Plain.{EntriesArePlain, FieldsArePlain, HasNoMark, IsPlain, TuplesArePlain, is_mark}
+use Rattle.pig_value.specs.Leaves.{EntryLeavesAre, FieldLeavesAre, TupleLeavesAre}
+use Rattle.pig_cast.specs.Plain.{HasNoMark, IsPlain, is_mark, plain_leaf}
 use Rattle.pig_cast.proofs.Balance.{closing_closes}
 use Rattle.pig_cast.proofs.Between.{bracketed_is, inside_is}
-use Rattle.pig_cast.proofs.CastKinds.{int_fits_long}
+use Rattle.pig_value.proofs.CastKinds.{int_fits_long}
 use Rattle.pig_cast.proofs.Items.{front_of_none, onto_front}
 use Rattle.pig_cast.proofs.OnePass.{opens_depth, closes_depth, plain_depth}
 
@@ -180,23 +181,23 @@ mutual
   item_of (v_bool b) is h = unmarked_item (bool_text b) (bool_unmarked b)
   item_of (v_int z) is h = unmarked_item (signed_decimal z) (signed_unmarked z (int_fits_long z is))
   item_of (v_long z) is h = unmarked_item (signed_decimal z) (signed_unmarked z is)
-  item_of (v_chars text) is h = unmarked_item text h.2
+  item_of (v_chars text) is h = unmarked_item text h.1
   item_of (v_bytes bytes) is h = unmarked_item bytes h.1
   item_of (v_tuple vs) is h = bracketed_item 40 (join_with_byte 44 (field_texts vs)) refl refl (joined_balanced (field_texts vs) (field_items vs is h))
   item_of (v_bag rs) is h = bracketed_item 123 (join_with_byte 44 (tuple_texts rs)) refl refl (joined_balanced (tuple_texts rs) (tuple_items rs is.1 h))
-  item_of (v_listed rs) is h = absurd h
+  item_of (v_listed rs) is h = absurd h.0
   item_of (v_map ps) is h = bracketed_item 91 (join_with_byte 44 (entry_texts ps)) refl refl (joined_balanced (entry_texts ps) (entry_items ps is.1 h))
 
-  pub field_items : (vs : Fields) → AreFields vs → FieldsArePlain vs → AllByRecursion IsItem (field_texts vs)
+  pub field_items : (vs : Fields) → AreFields vs → FieldLeavesAre plain_leaf vs → AllByRecursion IsItem (field_texts vs)
   field_items no_fields is h = tt
   field_items (more_fields v vs) is h = (item_of v is.0 h.0, field_items vs is.1 h.1)
 
-  pub tuple_items : (rs : Tuples) → AreTuples rs → TuplesArePlain rs → AllByRecursion IsItem (tuple_texts rs)
+  pub tuple_items : (rs : Tuples) → AreTuples rs → TupleLeavesAre plain_leaf rs → AllByRecursion IsItem (tuple_texts rs)
   tuple_items no_tuples is h = tt
   tuple_items (more_tuples r rs) is h = (bracketed_item 40 (join_with_byte 44 (field_texts r)) refl refl (joined_balanced (field_texts r) (field_items r is.0 h.0)), tuple_items rs is.1 h.1)
 
-  pub entry_items : (ps : Entries) → AreEntries ps → EntriesArePlain ps → AllByRecursion IsItem (entry_texts ps)
+  pub entry_items : (ps : Entries) → AreEntries ps → EntryLeavesAre plain_leaf ps → AllByRecursion IsItem (entry_texts ps)
   entry_items no_entries is h = tt
   entry_items (more_entries key v ps) is h =
       let sign : IsItem (35 ∷ []) = unmarked_item (35 ∷ []) (All-cons NoMark 35 [] refl (All-nil NoMark)) in
-      (item_append key (35 ∷ text_of v) (unmarked_item key h.1) (item_append (35 ∷ []) (text_of v) sign (item_of v is.0 h.3)), entry_items ps is.1 h.4)
+      (item_append key (35 ∷ text_of v) (unmarked_item key h.0.0) (item_append (35 ∷ []) (text_of v) sign (item_of v is.1 h.1)), entry_items ps is.2 h.2)

@@ -3,6 +3,7 @@ ghost use Rattle.pig_value.specs.Casts.{CanCast, cast_of};
 ghost use Rattle.pig_value.specs.Fields.{IsField};
 ghost use Rattle.pig_value.specs.FieldReader.{field_value};
 ghost use Rattle.pig_value.specs.Kinds.{IsOf};
+ghost use Rattle.pig_value.specs.Leaves.{AreBytes};
 ghost use Rattle.pig_value.specs.Texts.{HasNoLf, IsLineFree, text_of};
 ghost use Rattle.pig_value.specs.Trees.{Tree, KindTree};
 ghost use Rattle.pig_value.specs.Valid.{IsValue};
@@ -13,11 +14,11 @@ pub fn a_field_has_one_value()
     ensures { (k : KindTree) (bytes : List ℕ) (v : Tree) → (IsField k bytes v ↔ (v ≡ field_value k bytes)) }
 {}
 
-/// What is read is a value, and of the kind that it is read as: a bag is sorted, the keys of a map ascend
-/// and differ, and a number fits its width.
+/// What is read is of the kind that it is read as, and from bytes it is a value: a bag is sorted, the keys of a
+/// map ascend and differ, a number fits its width, and a chararray is UTF-8.
 pub fn fields_are_of_their_kind()
     ensures kind { (k : KindTree) (bytes : List ℕ) → IsOf (field_value k bytes) k }
-    ensures value { (k : KindTree) (bytes : List ℕ) → IsValue (field_value k bytes) }
+    ensures value { (k : KindTree) (bytes : List ℕ) → AreBytes bytes → IsValue (field_value k bytes) }
 {}
 
 /// An allowed cast gives a value of the kind that it casts to, and of a value it gives a value.

@@ -9,3 +9,4 @@ pub mod Walks
 pub mod StoredRows
 pub mod RowKinds
 pub mod RowsBack
+pub mod Starts

@@ -6,8 +6,9 @@ use Rattle.std.specs.Str.Lines.{strip_carriage_return}
 use Rattle.std.proofs.lemmas.Bool.Decides.{Decides-eqb, not_from_Decides}
 use Rattle.std.proofs.lemmas.List.Elements.{All-append, All-cons, All-head, All-map, All-nil, All-tail, All-take, All-weaker}
 use Rattle.pig_value.specs.declared.inputs.Column.{Column}
-use Rattle.pig_cast.proofs.FieldFree.{field_free, onto_first_keeps}
-use Rattle.pig_cast.proofs.CastFree.{signed_free, bool_text_free}
+use Rattle.pig_value.proofs.CastFree.{signed_free, bool_text_free}
+use Rattle.pig_value.proofs.FieldFree.{field_free}
+use Rattle.pig_value.proofs.ReadLaws.{onto_first_keeps}
 use Rattle.pig_value.specs.FieldReader.{field_value}
 use Rattle.pig_value.specs.FieldRows.{column_of, pieces, row_of}
 use Rattle.pig_value.specs.Lines.{is_lf, lines, stored_lines, without_last_empty}
@@ -27,22 +28,26 @@ pub pieces_keep : {X : Type 0} (P : X → Type 0) (p : X → Bool) (xs : List X)
 pieces_keep P p [] all = All-cons (All P) [] [] (All-nil P) (All-nil (All P))
 pieces_keep P p (x ∷ xs) all = pieces_keep_by P x (slice_split p xs) (All-head P x xs all) (pieces_keep P p xs (All-tail P x xs all)) (p x)
 
--- bytes without an LF keep none without their CR
-stripped_free : (bs : List ℕ) → HasNoLf bs → HasNoLf (strip_carriage_return bs)
-stripped_free bs free = by_test (slice_index bs (length bs - 1) == 13)
-  where
-    by_test : (b : Bool) → HasNoLf (cond b (take (length bs - 1) bs) bs)
-    by_test true = All-take NotLf (length bs - 1) bs free
-    by_test false = free
+-- what holds of each byte of the pieces holds of each byte of the lines that they are
+module _ (G : ℕ → Type 0) where
+  stripped_keeps : (bs : List ℕ) → All G bs → All G (strip_carriage_return bs)
+  stripped_keeps bs all = by_test (slice_index bs (length bs - 1) == 13)
+    where
+      by_test : (b : Bool) → All G (cond b (take (length bs - 1) bs) bs)
+      by_test true = All-take G (length bs - 1) bs all
+      by_test false = all
 
-all_stripped_free : (ls : List (List ℕ)) → All HasNoLf ls → All HasNoLf (map strip_carriage_return ls)
-all_stripped_free ls free = All-map HasNoLf strip_carriage_return ls (All-weaker HasNoLf (λ l. HasNoLf (strip_carriage_return l)) stripped_free ls free)
+  all_stripped_keep : (ls : List (List ℕ)) → All (All G) ls → All (All G) (map strip_carriage_return ls)
+  all_stripped_keep ls all = All-map (All G) strip_carriage_return ls (All-weaker (All G) (λ l. All G (strip_carriage_return l)) stripped_keeps ls all)
 
-without_last_free : (ls : List (List ℕ)) → All HasNoLf ls → All HasNoLf (without_last_empty ls)
-without_last_free [] free = free
-without_last_free ([] ∷ []) free = All-nil HasNoLf
-without_last_free ((b ∷ bs) ∷ []) free = free
-without_last_free (l ∷ next ∷ more) free = All-cons HasNoLf l (without_last_empty (next ∷ more)) (All-head HasNoLf l (next ∷ more) free) (without_last_free (next ∷ more) (All-tail HasNoLf l (next ∷ more) free))
+  without_last_keeps : (ls : List (List ℕ)) → All (All G) ls → All (All G) (without_last_empty ls)
+  without_last_keeps [] all = all
+  without_last_keeps ([] ∷ []) all = All-nil (All G)
+  without_last_keeps ((b ∷ bs) ∷ []) all = all
+  without_last_keeps (l ∷ next ∷ more) all = All-cons (All G) l (without_last_empty (next ∷ more)) (All-head (All G) l (next ∷ more) all) (without_last_keeps (next ∷ more) (All-tail (All G) l (next ∷ more) all))
+
+  pub lines_keep : (bs : List ℕ) → All G bs → All (All G) (lines bs)
+  lines_keep bs all = all_stripped_keep (stored_lines bs) (without_last_keeps (slice_split is_lf bs) (pieces_keep G is_lf bs all))
 
 -- a cut at each LF leaves none
 cut_free_by : (b : ℕ) (parts : List (List ℕ)) → All HasNoLf parts → (t : Bool) → is_lf b ≡ t → All HasNoLf (cond t ([] ∷ parts) (onto_first b parts))
@@ -55,10 +60,10 @@ cut_free (b ∷ bs) = cut_free_by b (slice_split is_lf bs) (cut_free bs) (is_lf 
 
 -- no line holds an LF
 pub stored_lines_free : (bs : List ℕ) → All HasNoLf (stored_lines bs)
-stored_lines_free bs = without_last_free (slice_split is_lf bs) (cut_free bs)
+stored_lines_free bs = without_last_keeps NotLf (slice_split is_lf bs) (cut_free bs)
 
 pub lines_free : (bs : List ℕ) → All HasNoLf (lines bs)
-lines_free bs = all_stripped_free (stored_lines bs) (stored_lines_free bs)
+lines_free bs = all_stripped_keep NotLf (stored_lines bs) (stored_lines_free bs)
 
 -- what is read from a line without an LF holds none
 column_free : (k : KindTree) (fields : List (List ℕ)) (i : ℕ) → All HasNoLf fields → IsLineFree (option_map_or (field_value k) (slice_get fields i) v_null)
@@ -103,7 +108,7 @@ mutual
   text_free (v_bytes bytes) free = free
   text_free (v_tuple vs) free = tuple_free (field_texts vs) (fields_free vs free)
   text_free (v_bag rs) free = bracketed_free 123 125 (λ e. omega arith) (λ e. omega arith) (tuple_texts rs) (tuples_free rs free)
-  text_free (v_listed rs) free = bracketed_free 123 125 (λ e. omega arith) (λ e. omega arith) (tuple_texts rs) (tuples_free rs free)
+  text_free (v_listed rs) free = bracketed_free 123 125 (λ e. omega arith) (λ e. omega arith) (tuple_texts rs) (tuples_free rs free.1)
   text_free (v_map ps) free = bracketed_free 91 93 (λ e. omega arith) (λ e. omega arith) (entry_texts ps) (entries_free ps free)
 
   fields_free : (vs : Fields) → FieldsAreLineFree vs → All HasNoLf (field_texts vs)

@@ -1,21 +1,34 @@
-ghost use Rattle.std.specs.Prelude.{◌≡◌, ◌≢◌, ◌++◌, [], ◌∷◌, ℕ, List, Some, map, All};
+ghost use Rattle.std.specs.Prelude.{◌≡◌, ◌≢◌, ◌≤◌, ◌++◌, [], ◌∷◌, ℕ, List, Some, length, map, All};
 ghost use Rattle.pig_value.specs.declared.inputs.Column.{Column};
 ghost use Rattle.pig_value.specs.Delimiters.{IsDelimiter, delimiter_of};
 ghost use Rattle.pig_value.specs.FieldRows.{row_of};
 ghost use Rattle.pig_value.specs.Kinds.{IsRowOf};
-ghost use Rattle.pig_value.specs.Lines.{lines, stored_lines};
+ghost use Rattle.pig_value.specs.Leaves.{AreBytes};
+ghost use Rattle.pig_value.specs.Lines.{lines, lines_within, stored_lines};
 ghost use Rattle.pig_value.specs.Stored.{StoresList, StoresBag};
 ghost use Rattle.pig_value.specs.Texts.{HasNoLf, AreLineFreeRows, row_text, rows_text};
 ghost use Rattle.pig_value.specs.Trees.{Tree, kind_tree};
-ghost use Rattle.pig_value.specs.Valid.{IsRow};
+ghost use Rattle.pig_value.specs.Valid.{IsRow, AreRows};
 ghost use Rattle.pig_storage.specs.ReadBack.{StandInTurn, IsPlainRow, IsPlainLine};
 
-/// The row of a line is a row of values, as many as there are columns and each of its column's kind.
+/// The row of a line has as many fields as there are columns, each of its column's kind. Where the bytes are
+/// bytes, it is a row of values, and so are the rows of an input.
 pub fn rows_are_of_their_kinds()
     ensures kinds { (columns : List Column) (delimiter : ℕ) (line : List ℕ) →
         IsRowOf (row_of columns delimiter line) (map (λ column. kind_tree column.kind) columns) }
-    ensures values { (columns : List Column) (delimiter : ℕ) (line : List ℕ) →
+    ensures values { (columns : List Column) (delimiter : ℕ) (line : List ℕ) → AreBytes line →
         IsRow (row_of columns delimiter line) }
+    ensures rows { (columns : List Column) (delimiter : ℕ) (bytes : List ℕ) → AreBytes bytes →
+        AreRows (map (row_of columns delimiter) (lines bytes)) }
+{}
+
+/// The lines that start in two ranges, one behind the other, are those that start in the whole; and all lines
+/// start within the bytes. So the lines that start in ranges that follow each other from 0 to the end are, in
+/// order, all lines.
+pub fn lines_start_in_ranges()
+    ensures parts { (from between to : ℕ) (bytes : List ℕ) → from ≤ between → between ≤ to →
+        lines_within from between bytes ++ lines_within between to bytes ≡ lines_within from to bytes }
+    ensures whole { (to : ℕ) (bytes : List ℕ) → length bytes ≤ to → lines_within 0 to bytes ≡ lines bytes }
 {}
 
 /// No line of an input holds an LF, and no value that is read from a line does. So the text of a row that is

@@ -114,7 +114,10 @@ fn field_or_null(alloc: Global, bytes: Option<&[u8]>, kind: &Kind) -> Result<Val
     ensures { IfOk result (λ v. tree v ≡ option_map_or (field_value (kind_tree kind.now)) (option_copied bytes.entry) v_null) }
 {
     match bytes {
-        Some(bytes) => read_field(alloc, bytes, kind),
+        Some(bytes) => {
+            let value = read_field(alloc, bytes, kind)?;
+            Ok(value)
+        }
         None => Ok(Value::Null),
     }
 }

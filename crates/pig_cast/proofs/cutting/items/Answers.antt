@@ -1,5 +1,5 @@
 -- One byte more: a bracket that opens, one that closes, a comma outside all brackets, or another.
-use Rattle.std.proofs.Common.{◌≡◌, ◌+◌, ◌++◌, [], length, map, drop, refl, sym, ◌∙◌, ap, arith}
+use Rattle.std.proofs.Common.{◌+◌, ◌++◌, [], length, map, drop, refl, sym, ◌∙◌, ap, arith}
 use Rattle.pig_value.specs.Brackets.{closes, items_at}
 use Rattle.pig_cast.proofs.Items.{begins, item_ends, last_ends, onto_front}
 use Rattle.pig_cast.proofs.OnePass.{all_found, at_the_end, closed, none_found, opened, passed, separated, unbalanced}

@@ -1,4 +1,4 @@
-use Rattle.pig_cast.proofs.CastKinds.{cast_of_kind, cast_is_value}
+use Rattle.pig_value.proofs.CastKinds.{cast_of_kind, cast_is_value}
 use Rattle.pig_cast.proofs.laws.casts_are_of_their_kind.Goals as goal
 
 pub returns-clause-kind : goal.returns-clause-kind

@@ -1,4 +1,4 @@
-use Rattle.pig_cast.proofs.FieldKinds.{field_of_kind, field_is_value}
+use Rattle.pig_value.proofs.FieldKinds.{field_of_kind, field_is_value}
 use Rattle.pig_cast.proofs.laws.fields_are_of_their_kind.Goals as goal
 
 pub returns-clause-kind : goal.returns-clause-kind

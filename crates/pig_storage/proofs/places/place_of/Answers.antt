@@ -1,5 +1,4 @@
 -- Where the byte stands, or none does.
-use Rattle.std.proofs.Common.{◌∙◌, sym}
 use Rattle.pig_storage.proofs.Cuts.{place_found, place_none}
 use Rattle.pig_storage.proofs.places.place_of.Goals as goal
 
