@@ -17,3 +17,4 @@ pub mod LineFree
 pub mod CutLaws
 pub mod CutSteps
 pub mod Totals
+pub mod ExprTreeLaws
