@@ -1,9 +1,8 @@
 -- What the plain tree of each form is.
 use Rattle.std.specs.Prelude.{◌≡◌, ℕ, ℤ, Bool, List, [], ◌∷◌, map, Option, Some, None, refl}
-use Rattle.std.specs.Option.{option_map}
 use Rattle.std.proofs.Common.{ap, sym, ◌∙◌}
-use Rattle.pig_value.specs.declared.shared.ChainOp.{ChainOp}
-use Rattle.pig_value.specs.declared.shared.Rel.{Rel}
+use Rattle.pig_value.specs.declared.operators.ChainOp.{ChainOp}
+use Rattle.pig_value.specs.declared.operators.Rel.{Rel}
 use Rattle.pig_syntax.specs.declared.trees.Expr.{Expr}
 use Rattle.pig_syntax.specs.declared.trees.Expr.TheOpen.{Expr-F}
 use Rattle.pig_syntax.specs.declared.trees.Expr.TheFolds.{fold-roll-Expr, fold_out-Link}
@@ -99,5 +98,8 @@ form-Map values = ap type_form (sym (type.rolls-Map (Some values))) ∙ fold-rol
 pub form-MapBare : type_form (type.Map None) ≡ t_map_bare
 form-MapBare = ap type_form (sym (type.rolls-Map None)) ∙ fold-roll-TypeTree TypeForm (List ℕ × Option TypeForm) type_step field_step (TypeTree-F.Map None)
 
-pub field_is : (field : FieldTree) → field_form field ≡ (field.name, option_map type_form field.kind)
-field_is field = fold_out-FieldTree TypeForm (List ℕ × Option TypeForm) type_step field_step field
+pub field_typed : (name : List ℕ) (type : TypeTree) → field_form (record { name = name; kind = Some type }) ≡ (name, Some (type_form type))
+field_typed name type = fold_out-FieldTree TypeForm (List ℕ × Option TypeForm) type_step field_step (record { name = name; kind = Some type })
+
+pub field_bare : (name : List ℕ) → field_form (record { name = name; kind = None }) ≡ (name, None)
+field_bare name = fold_out-FieldTree TypeForm (List ℕ × Option TypeForm) type_step field_step (record { name = name; kind = None })

@@ -1,7 +1,7 @@
 -- Expressions and written types as plain trees, by whose cases rules and laws may go.
 use Rattle.std.specs.Prelude.{ℕ, ℤ, Bool, List, [], ◌∷◌, Option, Some, None}
-use Rattle.pig_value.specs.declared.shared.ChainOp.{ChainOp}
-use Rattle.pig_value.specs.declared.shared.Rel.{Rel}
+use Rattle.pig_value.specs.declared.operators.ChainOp.{ChainOp}
+use Rattle.pig_value.specs.declared.operators.Rel.{Rel}
 use Rattle.pig_syntax.specs.declared.trees.Expr.{Expr}
 use Rattle.pig_syntax.specs.declared.trees.Expr.TheOpen.{Expr-F, Link-F}
 use Rattle.pig_syntax.specs.declared.trees.Expr.TheFolds.{fold-Expr, fold-Link}

@@ -1,8 +1,8 @@
 -- Trees as the grammar gives them, said of the trees alone: no text holds an LF; a selection is a projection; a projection has a field,
 -- and one alone where it is single; the links of a chain come from one rule; and lists are as long as their rule makes them.
 use Rattle.std.specs.Prelude.{◌≡◌, ◌≤◌, ℕ, Bool, true, List, [], ◌∷◌, length, map, Option, Some, None, All, IfSome, IsTrue}
-use Rattle.pig_value.specs.declared.shared.ChainOp.{ChainOp}
-use Rattle.pig_value.specs.declared.shared.ChainOp.TheVariants as op
+use Rattle.pig_value.specs.declared.operators.ChainOp.{ChainOp}
+use Rattle.pig_value.specs.declared.operators.ChainOp.TheVariants as op
 use Rattle.pig_value.specs.Texts.{HasNoLf}
 use Rattle.pig_syntax.specs.declared.trees.AsNames.{AsNames}
 use Rattle.pig_syntax.specs.declared.trees.AsNames.TheVariants as named
