@@ -8,7 +8,7 @@ use Rattle.pig_syntax.specs.declared.cutting.Piece.{Piece}
 use Rattle.pig_syntax.specs.declared.tokens.Token.{Token}
 use Rattle.pig_syntax.specs.declared.trees.Stmt.{Stmt}
 use Rattle.pig_syntax.specs.Cutting.{is_semicolon, piece_of}
-use Rattle.pig_parser.specs.Reader.{forms}
+use Rattle.pig_exprs.specs.Reader.{forms}
 use Rattle.pig_parser.specs.StatementReader.{statement_at}
 use Rattle.pig_parser.specs.Parsing.{AreTrees, no_trees, trees, HasNoTree, IsFirstOff, IsShallow, IsTreeOf}
 use Rattle.pig_parser.proofs.Depths.{fits_depth}

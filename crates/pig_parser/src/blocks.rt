@@ -1,6 +1,6 @@
 ghost use Rattle.std.specs.Prelude.{◌≡◌, [], ◌∷◌, length, map};
-ghost use Rattle.pig_parser.specs.Grammar.{Forms};
-ghost use Rattle.pig_parser.specs.Reader.{forms, Gives};
+ghost use Rattle.pig_exprs.specs.Grammar.{Forms};
+ghost use Rattle.pig_exprs.specs.Reader.{forms, Gives};
 ghost use Rattle.pig_parser.specs.StatementReader.{names_at, naming_at, flattened_at, value_at, item_at, bag_selection_at, bag_ref_at, nested_filter_at, nested_order_at, nested_limit_at, nested_at, step_turn, steps_at};
 
 use crate::exprs::MOST_NESTED;

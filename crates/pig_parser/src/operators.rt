@@ -1,8 +1,8 @@
 ghost use Rattle.std.specs.Prelude.{◌≡◌, [], ◌∷◌, Some, IfOk, length, map};
 ghost use Rattle.pig_syntax.specs.declared.tokens.TokenForm.TheVariants as f;
-ghost use Rattle.pig_parser.specs.Grammar.{Forms};
+ghost use Rattle.pig_exprs.specs.Grammar.{Forms};
 ghost use Rattle.pig_parser.specs.Statements.{side_of};
-ghost use Rattle.pig_parser.specs.Reader.{forms, Gives, Leaves};
+ghost use Rattle.pig_exprs.specs.Reader.{forms, Gives, Leaves};
 ghost use Rattle.pig_parser.specs.StatementReader.{generate_word, block_end, inner_at, group_input_at, join_input_at, after_outer, side_at, on_schema_at, load_at, filter_at, block_at, foreach_at, groups_at, group_at, join_at, union_at, distinct_at, order_at, limit_at, op_at};
 
 use crate::blocks::{ItemRule, steps};

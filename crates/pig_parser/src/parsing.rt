@@ -4,7 +4,7 @@ ghost use Rattle.pig_syntax.specs.declared.cutting.Piece.{Piece};
 ghost use Rattle.pig_syntax.specs.declared.tokens.Token.{Token};
 ghost use Rattle.pig_syntax.specs.declared.trees.Stmt.{Stmt};
 ghost use Rattle.pig_syntax.specs.Cutting.{is_semicolon, IsWithin, AreStatements};
-ghost use Rattle.pig_parser.specs.Grammar.{Forms};
+ghost use Rattle.pig_exprs.specs.Grammar.{Forms};
 ghost use Rattle.pig_parser.specs.Statements.{IsStatement};
 ghost use Rattle.pig_parser.specs.Parsing.{AreTrees, IsFirstOff, IsSyntaxFault, IsShallow, GivesTree};
 

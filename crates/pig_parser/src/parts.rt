@@ -1,8 +1,8 @@
 ghost use Rattle.std.specs.Prelude.{◌≡◌, [], ◌∷◌, Some, IfOk, length, map, option_map};
-ghost use Rattle.pig_parser.specs.Grammar.{Forms};
+ghost use Rattle.pig_exprs.specs.Grammar.{Forms};
 ghost use Rattle.pig_parser.specs.Statements.{count_of};
-ghost use Rattle.pig_parser.specs.Reader.{forms, Gives, Leaves};
-ghost use Rattle.pig_parser.specs.ExprReader.{expr_at};
+ghost use Rattle.pig_exprs.specs.Reader.{forms, Gives, Leaves};
+ghost use Rattle.pig_exprs.specs.ExprReader.{expr_at};
 ghost use Rattle.pig_parser.specs.StatementReader.{Tells, comma, semicolon, as_word, by_word, several, key_list_at, keys_at, dir_at, order_field_at, order_keys_at, text_at, ident_at, func_at, using_func_at, using_text_at, after_parallel, count_at};
 
 use crate::exprs::{MOST_NESTED, expr};

@@ -1,7 +1,7 @@
 ghost use Rattle.std.specs.Prelude.{◌≡◌, [], ◌∷◌, Some, length, map};
-ghost use Rattle.pig_parser.specs.Grammar.{Forms};
+ghost use Rattle.pig_exprs.specs.Grammar.{Forms};
 ghost use Rattle.pig_parser.specs.Statements.{is_unsupported_word};
-ghost use Rattle.pig_parser.specs.Reader.{forms, Gives};
+ghost use Rattle.pig_exprs.specs.Reader.{forms, Gives};
 ghost use Rattle.pig_parser.specs.StatementReader.{Tells, branch_with, branch_at, branch_turn, branches_at, otherwise_at, split_at, store_at, is_unsupported, assign_at, front_at, ended, statement_at};
 
 use crate::operators::operator;
