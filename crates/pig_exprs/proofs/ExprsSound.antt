@@ -193,6 +193,3 @@ pub expr_upholds : (most depth : ℕ) → Upholds (expr_at most depth) (Reads ex
 unfolding expr_at
 expr_upholds most zero ts = Holds.nothing
 expr_upholds most (suc depth) ts = expr_with_upholds most (expr_at most depth) (expr_upholds most depth) ts
-
-pub expr_sound : (most depth : ℕ) → IsSound (expr_at most depth) (Reads expr)
-expr_sound most depth = sound (expr_at most depth) (Reads expr) (expr_upholds most depth)

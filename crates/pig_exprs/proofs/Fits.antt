@@ -27,8 +27,3 @@ pub fits_length : (ts : Forms) (d : ℕ) → length ts ≤ d → Fits ts d
 unfolding Fits
 fits_length [] d h = tt
 fits_length (t ∷ ts) d h = fits_behind (opens_bracket t) (closes_bracket t) (Fits ts) (length ts) d (λ n i. fits_length ts n i) h
-
--- a token that is no bracket leaves the budget as it is
-pub fits_plain : (t : TokenForm) (ts : Forms) (d : ℕ) → opens_bracket t ≡ false → closes_bracket t ≡ false → Fits (t ∷ ts) d → Fits ts d
-unfolding Fits
-fits_plain t ts d opens closes fits = rw (opens, closes) at fits

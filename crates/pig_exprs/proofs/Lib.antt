@@ -1,3 +1,4 @@
+pub mod ExprsFormed
 pub mod ExprsFound
 pub mod ExprsSound
 pub mod Finds

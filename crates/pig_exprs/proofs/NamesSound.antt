@@ -51,12 +51,3 @@ selection_upholds (f.Symbol s.OpenParen ∷ ts) =
     holds_then _ (listed_upholds field_ref_at IsFieldRef field_ref_upholds ts) (λ fields rs.
     holds_then _ (closes (Listed IsFieldRef ts fields.0) fields.1 rs) (λ rest rs. Holds.just (IsSelection.several rs)))
 selection_upholds ts = holds_map _ (field_ref_upholds ts) (λ p r. IsSelection.one r)
-
-pub name_sound : IsSound name_at IsName
-name_sound = sound name_at IsName name_upholds
-
-pub field_ref_sound : IsSound field_ref_at IsFieldRef
-field_ref_sound = sound field_ref_at IsFieldRef field_ref_upholds
-
-pub selection_sound : IsSound selection_at IsSelection
-selection_sound = sound selection_at IsSelection selection_upholds

@@ -93,12 +93,3 @@ pub type_upholds : (depth : ℕ) → Upholds (type_at depth) IsType
 unfolding type_at
 type_upholds zero ts = Holds.nothing
 type_upholds (suc depth) ts = type_with_upholds (type_at depth) (type_upholds depth) ts
-
-pub type_sound : (depth : ℕ) → IsSound (type_at depth) IsType
-type_sound depth = sound (type_at depth) IsType (type_upholds depth)
-
-pub cast_type_sound : (depth : ℕ) → IsSound (cast_type_with (type_at depth)) IsCastType
-cast_type_sound depth = sound (cast_type_with (type_at depth)) IsCastType (cast_type_upholds (type_at depth) (type_upholds depth))
-
-pub schema_sound : (depth : ℕ) → IsSound (schema_at (type_at depth)) IsSchema
-schema_sound depth = sound (schema_at (type_at depth)) IsSchema (schema_upholds (type_at depth) (type_upholds depth))

@@ -316,9 +316,9 @@ impl<R: Rule<Tree = TypeTree>> TypeRules<R> {
     }
 }
 
-/// A type whose brackets nest less deep than `depth`.
+// A type whose brackets nest less deep than `depth`.
 #[tactic(auto, unfolding(crate::specs::Reader::type_at))]
-pub fn type_tree(
+fn type_tree(
     alloc: Global,
     tokens: &[Token],
     depth: u32,

@@ -18,3 +18,4 @@ pub mod CutLaws
 pub mod CutSteps
 pub mod Totals
 pub mod ExprTreeLaws
+mod FormedSamples

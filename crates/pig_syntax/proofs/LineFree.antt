@@ -66,7 +66,7 @@ both true b h = (refl, h)
 both false b h = absurd (cc)
 
 -- bytes that pass a test which an LF does not
-no_lf : (passes : ℕ → Bool) → passes 10 ≡ false → (bs : List ℕ) → list_all passes bs ≡ true → HasNoLf bs
+pub no_lf : (passes : ℕ → Bool) → passes 10 ≡ false → (bs : List ℕ) → list_all passes bs ≡ true → HasNoLf bs
 no_lf passes out [] h = All-nil (λ b. b ≢ 10)
 no_lf passes out (b ∷ bs) h =
     let split : (passes b ≡ true) × (list_all passes bs ≡ true) = both (passes b) (list_all passes bs) h in
