@@ -18,13 +18,13 @@ same_byte : (b : ℕ) → (b == b) ≡ true
 same_byte b = (Decides-eqb b b).1 refl
 
 -- what one byte leaves wanted
-plain_byte : (b : ℕ) (bs wanted : List ℕ) → is_opening b ≡ false → is_closing b ≡ false → closes (b ∷ bs) wanted ≡ closes bs wanted
+pub plain_byte : (b : ℕ) (bs wanted : List ℕ) → is_opening b ≡ false → is_closing b ≡ false → closes (b ∷ bs) wanted ≡ closes bs wanted
 plain_byte b bs wanted o c = ap (λ t. cond t (closes bs (closing_of b ∷ wanted)) (cond (is_closing b) (takes b (closes bs) wanted) (closes bs wanted))) o ∙ ap (λ t. cond t (takes b (closes bs) wanted) (closes bs wanted)) c
 
-opening_byte : (b : ℕ) (bs wanted : List ℕ) → is_opening b ≡ true → closes (b ∷ bs) wanted ≡ closes bs (closing_of b ∷ wanted)
+pub opening_byte : (b : ℕ) (bs wanted : List ℕ) → is_opening b ≡ true → closes (b ∷ bs) wanted ≡ closes bs (closing_of b ∷ wanted)
 opening_byte b bs wanted o = ap (λ t. cond t (closes bs (closing_of b ∷ wanted)) (cond (is_closing b) (takes b (closes bs) wanted) (closes bs wanted))) o
 
-closing_byte : (b : ℕ) (bs wanted : List ℕ) → is_opening b ≡ false → is_closing b ≡ true → closes (b ∷ bs) wanted ≡ takes b (closes bs) wanted
+pub closing_byte : (b : ℕ) (bs wanted : List ℕ) → is_opening b ≡ false → is_closing b ≡ true → closes (b ∷ bs) wanted ≡ takes b (closes bs) wanted
 closing_byte b bs wanted o c = ap (λ t. cond t (closes bs (closing_of b ∷ wanted)) (cond (is_closing b) (takes b (closes bs) wanted) (closes bs wanted))) o ∙ ap (λ t. cond t (takes b (closes bs) wanted) (closes bs wanted)) c
 
 wanted_byte : (b : ℕ) (bs wanted : List ℕ) → closes (closing_of b ∷ bs) (closing_of b ∷ wanted) ≡ closes bs wanted

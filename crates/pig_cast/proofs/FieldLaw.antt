@@ -223,5 +223,5 @@ mutual
     (λ e. (value_in (case_of k) text, fields_in ks texts, e, (value_reads (IsCase k) (case_of k) (case_reads k) text (value_in (case_of k) text)).1 refl, (fields_read ks texts (fields_in ks texts)).1 refl)),
   )
 
-pub field_value : (k : KindTree) (bs : List ℕ) (v : Tree) → (IsField k bs v ↔ (v ≡ field_value k bs))
-field_value k bs v = value_reads (IsCase k) (case_of k) (case_reads k) bs v
+pub one_value : (k : KindTree) (bs : List ℕ) (v : Tree) → (IsField k bs v ↔ (v ≡ field_value k bs))
+one_value k bs v = value_reads (IsCase k) (case_of k) (case_reads k) bs v

@@ -3,7 +3,7 @@ use Rattle.std.proofs.Common.{◌≡◌, ◌+◌, ◌-◌, ◌<◌, ◌≤◌, �
 use Rattle.std.specs.List.{onto_first, slice_index, slice_range}
 use Rattle.std.specs.Option.{option_map}
 use Rattle.std.proofs.lemmas.List.{append_assoc, append-nil, drop_all, drop_more, get_or-drop, length-drop, map-append, take_more}
-use Rattle.memchr.specs.Find.{NoneBefore, Nowhere, Passes, is_byte}
+use Rattle.bstr.specs.Find.{NoneBefore, Nowhere, Passes, is_byte}
 use Rattle.pig_value.specs.Brackets.{depth_after, is_separator, items_at}
 use Rattle.pig_value.specs.FieldReader.{cut_at}
 

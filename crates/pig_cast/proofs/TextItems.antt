@@ -21,6 +21,7 @@ use Rattle.pig_cast.proofs.Balance.{closing_closes}
 use Rattle.pig_cast.proofs.Between.{bracketed_is, inside_is}
 use Rattle.pig_cast.proofs.CastKinds.{int_fits_long}
 use Rattle.pig_cast.proofs.Items.{front_of_none, onto_front}
+use Rattle.pig_cast.proofs.OnePass.{opens_depth, closes_depth, plain_depth}
 
 front_first : (b : ℕ) (t : List ℕ) (xss : List (List ℕ)) → onto_first b (onto_front t xss) ≡ onto_front (b ∷ t) xss
 front_first b t [] = refl
@@ -40,15 +41,6 @@ second_false false y e = refl
 
 within : (d b : ℕ) → is_separator (suc d) b ≡ false
 within d b = second_false (b == 44) (suc d == 0) (ne_eqb (suc d) 0 (λ e. omega arith))
-
-opens_depth : (d b : ℕ) → is_opening b ≡ true → depth_after d b ≡ suc d
-opens_depth d b o = ap (λ t. cond t (d + 1) (cond (is_closing b) (d - 1) d)) o ∙ (let e : d + 1 ≡ suc d = omega arith in e)
-
-closes_depth : (d b : ℕ) → is_opening b ≡ false → is_closing b ≡ true → depth_after (suc d) b ≡ d
-closes_depth d b o c = ap (λ t. cond t (suc d + 1) (cond (is_closing b) (suc d - 1) (suc d))) o ∙ (ap (λ t. cond t (suc d - 1) (suc d)) c ∙ (let e : suc d - 1 ≡ d = omega arith in e))
-
-plain_depth : (d b : ℕ) → is_opening b ≡ false → is_closing b ≡ false → depth_after d b ≡ d
-plain_depth d b o c = ap (λ t. cond t (d + 1) (cond (is_closing b) (d - 1) d)) o ∙ ap (λ t. cond t (d - 1) d) c
 
 -- brackets round what passes at the next depth
 around : (d b : ℕ) (inner more rest : List ℕ) → is_separator d b ≡ false → is_opening b ≡ true → ((r : List ℕ) → items_at (suc d) (inner ++ r) ≡ onto_front inner (items_at (suc d) r)) → items_at d (more ++ rest) ≡ onto_front more (items_at d rest) → items_at d ((b ∷ (inner ++ closing_of b ∷ more)) ++ rest) ≡ onto_front (b ∷ (inner ++ closing_of b ∷ more)) (items_at d rest)

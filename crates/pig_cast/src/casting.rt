@@ -1,27 +1,27 @@
 ghost use Rattle.std.specs.Prelude.{◌≡◌, IfOk};
 ghost use Rattle.std.specs.Fmt.{signed_decimal};
 ghost use Rattle.std.specs.Int.{w32, int_wrap};
-ghost use Rattle.pig_value.specs.Casts.{CanCast, cast_of};
+ghost use Rattle.pig_value.specs.Casts.{cast_of};
 ghost use Rattle.pig_value.specs.Texts.{bool_text};
 ghost use Rattle.pig_value.specs.Trees.{tree, kind_tree, v_chars};
 
-use crate::read_field;
+use crate::fields::read_value;
 use itoa::Buffer;
 use pig_value::{Kind, Text, Value, copy};
 use std::alloc::{AllocError, Global};
 
 /// The value as one of a kind: a bytearray and a chararray are read as a field is, a long keeps its low 32
-/// bits as an int, a boolean and a number become their texts, and a value of the kind is copied.
+/// bits as an int, a boolean and a number become their texts, and any other value is copied. Where the cast
+/// is allowed (`CanCast` of pig_value), what it gives is of the kind.
 pub fn cast(alloc: Global, v: &Value, k: &Kind) -> Result<Value, AllocError>
-    requires { CanCast (kind_tree k.now) (tree v.now) }
     ensures { IfOk result (λ w. tree w ≡ cast_of (kind_tree k.now) (tree v.now)) }
 {
     match (v, k) {
         (Value::Bytes(_), Kind::Bytearray) => copy(alloc, v),
-        (Value::Bytes(bytes), _) => read_field(alloc, bytes.as_slice(), k),
-        (Value::Chars(text), Kind::Boolean) => read_field(alloc, text.as_bytes(), k),
-        (Value::Chars(text), Kind::Int) => read_field(alloc, text.as_bytes(), k),
-        (Value::Chars(text), Kind::Long) => read_field(alloc, text.as_bytes(), k),
+        (Value::Bytes(bytes), _) => read_value(alloc, bytes.as_slice(), k),
+        (Value::Chars(text), Kind::Boolean) => read_value(alloc, text.as_bytes(), k),
+        (Value::Chars(text), Kind::Int) => read_value(alloc, text.as_bytes(), k),
+        (Value::Chars(text), Kind::Long) => read_value(alloc, text.as_bytes(), k),
         (Value::Int(n), Kind::Long) => Ok(Value::Long(i64::from(*n))),
         (Value::Long(n), Kind::Int) => Ok(Value::Int(low_bits(*n))),
         (Value::Bool(b), Kind::Chararray) => truth(alloc, *b),

@@ -1,9 +1,10 @@
-ghost use Rattle.std.specs.Prelude.{◌≡◌, ◌==◌, ◌&&◌, ◌+◌, ◌≤◌, ◌^◌, ◌<◌, map, length, [], slice_index_or, IfOk};
+ghost use Rattle.std.specs.Prelude.{◌≡◌, ◌==◌, ◌&&◌, ◌-◌, ◌≤◌, map, length, Some, None, [], slice_index_or, nat_le, slice_index, IfOk, if◌then◌else◌};
 ghost use Rattle.std.specs.Option.{option_copied, option_map};
-ghost use Rattle.pig_value.specs.Brackets.{is_opening, is_closing, closing_of, is_balanced as balanced, depth_after, is_separator, items as items_of, items_or_none as items_if_any, is_bracketed as bracketed, inside as inside_of, body_of};
+ghost use Rattle.pig_value.specs.Brackets.{is_opening, is_closing, is_separator, is_balanced, items as items_of, items_or_none as items_if_any, inside as inside_of, body_of};
 ghost use Rattle.pig_value.specs.FieldReader.{cut_at};
 
-use memchr::memchr;
+use crate::wanted::Wanted;
+use bstr::ByteSlice;
 use std::alloc::{AllocError, Global};
 
 fn opens(byte: u8) -> bool
@@ -18,91 +19,103 @@ fn closes(byte: u8) -> bool
     byte == b')' || byte == b']' || byte == b'}'
 }
 
-// The bracket that closes an opening one.
-fn closing(byte: u8) -> u8
-    ensures { result ≡ closing_of byte }
+// A comma outside all brackets.
+fn separates(byte: u8, wanted: &Wanted) -> bool
+    ensures { result ≡ is_separator (length wanted.now) byte }
 {
-    match byte {
-        b'(' => b')',
-        b'[' => b']',
-        _ => b'}',
-    }
+    byte == b',' && wanted.is_empty()
 }
 
-// Whether the brackets match and nest, by the closing brackets that are wanted, the next of them last.
-fn is_balanced(alloc: Global, body: &[u8]) -> Result<bool, AllocError>
-    ensures { IfOk result (λ b. b ≡ balanced body.now) }
+// The items of a body, what lies between the commas outside all brackets, where its brackets match and nest: one
+// pass over the bytes.
+fn items<'a>(alloc: Global, body: &'a [u8]) -> Result<Option<Vec<&'a [u8]>>, AllocError>
+    ensures { IfOk result (λ found. option_map (λ v. map (λ item. item.now) v.items) found
+        ≡ (if is_balanced body.now then Some (items_of body.now) else None)) }
 {
-    let mut wanted: Vec<u8> = Vec::new(alloc);
+    let mut found: Vec<&'a [u8]> = Vec::new(alloc);
+    let mut wanted = Wanted::new(alloc);
+    let mut from = 0;
     for i in 0..body.len() {
         let byte = body[i];
         if opens(byte) {
-            wanted.push(closing(byte))?;
+            wanted.open(byte)?;
             continue;
         }
         if closes(byte) {
-            match wanted.pop() {
-                Some(next) => {
-                    if next != byte {
-                        return Ok(false);
-                    }
-                }
-                None => return Ok(false),
+            if !wanted.close(byte) {
+                return Ok(None);
             }
+            continue;
         }
-    }
-    Ok(wanted.is_empty())
-}
-
-// How many brackets are open behind a byte.
-fn deeper(depth: usize, byte: u8) -> usize
-    requires { depth < 2 ^ 63 }
-    ensures depth { result ≡ depth_after depth byte }
-    ensures grows { result ≤ depth + 1 }
-{
-    if opens(byte) {
-        return depth + 1;
-    }
-    if closes(byte) {
-        return depth.saturating_sub(1);
-    }
-    depth
-}
-
-fn separates(depth: usize, byte: u8) -> bool
-    ensures { result ≡ is_separator depth byte }
-{
-    byte == b',' && depth == 0
-}
-
-/// The items of a body: what lies between the commas outside all brackets.
-pub(crate) fn items<'a>(alloc: Global, body: &'a [u8]) -> Result<Vec<&'a [u8]>, AllocError>
-    ensures { IfOk result (λ v. map (λ item. item.now) v.items ≡ items_of body.now) }
-{
-    let mut found: Vec<&'a [u8]> = Vec::new(alloc);
-    let mut from = 0;
-    let mut depth = 0;
-    for i in 0..body.len() {
-        if separates(depth, body[i]) {
+        if separates(byte, &wanted) {
             found.push(&body[from..i])?;
             from = i + 1;
             continue;
         }
-        depth = deeper(depth, body[i]);
+    }
+    if !wanted.is_empty() {
+        return Ok(None);
     }
     found.push(&body[from..])?;
-    Ok(found)
+    Ok(Some(found))
 }
 
-/// The items of a body that may have none.
-pub(crate) fn items_or_none<'a>(alloc: Global, body: &'a [u8]) -> Result<Vec<&'a [u8]>, AllocError>
-    ensures { IfOk result (λ v. map (λ item. item.now) v.items ≡ items_if_any body.now) }
+// What stands between two brackets, whatever it is.
+fn between(bytes: &[u8], opening: u8, closing: u8) -> Option<&[u8]>
+    ensures { option_copied result ≡ (if nat_le 2 (length bytes.now) && slice_index bytes.now 0 == opening
+        && slice_index bytes.now (length bytes.now - 1) == closing then Some (inside_of bytes.now) else None) }
 {
-    if body.is_empty() {
-        return Ok(Vec::new(alloc));
+    if bytes.len() < 2 {
+        return None;
     }
-    let found = items(alloc, body)?;
-    Ok(found)
+    if bytes[0] != opening {
+        return None;
+    }
+    if bytes[bytes.len() - 1] != closing {
+        return None;
+    }
+    Some(&bytes[1..bytes.len() - 1])
+}
+
+/// The items of the body between two brackets, where the bytes are these brackets with a balanced body between them.
+pub(crate) fn items_between<'a>(
+    alloc: Global,
+    bytes: &'a [u8],
+    opening: u8,
+    closing: u8,
+) -> Result<Option<Vec<&'a [u8]>>, AllocError>
+    ensures { IfOk result (λ found. option_map (λ v. map (λ item. item.now) v.items) found
+        ≡ option_map items_of (body_of opening closing bytes.now)) }
+{
+    match between(bytes, opening, closing) {
+        Some(body) => {
+            let found = items(alloc, body)?;
+            Ok(found)
+        }
+        None => Ok(None),
+    }
+}
+
+/// The same where a body may have no item.
+pub(crate) fn any_items_between<'a>(
+    alloc: Global,
+    bytes: &'a [u8],
+    opening: u8,
+    closing: u8,
+) -> Result<Option<Vec<&'a [u8]>>, AllocError>
+    ensures { IfOk result (λ found. option_map (λ v. map (λ item. item.now) v.items) found
+        ≡ option_map items_if_any (body_of opening closing bytes.now)) }
+{
+    match between(bytes, opening, closing) {
+        Some(body) => {
+            if body.is_empty() {
+                return Ok(Some(Vec::new(alloc)));
+            }
+            let found = items(alloc, body)?;
+            Ok(found)
+        }
+        None => Ok(None),
+    }
 }
 
 /// The item at a place, which is empty where there is none.
@@ -115,36 +128,11 @@ pub(crate) fn item_at<'a>(items: &[&'a [u8]], at: usize) -> &'a [u8]
     }
 }
 
-/// The body between two brackets, where the bytes are these brackets with a balanced body between them.
-pub(crate) fn body<'a>(
-    alloc: Global,
-    bytes: &'a [u8],
-    opening: u8,
-    closing: u8,
-) -> Result<Option<&'a [u8]>, AllocError>
-    ensures { IfOk result (λ found. option_copied found ≡ body_of opening closing bytes.now) }
-{
-    if bytes.len() < 2 {
-        return Ok(None);
-    }
-    if bytes[0] != opening {
-        return Ok(None);
-    }
-    if bytes[bytes.len() - 1] != closing {
-        return Ok(None);
-    }
-    let inner = &bytes[1..bytes.len() - 1];
-    if is_balanced(alloc, inner)? {
-        return Ok(Some(inner));
-    }
-    Ok(None)
-}
-
 /// What is before the first `#` and what is behind it.
 pub(crate) fn key_and_value(item: &[u8]) -> Option<(&[u8], &[u8])>
     ensures { option_map (λ p. (p.0.now, p.1.now)) result ≡ cut_at 35 item.now }
 {
-    match memchr(b'#', item) {
+    match item.find_byte(b'#') {
         Some(at) => Some((&item[..at], &item[at + 1..])),
         None => None,
     }

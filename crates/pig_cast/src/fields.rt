@@ -1,28 +1,36 @@
 ghost use Rattle.std.specs.Prelude.{◌≡◌, List, ℕ, map, IfOk};
 ghost use Rattle.std.specs.Option.{option_map, unwrap_or};
-ghost use Rattle.pig_value.specs.Brackets.{items_or_none as items_if_any};
-ghost use Rattle.pig_value.specs.Fields.{entries_by_key};
+ghost use Rattle.pig_value.specs.Fields.{IsField, entries_by_key};
 ghost use Rattle.pig_value.specs.FieldReader.{all_of, case_of, field_value, fields_in, pair_in, pairs_in, row_in, rows_in, value_in};
 ghost use Rattle.pig_value.specs.Trees.{v_null, v_tuple, v_bag, v_map, v_bool, v_int, v_long, fields_of, tuples_of, entries_of, tree, row_tree, rows_tree, entry_of, kind_tree, kinds_of};
 ghost use Rattle.pig_value.specs.Orders.{bag_of};
 ghost use Rattle.pig_cast.specs.Keyed.{keyed};
 
-use crate::cutting::{body, item_at, items, items_or_none, key_and_value};
+use crate::cutting::{any_items_between, item_at, items_between, key_and_value};
 use crate::keys::{in_order, put};
-use crate::numbers::{boolean, number, short_number};
+use crate::numbers::{boolean, int, long};
+use crate::texts::lossy_text;
 use pig_value::{Blob, Kind, Pairs, Rows, Seq, Text, Tuple, Value, bag};
 use std::alloc::{AllocError, Global};
 use std::collections::BTreeMap;
 
 /// The value of a field's bytes at a kind: null where they are empty, or no text of the kind.
-#[cycle(read)]
 pub fn read_field(alloc: Global, bytes: &[u8], k: &Kind) -> Result<Value, AllocError>
-    ensures { IfOk result (λ v. tree v ≡ field_value (kind_tree k.now) bytes.now) }
+    ensures { IfOk result (λ v. IsField (kind_tree k.now) bytes.now (tree v)) }
+{
+    let value = read_value(alloc, bytes, k)?;
+    Ok(value)
+}
+
+/// The same, by the function that gives each field's one value.
+#[cycle(read)]
+pub(crate) fn read_value(alloc: Global, bytes: &[u8], kind: &Kind) -> Result<Value, AllocError>
+    ensures { IfOk result (λ v. tree v ≡ field_value (kind_tree kind.now) bytes.now) }
 {
     if bytes.is_empty() {
         return Ok(Value::Null);
     }
-    let value = read_case(alloc, bytes, k)?;
+    let value = read_case(alloc, bytes, kind)?;
     Ok(value_or_null(value))
 }
 
@@ -42,10 +50,10 @@ fn read_case(alloc: Global, bytes: &[u8], kind: &Kind) -> Result<Option<Value>, 
 {
     match kind {
         Kind::Boolean => Ok(bool_value(boolean(bytes))),
-        Kind::Int => Ok(int_value(short_number(bytes))),
-        Kind::Long => Ok(long_value(number(bytes))),
+        Kind::Int => Ok(int_value(int(bytes))),
+        Kind::Long => Ok(long_value(long(bytes))),
         Kind::Chararray => {
-            let text = String::from_utf8_lossy(alloc, bytes)?;
+            let text = lossy_text(alloc, bytes)?;
             Ok(Some(Value::Chars(Text::from_string(text))))
         }
         Kind::Bytearray => {
@@ -126,9 +134,8 @@ fn map_value(pairs: Option<Pairs>) -> Option<Value>
 fn read_row(alloc: Global, bytes: &[u8], kinds: &[Kind]) -> Result<Option<Tuple>, AllocError>
     ensures { IfOk result (λ row. option_map row_tree row ≡ row_in (fields_in (kinds_of (map kind_tree kinds.now))) bytes.now) }
 {
-    match body(alloc, bytes, b'(', b')')? {
-        Some(inner) => {
-            let texts = items(alloc, inner)?;
+    match items_between(alloc, bytes, b'(', b')')? {
+        Some(texts) => {
             let row = read_fields(alloc, texts.as_slice(), kinds)?;
             Ok(Some(row))
         }
@@ -143,7 +150,7 @@ fn read_fields(alloc: Global, texts: &[&[u8]], kinds: &[Kind]) -> Result<Tuple, 
 {
     let mut row = Vec::with_capacity(alloc, kinds.len())?;
     for i in 0..kinds.len() {
-        let value = read_field(alloc, item_at(texts, i), &kinds[i])?;
+        let value = read_value(alloc, item_at(texts, i), &kinds[i])?;
         row.push(value)?;
     }
     Ok(Seq::from_vec(row))
@@ -154,17 +161,20 @@ fn read_fields(alloc: Global, texts: &[&[u8]], kinds: &[Kind]) -> Result<Tuple, 
 fn read_rows(alloc: Global, bytes: &[u8], kinds: &[Kind]) -> Result<Option<Rows>, AllocError>
     ensures { IfOk result (λ rows. option_map rows_tree rows ≡ rows_in (row_in (fields_in (kinds_of (map kind_tree kinds.now)))) bytes.now) }
 {
-    match body(alloc, bytes, b'{', b'}')? {
-        Some(inner) => read_each_row(alloc, inner, kinds),
+    match any_items_between(alloc, bytes, b'{', b'}')? {
+        Some(texts) => read_each_row(alloc, texts, kinds),
         None => Ok(None),
     }
 }
 
 #[cycle(read)]
-fn read_each_row(alloc: Global, inner: &[u8], kinds: &[Kind]) -> Result<Option<Rows>, AllocError>
-    ensures { IfOk result (λ rows. option_map rows_tree rows ≡ all_of (row_in (fields_in (kinds_of (map kind_tree kinds.now)))) (items_if_any inner.now)) }
+fn read_each_row(
+    alloc: Global,
+    texts: Vec<&[u8]>,
+    kinds: &[Kind],
+) -> Result<Option<Rows>, AllocError>
+    ensures { IfOk result (λ rows. option_map rows_tree rows ≡ all_of (row_in (fields_in (kinds_of (map kind_tree kinds.now)))) (map (λ text. text.now) texts.entry.items)) }
 {
-    let texts = items_or_none(alloc, inner)?;
     let mut rows = Vec::with_capacity(alloc, texts.len())?;
     for i in 0..texts.len() {
         match read_row(alloc, texts[i], kinds)? {
@@ -180,17 +190,20 @@ fn read_each_row(alloc: Global, inner: &[u8], kinds: &[Kind]) -> Result<Option<R
 fn read_pairs(alloc: Global, bytes: &[u8], kind: &Kind) -> Result<Option<Pairs>, AllocError>
     ensures { IfOk result (λ pairs. option_map (map entry_of) pairs ≡ option_map entries_by_key (pairs_in (pair_in (value_in (case_of (kind_tree kind.now)))) bytes.now)) }
 {
-    match body(alloc, bytes, b'[', b']')? {
-        Some(inner) => read_each_pair(alloc, inner, kind),
+    match any_items_between(alloc, bytes, b'[', b']')? {
+        Some(texts) => read_each_pair(alloc, texts, kind),
         None => Ok(None),
     }
 }
 
 #[cycle(read)]
-fn read_each_pair(alloc: Global, inner: &[u8], kind: &Kind) -> Result<Option<Pairs>, AllocError>
-    ensures { IfOk result (λ pairs. option_map (map entry_of) pairs ≡ option_map entries_by_key (all_of (pair_in (value_in (case_of (kind_tree kind.now)))) (items_if_any inner.now))) }
+fn read_each_pair(
+    alloc: Global,
+    texts: Vec<&[u8]>,
+    kind: &Kind,
+) -> Result<Option<Pairs>, AllocError>
+    ensures { IfOk result (λ pairs. option_map (map entry_of) pairs ≡ option_map entries_by_key (all_of (pair_in (value_in (case_of (kind_tree kind.now)))) (map (λ text. text.now) texts.entry.items))) }
 {
-    let texts = items_or_none(alloc, inner)?;
     let mut entries = BTreeMap::new(alloc);
     for i in 0..texts.len() {
         match read_pair(alloc, texts[i], kind)? {
@@ -209,8 +222,8 @@ fn read_pair(alloc: Global, item: &[u8], kind: &Kind) -> Result<Option<(String, 
 {
     match key_and_value(item) {
         Some((key, text)) => {
-            let key = String::from_utf8_lossy(alloc, key)?;
-            let value = read_field(alloc, text, kind)?;
+            let key = lossy_text(alloc, key)?;
+            let value = read_value(alloc, text, kind)?;
             Ok(Some((key, value)))
         }
         None => Ok(None),

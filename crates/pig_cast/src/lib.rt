@@ -20,6 +20,8 @@ mod fields;
 mod keys;
 mod laws;
 mod numbers;
+mod texts;
+mod wanted;
 #[cfg(test)]
 mod tests;
 

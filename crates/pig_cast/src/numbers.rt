@@ -1,25 +1,34 @@
-ghost use Rattle.std.specs.Prelude.{◌≡◌};
+ghost use Rattle.std.specs.Prelude.{◌≡◌, SomeIff};
 ghost use Rattle.std.specs.Int.{w32, w64};
+ghost use Rattle.std.specs.Str.Parse.{signed_digits_value};
+ghost use Rattle.pig_value.specs.Fields.{IsNumberText};
 ghost use Rattle.pig_value.specs.FieldReader.{number_of, bool_of};
 
-use std::str;
+use bstr::ByteSlice;
 
 /// The whole number that the bytes write: an optional sign and one or more ASCII digits, in the range of a
 /// long.
 pub fn number(bytes: &[u8]) -> Option<i64>
+    ensures { SomeIff result (IsNumberText w64 bytes.now) (signed_digits_value 10 bytes.now) }
+{
+    long(bytes)
+}
+
+/// The same as a field is read.
+pub(crate) fn long(bytes: &[u8]) -> Option<i64>
     ensures { result ≡ number_of w64 bytes.now }
 {
-    match str::from_utf8(bytes) {
+    match bytes.to_str() {
         Ok(text) => text.parse::<i64>().ok(),
         Err(_) => None,
     }
 }
 
 /// The same in the range of an int.
-pub(crate) fn short_number(bytes: &[u8]) -> Option<i32>
+pub(crate) fn int(bytes: &[u8]) -> Option<i32>
     ensures { result ≡ number_of w32 bytes.now }
 {
-    match str::from_utf8(bytes) {
+    match bytes.to_str() {
         Ok(text) => text.parse::<i32>().ok(),
         Err(_) => None,
     }

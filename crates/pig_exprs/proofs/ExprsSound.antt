@@ -11,7 +11,7 @@ use Rattle.pig_exprs.specs.Grammar.{Forms, Listed, Level, expr, conj, neg, comp,
 use Rattle.pig_exprs.specs.Reader.{Found, type_at}
 use Rattle.pig_exprs.specs.ExprReader.{link_turn, chain_of, chain_at, post_turn, post_of, colon, both_at, paren_after, call_at, simple_at, prim_at, post_at, begins_type, cast_at, casted_at, unary_at, term_at, sum_at, null_test, rel_ahead, comp_after, comp_at, neg_at, conj_at, expr_with, expr_at}
 use Rattle.pig_exprs.proofs.Options.{Holds, itself, holds_then, holds_map, holds_map_or, holds_weaken, holds_if}
-use Rattle.pig_exprs.proofs.ListSound.{Upholds, IsSound, sound, TurnsLead, repeat_runs, listed_upholds, closes}
+use Rattle.pig_exprs.proofs.ListSound.{Upholds, TurnsLead, repeat_runs, listed_upholds, closes}
 use Rattle.pig_exprs.proofs.NamesSound.{field_ref_upholds, selection_upholds}
 use Rattle.pig_exprs.proofs.TypesSound.{cast_type_upholds, type_upholds}
 

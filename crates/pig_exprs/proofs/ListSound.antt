@@ -6,18 +6,11 @@ use Rattle.pig_syntax.specs.declared.tokens.Symbol.TheVariants as s
 use Rattle.pig_syntax.specs.declared.tokens.TokenForm.TheVariants as f
 use Rattle.pig_exprs.specs.Grammar.{Forms, Listed}
 use Rattle.pig_exprs.specs.Reader.{Found, Turn, repeat, comma_turn, listed, close_paren}
-use Rattle.pig_exprs.proofs.Options.{Holds, of_known, holds_then, holds_map, holds_weaken}
+use Rattle.pig_exprs.proofs.Options.{Holds, holds_then, holds_map, holds_weaken}
 
--- what the reader finds stands by the rule
-abbrev pub IsSound : {A : Type 0} → (Forms → Found A) → (Forms → A → Forms → Type 0) → Type 0
-IsSound {A = A} reader rule = (ts : Forms) (found : A × Forms) → reader ts ≡ Some found → rule ts found.0 found.1
-
--- the same, of whatever it finds
+-- whatever the reader finds stands by the rule
 abbrev pub Upholds : {A : Type 0} → (Forms → Found A) → (Forms → A → Forms → Type 0) → Type 0
 Upholds reader rule = (ts : Forms) → Holds (λ p. rule ts p.0 p.1) (reader ts)
-
-pub sound : {A : Type 0} (reader : Forms → Found A) (rule : Forms → A → Forms → Type 0) → Upholds reader rule → IsSound reader rule
-sound reader rule upholds ts found e = of_known (upholds ts) e
 
 -- ---- turn by turn
 

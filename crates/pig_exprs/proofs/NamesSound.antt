@@ -7,7 +7,7 @@ use Rattle.pig_syntax.specs.declared.tokens.TokenForm.TheVariants as f
 use Rattle.pig_exprs.specs.Grammar.{Forms, Listed, part_of, IsName, IsFieldRef, IsSelection}
 use Rattle.pig_exprs.specs.Reader.{part_turn, joined, name_at, field_ref_at, selection_at}
 use Rattle.pig_exprs.proofs.Options.{Holds, itself, holds_then, holds_map}
-use Rattle.pig_exprs.proofs.ListSound.{Upholds, IsSound, sound, TurnsLead, repeat_runs, listed_upholds, closes}
+use Rattle.pig_exprs.proofs.ListSound.{Upholds, TurnsLead, repeat_runs, listed_upholds, closes}
 
 -- parts behind a text go on what stands behind it
 joined_behind : (text name : List ℕ) (parts : List (List ℕ)) → joined (text ++ name) parts ≡ text ++ joined name parts

@@ -8,7 +8,7 @@ use Rattle.pig_syntax.specs.declared.trees.TypeTree.{TypeTree}
 use Rattle.pig_exprs.specs.Grammar.{Forms, Listed, scalar_of, IsType, IsTuple, IsBag, IsMap, IsSchema, AreFields, IsField, IsCastType}
 use Rattle.pig_exprs.specs.Reader.{Found, close_brace, close_bracket, field_at, schema_at, tuple_at, bag_rows_at, bag_at, map_at, cast_type_with, type_with, type_at}
 use Rattle.pig_exprs.proofs.Options.{Holds, itself, holds_then, holds_map, holds_weaken}
-use Rattle.pig_exprs.proofs.ListSound.{Upholds, IsSound, sound, listed_upholds, closes}
+use Rattle.pig_exprs.proofs.ListSound.{Upholds, listed_upholds, closes}
 
 -- a list of fields
 pub are_fields : {ts rest : Forms} {fields : List FieldTree} → Listed IsField ts fields rest → AreFields ts fields rest

@@ -1,10 +1,11 @@
 -- How a piece of a line follows from where it starts, and what the pieces from a position on tell.
-use Rattle.std.proofs.Common.{◌≡◌, ℕ, zero, suc, ◌+◌, ◌-◌, ◌<◌, ◌≤◌, ◌==◌, Bool, true, false, List, [], ◌∷◌, length, take, drop, None, Some, refl, sym, ◌∙◌, ap, arith}
-use Rattle.std.specs.List.{slice_range, slice_get}
+use Rattle.std.proofs.Common.{◌≡◌, ℕ, zero, suc, ◌+◌, ◌-◌, ◌<◌, ◌≤◌, ◌==◌, Bool, true, false, inl, inr, List, [], ◌∷◌, length, take, drop, None, Some, refl, sym, ◌∙◌, ap, arith}
+use Rattle.std.specs.List.{position_or_len, slice_range, slice_get}
+use Rattle.std.proofs.lemmas.Bool.{cases_lt}
 use Rattle.std.proofs.lemmas.Bool.Decides.{Decides-eqb}
-use Rattle.std.proofs.lemmas.List.{drop-drop, length-drop, take_rest}
+use Rattle.std.proofs.lemmas.List.{drop-drop, length-drop, take_all}
 use Rattle.std.proofs.lemmas.Option.{slice_get_past}
-use Rattle.memchr.specs.Find.{NoneBefore, Nowhere, Passes, is_byte}
+use Rattle.bstr.specs.Find.{is_byte}
 use Rattle.pig_value.specs.FieldRows.{pieces}
 use Rattle.pig_storage.specs.declared.rows.Piece.{Piece}
 use Rattle.pig_storage.specs.Pieces.{IsPiece, pieces_behind}
@@ -22,32 +23,23 @@ behind_delimiter d line to h = by_test (to == length line) refl
 behind_end : (d : ℕ) (line : List ℕ) (to : ℕ) → to ≡ length line → pieces_behind d line to ≡ []
 behind_end d line to e = rw ((Decides-eqb to (length line)).1 e) refl
 
--- a piece that ends at the next delimiter
-pub piece_at : (d : ℕ) (line : List ℕ) (from position at : ℕ) (rest : List ℕ) → rest ≡ drop from line → from ≤ length line → drop position (pieces d line) ≡ pieces d (drop from line) → NoneBefore (Passes (is_byte d) rest) 0 (length rest) at → Passes (is_byte d) rest at → IsPiece d line (record { position = position; from = from; to = from + at })
-piece_at d line from position at rest is within starts before here =
-    let high : at < length rest = before.high in
+-- the piece that starts at a place ends at the next delimiter, or with the line
+pub piece_at : (d : ℕ) (line : List ℕ) (from position at : ℕ) (rest : List ℕ) → rest ≡ drop from line → from ≤ length line → drop position (pieces d line) ≡ pieces d (drop from line) → at ≡ position_or_len (is_byte d) rest → at ≤ length rest → IsPiece d line (record { position = position; from = from; to = from + at })
+piece_at d line from position at rest is within starts place end =
     let len : length rest ≡ length line - from = ap length is ∙ length-drop from line in
-    let ends : from + at < length line = omega arith in
-    let cut : pieces d rest ≡ take at rest ∷ pieces d (drop (at + 1) rest) = cut_at d rest at before here in
     let size : at ≡ from + at - from = omega arith in
-    let place : from + (at + 1) ≡ from + at + 1 = omega arith in
     let piece : take at rest ≡ slice_range line from (from + at) = ap (take at) is ∙ ap (λ n. take n (drop from line)) size in
-    let after : drop (at + 1) rest ≡ drop (from + at + 1) line = ap (drop (at + 1)) is ∙ (drop-drop (at + 1) from line ∙ ap (λ n. drop n line) place) in
-    let behind : pieces d (drop (at + 1) rest) ≡ pieces_behind d line (from + at) = ap (pieces d) after ∙ sym (behind_delimiter d line (from + at) ends) in
+    let first : pieces d rest ≡ take at rest ∷ pieces_behind d line (from + at) = elim (cases_lt at (length rest)) [
+      | inl ends ↦
+          let sum : from + (at + 1) ≡ from + at + 1 = omega arith in
+          let after : drop (at + 1) rest ≡ drop (from + at + 1) line = ap (drop (at + 1)) is ∙ (drop-drop (at + 1) from line ∙ ap (λ n. drop n line) sum) in
+          cut_at d rest at place ends ∙ ap (λ ps. take at rest ∷ ps) (ap (pieces d) after ∙ sym (behind_delimiter d line (from + at) (omega arith)))
+      | inr past ↦ uncut d rest (omega arith) ∙ (ap (λ l. l ∷ []) (sym (take_all at rest past)) ∙ ap (λ ps. take at rest ∷ ps) (sym (behind_end d line (from + at) (omega arith))))
+    ] in
     record {
       ordered = omega arith;
       within = omega arith;
-      is = starts ∙ (ap (pieces d) (sym is) ∙ (cut ∙ (ap (λ x. x ∷ pieces d (drop (at + 1) rest)) piece ∙ ap (λ ps. slice_range line from (from + at) ∷ ps) behind)));
-    }
-
--- a piece that ends with the line
-pub piece_alone : (d : ℕ) (line : List ℕ) (from position : ℕ) (rest : List ℕ) → rest ≡ drop from line → from ≤ length line → drop position (pieces d line) ≡ pieces d (drop from line) → Nowhere (Passes (is_byte d) rest) 0 (length rest) → IsPiece d line (record { position = position; from = from; to = length line })
-piece_alone d line from position rest is within starts none =
-    let all : rest ≡ slice_range line from (length line) = is ∙ sym (take_rest line from) in
-    record {
-      ordered = within;
-      within = omega arith;
-      is = starts ∙ (ap (pieces d) (sym is) ∙ (uncut d rest none ∙ (ap (λ piece. piece ∷ []) all ∙ ap (λ ps. slice_range line from (length line) ∷ ps) (sym (behind_end d line (length line) refl)))));
+      is = starts ∙ (ap (pieces d) (sym is) ∙ (first ∙ ap (λ x. x ∷ pieces_behind d line (from + at)) piece));
     }
 
 -- the next piece starts behind a piece's delimiter

@@ -13,6 +13,7 @@
 
 mod laws;
 mod lines;
+mod places;
 mod rows;
 #[cfg(test)]
 mod tests;

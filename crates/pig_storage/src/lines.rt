@@ -1,9 +1,8 @@
-ghost use Rattle.std.specs.Prelude.{◌≡◌, ◌+◌, ◌<◌, ◌≤◌, ◌∷◌, ◌↔◌, length, take, drop, IsNone, IfSome};
+ghost use Rattle.std.specs.Prelude.{◌≡◌, ◌≤◌, ◌↔◌, length, take, IsNone, IfSome};
 ghost use Rattle.std.specs.Str.Lines.{strip_carriage_return};
-ghost use Rattle.pig_value.specs.Lines.{lines};
 ghost use Rattle.pig_storage.specs.NextLine.{IsNextLine};
 
-use memchr::memchr;
+use crate::places::place_of;
 
 /// Where a line stands in the bytes of an input.
 #[derive(Debug, Clone, Copy, PartialEq, Eq, Drop)]
@@ -26,26 +25,14 @@ pub fn next_line(bytes: &[u8], from: usize) -> Option<Span>
     if from == bytes.len() {
         return None;
     }
-    let (line, all) = first_line(&bytes[from..]);
+    let rest = &bytes[from..];
+    let end = place_of(b'\n', rest);
+    let length = length_without_cr(&rest[..end]);
     Some(Span {
         from,
-        to: from + line,
-        next: from + all,
+        to: from + length,
+        next: (from + end + 1).min(bytes.len()),
     })
-}
-
-// The lengths of the first line, without and with what ends it.
-fn first_line(bytes: &[u8]) -> (usize, usize)
-    requires { 0 < length bytes.now }
-    ensures within { result.0 ≤ result.1 }
-    ensures goes_on { 0 < result.1 }
-    ensures ends { result.1 ≤ length bytes.now }
-    ensures is { lines bytes.now ≡ take result.0 bytes.now ∷ lines (drop result.1 bytes.now) }
-{
-    match memchr(b'\n', bytes) {
-        Some(at) => (length_without_cr(&bytes[..at]), at + 1),
-        None => (length_without_cr(bytes), bytes.len()),
-    }
 }
 
 // The length of a piece without the one CR at its end.

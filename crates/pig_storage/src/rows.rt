@@ -5,7 +5,7 @@ ghost use Rattle.pig_value.specs.FieldRows.{pieces, row_of};
 ghost use Rattle.pig_value.specs.Trees.{tree, row_tree, kind_tree, v_null};
 ghost use Rattle.pig_storage.specs.Pieces.{IsPiece};
 
-use memchr::memchr;
+use crate::places::place_of;
 use pig_cast::read_field;
 use pig_value::{Column, Columns, Delim, Kind, Seq, Tuple, Value};
 use std::alloc::{AllocError, Global};
@@ -92,10 +92,7 @@ fn piece_from(line: &[u8], byte: u8, from: usize, position: u32) -> Piece
     ensures piece { IsPiece byte line.now result }
     ensures position { result.position ≡ position }
 {
-    let to = match memchr(byte, &line[from..]) {
-        Some(at) => from + at,
-        None => line.len(),
-    };
+    let to = from + place_of(byte, &line[from..]);
     Piece { position, from, to }
 }
 

@@ -87,7 +87,7 @@ mutual
   kind_same (k_map k) (k_map l) h = ap k_map (kind_same k l h)
   kind_same k l h = absurd (cc)
 
-  kinds_same : (ks ls : KindTrees) → kinds_eq ks ls ≡ true → ks ≡ ls
+  pub kinds_same : (ks ls : KindTrees) → kinds_eq ks ls ≡ true → ks ≡ ls
   kinds_same no_kinds no_kinds h = refl
   kinds_same no_kinds (more_kinds l ls) h = absurd (cc)
   kinds_same (more_kinds k ks) no_kinds h = absurd (cc)
@@ -106,7 +106,7 @@ mutual
   kind_itself (k_bag ks) = kinds_itself ks
   kind_itself (k_map k) = kind_itself k
 
-  kinds_itself : (ks : KindTrees) → kinds_eq ks ks ≡ true
+  pub kinds_itself : (ks : KindTrees) → kinds_eq ks ks ≡ true
   kinds_itself no_kinds = refl
   kinds_itself (more_kinds k ks) = λ i. kind_itself k i && kinds_itself ks i
 

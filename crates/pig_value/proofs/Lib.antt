@@ -7,3 +7,11 @@ pub mod OrderLaws
 pub mod KindLaws
 pub mod ValidLaws
 pub mod LeafLaws
+pub mod NumberTexts
+pub mod OfRead
+pub mod LossyTexts
+pub mod ReadLaws
+pub mod FieldKinds
+pub mod FieldFree
+pub mod CastKinds
+pub mod CastFree

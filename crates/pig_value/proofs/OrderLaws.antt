@@ -223,9 +223,6 @@ tree_total = subst IsTotalOrder (λ i a b. tree_flat a b i) (on_total flat flat_
 pub row_total : IsTotalOrder row_cmp
 row_total = lists_total tree_total
 
-pub rows_total : IsTotalOrder rows_cmp
-rows_total = lists_total row_total
-
 abbrev first : Flat → Flat
 first (leaf z) = leaf z
 first (pair a b) = a

@@ -9,8 +9,7 @@ use Rattle.std.specs.Str.{chars, encode_utf8_all}
 use Rattle.pig_value.specs.FieldReader.{all_of}
 use Rattle.pig_value.specs.Orders.{dir_cmp, bag_of}
 use Rattle.pig_value.specs.Sorts.{sort}
-pub use Rattle.pig_value.specs.Trees.{or_null}
-use Rattle.pig_value.specs.Trees.{Tree, v_null, v_bool, v_int, v_long, v_chars, v_bytes, v_tuple, v_bag, v_listed, v_map, fields_of, fields_list, tuples_of, tuples_list, entries_list}
+use Rattle.pig_value.specs.Trees.{Tree, or_null, at, v_null, v_bool, v_int, v_long, v_chars, v_bytes, v_tuple, v_bag, v_listed, v_map, fields_of, fields_list, tuples_of, tuples_list, entries_list}
 use Rattle.pig_value.specs.declared.operators.Dir.{Dir}
 use Rattle.pig_value.specs.declared.operators.Dir.TheVariants as dir
 use Rattle.pig_value.specs.declared.functions.Function.{Function}
@@ -108,9 +107,6 @@ column_tree f vs = or_null (column_found f vs)
 
 -- What the function looks at in a tuple: COUNT the first field, SUM, MIN and MAX the one field, so that a tuple of
 -- another number of fields counts as null there.
-abbrev pub first_field : List Tree → Tree
-first_field row = or_null (slice_get row 0)
-
 abbrev pub one_field : List Tree → Tree
 one_field (v ∷ []) = v
 one_field row = v_null
@@ -119,7 +115,7 @@ abbrev pub looked_at : Function → List Tree → Tree
 looked_at f.Sum = one_field
 looked_at f.Min = one_field
 looked_at f.Max = one_field
-looked_at f = first_field
+looked_at f = at 0
 
 -- the rows of the one argument, where that is a bag, also a listed one
 abbrev pub rows_in : List Tree → Option (List (List Tree))

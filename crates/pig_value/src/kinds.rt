@@ -88,15 +88,16 @@ fn kinds_match(a: &Kind, b: &Kind) -> bool
         (Kind::Long, Kind::Long) => true,
         (Kind::Chararray, Kind::Chararray) => true,
         (Kind::Bytearray, Kind::Bytearray) => true,
-        (Kind::Tuple(x), Kind::Tuple(y)) => lists_match(x.as_slice(), y.as_slice()),
-        (Kind::Bag(x), Kind::Bag(y)) => lists_match(x.as_slice(), y.as_slice()),
+        (Kind::Tuple(x), Kind::Tuple(y)) => same_kinds(x.as_slice(), y.as_slice()),
+        (Kind::Bag(x), Kind::Bag(y)) => same_kinds(x.as_slice(), y.as_slice()),
         (Kind::Map(x), Kind::Map(y)) => kinds_match(x.get(), y.get()),
         _ => false,
     }
 }
 
+/// Whether two lists of kinds are the same, kind by kind.
 #[cycle(same_kind)]
-fn lists_match(a: &[Kind], b: &[Kind]) -> bool
+pub fn same_kinds(a: &[Kind], b: &[Kind]) -> bool
     ensures { result ≡ kinds_eq (kinds_of (map kind_tree a.now)) (kinds_of (map kind_tree b.now)) }
 {
     let shorter = a.len().min(b.len());

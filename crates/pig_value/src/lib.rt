@@ -6,13 +6,14 @@
 //! the same data.
 //!
 //! The definitions stand in `specs/`: `Trees` (values as trees, the view that clauses use), `Orders` (the
-//! total order), `Sorts` (sorted lists and lists without repetition), `Kinds` (which values are of a kind),
-//! `Valid` (what makes a tree a value), `Lines`, `Fields`, `Texts` and `Stored` (PigStorage text).
+//! total order, also in directions), `Sorts` and `Gathering` (sorted lists, lists without repetition, lists by
+//! key), `Kinds` and `Casts` (which values are of a kind, which kinds cast to which), `Leaves` and `Valid` (what
+//! is asked of the texts in a value, and what makes a tree a value), `Functions`, `Lines`, `Fields`, `Texts` and
+//! `Stored` (PigStorage text).
 //!
-//! What follows from them stands beside them, for the crates above: `TreeLaws`, `OrderLaws`, `Bags` (sorting
-//! forgets the order of a list and nothing else), `Distinct`, `Permutations`, `Listing` and `Partitions` over
-//! lists of any element, `KindLaws` and `ValidLaws`. [`order_laws`], [`row_order_laws`] and [`bag_laws`] state
-//! those of them that are promised.
+//! What follows from them stands in public modules of `proofs/`, for the crates above: `TreeLaws`, `OrderLaws`,
+//! `KindLaws`, `ValidLaws`, `LeafLaws`, and in `list_laws` what holds over lists of any element. [`order_laws`],
+//! [`row_order_laws`], [`direction_laws`], [`bag_laws`] and [`cast_laws`] state those of them that are promised.
 #![tactic(auto)]
 
 mod boxes;
@@ -27,19 +28,17 @@ mod lists;
 mod operators;
 mod outcomes;
 mod sorting;
-#[cfg(test)]
-mod tests;
 mod texts;
 mod threads;
 mod values;
 
 pub use boxes::Boxed;
 pub use comparing::{order, order_rows, same};
-pub use copying::{copy, copy_kind, copy_row};
+pub use copying::{copy, copy_kind, copy_kinds, copy_row};
 pub use delimiters::{BadDelimiter, Delim};
 pub use functions::Function;
 pub use inputs::{Column, Columns, Input, Inputs};
-pub use kinds::{casts_to, holds_bag_or_map, is_of, kind_depth, kind_width, same_kind};
+pub use kinds::{casts_to, holds_bag_or_map, is_of, kind_depth, kind_width, same_kind, same_kinds};
 pub use laws::{bag_laws, cast_laws, direction_laws, order_laws, row_order_laws};
 pub use lists::Seq;
 pub use operators::{ChainOp, Dir, Dirs, Rel, Side};

@@ -67,9 +67,6 @@ module _ {X : Type 0} (R : X → X → Ordering) where
   sort_permutes (x ∷ xs) =
       IsPermutation-trans (x ∷ xs) (x ∷ sort R xs) (sort R (x ∷ xs)) (IsPermutation-cons x xs (sort R xs) (sort_permutes xs)) (put_permutes x (sort R xs))
 
-  pub length-sort : (xs : List X) → length (sort R xs) ≡ length xs
-  length-sort xs = length_permutation xs (sort R xs) (sort_permutes xs)
-
   -- what ascends is sorted already
   pub sorted_is : (xs : List X) → Ascends R xs → sort R xs ≡ xs
   sorted_is [] h = refl

@@ -42,12 +42,6 @@ module _ {X : Type 0} where
   pub neighbours : (x y : X) (zs : List X) → IsPermutation (x ∷ y ∷ zs) (y ∷ x ∷ zs)
   neighbours x y zs = IsPermutation-swap (x ∷ y ∷ zs) (y ∷ x ∷ zs) 0 1 (omega arith) (omega arith) refl
 
-  pub permutation_from_shuffled : {xs ys : List X} → Shuffled xs ys → IsPermutation xs ys
-  permutation_from_shuffled (same xs) = IsPermutation-refl xs
-  permutation_from_shuffled (under x {xs} {ys} h) = IsPermutation-cons x xs ys (permutation_from_shuffled h)
-  permutation_from_shuffled (swapped x y zs) = neighbours x y zs
-  permutation_from_shuffled (after {xs} {ys} {zs} h k) = IsPermutation-trans xs ys zs (permutation_from_shuffled h) (permutation_from_shuffled k)
-
 -- a function that does not tell two neighbours' orders apart does not tell two orders of a list apart
 module _ {X A : Type 0} (f : List X → A) (more : (x : X) (xs ys : List X) → f xs ≡ f ys → f (x ∷ xs) ≡ f (x ∷ ys)) (swaps : (x y : X) (zs : List X) → f (x ∷ y ∷ zs) ≡ f (y ∷ x ∷ zs)) where
   along_shuffled : {xs ys : List X} → Shuffled xs ys → f xs ≡ f ys

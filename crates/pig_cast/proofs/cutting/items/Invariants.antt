@@ -1,9 +1,7 @@
--- The items so far, and those of the rest behind the begun one, are those of the body.
-use Rattle.std.proofs.Common.{◌≡◌, ◌≤◌, ◌++◌, map, drop}
-use Rattle.std.specs.List.{slice_range}
-use Rattle.pig_value.specs.Brackets.{items, items_at}
-use Rattle.pig_cast.proofs.Items.{onto_front}
+-- The body is cut up to the place, and the rest goes on to its items.
+use Rattle.std.proofs.Common.{◌≤◌, map}
+use Rattle.pig_cast.proofs.OnePass.{IsCutUpTo}
 use Rattle.pig_cast.proofs.cutting.items.Given as goal
 
 abbrev pub invariant-loop-i : goal.invariant-loop-i
-invariant-loop-i l = (l.from ≤ l.i) × (l.depth ≤ l.i) × (map (λ item. item.now) l.found.items ++ onto_front (slice_range l.body l.from l.i) (items_at l.depth (drop l.i l.body)) ≡ items l.body)
+invariant-loop-i l = (l.from ≤ l.i) × IsCutUpTo l.body l.from l.i l.wanted (map (λ item. item.now) l.found.items)

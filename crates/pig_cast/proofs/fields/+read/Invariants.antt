@@ -2,7 +2,6 @@
 -- ranks. What is read so far, and what the rest reads as, is what the whole reads as.
 use Rattle.std.proofs.Common.{◌≡◌, ◌+◌, ◌*◌, ◌++◌, map, drop}
 use Rattle.std.specs.Option.{option_map}
-use Rattle.pig_value.specs.Brackets.{items_or_none}
 use Rattle.pig_value.specs.Fields.{entries_by_key, put_pairs}
 use Rattle.pig_value.specs.FieldReader.{all_of, case_of, fields_in, pair_in, row_in, value_in}
 use Rattle.pig_value.specs.Trees.{tree, row_tree, kind_tree, kinds_of}
@@ -12,8 +11,8 @@ use Rattle.pig_cast.proofs.fields.+read.Given as goal
 abbrev pub decreases-read_case : goal.decreases-read_case
 decreases-read_case l = 8 * goal.size-read_case l
 
-abbrev pub decreases-read_field : goal.decreases-read_field
-decreases-read_field l = 8 * goal.size-read_field l + 1
+abbrev pub decreases-read_value : goal.decreases-read_value
+decreases-read_value l = 8 * goal.size-read_value l + 1
 
 abbrev pub decreases-read_fields : goal.decreases-read_fields
 decreases-read_fields l = 8 * goal.size-read_fields l + 2
@@ -44,9 +43,9 @@ invariant-read_fields-loop-i l =
 abbrev pub invariant-read_each_row-loop-i : goal.invariant-read_each_row-loop-i
 invariant-read_each_row-loop-i l =
     option_map (λ more. map row_tree l.rows.items ++ more) (all_of (row_in (fields_in (kinds_of (map kind_tree l.kinds)))) (drop l.i (map (λ text. text.now) l.texts.items)))
-    ≡ all_of (row_in (fields_in (kinds_of (map kind_tree l.kinds)))) (items_or_none l.inner)
+    ≡ all_of (row_in (fields_in (kinds_of (map kind_tree l.kinds)))) (map (λ text. text.now) l.texts.items)
 
 abbrev pub invariant-read_each_pair-loop-i : goal.invariant-read_each_pair-loop-i
 invariant-read_each_pair-loop-i l =
     option_map (put_pairs (map keyed l.entries.entries)) (all_of (pair_in (value_in (case_of (kind_tree l.kind)))) (drop l.i (map (λ text. text.now) l.texts.items)))
-    ≡ option_map entries_by_key (all_of (pair_in (value_in (case_of (kind_tree l.kind)))) (items_or_none l.inner))
+    ≡ option_map entries_by_key (all_of (pair_in (value_in (case_of (kind_tree l.kind)))) (map (λ text. text.now) l.texts.items))
