@@ -142,7 +142,7 @@ mutual
       record { tree = cons_formed (field_form field) _ first.tree others.tree (map field_form fields) refl; free = others.free }
 
   pub field_formed : {ts rest : Forms} {field : FieldTree} → IsField ts field rest → Free ts → Formed (SchemaFormed (field ∷ [])) rest
-  field_formed (IsField.field_bare {text = text} ) free = record { tree = subst (λ p. FieldsFormed (field_forms (p ∷ []))) (sym (bare_is text)) (free.0, tt); free = free.1 }
+  field_formed (IsField.field_bare {text = text}) free = record { tree = subst (λ p. FieldsFormed (field_forms (p ∷ []))) (sym (bare_is text)) (free.0, tt); free = free.1 }
   field_formed (IsField.field_typed {text = text} {type = t} h) free =
       let inner = type_formed h free.1.1 in
       record { tree = subst (λ p. FieldsFormed (field_forms (p ∷ []))) (sym (typed_is text t)) (free.0, inner.tree, tt); free = inner.free }

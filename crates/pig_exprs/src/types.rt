@@ -10,7 +10,7 @@ use std::alloc::Global;
 
 // Types whose brackets nest less deep than `depth`, by a function that reads them.
 #[derive(Clone, Copy)]
-struct TypesWithin<F> {
+pub struct TypesWithin<F> {
     alloc: Global,
     depth: u32,
     function: F,
@@ -31,7 +31,7 @@ impl<F: Fn(Global, &[Token], u32) -> Result<(TypeTree, &[Token]), ParseFault>> R
 
 // The rules of types, with the rule of the types inside brackets.
 #[derive(Clone, Copy)]
-struct TypeRules<R> {
+pub struct TypeRules<R> {
     alloc: Global,
     inner: R,
 }

@@ -11,7 +11,7 @@ use Rattle.pig_syntax.specs.Formed.{ExprFormed, FieldsFormed, SelectionFormed, P
 
 -- `1.5 + 1.5 - NULL`
 sum_and_difference : ExprFormed (e_chain e_float (more_links op.Add e_float (more_links op.Sub e_null no_links)))
-sum_and_difference = (tt, tt, refl, tt, tt)
+sum_and_difference = (tt, tt, (refl, tt, tt))
 
 -- no rule has `+` and `*` in one chain
 mixed_chain : ExprFormed (e_chain e_float (more_links op.Add e_float (more_links op.Mul e_null no_links))) → ⊥
