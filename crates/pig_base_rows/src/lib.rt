@@ -3,8 +3,12 @@
 #![tactic(auto)]
 
 #[cfg(test)]
+mod casts;
+#[cfg(test)]
 mod files;
 #[cfg(test)]
 mod outside;
+#[cfg(test)]
+mod storage;
 #[cfg(test)]
 mod values;
