@@ -1,17 +1,13 @@
 //! The program `pig`: it makes the devices of the real world, hands them and its words to
 //! [`pig_run::pig_main`], and ends with the status of the answer.
 //!
-//! Its private module `files` has the devices: files and folders as the depot and the hosts, and standard
-//! output as the console. They are proved against the traits of pig_outside, and tell no contents.
+//! The devices are those of pig_files: files and folders as the depot and the hosts, and standard output as the
+//! console.
 #![tactic(auto)]
 
 ghost use Rattle.std.specs.Prelude.{◌≡◌, IfOk, vec_len};
 
-#[cfg(test)]
-mod file_tests;
-mod files;
-
-use files::{FileDepot, FileHost, StdConsole};
+use pig_files::{FileDepot, FileHost, StdConsole};
 use pig_run::pig_main;
 use pig_value::{Text, Words};
 use std::alloc::AllocError;

@@ -5,7 +5,11 @@
 #[cfg(test)]
 mod casts;
 #[cfg(test)]
+mod files;
+#[cfg(test)]
 mod keycodes;
+#[cfg(test)]
+mod outside;
 #[cfg(test)]
 mod schemas;
 #[cfg(test)]

@@ -1,2 +1,4 @@
 pub mod PlaceLaws
+pub mod RangeLaws
+pub mod ShelfLaws
 pub mod ShelfSteps

@@ -1,8 +1,9 @@
+pub mod Asked
+pub mod Calls
+pub mod Counts
 pub mod Failing
 pub mod Faults
 pub mod Memory
 pub mod Places
-pub mod RangeLaws
 pub mod Shelf
-pub mod ShelfLaws
 pub mod Text

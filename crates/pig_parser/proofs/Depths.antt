@@ -8,8 +8,8 @@ use Rattle.pig_syntax.specs.declared.tokens.Token.{Token}
 use Rattle.pig_syntax.specs.declared.tokens.TokenForm.{TokenForm}
 use Rattle.pig_syntax.specs.declared.tokens.TokenForm.TheVariants as f
 use Rattle.pig_syntax.specs.Cutting.{opens_bracket, closes_bracket, opened, closed, IsDepth}
-use Rattle.pig_parser.specs.Reader.{forms}
-use Rattle.pig_parser.proofs.Fits.{Fits, FitsBehind}
+use Rattle.pig_exprs.specs.Reader.{forms}
+use Rattle.pig_exprs.proofs.Fits.{Fits, FitsBehind}
 
 -- 1 where it is so, and 0 where it isn't
 abbrev count : Bool → ℕ

@@ -3,13 +3,13 @@ use Rattle.std.proofs.Common.{◌≡◌, suc, ◌<◌, sym, ◌∙◌, ap, lengt
 use Rattle.std.specs.Prelude.{Option, Some}
 use Rattle.pig_syntax.specs.declared.trees.Expr.{Expr}
 use Rattle.pig_syntax.specs.declared.trees.Stmt.{Stmt}
-use Rattle.pig_parser.specs.Grammar.{Forms, expr, Reads}
+use Rattle.pig_exprs.specs.Grammar.{Forms, expr, Reads}
 use Rattle.pig_parser.specs.Statements.{IsStatement}
-use Rattle.pig_parser.specs.ExprReader.{expr_at}
+use Rattle.pig_exprs.specs.ExprReader.{expr_at}
 use Rattle.pig_parser.specs.StatementReader.{statement_at}
-use Rattle.pig_parser.proofs.Fits.{Fits, fits_length}
-use Rattle.pig_parser.proofs.Follow.{binds_ahead}
-use Rattle.pig_parser.proofs.ExprsFound.{expr_found}
+use Rattle.pig_exprs.proofs.Fits.{Fits, fits_length}
+use Rattle.pig_exprs.proofs.Follow.{binds_ahead}
+use Rattle.pig_exprs.proofs.ExprsFound.{expr_found}
 use Rattle.pig_parser.proofs.StatementsFound.{statement_complete}
 
 -- a budget that any nesting fits

@@ -25,17 +25,17 @@ use Rattle.pig_syntax.specs.declared.trees.OrderField.{OrderField}
 use Rattle.pig_syntax.specs.declared.trees.OrderKeys.{OrderKeys}
 use Rattle.pig_syntax.specs.declared.trees.OrderKeys.TheVariants as keys
 use Rattle.pig_syntax.specs.declared.trees.Step.{Step}
-use Rattle.pig_parser.specs.Grammar.{Forms, Listed, last, more, IsSchema, schema, field_bare, field_typed, expr, Reads}
+use Rattle.pig_exprs.specs.Grammar.{Forms, Listed, last, more, IsSchema, schema, field_bare, field_typed, expr, Reads}
 use Rattle.pig_parser.specs.Statements.{AreKeys, one_key, several_keys, IsDir, no_dir, asc, desc, IsOrderField, order_field, AreOrderKeys, all_fields, order_fields, IsText, text, IsIdent, ident, IsFunc, func_bare, func_args, IsUsingFunc, no_func, using_func, IsUsingText, no_text, using_text, count_of, AreNames, one_name, typed_name, several_names, IsNaming, no_naming, naming, IsItem, all_items, flattened, value, IsBagRef, bag_field, bag_selection, IsNested, nested_filter, nested_distinct, nested_order, nested_limit, nested_take, AreSteps, no_step, step, IsGroupInput, input_bare, input_inner, input_outer, IsJoinInput, join_input, side_of, IsSide, no_side, side_bare, side_outer}
-use Rattle.pig_parser.specs.Reader.{Found, comma_turn, listed, close_paren, part_turn, schema_at, type_at}
-use Rattle.pig_parser.specs.ExprReader.{colon, chain_at, paren_after, prim_at, post_at, begins_type, casted_at, unary_at, term_at, sum_at, comp_at, neg_at, conj_at, expr_with, expr_at}
+use Rattle.pig_exprs.specs.Reader.{Found, comma_turn, listed, close_paren, part_turn, schema_at, type_at}
+use Rattle.pig_exprs.specs.ExprReader.{colon, chain_at, paren_after, prim_at, post_at, begins_type, casted_at, unary_at, term_at, sum_at, comp_at, neg_at, conj_at, expr_with, expr_at}
 use Rattle.pig_parser.specs.StatementReader.{comma, semicolon, by_word, several, key_list_at, keys_at, dir_at, order_field_at, order_keys_at, text_at, ident_at, func_at, using_func_at, using_text_at, count_at, names_at, naming_at, flattened_at, value_at, item_at, bag_selection_at, bag_ref_at, nested_filter_at, nested_order_at, nested_limit_at, nested_at, step_turn, inner_at, group_input_at, join_input_at, after_outer, side_at}
-use Rattle.pig_parser.proofs.Fits.{Fits}
-use Rattle.pig_parser.proofs.Finds.{Finds, FindsMaybe, FindsRun, stops, goes, finds_map, finds_more, finds_listed, listed_finds}
-use Rattle.pig_parser.proofs.NamesFound.{NameEnds, field_ref_found, selection_found}
-use Rattle.pig_parser.proofs.TypesFound.{schema_found, field_found}
-use Rattle.pig_parser.proofs.Follow.{binds, binds_ahead, name_stops, begins_ahead, field_begins, reads_begin, no_type}
-use Rattle.pig_parser.proofs.ExprsFound.{expr_found}
+use Rattle.pig_exprs.proofs.Fits.{Fits}
+use Rattle.pig_exprs.proofs.Finds.{Finds, FindsMaybe, FindsRun, stops, goes, finds_map, finds_more, finds_listed, listed_finds}
+use Rattle.pig_exprs.proofs.NamesFound.{NameEnds, field_ref_found, selection_found}
+use Rattle.pig_exprs.proofs.TypesFound.{schema_found, field_found}
+use Rattle.pig_exprs.proofs.Follow.{binds, binds_ahead, name_stops, begins_ahead, field_begins, reads_begin, no_type}
+use Rattle.pig_exprs.proofs.ExprsFound.{expr_found}
 
 -- no further member of a list stands behind what is no comma
 pub no_comma : {A : Type 0} (member : Forms → Found A) (ts : Forms) → comma ts ≡ None → comma_turn member ts ≡ Some None

@@ -12,16 +12,16 @@ use Rattle.pig_syntax.specs.declared.trees.Op.{Op}
 use Rattle.pig_syntax.specs.declared.trees.Op.TheVariants as op
 use Rattle.pig_syntax.specs.declared.trees.Stmt.{Stmt}
 use Rattle.pig_syntax.specs.declared.trees.Stmt.TheVariants as stmt
-use Rattle.pig_parser.specs.Grammar.{Forms, Listed, last, more}
+use Rattle.pig_exprs.specs.Grammar.{Forms, Listed, last, more}
 use Rattle.pig_parser.specs.Statements.{IsIdent, ident, IsUsingText, no_text, using_text, IsParallel, no_par, par, IsItem, IsGroupInput, input_bare, input_inner, input_outer, IsJoinInput, IsSide, IsOnSchema, by_place, by_name, is_group_word, IsOp, load, filter, foreach, foreach_block, group_all, group, join, union, distinct, order, limit, IsBranch, branch, IsOtherwise, no_otherwise, otherwise, is_unsupported_word, IsStatement, empty, assign, split, store, unsupported, unsupported_named}
-use Rattle.pig_parser.specs.Reader.{listed, part_turn}
-use Rattle.pig_parser.specs.ExprReader.{colon}
+use Rattle.pig_exprs.specs.Reader.{listed, part_turn}
+use Rattle.pig_exprs.specs.ExprReader.{colon}
 use Rattle.pig_parser.specs.StatementReader.{comma, as_word, generate_word, block_end, several, dir_at, ident_at, using_func_at, using_text_at, after_parallel, naming_at, item_at, step_turn, steps_at, inner_at, group_input_at, join_input_at, after_outer, side_at, on_schema_at, load_at, filter_at, block_at, foreach_at, groups_at, group_at, join_at, union_at, distinct_at, order_at, limit_at, op_at, branch_with, branch_at, branch_turn, branches_at, otherwise_at, split_at, store_at, is_unsupported, assign_at, front_at, ended, statement_at}
-use Rattle.pig_parser.proofs.Fits.{Fits}
-use Rattle.pig_parser.proofs.Finds.{Finds, Run, stops, goes, repeat_run, finds_more, finds_listed, listed_finds}
-use Rattle.pig_parser.proofs.TypesFound.{schema_found}
-use Rattle.pig_parser.proofs.Follow.{binds_ahead}
-use Rattle.pig_parser.proofs.ExprsFound.{expr_found}
+use Rattle.pig_exprs.proofs.Fits.{Fits}
+use Rattle.pig_exprs.proofs.Finds.{Finds, Run, stops, goes, repeat_run, finds_more, finds_listed, listed_finds}
+use Rattle.pig_exprs.proofs.TypesFound.{schema_found}
+use Rattle.pig_exprs.proofs.Follow.{binds_ahead}
+use Rattle.pig_exprs.proofs.ExprsFound.{expr_found}
 use Rattle.pig_parser.proofs.PartsFound.{no_comma, order_keys_found, OrderMay, ident_found, using_func_found, using_text_found, count_found, ItemMay, item_found, block_found, GroupMay, group_input_found, join_input_found, side_found, side_fits, side_ahead}
 
 -- ---- what may follow

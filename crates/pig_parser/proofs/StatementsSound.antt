@@ -16,16 +16,16 @@ use Rattle.pig_syntax.specs.declared.trees.Nested.TheVariants as nested
 use Rattle.pig_syntax.specs.declared.trees.Op.TheVariants as op
 use Rattle.pig_syntax.specs.declared.trees.Stmt.{Stmt}
 use Rattle.pig_syntax.specs.declared.trees.Stmt.TheVariants as stmt
-use Rattle.pig_parser.specs.Grammar.{Forms, Listed, IsFieldRef, IsField}
+use Rattle.pig_exprs.specs.Grammar.{Forms, Listed, IsFieldRef, IsField}
 use Rattle.pig_parser.specs.Statements.{IsExpr, AreKeys, IsDir, IsOrderField, AreOrderKeys, IsText, IsIdent, IsFunc, IsUsingFunc, IsUsingText, IsParallel, count_of, AreNames, IsNaming, IsItem, IsBagRef, IsNested, AreSteps, IsGroupInput, IsJoinInput, side_of, IsSide, IsOnSchema, is_group_word, IsOp, IsBranch, IsOtherwise, is_unsupported_word, IsStatement}
-use Rattle.pig_parser.specs.Reader.{type_at}
-use Rattle.pig_parser.specs.ExprReader.{expr_at}
+use Rattle.pig_exprs.specs.Reader.{type_at}
+use Rattle.pig_exprs.specs.ExprReader.{expr_at}
 use Rattle.pig_parser.specs.StatementReader.{comma, semicolon, as_word, by_word, generate_word, block_end, several, key_list_at, keys_at, dir_at, order_field_at, order_keys_at, text_at, ident_at, func_at, using_func_at, using_text_at, after_parallel, count_at, names_at, naming_at, flattened_at, value_at, item_at, bag_selection_at, bag_ref_at, nested_filter_at, nested_order_at, nested_limit_at, nested_at, step_turn, steps_at, inner_at, group_input_at, join_input_at, after_outer, side_at, on_schema_at, load_at, filter_at, block_at, foreach_at, groups_at, group_at, join_at, union_at, distinct_at, order_at, limit_at, op_at, branch_with, branch_at, branch_turn, branches_at, otherwise_at, split_at, store_at, is_unsupported, assign_at, front_at, ended, statement_at}
-use Rattle.pig_parser.proofs.Options.{Holds, of_known, itself, holds_then, holds_map, holds_map_or, holds_if}
-use Rattle.pig_parser.proofs.ListSound.{Upholds, TurnsLead, GoesOn, repeat_runs, members_listed, listed_upholds, closes}
-use Rattle.pig_parser.proofs.NamesSound.{field_ref_upholds, selection_upholds}
-use Rattle.pig_parser.proofs.TypesSound.{type_upholds, field_upholds, schema_upholds}
-use Rattle.pig_parser.proofs.ExprsSound.{expr_upholds}
+use Rattle.pig_exprs.proofs.Options.{Holds, of_known, itself, holds_then, holds_map, holds_map_or, holds_if}
+use Rattle.pig_exprs.proofs.ListSound.{Upholds, TurnsLead, GoesOn, repeat_runs, members_listed, listed_upholds, closes}
+use Rattle.pig_exprs.proofs.NamesSound.{field_ref_upholds, selection_upholds}
+use Rattle.pig_exprs.proofs.TypesSound.{type_upholds, field_upholds, schema_upholds}
+use Rattle.pig_exprs.proofs.ExprsSound.{expr_upholds}
 
 -- ---- what stands in front of a mark or a word
 

@@ -6,10 +6,10 @@ use Rattle.pig_syntax.specs.declared.cutting.Piece.{Piece}
 use Rattle.pig_syntax.specs.declared.tokens.Token.{Token}
 use Rattle.pig_syntax.specs.declared.trees.Stmt.{Stmt}
 use Rattle.pig_syntax.specs.Cutting.{is_semicolon, piece_of}
-use Rattle.pig_parser.specs.declared.reading.ParseFault.{ParseFault}
-use Rattle.pig_parser.specs.declared.reading.ParseFault.TheVariants as fault
+use Rattle.pig_exprs.specs.declared.reading.ParseFault.{ParseFault}
+use Rattle.pig_exprs.specs.declared.reading.ParseFault.TheVariants as fault
 use Rattle.pig_parser.specs.Parsing.{IsShallow, GivesTree}
-use Rattle.pig_parser.specs.Reader.{forms}
+use Rattle.pig_exprs.specs.Reader.{forms}
 use Rattle.pig_parser.specs.StatementReader.{Tells, statement_at}
 use Rattle.pig_parser.proofs.Depths.{fits_depth}
 use Rattle.pig_parser.proofs.StatementsSound.{statement_sound}

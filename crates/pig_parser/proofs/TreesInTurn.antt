@@ -5,8 +5,8 @@ use Rattle.pig_syntax.specs.declared.cutting.Piece.{Piece}
 use Rattle.pig_syntax.specs.declared.tokens.Token.{Token}
 use Rattle.pig_syntax.specs.declared.trees.Stmt.{Stmt}
 use Rattle.std.specs.Prelude.{Err}
-use Rattle.pig_parser.specs.declared.reading.ParseFault.{ParseFault}
-use Rattle.pig_parser.specs.declared.reading.ParseFault.TheVariants as at
+use Rattle.pig_exprs.specs.declared.reading.ParseFault.{ParseFault}
+use Rattle.pig_exprs.specs.declared.reading.ParseFault.TheVariants as at
 use Rattle.pig_parser.specs.Parsing.{GivesTree, IsTreeOf, HasNoTree, AreTrees, no_trees, trees, IsFirstOff}
 
 -- one more statement behind the others

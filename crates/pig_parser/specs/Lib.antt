@@ -1,7 +1,3 @@
-pub mod Grammar
-pub mod Statements
-pub mod Reader
-pub mod Nests
-pub mod ExprReader
-pub mod StatementReader
 pub mod Parsing
+pub mod StatementReader
+pub mod Statements

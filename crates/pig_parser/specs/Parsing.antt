@@ -5,12 +5,12 @@ use Rattle.pig_syntax.specs.declared.cutting.Piece.{Piece}
 use Rattle.pig_syntax.specs.declared.tokens.Token.{Token}
 use Rattle.pig_syntax.specs.declared.trees.Stmt.{Stmt}
 use Rattle.pig_syntax.specs.Cutting.{is_semicolon, piece_of, IsDepth}
-use Rattle.pig_parser.specs.declared.reading.ParseFault.{ParseFault}
-use Rattle.pig_parser.specs.declared.reading.ParseFault.TheVariants as fault
+use Rattle.pig_exprs.specs.declared.reading.ParseFault.{ParseFault}
+use Rattle.pig_exprs.specs.declared.reading.ParseFault.TheVariants as fault
 use Rattle.pig_parser.specs.declared.parsing.SyntaxFault.{SyntaxFault}
 use Rattle.pig_parser.specs.declared.parsing.SyntaxFault.TheVariants as syntax
 use Rattle.pig_parser.specs.Statements.{IsStatement}
-use Rattle.pig_parser.specs.Reader.{forms}
+use Rattle.pig_exprs.specs.Reader.{forms}
 
 -- the tree of a statement, which a `;` ends
 pub record IsTreeOf (ts : List Token) (p : Piece) (s : Stmt) : Type 0 where

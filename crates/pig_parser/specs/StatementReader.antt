@@ -30,12 +30,12 @@ use Rattle.pig_syntax.specs.declared.trees.PostStep.{PostStep}
 use Rattle.pig_syntax.specs.declared.trees.Step.{Step}
 use Rattle.pig_syntax.specs.declared.trees.Stmt.{Stmt}
 use Rattle.pig_syntax.specs.declared.trees.Stmt.TheVariants as stmt
-use Rattle.pig_parser.specs.declared.reading.ParseFault.{ParseFault}
-use Rattle.pig_parser.specs.declared.reading.ParseFault.TheVariants as fault
-use Rattle.pig_parser.specs.Grammar.{Forms}
+use Rattle.pig_exprs.specs.declared.reading.ParseFault.{ParseFault}
+use Rattle.pig_exprs.specs.declared.reading.ParseFault.TheVariants as fault
+use Rattle.pig_exprs.specs.Grammar.{Forms}
 use Rattle.pig_parser.specs.Statements.{count_of, side_of, is_unsupported_word}
-use Rattle.pig_parser.specs.Reader.{Found, Turn, ◌>>=◌, repeat, listed, close_paren, field_ref_at, selection_at, field_at, schema_at, type_at}
-use Rattle.pig_parser.specs.ExprReader.{expr_at}
+use Rattle.pig_exprs.specs.Reader.{Found, Turn, ◌>>=◌, repeat, listed, close_paren, field_ref_at, selection_at, field_at, schema_at, type_at}
+use Rattle.pig_exprs.specs.ExprReader.{expr_at}
 
 -- the code gives what is found
 abbrev pub Tells : {A : Type 0} → Option A → Result A ParseFault → Type 0

@@ -33,7 +33,7 @@ use Rattle.pig_syntax.specs.declared.trees.PostStep.{PostStep}
 use Rattle.pig_syntax.specs.declared.trees.Step.{Step}
 use Rattle.pig_syntax.specs.declared.trees.Stmt.{Stmt}
 use Rattle.pig_syntax.specs.declared.trees.Stmt.TheVariants as stmt
-use Rattle.pig_parser.specs.Grammar.{Forms, Listed, IsFieldRef, IsSelection, IsType, IsSchema, expr, Reads}
+use Rattle.pig_exprs.specs.Grammar.{Forms, Listed, IsFieldRef, IsSelection, IsType, IsSchema, expr, Reads}
 
 -- ---- parts
 

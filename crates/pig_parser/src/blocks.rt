@@ -1,13 +1,13 @@
 ghost use Rattle.std.specs.Prelude.{◌≡◌, [], ◌∷◌, length, map};
-ghost use Rattle.pig_parser.specs.Grammar.{Forms};
-ghost use Rattle.pig_parser.specs.Reader.{forms, Gives};
+ghost use Rattle.pig_exprs.specs.Grammar.{Forms};
+ghost use Rattle.pig_exprs.specs.Reader.{forms, Gives};
 ghost use Rattle.pig_parser.specs.StatementReader.{names_at, naming_at, flattened_at, value_at, item_at, bag_selection_at, bag_ref_at, nested_filter_at, nested_order_at, nested_limit_at, nested_at, step_turn, steps_at};
 
-use crate::exprs::MOST_NESTED;
-use crate::names::{field_ref, selection};
-use crate::parts::{by_word, count, expression, order_keys, semicolon};
-use crate::reading::{ParseFault, Rule, Turning, close_paren, repeat};
-use crate::types::{field, schema};
+use crate::parts::{by_word, count, order_keys, semicolon};
+use pig_exprs::{
+    MOST_NESTED, ParseFault, Rule, Turning, close_paren, expression, field, field_ref, repeat,
+    schema, selection,
+};
 use pig_syntax::{
     AsNames, BagRef, Item, Keyword, Nested, PostStep, Step, Steps, Symbol, Token, TokenForm,
 };
@@ -94,7 +94,7 @@ fn value(alloc: Global, tokens: &[Token]) -> Result<(Item, &[Token]), ParseFault
 }
 
 /// Items as members of a list.
-#[derive(Clone, Copy, Drop)]
+#[derive(Drop)]
 pub struct ItemRule {
     pub alloc: Global,
 }
@@ -242,7 +242,7 @@ fn nested(alloc: Global, tokens: &[Token]) -> Result<(Nested, &[Token]), ParseFa
 }
 
 // The steps of a block.
-#[derive(Clone, Copy, Drop)]
+#[derive(Drop)]
 struct StepTurns {
     alloc: Global,
 }
@@ -268,9 +268,9 @@ impl Turning for StepTurns {
                 },
                 rest @ ..,
             ] => {
+                let alias = name.copy(self.alloc)?;
                 let (nested, rest) = nested(self.alloc, rest)?;
                 let rest = semicolon(rest)?;
-                let alias = name.copy(self.alloc)?;
                 Ok(Some((Step { alias, nested }, rest)))
             }
             _ => Ok(None),

@@ -1,21 +1,19 @@
 ghost use Rattle.std.specs.Prelude.{◌≡◌, [], ◌∷◌, Some, IfOk, length, map};
 ghost use Rattle.pig_syntax.specs.declared.tokens.TokenForm.TheVariants as f;
-ghost use Rattle.pig_parser.specs.Grammar.{Forms};
+ghost use Rattle.pig_exprs.specs.Grammar.{Forms};
 ghost use Rattle.pig_parser.specs.Statements.{side_of};
-ghost use Rattle.pig_parser.specs.Reader.{forms, Gives, Leaves};
+ghost use Rattle.pig_exprs.specs.Reader.{forms, Gives, Leaves};
 ghost use Rattle.pig_parser.specs.StatementReader.{generate_word, block_end, inner_at, group_input_at, join_input_at, after_outer, side_at, on_schema_at, load_at, filter_at, block_at, foreach_at, groups_at, group_at, join_at, union_at, distinct_at, order_at, limit_at, op_at};
 
 use crate::blocks::{ItemRule, steps};
-use crate::exprs::MOST_NESTED;
 use crate::parts::{
-    IdentRule, after_parallel, as_word, comma, count, expression, keys, order_keys, several,
-    using_func, using_text,
+    IdentRule, after_parallel, as_word, comma, count, keys, order_keys, several, using_func,
+    using_text,
 };
-use crate::reading::{ParseFault, Rule, listed};
-use crate::types::schema;
-use pig_syntax::{GroupInput, JoinInput, JoinInputs, Keyword, Op, Steps, Symbol, Token, TokenForm};
-use pig_value::{Seq, Side, Text};
-use std::alloc::{AllocError, Global};
+use pig_exprs::{MOST_NESTED, ParseFault, Rule, expression, listed, one, schema};
+use pig_syntax::{GroupInput, JoinInput, Keyword, Op, Steps, Symbol, Token, TokenForm};
+use pig_value::{Side, Text};
+use std::alloc::Global;
 
 // The tokens behind GENERATE.
 #[tactic(auto, unfolding(crate::specs::StatementReader::generate_word))]
@@ -80,7 +78,7 @@ fn inner(tokens: &[Token]) -> (bool, &[Token])
 }
 
 // Inputs of a GROUP as members of a list.
-#[derive(Clone, Copy, Drop)]
+#[derive(Drop)]
 struct GroupInputRule {
     alloc: Global,
 }
@@ -106,9 +104,9 @@ impl Rule for GroupInputRule {
                 },
                 rest @ ..,
             ] => {
+                let from = name.copy(self.alloc)?;
                 let (keys, rest) = keys(self.alloc, rest)?;
                 let (inner, rest) = inner(rest);
-                let from = name.copy(self.alloc)?;
                 Ok((GroupInput { from, keys, inner }, rest))
             }
             _ => Err(ParseFault::Off),
@@ -117,7 +115,7 @@ impl Rule for GroupInputRule {
 }
 
 // Inputs of a JOIN as members of a list.
-#[derive(Clone, Copy, Drop)]
+#[derive(Drop)]
 struct JoinInputRule {
     alloc: Global,
 }
@@ -143,8 +141,8 @@ impl Rule for JoinInputRule {
                 },
                 rest @ ..,
             ] => {
-                let (keys, rest) = keys(self.alloc, rest)?;
                 let from = name.copy(self.alloc)?;
+                let (keys, rest) = keys(self.alloc, rest)?;
                 Ok((JoinInput { from, keys }, rest))
             }
             _ => Err(ParseFault::Off),
@@ -225,10 +223,10 @@ fn load(alloc: Global, tokens: &[Token]) -> Result<(Op, &[Token]), ParseFault>
             },
             rest @ ..,
         ] => {
+            let path = path.copy(alloc)?;
             let (func, rest) = using_func(alloc, rest)?;
             let rest = as_word(rest)?;
             let (schema, rest) = schema(alloc, rest, MOST_NESTED)?;
-            let path = path.copy(alloc)?;
             Ok((Op::Load { path, func, schema }, rest))
         }
         _ => Err(ParseFault::Off),
@@ -252,8 +250,8 @@ fn filter(alloc: Global, tokens: &[Token]) -> Result<(Op, &[Token]), ParseFault>
             },
             rest @ ..,
         ] => {
-            let (cond, rest) = expression(alloc, rest)?;
             let from = name.copy(alloc)?;
+            let (cond, rest) = expression(alloc, rest)?;
             Ok((Op::Filter { from, cond }, rest))
         }
         _ => Err(ParseFault::Off),
@@ -269,11 +267,11 @@ fn block<'a>(
 ) -> Result<(Op, &'a [Token]), ParseFault>
     ensures { Gives (block_at 65 name.now (forms tokens.now)) result }
 {
+    let from = name.copy(alloc)?;
     let (steps, rest) = steps(alloc, tokens)?;
     let rest = generate_word(rest)?;
     let (items, rest) = listed(alloc, &ItemRule { alloc }, rest)?;
     let rest = block_end(rest)?;
-    let from = name.copy(alloc)?;
     Ok((Op::Foreach { from, steps, items }, rest))
 }
 
@@ -294,9 +292,9 @@ fn foreach(alloc: Global, tokens: &[Token]) -> Result<(Op, &[Token]), ParseFault
             },
             rest @ ..,
         ] => {
-            let (items, rest) = listed(alloc, &ItemRule { alloc }, rest)?;
             let from = name.copy(alloc)?;
             let steps = Steps::new(alloc);
+            let (items, rest) = listed(alloc, &ItemRule { alloc }, rest)?;
             Ok((Op::Foreach { from, steps, items }, rest))
         }
         [
@@ -341,21 +339,12 @@ fn group(alloc: Global, tokens: &[Token]) -> Result<(Op, &[Token]), ParseFault>
             },
             rest @ ..,
         ] => {
-            let (using, rest) = using_text(alloc, rest)?;
             let from = name.copy(alloc)?;
+            let (using, rest) = using_text(alloc, rest)?;
             Ok((Op::GroupAll { from, using }, after_parallel(rest)))
         }
         _ => groups(alloc, tokens),
     }
-}
-
-// The first input before the others.
-fn with_first(first: JoinInput, others: JoinInputs) -> Result<JoinInputs, AllocError>
-    ensures { IfOk result (λ all. all ≡ first ∷ others) }
-{
-    let mut all = others.into_vec();
-    all.insert(0, first)?;
-    Ok(Seq::from_vec(all))
 }
 
 // A JOIN, behind its word.
@@ -364,11 +353,12 @@ fn join(alloc: Global, tokens: &[Token]) -> Result<(Op, &[Token]), ParseFault>
     ensures { Gives (join_at 65 (forms tokens.now)) result }
 {
     let (first, rest) = JoinInputRule { alloc }.read(tokens)?;
+    let mut inputs = one(alloc, first)?;
     let (side, rest) = side(rest);
     let rest = comma(rest)?;
     let (others, rest) = listed(alloc, &JoinInputRule { alloc }, rest)?;
+    inputs.extend(others)?;
     let (using, rest) = using_text(alloc, rest)?;
-    let inputs = with_first(first, others)?;
     Ok((
         Op::Join {
             inputs,
@@ -427,8 +417,8 @@ fn order(alloc: Global, tokens: &[Token]) -> Result<(Op, &[Token]), ParseFault>
             },
             rest @ ..,
         ] => {
-            let (keys, rest) = order_keys(alloc, rest)?;
             let from = name.copy(alloc)?;
+            let (keys, rest) = order_keys(alloc, rest)?;
             Ok((Op::Order { from, keys }, after_parallel(rest)))
         }
         _ => Err(ParseFault::Off),
@@ -448,8 +438,8 @@ fn limit(alloc: Global, tokens: &[Token]) -> Result<(Op, &[Token]), ParseFault>
             },
             rest @ ..,
         ] => {
-            let (count, rest) = count(rest)?;
             let from = name.copy(alloc)?;
+            let (count, rest) = count(rest)?;
             Ok((Op::Limit { from, count }, rest))
         }
         _ => Err(ParseFault::Off),

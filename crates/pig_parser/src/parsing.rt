@@ -4,12 +4,14 @@ ghost use Rattle.pig_syntax.specs.declared.cutting.Piece.{Piece};
 ghost use Rattle.pig_syntax.specs.declared.tokens.Token.{Token};
 ghost use Rattle.pig_syntax.specs.declared.trees.Stmt.{Stmt};
 ghost use Rattle.pig_syntax.specs.Cutting.{is_semicolon, IsWithin, AreStatements};
-ghost use Rattle.pig_parser.specs.Grammar.{Forms};
+ghost use Rattle.pig_syntax.specs.Formed.{StmtFormed};
+ghost use Rattle.pig_syntax.specs.Tokens.{HoldsNoLf};
+ghost use Rattle.pig_exprs.specs.Grammar.{Forms};
 ghost use Rattle.pig_parser.specs.Statements.{IsStatement};
 ghost use Rattle.pig_parser.specs.Parsing.{AreTrees, IsFirstOff, IsSyntaxFault, IsShallow, GivesTree};
 
-use crate::reading::ParseFault;
 use crate::statements::statement;
+use pig_exprs::ParseFault;
 use pig_syntax::{
     Piece, Pieces, Stmt, Stmts, Symbol, Token, TokenForm, Tokens, statements_lie_within,
 };
@@ -43,14 +45,17 @@ impl From<AllocError> for SyntaxFault {
 ///
 /// Where a statement is off the grammar, `Syntax` has the number of the first such, counted from 1. The
 /// tokens behind the last `;` are off the grammar too, whatever they are. The brackets of each statement
-/// may nest at most 64 deep, which [`depth`](pig_syntax::depth) tells; nothing else in a script makes the
-/// call use more of the stack.
+/// may nest at most 64 deep, which [`depth`](pig_syntax::depth) tells.
+///
+/// Where the names and texts among the tokens hold no LF, as those of [`lex`](pig_syntax::lex) do, each tree
+/// is as the grammar gives it (`specs/Formed` of pig_syntax).
 pub fn parse(alloc: Global, tokens: &Tokens, pieces: &Pieces) -> Result<Stmts, SyntaxFault>
     requires statements { AreStatements tokens.now pieces.now }
     requires few { length tokens.now < 2 ^ 32 }
     requires few_statements { length pieces.now < 2 ^ 32 }
     requires shallow { All (IsShallow tokens.now) pieces.now }
     ensures trees { IfOk result (AreTrees tokens.now pieces.now) }
+    ensures formed { All (λ token. HoldsNoLf token.form) tokens.now → IfOk result (All StmtFormed) }
     ensures fault { IfErr result (IsSyntaxFault tokens.now pieces.now) }
 {
     statements_lie_within();
@@ -103,9 +108,10 @@ pub fn a_statement_has_one_tree()
     ensures { (ts : Forms) (s u : Stmt) → IsStatement ts s → IsStatement ts u → s ≡ u }
 {}
 
-/// A script has one list of trees, or one first statement that is off the grammar, and not both.
+/// A script has one list of trees, or one first statement that is off the grammar, and not both, however
+/// deep its brackets nest.
 pub fn a_script_has_one_answer()
-    ensures some { (ts : List Token) (ps : List Piece) → All (IsShallow ts) ps → ((ss : List Stmt) × AreTrees ts ps ss) ⊎ ((n : ℕ) × IsFirstOff ts ps n) }
+    ensures some { (ts : List Token) (ps : List Piece) → ((ss : List Stmt) × AreTrees ts ps ss) ⊎ ((n : ℕ) × IsFirstOff ts ps n) }
     ensures trees { (ts : List Token) (ps : List Piece) (ss us : List Stmt) → AreTrees ts ps ss → AreTrees ts ps us → ss ≡ us }
     ensures first { (ts : List Token) (ps : List Piece) (m n : ℕ) → IsFirstOff ts ps m → IsFirstOff ts ps n → m ≡ n }
     ensures not_both { (ts : List Token) (ps : List Piece) (ss : List Stmt) (n : ℕ) → AreTrees ts ps ss → IsFirstOff ts ps n → ⊥ }

@@ -1,13 +1,11 @@
 ghost use Rattle.std.specs.Prelude.{◌≡◌, [], ◌∷◌, Some, IfOk, length, map, option_map};
-ghost use Rattle.pig_parser.specs.Grammar.{Forms};
+ghost use Rattle.pig_exprs.specs.Grammar.{Forms};
 ghost use Rattle.pig_parser.specs.Statements.{count_of};
-ghost use Rattle.pig_parser.specs.Reader.{forms, Gives, Leaves};
-ghost use Rattle.pig_parser.specs.ExprReader.{expr_at};
+ghost use Rattle.pig_exprs.specs.Reader.{forms, Gives, Leaves};
+ghost use Rattle.pig_exprs.specs.ExprReader.{expr_at};
 ghost use Rattle.pig_parser.specs.StatementReader.{Tells, comma, semicolon, as_word, by_word, several, key_list_at, keys_at, dir_at, order_field_at, order_keys_at, text_at, ident_at, func_at, using_func_at, using_text_at, after_parallel, count_at};
 
-use crate::exprs::{MOST_NESTED, expr};
-use crate::names::field_ref;
-use crate::reading::{ParseFault, Rule, close_paren, listed, one};
+use pig_exprs::{ParseFault, Rule, close_paren, expression, field_ref, listed, one};
 use pig_syntax::{
     Expr, Exprs, Func, Keyword, OrderField, OrderKeys, Symbol, Texts, Token, TokenForm,
 };
@@ -93,15 +91,8 @@ pub fn several<T: Drop>(members: Seq<T>) -> Result<Seq<T>, ParseFault>
     }
 }
 
-/// An expression.
-pub fn expression(alloc: Global, tokens: &[Token]) -> Result<(Expr, &[Token]), ParseFault>
-    ensures { Gives (expr_at 65 65 (forms tokens.now)) result }
-{
-    expr(alloc, tokens, MOST_NESTED)
-}
-
 // Expressions as members of a list.
-#[derive(Clone, Copy, Drop)]
+#[derive(Drop)]
 struct ExpressionRule {
     alloc: Global,
 }
@@ -180,18 +171,8 @@ fn dir(tokens: &[Token]) -> (Dir, &[Token])
     }
 }
 
-// A field with its direction.
-#[tactic(auto, unfolding(crate::specs::StatementReader::order_field_at))]
-fn order_field(alloc: Global, tokens: &[Token]) -> Result<(OrderField, &[Token]), ParseFault>
-    ensures { Gives (order_field_at (forms tokens.now)) result }
-{
-    let (field, rest) = field_ref(alloc, tokens)?;
-    let (dir, rest) = dir(rest);
-    Ok((OrderField { field, dir }, rest))
-}
-
 // Fields with their directions as members of a list.
-#[derive(Clone, Copy, Drop)]
+#[derive(Drop)]
 struct OrderFieldRule {
     alloc: Global,
 }
@@ -203,8 +184,11 @@ impl Rule for OrderFieldRule {
 
     ghost finds = { λ _. order_field_at };
 
+    #[tactic(auto, unfolding(crate::specs::StatementReader::order_field_at))]
     fn read<'a>(&self, tokens: &'a [Token]) -> Result<(OrderField, &'a [Token]), ParseFault> {
-        order_field(self.alloc, tokens)
+        let (field, rest) = field_ref(self.alloc, tokens)?;
+        let (dir, rest) = dir(rest);
+        Ok((OrderField { field, dir }, rest))
     }
 }
 
@@ -232,7 +216,7 @@ pub fn order_keys(alloc: Global, tokens: &[Token]) -> Result<(OrderKeys, &[Token
 }
 
 // Texts as members of a list.
-#[derive(Clone, Copy, Drop)]
+#[derive(Drop)]
 struct TextRule {
     alloc: Global,
 }
@@ -263,7 +247,7 @@ impl Rule for TextRule {
 }
 
 /// Names of relations as members of a list.
-#[derive(Clone, Copy, Drop)]
+#[derive(Drop)]
 pub struct IdentRule {
     pub alloc: Global,
 }
@@ -329,9 +313,9 @@ fn func(alloc: Global, tokens: &[Token]) -> Result<(Func, &[Token]), ParseFault>
             },
             rest @ ..,
         ] => {
+            let name = name.copy(alloc)?;
             let (args, rest) = listed(alloc, &TextRule { alloc }, rest)?;
             let rest = close_paren(rest)?;
-            let name = name.copy(alloc)?;
             Ok((Func { name, args }, rest))
         }
         _ => Err(ParseFault::Off),

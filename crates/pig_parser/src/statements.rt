@@ -1,12 +1,12 @@
 ghost use Rattle.std.specs.Prelude.{◌≡◌, [], ◌∷◌, Some, length, map};
-ghost use Rattle.pig_parser.specs.Grammar.{Forms};
+ghost use Rattle.pig_exprs.specs.Grammar.{Forms};
 ghost use Rattle.pig_parser.specs.Statements.{is_unsupported_word};
-ghost use Rattle.pig_parser.specs.Reader.{forms, Gives};
+ghost use Rattle.pig_exprs.specs.Reader.{forms, Gives};
 ghost use Rattle.pig_parser.specs.StatementReader.{Tells, branch_with, branch_at, branch_turn, branches_at, otherwise_at, split_at, store_at, is_unsupported, assign_at, front_at, ended, statement_at};
 
 use crate::operators::operator;
-use crate::parts::{expression, using_func};
-use crate::reading::{ParseFault, Turning, one, repeat};
+use crate::parts::using_func;
+use pig_exprs::{ParseFault, Turning, expression, one, repeat};
 use pig_syntax::{Branch, Branches, Keyword, Stmt, Symbol, Token, TokenForm};
 use pig_value::Text;
 use std::alloc::Global;
@@ -20,8 +20,8 @@ fn branch_with<'a>(
 ) -> Result<(Branch, &'a [Token]), ParseFault>
     ensures { Gives (branch_with 65 name.now (forms tokens.now)) result }
 {
-    let (cond, rest) = expression(alloc, tokens)?;
     let alias = name.copy(alloc)?;
+    let (cond, rest) = expression(alloc, tokens)?;
     Ok((Branch { alias, cond }, rest))
 }
 
@@ -47,7 +47,7 @@ fn branch(alloc: Global, tokens: &[Token]) -> Result<(Branch, &[Token]), ParseFa
 }
 
 // The branches of a SPLIT behind the first.
-#[derive(Clone, Copy, Drop)]
+#[derive(Drop)]
 struct BranchTurns {
     alloc: Global,
 }
@@ -140,9 +140,9 @@ fn split(alloc: Global, tokens: &[Token]) -> Result<(Stmt, &[Token]), ParseFault
             },
             rest @ ..,
         ] => {
+            let from = name.copy(alloc)?;
             let (branches, rest) = branches(alloc, rest)?;
             let (otherwise, rest) = otherwise(alloc, rest)?;
-            let from = name.copy(alloc)?;
             Ok((
                 Stmt::Split {
                     from,
@@ -177,9 +177,9 @@ fn store(alloc: Global, tokens: &[Token]) -> Result<(Stmt, &[Token]), ParseFault
             },
             rest @ ..,
         ] => {
-            let (func, rest) = using_func(alloc, rest)?;
             let from = name.copy(alloc)?;
             let path = path.copy(alloc)?;
+            let (func, rest) = using_func(alloc, rest)?;
             Ok((Stmt::Store { from, path, func }, rest))
         }
         _ => Err(ParseFault::Off),
@@ -236,8 +236,8 @@ fn assign<'a>(
     if is_unsupported(tokens) {
         return Ok((Stmt::Unsupported, &[]));
     }
-    let (op, rest) = operator(alloc, tokens)?;
     let alias = name.copy(alloc)?;
+    let (op, rest) = operator(alloc, tokens)?;
     Ok((Stmt::Assign { alias, op }, rest))
 }
 

@@ -3,8 +3,12 @@
 #![tactic(auto)]
 
 #[cfg(test)]
+mod files;
+#[cfg(test)]
 mod first_path;
 #[cfg(test)]
 mod scripts;
 #[cfg(test)]
 mod setting;
+#[cfg(test)]
+mod words;

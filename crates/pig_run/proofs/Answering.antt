@@ -24,7 +24,7 @@ shelf_inputs (Some s) i h = (s, refl, cc)
 pub ready_lengths : (words : CommandLine) (s : Shelf) (plan : Plan) → IsReady words s plan → (i : List Input) → s.inputs ≡ i → HasLengths plan.form.input plan.lengths i
 ready_lengths words s plan ready i same = record { pieces = ready.pieces; there = subst (λ x. pieces_of plan.form.input x ≡ Some ready.pieces) same ready.there; are = ready.lengths }
 
-ready_due : (words : CommandLine) (s : Shelf) (plan : Plan) (ready : IsReady words s plan) → IsDue words s (Runs plan.form ready.pieces)
+pub ready_due : (words : CommandLine) (s : Shelf) (plan : Plan) (ready : IsReady words s plan) → IsDue words s (Runs plan.form ready.pieces)
 ready_due words s plan ready = runs ready.scripted.words_are ready.scripted.script_is.there ready.scripted.script_is.is ready.there ready.absent
 
 left_by_run : (f : RunFault) (form : FirstForm) (pieces : List (List ℕ)) (old new : Option Shelf) → IsRunStep form.store f → LeftOpen form.output old new

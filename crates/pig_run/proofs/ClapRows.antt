@@ -147,9 +147,6 @@ use_passes x v rows e = rw e refl
 pub use_fails : (x : Slot) (v : Word) (rows : List Row) → has_row (id_of x) rows ≡ true → use_fault false (arg_of x) (v ∷ []) rows ≡ kind.ArgumentConflict ∷ []
 use_fails x v rows e = rw e refl
 
-pub use_of_none : (x : Slot) (rows : List Row) → use_fault false (arg_of x) [] rows ≡ kind.InvalidValue ∷ []
-use_of_none x rows = refl
-
 -- ---- rows that show what was given
 
 abbrev Seen : Type 0

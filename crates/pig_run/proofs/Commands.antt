@@ -140,15 +140,3 @@ made_of_read hosts words v g c begins read is =
     let gives = subst (λ xs. Gives nothing_given xs is.given) (same_rest c.verb v is.rest (drop 1 words) same) is.gives in
     let given = read.only is.given gives in
     (same_verb c.verb v is.rest (drop 1 words) same, subst AreValues given (values_given gives none_given), subst (λ x. Makes hosts x c) given is.makes)
-
--- and the other way round
-pub command_of_made : (hosts : ℕ) (words : List Word) (v : Verb) (g : Given) (c : Command) → words ≡ verb_word v ∷ drop 1 words → AreRead (drop 1 words) g
-    → (c.verb ≡ v) × AreValues g × Makes hosts g c → IsCommand hosts words c
-command_of_made hosts words v g c begins read h =
-    record { rest = drop 1 words; given = g; begins = begins ∙ ap (λ w. verb_word w ∷ drop 1 words) (sym h.0); gives = read.gives h.1; makes = h.2 }
-
--- words without an operand are no command
-pub no_command : (hosts : ℕ) (words : List Word) (c : Command) → LackOperand (drop 1 words) → IsCommand hosts words c → ⊥
-no_command hosts words c lacks is =
-    let gives = subst (λ xs. Gives nothing_given xs is.given) (ap (drop 1) (sym is.begins)) is.gives in
-    let bad : None ≡ Some c.operand = sym (lacks is.given gives) ∙ is.makes.operand in cc

@@ -46,17 +46,3 @@ module _ (words : CommandLine) (s : Shelf) (form : FirstForm) (is : IsScripted w
   is_ready lengths there absent =
       let behind = pieces_behind (pieces_of form.input s.inputs) lengths there in
       record { scripted = is; pieces = behind.0; there = behind.1; lengths = behind.2; absent = absent }
-
--- no step behind the words blames the words
-pub not_usage : (f : RunFault) → IsPlanFault f → IsNotUsage f
-not_usage fault.Usage h = h
-not_usage fault.NoScript h = tt
-not_usage (fault.Lex offset) h = tt
-not_usage (fault.Syntax statement) h = tt
-not_usage fault.NotYet h = tt
-not_usage (fault.NoInput path) h = tt
-not_usage (fault.OutputExists dir) h = tt
-not_usage (fault.DepotFault store) h = tt
-not_usage fault.HostFault h = tt
-not_usage fault.OutOfMemory h = tt
-not_usage (fault.TooLarge which) h = tt

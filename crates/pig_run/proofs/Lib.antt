@@ -10,6 +10,7 @@ pub mod FormFound
 mod Readings
 mod ReadingSteps
 mod Answering
+mod Asking
 mod Decided
 mod Done
 mod Due

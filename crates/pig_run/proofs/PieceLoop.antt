@@ -7,7 +7,7 @@ use Rattle.std.proofs.lemmas.Option.{slice_get-get_or}
 use Rattle.pig_value.specs.declared.inputs.Input.{Input}
 use Rattle.pig_value.specs.Lines.{lines}
 use Rattle.pig_value.specs.Texts.{rows_text}
-use Rattle.pig_outside.specs.RangeLaws.{piece_at as numbered, has_whole, whole_piece}
+use Rattle.pig_outside.proofs.RangeLaws.{piece_at as numbered, has_whole, whole_piece}
 use Rattle.pig_outside.specs.Shelf.{HasRange, pieces_of, piece_of, lengths_of, range_of}
 use Rattle.pig_run.specs.declared.filtering.Filter.{Filter}
 use Rattle.pig_run.specs.declared.stored.Stored.{Stored}

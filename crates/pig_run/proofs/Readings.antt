@@ -72,8 +72,8 @@ some_formed ss = by_form (form_of ss) refl
     by_form None e = (Refuses fault.NotYet, not_built (form_told ss None e))
     by_form (Some form) e = (Finds form, formed (form_told ss (Some form) e))
 
-some_parsed : (ts : List Token) (ps : List Piece) → All (IsShallow ts) ps → (v : Finding) × IsParsed ts ps v
-some_parsed ts ps h = elim (trees_or_off ts ps h) [
+some_parsed : (ts : List Token) (ps : List Piece) → (v : Finding) × IsParsed ts ps v
+some_parsed ts ps = elim (trees_or_off ts ps) [
   | inl trees ↦ (let form = some_formed trees.0 in (form.0, parsed trees.1 form.1))
   | inr off ↦ (Refuses (fault.Syntax off.0), off_grammar off.1)
 ]
@@ -104,7 +104,7 @@ some_measured ts ps = elim (cases_lt 4096 (length ps)) [
   | inl many ↦ (Refuses (fault.TooLarge large.Statements), too_many many)
   | inr few ↦ elim (all_decided (IsShallow ts) (shallow_decided ts) ps) [
     | inr deep ↦ (Refuses (fault.TooLarge large.Depth), too_deep few deep)
-    | inl shallow ↦ (let rest = some_parsed ts ps shallow in (rest.0, measured few shallow rest.1))
+    | inl shallow ↦ (let rest = some_parsed ts ps in (rest.0, measured few shallow rest.1))
   ]
 ]
 

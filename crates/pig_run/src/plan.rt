@@ -1,8 +1,10 @@
-ghost use Rattle.std.specs.Prelude.{◌≡◌, ◌≤◌, ◌⊎◌, true, false, Some, None, MatchResult, IfOk, IfErr};
+ghost use Rattle.std.specs.Prelude.{◌≡◌, ◌≤◌, ◌⊎◌, ◌∷◌, [], true, false, Some, None, MatchResult, IfOk, IfErr};
 ghost use Rattle.std.specs.Option.{ForSome};
 ghost use Rattle.pig_outside.specs.Shelf.{lengths_at, has_dir};
+ghost use Rattle.pig_outside.specs.declared.failing.Method.TheVariants as method;
 ghost use Rattle.pig_run.specs.Answers.{AreWords, HasWords};
 ghost use Rattle.pig_run.specs.Steps.{IsScriptAt, IsScripted, IsReady, IsRefused, ScriptRefusal, IsDepotStep, IsPlanFault, DepotCause, SaysWords, depot_fault_of};
+ghost use Rattle.pig_run.specs.Asked.{Asked, AskedFor, call, look_calls};
 ghost use Rattle.pig_run.specs.Reading.{Finds};
 ghost use Rattle.pig_run.specs.Running.{IsForm};
 ghost use Rattle.pig_run.specs.declared.first_form.FirstForm.{FirstForm};
@@ -48,6 +50,8 @@ fn load_form<D: Depot>(alloc: Global, depot: &mut D, path: &str) -> Result<First
     ensures fault { IfErr result IsPlanFault }
     ensures shelf { D.shelf depot.new ≡ D.shelf depot.old }
     ensures cause { DepotCause (D.faults depot.old) (D.faults depot.new) result }
+    ensures stores { D.store_faults depot.new ≡ D.store_faults depot.old }
+    ensures asked { Asked (call method.Script path.now ∷ []) (D.calls depot.old) (D.calls depot.new) }
 {
     let mut script = Vec::new(alloc);
     match depot.script(path, MOST_SCRIPT + 1, &mut script) {
@@ -73,6 +77,8 @@ fn read_plan<D: Depot>(
     ensures words { MatchResult result (λ _. HasWords (record { hosts = hosts; words = words.now })) (SaysWords (record { hosts = hosts; words = words.now })) }
     ensures shelf { D.shelf depot.new ≡ D.shelf depot.old }
     ensures cause { DepotCause (D.faults depot.old) (D.faults depot.new) result }
+    ensures stores { D.store_faults depot.new ≡ D.store_faults depot.old }
+    ensures asked { IfOk result (λ _. AskedFor (record { hosts = hosts; words = words.now }) (λ path. call method.Script path ∷ []) (D.calls depot.old) (D.calls depot.new)) }
 {
     let path = read_path(alloc, words, hosts)?;
     load_form(alloc, depot, path.as_str())
@@ -86,6 +92,8 @@ fn find_input<D: Depot>(alloc: Global, depot: &mut D, form: &FirstForm) -> Resul
     ensures fault { IfErr result IsPlanFault }
     ensures shelf { D.shelf depot.new ≡ D.shelf depot.old }
     ensures cause { DepotCause (D.faults depot.old) (D.faults depot.new) result }
+    ensures stores { D.store_faults depot.new ≡ D.store_faults depot.old }
+    ensures asked { Asked (call method.Pieces form.now.input ∷ []) (D.calls depot.old) (D.calls depot.new) }
 {
     match depot.pieces(form.input.as_str()) {
         Ok(Some(lengths)) => Ok(lengths),
@@ -104,6 +112,8 @@ fn check_output<D: Depot>(alloc: Global, depot: &mut D, form: &FirstForm) -> Res
     ensures fault { IfErr result IsPlanFault }
     ensures shelf { D.shelf depot.new ≡ D.shelf depot.old }
     ensures cause { DepotCause (D.faults depot.old) (D.faults depot.new) result }
+    ensures stores { D.store_faults depot.new ≡ D.store_faults depot.old }
+    ensures asked { Asked (call method.Exists form.now.output ∷ []) (D.calls depot.old) (D.calls depot.new) }
 {
     match depot.exists(form.output.as_str()) {
         Ok(false) => Ok(()),
@@ -136,6 +146,8 @@ pub fn prepare<D: Depot>(
     ensures words { MatchResult result (λ _. HasWords (record { hosts = hosts; words = words.now })) (SaysWords (record { hosts = hosts; words = words.now })) }
     ensures shelf { D.shelf depot.new ≡ D.shelf depot.old }
     ensures cause { DepotCause (D.faults depot.old) (D.faults depot.new) result }
+    ensures stores { D.store_faults depot.new ≡ D.store_faults depot.old }
+    ensures asked { IfOk result (λ p. AskedFor (record { hosts = hosts; words = words.now }) (λ path. look_calls path p.form) (D.calls depot.old) (D.calls depot.new)) }
 {
     let form = read_plan(alloc, words, hosts, depot)?;
     let lengths = find_input(alloc, depot, &form)?;

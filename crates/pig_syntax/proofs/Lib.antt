@@ -17,3 +17,5 @@ pub mod LineFree
 pub mod CutLaws
 pub mod CutSteps
 pub mod Totals
+pub mod ExprTreeLaws
+mod FormedSamples

@@ -1,4 +1,6 @@
-pub mod Tokens
+pub mod Cutting
+pub mod ExprTrees
+pub mod Formed
 pub mod Scanner
 pub mod Steps
-pub mod Cutting
+pub mod Tokens

@@ -5,6 +5,7 @@ use Rattle.std.specs.List.{list_all}
 use Rattle.std.specs.Option.{option_map_or}
 use Rattle.std.specs.Str.{IsUtf8, str_eq_ignore_ascii_case}
 use Rattle.std.specs.Str.Parse.{digits_value}
+use Rattle.pig_value.specs.Texts.{HasNoLf}
 use Rattle.pig_syntax.specs.declared.lexing.LexFault.{LexFault}
 use Rattle.pig_syntax.specs.declared.lexing.LexFault.TheVariants as fault
 use Rattle.pig_syntax.specs.declared.tokens.Keyword.{Keyword}
@@ -274,7 +275,8 @@ abbrev pub IsLexFault : List ℕ → LexFault → Type 0
 IsLexFault script (fault.Bad offset) = IsBadAt script offset
 IsLexFault script fault.OutOfMemory = Unit {0}
 
--- a text holds no LF
+-- neither a name nor a text holds an LF
 abbrev pub HoldsNoLf : TokenForm → Type 0
-HoldsNoLf (f.Text content) = list_all is_in_line content ≡ true
+HoldsNoLf (f.Ident name) = HasNoLf name
+HoldsNoLf (f.Text content) = HasNoLf content
 HoldsNoLf _ = Unit {0}

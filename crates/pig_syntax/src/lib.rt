@@ -6,18 +6,15 @@
 //! that are open at once. The trees that statements are read as stand here as types.
 //!
 //! `specs/Tokens` says what a token's text is and where a token begins, `specs/Cutting` where a statement
-//! ends and how deep brackets nest.
+//! ends and how deep brackets nest. `specs/Formed` says of trees alone that they are as the grammar gives
+//! them, and `specs/ExprTrees` has expressions and written types as plain trees.
 #![tactic(auto)]
 
-#[cfg(test)]
-mod cut_tests;
 mod cutting;
 mod forms;
 mod laws;
 mod lexing;
 mod scanning;
-#[cfg(test)]
-mod tests;
 mod tokens;
 mod trees;
 

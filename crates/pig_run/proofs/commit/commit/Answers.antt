@@ -1,7 +1,10 @@
 use Rattle.std.proofs.Common.{rules, ◌≡◌, ◌∷◌, [], sym, ◌∙◌, ap, subst, inr}
 use Rattle.std.specs.Option.{option_map}
 use Rattle.pig_outside.specs.Shelf.{with_dir, with_new, with_part, with_mark, open_state, LeftUnmarked}
-use Rattle.pig_outside.specs.ShelfLaws.{part_added, mark_set, left_unmarked, can_put, can_finish}
+use Rattle.pig_outside.proofs.ShelfLaws.{part_added, mark_set, left_unmarked, can_put, can_finish}
+use Rattle.pig_outside.specs.declared.failing.Method.TheVariants as method
+use Rattle.pig_run.specs.Asked.{call}
+use Rattle.pig_run.proofs.Asking.{asked_then}
 use Rattle.pig_run.proofs.commit.commit.Goals as goal
 
 pub put-requires : goal.put-requires
@@ -45,3 +48,10 @@ returns-clause-ok g c =
     let both : g.D.Depot.shelf c.put.new.self ≡ option_map (with_dir c.args.dir.now (open_state (c.args.bytes.now ∷ []))) old =
     put ∙ ap (option_map (with_part c.args.dir.now c.args.bytes.now)) created ∙ part_added c.args.dir.now c.args.bytes.now (open_state []) old in
     marked ∙ ap (option_map (with_mark c.args.dir.now)) both ∙ mark_set c.args.dir.now (open_state (c.args.bytes.now ∷ [])) old
+
+pub returns-clause-asked : goal.returns-clause-asked
+returns-clause-asked g c =
+    let calls = g.D.Depot.calls in
+    let dir = c.args.dir.now in
+    let two = asked_then (call method.Create dir ∷ []) (call method.Put dir ∷ []) (calls c.args.depot.now) (calls c.create.new.self) (calls c.put.new.self) c.create.ensures.calls c.put.ensures.calls in
+    asked_then (call method.Create dir ∷ call method.Put dir ∷ []) (call method.Finish dir ∷ []) (calls c.args.depot.now) (calls c.put.new.self) (calls c.finish.new.self) two c.finish.ensures.calls

@@ -4,6 +4,8 @@ use Rattle.pig_run.specs.declared.outcome.RunFault.TheVariants as fault
 use Rattle.pig_run.specs.Answers.{AreWords, CommandLine, HasWords}
 use Rattle.pig_run.specs.Steps.{IsScripted}
 use Rattle.pig_run.proofs.Due.{words_refused, script_refused}
+use Rattle.pig_run.specs.Asked.{AskedFor}
+use Rattle.pig_run.proofs.Asking.{where_ok}
 use Rattle.pig_run.proofs.plan.read_plan.Goals as goal
 
 pub returns-in_err-path-clause-told : goal.returns-in_err-path-clause-told
@@ -18,3 +20,10 @@ returns-clause-told g c s told =
     let same : c.as_str.result.now ≡ c.in_ok-path.path = search rules in
     let are : AreWords line c.as_str.result.now = subst (AreWords line) (sym same) read in
     MatchResult-weaker c.load_form.result (c.load_form.ensures.told s told) (λ f h. record { path = c.as_str.result.now; words_are = are; script_is = h }) (λ f h. script_refused line s c.as_str.result.now are f h)
+
+pub returns-clause-asked : goal.returns-clause-asked
+returns-clause-asked g c =
+    let line : CommandLine = record { hosts = c.args.hosts; words = c.args.words.now } in
+    let read : AreWords line c.in_ok-path.path = search rules in
+    let same : c.as_str.result.now ≡ c.in_ok-path.path = search rules in
+    where_ok c.load_form.result (record { path = c.as_str.result.now; words_are = subst (AreWords line) (sym same) read; asked = c.load_form.ensures.asked })

@@ -1,0 +1,280 @@
+-- Names, types and expressions that are read from tokens without an LF have trees as the grammar gives them.
+use Rattle.std.specs.Prelude.{◌≡◌, ◌≢◌, ℕ, true, false, List, [], ◌∷◌, ◌++◌, length, map, Option, Some, None, All, IfSome, codes}
+use Rattle.std.proofs.Common.{refl, sym, subst, arith}
+use Rattle.std.proofs.lemmas.List.Elements.{All-append, All-cons, All-nil}
+use Rattle.pig_value.specs.declared.operators.ChainOp.{ChainOp}
+use Rattle.pig_value.specs.declared.operators.ChainOp.TheVariants as op
+use Rattle.pig_value.specs.Texts.{HasNoLf}
+use Rattle.pig_syntax.specs.declared.tokens.Keyword.{Keyword}
+use Rattle.pig_syntax.specs.declared.tokens.Keyword.TheVariants as k
+use Rattle.pig_syntax.specs.declared.tokens.Symbol.TheVariants as s
+use Rattle.pig_syntax.specs.declared.tokens.TokenForm.{TokenForm}
+use Rattle.pig_syntax.specs.declared.tokens.TokenForm.TheVariants as f
+use Rattle.pig_syntax.specs.declared.trees.Expr.{Expr}
+use Rattle.pig_syntax.specs.declared.trees.Expr.TheVariants as e
+use Rattle.pig_syntax.specs.declared.trees.FieldRef.{FieldRef}
+use Rattle.pig_syntax.specs.declared.trees.FieldTree.{FieldTree}
+use Rattle.pig_syntax.specs.declared.trees.Link.{Link}
+use Rattle.pig_syntax.specs.declared.trees.PostStep.{PostStep}
+use Rattle.pig_syntax.specs.declared.trees.PostStep.TheVariants as step
+use Rattle.pig_syntax.specs.declared.trees.TypeTree.{TypeTree}
+use Rattle.pig_syntax.specs.declared.trees.TypeTree.TheVariants as type
+use Rattle.pig_syntax.specs.ExprTrees.{TypeForm, FieldForms, no_fields, typed_field, bare_field, type_form, field_form, field_forms, more_links, link_forms, link_form, expr_forms, expr_form}
+use Rattle.pig_syntax.specs.Formed.{AtLeast, FieldRefFormed, PostStepFormed, SelectionFormed, TypeFormed, FieldsFormed, MoreFieldsFormed, SchemaFormed, ChainRule, disjunction, conjunction, sum as sums, product, rule_of, ExprFormed, LinksFormed, ExprsFormed, IsExprFormed}
+use Rattle.pig_syntax.specs.Tokens.{HoldsNoLf, is_in_line}
+use Rattle.pig_syntax.proofs.LineFree.{no_lf}
+use Rattle.pig_syntax.proofs.ExprTreeLaws.{form-Int, form-Long, form-Float, form-Text, form-Bool, form-Null, form-Field, form-Chain, form-Compare, form-IsNull, form-Not, form-Minus, form-Cast, form-Post, form-Call, form-Choose, link_is, form-TypeInt, form-TypeLong, form-Chararray, form-Bytearray, form-Boolean, form-TypeFloat, form-Tuple, form-Bag, form-Map, form-MapBare, field_typed as typed_is, field_bare as bare_is}
+use Rattle.pig_exprs.specs.Grammar.{Forms, Listed, part_of, IsName, IsFieldRef, IsSelection, scalar_of, IsType, IsTuple, IsBag, IsMap, IsSchema, AreFields, IsField, IsCastType, Level, expr, conj, sum, term, chain_op, literal_of, ArePostSteps, Reads, Links, AreExprs}
+
+-- no token holds an LF
+abbrev pub Free : Forms → Type 0
+Free [] = Unit {0}
+Free (t ∷ ts) = HoldsNoLf t × Free ts
+
+-- the tree is such, and the tokens behind it hold no LF
+pub record Formed (tree_is : Type 0) (rest : Forms) : Type 0 where
+  pub tree : tree_is
+  pub free : Free rest
+
+pub listed_formed : {X : Type 0} {rule : Forms → X → Forms → Type 0} (P : X → Type 0) → ((ts : Forms) (x : X) (rest : Forms) → rule ts x rest → Free ts → Formed (P x) rest)
+    → {ts rest : Forms} {xs : List X} → Listed rule ts xs rest → Free ts → Formed (AtLeast 1 P xs) rest
+listed_formed P each (Listed.last {ts} {rest} {x} h) free =
+    let one = each ts x rest h free in
+    record { tree = record { many = omega arith; each = All-cons P x [] one.tree (All-nil P) }; free = one.free }
+listed_formed P each (Listed.more {ts} {mid} {rest} {x} {xs} h later) free =
+    let one = each ts x (f.Symbol s.Comma ∷ mid) h free in
+    let others = listed_formed P each later one.free.1 in
+    record { tree = record { many = omega arith; each = All-cons P x xs one.tree others.tree.each }; free = others.free }
+
+-- ---- names
+
+literal_free : (text : List ℕ) → text ≡ codes "group" → HasNoLf text
+literal_free text e = subst HasNoLf (sym e) (no_lf is_in_line refl (codes "group") refl)
+
+part_free : (t : TokenForm) (text : List ℕ) → part_of t ≡ Some text → HoldsNoLf t → HasNoLf text
+part_free (f.Ident name) text e h = let same : name ≡ text = cc in subst HasNoLf same h
+part_free (f.Keyword k.Group) text e h = literal_free text (cc)
+part_free t text e h = absurd (cc)
+
+pub name_formed : {ts rest : Forms} {text : List ℕ} → IsName ts text rest → Free ts → Formed (HasNoLf text) rest
+name_formed (IsName.part {t = t} {text = text} is) free = record { tree = part_free t text is free.0; free = free.1 }
+name_formed (IsName.parts {t = t} {text = text} {name = name} is more) free =
+    let later = name_formed more free.1.1 in
+    record {
+      tree = All-append (λ b. b ≢ 10) (text ++ codes "::") name (All-append (λ b. b ≢ 10) text (codes "::") (part_free t text is free.0) (no_lf is_in_line refl (codes "::") refl)) later.tree;
+      free = later.free;
+    }
+
+pub field_ref_formed : {ts rest : Forms} {r : FieldRef} → IsFieldRef ts r rest → Free ts → Formed (FieldRefFormed r) rest
+field_ref_formed (IsFieldRef.name h) free = let name = name_formed h free in record { tree = name.tree; free = name.free }
+field_ref_formed IsFieldRef.position free = record { tree = tt; free = free.1 }
+
+pub selection_formed : {ts rest : Forms} {p : PostStep} → IsSelection ts p rest → Free ts → Formed (SelectionFormed p) rest
+selection_formed (IsSelection.one {r = r} h) free =
+    let field = field_ref_formed h free in
+    record { tree = record { some = record { many = omega arith; each = All-cons FieldRefFormed r [] field.tree (All-nil FieldRefFormed) }; alone = λ single. refl }; free = field.free }
+selection_formed (IsSelection.several h) free =
+    let fields = listed_formed FieldRefFormed (λ ts r rest is from. field_ref_formed is from) h free.1 in
+    record { tree = record { some = fields.tree; alone = λ single. absurd (cc) }; free = fields.free.1 }
+
+-- ---- types
+
+float_formed : (t : TypeTree) → type.Float ≡ t → TypeFormed (type_form t)
+float_formed t same = subst (λ u. TypeFormed (type_form u)) same (subst TypeFormed (sym form-TypeFloat) tt)
+
+scalar_formed : (word : Keyword) (t : TypeTree) → scalar_of word ≡ Some t → TypeFormed (type_form t)
+scalar_formed k.Int t e = let same : type.Int ≡ t = cc in subst (λ u. TypeFormed (type_form u)) same (subst TypeFormed (sym form-TypeInt) tt)
+scalar_formed k.Long t e = let same : type.Long ≡ t = cc in subst (λ u. TypeFormed (type_form u)) same (subst TypeFormed (sym form-TypeLong) tt)
+scalar_formed k.Chararray t e = let same : type.Chararray ≡ t = cc in subst (λ u. TypeFormed (type_form u)) same (subst TypeFormed (sym form-Chararray) tt)
+scalar_formed k.Bytearray t e = let same : type.Bytearray ≡ t = cc in subst (λ u. TypeFormed (type_form u)) same (subst TypeFormed (sym form-Bytearray) tt)
+scalar_formed k.Boolean t e = let same : type.Boolean ≡ t = cc in subst (λ u. TypeFormed (type_form u)) same (subst TypeFormed (sym form-Boolean) tt)
+scalar_formed k.Float t e = float_formed t (cc)
+scalar_formed k.Double t e = float_formed t (cc)
+scalar_formed k.BigInteger t e = float_formed t (cc)
+scalar_formed k.BigDecimal t e = float_formed t (cc)
+scalar_formed k.DateTime t e = float_formed t (cc)
+scalar_formed word t e = absurd (cc)
+
+map_formed : (values : Option TypeTree) → IfSome values (λ t. TypeFormed (type_form t)) → TypeFormed (type_form (type.Map values))
+map_formed None h = subst TypeFormed (sym form-MapBare) tt
+map_formed (Some t) h = subst TypeFormed (sym (form-Map t)) h
+
+more_of : (fields : FieldForms) → FieldsFormed fields → MoreFieldsFormed fields
+more_of no_fields h = absurd h
+more_of (typed_field name t others) h = h
+more_of (bare_field name others) h = h
+
+-- one more field in front
+cons_formed : (p : List ℕ × Option TypeForm) (fields : FieldForms) → FieldsFormed (field_forms (p ∷ [])) → FieldsFormed fields → (ps : List (List ℕ × Option TypeForm)) → field_forms ps ≡ fields
+    → FieldsFormed (field_forms (p ∷ ps))
+cons_formed (name, Some t) fields h g ps e = (h.0, h.1, subst MoreFieldsFormed (sym e) (more_of fields g))
+cons_formed (name, None) fields h g ps e = (h.0, subst MoreFieldsFormed (sym e) (more_of fields g))
+
+mutual
+  pub type_formed : {ts rest : Forms} {t : TypeTree} → IsType ts t rest → Free ts → Formed (TypeFormed (type_form t)) rest
+  type_formed (IsType.type_scalar {word = word} {type = t} is) free = record { tree = scalar_formed word t is; free = free.1 }
+  type_formed (IsType.type_tuple {fields = fields} h) free = let inner = tuple_formed h free in record { tree = subst TypeFormed (sym (form-Tuple fields)) inner.tree; free = inner.free }
+  type_formed (IsType.type_bag {fields = fields} h) free = let inner = bag_formed h free in record { tree = subst TypeFormed (sym (form-Bag fields)) inner.tree; free = inner.free }
+  type_formed (IsType.type_bag_word {fields = fields} h) free = let inner = bag_formed h free.1 in record { tree = subst TypeFormed (sym (form-Bag fields)) inner.tree; free = inner.free }
+  type_formed (IsType.type_map {values = values} h) free = let inner = values_formed h free in record { tree = map_formed values inner.tree; free = inner.free }
+  type_formed (IsType.type_map_word {values = values} h) free = let inner = values_formed h free.1 in record { tree = map_formed values inner.tree; free = inner.free }
+
+  tuple_formed : {ts rest : Forms} {fields : List FieldTree} → IsTuple ts fields rest → Free ts → Formed (SchemaFormed fields) rest
+  tuple_formed (IsTuple.tuple_bare h) free = schema_formed h free
+  tuple_formed (IsTuple.tuple_word h) free = schema_formed h free.1
+
+  bag_formed : {ts rest : Forms} {fields : List FieldTree} → IsBag ts fields rest → Free ts → Formed (SchemaFormed fields) rest
+  bag_formed (IsBag.bag_bare h) free = let inner = tuple_formed h free.1 in record { tree = inner.tree; free = inner.free.1 }
+  bag_formed (IsBag.bag_named h) free = let inner = tuple_formed h free.1.1.1 in record { tree = inner.tree; free = inner.free.1 }
+
+  values_formed : {ts rest : Forms} {values : Option TypeTree} → IsMap ts values rest → Free ts → Formed (IfSome values (λ t. TypeFormed (type_form t))) rest
+  values_formed IsMap.map_bare free = record { tree = tt; free = free.1.1 }
+  values_formed (IsMap.map_typed h) free = let inner = type_formed h free.1 in record { tree = inner.tree; free = inner.free.1 }
+
+  pub schema_formed : {ts rest : Forms} {fields : List FieldTree} → IsSchema ts fields rest → Free ts → Formed (SchemaFormed fields) rest
+  schema_formed (IsSchema.schema h) free = let inner = fields_formed h free.1 in record { tree = inner.tree; free = inner.free.1 }
+
+  fields_formed : {ts rest : Forms} {fields : List FieldTree} → AreFields ts fields rest → Free ts → Formed (SchemaFormed fields) rest
+  fields_formed (AreFields.fields_last h) free = field_formed h free
+  fields_formed (AreFields.fields_more {field = field} {fields = fields} h later) free =
+      let first = field_formed h free in
+      let others = fields_formed later first.free.1 in
+      record { tree = cons_formed (field_form field) _ first.tree others.tree (map field_form fields) refl; free = others.free }
+
+  pub field_formed : {ts rest : Forms} {field : FieldTree} → IsField ts field rest → Free ts → Formed (SchemaFormed (field ∷ [])) rest
+  field_formed (IsField.field_bare {text = text}) free = record { tree = subst (λ p. FieldsFormed (field_forms (p ∷ []))) (sym (bare_is text)) (free.0, tt); free = free.1 }
+  field_formed (IsField.field_typed {text = text} {type = t} h) free =
+      let inner = type_formed h free.1.1 in
+      record { tree = subst (λ p. FieldsFormed (field_forms (p ∷ []))) (sym (typed_is text t)) (free.0, inner.tree, tt); free = inner.free }
+
+cast_type_formed : {ts rest : Forms} {t : TypeTree} → IsCastType ts t rest → Free ts → Formed (TypeFormed (type_form t)) rest
+cast_type_formed (IsCastType.cast_scalar {word = word} {type = t} is) free = record { tree = scalar_formed word t is; free = free.1 }
+cast_type_formed (IsCastType.cast_tuple {fields = fields} h) free = let inner = schema_formed h free.1 in record { tree = subst TypeFormed (sym (form-Tuple fields)) inner.tree; free = inner.free }
+cast_type_formed (IsCastType.cast_bag {fields = fields} h) free = let inner = bag_formed h free.1 in record { tree = subst TypeFormed (sym (form-Bag fields)) inner.tree; free = inner.free }
+cast_type_formed (IsCastType.cast_map {values = values} h) free = let inner = values_formed h free.1 in record { tree = map_formed values inner.tree; free = inner.free }
+
+-- ---- expressions
+
+literal_formed : (t : TokenForm) (a : Expr) → literal_of t ≡ Some a → HoldsNoLf t → IsExprFormed a
+literal_formed (f.Int n) a is h = let same : e.Int n ≡ a = cc in subst IsExprFormed same (subst ExprFormed (sym (form-Int n)) tt)
+literal_formed (f.Long n) a is h = let same : e.Long n ≡ a = cc in subst IsExprFormed same (subst ExprFormed (sym (form-Long n)) tt)
+literal_formed f.Float a is h = let same : e.Float ≡ a = cc in subst IsExprFormed same (subst ExprFormed (sym form-Float) tt)
+literal_formed (f.Text text) a is h = let same : e.Text text ≡ a = cc in subst IsExprFormed same (subst ExprFormed (sym (form-Text text)) h)
+literal_formed (f.Keyword k.True) a is h = let same : e.Bool true ≡ a = cc in subst IsExprFormed same (subst ExprFormed (sym (form-Bool true)) tt)
+literal_formed (f.Keyword k.False) a is h = let same : e.Bool false ≡ a = cc in subst IsExprFormed same (subst ExprFormed (sym (form-Bool false)) tt)
+literal_formed (f.Keyword k.Null) a is h = let same : e.Null ≡ a = cc in subst IsExprFormed same (subst ExprFormed (sym form-Null) tt)
+literal_formed t a is h = absurd (cc)
+
+step_of_selection : (p : PostStep) → SelectionFormed p → PostStepFormed p
+step_of_selection (step.Project fields single) h = h
+step_of_selection (step.Look key) h = absurd h
+
+steps_formed : {ts rest : Forms} {ps : List PostStep} → ArePostSteps ts ps rest → Free ts → Formed (All PostStepFormed ps) rest
+steps_formed ArePostSteps.none free = record { tree = All-nil PostStepFormed; free = free }
+steps_formed (ArePostSteps.project {p = p} {ps = ps} h later) free =
+    let first = selection_formed h free.1 in
+    let others = steps_formed later first.free in
+    record { tree = All-cons PostStepFormed p ps (step_of_selection p first.tree) others.tree; free = others.free }
+steps_formed (ArePostSteps.look {key = key} {ps = ps} later) free =
+    let others = steps_formed later free.1.1 in
+    record { tree = All-cons PostStepFormed (step.Look key) ps free.1.0 others.tree; free = others.free }
+
+-- the operators of a level come from this rule
+abbrev OfRule : Level → ChainRule → Type 0
+OfRule level rule = (o : ChainOp) (t : TokenForm) → chain_op level t ≡ Some o → rule_of o ≡ rule
+
+of_or : OfRule expr disjunction
+of_or o (f.Keyword k.Or) h = let same : op.Or ≡ o = cc in subst (λ x. rule_of x ≡ disjunction) same refl
+of_or o t h = absurd (cc)
+
+of_and : OfRule conj conjunction
+of_and o (f.Keyword k.And) h = let same : op.And ≡ o = cc in subst (λ x. rule_of x ≡ conjunction) same refl
+of_and o t h = absurd (cc)
+
+of_sum : OfRule sum sums
+of_sum o (f.Symbol s.Plus) h = let same : op.Add ≡ o = cc in subst (λ x. rule_of x ≡ sums) same refl
+of_sum o (f.Symbol s.Minus) h = let same : op.Sub ≡ o = cc in subst (λ x. rule_of x ≡ sums) same refl
+of_sum o t h = absurd (cc)
+
+of_term : OfRule term product
+of_term o (f.Symbol s.Star) h = let same : op.Mul ≡ o = cc in subst (λ x. rule_of x ≡ product) same refl
+of_term o (f.Symbol s.Slash) h = let same : op.Div ≡ o = cc in subst (λ x. rule_of x ≡ product) same refl
+of_term o (f.Symbol s.Percent) h = let same : op.Rem ≡ o = cc in subst (λ x. rule_of x ≡ product) same refl
+of_term o t h = absurd (cc)
+
+-- a chain of links that come from one rule
+chain_formed : (a : Expr) (l : Link) (ls : List Link) (rule : ChainRule) → IsExprFormed a → LinksFormed rule (link_forms (map link_form (l ∷ ls))) → IsExprFormed (e.Chain a (l ∷ ls))
+chain_formed a l ls rule h g = subst ExprFormed (sym (form-Chain a (l ∷ ls))) (h, g.1, subst (λ r. LinksFormed r (link_forms (map link_form ls))) (sym g.0) g.2)
+
+mutual
+  pub expr_formed : {level : Level} {ts rest : Forms} {a : Expr} → Reads level ts a rest → Free ts → Formed (IsExprFormed a) rest
+  expr_formed (Reads.expr_one h) free = expr_formed h free
+  expr_formed (Reads.expr_more {a = a} {l = l} {ls = ls} h links) free =
+      let first = expr_formed h free in
+      let others = links_formed links disjunction of_or first.free in
+      record { tree = chain_formed a l ls disjunction first.tree others.tree; free = others.free }
+  expr_formed (Reads.conj_one h) free = expr_formed h free
+  expr_formed (Reads.conj_more {a = a} {l = l} {ls = ls} h links) free =
+      let first = expr_formed h free in
+      let others = links_formed links conjunction of_and first.free in
+      record { tree = chain_formed a l ls conjunction first.tree others.tree; free = others.free }
+  expr_formed (Reads.neg_none h) free = expr_formed h free
+  expr_formed (Reads.neg_not {a = a} h) free = let inner = expr_formed h free.1 in record { tree = subst ExprFormed (sym (form-Not a)) inner.tree; free = inner.free }
+  expr_formed (Reads.comp_one h) free = expr_formed h free
+  expr_formed (Reads.comp_rel {r = r} {a = a} {b = b} h is g) free =
+      let first = expr_formed h free in
+      let second = expr_formed g first.free.1 in
+      record { tree = subst ExprFormed (sym (form-Compare r a b)) (first.tree, second.tree); free = second.free }
+  expr_formed (Reads.comp_null {a = a} h) free = let inner = expr_formed h free in record { tree = subst ExprFormed (sym (form-IsNull a false)) inner.tree; free = inner.free.1.1 }
+  expr_formed (Reads.comp_not_null {a = a} h) free = let inner = expr_formed h free in record { tree = subst ExprFormed (sym (form-IsNull a true)) inner.tree; free = inner.free.1.1.1 }
+  expr_formed (Reads.sum_one h) free = expr_formed h free
+  expr_formed (Reads.sum_more {a = a} {l = l} {ls = ls} h links) free =
+      let first = expr_formed h free in
+      let others = links_formed links sums of_sum first.free in
+      record { tree = chain_formed a l ls sums first.tree others.tree; free = others.free }
+  expr_formed (Reads.term_one h) free = expr_formed h free
+  expr_formed (Reads.term_more {a = a} {l = l} {ls = ls} h links) free =
+      let first = expr_formed h free in
+      let others = links_formed links product of_term first.free in
+      record { tree = chain_formed a l ls product first.tree others.tree; free = others.free }
+  expr_formed (Reads.unary_none h) free = expr_formed h free
+  expr_formed (Reads.unary_minus {a = a} h) free = let inner = expr_formed h free.1 in record { tree = subst ExprFormed (sym (form-Minus a)) inner.tree; free = inner.free }
+  expr_formed (Reads.casted_none h) free = expr_formed h free
+  expr_formed (Reads.casted_cast {type = t} {a = a} is h) free =
+      let to = cast_type_formed is free.1 in
+      let inner = expr_formed h to.free.1 in
+      record { tree = subst ExprFormed (sym (form-Cast t a)) (to.tree, inner.tree); free = inner.free }
+  expr_formed (Reads.post_one h) free = expr_formed h free
+  expr_formed (Reads.post_more {a = a} {p = p} {ps = ps} h steps) free =
+      let first = expr_formed h free in
+      let others = steps_formed steps first.free in
+      record { tree = subst ExprFormed (sym (form-Post a (p ∷ ps))) (first.tree, record { many = omega arith; each = others.tree }); free = others.free }
+  expr_formed (Reads.prim_literal {t = t} {a = a} is) free = record { tree = literal_formed t a is free.0; free = free.1 }
+  expr_formed (Reads.prim_field {r = r} h) free = let field = field_ref_formed h free in record { tree = subst ExprFormed (sym (form-Field r)) field.tree; free = field.free }
+  expr_formed (Reads.prim_call_none {name = name}) free = record { tree = subst ExprFormed (sym (form-Call name [])) (free.0, tt); free = free.1.1.1 }
+  expr_formed (Reads.prim_call {name = name} {args = args} h) free =
+      let inner = exprs_formed h free.1.1 in
+      record { tree = subst ExprFormed (sym (form-Call name args)) (free.0, inner.tree); free = inner.free.1 }
+  expr_formed (Reads.prim_paren h) free = let inner = expr_formed h free.1 in record { tree = inner.tree; free = inner.free.1 }
+  expr_formed (Reads.prim_choose {a = a} {b = b} {c = c} h g i) free =
+      let first = expr_formed h free.1 in
+      let second = expr_formed g first.free.1 in
+      let third = expr_formed i second.free.1 in
+      record { tree = subst ExprFormed (sym (form-Choose a b c)) (first.tree, second.tree, third.tree); free = third.free.1 }
+
+  links_formed : {chain member : Level} {ts rest : Forms} {ls : List Link} → Links chain member ts ls rest → (rule : ChainRule) → OfRule chain rule → Free ts → Formed (LinksFormed rule (link_forms (map link_form ls))) rest
+  links_formed Links.links_none rule same free = record { tree = tt; free = free }
+  links_formed (Links.links_link {t = t} {o = o} {a = a} {ls = ls} is h later) rule same free =
+      let first = expr_formed h free.1 in
+      let others = links_formed later rule same first.free in
+      record {
+        tree = subst (λ p. LinksFormed rule (more_links p.0 p.1 (link_forms (map link_form ls)))) (sym (link_is (record { op = o; a = a }))) (same o t is, first.tree, others.tree);
+        free = others.free;
+      }
+
+  exprs_formed : {ts rest : Forms} {args : List Expr} → AreExprs ts args rest → Free ts → Formed (ExprsFormed (expr_forms (map expr_form args))) rest
+  exprs_formed (AreExprs.exprs_last h) free = let inner = expr_formed h free in record { tree = (inner.tree, tt); free = inner.free }
+  exprs_formed (AreExprs.exprs_more h later) free =
+      let first = expr_formed h free in
+      let others = exprs_formed later first.free.1 in
+      record { tree = (first.tree, others.tree); free = others.free }

@@ -1,0 +1,200 @@
+-- Expressions are found where they stand.
+use Rattle.std.proofs.Common.{◌≡◌, ℕ, zero, suc, ◌<◌, ◌≤◌, refl, ◌∙◌, List, [], ◌∷◌, length, arith}
+use Rattle.std.specs.Prelude.{Some, None}
+use Rattle.pig_value.specs.declared.operators.Rel.{Rel}
+use Rattle.pig_syntax.specs.declared.tokens.TokenForm.{TokenForm}
+use Rattle.pig_syntax.specs.declared.trees.Expr.{Expr}
+use Rattle.pig_syntax.specs.declared.trees.Expr.TheVariants as ex
+use Rattle.pig_syntax.specs.declared.trees.Link.{Link}
+use Rattle.pig_syntax.specs.declared.trees.PostStep.{PostStep}
+use Rattle.pig_exprs.specs.Grammar.{Forms, Level, expr, conj, neg, comp, sum, term, unary, casted, post, prim, rel_of, ArePostSteps, none, project, look, Reads, expr_one, expr_more, conj_one, conj_more, neg_none, neg_not, comp_one, comp_rel, comp_null, comp_not_null, sum_one, sum_more, term_one, term_more, unary_none, unary_minus, casted_none, casted_cast, post_one, post_more, prim_literal, prim_field, prim_call_none, prim_call, prim_paren, prim_choose, Links, links_none, links_link, AreExprs, exprs_last, exprs_more}
+use Rattle.pig_exprs.specs.Reader.{Found, comma_turn, close_paren}
+use Rattle.pig_exprs.specs.ExprReader.{link_turn, chain_of, chain_at, post_turn, post_of, colon, both_at, paren_after, call_at, prim_at, post_at, cast_at, casted_at, unary_at, term_at, sum_at, null_test, rel_ahead, comp_after, comp_at, neg_at, conj_at, expr_with, expr_at}
+use Rattle.pig_exprs.proofs.Fits.{Fits}
+use Rattle.pig_exprs.proofs.Finds.{Finds, stops, goes, repeat_run, FindsRun, FindsAll, finds_map, finds_last, finds_more, finds_listed}
+use Rattle.pig_exprs.proofs.NamesFound.{field_ref_found, selection_found}
+use Rattle.pig_exprs.proofs.TypesFound.{cast_type_found}
+use Rattle.pig_exprs.proofs.Follow.{rank, rank_some, rank_few, binds, binds_ahead, binder_fits, op_binds, chain_stops, links_ahead, rel_binds, rel_no_null, no_null, no_rel, post_stops, name_stops, steps_ahead, literal_fits, reads_begin, neg_plain, unary_plain, casted_plain, casted_cast_at, prim_of_literal, prim_of_field, call_args}
+
+-- the reader of a rule
+abbrev pub read_at : Level → ℕ → (Forms → Found Expr) → Forms → Found Expr
+read_at expr most inner = expr_with most inner
+read_at conj most inner = conj_at most inner
+read_at neg most inner = neg_at most inner
+read_at comp most inner = comp_at most inner
+read_at sum most inner = sum_at most inner
+read_at term most inner = term_at most inner
+read_at unary most inner = unary_at most inner
+read_at casted most inner = casted_at most inner
+read_at post most inner = post_at inner
+read_at prim most inner = prim_at inner
+
+-- ---- parts
+
+-- a chain
+chain_found : (level : Level) (member : Forms → Found Expr) {ts mid rest : Forms} {a : Expr} {ls : List Link} {d : ℕ} → Finds member ts a mid d → FindsRun (link_turn level member) mid ls rest d
+    → Finds (chain_at level member) ts (chain_of a ls) rest d
+unfolding chain_at
+chain_found level member {mid = mid} first links = record { finds = rw (first.finds, repeat_run links.run (length mid) [] (omega arith)) refl; fits = links.fits; shorter = omega (arith, first.shorter, links.shorter) }
+
+-- a chain of one member
+chain_alone : (level : Level) (member : Forms → Found Expr) {ts rest : Forms} {a : Expr} {d : ℕ} → Finds member ts a rest d → binds_ahead rest < rank level → Finds (chain_at level member) ts a rest d
+unfolding chain_of
+chain_alone level member {rest = rest} first ends =
+    let found = chain_found level member {ls = []} first (record { run = stops (chain_stops level member rest ends); fits = first.fits; shorter = omega arith }) in
+    record { finds = found.finds; fits = found.fits; shorter = found.shorter }
+
+steps_found : {ts rest : Forms} {ps : List PostStep} → ArePostSteps ts ps rest → (d : ℕ) → Fits ts d → binds_ahead rest < 9 → FindsRun post_turn ts ps rest d
+unfolding Fits post_turn
+steps_found (none {ts = ts}) d fits ends = record { run = stops (post_stops ts ends); fits = fits; shorter = omega arith }
+steps_found (project {mid = mid} h later) d fits ends =
+    let first = selection_found h d fits (name_stops mid (steps_ahead later ends)) in
+    let next = steps_found later d first.fits ends in
+    record { run = goes (rw first.finds refl) (omega (arith, first.shorter)) next.run; fits = next.fits; shorter = omega (arith, first.shorter, next.shorter) }
+steps_found (look later) d fits ends =
+    let next = steps_found later d fits ends in
+    record { run = goes refl (omega arith) next.run; fits = next.fits; shorter = omega (arith, next.shorter) }
+
+post_found : (inner : Forms → Found Expr) {ts mid rest : Forms} {a : Expr} {ps : List PostStep} {d : ℕ} → Finds (prim_at inner) ts a mid d → FindsRun post_turn mid ps rest d
+    → Finds (post_at inner) ts (post_of a ps) rest d
+unfolding post_at
+post_found inner {mid = mid} first steps = record { finds = rw (first.finds, repeat_run steps.run (length mid) [] (omega arith)) refl; fits = steps.fits; shorter = omega (arith, first.shorter, steps.shorter) }
+
+-- nothing of a comparison follows
+comp_alone : (most : ℕ) (inner : Forms → Found Expr) (ts rest : Forms) (a : Expr) → sum_at most inner ts ≡ Some (a, rest) → binds_ahead rest < 4 → comp_at most inner ts ≡ Some (a, rest)
+unfolding comp_at comp_after
+comp_alone most inner ts rest a h ends = rw (h, no_null rest ends, no_rel rest ends) refl
+
+-- a sign and a second operand follow
+comp_both : (most : ℕ) (inner : Forms → Found Expr) (ts mid rest : Forms) (t : TokenForm) (r : Rel) (a b : Expr) → sum_at most inner ts ≡ Some (a, t ∷ mid) → rel_of t ≡ Some r
+    → sum_at most inner mid ≡ Some (b, rest) → comp_at most inner ts ≡ Some (ex.Compare r a b, rest)
+unfolding comp_at comp_after rel_ahead
+comp_both most inner ts mid rest t r a b h is g = rw (h, rel_no_null t mid r is, is, g) refl
+
+-- an expression inside one bracket more
+inside : (most : ℕ) {ts rest : Forms} {a : Expr} (n d : ℕ) → d < n → ((m : ℕ) → d ≤ m → Finds (expr_with most (expr_at most m)) ts a rest d) → Finds (expr_at most n) ts a rest d
+unfolding expr_at
+inside most zero d low given = absurd (omega (arith, low))
+inside most (suc m) d low given =
+    let found = given m (omega (arith, low)) in
+    record { finds = found.finds; fits = found.fits; shorter = found.shorter }
+
+-- ---- expressions
+
+mutual
+  unfolding Fits comma_turn close_paren colon link_turn chain_of post_of both_at paren_after call_at prim_at cast_at unary_at term_at sum_at null_test comp_after comp_at neg_at conj_at expr_with
+
+  pub reads_found : {l : Level} {ts rest : Forms} {a : Expr} → Reads l ts a rest → (d most depth : ℕ) → Fits ts d → d < most → d ≤ depth → binds_ahead rest < rank l
+      → Finds (read_at l most (expr_at most depth)) ts a rest d
+  reads_found (expr_one h) d most depth fits low below ends =
+      let found = chain_alone expr (read_at conj most (expr_at most depth)) (reads_found h d most depth fits low below (omega (arith, ends))) ends in
+      record { finds = found.finds; fits = found.fits; shorter = found.shorter }
+  reads_found (expr_more h links) d most depth fits low below ends =
+      let first = reads_found h d most depth fits low below (omega (arith, links_ahead links ends)) in
+      let found = chain_found expr (read_at conj most (expr_at most depth)) first (links_found links d most depth first.fits low below (omega arith) ends) in
+      record { finds = found.finds; fits = found.fits; shorter = found.shorter }
+  reads_found (conj_one h) d most depth fits low below ends =
+      let found = chain_alone conj (read_at neg most (expr_at most depth)) (reads_found h d most depth fits low below (omega (arith, ends))) ends in
+      record { finds = found.finds; fits = found.fits; shorter = found.shorter }
+  reads_found (conj_more h links) d most depth fits low below ends =
+      let first = reads_found h d most depth fits low below (omega (arith, links_ahead links ends)) in
+      let found = chain_found conj (read_at neg most (expr_at most depth)) first (links_found links d most depth first.fits low below (omega arith) ends) in
+      record { finds = found.finds; fits = found.fits; shorter = found.shorter }
+  reads_found (neg_none {ts = ts} h) d most depth fits low below ends =
+      let found = reads_found h d most depth fits low below (omega (arith, ends)) in
+      record { finds = neg_plain most (expr_at most depth) ts (reads_begin h) ∙ found.finds; fits = found.fits; shorter = found.shorter }
+  reads_found (neg_not h) d most depth fits low below ends =
+      let found = reads_found h d most depth fits low below (omega (arith, ends)) in
+      record { finds = rw found.finds refl; fits = found.fits; shorter = omega (arith, found.shorter) }
+  reads_found (comp_one {ts = ts} {rest = rest} {a = a} h) d most depth fits low below ends =
+      let found = reads_found h d most depth fits low below (omega (arith, ends)) in
+      record { finds = comp_alone most (expr_at most depth) ts rest a found.finds ends; fits = found.fits; shorter = found.shorter }
+  reads_found (comp_rel {ts = ts} {mid = mid} {rest = rest} {t = t} {r = r} {a = a} {b = b} h is g) d most depth fits low below ends =
+      let tight : binds t ≡ 4 = rel_binds t r is in
+      let first = reads_found h d most depth fits low below (omega (arith, tight)) in
+      let next = reads_found g d most depth (binder_fits t mid d (omega (arith, tight)) (omega (arith, tight)) first.fits) low below (omega (arith, ends)) in
+      record { finds = comp_both most (expr_at most depth) ts mid rest t r a b first.finds is next.finds; fits = next.fits; shorter = omega (arith, first.shorter, next.shorter) }
+  reads_found (comp_null h) d most depth fits low below ends =
+      let found = reads_found h d most depth fits low below (omega arith) in
+      record { finds = rw found.finds refl; fits = found.fits; shorter = omega (arith, found.shorter) }
+  reads_found (comp_not_null h) d most depth fits low below ends =
+      let found = reads_found h d most depth fits low below (omega arith) in
+      record { finds = rw found.finds refl; fits = found.fits; shorter = omega (arith, found.shorter) }
+  reads_found (sum_one h) d most depth fits low below ends =
+      let found = chain_alone sum (read_at term most (expr_at most depth)) (reads_found h d most depth fits low below (omega (arith, ends))) ends in
+      record { finds = found.finds; fits = found.fits; shorter = found.shorter }
+  reads_found (sum_more h links) d most depth fits low below ends =
+      let first = reads_found h d most depth fits low below (omega (arith, links_ahead links ends)) in
+      let found = chain_found sum (read_at term most (expr_at most depth)) first (links_found links d most depth first.fits low below (omega arith) ends) in
+      record { finds = found.finds; fits = found.fits; shorter = found.shorter }
+  reads_found (term_one h) d most depth fits low below ends =
+      let found = chain_alone term (read_at unary most (expr_at most depth)) (reads_found h d most depth fits low below (omega (arith, ends))) ends in
+      record { finds = found.finds; fits = found.fits; shorter = found.shorter }
+  reads_found (term_more h links) d most depth fits low below ends =
+      let first = reads_found h d most depth fits low below (omega (arith, links_ahead links ends)) in
+      let found = chain_found term (read_at unary most (expr_at most depth)) first (links_found links d most depth first.fits low below (omega arith) ends) in
+      record { finds = found.finds; fits = found.fits; shorter = found.shorter }
+  reads_found (unary_none {ts = ts} h) d most depth fits low below ends =
+      let found = reads_found h d most depth fits low below (omega (arith, ends)) in
+      record { finds = unary_plain most (expr_at most depth) ts (reads_begin h) ∙ found.finds; fits = found.fits; shorter = found.shorter }
+  reads_found (unary_minus h) d most depth fits low below ends =
+      let found = reads_found h d most depth fits low below (omega (arith, ends)) in
+      record { finds = rw found.finds refl; fits = found.fits; shorter = omega (arith, found.shorter) }
+  reads_found (casted_none h) d most depth fits low below ends =
+      let found = reads_found h d most depth fits low below (omega (arith, ends)) in
+      record { finds = casted_plain most (expr_at most depth) h ∙ found.finds; fits = found.fits; shorter = found.shorter }
+  reads_found (casted_cast type h) zero most depth fits low below ends = absurd fits
+  reads_found (casted_cast type h) (suc d) most depth fits low below ends =
+      let cast = cast_type_found type d most fits (omega (arith, low)) in
+      let found = reads_found h (suc d) most depth cast.fits low below (omega (arith, ends)) in
+      record { finds = casted_cast_at most (expr_at most depth) type ∙ rw (cast.finds, found.finds) refl; fits = found.fits; shorter = omega (arith, cast.shorter, found.shorter) }
+  reads_found (post_one {rest = rest} h) d most depth fits low below ends =
+      let first = reads_found h d most depth fits low below (omega (arith, ends)) in
+      let found = post_found (expr_at most depth) {ps = []} first (record { run = stops (post_stops rest ends); fits = first.fits; shorter = omega arith }) in
+      record { finds = found.finds; fits = found.fits; shorter = found.shorter }
+  reads_found (post_more h steps) d most depth fits low below ends =
+      let first = reads_found h d most depth fits low below (steps_ahead steps ends) in
+      let found = post_found (expr_at most depth) first (steps_found steps d first.fits ends) in
+      record { finds = found.finds; fits = found.fits; shorter = found.shorter }
+  reads_found (prim_literal {ts = ts} {t = t} {a = a} is) d most depth fits low below ends =
+      record { finds = prim_of_literal (expr_at most depth) t ts a is; fits = literal_fits t ts a d is fits; shorter = omega arith }
+  reads_found (prim_field {ts = ts} {rest = rest} h) d most depth fits low below ends =
+      finds_map (field_ref_found h d fits (name_stops rest ends)) (prim_at (expr_at most depth)) ts ex.Field (prim_of_field (expr_at most depth) h (omega (arith, ends))) (omega arith)
+  reads_found prim_call_none zero most depth fits low below ends = absurd fits
+  reads_found prim_call_none (suc d) most depth fits low below ends = record { finds = refl; fits = fits; shorter = omega arith }
+  reads_found (prim_call h) zero most depth fits low below ends = absurd fits
+  reads_found (prim_call {name = name} h) (suc d) most depth fits low below ends =
+      let found = finds_listed (exprs_found h d most depth fits (omega (arith, low)) (omega (arith, below)) (omega arith) refl) in
+      record { finds = call_args (expr_at most depth) name h ∙ rw found.finds refl; fits = found.fits; shorter = omega (arith, found.shorter) }
+  reads_found (prim_paren h) zero most depth fits low below ends = absurd fits
+  reads_found (prim_paren h) (suc d) most depth fits low below ends =
+      let found = inside most depth d (omega (arith, below)) (λ m less. reads_found h d most m fits (omega (arith, low)) less (omega arith)) in
+      record { finds = rw found.finds refl; fits = found.fits; shorter = omega (arith, found.shorter) }
+  reads_found (prim_choose a b c) zero most depth fits low below ends = absurd fits
+  reads_found (prim_choose a b c) (suc d) most depth fits low below ends =
+      let first = inside most depth d (omega (arith, below)) (λ m less. reads_found a d most m fits (omega (arith, low)) less (omega arith)) in
+      let left = inside most depth d (omega (arith, below)) (λ m less. reads_found b d most m first.fits (omega (arith, low)) less (omega arith)) in
+      let right = inside most depth d (omega (arith, below)) (λ m less. reads_found c d most m left.fits (omega (arith, low)) less (omega arith)) in
+      record { finds = rw (first.finds, left.finds, right.finds) refl; fits = right.fits; shorter = omega (arith, first.shorter, left.shorter, right.shorter) }
+
+  links_found : {chain member : Level} {ts rest : Forms} {ls : List Link} → Links chain member ts ls rest → (d most depth : ℕ) → Fits ts d → d < most → d ≤ depth → rank chain < rank member
+      → binds_ahead rest < rank chain → FindsRun (link_turn chain (read_at member most (expr_at most depth))) ts ls rest d
+  links_found (links_none {chain = chain} {member = member} {ts = ts}) d most depth fits low below loose ends =
+      record { run = stops (chain_stops chain (read_at member most (expr_at most depth)) ts ends); fits = fits; shorter = omega arith }
+  links_found (links_link {chain = chain} {t = t} {ts = ts} {o = o} is h later) d most depth fits low below loose ends =
+      let tight : binds t ≡ rank chain = op_binds chain t o is in
+      let behind = binder_fits t ts d (omega (arith, tight, rank_some chain)) (omega (arith, tight, rank_few chain)) fits in
+      let first = reads_found h d most depth behind low below (omega (arith, loose, links_ahead later ends)) in
+      let next = links_found later d most depth first.fits low below loose ends in
+      record { run = goes (rw (is, first.finds) refl) (omega (arith, first.shorter)) next.run; fits = next.fits; shorter = omega (arith, first.shorter, next.shorter) }
+
+  exprs_found : {ts rest : Forms} {args : List Expr} → AreExprs ts args rest → (d most depth : ℕ) → Fits ts d → d < most → d < depth → binds_ahead rest < 1
+      → comma_turn (expr_at most depth) rest ≡ Some None → FindsAll (expr_at most depth) ts args rest d
+  exprs_found (exprs_last h) d most depth fits low below ends last = finds_last (inside most depth d below (λ m less. reads_found h d most m fits low less ends)) last
+  exprs_found (exprs_more h later) d most depth fits low below ends last =
+      let first = inside most depth d below (λ m less. reads_found h d most m fits low less (omega arith)) in
+      finds_more first (exprs_found later d most depth first.fits low below ends last)
+
+-- an expression in front of what does not go on with it
+pub expr_found : {ts rest : Forms} {a : Expr} → Reads expr ts a rest → (d most depth : ℕ) → Fits ts d → d < most → d < depth → binds_ahead rest < 1 → Finds (expr_at most depth) ts a rest d
+expr_found h d most depth fits low below ends = inside most depth d below (λ m less. reads_found h d most m fits low less ends)

@@ -1,0 +1,195 @@
+-- What is read as an expression, at any depth of brackets, stands by its rule.
+use Rattle.std.proofs.Common.{ℕ, zero, suc, List, [], ◌∷◌, length}
+use Rattle.pig_syntax.specs.declared.tokens.Keyword.TheVariants as k
+use Rattle.pig_syntax.specs.declared.tokens.Symbol.TheVariants as s
+use Rattle.pig_syntax.specs.declared.tokens.TokenForm.TheVariants as f
+use Rattle.pig_syntax.specs.declared.trees.Expr.{Expr}
+use Rattle.pig_syntax.specs.declared.trees.Expr.TheVariants as e
+use Rattle.pig_syntax.specs.declared.trees.Link.{Link}
+use Rattle.pig_syntax.specs.declared.trees.PostStep.{PostStep}
+use Rattle.pig_exprs.specs.Grammar.{Forms, Listed, Level, expr, conj, neg, comp, sum, term, unary, casted, post, prim, chain_op, rel_of, literal_of, IsCastType, ArePostSteps, Reads, Links, AreExprs}
+use Rattle.pig_exprs.specs.Reader.{Found, type_at}
+use Rattle.pig_exprs.specs.ExprReader.{link_turn, chain_of, chain_at, post_turn, post_of, colon, both_at, paren_after, call_at, simple_at, prim_at, post_at, begins_type, cast_at, casted_at, unary_at, term_at, sum_at, null_test, rel_ahead, comp_after, comp_at, neg_at, conj_at, expr_with, expr_at}
+use Rattle.pig_exprs.proofs.Options.{Holds, itself, holds_then, holds_map, holds_map_or, holds_weaken, holds_if}
+use Rattle.pig_exprs.proofs.ListSound.{Upholds, TurnsLead, repeat_runs, listed_upholds, closes}
+use Rattle.pig_exprs.proofs.NamesSound.{field_ref_upholds, selection_upholds}
+use Rattle.pig_exprs.proofs.TypesSound.{cast_type_upholds, type_upholds}
+
+-- a list of expressions
+pub are_exprs : {ts rest : Forms} {xs : List Expr} → Listed (Reads expr) ts xs rest → AreExprs ts xs rest
+are_exprs (Listed.last a) = AreExprs.exprs_last a
+are_exprs (Listed.more a others) = AreExprs.exprs_more a (are_exprs others)
+
+-- ---- chains
+
+-- a chain's rules: one member, and a member with links
+pub record Chains (chain member : Level) : Type 0 where
+  pub one : (ts : Forms) (a : Expr) (rest : Forms) → Reads member ts a rest → Reads chain ts a rest
+  pub more : (ts mid : Forms) (a : Expr) (l : Link) (ls : List Link) (rest : Forms) → Reads member ts a mid → Links chain member mid (l ∷ ls) rest → Reads chain ts (e.Chain a (l ∷ ls)) rest
+
+links_lead : (chain member : Level) (reader : Forms → Found Expr) → Upholds reader (Reads member) → TurnsLead (link_turn chain reader) (Links chain member)
+unfolding link_turn
+links_lead chain member reader upholds [] = Holds.just Holds.nothing
+links_lead chain member reader upholds (t ∷ ts) =
+    holds_map_or _ (itself (chain_op chain t))
+    (λ o is_op. holds_map _ (upholds ts) (λ p a. Holds.just (λ others rest more. Links.links_link is_op a more)))
+    (Holds.just Holds.nothing)
+
+chain_of_links : {chain member : Level} → Chains chain member → {ts mid rest : Forms} {a : Expr} (links : List Link) → Reads member ts a mid → Links chain member mid links rest → Reads chain ts (chain_of a links) rest
+unfolding chain_of
+chain_of_links rules {ts} {a = a} [] first Links.links_none = rules.one ts a _ first
+chain_of_links rules {ts} {mid} {rest} {a} (l ∷ ls) first links = rules.more ts mid a l ls rest first links
+
+chain_upholds : (chain member : Level) (reader : Forms → Found Expr) → Chains chain member → Upholds reader (Reads member) → Upholds (chain_at chain reader) (Reads chain)
+unfolding chain_at
+chain_upholds chain member reader rules upholds ts =
+    holds_then _ (upholds ts) (λ first a.
+    holds_then _ (repeat_runs (link_turn chain reader) (Links chain member) (λ mid. Links.links_none) (links_lead chain member reader upholds) (length first.1) first.1) (λ links ls.
+    Holds.just (chain_of_links rules links.0 a ls)))
+
+-- ---- what follows a primary
+
+steps_lead : TurnsLead post_turn ArePostSteps
+unfolding post_turn
+steps_lead (f.Symbol s.Dot ∷ ts) = holds_map _ (selection_upholds ts) (λ p is_selection. Holds.just (λ others rest more. ArePostSteps.project is_selection more))
+steps_lead (f.Symbol s.Hash ∷ f.Text key ∷ ts) = Holds.just (Holds.just (λ others rest more. ArePostSteps.look more))
+steps_lead ts = Holds.just Holds.nothing
+
+post_of_steps : {ts mid rest : Forms} {a : Expr} (steps : List PostStep) → Reads prim ts a mid → ArePostSteps mid steps rest → Reads post ts (post_of a steps) rest
+unfolding post_of
+post_of_steps [] first ArePostSteps.none = Reads.post_one first
+post_of_steps (p ∷ ps) first steps = Reads.post_more first steps
+
+-- ---- simple operands
+
+simple_upholds : Upholds simple_at (Reads prim)
+unfolding simple_at
+simple_upholds [] = Holds.nothing
+simple_upholds (t ∷ ts) =
+    holds_map_or _ (itself (literal_of t)) (λ a is_literal. Holds.just (Reads.prim_literal is_literal))
+    (holds_map _ (field_ref_upholds (t ∷ ts)) (λ p field. Reads.prim_field field))
+
+-- what stands in front of a `:`
+colon_stands : (P : Forms → Type 0) (ts : Forms) → P ts → Holds (λ rest. P (f.Symbol s.Colon ∷ rest)) (colon ts)
+unfolding colon
+colon_stands P (f.Symbol s.Colon ∷ ts) p = Holds.just p
+colon_stands P _ p = Holds.nothing
+
+-- what stands in front of IS NULL or IS NOT NULL
+null_stands : {start : Forms} {a : Expr} (ts : Forms) → Reads sum start a ts → Holds (λ n. Reads comp start (e.IsNull a n.0) n.1) (null_test ts)
+unfolding null_test
+null_stands (f.Keyword k.Is ∷ f.Keyword k.Null ∷ ts) first = Holds.just (Reads.comp_null first)
+null_stands (f.Keyword k.Is ∷ f.Keyword k.Not ∷ f.Keyword k.Null ∷ ts) first = Holds.just (Reads.comp_not_null first)
+null_stands ts first = Holds.nothing
+
+-- what stands in front of a comparison's sign
+rel_stands : {start : Forms} {a : Expr} (ts : Forms) → Reads sum start a ts
+    → Holds (λ r. (b : Expr) (rest : Forms) → Reads sum r.1 b rest → Reads comp start (e.Compare r.0 a b) rest) (rel_ahead ts)
+unfolding rel_ahead
+rel_stands [] first = Holds.nothing
+rel_stands (t ∷ ts) first = holds_map _ (itself (rel_of t)) (λ r is_rel b rest second. Reads.comp_rel first is_rel second)
+
+-- by the expressions inside brackets
+module _ (most : ℕ) (inner : Forms → Found Expr) (inside : Upholds inner (Reads expr)) where
+  both_stand : (ts : Forms)
+      → Holds (λ q. (start : Forms) (a : Expr) → Reads expr start a (f.Symbol s.Question ∷ ts) → Reads prim (f.Symbol s.OpenParen ∷ start) (e.Choose a q.0.0 q.0.1) q.1) (both_at inner ts)
+  unfolding both_at
+  both_stand ts =
+      holds_then _ (inside ts) (λ left b.
+      holds_then _ (colon_stands (Reads expr ts left.0) left.1 b) (λ behind b.
+      holds_then _ (inside behind) (λ right c.
+      holds_then _ (closes (Reads expr behind right.0) right.1 c) (λ rest c.
+      Holds.just (λ start a first. Reads.prim_choose first b c)))))
+
+  paren_stands : (start : Forms) (a : Expr) (ts : Forms) → Reads expr start a ts → Holds (λ p. Reads prim (f.Symbol s.OpenParen ∷ start) p.0 p.1) (paren_after inner a ts)
+  unfolding paren_after
+  paren_stands start a (f.Symbol s.CloseParen ∷ ts) first = Holds.just (Reads.prim_paren first)
+  paren_stands start a (f.Symbol s.Question ∷ ts) first = holds_then _ (both_stand ts) (λ both choose. Holds.just (choose start a first))
+  paren_stands start a _ first = Holds.nothing
+
+  call_stands : (name : List ℕ) (ts : Forms) → Holds (λ p. Reads prim (f.Ident name ∷ f.Symbol s.OpenParen ∷ ts) p.0 p.1) (call_at inner name ts)
+  unfolding call_at
+  call_stands name (f.Symbol s.CloseParen ∷ ts) = Holds.just Reads.prim_call_none
+  call_stands name ts =
+      holds_then _ (listed_upholds inner (Reads expr) inside ts) (λ args l.
+      holds_then _ (closes (Listed (Reads expr) ts args.0) args.1 l) (λ rest l. Holds.just (Reads.prim_call (are_exprs l))))
+
+  prim_upholds : Upholds (prim_at inner) (Reads prim)
+  unfolding prim_at
+  prim_upholds (f.Ident name ∷ f.Symbol s.OpenParen ∷ ts) = call_stands name ts
+  prim_upholds (f.Symbol s.OpenParen ∷ ts) = holds_then _ (inside ts) (λ p a. paren_stands ts p.0 p.1 a)
+  prim_upholds ts = simple_upholds ts
+
+  post_upholds : Upholds (post_at inner) (Reads post)
+  unfolding post_at
+  post_upholds ts =
+      holds_then _ (prim_upholds ts) (λ first a.
+      holds_then _ (repeat_runs post_turn ArePostSteps (λ mid. ArePostSteps.none) steps_lead (length first.1) first.1) (λ steps more.
+      Holds.just (post_of_steps steps.0 a more)))
+
+  cast_stands : (ts : Forms) → Holds (λ p. Reads casted (f.Symbol s.OpenParen ∷ ts) p.0 p.1) (cast_at most inner ts)
+  unfolding cast_at
+  cast_stands ts =
+      holds_then _ (cast_type_upholds (type_at most) (type_upholds most) ts) (λ type is_type.
+      holds_then _ (closes (IsCastType ts type.0) type.1 is_type) (λ rest is_type.
+      holds_then _ (post_upholds rest) (λ a is_post.
+      Holds.just (Reads.casted_cast is_type is_post))))
+
+  casted_upholds : Upholds (casted_at most inner) (Reads casted)
+  unfolding casted_at
+  casted_upholds (f.Symbol s.OpenParen ∷ ts) =
+      holds_if (begins_type ts) (λ begins. cast_stands ts) (λ begins. holds_weaken (post_upholds (f.Symbol s.OpenParen ∷ ts)) (λ p a. Reads.casted_none a))
+  casted_upholds ts = holds_weaken (post_upholds ts) (λ p a. Reads.casted_none a)
+
+  unary_upholds : Upholds (unary_at most inner) (Reads unary)
+  unfolding unary_at
+  unary_upholds (f.Symbol s.Minus ∷ ts) = holds_map _ (casted_upholds ts) (λ p a. Reads.unary_minus a)
+  unary_upholds ts = holds_weaken (casted_upholds ts) (λ p a. Reads.unary_none a)
+
+  term_upholds : Upholds (term_at most inner) (Reads term)
+  unfolding term_at
+  term_upholds ts =
+      chain_upholds term unary (unary_at most inner)
+      (record { one = λ ts a rest first. Reads.term_one first; more = λ ts mid a l ls rest first links. Reads.term_more first links })
+      unary_upholds ts
+
+  sum_upholds : Upholds (sum_at most inner) (Reads sum)
+  unfolding sum_at
+  sum_upholds ts =
+      chain_upholds sum term (term_at most inner)
+      (record { one = λ ts a rest first. Reads.sum_one first; more = λ ts mid a l ls rest first links. Reads.sum_more first links })
+      term_upholds ts
+
+  comp_stands : (start : Forms) (a : Expr) (ts : Forms) → Reads sum start a ts → Holds (λ p. Reads comp start p.0 p.1) (comp_after most inner a ts)
+  unfolding comp_after
+  comp_stands start a ts first =
+      holds_map_or _ (null_stands ts first) (λ n test. Holds.just test)
+      (holds_map_or _ (rel_stands ts first) (λ r compare. holds_map _ (sum_upholds r.1) (λ p b. compare p.0 p.1 b)) (Holds.just (Reads.comp_one first)))
+
+  comp_upholds : Upholds (comp_at most inner) (Reads comp)
+  unfolding comp_at
+  comp_upholds ts = holds_then _ (sum_upholds ts) (λ p a. comp_stands ts p.0 p.1 a)
+
+  neg_upholds : Upholds (neg_at most inner) (Reads neg)
+  unfolding neg_at
+  neg_upholds (f.Keyword k.Not ∷ ts) = holds_map _ (comp_upholds ts) (λ p a. Reads.neg_not a)
+  neg_upholds ts = holds_weaken (comp_upholds ts) (λ p a. Reads.neg_none a)
+
+  conj_upholds : Upholds (conj_at most inner) (Reads conj)
+  unfolding conj_at
+  conj_upholds ts =
+      chain_upholds conj neg (neg_at most inner)
+      (record { one = λ ts a rest first. Reads.conj_one first; more = λ ts mid a l ls rest first links. Reads.conj_more first links })
+      neg_upholds ts
+
+  expr_with_upholds : Upholds (expr_with most inner) (Reads expr)
+  unfolding expr_with
+  expr_with_upholds ts =
+      chain_upholds expr conj (conj_at most inner)
+      (record { one = λ ts a rest first. Reads.expr_one first; more = λ ts mid a l ls rest first links. Reads.expr_more first links })
+      conj_upholds ts
+
+pub expr_upholds : (most depth : ℕ) → Upholds (expr_at most depth) (Reads expr)
+unfolding expr_at
+expr_upholds most zero ts = Holds.nothing
+expr_upholds most (suc depth) ts = expr_with_upholds most (expr_at most depth) (expr_upholds most depth) ts

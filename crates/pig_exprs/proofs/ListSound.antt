@@ -1,0 +1,81 @@
+-- What a list reads stands by the rule of its members, and what is read turn by turn by the rule of the turns.
+use Rattle.std.proofs.Common.{◌≡◌, ℕ, zero, suc, sym, ◌∙◌, subst, List, [], ◌∷◌, ◌++◌, length, append_assoc, append-nil}
+use Rattle.std.specs.Prelude.{Some, None}
+use Rattle.std.specs.Option.{option_and_then, option_map_or}
+use Rattle.pig_syntax.specs.declared.tokens.Symbol.TheVariants as s
+use Rattle.pig_syntax.specs.declared.tokens.TokenForm.TheVariants as f
+use Rattle.pig_exprs.specs.Grammar.{Forms, Listed}
+use Rattle.pig_exprs.specs.Reader.{Found, Turn, repeat, comma_turn, listed, close_paren}
+use Rattle.pig_exprs.proofs.Options.{Holds, holds_then, holds_map, holds_weaken}
+
+-- whatever the reader finds stands by the rule
+abbrev pub Upholds : {A : Type 0} → (Forms → Found A) → (Forms → A → Forms → Type 0) → Type 0
+Upholds reader rule = (ts : Forms) → Holds (λ p. rule ts p.0 p.1) (reader ts)
+
+-- ---- turn by turn
+
+-- an element in front of others of a run
+abbrev pub Leads : {A : Type 0} → (Forms → List A → Forms → Type 0) → Forms → A × Forms → Type 0
+Leads {A = A} run ts p = (others : List A) (rest : Forms) → run p.1 others rest → run ts (p.0 ∷ others) rest
+
+-- each turn finds an element that leads a run
+abbrev pub TurnsLead : {A : Type 0} → (Forms → Turn A) → (Forms → List A → Forms → Type 0) → Type 0
+TurnsLead turn run = (ts : Forms) → Holds (Holds (Leads run ts)) (turn ts)
+
+-- a run behind the elements that are read
+pub record Adds {A : Type 0} (run : Forms → List A → Forms → Type 0) (done : List A) (ts : Forms) (found : List A × Forms) : Type 0 where
+  pub others : List A
+  pub whole : found.0 ≡ done ++ others
+  pub behind : run ts others found.1
+
+by_turn : {A : Type 0} (run : Forms → List A → Forms → Type 0) (again : List A → Forms → Found (List A)) → ((done : List A) (ts : Forms) → Holds (Adds run done ts) (again done ts))
+    → (done : List A) (ts : Forms) → run ts [] ts → (turn : Turn A) → Holds (Holds (Leads run ts)) turn
+    → Holds (Adds run done ts) (option_and_then (λ next. option_map_or (λ p. again (done ++ p.0 ∷ []) p.1) next (Some (done, ts))) turn)
+by_turn run again later done ts none None h = Holds.nothing
+by_turn run again later done ts none (Some None) h = Holds.just (record { others = []; whole = sym (append-nil done); behind = none })
+by_turn run again later done ts none (Some (Some p)) (Holds.just (Holds.just leads)) =
+    holds_weaken (later (done ++ p.0 ∷ []) p.1)
+    (λ found adds. record { others = p.0 ∷ adds.others; whole = adds.whole ∙ append_assoc done (p.0 ∷ []) adds.others; behind = leads adds.others found.1 adds.behind })
+
+pub repeat_adds : {A : Type 0} (turn : Forms → Turn A) (run : Forms → List A → Forms → Type 0) → ((ts : Forms) → run ts [] ts) → TurnsLead turn run → (most : ℕ) (done : List A) (ts : Forms)
+    → Holds (Adds run done ts) (repeat turn most done ts)
+unfolding repeat
+repeat_adds turn run none leads zero done ts = Holds.just (record { others = []; whole = sym (append-nil done); behind = none ts })
+repeat_adds turn run none leads (suc most) done ts =
+    by_turn run (λ before rest. repeat turn most before rest) (λ before rest. repeat_adds turn run none leads most before rest) done ts (none ts) (turn ts) (leads ts)
+
+-- what is found from the first turn on is a run
+pub repeat_runs : {A : Type 0} (turn : Forms → Turn A) (run : Forms → List A → Forms → Type 0) → ((ts : Forms) → run ts [] ts) → TurnsLead turn run → (most : ℕ) (ts : Forms)
+    → Holds (λ p. run ts p.0 p.1) (repeat turn most [] ts)
+repeat_runs turn run none leads most ts =
+    holds_weaken (repeat_adds turn run none leads most [] ts) (λ found adds. subst (λ xs. run ts xs found.1) (sym adds.whole) adds.behind)
+
+-- ---- X { ',' X }
+
+-- members that go on any member before them
+abbrev pub GoesOn : {A : Type 0} → (Forms → A → Forms → Type 0) → Forms → List A → Forms → Type 0
+GoesOn {A = A} rule ts others rest = (before : Forms) (a : A) → rule before a ts → Listed rule before (a ∷ others) rest
+
+comma_leads : {A : Type 0} (member : Forms → Found A) (rule : Forms → A → Forms → Type 0) → Upholds member rule → TurnsLead (comma_turn member) (GoesOn rule)
+unfolding comma_turn
+comma_leads member rule upholds (f.Symbol s.Comma ∷ ts) =
+    holds_map Some (upholds ts) (λ p r. Holds.just (λ others rest after before a first. Listed.more first (after ts p.0 r)))
+comma_leads member rule upholds ts = Holds.just Holds.nothing
+
+-- a first member, and those that the turns find
+pub members_listed : {A : Type 0} (turn : Forms → Turn A) (rule : Forms → A → Forms → Type 0) → TurnsLead turn (GoesOn rule) → (most : ℕ) (ts : Forms) (p : A × Forms) → rule ts p.0 p.1
+    → Holds (λ found. Listed rule ts found.0 found.1) (repeat turn most (p.0 ∷ []) p.1)
+members_listed turn rule leads most ts p first =
+    holds_weaken (repeat_adds turn (GoesOn rule) (λ mid before a r. Listed.last r) leads most (p.0 ∷ []) p.1)
+    (λ found adds. subst (λ xs. Listed rule ts xs found.1) (sym adds.whole) (adds.behind ts p.0 first))
+
+pub listed_upholds : {A : Type 0} (member : Forms → Found A) (rule : Forms → A → Forms → Type 0) → Upholds member rule → Upholds (listed member) (Listed rule)
+unfolding listed
+listed_upholds member rule upholds ts =
+    holds_then _ (upholds ts) (λ p first. members_listed (comma_turn member) rule (comma_leads member rule upholds) (length p.1) ts p first)
+
+-- what stands in front of a `)`
+pub closes : (P : Forms → Type 0) (ts : Forms) → P ts → Holds (λ rest. P (f.Symbol s.CloseParen ∷ rest)) (close_paren ts)
+unfolding close_paren
+closes P (f.Symbol s.CloseParen ∷ ts) p = Holds.just p
+closes P _ p = Holds.nothing

@@ -1,0 +1,162 @@
+-- What readers of expressions find at the front of some tokens, and what they leave.
+use Rattle.std.specs.Prelude.{ℕ, zero, suc, true, false, List, [], ◌∷◌, length, if◌then◌else◌, Bool, is_some, Option, Some, None}
+use Rattle.std.specs.Option.{option_map, option_and_then, option_map_or}
+use Rattle.pig_syntax.specs.declared.tokens.Keyword.{Keyword}
+use Rattle.pig_syntax.specs.declared.tokens.Keyword.TheVariants as k
+use Rattle.pig_syntax.specs.declared.tokens.Symbol.TheVariants as s
+use Rattle.pig_syntax.specs.declared.tokens.TokenForm.TheVariants as f
+use Rattle.pig_syntax.specs.declared.trees.Expr.{Expr}
+use Rattle.pig_syntax.specs.declared.trees.Expr.TheVariants as e
+use Rattle.pig_syntax.specs.declared.trees.Link.{Link}
+use Rattle.pig_syntax.specs.declared.trees.PostStep.{PostStep}
+use Rattle.pig_syntax.specs.declared.trees.PostStep.TheVariants as step
+use Rattle.pig_value.specs.declared.operators.Rel.{Rel}
+use Rattle.pig_exprs.specs.declared.exprs.Chain.{Chain}
+use Rattle.pig_exprs.specs.declared.exprs.Chain.TheVariants as chain
+use Rattle.pig_exprs.specs.Grammar.{Forms, scalar_of, Level, expr, conj, sum, term, chain_op, rel_of, literal_of}
+use Rattle.pig_exprs.specs.Reader.{Found, Turn, ◌>>=◌, repeat, listed, close_paren, field_ref_at, selection_at, cast_type_with, type_at}
+
+-- ---- expressions, by the reader of the expressions inside brackets, with types in casts whose brackets nest less deep than `most`
+
+-- the rule that a chain stands for
+abbrev pub level_of : Chain → Level
+level_of chain.Or = expr
+level_of chain.And = conj
+level_of chain.Sum = sum
+level_of chain.Product = term
+
+-- an operator of a chain and what follows it
+unfoldable pub link_turn : Level → (Forms → Found Expr) → Forms → Turn Link
+link_turn level member [] = Some None
+link_turn level member (t ∷ ts) = option_map_or (λ o. option_map (λ p. Some (record { op = o; a = p.0 }, p.1)) (member ts)) (chain_op level t) (Some None)
+
+unfoldable pub chain_of : Expr → List Link → Expr
+chain_of a [] = a
+chain_of a (l ∷ ls) = e.Chain a (l ∷ ls)
+
+unfoldable pub chain_at : Level → (Forms → Found Expr) → Forms → Found Expr
+chain_at level member ts = do
+  first ← member ts
+  links ← repeat (link_turn level member) (length first.1) [] first.1
+  Some (chain_of first.0 links.0, links.1)
+
+unfoldable pub post_turn : Forms → Turn PostStep
+post_turn (f.Symbol s.Dot ∷ ts) = option_map Some (selection_at ts)
+post_turn (f.Symbol s.Hash ∷ f.Text key ∷ ts) = Some (Some (step.Look key, ts))
+post_turn ts = Some None
+
+unfoldable pub post_of : Expr → List PostStep → Expr
+post_of a [] = a
+post_of a (p ∷ ps) = e.Post a (p ∷ ps)
+
+unfoldable pub colon : Forms → Option Forms
+colon (f.Symbol s.Colon ∷ ts) = Some ts
+colon _ = None
+
+-- what stands behind the `?` of a choice
+unfoldable pub both_at : (Forms → Found Expr) → Forms → Found (Expr × Expr)
+both_at inner ts = do
+  left ← inner ts
+  behind ← colon left.1
+  right ← inner behind
+  rest ← close_paren right.1
+  Some ((left.0, right.0), rest)
+
+-- what may follow an expression behind `(`: `)`, or `? b : c)`
+unfoldable pub paren_after : (Forms → Found Expr) → Expr → Forms → Found Expr
+paren_after inner a (f.Symbol s.CloseParen ∷ ts) = Some (a, ts)
+paren_after inner a (f.Symbol s.Question ∷ ts) = do
+  both ← both_at inner ts
+  Some (e.Choose a both.0.0 both.0.1, both.1)
+paren_after inner a _ = None
+
+-- what may follow a name and `(`
+unfoldable pub call_at : (Forms → Found Expr) → List ℕ → Forms → Found Expr
+call_at inner name (f.Symbol s.CloseParen ∷ ts) = Some (e.Call name [], ts)
+call_at inner name ts = do
+  args ← listed inner ts
+  rest ← close_paren args.1
+  Some (e.Call name args.0, rest)
+
+unfoldable pub simple_at : Forms → Found Expr
+simple_at [] = None
+simple_at (t ∷ ts) = option_map_or (λ a. Some (a, ts)) (literal_of t) (option_map (λ p. (e.Field p.0, p.1)) (field_ref_at (t ∷ ts)))
+
+unfoldable pub prim_at : (Forms → Found Expr) → Forms → Found Expr
+prim_at inner (f.Ident name ∷ f.Symbol s.OpenParen ∷ ts) = call_at inner name ts
+prim_at inner (f.Symbol s.OpenParen ∷ ts) = option_and_then (λ p. paren_after inner p.0 p.1) (inner ts)
+prim_at inner ts = simple_at ts
+
+unfoldable pub post_at : (Forms → Found Expr) → Forms → Found Expr
+post_at inner ts = do
+  first ← prim_at inner ts
+  steps ← repeat post_turn (length first.1) [] first.1
+  Some (post_of first.0 steps.0, steps.1)
+
+-- a word with which a type begins
+abbrev pub is_type_word : Keyword → Bool
+is_type_word k.Tuple = true
+is_type_word k.Bag = true
+is_type_word k.Map = true
+is_type_word word = is_some (scalar_of word)
+
+-- a type that begins with a word
+abbrev pub begins_type : Forms → Bool
+begins_type (f.Keyword word ∷ ts) = is_type_word word
+begins_type _ = false
+
+unfoldable pub cast_at : ℕ → (Forms → Found Expr) → Forms → Found Expr
+cast_at most inner ts = do
+  type ← cast_type_with (type_at most) ts
+  rest ← close_paren type.1
+  a ← post_at inner rest
+  Some (e.Cast type.0 a.0, a.1)
+
+unfoldable pub casted_at : ℕ → (Forms → Found Expr) → Forms → Found Expr
+casted_at most inner (f.Symbol s.OpenParen ∷ ts) = if begins_type ts then cast_at most inner ts else post_at inner (f.Symbol s.OpenParen ∷ ts)
+casted_at most inner ts = post_at inner ts
+
+unfoldable pub unary_at : ℕ → (Forms → Found Expr) → Forms → Found Expr
+unary_at most inner (f.Symbol s.Minus ∷ ts) = option_map (λ p. (e.Minus p.0, p.1)) (casted_at most inner ts)
+unary_at most inner ts = casted_at most inner ts
+
+unfoldable pub term_at : ℕ → (Forms → Found Expr) → Forms → Found Expr
+term_at most inner ts = chain_at term (unary_at most inner) ts
+
+unfoldable pub sum_at : ℕ → (Forms → Found Expr) → Forms → Found Expr
+sum_at most inner ts = chain_at sum (term_at most inner) ts
+
+-- IS NULL or IS NOT NULL, and whether NOT stands in it
+unfoldable pub null_test : Forms → Option (Bool × Forms)
+null_test (f.Keyword k.Is ∷ f.Keyword k.Null ∷ ts) = Some (false, ts)
+null_test (f.Keyword k.Is ∷ f.Keyword k.Not ∷ f.Keyword k.Null ∷ ts) = Some (true, ts)
+null_test ts = None
+
+-- a comparison's sign
+unfoldable pub rel_ahead : Forms → Option (Rel × Forms)
+rel_ahead [] = None
+rel_ahead (t ∷ ts) = option_map (λ r. (r, ts)) (rel_of t)
+
+-- what may follow the first operand of a comparison
+unfoldable pub comp_after : ℕ → (Forms → Found Expr) → Expr → Forms → Found Expr
+comp_after most inner a ts =
+    option_map_or (λ n. Some (e.IsNull a n.0, n.1)) (null_test ts)
+    (option_map_or (λ r. option_map (λ p. (e.Compare r.0 a p.0, p.1)) (sum_at most inner r.1)) (rel_ahead ts) (Some (a, ts)))
+
+unfoldable pub comp_at : ℕ → (Forms → Found Expr) → Forms → Found Expr
+comp_at most inner ts = option_and_then (λ p. comp_after most inner p.0 p.1) (sum_at most inner ts)
+
+unfoldable pub neg_at : ℕ → (Forms → Found Expr) → Forms → Found Expr
+neg_at most inner (f.Keyword k.Not ∷ ts) = option_map (λ p. (e.Not p.0, p.1)) (comp_at most inner ts)
+neg_at most inner ts = comp_at most inner ts
+
+unfoldable pub conj_at : ℕ → (Forms → Found Expr) → Forms → Found Expr
+conj_at most inner ts = chain_at conj (neg_at most inner) ts
+
+unfoldable pub expr_with : ℕ → (Forms → Found Expr) → Forms → Found Expr
+expr_with most inner ts = chain_at expr (conj_at most inner) ts
+
+-- an expression whose brackets nest less deep than this
+unfoldable pub expr_at : ℕ → ℕ → Forms → Found Expr
+expr_at most zero ts = None
+expr_at most (suc depth) ts = expr_with most (expr_at most depth) ts

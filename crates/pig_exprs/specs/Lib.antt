@@ -1,0 +1,4 @@
+pub mod ExprReader
+pub mod Grammar
+pub mod Nests
+pub mod Reader

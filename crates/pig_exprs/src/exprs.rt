@@ -1,0 +1,746 @@
+ghost use Rattle.std.specs.Prelude.{◌≡◌, [], ◌∷◌, IfOk, IfSome, length, map, option_map};
+ghost use Rattle.pig_exprs.specs.Grammar.{Forms, chain_op, rel_of, literal_of};
+ghost use Rattle.pig_exprs.specs.Nests.{Nests};
+ghost use Rattle.pig_exprs.specs.Reader.{forms, Gives, Leaves};
+ghost use Rattle.pig_exprs.specs.ExprReader.{both_at, level_of, chain_of, link_turn, chain_at, post_turn, post_of, colon, paren_after, call_at, simple_at, prim_at, post_at, begins_type, is_type_word, cast_at, casted_at, unary_at, term_at, sum_at, null_test, rel_ahead, comp_after, comp_at, neg_at, conj_at, expr_with, expr_at};
+
+use crate::names::{field_ref, selection};
+use crate::reading::{ParseFault, Rule, Turning, close_paren, listed, repeat};
+use crate::types::cast_type;
+use pig_syntax::{
+    Expr, Exprs, Keyword, Link, Links, PostStep, PostSteps, Symbol, Token, TokenForm,
+};
+use pig_value::{Boxed, ChainOp, Rel, Text};
+use std::alloc::{AllocError, Global};
+
+// The chains of expressions, by what stands between their operands.
+#[derive(Clone, Copy)]
+enum Chain {
+    /// OR
+    Or,
+    /// AND
+    And,
+    /// `+` and `-`
+    Sum,
+    /// `*`, `/` and `%`
+    Product,
+}
+
+// Expressions whose brackets nest less deep than `depth`, by a function that reads them.
+#[derive(Clone, Copy)]
+struct ExpressionsWithin<F> {
+    alloc: Global,
+    depth: u32,
+    function: F,
+}
+
+impl<F: Fn(Global, &[Token], u32) -> Result<(Expr, &[Token]), ParseFault>> Rule
+    for ExpressionsWithin<F> {
+    type Tree = Expr;
+
+    ghost ready = { λ r. Nests (expr_at 65) r.depth (F.pre r.function) (F.post r.function) };
+
+    ghost finds = { λ r. expr_at 65 r.depth };
+
+    fn read<'a>(&self, tokens: &'a [Token]) -> Result<(Expr, &'a [Token]), ParseFault> {
+        (self.function)(self.alloc, tokens, self.depth)
+    }
+}
+
+// The rules of expressions, with the rule of the expressions inside brackets.
+#[derive(Clone, Copy)]
+struct Grammar<R> {
+    alloc: Global,
+    inner: R,
+}
+
+/// The types and expressions of a statement nest less deep than this.
+pub const MOST_NESTED: u32 = 65;
+
+// The operator that a token is in a chain.
+fn operator(chain: Chain, token: &Token) -> Option<ChainOp>
+    ensures { result ≡ chain_op (level_of chain) token.now.form }
+{
+    match (chain, &token.form) {
+        (Chain::Or, TokenForm::Keyword(Keyword::Or)) => Some(ChainOp::Or),
+        (Chain::And, TokenForm::Keyword(Keyword::And)) => Some(ChainOp::And),
+        (Chain::Sum, TokenForm::Symbol(Symbol::Plus)) => Some(ChainOp::Add),
+        (Chain::Sum, TokenForm::Symbol(Symbol::Minus)) => Some(ChainOp::Sub),
+        (Chain::Product, TokenForm::Symbol(Symbol::Star)) => Some(ChainOp::Mul),
+        (Chain::Product, TokenForm::Symbol(Symbol::Slash)) => Some(ChainOp::Div),
+        (Chain::Product, TokenForm::Symbol(Symbol::Percent)) => Some(ChainOp::Rem),
+        _ => None,
+    }
+}
+
+// The comparison that a token is.
+fn comparison(token: &Token) -> Option<Rel>
+    ensures { result ≡ rel_of token.now.form }
+{
+    match &token.form {
+        TokenForm::Symbol(Symbol::Equal) => Some(Rel::Eq),
+        TokenForm::Symbol(Symbol::NotEqual) => Some(Rel::Ne),
+        TokenForm::Symbol(Symbol::Less) => Some(Rel::Lt),
+        TokenForm::Symbol(Symbol::LessEqual) => Some(Rel::Le),
+        TokenForm::Symbol(Symbol::Greater) => Some(Rel::Gt),
+        TokenForm::Symbol(Symbol::GreaterEqual) => Some(Rel::Ge),
+        _ => None,
+    }
+}
+
+// IS NULL or IS NOT NULL, and whether NOT stands in it.
+#[tactic(auto, unfolding(crate::specs::ExprReader::null_test))]
+fn null_test(tokens: &[Token]) -> Option<(bool, &[Token])>
+    ensures { option_map (λ p. (p.0, forms p.1.now)) result ≡ null_test (forms tokens.now) }
+{
+    match tokens {
+        [
+            Token {
+                form: TokenForm::Keyword(Keyword::Is),
+                ..
+            },
+            Token {
+                form: TokenForm::Keyword(Keyword::Null),
+                ..
+            },
+            rest @ ..,
+        ] => Some((false, rest)),
+        [
+            Token {
+                form: TokenForm::Keyword(Keyword::Is),
+                ..
+            },
+            Token {
+                form: TokenForm::Keyword(Keyword::Not),
+                ..
+            },
+            Token {
+                form: TokenForm::Keyword(Keyword::Null),
+                ..
+            },
+            rest @ ..,
+        ] => Some((true, rest)),
+        _ => None,
+    }
+}
+
+// The comparison whose sign stands there.
+#[tactic(auto, unfolding(crate::specs::ExprReader::rel_ahead))]
+fn comparison_ahead(tokens: &[Token]) -> Option<(Rel, &[Token])>
+    ensures { option_map (λ p. (p.0, forms p.1.now)) result ≡ rel_ahead (forms tokens.now) }
+{
+    match tokens {
+        [token, rest @ ..] => {
+            let op = comparison(token)?;
+            Some((op, rest))
+        }
+        _ => None,
+    }
+}
+
+// The literal that a token is.
+fn literal(alloc: Global, token: &Token) -> Result<Option<Expr>, AllocError>
+    ensures { IfOk result (λ found. found ≡ literal_of token.now.form) }
+{
+    match &token.form {
+        TokenForm::Int(number) => Ok(Some(Expr::Int(*number))),
+        TokenForm::Long(number) => Ok(Some(Expr::Long(*number))),
+        TokenForm::Float => Ok(Some(Expr::Float)),
+        TokenForm::Text(text) => Ok(Some(Expr::Text(text.copy(alloc)?))),
+        TokenForm::Keyword(Keyword::True) => Ok(Some(Expr::Bool(true))),
+        TokenForm::Keyword(Keyword::False) => Ok(Some(Expr::Bool(false))),
+        TokenForm::Keyword(Keyword::Null) => Ok(Some(Expr::Null)),
+        _ => Ok(None),
+    }
+}
+
+// The operand by itself, or the chain that it begins.
+#[tactic(auto, unfolding(crate::specs::ExprReader::chain_of))]
+fn chain_of(alloc: Global, first: Expr, rest: Links) -> Result<Expr, AllocError>
+    ensures { IfOk result (λ e. e ≡ chain_of first rest) }
+{
+    if rest.is_empty() {
+        return Ok(first);
+    }
+    let first = Boxed::new(alloc, first)?;
+    Ok(Expr::Chain { first, rest })
+}
+
+// The expression by itself, or with the steps behind it.
+#[tactic(auto, unfolding(crate::specs::ExprReader::post_of))]
+fn post_of(alloc: Global, a: Expr, steps: PostSteps) -> Result<Expr, AllocError>
+    ensures { IfOk result (λ e. e ≡ post_of a steps) }
+{
+    if steps.is_empty() {
+        return Ok(a);
+    }
+    let a = Boxed::new(alloc, a)?;
+    Ok(Expr::Post { a, steps })
+}
+
+// The links of a chain over operands of a rule.
+#[derive(Drop)]
+struct Linking<'r, R> {
+    chain: Chain,
+    rule: &'r R,
+}
+
+impl<R: Rule<Tree = Expr>> Turning for Linking<'_, R> {
+    type Tree = Link;
+
+    ghost ready = { λ l. R.ready l.rule.now };
+
+    ghost finds = { λ l. link_turn (level_of l.chain) (R.finds l.rule.now) };
+
+    #[tactic(auto, unfolding(crate::specs::ExprReader::link_turn))]
+    fn turn<'a>(&self, tokens: &'a [Token]) -> Result<Option<(Link, &'a [Token])>, ParseFault> {
+        match tokens {
+            [token, rest @ ..] => match operator(self.chain, token) {
+                Some(op) => {
+                    let (a, rest) = self.rule.read(rest)?;
+                    Ok(Some((Link { op, a }, rest)))
+                }
+                None => Ok(None),
+            },
+            _ => Ok(None),
+        }
+    }
+}
+
+// Operands of a rule with the chain's operators between, taken from left to right.
+#[tactic(auto, unfolding(crate::specs::ExprReader::chain_at))]
+fn chained<'a, R: Rule<Tree = Expr>>(
+    alloc: Global,
+    chain: Chain,
+    rule: &R,
+    tokens: &'a [Token],
+) -> Result<(Expr, &'a [Token]), ParseFault>
+    requires { R.ready rule.now }
+    ensures { Gives (chain_at (level_of chain) (R.finds rule.now) (forms tokens.now)) result }
+{
+    let (first, rest) = rule.read(tokens)?;
+    let (links, rest) = repeat(&Linking { chain, rule }, Links::new(alloc), rest)?;
+    let whole = chain_of(alloc, first, links)?;
+    Ok((whole, rest))
+}
+
+// The projections and look-ups behind an expression.
+#[derive(Drop)]
+struct Stepping {
+    alloc: Global,
+}
+
+impl Turning for Stepping {
+    type Tree = PostStep;
+
+    ghost ready = { λ _. Unit {0} };
+
+    ghost finds = { λ _. post_turn };
+
+    #[tactic(auto, unfolding(crate::specs::ExprReader::post_turn))]
+    fn turn<'a>(&self, tokens: &'a [Token]) -> Result<Option<(PostStep, &'a [Token])>, ParseFault> {
+        match tokens {
+            [
+                Token {
+                    form: TokenForm::Symbol(Symbol::Dot),
+                    ..
+                },
+                rest @ ..,
+            ] => {
+                let (step, rest) = selection(self.alloc, rest)?;
+                Ok(Some((step, rest)))
+            }
+            [
+                Token {
+                    form: TokenForm::Symbol(Symbol::Hash),
+                    ..
+                },
+                Token {
+                    form: TokenForm::Text(key),
+                    ..
+                },
+                rest @ ..,
+            ] => {
+                let key = key.copy(self.alloc)?;
+                Ok(Some((PostStep::Look(key), rest)))
+            }
+            _ => Ok(None),
+        }
+    }
+}
+
+// The tokens behind a `:`.
+#[tactic(auto, unfolding(crate::specs::ExprReader::colon))]
+fn colon(tokens: &[Token]) -> Result<&[Token], ParseFault>
+    ensures { Leaves (colon (forms tokens.now)) result }
+{
+    match tokens {
+        [
+            Token {
+                form: TokenForm::Symbol(Symbol::Colon),
+                ..
+            },
+            rest @ ..,
+        ] => Ok(rest),
+        _ => Err(ParseFault::Off),
+    }
+}
+
+// A literal or a field.
+#[tactic(auto, unfolding(crate::specs::ExprReader::simple_at))]
+fn simple(alloc: Global, tokens: &[Token]) -> Result<(Expr, &[Token]), ParseFault>
+    ensures { Gives (simple_at (forms tokens.now)) result }
+{
+    match tokens {
+        [first, rest @ ..] => match literal(alloc, first)? {
+            Some(literal) => Ok((literal, rest)),
+            None => {
+                let (field, rest) = field_ref(alloc, tokens)?;
+                Ok((Expr::Field(field), rest))
+            }
+        },
+        _ => Err(ParseFault::Off),
+    }
+}
+
+// Whether a type that begins with a word stands there.
+fn begins_type(tokens: &[Token]) -> bool
+    ensures { result ≡ begins_type (forms tokens.now) }
+{
+    match tokens {
+        [
+            Token {
+                form: TokenForm::Keyword(word),
+                ..
+            },
+            ..
+        ] => is_type_word(*word),
+        _ => false,
+    }
+}
+
+// Whether a type begins with the word.
+fn is_type_word(word: Keyword) -> bool
+    ensures { result ≡ is_type_word word }
+{
+    matches!(
+        word,
+        Keyword::Tuple
+            | Keyword::Bag
+            | Keyword::Map
+            | Keyword::Int
+            | Keyword::Long
+            | Keyword::Chararray
+            | Keyword::Bytearray
+            | Keyword::Boolean
+            | Keyword::Float
+            | Keyword::Double
+            | Keyword::BigInteger
+            | Keyword::BigDecimal
+            | Keyword::DateTime
+    )
+}
+
+// A comparison of two expressions.
+fn compare(alloc: Global, op: Rel, a: Expr, b: Expr) -> Result<Expr, AllocError>
+    ensures { IfOk result (λ e. e ≡ Expr.Compare op a b) }
+{
+    let a = Boxed::new(alloc, a)?;
+    let b = Boxed::new(alloc, b)?;
+    Ok(Expr::Compare { op, a, b })
+}
+
+// A test for null.
+fn is_null(alloc: Global, a: Expr, not: bool) -> Result<Expr, AllocError>
+    ensures { IfOk result (λ e. e ≡ Expr.IsNull a not) }
+{
+    let a = Boxed::new(alloc, a)?;
+    Ok(Expr::IsNull { a, not })
+}
+
+// A choice between two expressions.
+fn choose(alloc: Global, cond: Expr, yes: Expr, no: Expr) -> Result<Expr, AllocError>
+    ensures { IfOk result (λ e. e ≡ Expr.Choose cond yes no) }
+{
+    let cond = Boxed::new(alloc, cond)?;
+    let yes = Boxed::new(alloc, yes)?;
+    let no = Boxed::new(alloc, no)?;
+    Ok(Expr::Choose { cond, yes, no })
+}
+
+// Operands of OR, as members of a list.
+#[derive(Drop)]
+struct Conjunctions<'g, R> {
+    grammar: &'g Grammar<R>,
+}
+
+impl<R: Rule<Tree = Expr>> Rule for Conjunctions<'_, R> {
+    type Tree = Expr;
+
+    ghost ready = { λ r. R.ready r.grammar.now.inner };
+
+    ghost finds = { λ r. conj_at 65 (R.finds r.grammar.now.inner) };
+
+    fn read<'a>(&self, tokens: &'a [Token]) -> Result<(Expr, &'a [Token]), ParseFault> {
+        self.grammar.conj(tokens)
+    }
+}
+
+// Operands of AND, as members of a list.
+#[derive(Drop)]
+struct Negations<'g, R> {
+    grammar: &'g Grammar<R>,
+}
+
+impl<R: Rule<Tree = Expr>> Rule for Negations<'_, R> {
+    type Tree = Expr;
+
+    ghost ready = { λ r. R.ready r.grammar.now.inner };
+
+    ghost finds = { λ r. neg_at 65 (R.finds r.grammar.now.inner) };
+
+    fn read<'a>(&self, tokens: &'a [Token]) -> Result<(Expr, &'a [Token]), ParseFault> {
+        self.grammar.neg(tokens)
+    }
+}
+
+// Operands of `+` and `-`, as members of a list.
+#[derive(Drop)]
+struct Products<'g, R> {
+    grammar: &'g Grammar<R>,
+}
+
+impl<R: Rule<Tree = Expr>> Rule for Products<'_, R> {
+    type Tree = Expr;
+
+    ghost ready = { λ r. R.ready r.grammar.now.inner };
+
+    ghost finds = { λ r. term_at 65 (R.finds r.grammar.now.inner) };
+
+    fn read<'a>(&self, tokens: &'a [Token]) -> Result<(Expr, &'a [Token]), ParseFault> {
+        self.grammar.product(tokens)
+    }
+}
+
+// Operands of `*`, `/` and `%`, as members of a list.
+#[derive(Drop)]
+struct Signed<'g, R> {
+    grammar: &'g Grammar<R>,
+}
+
+impl<R: Rule<Tree = Expr>> Rule for Signed<'_, R> {
+    type Tree = Expr;
+
+    ghost ready = { λ r. R.ready r.grammar.now.inner };
+
+    ghost finds = { λ r. unary_at 65 (R.finds r.grammar.now.inner) };
+
+    fn read<'a>(&self, tokens: &'a [Token]) -> Result<(Expr, &'a [Token]), ParseFault> {
+        self.grammar.signed(tokens)
+    }
+}
+
+impl<R: Rule<Tree = Expr>> Grammar<R> {
+    // What stands behind the `?` of a choice.
+    #[tactic(auto, unfolding(crate::specs::ExprReader::both_at))]
+    fn both<'a>(&self, tokens: &'a [Token]) -> Result<((Expr, Expr), &'a [Token]), ParseFault>
+        requires { R.ready self.now.inner }
+        ensures { Gives (both_at (R.finds self.now.inner) (forms tokens.now)) result }
+    {
+        let (left, rest) = self.inner.read(tokens)?;
+        let rest = colon(rest)?;
+        let (right, rest) = self.inner.read(rest)?;
+        let rest = close_paren(rest)?;
+        Ok(((left, right), rest))
+    }
+
+    // What follows an expression behind `(`: a `)`, or a choice.
+    #[tactic(auto, unfolding(crate::specs::ExprReader::paren_after))]
+    fn paren<'a>(&self, first: Expr, tokens: &'a [Token]) -> Result<(Expr, &'a [Token]), ParseFault>
+        requires { R.ready self.now.inner }
+        ensures { Gives (paren_after (R.finds self.now.inner) first (forms tokens.now)) result }
+    {
+        match tokens {
+            [
+                Token {
+                    form: TokenForm::Symbol(Symbol::CloseParen),
+                    ..
+                },
+                rest @ ..,
+            ] => Ok((first, rest)),
+            [
+                Token {
+                    form: TokenForm::Symbol(Symbol::Question),
+                    ..
+                },
+                rest @ ..,
+            ] => {
+                let ((yes, no), rest) = self.both(rest)?;
+                let choice = choose(self.alloc, first, yes, no)?;
+                Ok((choice, rest))
+            }
+            _ => Err(ParseFault::Off),
+        }
+    }
+
+    // The arguments of a call, behind its `(`.
+    #[tactic(auto, unfolding(crate::specs::ExprReader::call_at))]
+    fn call<'a>(&self, name: &Text, tokens: &'a [Token]) -> Result<(Expr, &'a [Token]), ParseFault>
+        requires { R.ready self.now.inner }
+        ensures { Gives (call_at (R.finds self.now.inner) name.now (forms tokens.now)) result }
+    {
+        match tokens {
+            [
+                Token {
+                    form: TokenForm::Symbol(Symbol::CloseParen),
+                    ..
+                },
+                rest @ ..,
+            ] => {
+                let name = name.copy(self.alloc)?;
+                let args = Exprs::new(self.alloc);
+                Ok((Expr::Call { name, args }, rest))
+            }
+            _ => {
+                let (args, rest) = listed(self.alloc, &self.inner, tokens)?;
+                let rest = close_paren(rest)?;
+                let name = name.copy(self.alloc)?;
+                Ok((Expr::Call { name, args }, rest))
+            }
+        }
+    }
+
+    // A literal, a field, a call, or an expression or a choice in parentheses.
+    #[tactic(auto, unfolding(crate::specs::ExprReader::prim_at))]
+    fn prim<'a>(&self, tokens: &'a [Token]) -> Result<(Expr, &'a [Token]), ParseFault>
+        requires { R.ready self.now.inner }
+        ensures { Gives (prim_at (R.finds self.now.inner) (forms tokens.now)) result }
+    {
+        match tokens {
+            [
+                Token {
+                    form: TokenForm::Ident(name),
+                    ..
+                },
+                Token {
+                    form: TokenForm::Symbol(Symbol::OpenParen),
+                    ..
+                },
+                rest @ ..,
+            ] => self.call(name, rest),
+            [
+                Token {
+                    form: TokenForm::Symbol(Symbol::OpenParen),
+                    ..
+                },
+                rest @ ..,
+            ] => {
+                let (first, rest) = self.inner.read(rest)?;
+                self.paren(first, rest)
+            }
+            _ => simple(self.alloc, tokens),
+        }
+    }
+
+    // An expression with projections and look-ups behind it.
+    #[tactic(auto, unfolding(crate::specs::ExprReader::post_at))]
+    fn post<'a>(&self, tokens: &'a [Token]) -> Result<(Expr, &'a [Token]), ParseFault>
+        requires { R.ready self.now.inner }
+        ensures { Gives (post_at (R.finds self.now.inner) (forms tokens.now)) result }
+    {
+        let (first, rest) = self.prim(tokens)?;
+        let stepping = Stepping { alloc: self.alloc };
+        let (steps, rest) = repeat(&stepping, PostSteps::new(self.alloc), rest)?;
+        let whole = post_of(self.alloc, first, steps)?;
+        Ok((whole, rest))
+    }
+
+    // A cast, behind its `(`.
+    #[tactic(auto, unfolding(crate::specs::ExprReader::cast_at))]
+    fn cast<'a>(&self, tokens: &'a [Token]) -> Result<(Expr, &'a [Token]), ParseFault>
+        requires { R.ready self.now.inner }
+        ensures { Gives (cast_at 65 (R.finds self.now.inner) (forms tokens.now)) result }
+    {
+        let (to, rest) = cast_type(self.alloc, tokens, MOST_NESTED)?;
+        let rest = close_paren(rest)?;
+        let (a, rest) = self.post(rest)?;
+        let a = Boxed::new(self.alloc, a)?;
+        Ok((Expr::Cast { to, a }, rest))
+    }
+
+    // An expression with a cast before it, or with none.
+    #[tactic(auto, unfolding(crate::specs::ExprReader::casted_at))]
+    fn casted<'a>(&self, tokens: &'a [Token]) -> Result<(Expr, &'a [Token]), ParseFault>
+        requires { R.ready self.now.inner }
+        ensures { Gives (casted_at 65 (R.finds self.now.inner) (forms tokens.now)) result }
+    {
+        match tokens {
+            [
+                Token {
+                    form: TokenForm::Symbol(Symbol::OpenParen),
+                    ..
+                },
+                rest @ ..,
+            ] => {
+                if begins_type(rest) {
+                    self.cast(rest)
+                } else {
+                    self.post(tokens)
+                }
+            }
+            _ => self.post(tokens),
+        }
+    }
+
+    // An expression with a minus before it, or with none.
+    #[tactic(auto, unfolding(crate::specs::ExprReader::unary_at))]
+    fn signed<'a>(&self, tokens: &'a [Token]) -> Result<(Expr, &'a [Token]), ParseFault>
+        requires { R.ready self.now.inner }
+        ensures { Gives (unary_at 65 (R.finds self.now.inner) (forms tokens.now)) result }
+    {
+        match tokens {
+            [
+                Token {
+                    form: TokenForm::Symbol(Symbol::Minus),
+                    ..
+                },
+                rest @ ..,
+            ] => {
+                let (a, rest) = self.casted(rest)?;
+                let a = Boxed::new(self.alloc, a)?;
+                Ok((Expr::Minus(a), rest))
+            }
+            _ => self.casted(tokens),
+        }
+    }
+
+    // Operands of `*`, `/` and `%`.
+    #[tactic(auto, unfolding(crate::specs::ExprReader::term_at))]
+    fn product<'a>(&self, tokens: &'a [Token]) -> Result<(Expr, &'a [Token]), ParseFault>
+        requires { R.ready self.now.inner }
+        ensures { Gives (term_at 65 (R.finds self.now.inner) (forms tokens.now)) result }
+    {
+        chained(
+            self.alloc,
+            Chain::Product,
+            &Signed { grammar: self },
+            tokens,
+        )
+    }
+
+    // Operands of `+` and `-`.
+    #[tactic(auto, unfolding(crate::specs::ExprReader::sum_at))]
+    fn sum<'a>(&self, tokens: &'a [Token]) -> Result<(Expr, &'a [Token]), ParseFault>
+        requires { R.ready self.now.inner }
+        ensures { Gives (sum_at 65 (R.finds self.now.inner) (forms tokens.now)) result }
+    {
+        chained(self.alloc, Chain::Sum, &Products { grammar: self }, tokens)
+    }
+
+    // A comparison or a test for null behind its first operand, or neither.
+    #[tactic(auto, unfolding(crate::specs::ExprReader::comp_after))]
+    fn comp_after<'a>(
+        &self,
+        a: Expr,
+        tokens: &'a [Token],
+    ) -> Result<(Expr, &'a [Token]), ParseFault>
+        requires { R.ready self.now.inner }
+        ensures { Gives (comp_after 65 (R.finds self.now.inner) a (forms tokens.now)) result }
+    {
+        match null_test(tokens) {
+            Some((not, rest)) => {
+                let test = is_null(self.alloc, a, not)?;
+                Ok((test, rest))
+            }
+            None => match comparison_ahead(tokens) {
+                Some((op, rest)) => {
+                    let (b, rest) = self.sum(rest)?;
+                    let whole = compare(self.alloc, op, a, b)?;
+                    Ok((whole, rest))
+                }
+                None => Ok((a, tokens)),
+            },
+        }
+    }
+
+    // A comparison or a test for null.
+    #[tactic(auto, unfolding(crate::specs::ExprReader::comp_at))]
+    fn comp<'a>(&self, tokens: &'a [Token]) -> Result<(Expr, &'a [Token]), ParseFault>
+        requires { R.ready self.now.inner }
+        ensures { Gives (comp_at 65 (R.finds self.now.inner) (forms tokens.now)) result }
+    {
+        let (a, rest) = self.sum(tokens)?;
+        self.comp_after(a, rest)
+    }
+
+    // A comparison with NOT before it, or without.
+    #[tactic(auto, unfolding(crate::specs::ExprReader::neg_at))]
+    fn neg<'a>(&self, tokens: &'a [Token]) -> Result<(Expr, &'a [Token]), ParseFault>
+        requires { R.ready self.now.inner }
+        ensures { Gives (neg_at 65 (R.finds self.now.inner) (forms tokens.now)) result }
+    {
+        match tokens {
+            [
+                Token {
+                    form: TokenForm::Keyword(Keyword::Not),
+                    ..
+                },
+                rest @ ..,
+            ] => {
+                let (a, rest) = self.comp(rest)?;
+                let a = Boxed::new(self.alloc, a)?;
+                Ok((Expr::Not(a), rest))
+            }
+            _ => self.comp(tokens),
+        }
+    }
+
+    // Operands of AND.
+    #[tactic(auto, unfolding(crate::specs::ExprReader::conj_at))]
+    fn conj<'a>(&self, tokens: &'a [Token]) -> Result<(Expr, &'a [Token]), ParseFault>
+        requires { R.ready self.now.inner }
+        ensures { Gives (conj_at 65 (R.finds self.now.inner) (forms tokens.now)) result }
+    {
+        chained(self.alloc, Chain::And, &Negations { grammar: self }, tokens)
+    }
+
+    // Operands of OR.
+    #[tactic(auto, unfolding(crate::specs::ExprReader::expr_with))]
+    fn disj<'a>(&self, tokens: &'a [Token]) -> Result<(Expr, &'a [Token]), ParseFault>
+        requires { R.ready self.now.inner }
+        ensures { Gives (expr_with 65 (R.finds self.now.inner) (forms tokens.now)) result }
+    {
+        chained(
+            self.alloc,
+            Chain::Or,
+            &Conjunctions { grammar: self },
+            tokens,
+        )
+    }
+}
+
+// An expression whose brackets nest less deep than `depth`.
+#[tactic(auto, unfolding(crate::specs::ExprReader::expr_at))]
+fn expr(alloc: Global, tokens: &[Token], depth: u32) -> Result<(Expr, &[Token]), ParseFault>
+    ensures { Gives (expr_at 65 depth (forms tokens.now)) result }
+{
+    if depth == 0 {
+        return Err(ParseFault::Off);
+    }
+    Grammar {
+        alloc,
+        inner: ExpressionsWithin {
+            alloc,
+            depth: depth - 1,
+            function: expr,
+        },
+    }
+    .disj(tokens)
+}
+
+/// An expression.
+pub fn expression(alloc: Global, tokens: &[Token]) -> Result<(Expr, &[Token]), ParseFault>
+    ensures { Gives (expr_at 65 65 (forms tokens.now)) result }
+{
+    expr(alloc, tokens, MOST_NESTED)
+}

@@ -1,0 +1,21 @@
+//! Expressions and written types at the front of a statement's tokens.
+//!
+//! [`expression`] reads an expression, [`schema`] and [`field`] written types, [`field_ref`] and
+//! [`selection`] what names fields. Each gives the tree and the tokens that are left, or says that none
+//! stands there. [`Rule`], [`Turning`], [`listed`] and [`repeat`] are what the rules of statements are
+//! read by as well.
+//!
+//! `specs/Grammar` says which tree stands for which tokens, one case for each alternative of a rule.
+//! `specs/Reader` and `specs/ExprReader` are how the code finds a tree; that both are one is proved in
+//! `proofs/`.
+#![tactic(auto)]
+
+mod exprs;
+mod names;
+mod reading;
+mod types;
+
+pub use exprs::{MOST_NESTED, expression};
+pub use names::{field_ref, selection};
+pub use reading::{ParseFault, Rule, Turning, close_paren, listed, one, repeat};
+pub use types::{field, schema};

@@ -1,0 +1,198 @@
+ghost use Rattle.std.specs.Prelude.{◌≡◌, [], ◌∷◌, ◌++◌, ℕ, Option, IfOk, length};
+ghost use Rattle.pig_exprs.specs.Grammar.{Forms};
+ghost use Rattle.pig_exprs.specs.Reader.{Found, Turn, forms, Gives, Turns, Leaves, repeat, comma_turn, listed, close_paren, close_brace, close_bracket};
+
+use pig_syntax::{Symbol, Token, TokenForm};
+use pig_value::Seq;
+use std::alloc::{AllocError, Global};
+
+/// Why a part is not read.
+#[derive(Debug, Drop)]
+pub enum ParseFault {
+    /// The tokens are off the grammar.
+    Off,
+    OutOfMemory,
+}
+
+impl From<AllocError> for ParseFault {
+    ghost use Rattle.std.specs.Prelude.{◌≡◌};
+    ghost use Rattle.pig_exprs.specs.declared.reading.ParseFault.TheVariants.{OutOfMemory};
+
+    ghost from_gives = { λ _ e. e ≡ OutOfMemory };
+
+    fn from(_: AllocError) -> Self {
+        ParseFault::OutOfMemory
+    }
+}
+
+/// A rule of the grammar that the members of a list stand by.
+pub trait Rule {
+    type Tree: Drop;
+
+    /// What the rule needs of its parts.
+    ghost ready: { Self → Type 0 };
+
+    /// What it finds.
+    ghost finds: { Self → Forms → Found Self.Tree };
+
+    /// Reads a tree from the front of the tokens.
+    fn read<'a>(&self, tokens: &'a [Token]) -> Result<(Self::Tree, &'a [Token]), ParseFault>
+        requires { ready self.now }
+        ensures { Gives (finds self.now (forms tokens.now)) result };
+}
+
+/// The turns of a list: what goes on with it, and what ends it.
+pub trait Turning {
+    type Tree: Drop;
+
+    /// What a turn needs of its parts.
+    ghost ready: { Self → Type 0 };
+
+    /// What a turn finds.
+    ghost finds: { Self → Forms → Turn Self.Tree };
+
+    /// Reads the next element, or none where the list ends.
+    fn turn<'a>(&self, tokens: &'a [Token]) -> Result<Option<(Self::Tree, &'a [Token])>, ParseFault>
+        requires { ready self.now }
+        ensures { Turns (finds self.now (forms tokens.now)) result };
+}
+
+// A list of one.
+pub fn one<T: Drop>(alloc: Global, first: T) -> Result<Seq<T>, AllocError>
+    ensures { IfOk result (λ all. all ≡ first ∷ []) }
+{
+    let mut all = Seq::new(alloc);
+    all.push(first)?;
+    Ok(all)
+}
+
+// The turns of a list `{ ',' X }`.
+#[derive(Drop)]
+struct Commas<'r, R> {
+    rule: &'r R,
+}
+
+impl<R: Rule> Turning for Commas<'_, R> {
+    type Tree = R::Tree;
+
+    ghost ready = { λ c. R.ready c.rule.now };
+
+    ghost finds = { λ c. comma_turn (R.finds c.rule.now) };
+
+    #[tactic(auto, unfolding(crate::specs::Reader::comma_turn))]
+    fn turn<'a>(&self, tokens: &'a [Token]) -> Result<Option<(R::Tree, &'a [Token])>, ParseFault> {
+        match tokens {
+            [
+                Token {
+                    form: TokenForm::Symbol(Symbol::Comma),
+                    ..
+                },
+                rest @ ..,
+            ] => {
+                let (member, rest) = self.rule.read(rest)?;
+                Ok(Some((member, rest)))
+            }
+            _ => Ok(None),
+        }
+    }
+}
+
+// The elements with one more behind them.
+fn with_last<T: Drop>(elements: Seq<T>, last: T) -> Result<Seq<T>, AllocError>
+    ensures { IfOk result (λ all. all ≡ elements ++ last ∷ []) }
+{
+    let mut all = elements;
+    all.push(last)?;
+    Ok(all)
+}
+
+/// Reads elements as long as there are some, behind those that are read.
+pub fn repeat<'a, T: Turning>(
+    turning: &T,
+    found: Seq<T::Tree>,
+    tokens: &'a [Token],
+) -> Result<(Seq<T::Tree>, &'a [Token]), ParseFault>
+    requires { T.ready turning.now }
+    ensures { Gives (repeat (T.finds turning.now) (length tokens.now) found (forms tokens.now)) result }
+{
+    let mut found = found;
+    let mut rest = tokens;
+    for _turn in 0..tokens.len() {
+        match turning.turn(rest) {
+            Ok(Some((element, behind))) => {
+                found = with_last(found, element)?;
+                rest = behind;
+            }
+            Ok(None) => return Ok((found, rest)),
+            Err(fault) => return Err(fault),
+        }
+    }
+    Ok((found, rest))
+}
+
+/// Members with commas between.
+#[tactic(auto, unfolding(crate::specs::Reader::listed))]
+pub fn listed<'a, R: Rule>(
+    alloc: Global,
+    rule: &R,
+    tokens: &'a [Token],
+) -> Result<(Seq<R::Tree>, &'a [Token]), ParseFault>
+    requires { R.ready rule.now }
+    ensures { Gives (listed (R.finds rule.now) (forms tokens.now)) result }
+{
+    let (first, rest) = rule.read(tokens)?;
+    let members = one(alloc, first)?;
+    let (members, rest) = repeat(&Commas { rule }, members, rest)?;
+    Ok((members, rest))
+}
+
+/// The tokens behind a `)`.
+#[tactic(auto, unfolding(crate::specs::Reader::close_paren))]
+pub fn close_paren(tokens: &[Token]) -> Result<&[Token], ParseFault>
+    ensures { Leaves (close_paren (forms tokens.now)) result }
+{
+    match tokens {
+        [
+            Token {
+                form: TokenForm::Symbol(Symbol::CloseParen),
+                ..
+            },
+            rest @ ..,
+        ] => Ok(rest),
+        _ => Err(ParseFault::Off),
+    }
+}
+
+/// The tokens behind a `}`.
+#[tactic(auto, unfolding(crate::specs::Reader::close_brace))]
+pub fn close_brace(tokens: &[Token]) -> Result<&[Token], ParseFault>
+    ensures { Leaves (close_brace (forms tokens.now)) result }
+{
+    match tokens {
+        [
+            Token {
+                form: TokenForm::Symbol(Symbol::CloseBrace),
+                ..
+            },
+            rest @ ..,
+        ] => Ok(rest),
+        _ => Err(ParseFault::Off),
+    }
+}
+
+/// The tokens behind a `]`.
+#[tactic(auto, unfolding(crate::specs::Reader::close_bracket))]
+pub fn close_bracket(tokens: &[Token]) -> Result<&[Token], ParseFault>
+    ensures { Leaves (close_bracket (forms tokens.now)) result }
+{
+    match tokens {
+        [
+            Token {
+                form: TokenForm::Symbol(Symbol::CloseBracket),
+                ..
+            },
+            rest @ ..,
+        ] => Ok(rest),
+        _ => Err(ParseFault::Off),
+    }
+}

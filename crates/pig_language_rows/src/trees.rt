@@ -1,0 +1,581 @@
+//! What no clause says of `parse`: that each form is read with ample memory, as the tree that the grammar gives it,
+//! which statement is the first that is off the grammar, and that long chains and deep brackets are read.
+ghost use Rattle.std.specs.Prelude.{◌<◌, ◌^◌, IsTrue, All, length};
+ghost use Rattle.pig_syntax.specs.Cutting.{IsWithin};
+ghost use Rattle.pig_parser.specs.Parsing.{IsShallow};
+
+use pig_parser::{SyntaxFault, parse};
+use pig_syntax::{Expr, Op, Pieces, Stmt, Stmts, Tokens, cut, depth, lex, statements_lie_within};
+use std::alloc::{AllocError, Global};
+use std::test::Fail;
+
+// Expressions, each with its tree; a row with none is off the grammar.
+const EXPRESSIONS: &str = "\
+1 => Int(1)\n\
+2147483647 => Int(2147483647)\n\
+5L => Long(5)\n\
+1.5 => Float\n\
+'t' => Text('t')\n\
+TRUE => Bool(true)\n\
+false => Bool(false)\n\
+NULL => Null\n\
+b => Field(Name('b'))\n\
+$3 => Field(Position(3))\n\
+a::b => Field(Name('a::b'))\n\
+group => Field(Name('group'))\n\
+a::GROUP::b => Field(Name('a::group::b'))\n\
+b OR c OR d => Chain { first: Field(Name('b')), rest: [Link { op: Or, a: Field(Name('c')) }, Link { op: Or, a: Field(Name('d')) }] }\n\
+b AND c OR d AND e => Chain { first: Chain { first: Field(Name('b')), rest: [Link { op: And, a: Field(Name('c')) }] }, rest: [Link { op: Or, a: Chain { first: Field(Name('d')), rest: [Link { op: And, a: Field(Name('e')) }] } }] }\n\
+NOT b AND c => Chain { first: Not(Field(Name('b'))), rest: [Link { op: And, a: Field(Name('c')) }] }\n\
+NOT a == b => Not(Compare { op: Eq, a: Field(Name('a')), b: Field(Name('b')) })\n\
+a == b => Compare { op: Eq, a: Field(Name('a')), b: Field(Name('b')) }\n\
+a != b => Compare { op: Ne, a: Field(Name('a')), b: Field(Name('b')) }\n\
+a < b => Compare { op: Lt, a: Field(Name('a')), b: Field(Name('b')) }\n\
+a <= b => Compare { op: Le, a: Field(Name('a')), b: Field(Name('b')) }\n\
+a > b => Compare { op: Gt, a: Field(Name('a')), b: Field(Name('b')) }\n\
+a >= b => Compare { op: Ge, a: Field(Name('a')), b: Field(Name('b')) }\n\
+a + b < c * d => Compare { op: Lt, a: Chain { first: Field(Name('a')), rest: [Link { op: Add, a: Field(Name('b')) }] }, b: Chain { first: Field(Name('c')), rest: [Link { op: Mul, a: Field(Name('d')) }] } }\n\
+a IS NULL => IsNull { a: Field(Name('a')), not: false }\n\
+a + b IS NOT NULL => IsNull { a: Chain { first: Field(Name('a')), rest: [Link { op: Add, a: Field(Name('b')) }] }, not: true }\n\
+a - b + c => Chain { first: Field(Name('a')), rest: [Link { op: Sub, a: Field(Name('b')) }, Link { op: Add, a: Field(Name('c')) }] }\n\
+a * b / c % d => Chain { first: Field(Name('a')), rest: [Link { op: Mul, a: Field(Name('b')) }, Link { op: Div, a: Field(Name('c')) }, Link { op: Rem, a: Field(Name('d')) }] }\n\
+a + b * c - d => Chain { first: Field(Name('a')), rest: [Link { op: Add, a: Chain { first: Field(Name('b')), rest: [Link { op: Mul, a: Field(Name('c')) }] } }, Link { op: Sub, a: Field(Name('d')) }] }\n\
+(a + b) * c => Chain { first: Chain { first: Field(Name('a')), rest: [Link { op: Add, a: Field(Name('b')) }] }, rest: [Link { op: Mul, a: Field(Name('c')) }] }\n\
+a - (b - c) => Chain { first: Field(Name('a')), rest: [Link { op: Sub, a: Chain { first: Field(Name('b')), rest: [Link { op: Sub, a: Field(Name('c')) }] } }] }\n\
+- a * b => Chain { first: Minus(Field(Name('a'))), rest: [Link { op: Mul, a: Field(Name('b')) }] }\n\
+a * - b => Chain { first: Field(Name('a')), rest: [Link { op: Mul, a: Minus(Field(Name('b'))) }] }\n\
+- (int) x => Minus(Cast { to: Int, a: Field(Name('x')) })\n\
+(int) x + 1 => Chain { first: Cast { to: Int, a: Field(Name('x')) }, rest: [Link { op: Add, a: Int(1) }] }\n\
+(x) => Field(Name('x'))\n\
+((x)) => Field(Name('x'))\n\
+(c ? a : b) => Choose { cond: Field(Name('c')), yes: Field(Name('a')), no: Field(Name('b')) }\n\
+(c ? (d ? 1 : 2) : 3) => Choose { cond: Field(Name('c')), yes: Choose { cond: Field(Name('d')), yes: Int(1), no: Int(2) }, no: Int(3) }\n\
+(c == 1 ? a : b) + 1 => Chain { first: Choose { cond: Compare { op: Eq, a: Field(Name('c')), b: Int(1) }, yes: Field(Name('a')), no: Field(Name('b')) }, rest: [Link { op: Add, a: Int(1) }] }\n\
+(int) (x) => Cast { to: Int, a: Field(Name('x')) }\n\
+(tuple(a, b: int)) x => Cast { to: Tuple([FieldTree { name: 'a', kind: None }, FieldTree { name: 'b', kind: Some(Int) }]), a: Field(Name('x')) }\n\
+(bag{t: (a)}) x => Cast { to: Bag([FieldTree { name: 'a', kind: None }]), a: Field(Name('x')) }\n\
+(map[]) x#'k' => Cast { to: Map(None), a: Post { a: Field(Name('x')), steps: [Look('k')] } }\n\
+(map[long]) x => Cast { to: Map(Some(Long)), a: Field(Name('x')) }\n\
+a.b => Post { a: Field(Name('a')), steps: [Project { fields: [Name('b')], single: true }] }\n\
+a.$1 => Post { a: Field(Name('a')), steps: [Project { fields: [Position(1)], single: true }] }\n\
+a.(b) => Post { a: Field(Name('a')), steps: [Project { fields: [Name('b')], single: false }] }\n\
+a::b.(c,$1)#'k' => Post { a: Field(Name('a::b')), steps: [Project { fields: [Name('c'), Position(1)], single: false }, Look('k')] }\n\
+a.b.c => Post { a: Field(Name('a')), steps: [Project { fields: [Name('b')], single: true }, Project { fields: [Name('c')], single: true }] }\n\
+(a).b => Post { a: Field(Name('a')), steps: [Project { fields: [Name('b')], single: true }] }\n\
+f() => Call { name: 'f', args: [] }\n\
+f(a, b + 1) => Call { name: 'f', args: [Field(Name('a')), Chain { first: Field(Name('b')), rest: [Link { op: Add, a: Int(1) }] }] }\n\
+f(g(1)).x => Post { a: Call { name: 'f', args: [Call { name: 'g', args: [Int(1)] }] }, steps: [Project { fields: [Name('x')], single: true }] }\n\
+a == b == c\n\
+a < b > c\n\
+NOT NOT b\n\
+- - b\n\
+(int) - b\n\
+(int) (int) b\n\
+(int) a + \n\
+a + NOT b\n\
+a +\n\
+a OR\n\
+AND a\n\
+\x20\n\
+a::\n\
+a::1\n\
+::a\n\
+a.\n\
+a.()\n\
+a.(b,)\n\
+a.'k'\n\
+a#b\n\
+a#\n\
+(a, b)\n\
+()\n\
+(a\n\
+a)\n\
+(c ? a)\n\
+(c ? a : )\n\
+c ? a : b\n\
+(c ? a : b : d)\n\
+a IS b\n\
+a IS NOT b\n\
+a IS\n\
+a b\n\
+f(,)\n\
+f(a,)\n\
+f(a b)\n\
+a::f(b)\n\
+(tuple) a\n\
+(bag) a\n\
+(map) a\n\
+(int a)\n\
+*\n\
+a IN (b)\n\
+CASE WHEN a THEN b END\n\
+INT\n\
+a = b";
+
+// Types, each with its tree; a row with none is off the grammar.
+const TYPES: &str = "\
+int => Int\n\
+long => Long\n\
+chararray => Chararray\n\
+bytearray => Bytearray\n\
+boolean => Boolean\n\
+float => Float\n\
+double => Float\n\
+biginteger => Float\n\
+bigdecimal => Float\n\
+datetime => Float\n\
+(a) => Tuple([FieldTree { name: 'a', kind: None }])\n\
+tuple(a: int, b) => Tuple([FieldTree { name: 'a', kind: Some(Int) }, FieldTree { name: 'b', kind: None }])\n\
+{(a)} => Bag([FieldTree { name: 'a', kind: None }])\n\
+{t: (a: long)} => Bag([FieldTree { name: 'a', kind: Some(Long) }])\n\
+bag{tuple(a)} => Bag([FieldTree { name: 'a', kind: None }])\n\
+bag{t: tuple(a, b)} => Bag([FieldTree { name: 'a', kind: None }, FieldTree { name: 'b', kind: None }])\n\
+[] => Map(None)\n\
+[int] => Map(Some(Int))\n\
+map[] => Map(None)\n\
+map[{(a: [int])}] => Map(Some(Bag([FieldTree { name: 'a', kind: Some(Map(Some(Int))) }])))\n\
+(a: (b: (c: int))) => Tuple([FieldTree { name: 'a', kind: Some(Tuple([FieldTree { name: 'b', kind: Some(Tuple([FieldTree { name: 'c', kind: Some(Int) }])) }])) }])\n\
+\x20\n\
+uint\n\
+tuple\n\
+()\n\
+(a:)\n\
+(a b)\n\
+(a,)\n\
+{}\n\
+{a}\n\
+{t: }\n\
+{(a)\n\
+bag(a)\n\
+bag{a: int}\n\
+map\n\
+map[b: int]\n\
+[int\n\
+int int\n\
+tuple{(a)}\n\
+map{(a)}";
+
+// Operators, each with its tree; a row with none is off the grammar.
+const OPERATORS: &str = "\
+LOAD 'p' AS (a) => Load { path: 'p', func: None, schema: [FieldTree { name: 'a', kind: None }] }\n\
+LOAD 'p' USING F() AS (a: int, b) => Load { path: 'p', func: Some(Func { name: 'F', args: [] }), schema: [FieldTree { name: 'a', kind: Some(Int) }, FieldTree { name: 'b', kind: None }] }\n\
+LOAD 'p' USING F('x', 'y') AS (a) => Load { path: 'p', func: Some(Func { name: 'F', args: ['x', 'y'] }), schema: [FieldTree { name: 'a', kind: None }] }\n\
+FILTER a BY b => Filter { from: 'a', cond: Field(Name('b')) }\n\
+FOREACH a GENERATE * => Foreach { from: 'a', steps: [], items: [All] }\n\
+FOREACH a GENERATE b, c AS d, e + 1 AS f: int => Foreach { from: 'a', steps: [], items: [Value { value: Field(Name('b')), flatten: false, names: None }, Value { value: Field(Name('c')), flatten: false, names: Some(One(FieldTree { name: 'd', kind: None })) }, Value { value: Chain { first: Field(Name('e')), rest: [Link { op: Add, a: Int(1) }] }, flatten: false, names: Some(One(FieldTree { name: 'f', kind: Some(Int) })) }] }\n\
+FOREACH a GENERATE FLATTEN(b), FLATTEN(c) AS (d, e: long), * => Foreach { from: 'a', steps: [], items: [Value { value: Field(Name('b')), flatten: true, names: None }, Value { value: Field(Name('c')), flatten: true, names: Some(Several([FieldTree { name: 'd', kind: None }, FieldTree { name: 'e', kind: Some(Long) }])) }, All] }\n\
+FOREACH a GENERATE f(b) AS (c), FLATTEN(d) AS e => Foreach { from: 'a', steps: [], items: [Value { value: Call { name: 'f', args: [Field(Name('b'))] }, flatten: false, names: Some(Several([FieldTree { name: 'c', kind: None }])) }, Value { value: Field(Name('d')), flatten: true, names: Some(One(FieldTree { name: 'e', kind: None })) }] }\n\
+FOREACH a { GENERATE b; } => Foreach { from: 'a', steps: [], items: [Value { value: Field(Name('b')), flatten: false, names: None }] }\n\
+FOREACH a { p = FILTER b BY c > 1; q = DISTINCT p; r = ORDER q BY $0 DESC, d; s = LIMIT r 5; t = b.(c, d); GENERATE group, t AS u; } => Foreach { from: 'a', steps: [Step { alias: 'p', nested: Filter { from: BagRef { field: Name('b'), sel: None }, cond: Compare { op: Gt, a: Field(Name('c')), b: Int(1) } } }, Step { alias: 'q', nested: Distinct { from: BagRef { field: Name('p'), sel: None } } }, Step { alias: 'r', nested: Order { from: BagRef { field: Name('q'), sel: None }, keys: Fields([OrderField { field: Position(0), dir: Desc }, OrderField { field: Name('d'), dir: Asc }]) } }, Step { alias: 's', nested: Limit { from: BagRef { field: Name('r'), sel: None }, count: 5 } }, Step { alias: 't', nested: Take { from: BagRef { field: Name('b'), sel: Some(Project { fields: [Name('c'), Name('d')], single: false }) } } }], items: [Value { value: Field(Name('group')), flatten: false, names: None }, Value { value: Field(Name('t')), flatten: false, names: Some(One(FieldTree { name: 'u', kind: None })) }] }\n\
+FOREACH a { p = ORDER b.c BY * ASC; q = LIMIT $1 7L; r = DISTINCT x::y.$0; GENERATE *; } => Foreach { from: 'a', steps: [Step { alias: 'p', nested: Order { from: BagRef { field: Name('b'), sel: Some(Project { fields: [Name('c')], single: true }) }, keys: All(Asc) } }, Step { alias: 'q', nested: Limit { from: BagRef { field: Position(1), sel: None }, count: 7 } }, Step { alias: 'r', nested: Distinct { from: BagRef { field: Name('x::y'), sel: Some(Project { fields: [Position(0)], single: true }) } } }], items: [All] }\n\
+GROUP a ALL => GroupAll { from: 'a', using: None }\n\
+COGROUP a ALL USING 'u' PARALLEL 2 => GroupAll { from: 'a', using: Some('u') }\n\
+GROUP a BY b => Group { inputs: [GroupInput { from: 'a', keys: [Field(Name('b'))], inner: false }], using: None }\n\
+GROUP a BY (b) => Group { inputs: [GroupInput { from: 'a', keys: [Field(Name('b'))], inner: false }], using: None }\n\
+GROUP a BY (b, c + 1, $2) => Group { inputs: [GroupInput { from: 'a', keys: [Field(Name('b')), Chain { first: Field(Name('c')), rest: [Link { op: Add, a: Int(1) }] }, Field(Position(2))], inner: false }], using: None }\n\
+GROUP a BY (b + c) * d => Group { inputs: [GroupInput { from: 'a', keys: [Chain { first: Chain { first: Field(Name('b')), rest: [Link { op: Add, a: Field(Name('c')) }] }, rest: [Link { op: Mul, a: Field(Name('d')) }] }], inner: false }], using: None }\n\
+GROUP a BY ((b), (c)) => Group { inputs: [GroupInput { from: 'a', keys: [Field(Name('b')), Field(Name('c'))], inner: false }], using: None }\n\
+GROUP a BY (b ? c : d) => Group { inputs: [GroupInput { from: 'a', keys: [Choose { cond: Field(Name('b')), yes: Field(Name('c')), no: Field(Name('d')) }], inner: false }], using: None }\n\
+GROUP a BY (int) b => Group { inputs: [GroupInput { from: 'a', keys: [Cast { to: Int, a: Field(Name('b')) }], inner: false }], using: None }\n\
+GROUP a BY ((int) b, c) => Group { inputs: [GroupInput { from: 'a', keys: [Cast { to: Int, a: Field(Name('b')) }, Field(Name('c'))], inner: false }], using: None }\n\
+COGROUP a BY b INNER, c BY d OUTER, e BY (f, g) USING 'u' PARALLEL 4 => Group { inputs: [GroupInput { from: 'a', keys: [Field(Name('b'))], inner: true }, GroupInput { from: 'c', keys: [Field(Name('d'))], inner: false }, GroupInput { from: 'e', keys: [Field(Name('f')), Field(Name('g'))], inner: false }], using: Some('u') }\n\
+GROUP a BY b PARALLEL 4 => Group { inputs: [GroupInput { from: 'a', keys: [Field(Name('b'))], inner: false }], using: None }\n\
+JOIN a BY k, b BY k => Join { inputs: [JoinInput { from: 'a', keys: [Field(Name('k'))] }, JoinInput { from: 'b', keys: [Field(Name('k'))] }], side: Inner, using: None }\n\
+JOIN a BY k LEFT, b BY k => Join { inputs: [JoinInput { from: 'a', keys: [Field(Name('k'))] }, JoinInput { from: 'b', keys: [Field(Name('k'))] }], side: Left, using: None }\n\
+JOIN a BY k RIGHT, b BY k => Join { inputs: [JoinInput { from: 'a', keys: [Field(Name('k'))] }, JoinInput { from: 'b', keys: [Field(Name('k'))] }], side: Right, using: None }\n\
+JOIN a BY k FULL, b BY k => Join { inputs: [JoinInput { from: 'a', keys: [Field(Name('k'))] }, JoinInput { from: 'b', keys: [Field(Name('k'))] }], side: Full, using: None }\n\
+JOIN a BY k LEFT OUTER, b BY k => Join { inputs: [JoinInput { from: 'a', keys: [Field(Name('k'))] }, JoinInput { from: 'b', keys: [Field(Name('k'))] }], side: Left, using: None }\n\
+JOIN a BY k FULL OUTER, b BY k USING 'u' PARALLEL 3 => Join { inputs: [JoinInput { from: 'a', keys: [Field(Name('k'))] }, JoinInput { from: 'b', keys: [Field(Name('k'))] }], side: Full, using: Some('u') }\n\
+JOIN a BY (k, $1) RIGHT OUTER, b BY (k, l), c BY (m, n) => Join { inputs: [JoinInput { from: 'a', keys: [Field(Name('k')), Field(Position(1))] }, JoinInput { from: 'b', keys: [Field(Name('k')), Field(Name('l'))] }, JoinInput { from: 'c', keys: [Field(Name('m')), Field(Name('n'))] }], side: Right, using: None }\n\
+UNION a, b => Union { onschema: false, from: ['a', 'b'] }\n\
+UNION ONSCHEMA a, b, a => Union { onschema: true, from: ['a', 'b', 'a'] }\n\
+DISTINCT a => Distinct { from: 'a' }\n\
+DISTINCT a PARALLEL 3 => Distinct { from: 'a' }\n\
+ORDER a BY * => Order { from: 'a', keys: All(Asc) }\n\
+ORDER a BY * DESC PARALLEL 2 => Order { from: 'a', keys: All(Desc) }\n\
+ORDER a BY b, $1 ASC, c::d DESC => Order { from: 'a', keys: Fields([OrderField { field: Name('b'), dir: Asc }, OrderField { field: Position(1), dir: Asc }, OrderField { field: Name('c::d'), dir: Desc }]) }\n\
+ORDER a BY b PARALLEL 2 => Order { from: 'a', keys: Fields([OrderField { field: Name('b'), dir: Asc }]) }\n\
+LIMIT a 0 => Limit { from: 'a', count: 0 }\n\
+LIMIT a 9223372036854775807L => Limit { from: 'a', count: 9223372036854775807 }\n\
+\x20\n\
+a\n\
+LOAD 'p'\n\
+LOAD p AS (a)\n\
+LOAD 'p' USING F AS (a)\n\
+LOAD 'p' USING F() \n\
+LOAD 'p' AS a\n\
+LOAD 'p' AS ()\n\
+LOAD 'p' AS (a) AS (b)\n\
+FILTER a\n\
+FILTER BY a\n\
+FILTER a BY\n\
+FILTER group BY b\n\
+FOREACH a GENERATE\n\
+FOREACH a GENERATE b,\n\
+FOREACH a GENERATE b AS\n\
+FOREACH a GENERATE b AS c:\n\
+FOREACH a GENERATE b AS ()\n\
+FOREACH a GENERATE * AS b\n\
+FOREACH a GENERATE FLATTEN b\n\
+FOREACH a GENERATE FLATTEN(b\n\
+FOREACH a b\n\
+FOREACH a { }\n\
+FOREACH a { GENERATE b }\n\
+FOREACH a { GENERATE b; \n\
+FOREACH a { p = b; }\n\
+FOREACH a { GENERATE b; p = c; }\n\
+FOREACH a { p = b GENERATE c; }\n\
+FOREACH a { p = b + 1; GENERATE c; }\n\
+FOREACH a { p = LIMIT b c; GENERATE p; }\n\
+FOREACH a { p = FILTER b; GENERATE p; }\n\
+FOREACH a { p = GROUP b ALL; GENERATE p; }\n\
+FOREACH a { GENERATE b; } c\n\
+GROUP a\n\
+GROUP a BY\n\
+GROUP a BY ()\n\
+GROUP a BY (b,)\n\
+GROUP a BY (b, c).d\n\
+GROUP a BY (b, (c, d))\n\
+GROUP a BY b c\n\
+GROUP a ALL, b BY c\n\
+GROUP a BY b, c ALL\n\
+GROUP a BY b USING u\n\
+GROUP a BY b PARALLEL\n\
+GROUP a BY b PARALLEL 1L\n\
+GROUP a BY b PARALLEL 1 USING 'u'\n\
+GROUP a BY b INNER OUTER\n\
+GROUP a BY b LEFT\n\
+JOIN a BY b\n\
+JOIN a BY b,\n\
+JOIN a BY b OUTER, c BY d\n\
+JOIN a BY b INNER, c BY d\n\
+JOIN a BY b, c BY d LEFT\n\
+JOIN a BY b LEFT RIGHT, c BY d\n\
+JOIN a ALL, b BY c\n\
+UNION a\n\
+UNION ONSCHEMA a\n\
+UNION a b\n\
+UNION a, b PARALLEL 2\n\
+UNION a, group\n\
+DISTINCT\n\
+DISTINCT a, b\n\
+DISTINCT a 1\n\
+ORDER a\n\
+ORDER a BY\n\
+ORDER a BY *, b\n\
+ORDER a BY b c\n\
+ORDER a BY 'k'\n\
+ORDER a BY b + 1\n\
+ORDER a BY b ASC DESC\n\
+LIMIT a\n\
+LIMIT a b\n\
+LIMIT a - 1\n\
+LIMIT a 1.5\n\
+LIMIT a 1 PARALLEL 2\n\
+CUBE a BY b\n\
+RANK a\n\
+ASSERT a BY b";
+
+// Scripts, each with its trees or the first statement that is off the grammar.
+const SCRIPTS: &str = "\
+\x20=> []\n\
+; => [Empty]\n\
+x = DISTINCT a; ;  => [Assign { alias: 'x', op: Distinct { from: 'a' } }, Empty]\n\
+SPLIT a INTO b IF c; => [Split { from: 'a', branches: [Branch { alias: 'b', cond: Field(Name('c')) }], otherwise: None }]\n\
+SPLIT a INTO b IF c, d IF NOT e, f OTHERWISE; => [Split { from: 'a', branches: [Branch { alias: 'b', cond: Field(Name('c')) }, Branch { alias: 'd', cond: Not(Field(Name('e'))) }], otherwise: Some('f') }]\n\
+STORE a INTO 'o'; => [Store { from: 'a', path: 'o', func: None }]\n\
+STORE a INTO 'o' USING F(','); => [Store { from: 'a', path: 'o', func: Some(Func { name: 'F', args: [','] }) }]\n\
+REGISTER 'a'; DEFINE x; STREAM; MAPREDUCE ); SAMPLE a 1; CROSS a, b; DUMP a; ILLUSTRATE; DESCRIBE a; EXPLAIN; IMPORT; SET a { ; }; => [Unsupported, Unsupported, Unsupported, Unsupported, Unsupported, Unsupported, Unsupported, Unsupported, Unsupported, Unsupported, Unsupported, Unsupported]\n\
+x = CROSS a, b; y = STREAM; z = SAMPLE a 1.5; => [Unsupported, Unsupported, Unsupported]\n\
+x = DISTINCT a; x = ; => syntax at 2\n\
+x = DISTINCT a; ; x => syntax at 3\n\
+x = DISTINCT a => syntax at 1\n\
+DUMP a => syntax at 1\n\
+x = DISTINCT a; y = b; z = c; => syntax at 2\n\
+x; => syntax at 1\n\
+x DISTINCT a; => syntax at 1\n\
+x = ; => syntax at 1\n\
+group = DISTINCT a; => syntax at 1\n\
+DISTINCT a; => syntax at 1\n\
+a, b; => syntax at 1\n\
+x = y = DUMP a; => syntax at 1\n\
+SPLIT a INTO b; => syntax at 1\n\
+SPLIT a INTO b IF c,; => syntax at 1\n\
+SPLIT a INTO d OTHERWISE; => syntax at 1\n\
+SPLIT a INTO b IF c, d OTHERWISE, e IF f; => syntax at 1\n\
+SPLIT a INTO b IF c d IF e; => syntax at 1\n\
+x = SPLIT a INTO b IF c; => syntax at 1\n\
+STORE a INTO o; => syntax at 1\n\
+STORE a INTO 'o' USING F; => syntax at 1\n\
+STORE a INTO 'o' USING F('x',); => syntax at 1\n\
+STORE a INTO 'o' USING F(x); => syntax at 1\n\
+STORE 'o'; => syntax at 1\n\
+x = STORE a INTO 'o'; => syntax at 1\n\
+STORE a INTO 'o' USING 'u'; => syntax at 1\n\
+ASSERT a BY b; => syntax at 1\n\
+}{; x = DISTINCT a; => syntax at 1";
+
+// Whole scripts, each with the number of its trees.
+const COUNTED: &str = "\
+a = LOAD 'in' AS (line:chararray); w = FOREACH a GENERATE FLATTEN(TOKENIZE(line)) AS word; g = GROUP w BY word PARALLEL 2; c = FOREACH g GENERATE group AS word, COUNT(w) AS n; o = ORDER c BY n DESC, word; STORE o INTO 'out'; => 6\n\
+urls = LOAD 'u' USING PigStorage(',') AS (url, category:chararray, rank_of:int); good = FILTER urls BY rank_of > 2; groups = GROUP good BY category; big = FILTER groups BY COUNT(good) > 1; o = FOREACH big GENERATE group, SUM(good.rank_of); STORE o INTO 'out'; => 6\n\
+z = GROUP a ALL; STORE z INTO 'all'; => 2\n\
+a = LOAD 'in' AS (x:int, y:int); STORE a INTO 'out'; => 2\n\
+a = LOAD 'a' AS (k:int, v:chararray); b = LOAD 'b' AS (k:int, v:chararray); g = GROUP a BY k; c = COGROUP a BY k, b BY k; j = JOIN a BY k, b BY k; f = JOIN a BY k FULL, b BY k; => 6\n\
+a = LOAD 'in' AS (k:chararray, x:int); g = GROUP a BY k; o = FOREACH g GENERATE group, COUNT(a.x), COUNT_STAR(a.x), SUM(a.x), MIN(a.x); => 3\n\
+i = LOAD 'in' AS (a:int, b:int); o = FOREACH i GENERATE a+1, b/2, b%2, b/0, (long)a+1; => 2\n\
+a = LOAD 'in' AS (x:long); g = GROUP a ALL; o = FOREACH g GENERATE SUM(a.x); => 3\n\
+t = LOAD 'in' AS (a:chararray, b:int); g = GROUP t BY b; o = FOREACH g GENERATE group, COUNT(t); => 3\n\
+a = LOAD 'a' AS (k:int, v:int); b = LOAD 'b' AS (k:int, w:int); j = JOIN a BY k LEFT, b BY k; f = FILTER j BY v > 1 AND w > 2; STORE f INTO 'o';  => 5\n\
+a = LOAD 'in' AS (k:int, v:chararray); o = ORDER a BY k DESC; => 2\n\
+a = LOAD 'in' AS (x:int); l = LIMIT a 2; STORE l INTO 'p'; STORE l INTO 'q'; m = LIMIT a 0; n = LIMIT a 5; => 6\n\
+a = LOAD 'in' AS (k:chararray, n:int, s:chararray); g = GROUP a BY k; r = FOREACH g { o = ORDER a BY n; t = LIMIT o 1; GENERATE group, t, o.(n,s); }; => 3\n\
+a = LOAD 'in' AS (b:bag{t:(x:int)}, m:map[int], t:tuple(a:int,b:int)); c = LOAD 'in' USING PigStorage(',') AS (t:(a:int,b:int), c:int); => 2\n\
+x = FILTER nope BY $0 == 1; y = LOAD 'no' AS (a:int); STORE y INTO 'o'; y = LOAD 'i' AS (a:float); y = LOAD 'i.gz' AS (a:int); => 5\n\
+a = LOAD 'in' AS (k:int, a:{(x:int)}, b:{(y:int)}); o = FOREACH a GENERATE k, FLATTEN(a), FLATTEN(b); => 2\n\
+a = LOAD 'in' AS (x:int); SPLIT a INTO b IF x > 2, c IF x < 2, d OTHERWISE; => 2\n\
+a = LOAD 'a' AS (x:int); b = LOAD 'b' AS (x:long); u = UNION a, b; o = ORDER u BY x; => 4\n\
+a = LOAD 'in' AS (s:chararray, t:chararray, n:int); o = FOREACH a GENERATE SIZE(s), SUBSTRING(s,1,3), SUBSTRING(s,3,9), INDEXOF(t,'na'), INDEXOF(t,'x'), ABS(n), STARTSWITH(t,'ba'), ENDSWITH(t,'ba'), CONCAT(s,t); => 2\n\
+a = LOAD 'in' AS (m:map[]); o = FOREACH a GENERATE (int)m#'a' + 1, m#'zz', (m#'b' == 'x' ? 'yes' : 'no'); => 2\n\
+v = LOAD 'visits' AS (user:chararray, page:chararray, time:int); g = GROUP v BY user; c = FOREACH g GENERATE group, COUNT(v) AS n, SUM(v.time) AS t; o = ORDER c BY n DESC, $0; top = LIMIT o 10; STORE top INTO 'top';  => 6";
+
+// The trees of a script, or why it has none.
+#[derive(Drop)]
+enum Answer {
+    Trees(Stmts),
+    SyntaxAt(u32),
+    Other,
+}
+
+// Whether the brackets of no statement nest more than 64 deep.
+fn shallow(tokens: &Tokens, pieces: &Pieces) -> bool
+    requires within { All (IsWithin tokens.now) pieces.now }
+    requires few { length tokens.now < 2 ^ 32 }
+    ensures { IsTrue result → All (IsShallow tokens.now) pieces.now }
+{
+    for piece in pieces.as_slice() {
+        if depth(tokens, piece) > 64 {
+            return false;
+        }
+    }
+    true
+}
+
+fn parsed(alloc: Global, script: &str) -> Result<Answer, AllocError> {
+    statements_lie_within();
+    let Ok(tokens) = lex(alloc, script.as_bytes()) else {
+        return Ok(Answer::Other);
+    };
+    let pieces = cut(alloc, &tokens)?;
+    if tokens.len() >= 1 << 32 || !shallow(&tokens, &pieces) {
+        return Ok(Answer::Other);
+    }
+    match parse(alloc, &tokens, &pieces) {
+        Ok(trees) => Ok(Answer::Trees(trees)),
+        Err(SyntaxFault::Syntax { statement }) => Ok(Answer::SyntaxAt(statement)),
+        Err(SyntaxFault::OutOfMemory) => Ok(Answer::Other),
+    }
+}
+
+// Shown trees without the names of lists, boxes and texts, and with `'` for `"`.
+fn plain(alloc: Global, shown: &str) -> Result<String, AllocError> {
+    let shown = shown.replace(alloc, "Seq { items: ", "\u{1}")?;
+    let shown = shown.replace(alloc, "Text { text: ", "\u{1}")?;
+    let shown = shown.replace(alloc, "Boxed { inner: ", "\u{1}")?;
+    let mut hidden = Vec::new(alloc);
+    let mut text = String::new(alloc);
+    for c in shown.chars() {
+        match c {
+            '\u{1}' => hidden.push(true)?,
+            '{' => {
+                hidden.push(false)?;
+                text.push(c)?;
+            }
+            '}' => {
+                if hidden.pop() == Some(true) {
+                    text.pop();
+                } else {
+                    text.push(c)?;
+                }
+            }
+            '"' => text.push('\'')?,
+            _ => text.push(c)?,
+        }
+    }
+    Ok(text)
+}
+
+// The trees of a script, or `syntax at` and the number of the first statement that has none.
+fn shown(alloc: Global, script: &str) -> Result<String, AllocError> {
+    match parsed(alloc, script)? {
+        Answer::Trees(trees) => {
+            let shown = format!(in alloc; "{trees:?}")?;
+            plain(alloc, shown.as_str())
+        }
+        Answer::SyntaxAt(statement) => format!(in alloc; "syntax at {statement}"),
+        Answer::Other => String::from_str(alloc, "no answer"),
+    }
+}
+
+// The first row of a table that does not hold, with what is read there, or nothing. The part stands between the two
+// texts of `script`, and its tree between those of `trees`.
+fn first_wrong(
+    alloc: Global,
+    table: &str,
+    script: (&str, &str),
+    trees: (&str, &str),
+) -> Result<String, AllocError> {
+    for row in table.lines() {
+        let (part, wanted) = match row.split_once(" => ") {
+            Some((part, tree)) => (part, format!(in alloc; "{}{tree}{}", trees.0, trees.1)?),
+            None => (row, String::from_str(alloc, "syntax at 1")?),
+        };
+        let script = format!(in alloc; "{}{part}{}", script.0, script.1)?;
+        let found = shown(alloc, script.as_str())?;
+        if found.as_str() != wanted.as_str() {
+            return format!(in alloc; "{script}: {found}");
+        }
+    }
+    Ok(String::new(alloc))
+}
+
+#[test]
+fn reads_each_form(rt: HostRuntime) -> Result<(), Fail> {
+    let alloc = rt.alloc();
+    let tables = [
+        (
+            EXPRESSIONS,
+            ("x = FILTER a BY ", ";"),
+            (
+                "[Assign { alias: 'x', op: Filter { from: 'a', cond: ",
+                " } }]",
+            ),
+        ),
+        (
+            TYPES,
+            ("x = LOAD 'p' AS (a: ", ");"),
+            (
+                "[Assign { alias: 'x', op: Load { path: 'p', func: None, schema: [FieldTree { name: 'a', kind: Some(",
+                ") }] } }]",
+            ),
+        ),
+        (
+            OPERATORS,
+            ("x = ", ";"),
+            ("[Assign { alias: 'x', op: ", " }]"),
+        ),
+        (SCRIPTS, ("", ""), ("", "")),
+    ];
+    for (table, script, trees) in tables {
+        let wrong = first_wrong(alloc, table, script, trees)?;
+        assert_eq!(rt; wrong.as_str(), "");
+    }
+    Ok(())
+}
+
+// The number of a script's trees.
+fn counted(alloc: Global, script: &str) -> Result<usize, AllocError> {
+    match parsed(alloc, script)? {
+        Answer::Trees(trees) => Ok(trees.len()),
+        _ => Ok(0),
+    }
+}
+
+#[test]
+fn reads_whole_scripts(rt: HostRuntime) -> Result<(), Fail> {
+    let alloc = rt.alloc();
+    for row in COUNTED.lines() {
+        let (script, wanted) = row.split_once(" => ").unwrap_or(("", "none"));
+        let number = format!(in alloc; "{}", counted(alloc, script)?)?;
+        assert_eq!(rt; number.as_str(), wanted, "{script}");
+    }
+    Ok(())
+}
+
+// The number of links of the chain that the first statement filters by.
+fn links(trees: &Stmts) -> usize {
+    match trees.get(0) {
+        Some(tree) => match tree {
+            Stmt::Assign { op, .. } => links_of(op),
+            _ => 0,
+        },
+        None => 0,
+    }
+}
+
+fn links_of(op: &Op) -> usize {
+    match op {
+        Op::Filter { cond, .. } => match cond {
+            Expr::Chain { rest, .. } => rest.len(),
+            _ => 0,
+        },
+        _ => 0,
+    }
+}
+
+#[test]
+fn reads_a_long_chain(rt: HostRuntime) -> Result<(), Fail> {
+    let alloc = rt.alloc();
+    let mut script = String::from_str(alloc, "x = FILTER a BY b")?;
+    for _ in 0..30_000 {
+        script.push_str(" + b")?;
+    }
+    script.push_str(";")?;
+    let number = match parsed(alloc, script.as_str())? {
+        Answer::Trees(trees) => links(&trees),
+        _ => 0,
+    };
+    assert_eq!(rt; number, 30_000);
+    Ok(())
+}
+
+// A statement with so many brackets, one in the other, between its front and its end.
+fn nested(
+    alloc: Global,
+    parts: (&str, &str, &str, &str, &str),
+    times: usize,
+) -> Result<String, AllocError> {
+    let (front, open, middle, close, end) = parts;
+    let mut script = String::from_str(alloc, front)?;
+    for _ in 0..times {
+        script.push_str(open)?;
+    }
+    script.push_str(middle)?;
+    for _ in 0..times {
+        script.push_str(close)?;
+    }
+    script.push_str(end)?;
+    Ok(script)
+}
+
+#[test]
+fn reads_brackets_64_deep(rt: HostRuntime) -> Result<(), Fail> {
+    let alloc = rt.alloc();
+    let cases: [((&str, &str, &str, &str, &str), usize); 7] = [
+        (("x = FILTER a BY ", "(", "b", ")", ";"), 64),
+        (("x = FILTER a BY ", "- (", "b", ")", ";"), 64),
+        (("x = FILTER a BY ", "f(c, ", "b", ")", ";"), 64),
+        (("x = FILTER a BY ", "(c ? b : ", "b", ")", ";"), 64),
+        (("x = GROUP a BY (", "(", "b", ")", ", c);"), 63),
+        (("x = LOAD 'p' AS (a: ", "[", "int", "]", ");"), 63),
+        (("x = LOAD 'p' AS ", "(a: ", "int", ")", ";"), 64),
+    ];
+    for (parts, times) in cases {
+        let script = nested(alloc, parts, times)?;
+        let number = counted(alloc, script.as_str())?;
+        assert_eq!(rt; number, 1, "{script}");
+    }
+    Ok(())
+}
+
+#[test]
+fn shows_faults(rt: HostRuntime) -> Result<(), Fail> {
+    let alloc = rt.alloc();
+    let fault = SyntaxFault::Syntax { statement: 7 };
+    let shown = format!(in alloc; "{fault}, {}", SyntaxFault::OutOfMemory)?;
+    assert_eq!(rt;
+        shown.as_str(),
+        "statement 7 is off the grammar, out of memory"
+    );
+    Ok(())
+}

@@ -1,9 +1,0 @@
-use Rattle.std.proofs.Common.{arith}
-use Rattle.pig_parser.specs.Reader.{forms}
-use Rattle.pig_parser.specs.ExprReader.{expr_at}
-use Rattle.pig_parser.proofs.Turns.{deeper}
-use Rattle.pig_parser.proofs.exprs.+expr.Goals as goal
-
-pub returns : goal.returns
-unfolding expr_at
-returns t c = rw (deeper (λ n. expr_at 65 n (forms c.args.tokens.now)) c.args.depth (omega arith)) c.disj.ensures

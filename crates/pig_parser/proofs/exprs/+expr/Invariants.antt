@@ -1,4 +1,0 @@
-use Rattle.pig_parser.proofs.exprs.+expr.Given as goal
-
-abbrev pub decreases-expr : goal.decreases-expr
-decreases-expr l = l.depth

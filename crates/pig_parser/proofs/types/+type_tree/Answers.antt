@@ -1,8 +1,0 @@
-use Rattle.std.proofs.Common.{arith}
-use Rattle.pig_parser.specs.Reader.{forms, type_at}
-use Rattle.pig_parser.proofs.Turns.{deeper}
-use Rattle.pig_parser.proofs.types.+type_tree.Goals as goal
-
-pub returns : goal.returns
-unfolding type_at
-returns t c = rw (deeper (λ n. type_at n (forms c.args.tokens.now)) c.args.depth (omega arith)) c.any_type.ensures
