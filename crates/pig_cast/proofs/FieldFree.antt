@@ -9,9 +9,10 @@ use Rattle.std.specs.Str.Lossy.{after_first_chunk, replacement_bytes, utf8_inval
 use Rattle.std.specs.declared.cmp.Ordering.{Ordering}
 use Rattle.std.specs.declared.cmp.Ordering.TheVariants.{Less, Equal, Greater}
 use Rattle.std.proofs.lemmas.List.Elements.{All-append, All-cons, All-drop, All-from_recursion, All-head, All-nil, All-tail, All-take}
-use Rattle.pig_value.specs.Bags.{each-sort}
+use Rattle.pig_value.proofs.list_laws.Bags.{each-sort}
 use Rattle.pig_value.specs.Brackets.{body_of, depth_after, inside, is_bracketed, is_separator, items, items_at, items_or_none}
-use Rattle.pig_value.specs.Fields.{all_of, bool_of, by_key, case_of, cut_at, field_of, fields_in, number_of, pair_in, pairs_in, put_pairs, row_in, rows_in, value_in}
+use Rattle.pig_value.specs.Fields.{entries_by_key, put_pairs}
+use Rattle.pig_value.specs.FieldReader.{all_of, bool_of, case_of, cut_at, field_value, fields_in, number_of, pair_in, pairs_in, row_in, rows_in, value_in}
 use Rattle.pig_value.specs.Orders.{bag_of, row_cmp, text_cmp}
 use Rattle.pig_value.specs.Texts.{EntriesAreLineFree, FieldsAreLineFree, HasNoLf, IsLineFree, TuplesAreLineFree}
 use Rattle.pig_value.specs.Trees.{Tree, v_bool, v_int, v_long, v_tuple, v_bag, v_map, fields_of, tuples_of, entries_of, KindTree, KindTrees, k_boolean, k_int, k_long, k_chars, k_bytes, k_tuple, k_bag, k_map, no_kinds, more_kinds}
@@ -135,12 +136,12 @@ mutual
   case_free k_boolean bs free = of_any IsLineFree v_bool (λ b. tt) (bool_of bs)
   case_free (k_tuple ks) bs free = of_made FreeRow IsLineFree (λ row. v_tuple (fields_of row)) (λ row h. h) (row_in (fields_in ks) bs) (row_in_free (fields_in ks) (fields_free ks) bs free)
   case_free (k_bag ks) bs free = of_made (AllByRecursion FreeRow) IsLineFree (λ rows. v_bag (tuples_of (bag_of rows))) (λ rows h. tuples_are_free (bag_of rows) (each-sort row_cmp FreeRow rows h)) (rows_in (row_in (fields_in ks)) bs) (listed_free FreeRow (row_in (fields_in ks)) 123 125 (row_in_free (fields_in ks) (fields_free ks)) bs free)
-  case_free (k_map k) bs free = of_made (AllByRecursion FreePair) IsLineFree (λ pairs. v_map (entries_of (by_key pairs))) (λ pairs h. entries_are_free (by_key pairs) (put_free [] pairs tt h)) (pairs_in (pair_in (value_in (case_of k))) bs) (listed_free FreePair (pair_in (value_in (case_of k))) 91 93 (pair_free (value_in (case_of k)) (value_free (case_of k) (case_free k))) bs free)
+  case_free (k_map k) bs free = of_made (AllByRecursion FreePair) IsLineFree (λ pairs. v_map (entries_of (entries_by_key pairs))) (λ pairs h. entries_are_free (entries_by_key pairs) (put_free [] pairs tt h)) (pairs_in (pair_in (value_in (case_of k))) bs) (listed_free FreePair (pair_in (value_in (case_of k))) 91 93 (pair_free (value_in (case_of k)) (value_free (case_of k) (case_free k))) bs free)
 
   fields_free : (ks : KindTrees) (texts : List (List ℕ)) → All HasNoLf texts → FreeRow (fields_in ks texts)
   fields_free no_kinds texts free = tt
   fields_free (more_kinds k ks) [] free = (tt, fields_free ks [] free)
   fields_free (more_kinds k ks) (text ∷ texts) free = (value_free (case_of k) (case_free k) text (All-head HasNoLf text texts free), fields_free ks texts (All-tail HasNoLf text texts free))
 
-pub field_free : (k : KindTree) (bs : List ℕ) → HasNoLf bs → IsLineFree (field_of k bs)
+pub field_free : (k : KindTree) (bs : List ℕ) → HasNoLf bs → IsLineFree (field_value k bs)
 field_free k bs free = value_free (case_of k) (case_free k) bs free

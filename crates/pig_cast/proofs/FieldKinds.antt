@@ -9,15 +9,16 @@ use Rattle.std.specs.Str.Lossy.{utf8_lossy}
 use Rattle.std.specs.declared.cmp.Ordering.{Ordering}
 use Rattle.std.specs.declared.cmp.Ordering.TheVariants.{Less, Equal, Greater}
 use Rattle.std.proofs.lemmas.Cmp.{nat_list_cmp_total}
-use Rattle.pig_value.specs.Bags.{each-sort}
+use Rattle.pig_value.proofs.list_laws.Bags.{each-sort}
 use Rattle.pig_value.specs.Brackets.{body_of, items, items_or_none}
-use Rattle.pig_value.specs.Fields.{bool_of, by_key, case_of, cut_at, field_of, fields_in, number_of, pair_in, pairs_in, put_pairs, row_in, rows_in, value_in}
+use Rattle.pig_value.specs.Fields.{entries_by_key, put_pairs}
+use Rattle.pig_value.specs.FieldReader.{bool_of, case_of, cut_at, field_value, fields_in, number_of, pair_in, pairs_in, row_in, rows_in, value_in}
 use Rattle.pig_value.specs.Kinds.{IsOf, FieldsOf, TuplesOf, EntriesOf}
 use Rattle.pig_value.specs.Orders.{bag_of, row_cmp, text_cmp}
-use Rattle.pig_value.specs.TreeLaws.{entries_back}
+use Rattle.pig_value.proofs.TreeLaws.{entries_back}
 use Rattle.pig_value.specs.Trees.{Tree, v_bool, v_int, v_long, v_tuple, v_bag, v_map, fields_of, tuples_of, entries_of, KindTree, KindTrees, k_boolean, k_int, k_long, k_chars, k_bytes, k_tuple, k_bag, k_map, no_kinds, more_kinds}
 use Rattle.pig_value.specs.Valid.{IsValue, AreFields, AreTuples, AreEntries, TextsAscend}
-use Rattle.pig_value.specs.ValidLaws.{bag_is_value}
+use Rattle.pig_value.proofs.ValidLaws.{bag_is_value}
 use Rattle.pig_cast.proofs.NumberText.{number_cases}
 use Rattle.pig_cast.proofs.OfRead.{OfRead, of_made, of_any, of_items, of_value}
 
@@ -117,11 +118,11 @@ put_of : (k : KindTree) (es ps : List (List ℕ × Tree)) → AllByRecursion (Is
 put_of k es [] h sorted more = (h, sorted)
 put_of k es (p ∷ ps) h sorted more = put_of k (insert_entry text_cmp es p.0 p.1) ps (insert_of k es p h more.0) (insert_ascends es p sorted) more.1
 
-map_is : (k : KindTree) (ps : List (List ℕ × Tree)) → AllByRecursion (IsPairOf k) ps → IsValueOf (k_map k) (v_map (entries_of (by_key ps)))
+map_is : (k : KindTree) (ps : List (List ℕ × Tree)) → AllByRecursion (IsPairOf k) ps → IsValueOf (k_map k) (v_map (entries_of (entries_by_key ps)))
 map_is k ps h =
     let put = put_of k [] ps tt tt h in
-    let are = entries_are k (by_key ps) put.0 in
-    (are.0, (subst KeysAscend (sym (entries_back (by_key ps))) put.1, are.1))
+    let are = entries_are k (entries_by_key ps) put.0 in
+    (are.0, (subst KeysAscend (sym (entries_back (entries_by_key ps))) put.1, are.1))
 
 mutual
   case_is : (k : KindTree) (bs : List ℕ) → OfRead (IsValueOf k) (case_of k bs)
@@ -134,7 +135,7 @@ mutual
   case_is (k_bag ks) bs =
       of_made (AllByRecursion (IsRowOfKinds ks)) (IsValueOf (k_bag ks)) (λ rows. v_bag (tuples_of (bag_of rows))) (bag_is ks) (rows_in (row_in (fields_in ks)) bs) (of_items Any (IsRowOfKinds ks) (row_in (fields_in ks)) (λ x h. of_any (IsRowOfKinds ks) (λ body. fields_in ks (items body)) (λ body. fields_are ks (items body)) (body_of 40 41 x)) (body_of 123 125 bs) (any_body (body_of 123 125 bs)))
   case_is (k_map k) bs =
-      of_made (AllByRecursion (IsPairOf k)) (IsValueOf (k_map k)) (λ pairs. v_map (entries_of (by_key pairs))) (map_is k) (pairs_in (pair_in (value_in (case_of k))) bs) (of_items Any (IsPairOf k) (pair_in (value_in (case_of k))) (λ x h. of_any (IsPairOf k) (λ p. (utf8_lossy p.0, value_in (case_of k) p.1)) (λ p. of_value (IsValueOf k) (case_of k) p.1 (tt, tt) (case_is k p.1)) (cut_at 35 x)) (body_of 91 93 bs) (any_body (body_of 91 93 bs)))
+      of_made (AllByRecursion (IsPairOf k)) (IsValueOf (k_map k)) (λ pairs. v_map (entries_of (entries_by_key pairs))) (map_is k) (pairs_in (pair_in (value_in (case_of k))) bs) (of_items Any (IsPairOf k) (pair_in (value_in (case_of k))) (λ x h. of_any (IsPairOf k) (λ p. (utf8_lossy p.0, value_in (case_of k) p.1)) (λ p. of_value (IsValueOf k) (case_of k) p.1 (tt, tt) (case_is k p.1)) (cut_at 35 x)) (body_of 91 93 bs) (any_body (body_of 91 93 bs)))
 
   fields_are : (ks : KindTrees) (texts : List (List ℕ)) → IsRowOfKinds ks (fields_in ks texts)
   fields_are no_kinds texts = (tt, tt)
@@ -146,13 +147,13 @@ mutual
       let more = fields_are ks texts in
       ((here.0, more.0), (here.1, more.1))
 
-field_is : (k : KindTree) (bs : List ℕ) → IsValueOf k (field_of k bs)
+field_is : (k : KindTree) (bs : List ℕ) → IsValueOf k (field_value k bs)
 field_is k bs = of_value (IsValueOf k) (case_of k) bs (tt, tt) (case_is k bs)
 
 -- what a field reads as is of its kind
-pub field_of_kind : (k : KindTree) (bs : List ℕ) → IsOf (field_of k bs) k
+pub field_of_kind : (k : KindTree) (bs : List ℕ) → IsOf (field_value k bs) k
 field_of_kind k bs = (field_is k bs).0
 
 -- and is a value
-pub field_is_value : (k : KindTree) (bs : List ℕ) → IsValue (field_of k bs)
+pub field_is_value : (k : KindTree) (bs : List ℕ) → IsValue (field_value k bs)
 field_is_value k bs = (field_is k bs).1

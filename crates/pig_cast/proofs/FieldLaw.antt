@@ -11,7 +11,8 @@ use Rattle.std.proofs.lemmas.Bool.Decides.{Decides-eqb, not_from_Decides}
 use Rattle.std.proofs.lemmas.List.Elements.{All-cons, All-head, All-nil, All-tail}
 use Rattle.std.proofs.lemmas.Slice.Eq.{bytes_eq-Decides}
 use Rattle.pig_value.specs.Brackets.{body_of, inside, is_bracketed, items, items_or_none}
-use Rattle.pig_value.specs.Fields.{AreFields, CaseOrNull, Each, EmptyOrCase, IsBracketed, IsCase, IsField, IsNumberText, IsPairText, IsTupleText, all_of, bool_of, by_key, case_of, cut_at, field_of, fields_in, number_of, pair_in, row_in, value_in}
+use Rattle.pig_value.specs.Fields.{FieldsRead, CaseOrNull, Each, EmptyOrCase, IsBracketed, IsCase, IsField, IsNumberText, IsPairText, IsTupleText, entries_by_key}
+use Rattle.pig_value.specs.FieldReader.{all_of, bool_of, case_of, cut_at, field_value, fields_in, number_of, pair_in, row_in, value_in}
 use Rattle.pig_value.specs.Orders.{bag_of}
 use Rattle.pig_value.specs.Texts.{bool_text}
 use Rattle.pig_value.specs.Trees.{Tree, v_null, v_bool, v_int, v_long, v_chars, v_bytes, v_tuple, v_bag, v_map, fields_of, tuples_of, entries_of, KindTree, KindTrees, k_boolean, k_int, k_long, k_chars, k_bytes, k_tuple, k_bag, k_map, no_kinds, more_kinds}
@@ -204,11 +205,11 @@ mutual
   case_reads k_int bs v = number_reads w32 v_int bs v
   case_reads k_long bs v = number_reads w64 v_long bs v
   case_reads k_boolean bs v = bool_reads bs v
-  case_reads (k_tuple ks) bs v = made_by (IsTupleText (AreFields ks) bs) (λ row. v_tuple (fields_of row)) (row_in (fields_in ks) bs) (row_reads (AreFields ks) (fields_in ks) (fields_read ks) bs) v
-  case_reads (k_bag ks) bs v = listed_reads 123 125 (IsTupleText (AreFields ks)) (row_in (fields_in ks)) (row_reads (AreFields ks) (fields_in ks) (fields_read ks)) (λ rows. v_bag (tuples_of (bag_of rows))) bs v
-  case_reads (k_map k) bs v = listed_reads 91 93 (IsPairText (EmptyOrCase (IsCase k))) (pair_in (value_in (case_of k))) (pair_reads (EmptyOrCase (IsCase k)) (value_in (case_of k)) (value_reads (IsCase k) (case_of k) (case_reads k))) (λ pairs. v_map (entries_of (by_key pairs))) bs v
+  case_reads (k_tuple ks) bs v = made_by (IsTupleText (FieldsRead ks) bs) (λ row. v_tuple (fields_of row)) (row_in (fields_in ks) bs) (row_reads (FieldsRead ks) (fields_in ks) (fields_read ks) bs) v
+  case_reads (k_bag ks) bs v = listed_reads 123 125 (IsTupleText (FieldsRead ks)) (row_in (fields_in ks)) (row_reads (FieldsRead ks) (fields_in ks) (fields_read ks)) (λ rows. v_bag (tuples_of (bag_of rows))) bs v
+  case_reads (k_map k) bs v = listed_reads 91 93 (IsPairText (EmptyOrCase (IsCase k))) (pair_in (value_in (case_of k))) (pair_reads (EmptyOrCase (IsCase k)) (value_in (case_of k)) (value_reads (IsCase k) (case_of k) (case_reads k))) (λ pairs. v_map (entries_of (entries_by_key pairs))) bs v
 
-  fields_read : (ks : KindTrees) (texts : List (List ℕ)) (row : List Tree) → (AreFields ks texts row ↔ (row ≡ fields_in ks texts))
+  fields_read : (ks : KindTrees) (texts : List (List ℕ)) (row : List Tree) → (FieldsRead ks texts row ↔ (row ≡ fields_in ks texts))
   fields_read no_kinds texts row = (λ e. e, λ e. e)
   fields_read (more_kinds k ks) [] row = (
     (λ h. h.1 ∙ ap (λ l. v_null ∷ l) ((fields_read ks [] h.0).0 h.2)),
@@ -222,5 +223,5 @@ mutual
     (λ e. (value_in (case_of k) text, fields_in ks texts, e, (value_reads (IsCase k) (case_of k) (case_reads k) text (value_in (case_of k) text)).1 refl, (fields_read ks texts (fields_in ks texts)).1 refl)),
   )
 
-pub field_value : (k : KindTree) (bs : List ℕ) (v : Tree) → (IsField k bs v ↔ (v ≡ field_of k bs))
+pub field_value : (k : KindTree) (bs : List ℕ) (v : Tree) → (IsField k bs v ↔ (v ≡ field_value k bs))
 field_value k bs v = value_reads (IsCase k) (case_of k) (case_reads k) bs v

@@ -5,7 +5,7 @@ use Rattle.std.specs.Option.{option_map}
 use Rattle.std.proofs.lemmas.List.{append_assoc, append-nil, drop_all, drop_more, get_or-drop, length-drop, map-append, take_more}
 use Rattle.memchr.specs.Find.{NoneBefore, Nowhere, Passes, is_byte}
 use Rattle.pig_value.specs.Brackets.{depth_after, is_separator, items_at}
-use Rattle.pig_value.specs.Fields.{cut_at}
+use Rattle.pig_value.specs.FieldReader.{cut_at}
 
 -- what stands before the first of the lists
 abbrev pub onto_front : List ℕ → List (List ℕ) → List (List ℕ)

@@ -9,7 +9,7 @@ use Rattle.std.proofs.lemmas.List.{map-append}
 use Rattle.pig_value.specs.declared.values.Value.{Value}
 use Rattle.pig_value.specs.declared.values.Pair.{Pair}
 use Rattle.pig_value.specs.Orders.{text_cmp}
-use Rattle.pig_value.specs.TreeLaws.{entry_is}
+use Rattle.pig_value.proofs.TreeLaws.{entry_is}
 use Rattle.pig_value.specs.Trees.{entry_of, tree}
 use Rattle.pig_cast.specs.Keyed.{keyed}
 

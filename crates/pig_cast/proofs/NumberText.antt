@@ -12,7 +12,8 @@ use Rattle.std.proofs.lemmas.List.Elements.{All-cons}
 use Rattle.std.proofs.lemmas.Str.{IsUtf8-from_ascii}
 use Rattle.std.proofs.lemmas.Str.Ascii.{All-from_ascii, IsAscii-from_all, IsAscii-nil}
 use Rattle.std.proofs.lemmas.Str.Parse.{numerals_by_value, tells_all_ascii_digits}
-use Rattle.pig_value.specs.Fields.{IsNumberText, fits_signed, is_number_text, number_of}
+use Rattle.pig_value.specs.Fields.{IsNumberText}
+use Rattle.pig_value.specs.FieldReader.{fits_signed, is_number_text, number_of}
 
 digits_Decides : (ds : List ℕ) → Decides (all_ascii_digits ds) (AllDigits 10 ds)
 digits_Decides ds = let own = numerals_by_value (λ xs. all_ascii_digits xs ≡ true) tells_all_ascii_digits in (own.to ds, own.from ds)

@@ -5,7 +5,7 @@ use Rattle.std.specs.List.{All, AllByRecursion}
 use Rattle.std.specs.Option.{option_and_then, option_map, unwrap_or}
 use Rattle.std.proofs.lemmas.List.Elements.{All-head, All-tail}
 use Rattle.pig_value.specs.Brackets.{items_or_none}
-use Rattle.pig_value.specs.Fields.{all_of, value_in}
+use Rattle.pig_value.specs.FieldReader.{all_of, value_in}
 use Rattle.pig_value.specs.Trees.{Tree, v_null}
 
 -- P holds of what is read, if something is

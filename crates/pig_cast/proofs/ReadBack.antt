@@ -16,11 +16,12 @@ use Rattle.std.proofs.lemmas.List.{append_assoc, append-nil}
 use Rattle.std.proofs.lemmas.Str.{utf8_lossy-IsUtf8}
 use Rattle.std.proofs.lemmas.Str.Parse.{digit_from_value}
 use Rattle.pig_value.specs.Brackets.{items}
-use Rattle.pig_value.specs.Fields.{all_of, by_key, case_of, field_of, fields_in, number_of, pair_in, put_pairs, row_in, value_in}
+use Rattle.pig_value.specs.Fields.{entries_by_key, put_pairs}
+use Rattle.pig_value.specs.FieldReader.{all_of, case_of, field_value, fields_in, number_of, pair_in, row_in, value_in}
 use Rattle.pig_value.specs.Kinds.{IsOf, FieldsOf, TuplesOf, EntriesOf}
 use Rattle.pig_value.specs.Orders.{bag_of, text_cmp}
 use Rattle.pig_value.specs.Texts.{bool_text, entry_texts, field_texts, text_of, tuple_text, tuple_texts}
-use Rattle.pig_value.specs.TreeLaws.{entries_there, fields_there, tuples_there}
+use Rattle.pig_value.proofs.TreeLaws.{entries_there, fields_there, tuples_there}
 use Rattle.pig_value.specs.Trees.{Tree, Fields, Tuples, Entries, v_null, v_bool, v_int, v_long, v_chars, v_bytes, v_tuple, v_bag, v_listed, v_map, no_fields, more_fields, no_tuples, more_tuples, no_entries, more_entries, fields_of, fields_list, tuples_of, tuples_list, entries_of, entries_list, KindTree, KindTrees, k_boolean, k_int, k_long, k_chars, k_bytes, k_tuple, k_bag, k_map, no_kinds, more_kinds}
 use Rattle.pig_value.specs.Valid.{IsValue, AreFields, AreTuples, AreEntries}
 use Rattle.pig_cast.specs.Plain.{EntriesArePlain, FieldsArePlain, IsPlain, IsPlainField, TuplesArePlain}
@@ -129,7 +130,7 @@ mutual
   value_back (k_bag ks) (v_bag rs) of is h =
       ap (λ o. unwrap_or (option_map (λ rows. v_bag (tuples_of (bag_of rows))) o) v_null) (listed_back 123 125 (row_in (fields_in ks)) (tuple_texts rs) (tuples_list rs) (tuple_items rs is.1 h) (tuples_some rs) (tuples_back ks rs of is.1 h)) ∙ (ap (λ rows. v_bag (tuples_of rows)) is.0 ∙ ap v_bag (tuples_there rs))
   value_back (k_map k) (v_map ps) of is h =
-      ap (λ o. unwrap_or (option_map (λ pairs. v_map (entries_of (by_key pairs))) o) v_null) (listed_back 91 93 (pair_in (value_in (case_of k))) (entry_texts ps) (entries_list ps) (entry_items ps is.1 h) (entries_some ps) (entries_back k ps of is.1 h)) ∙ (ap (λ pairs. v_map (entries_of pairs)) (put_all [] (entries_list ps) is.0) ∙ ap v_map (entries_there ps))
+      ap (λ o. unwrap_or (option_map (λ pairs. v_map (entries_of (entries_by_key pairs))) o) v_null) (listed_back 91 93 (pair_in (value_in (case_of k))) (entry_texts ps) (entries_list ps) (entry_items ps is.1 h) (entries_some ps) (entries_back k ps of is.1 h)) ∙ (ap (λ pairs. v_map (entries_of pairs)) (put_all [] (entries_list ps) is.0) ∙ ap v_map (entries_there ps))
   value_back k (v_listed rs) of is h = absurd h
   value_back k v of is h = absurd of
 
@@ -159,7 +160,7 @@ mutual
       ap (option_and_then (λ y. option_map (λ ys. y ∷ ys) rest)) pair ∙ ap (option_map (λ ys. (key, v) ∷ ys)) (entries_back k ps of.1 is.1 h.4)
 
 -- a field's text and bytes may hold brackets and commas
-pub field_back : (k : KindTree) (v : Tree) → IsOf v k → IsValue v → IsPlainField v → field_of k (text_of v) ≡ v
+pub field_back : (k : KindTree) (v : Tree) → IsOf v k → IsValue v → IsPlainField v → field_value k (text_of v) ≡ v
 field_back k_chars (v_chars text) of is h = value_there (case_of k_chars) text (v_chars text) h.0 (ap (λ t. Some (v_chars t)) (utf8_lossy-IsUtf8 text h.1))
 field_back k_bytes (v_bytes bytes) of is h = value_there (case_of k_bytes) bytes (v_bytes bytes) h refl
 field_back k v_null of is h = refl

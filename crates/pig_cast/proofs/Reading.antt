@@ -4,9 +4,10 @@ use Rattle.std.specs.Option.{option_and_then, option_map}
 use Rattle.std.proofs.lemmas.List.{drop_more, get_or-map, length-map}
 use Rattle.pig_value.specs.declared.values.Kind.{Kind}
 use Rattle.pig_value.specs.declared.values.Kind.TheVariants as kind_form
-use Rattle.pig_value.specs.Fields.{all_of, by_key, case_of, fields_in, pair_in, pairs_in, row_in, rows_in, value_in}
+use Rattle.pig_value.specs.Fields.{entries_by_key}
+use Rattle.pig_value.specs.FieldReader.{all_of, case_of, fields_in, pair_in, pairs_in, row_in, rows_in, value_in}
 use Rattle.pig_value.specs.Orders.{bag_of}
-use Rattle.pig_value.specs.TreeLaws.{kind_tree-Tuple, kind_tree-Bag, kind_tree-Map}
+use Rattle.pig_value.proofs.TreeLaws.{kind_tree-Tuple, kind_tree-Bag, kind_tree-Map}
 use Rattle.pig_value.specs.Trees.{Tree, v_tuple, v_bag, v_map, fields_of, tuples_of, entries_of, kind_tree, kinds_of}
 
 -- Items that each have to read as something. What is read so far goes on by `step`; `done` is what comes of it
@@ -59,6 +60,6 @@ map_twice : {X Y Z : Type 0} (f : Y → Z) (g : X → Y) (o : Option X) → opti
 map_twice f g None = refl
 map_twice f g (Some x) = refl
 
-pub map_case : (kind of inner : Kind) (bytes : List ℕ) (pairs : Option (List (List ℕ × Tree))) (value : Option Tree) → kind ≡ kind_form.Map of → inner ≡ of → pairs ≡ option_map by_key (pairs_in (pair_in (value_in (case_of (kind_tree inner)))) bytes) → value ≡ option_map (λ ps. v_map (entries_of ps)) pairs → value ≡ case_of (kind_tree kind) bytes
+pub map_case : (kind of inner : Kind) (bytes : List ℕ) (pairs : Option (List (List ℕ × Tree))) (value : Option Tree) → kind ≡ kind_form.Map of → inner ≡ of → pairs ≡ option_map entries_by_key (pairs_in (pair_in (value_in (case_of (kind_tree inner)))) bytes) → value ≡ option_map (λ ps. v_map (entries_of ps)) pairs → value ≡ case_of (kind_tree kind) bytes
 map_case kind of inner bytes pairs value is same read made =
-    made ∙ (ap (option_map (λ ps. v_map (entries_of ps))) (read ∙ ap (λ k. option_map by_key (pairs_in (pair_in (value_in (case_of (kind_tree k)))) bytes)) same) ∙ (map_twice (λ ps. v_map (entries_of ps)) by_key (pairs_in (pair_in (value_in (case_of (kind_tree of)))) bytes) ∙ ap (λ k. case_of k bytes) (sym (ap kind_tree is ∙ kind_tree-Map of))))
+    made ∙ (ap (option_map (λ ps. v_map (entries_of ps))) (read ∙ ap (λ k. option_map entries_by_key (pairs_in (pair_in (value_in (case_of (kind_tree k)))) bytes)) same) ∙ (map_twice (λ ps. v_map (entries_of ps)) entries_by_key (pairs_in (pair_in (value_in (case_of (kind_tree of)))) bytes) ∙ ap (λ k. case_of k bytes) (sym (ap kind_tree is ∙ kind_tree-Map of))))

@@ -12,7 +12,7 @@ use Rattle.std.proofs.lemmas.List.{append_assoc, append-nil}
 use Rattle.std.proofs.lemmas.List.Elements.{All-cons, All-from_recursion, All-head, All-nil, All-tail}
 use Rattle.std.proofs.lemmas.Str.Parse.{digit_from_value}
 use Rattle.pig_value.specs.Brackets.{IsBalanced, nothing, plain, nested, body_of, closing_of, depth_after, inside, is_closing, is_opening, is_separator, items, items_at, items_or_none}
-use Rattle.pig_value.specs.Fields.{all_of}
+use Rattle.pig_value.specs.FieldReader.{all_of}
 use Rattle.pig_value.specs.Texts.{bool_text, bracketed, entry_texts, field_texts, text_of, tuple_texts}
 use Rattle.pig_value.specs.Trees.{Tree, Fields, Tuples, Entries, v_null, v_bool, v_int, v_long, v_chars, v_bytes, v_tuple, v_bag, v_listed, v_map, no_fields, more_fields, no_tuples, more_tuples, no_entries, more_entries}
 use Rattle.pig_value.specs.Valid.{IsValue, AreFields, AreTuples, AreEntries}

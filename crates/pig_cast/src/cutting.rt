@@ -1,7 +1,7 @@
 ghost use Rattle.std.specs.Prelude.{◌≡◌, ◌==◌, ◌&&◌, ◌+◌, ◌≤◌, ◌^◌, ◌<◌, map, length, [], slice_index_or, IfOk};
 ghost use Rattle.std.specs.Option.{option_copied, option_map};
 ghost use Rattle.pig_value.specs.Brackets.{is_opening, is_closing, closing_of, is_balanced as balanced, depth_after, is_separator, items as items_of, items_or_none as items_if_any, is_bracketed as bracketed, inside as inside_of, body_of};
-ghost use Rattle.pig_value.specs.Fields.{cut_at};
+ghost use Rattle.pig_value.specs.FieldReader.{cut_at};
 
 use memchr::memchr;
 use std::alloc::{AllocError, Global};

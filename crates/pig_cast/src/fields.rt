@@ -1,7 +1,8 @@
 ghost use Rattle.std.specs.Prelude.{◌≡◌, List, ℕ, map, IfOk};
 ghost use Rattle.std.specs.Option.{option_map, unwrap_or};
 ghost use Rattle.pig_value.specs.Brackets.{items_or_none as items_if_any};
-ghost use Rattle.pig_value.specs.Fields.{all_of, by_key, case_of, field_of, fields_in, pair_in, pairs_in, row_in, rows_in, value_in};
+ghost use Rattle.pig_value.specs.Fields.{entries_by_key};
+ghost use Rattle.pig_value.specs.FieldReader.{all_of, case_of, field_value, fields_in, pair_in, pairs_in, row_in, rows_in, value_in};
 ghost use Rattle.pig_value.specs.Trees.{v_null, v_tuple, v_bag, v_map, v_bool, v_int, v_long, fields_of, tuples_of, entries_of, tree, row_tree, rows_tree, entry_of, kind_tree, kinds_of};
 ghost use Rattle.pig_value.specs.Orders.{bag_of};
 ghost use Rattle.pig_cast.specs.Keyed.{keyed};
@@ -16,7 +17,7 @@ use std::collections::BTreeMap;
 /// The value of a field's bytes at a kind: null where they are empty, or no text of the kind.
 #[cycle(read)]
 pub fn read_field(alloc: Global, bytes: &[u8], k: &Kind) -> Result<Value, AllocError>
-    ensures { IfOk result (λ v. tree v ≡ field_of (kind_tree k.now) bytes.now) }
+    ensures { IfOk result (λ v. tree v ≡ field_value (kind_tree k.now) bytes.now) }
 {
     if bytes.is_empty() {
         return Ok(Value::Null);
@@ -177,7 +178,7 @@ fn read_each_row(alloc: Global, inner: &[u8], kinds: &[Kind]) -> Result<Option<R
 // The pairs of a map text by ascending keys, of equal keys the last.
 #[cycle(read)]
 fn read_pairs(alloc: Global, bytes: &[u8], kind: &Kind) -> Result<Option<Pairs>, AllocError>
-    ensures { IfOk result (λ pairs. option_map (map entry_of) pairs ≡ option_map by_key (pairs_in (pair_in (value_in (case_of (kind_tree kind.now)))) bytes.now)) }
+    ensures { IfOk result (λ pairs. option_map (map entry_of) pairs ≡ option_map entries_by_key (pairs_in (pair_in (value_in (case_of (kind_tree kind.now)))) bytes.now)) }
 {
     match body(alloc, bytes, b'[', b']')? {
         Some(inner) => read_each_pair(alloc, inner, kind),
@@ -187,7 +188,7 @@ fn read_pairs(alloc: Global, bytes: &[u8], kind: &Kind) -> Result<Option<Pairs>,
 
 #[cycle(read)]
 fn read_each_pair(alloc: Global, inner: &[u8], kind: &Kind) -> Result<Option<Pairs>, AllocError>
-    ensures { IfOk result (λ pairs. option_map (map entry_of) pairs ≡ option_map by_key (all_of (pair_in (value_in (case_of (kind_tree kind.now)))) (items_if_any inner.now))) }
+    ensures { IfOk result (λ pairs. option_map (map entry_of) pairs ≡ option_map entries_by_key (all_of (pair_in (value_in (case_of (kind_tree kind.now)))) (items_if_any inner.now))) }
 {
     let texts = items_or_none(alloc, inner)?;
     let mut entries = BTreeMap::new(alloc);

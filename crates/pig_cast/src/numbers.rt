@@ -1,6 +1,6 @@
 ghost use Rattle.std.specs.Prelude.{◌≡◌};
 ghost use Rattle.std.specs.Int.{w32, w64};
-ghost use Rattle.pig_value.specs.Fields.{number_of, bool_of};
+ghost use Rattle.pig_value.specs.FieldReader.{number_of, bool_of};
 
 use std::str;
 

@@ -6,11 +6,11 @@ use Rattle.std.specs.List.{AllByRecursion}
 use Rattle.std.specs.Str.{IsUtf8}
 use Rattle.std.proofs.lemmas.List.{append_assoc, length-append}
 use Rattle.pig_value.specs.Trees.{Tree, Fields, Tuples, Entries, v_null, v_bool, v_int, v_long, v_chars, v_bytes, v_tuple, v_bag, v_listed, v_map, no_fields, no_tuples, no_entries, fields_of, fields_list, tuples_of, tuples_list, entries_of, entries_list}
-use Rattle.pig_value.specs.TreeLaws.{fields_back, fields_there, tuples_back, tuples_there, entries_back, entries_there}
+use Rattle.pig_value.proofs.TreeLaws.{fields_back, fields_there, tuples_back, tuples_there, entries_back, entries_there}
 use Rattle.pig_value.specs.Orders.{rank, row_cmp, bag_of, entries_cmp}
 use Rattle.pig_value.specs.Sorts.{Ascends}
-use Rattle.pig_value.specs.Bags.{sorted_is, sort_ascends}
-use Rattle.pig_value.specs.OrderLaws.{tree_same, row_total}
+use Rattle.pig_value.proofs.list_laws.Bags.{sorted_is, sort_ascends}
+use Rattle.pig_value.proofs.OrderLaws.{tree_same, row_total}
 use Rattle.pig_value.specs.Valid.{AreTuples, AreEntries, TextsAscend}
 use Rattle.pig_keycode.specs.Codes.{bool_code, biased, text_code, code, fields_code, tuples_code, entries_code}
 use Rattle.pig_keycode.specs.Codable.{AreBytes, TuplesHaveText, EntriesHaveText, IsCodable}

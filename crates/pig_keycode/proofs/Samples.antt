@@ -2,7 +2,7 @@
 use Rattle.std.proofs.Common.{◌≡◌, [], ◌∷◌, refl}
 use Rattle.std.specs.Prelude.{pos, true}
 use Rattle.pig_value.specs.Trees.{v_null, v_bool, v_int, v_chars, v_tuple, v_bag, no_fields, more_fields, no_tuples, more_tuples}
-use Rattle.pig_value.specs.declared.shared.Dir.TheVariants.{Asc, Desc}
+use Rattle.pig_value.specs.declared.operators.Dir.TheVariants.{Asc, Desc}
 use Rattle.pig_keycode.specs.Codes.{code_in}
 
 mixed_row : code_in Asc (v_tuple (more_fields (v_int (pos 5)) (more_fields v_null (more_fields (v_chars (97 ∷ 0 ∷ [])) no_fields))))

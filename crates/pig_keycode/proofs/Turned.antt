@@ -9,7 +9,7 @@ use Rattle.std.proofs.lemmas.List.{append-nil}
 use Rattle.std.proofs.lemmas.Cmp.{ranked, nat_cmp_total, lists_total}
 use Rattle.pig_value.specs.Trees.{Tree}
 use Rattle.pig_value.specs.Orders.{tree_cmp}
-use Rattle.pig_value.specs.OrderLaws.{tree_same, tree_total}
+use Rattle.pig_value.proofs.OrderLaws.{tree_same, tree_total}
 use Rattle.pig_value.specs.Valid.{IsValue}
 use Rattle.pig_keycode.specs.Codes.{code, turned}
 use Rattle.pig_keycode.specs.Codable.{AreBytes, HasText}

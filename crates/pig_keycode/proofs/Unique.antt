@@ -8,7 +8,7 @@ use Rattle.std.proofs.lemmas.Cmp.{ranked}
 use Rattle.std.specs.Cmp.{nat_cmp_is}
 use Rattle.pig_value.specs.Trees.{Tree}
 use Rattle.pig_value.specs.Orders.{text_cmp, tree_cmp}
-use Rattle.pig_value.specs.OrderLaws.{tree_same}
+use Rattle.pig_value.proofs.OrderLaws.{tree_same}
 use Rattle.pig_value.specs.Valid.{IsValue}
 use Rattle.pig_keycode.specs.Codes.{text_code, code}
 use Rattle.pig_keycode.proofs.TextOrder.{text_order}

@@ -23,8 +23,8 @@ use Rattle.pig_value.specs.Trees.{
   no_entries,
   more_entries,
 }
-use Rattle.pig_value.specs.declared.shared.Dir.{Dir}
-use Rattle.pig_value.specs.declared.shared.Dir.TheVariants.{Asc, Desc}
+use Rattle.pig_value.specs.declared.operators.Dir.{Dir}
+use Rattle.pig_value.specs.declared.operators.Dir.TheVariants.{Asc, Desc}
 
 -- a truth value as a byte
 abbrev pub bool_code : Bool → ℕ

@@ -1,7 +1,7 @@
 ghost use Rattle.std.specs.Prelude.{◌≡◌, ◌≤◌, ◌^◌, [], ◌∷◌, ◌++◌, length, take, drop, map, ◌-◌, OnOk, OnErr};
 ghost use Rattle.std.specs.Int.{w32, w64, to_be_bytes};
 ghost use Rattle.pig_value.specs.Trees.{tree, row_tree, rows_tree, entry_of, fields_of, tuples_of, entries_of};
-ghost use Rattle.pig_value.specs.declared.shared.Dir.{Dir};
+ghost use Rattle.pig_value.specs.declared.operators.Dir.{Dir};
 ghost use Rattle.pig_keycode.specs.Codes.{bool_code, biased, escaped, escaped_byte, text_code, code, fields_code, tuples_code, entries_code, turned, in_direction, code_in};
 ghost use Rattle.std.specs.Str.{IsUtf8};
 ghost use Rattle.pig_keycode.specs.Codable.{AreBytes, HasText, FieldsHaveText, TuplesHaveText, EntriesHaveText};

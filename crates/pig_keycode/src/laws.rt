@@ -4,7 +4,7 @@ ghost use Rattle.std.specs.Cmp.Lexicographic.{slice_cmp};
 ghost use Rattle.pig_value.specs.Trees.{Tree};
 ghost use Rattle.pig_value.specs.Orders.{tree_cmp};
 ghost use Rattle.pig_value.specs.Valid.{IsValue};
-ghost use Rattle.pig_value.specs.declared.shared.Dir.TheVariants.{Asc, Desc};
+ghost use Rattle.pig_value.specs.declared.operators.Dir.TheVariants.{Asc, Desc};
 ghost use Rattle.pig_keycode.specs.Codes.{code, code_in};
 ghost use Rattle.pig_keycode.specs.Codable.{HasText, IsCodeOf};
 

@@ -1,6 +1,6 @@
 -- What the devices in memory hold.
 use Rattle.std.specs.Prelude.{ℕ, List, Option, Some}
-use Rattle.pig_value.specs.declared.shared.Input.{Input}
+use Rattle.pig_value.specs.declared.inputs.Input.{Input}
 use Rattle.pig_outside.specs.declared.failing.Failing.{Failing}
 use Rattle.pig_outside.specs.declared.memory_depot.MemoryDepot.{MemoryDepot}
 use Rattle.pig_outside.specs.declared.memory_host.MemoryHost.{MemoryHost}

@@ -2,7 +2,7 @@
 use Rattle.std.specs.Prelude.{◌≡◌, ℕ, List, [], Some, length, take, drop, unwrap_or, slice_get, option_and_then}
 use Rattle.std.proofs.Common.{◌∙◌, ap, arith}
 use Rattle.std.proofs.lemmas.List.{take_all}
-use Rattle.pig_value.specs.declared.shared.Input.{Input}
+use Rattle.pig_value.specs.declared.inputs.Input.{Input}
 use Rattle.pig_outside.specs.Shelf.{pieces_of, piece_of, range_of, HasRange}
 
 -- A piece of an input is found by its number.

@@ -1,7 +1,7 @@
 // A host, by the inputs that it reads.
 ghost use Rattle.std.specs.Prelude.{◌≡◌, ◌≤◌, ℕ, List, Option, OnOk, OnErr, length};
 ghost use Rattle.std.specs.Option.{ForSome};
-ghost use Rattle.pig_value.specs.declared.shared.Input.{Input};
+ghost use Rattle.pig_value.specs.declared.inputs.Input.{Input};
 ghost use Rattle.pig_outside.specs.Faults.{HasCause, FailedRose};
 ghost use Rattle.pig_outside.specs.Shelf.{HasRange, range_of};
 

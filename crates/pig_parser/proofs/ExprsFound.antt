@@ -1,7 +1,7 @@
 -- Expressions are found where they stand.
 use Rattle.std.proofs.Common.{◌≡◌, ℕ, zero, suc, ◌<◌, ◌≤◌, refl, ◌∙◌, List, [], ◌∷◌, length, arith}
 use Rattle.std.specs.Prelude.{Some, None}
-use Rattle.pig_value.specs.declared.shared.Rel.{Rel}
+use Rattle.pig_value.specs.declared.operators.Rel.{Rel}
 use Rattle.pig_syntax.specs.declared.tokens.TokenForm.{TokenForm}
 use Rattle.pig_syntax.specs.declared.trees.Expr.{Expr}
 use Rattle.pig_syntax.specs.declared.trees.Expr.TheVariants as ex

@@ -2,8 +2,8 @@
 use Rattle.std.proofs.Common.{◌≡◌, ℕ, ◌<◌, ◌≤◌, refl, ◌∙◌, ap, subst, true, false, List, [], ◌∷◌, arith}
 use Rattle.std.specs.Prelude.{Some, None, is_some}
 use Rattle.std.specs.Option.{option_map, option_and_then, option_map_or}
-use Rattle.pig_value.specs.declared.shared.ChainOp.{ChainOp}
-use Rattle.pig_value.specs.declared.shared.Rel.{Rel}
+use Rattle.pig_value.specs.declared.operators.ChainOp.{ChainOp}
+use Rattle.pig_value.specs.declared.operators.Rel.{Rel}
 use Rattle.pig_syntax.specs.declared.tokens.Keyword.{Keyword}
 use Rattle.pig_syntax.specs.declared.tokens.Keyword.TheVariants as k
 use Rattle.pig_syntax.specs.declared.tokens.Symbol.TheVariants as s

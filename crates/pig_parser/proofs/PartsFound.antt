@@ -2,10 +2,10 @@
 use Rattle.std.proofs.Common.{◌≡◌, ℕ, zero, suc, ◌<◌, ◌≤◌, refl, ◌∙◌, false, List, ◌∷◌, arith}
 use Rattle.std.specs.Prelude.{Option, Some, None}
 use Rattle.std.specs.Option.{option_map, option_and_then}
-use Rattle.pig_value.specs.declared.shared.Dir.{Dir}
-use Rattle.pig_value.specs.declared.shared.Dir.TheVariants as dir
-use Rattle.pig_value.specs.declared.shared.Side.{Side}
-use Rattle.pig_value.specs.declared.shared.Side.TheVariants as side
+use Rattle.pig_value.specs.declared.operators.Dir.{Dir}
+use Rattle.pig_value.specs.declared.operators.Dir.TheVariants as dir
+use Rattle.pig_value.specs.declared.operators.Side.{Side}
+use Rattle.pig_value.specs.declared.operators.Side.TheVariants as side
 use Rattle.pig_syntax.specs.declared.tokens.Keyword.TheVariants as k
 use Rattle.pig_syntax.specs.declared.tokens.Symbol.TheVariants as s
 use Rattle.pig_syntax.specs.declared.tokens.TokenForm.{TokenForm}

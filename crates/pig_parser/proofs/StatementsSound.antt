@@ -1,7 +1,7 @@
 -- What is read as a statement stands by the grammar.
 use Rattle.std.proofs.Common.{◌≡◌, ℕ, refl, subst, Bool, true, if◌then◌else◌, List, [], ◌∷◌, length}
 use Rattle.std.specs.Prelude.{Some, None}
-use Rattle.pig_value.specs.declared.shared.Side.{Side}
+use Rattle.pig_value.specs.declared.operators.Side.{Side}
 use Rattle.pig_syntax.specs.declared.tokens.Keyword.{Keyword}
 use Rattle.pig_syntax.specs.declared.tokens.Keyword.TheVariants as k
 use Rattle.pig_syntax.specs.declared.tokens.Symbol.TheVariants as s

@@ -10,7 +10,7 @@ use Rattle.pig_syntax.specs.declared.trees.Expr.TheVariants as e
 use Rattle.pig_syntax.specs.declared.trees.Link.{Link}
 use Rattle.pig_syntax.specs.declared.trees.PostStep.{PostStep}
 use Rattle.pig_syntax.specs.declared.trees.PostStep.TheVariants as step
-use Rattle.pig_value.specs.declared.shared.Rel.{Rel}
+use Rattle.pig_value.specs.declared.operators.Rel.{Rel}
 use Rattle.pig_parser.specs.declared.exprs.Chain.{Chain}
 use Rattle.pig_parser.specs.declared.exprs.Chain.TheVariants as chain
 use Rattle.pig_parser.specs.Grammar.{Forms, scalar_of, Level, expr, conj, sum, term, chain_op, rel_of, literal_of}

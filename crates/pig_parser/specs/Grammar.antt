@@ -1,10 +1,10 @@
 -- The grammar of fields, types and expressions: what is read from the front of some tokens, its tree, and what is left. Each rule
 -- stands beside the alternative that it is. Names in capitals are keywords, [ ] is what may be left out, { } what may be repeated.
 use Rattle.std.specs.Prelude.{◌≡◌, ℕ, true, false, List, [], ◌∷◌, ◌++◌, Option, Some, None, codes}
-use Rattle.pig_value.specs.declared.shared.ChainOp.{ChainOp}
-use Rattle.pig_value.specs.declared.shared.ChainOp.TheVariants as op
-use Rattle.pig_value.specs.declared.shared.Rel.{Rel}
-use Rattle.pig_value.specs.declared.shared.Rel.TheVariants as rel
+use Rattle.pig_value.specs.declared.operators.ChainOp.{ChainOp}
+use Rattle.pig_value.specs.declared.operators.ChainOp.TheVariants as op
+use Rattle.pig_value.specs.declared.operators.Rel.{Rel}
+use Rattle.pig_value.specs.declared.operators.Rel.TheVariants as rel
 use Rattle.pig_syntax.specs.declared.tokens.Keyword.{Keyword}
 use Rattle.pig_syntax.specs.declared.tokens.Keyword.TheVariants as k
 use Rattle.pig_syntax.specs.declared.tokens.Symbol.TheVariants as s

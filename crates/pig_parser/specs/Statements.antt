@@ -1,10 +1,10 @@
 -- The grammar of statements: what is read from the front of some tokens, its tree, and what is left. Each rule stands beside the
 -- alternative that it is. Names in capitals are keywords, [ ] is what may be left out, { } what may be repeated.
 use Rattle.std.specs.Prelude.{◌≡◌, ℕ, pos, Bool, true, false, List, [], ◌∷◌, Option, Some, None}
-use Rattle.pig_value.specs.declared.shared.Dir.{Dir}
-use Rattle.pig_value.specs.declared.shared.Dir.TheVariants as dir
-use Rattle.pig_value.specs.declared.shared.Side.{Side}
-use Rattle.pig_value.specs.declared.shared.Side.TheVariants as side
+use Rattle.pig_value.specs.declared.operators.Dir.{Dir}
+use Rattle.pig_value.specs.declared.operators.Dir.TheVariants as dir
+use Rattle.pig_value.specs.declared.operators.Side.{Side}
+use Rattle.pig_value.specs.declared.operators.Side.TheVariants as side
 use Rattle.pig_syntax.specs.declared.tokens.Keyword.{Keyword}
 use Rattle.pig_syntax.specs.declared.tokens.Keyword.TheVariants as k
 use Rattle.pig_syntax.specs.declared.tokens.Symbol.TheVariants as s

@@ -1,7 +1,7 @@
 -- From how a run ended to what the top call answers.
 use Rattle.std.proofs.Common.{◌≡◌, ℕ, List, Option, Some, None, Result, Ok, Err, IfOk, IfErr, OnErr, refl, sym, ◌∙◌, ap, subst, inl, inr, ◌⊎◌}
 use Rattle.std.specs.Option.{option_map, ForSome}
-use Rattle.pig_value.specs.declared.shared.Input.{Input}
+use Rattle.pig_value.specs.declared.inputs.Input.{Input}
 use Rattle.pig_outside.specs.Shelf.{Shelf, pieces_of}
 use Rattle.pig_run.specs.declared.outcome.RunFault.{RunFault}
 use Rattle.pig_run.specs.declared.outcome.RunFault.TheVariants as fault

@@ -4,10 +4,10 @@ use Rattle.std.specs.List.{flat_map, filter}
 use Rattle.std.proofs.lemmas.List.{append-nil}
 use Rattle.std.proofs.lemmas.List.Concat.{flat_map-cons}
 use Rattle.std.proofs.lemmas.List.Elements.{All-append, All-filter}
-use Rattle.pig_value.specs.Listing.{filter-flat_map}
+use Rattle.pig_value.proofs.list_laws.Listing.{filter-flat_map}
 use Rattle.pig_value.specs.Trees.{tree}
 use Rattle.pig_value.specs.Lines.{lines}
-use Rattle.pig_value.specs.Fields.{row_of}
+use Rattle.pig_value.specs.FieldRows.{row_of}
 use Rattle.pig_value.specs.Texts.{IsLineFreeRow, AreLineFreeRows, rows_text}
 use Rattle.pig_value.specs.Stored.{StoresBag}
 use Rattle.pig_storage.proofs.LineFree.{rows_free}

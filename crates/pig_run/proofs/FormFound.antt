@@ -5,8 +5,8 @@ use Rattle.std.specs.Char.{is_ascii_lowercase}
 use Rattle.std.specs.Cmp.Lexicographic.{other_text}
 use Rattle.std.specs.List.{filter, list_all, IsDistinct}
 use Rattle.std.proofs.lemmas.Slice.Eq.{bytes_eq-Decides}
-use Rattle.pig_value.specs.declared.shared.Rel.{Rel}
-use Rattle.pig_value.specs.Fields.{all_of}
+use Rattle.pig_value.specs.declared.operators.Rel.{Rel}
+use Rattle.pig_value.specs.FieldReader.{all_of}
 use Rattle.pig_syntax.specs.declared.trees.Expr.{Expr}
 use Rattle.pig_syntax.specs.declared.trees.Expr.TheVariants as e
 use Rattle.pig_syntax.specs.declared.trees.Expr.TheOpen.{Expr-F}

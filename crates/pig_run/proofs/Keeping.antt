@@ -5,7 +5,7 @@ use Rattle.std.proofs.lemmas.List.Elements.{filter-append}
 use Rattle.std.proofs.lemmas.Grind.{flat_map-append}
 use Rattle.pig_value.specs.Trees.{Tree}
 use Rattle.pig_value.specs.Lines.{lines}
-use Rattle.pig_value.specs.Fields.{row_of}
+use Rattle.pig_value.specs.FieldRows.{row_of}
 use Rattle.pig_value.specs.Texts.{row_text, rows_text}
 use Rattle.pig_storage.specs.declared.lines.Span.{Span}
 use Rattle.pig_run.specs.declared.filtering.Filter.{Filter}

@@ -3,8 +3,8 @@
 use Rattle.std.specs.Prelude.{◌+◌, ℕ, ℤ, pos, negsuc, Bool, true, false, ◌&&◌, ◌==◌, nat_le, List, [], ◌∷◌, length, codes, Option, Some, None, option_and_then, slice_get, position, bytes_eq, if◌then◌else◌}
 use Rattle.std.specs.Char.{is_ascii_lowercase}
 use Rattle.std.specs.List.{list_all, list_any}
-use Rattle.pig_value.specs.declared.shared.Rel.{Rel}
-use Rattle.pig_value.specs.Fields.{all_of}
+use Rattle.pig_value.specs.declared.operators.Rel.{Rel}
+use Rattle.pig_value.specs.FieldReader.{all_of}
 use Rattle.pig_syntax.specs.declared.trees.Expr.{Expr}
 use Rattle.pig_syntax.specs.declared.trees.Expr.TheOpen.{Expr-F}
 use Rattle.pig_syntax.specs.declared.trees.Expr.TheViews.{out-Expr}

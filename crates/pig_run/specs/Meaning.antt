@@ -3,12 +3,12 @@ use Rattle.std.specs.Prelude.{◌+◌, ◌&&◌, ℕ, pos, Bool, true, false, no
 use Rattle.std.specs.List.{flat_map}
 use Rattle.pig_value.specs.declared.values.Kind.{Kind}
 use Rattle.pig_value.specs.declared.values.Kind.TheVariants as kind
-use Rattle.pig_value.specs.declared.shared.Column.{Column}
-use Rattle.pig_value.specs.declared.shared.Rel.{Rel}
+use Rattle.pig_value.specs.declared.inputs.Column.{Column}
+use Rattle.pig_value.specs.declared.operators.Rel.{Rel}
 use Rattle.pig_value.specs.Trees.{Tree, v_null, v_int, v_chars}
 use Rattle.pig_value.specs.Orders.{tree_cmp, rel_holds}
 use Rattle.pig_value.specs.Lines.{lines}
-use Rattle.pig_value.specs.Fields.{row_of}
+use Rattle.pig_value.specs.FieldRows.{row_of}
 use Rattle.pig_run.specs.declared.first_form.FieldType.{FieldType}
 use Rattle.pig_run.specs.declared.first_form.FieldType.TheVariants.{Int, Chararray}
 use Rattle.pig_run.specs.declared.first_form.FormField.{FormField}

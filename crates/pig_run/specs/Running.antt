@@ -1,10 +1,10 @@
 -- What a run keeps of the lines that it reads, and what its steps say of each other.
 use Rattle.std.specs.Prelude.{◌≡◌, ◌≤◌, ◌+◌, ◌%◌, ◌^◌, ℕ, Bool, List, [], ◌∷◌, length, map, filter, Some, Result, IsErrOf}
 use Rattle.std.specs.List.{flat_map}
-use Rattle.pig_value.specs.declared.shared.Input.{Input}
+use Rattle.pig_value.specs.declared.inputs.Input.{Input}
 use Rattle.pig_value.specs.Trees.{Tree, tree}
 use Rattle.pig_value.specs.Lines.{lines}
-use Rattle.pig_value.specs.Fields.{row_of}
+use Rattle.pig_value.specs.FieldRows.{row_of}
 use Rattle.pig_value.specs.Texts.{rows_text}
 use Rattle.pig_outside.specs.Shelf.{pieces_of, lengths_of}
 use Rattle.pig_outside.specs.Faults.{FailedRose}

@@ -1,6 +1,6 @@
 -- What a run says of a shelf that is told.
 use Rattle.std.specs.Prelude.{◌≡◌, ◌⊎◌, ℕ, List, Option, Some, Result, Ok, Err}
-use Rattle.pig_value.specs.declared.shared.Input.{Input}
+use Rattle.pig_value.specs.declared.inputs.Input.{Input}
 use Rattle.pig_outside.specs.Shelf.{Shelf}
 use Rattle.pig_run.specs.declared.outcome.RunFault.{RunFault}
 use Rattle.pig_run.specs.declared.outcome.Counts.{Counts}

@@ -1,7 +1,7 @@
 ghost use Rattle.std.specs.Prelude.{◌≡◌, ◌<◌, ◌+◌, ◌^◌, ℕ, List, length, ◌==◌, Some, map, option_map, position, IfOk, MatchOption};
 ghost use Rattle.std.specs.List.{list_all, list_any};
 ghost use Rattle.std.specs.Char.{is_ascii_lowercase};
-ghost use Rattle.pig_value.specs.Fields.{all_of};
+ghost use Rattle.pig_value.specs.FieldReader.{all_of};
 ghost use Rattle.pig_syntax.specs.declared.trees.Stmt.{Stmt};
 ghost use Rattle.pig_run.specs.declared.first_form.FirstForm.{FirstForm};
 ghost use Rattle.pig_run.specs.FirstForm.{IsFirstForm, is_empty, present};

@@ -4,7 +4,7 @@ ghost use Rattle.std.specs.List.{list_all};
 ghost use Rattle.std.specs.Str.Parse.{digits_value};
 ghost use Rattle.clap.specs.Words.{FailsBy, kind_of, app_of, fault_of, found_of, matches_of, rows_of, rule_of};
 ghost use Rattle.clap.specs.declared.error.kind.ErrorKind.TheVariants as kind;
-ghost use Rattle.pig_value.specs.declared.shared.WordFault.TheVariants as faults;
+ghost use Rattle.pig_value.specs.declared.outcomes.WordFault.TheVariants as faults;
 ghost use Rattle.pig_run.specs.CommandWords.{IsCommand, Makes, verb_word};
 ghost use Rattle.pig_run.specs.ClapWords.{pig, bare_pig, operand_rule, option_rule, given_of, AreValues, AreRead, LackOperand, is_value, number_at, numbers_at, setting_at, takes};
 ghost use Rattle.pig_run.specs.declared.words.Command.{Command};

@@ -5,10 +5,11 @@ use Rattle.std.specs.Option.{option_map_or}
 use Rattle.std.specs.Str.Lines.{strip_carriage_return}
 use Rattle.std.proofs.lemmas.Bool.Decides.{Decides-eqb, not_from_Decides}
 use Rattle.std.proofs.lemmas.List.Elements.{All-append, All-cons, All-head, All-map, All-nil, All-tail, All-take, All-weaker}
-use Rattle.pig_value.specs.declared.shared.Column.{Column}
+use Rattle.pig_value.specs.declared.inputs.Column.{Column}
 use Rattle.pig_cast.proofs.FieldFree.{field_free, onto_first_keeps}
 use Rattle.pig_cast.proofs.CastFree.{signed_free, bool_text_free}
-use Rattle.pig_value.specs.Fields.{column_of, field_of, pieces, row_of}
+use Rattle.pig_value.specs.FieldReader.{field_value}
+use Rattle.pig_value.specs.FieldRows.{column_of, pieces, row_of}
 use Rattle.pig_value.specs.Lines.{is_lf, lines, stored_lines, without_last_empty}
 use Rattle.pig_value.specs.Texts.{AreLineFreeRows, EntriesAreLineFree, FieldsAreLineFree, HasNoLf, IsLineFree, IsLineFreeRow, TuplesAreLineFree, bracketed, entry_texts, field_texts, row_text, text_of, tuple_text, tuple_texts}
 use Rattle.pig_value.specs.Trees.{Tree, Fields, Tuples, Entries, v_null, v_bool, v_int, v_long, v_chars, v_bytes, v_tuple, v_bag, v_listed, v_map, no_fields, more_fields, no_tuples, more_tuples, no_entries, more_entries, KindTree, kind_tree}
@@ -60,7 +61,7 @@ pub lines_free : (bs : List ℕ) → All HasNoLf (lines bs)
 lines_free bs = all_stripped_free (stored_lines bs) (stored_lines_free bs)
 
 -- what is read from a line without an LF holds none
-column_free : (k : KindTree) (fields : List (List ℕ)) (i : ℕ) → All HasNoLf fields → IsLineFree (option_map_or (field_of k) (slice_get fields i) v_null)
+column_free : (k : KindTree) (fields : List (List ℕ)) (i : ℕ) → All HasNoLf fields → IsLineFree (option_map_or (field_value k) (slice_get fields i) v_null)
 column_free k [] i free = tt
 column_free k (f ∷ fs) zero free = field_free k f (All-head HasNoLf f fs free)
 column_free k (f ∷ fs) (suc i) free = column_free k fs i (All-tail HasNoLf f fs free)

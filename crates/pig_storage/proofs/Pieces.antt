@@ -5,7 +5,7 @@ use Rattle.std.proofs.lemmas.Bool.Decides.{Decides-eqb}
 use Rattle.std.proofs.lemmas.List.{drop-drop, length-drop, take_rest}
 use Rattle.std.proofs.lemmas.Option.{slice_get_past}
 use Rattle.memchr.specs.Find.{NoneBefore, Nowhere, Passes, is_byte}
-use Rattle.pig_value.specs.Fields.{pieces}
+use Rattle.pig_value.specs.FieldRows.{pieces}
 use Rattle.pig_storage.specs.declared.rows.Piece.{Piece}
 use Rattle.pig_storage.specs.Pieces.{IsPiece, pieces_behind}
 use Rattle.pig_storage.proofs.Cuts.{cut_at, uncut}

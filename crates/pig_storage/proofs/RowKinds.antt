@@ -2,15 +2,16 @@
 use Rattle.std.proofs.Common.{ℕ, zero, suc, List, [], ◌∷◌, map}
 use Rattle.std.specs.List.{slice_get}
 use Rattle.std.specs.Option.{option_map_or}
-use Rattle.pig_value.specs.declared.shared.Column.{Column}
-use Rattle.pig_value.specs.Fields.{column_of, field_of, pieces, row_of}
+use Rattle.pig_value.specs.declared.inputs.Column.{Column}
+use Rattle.pig_value.specs.FieldReader.{field_value}
+use Rattle.pig_value.specs.FieldRows.{column_of, pieces, row_of}
 use Rattle.pig_value.specs.Kinds.{IsOf, IsRowOf}
 use Rattle.pig_value.specs.Trees.{Tree, v_null, KindTree, kind_tree}
 use Rattle.pig_value.specs.Valid.{IsValue, IsRow}
 use Rattle.pig_cast.proofs.FieldKinds.{field_of_kind, field_is_value}
 
 -- what holds of every field, and of null, holds of every column
-column_is : (P : Tree → Type 0) (k : KindTree) → P v_null → ((bs : List ℕ) → P (field_of k bs)) → (fields : List (List ℕ)) (i : ℕ) → P (option_map_or (field_of k) (slice_get fields i) v_null)
+column_is : (P : Tree → Type 0) (k : KindTree) → P v_null → ((bs : List ℕ) → P (field_value k bs)) → (fields : List (List ℕ)) (i : ℕ) → P (option_map_or (field_value k) (slice_get fields i) v_null)
 column_is P k null each [] i = null
 column_is P k null each (f ∷ fs) zero = each f
 column_is P k null each (f ∷ fs) (suc i) = column_is P k null each fs i

@@ -7,8 +7,9 @@ use Rattle.std.proofs.lemmas.Bool.{ne_eqb}
 use Rattle.std.proofs.lemmas.Bool.Decides.{Decides-eqb}
 use Rattle.std.proofs.lemmas.List.Elements.{All-head, All-tail, All-weaker}
 use Rattle.std.proofs.lemmas.List.Splits.{slice_split_at, slice_split_none}
-use Rattle.pig_value.specs.declared.shared.Column.{Column}
-use Rattle.pig_value.specs.Fields.{column_of, field_of, pieces, row_of}
+use Rattle.pig_value.specs.declared.inputs.Column.{Column}
+use Rattle.pig_value.specs.FieldReader.{field_value}
+use Rattle.pig_value.specs.FieldRows.{column_of, pieces, row_of}
 use Rattle.pig_value.specs.Lines.{lines}
 use Rattle.pig_value.specs.Texts.{AreLineFreeRows, IsLineFreeRow, row_text, rows_text, text_of}
 use Rattle.pig_value.specs.Trees.{Tree, v_null, KindTree, kind_tree}
@@ -45,7 +46,7 @@ columns_back d fields i (c ∷ cs) (v ∷ vs) turn plain left =
     let place = at_place fields i (text_of v) (map text_of vs) left in
     let own = All-head (IsPlainBetween d) v vs plain.2 in
     let found : slice_get fields c.position ≡ Some (text_of v) = ap (slice_get fields) turn.0 ∙ place.0 in
-    let here : column_of fields c ≡ v = ap (λ o. option_map_or (field_of k) o v_null) found ∙ field_back k v plain.0.0 plain.1.0 own.0 in
+    let here : column_of fields c ≡ v = ap (λ o. option_map_or (field_value k) o v_null) found ∙ field_back k v plain.0.0 plain.1.0 own.0 in
     let more = columns_back d fields (suc i) cs vs turn.1 (plain.0.1, plain.1.1, All-tail (IsPlainBetween d) v vs plain.2) place.1 in
     λ i. here i ∷ more i
 

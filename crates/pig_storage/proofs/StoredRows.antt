@@ -7,8 +7,8 @@ use Rattle.std.proofs.lemmas.List.{append_assoc, append-nil}
 use Rattle.std.proofs.lemmas.List.Elements.{All-head, All-tail, All-weaker}
 use Rattle.std.proofs.lemmas.List.Sorted.{IsPermutation-refl}
 use Rattle.std.proofs.lemmas.List.Splits.{slice_split_at}
-use Rattle.pig_value.specs.declared.shared.Column.{Column}
-use Rattle.pig_value.specs.Fields.{row_of}
+use Rattle.pig_value.specs.declared.inputs.Column.{Column}
+use Rattle.pig_value.specs.FieldRows.{row_of}
 use Rattle.pig_value.specs.Lines.{is_lf, stored_lines, without_last_empty}
 use Rattle.pig_value.specs.Stored.{StoresBag, StoresList}
 use Rattle.pig_value.specs.Texts.{AreLineFreeRows, HasNoLf, IsLineFreeRow, row_text, rows_text}

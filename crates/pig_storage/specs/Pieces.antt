@@ -1,6 +1,6 @@
 -- Where a piece of a line stands.
 use Rattle.std.specs.Prelude.{◌≡◌, ◌==◌, ◌+◌, ◌≤◌, ℕ, List, [], ◌∷◌, length, drop, slice_range, if◌then◌else◌}
-use Rattle.pig_value.specs.Fields.{pieces}
+use Rattle.pig_value.specs.FieldRows.{pieces}
 use Rattle.pig_storage.specs.declared.rows.Piece.{Piece}
 
 -- the pieces behind the one that ends at `to`: none where that is the end of the line

@@ -2,7 +2,7 @@
 use Rattle.std.specs.Prelude.{◌≡◌, ◌≢◌, ◌-◌, ⊤, ℕ, suc, List, [], ◌∷◌, length, map, All}
 use Rattle.std.specs.List.{slice_index}
 use Rattle.pig_cast.specs.Plain.{IsPlainField}
-use Rattle.pig_value.specs.declared.shared.Column.{Column}
+use Rattle.pig_value.specs.declared.inputs.Column.{Column}
 use Rattle.pig_value.specs.Kinds.{IsRowOf}
 use Rattle.pig_value.specs.Texts.{IsLineFreeRow, row_text, text_of}
 use Rattle.pig_value.specs.Trees.{Tree, kind_tree}

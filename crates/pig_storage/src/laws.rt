@@ -1,7 +1,7 @@
 ghost use Rattle.std.specs.Prelude.{◌≡◌, ◌≢◌, ◌++◌, [], ◌∷◌, ℕ, List, Some, map, All};
-ghost use Rattle.pig_value.specs.declared.shared.Column.{Column};
+ghost use Rattle.pig_value.specs.declared.inputs.Column.{Column};
 ghost use Rattle.pig_value.specs.Delimiters.{IsDelimiter, delimiter_of};
-ghost use Rattle.pig_value.specs.Fields.{row_of};
+ghost use Rattle.pig_value.specs.FieldRows.{row_of};
 ghost use Rattle.pig_value.specs.Kinds.{IsRowOf};
 ghost use Rattle.pig_value.specs.Lines.{lines, stored_lines};
 ghost use Rattle.pig_value.specs.Stored.{StoresList, StoresBag};

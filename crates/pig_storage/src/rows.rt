@@ -1,6 +1,7 @@
 ghost use Rattle.std.specs.Prelude.{◌≡◌, ◌<◌, ◌≤◌, length, drop, slice_get, IfOk};
 ghost use Rattle.std.specs.Option.{option_copied, option_map_or};
-ghost use Rattle.pig_value.specs.Fields.{field_of, pieces, row_of};
+ghost use Rattle.pig_value.specs.FieldReader.{field_value};
+ghost use Rattle.pig_value.specs.FieldRows.{pieces, row_of};
 ghost use Rattle.pig_value.specs.Trees.{tree, row_tree, kind_tree, v_null};
 ghost use Rattle.pig_storage.specs.Pieces.{IsPiece};
 
@@ -113,7 +114,7 @@ fn bytes_at(line: &[u8], byte: u8, piece: Piece, position: u32) -> Option<&[u8]>
 
 // The value of a field, or null where the line has no such field.
 fn field_or_null(alloc: Global, bytes: Option<&[u8]>, kind: &Kind) -> Result<Value, AllocError>
-    ensures { IfOk result (λ v. tree v ≡ option_map_or (field_of (kind_tree kind.now)) (option_copied bytes.entry) v_null) }
+    ensures { IfOk result (λ v. tree v ≡ option_map_or (field_value (kind_tree kind.now)) (option_copied bytes.entry) v_null) }
 {
     match bytes {
         Some(bytes) => read_field(alloc, bytes, kind),

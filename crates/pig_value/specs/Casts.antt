@@ -2,7 +2,7 @@
 use Rattle.std.specs.Prelude.{⊤}
 use Rattle.std.specs.Fmt.{signed_decimal}
 use Rattle.std.specs.Int.{w32, int_wrap}
-use Rattle.pig_value.specs.Fields.{field_of}
+use Rattle.pig_value.specs.FieldReader.{field_value}
 use Rattle.pig_value.specs.Kinds.{IsOf}
 use Rattle.pig_value.specs.Texts.{bool_text}
 use Rattle.pig_value.specs.Trees.{Tree, v_null, v_bool, v_int, v_long, v_chars, v_bytes, KindTree, k_boolean, k_int, k_long, k_chars, k_bytes}
@@ -26,10 +26,10 @@ CanCast k v = IsOf v k
 -- texts, and a value of the kind stays as it is.
 abbrev pub cast_of : KindTree → Tree → Tree
 cast_of k_bytes (v_bytes bytes) = v_bytes bytes
-cast_of k (v_bytes bytes) = field_of k bytes
-cast_of k_boolean (v_chars text) = field_of k_boolean text
-cast_of k_int (v_chars text) = field_of k_int text
-cast_of k_long (v_chars text) = field_of k_long text
+cast_of k (v_bytes bytes) = field_value k bytes
+cast_of k_boolean (v_chars text) = field_value k_boolean text
+cast_of k_int (v_chars text) = field_value k_int text
+cast_of k_long (v_chars text) = field_value k_long text
 cast_of k_long (v_int z) = v_long z
 cast_of k_int (v_long z) = v_int (int_wrap w32 z)
 cast_of k_chars (v_bool b) = v_chars (bool_text b)

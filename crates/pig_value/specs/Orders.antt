@@ -27,8 +27,8 @@ use Rattle.pig_value.specs.Trees.{
   more_entries,
 }
 use Rattle.pig_value.specs.Sorts.{sort}
-use Rattle.pig_value.specs.declared.shared.Rel.{Rel}
-use Rattle.pig_value.specs.declared.shared.Rel.TheVariants as rel
+use Rattle.pig_value.specs.declared.operators.Rel.{Rel}
+use Rattle.pig_value.specs.declared.operators.Rel.TheVariants as rel
 
 -- the rank of a form
 abbrev pub rank : Tree → ℕ

@@ -18,10 +18,13 @@
 mod boxes;
 mod comparing;
 mod copying;
+mod delimiters;
+mod inputs;
+mod kinds;
 mod laws;
 mod lists;
-mod shapes;
-mod shared;
+mod operators;
+mod outcomes;
 mod sorting;
 #[cfg(test)]
 mod tests;
@@ -31,13 +34,13 @@ mod values;
 pub use boxes::Boxed;
 pub use comparing::{order, order_rows, same};
 pub use copying::{copy, copy_kind, copy_row};
+pub use delimiters::{BadDelimiter, Delim};
+pub use inputs::{Column, Columns, Input, Inputs};
+pub use kinds::{is_of, same_kind};
 pub use laws::{bag_laws, order_laws, row_order_laws};
 pub use lists::Seq;
-pub use shapes::{is_of, same_kind};
-pub use shared::{
-    BadDelimiter, ChainOp, Column, Columns, Delim, Dir, Dirs, Input, Inputs, Kept, KeptList, Rel,
-    Side, WordFault,
-};
+pub use operators::{ChainOp, Dir, Dirs, Rel, Side};
+pub use outcomes::{Kept, KeptList, WordFault};
 pub use sorting::bag;
 pub use texts::{Blob, Text};
 pub use values::{Kind, Kinds, Pair, Pairs, Rows, Tuple, Value};

@@ -3,7 +3,8 @@ use Rattle.std.specs.BTreeMap.{insert_entry}
 use Rattle.std.proofs.lemmas.List.{append_assoc, map-append}
 use Rattle.std.specs.Option.{option_map}
 use Rattle.pig_value.specs.Brackets.{items_or_none}
-use Rattle.pig_value.specs.Fields.{all_of, by_key, case_of, fields_in, pair_in, put_pairs, row_in, value_in}
+use Rattle.pig_value.specs.Fields.{entries_by_key, put_pairs}
+use Rattle.pig_value.specs.FieldReader.{all_of, case_of, fields_in, pair_in, row_in, value_in}
 use Rattle.pig_value.specs.Orders.{text_cmp}
 use Rattle.pig_value.specs.Trees.{row_tree, kind_tree, kinds_of}
 use Rattle.pig_cast.specs.Keyed.{keyed}
@@ -42,11 +43,11 @@ read_each_pair-returns-in-None t c =
     let f = pair_in (value_in (case_of (kind_tree c.args.kind.now))) in
     let texts = c.in_ok-texts.texts.items in
     let within : c.loop-i.i < length texts = search rules in
-    reads_none (λ text. text.now) keyed f put_pairs (λ a p. insert_entry text_cmp a p.0 p.1) (λ a y ys. refl) texts c.loop-i.i c.index.result.now c.in_ok-key.field-0 (map keyed c.loop-i.entries.entries) (option_map by_key (all_of f (items_or_none c.args.inner.now))) within c.index.ensures c.in_ok-key.ensures c.in-None.is c.loop-i.invariant
+    reads_none (λ text. text.now) keyed f put_pairs (λ a p. insert_entry text_cmp a p.0 p.1) (λ a y ys. refl) texts c.loop-i.i c.index.result.now c.in_ok-key.field-0 (map keyed c.loop-i.entries.entries) (option_map entries_by_key (all_of f (items_or_none c.args.inner.now))) within c.index.ensures c.in_ok-key.ensures c.in-None.is c.loop-i.invariant
 
 pub read_each_pair-loop-i-preserved : goal.read_each_pair-loop-i-preserved
 read_each_pair-loop-i-preserved t c =
     let f = pair_in (value_in (case_of (kind_tree c.args.kind.now))) in
     let texts = c.in_ok-texts.texts.items in
     let within : c.loop-i.i < length texts = search rules in
-    reads_more (λ text. text.now) keyed f put_pairs (λ a p. insert_entry text_cmp a p.0 p.1) (λ a y ys. refl) texts c.loop-i.i c.index.result.now c.in_ok-key.field-0 (c.in-Some.key, c.in-Some.value) (map keyed c.loop-i.entries.entries) (map keyed c.put.new.entries.entries) (option_map by_key (all_of f (items_or_none c.args.inner.now))) within c.index.ensures c.in_ok-key.ensures c.in-Some.is c.in_ok-put-in-Some.ensures c.loop-i.invariant
+    reads_more (λ text. text.now) keyed f put_pairs (λ a p. insert_entry text_cmp a p.0 p.1) (λ a y ys. refl) texts c.loop-i.i c.index.result.now c.in_ok-key.field-0 (c.in-Some.key, c.in-Some.value) (map keyed c.loop-i.entries.entries) (map keyed c.put.new.entries.entries) (option_map entries_by_key (all_of f (items_or_none c.args.inner.now))) within c.index.ensures c.in_ok-key.ensures c.in-Some.is c.in_ok-put-in-Some.ensures c.loop-i.invariant

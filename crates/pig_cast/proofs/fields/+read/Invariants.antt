@@ -3,7 +3,8 @@
 use Rattle.std.proofs.Common.{◌≡◌, ◌+◌, ◌*◌, ◌++◌, map, drop}
 use Rattle.std.specs.Option.{option_map}
 use Rattle.pig_value.specs.Brackets.{items_or_none}
-use Rattle.pig_value.specs.Fields.{all_of, by_key, case_of, fields_in, pair_in, put_pairs, row_in, value_in}
+use Rattle.pig_value.specs.Fields.{entries_by_key, put_pairs}
+use Rattle.pig_value.specs.FieldReader.{all_of, case_of, fields_in, pair_in, row_in, value_in}
 use Rattle.pig_value.specs.Trees.{tree, row_tree, kind_tree, kinds_of}
 use Rattle.pig_cast.specs.Keyed.{keyed}
 use Rattle.pig_cast.proofs.fields.+read.Given as goal
@@ -48,4 +49,4 @@ invariant-read_each_row-loop-i l =
 abbrev pub invariant-read_each_pair-loop-i : goal.invariant-read_each_pair-loop-i
 invariant-read_each_pair-loop-i l =
     option_map (put_pairs (map keyed l.entries.entries)) (all_of (pair_in (value_in (case_of (kind_tree l.kind)))) (drop l.i (map (λ text. text.now) l.texts.items)))
-    ≡ option_map by_key (all_of (pair_in (value_in (case_of (kind_tree l.kind)))) (items_or_none l.inner))
+    ≡ option_map entries_by_key (all_of (pair_in (value_in (case_of (kind_tree l.kind)))) (items_or_none l.inner))

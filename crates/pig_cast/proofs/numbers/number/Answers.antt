@@ -1,7 +1,7 @@
 -- A number's text is UTF-8, and then `parse` reads it.
 use Rattle.std.proofs.Common.{◌∙◌, ap, sym}
 use Rattle.std.specs.Int.{w64}
-use Rattle.pig_value.specs.Fields.{number_of}
+use Rattle.pig_value.specs.FieldReader.{number_of}
 use Rattle.pig_cast.proofs.NumberText.{no_number, parsed}
 use Rattle.pig_cast.proofs.numbers.number.Goals as goal
 

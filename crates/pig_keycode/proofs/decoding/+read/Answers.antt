@@ -2,7 +2,7 @@ use Rattle.std.proofs.Common.{rules, ◌≡◌, ◌≤◌, ◌+◌, true, [], �
 use Rattle.std.specs.declared.result.Result.TheVariants.{Err}
 use Rattle.std.proofs.lemmas.List.{map-append}
 use Rattle.pig_value.specs.Trees.{tree, row_tree, rows_tree, entry_of}
-use Rattle.pig_value.specs.TreeLaws.{tree-Bag, tree-Map, entry_is}
+use Rattle.pig_value.proofs.TreeLaws.{tree-Bag, tree-Map, entry_is}
 use Rattle.pig_value.specs.Orders.{row_cmp}
 use Rattle.pig_value.specs.Sorts.{Ascends}
 use Rattle.pig_value.specs.Valid.{TextsAscend}

@@ -1,5 +1,5 @@
 use Rattle.std.proofs.Common.{◌≡◌, [], ◌∷◌, ◌++◌}
-use Rattle.pig_value.specs.TreeLaws.{entry_is}
+use Rattle.pig_value.proofs.TreeLaws.{entry_is}
 use Rattle.pig_value.specs.Trees.{tree, entry_of}
 use Rattle.pig_keycode.specs.Codes.{text_code}
 use Rattle.pig_keycode.proofs.Writing.{pair_written, grown_thrice, pair_has_text}

@@ -1,5 +1,5 @@
 use Rattle.std.proofs.Common.{◌≡◌, ◌∙◌, ◌∷◌, [], List, Some, refl, sym, ap, subst, arith}
-use Rattle.pig_value.specs.declared.shared.Input.{Input}
+use Rattle.pig_value.specs.declared.inputs.Input.{Input}
 use Rattle.pig_outside.specs.Shelf.{HasRange}
 use Rattle.pig_outside.specs.Memory.{told_inputs}
 use Rattle.pig_outside.proofs.tests.a_host_reads_a_range.Goals as goal

@@ -1,5 +1,5 @@
 use Rattle.std.proofs.Common.{◌≡◌, ◌++◌, length, option_map}
-use Rattle.pig_value.specs.Fields.{all_of}
+use Rattle.pig_value.specs.FieldReader.{all_of}
 use Rattle.pig_run.specs.FormReader.{field_of}
 use Rattle.pig_run.proofs.first_form.all_fields.Given as goal
 

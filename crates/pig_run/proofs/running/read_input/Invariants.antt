@@ -1,5 +1,5 @@
 use Rattle.std.proofs.Common.{◌≡◌, ◌≤◌, List, ℕ, Some}
-use Rattle.pig_value.specs.declared.shared.Input.{Input}
+use Rattle.pig_value.specs.declared.inputs.Input.{Input}
 use Rattle.pig_outside.specs.Shelf.{pieces_of}
 use Rattle.pig_run.proofs.PieceLoop.{ReadSoFar}
 use Rattle.pig_run.proofs.running.read_input.Given as goal

@@ -1,6 +1,6 @@
 -- The next piece starts behind the delimiter of the one before it.
 use Rattle.std.proofs.Common.{◌<◌, ◌+◌, length, drop, ap, sym, ◌∙◌, arith}
-use Rattle.pig_value.specs.Fields.{pieces}
+use Rattle.pig_value.specs.FieldRows.{pieces}
 use Rattle.pig_storage.proofs.Pieces.{next_starts}
 use Rattle.pig_storage.proofs.rows.piece_onwards.Goals as goal
 

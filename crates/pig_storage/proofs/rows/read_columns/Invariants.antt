@@ -1,5 +1,5 @@
 use Rattle.std.proofs.Common.{◌≡◌, ◌++◌, map, drop}
-use Rattle.pig_value.specs.Fields.{row_of}
+use Rattle.pig_value.specs.FieldRows.{row_of}
 use Rattle.pig_value.specs.Trees.{tree}
 use Rattle.pig_storage.specs.Pieces.{IsPiece}
 use Rattle.pig_storage.proofs.rows.read_columns.Given as goal

@@ -1,7 +1,7 @@
 -- The texts of lists, and one more item in each loop.
 use Rattle.std.proofs.Common.{◌≡◌, ◌<◌, [], ◌∷◌, ◌++◌, length, ◌∙◌, ap, sym, subst, List, ℕ, map, OnOk}
 use Rattle.pig_value.specs.Texts.{text_of, tuple_text, bracketed}
-use Rattle.pig_value.specs.TreeLaws.{tree-Tuple, tree-Bag, tree-Listed, tree-Map, entry_is}
+use Rattle.pig_value.proofs.TreeLaws.{tree-Tuple, tree-Bag, tree-Listed, tree-Map, entry_is}
 use Rattle.pig_value.specs.Trees.{tree, row_tree, rows_tree, entry_of}
 use Rattle.pig_storage.specs.Written.{row_as_tuple, pair_text}
 use Rattle.pig_storage.proofs.Loops.{count_of_texts, grown_twice, pair_written, text_at, writes_one}

@@ -1,8 +1,8 @@
 use Rattle.std.proofs.Common.{rules, map}
 use Rattle.pig_value.specs.Trees.{tree, entry_of}
-use Rattle.pig_value.specs.TreeLaws.{tree-Tuple, tree-Bag, tree-Listed, tree-Map}
+use Rattle.pig_value.proofs.TreeLaws.{tree-Tuple, tree-Bag, tree-Listed, tree-Map}
 use Rattle.pig_value.specs.Orders.{tree_cmp, row_cmp, pair_cmp}
-use Rattle.pig_value.specs.OrderLaws.{fields_are, tuples_are, entries_are}
+use Rattle.pig_value.proofs.OrderLaws.{fields_are, tuples_are, entries_are}
 use Rattle.pig_value.proofs.Ends.{ends}
 use Rattle.pig_value.proofs.comparing.+order.Goals as goal
 

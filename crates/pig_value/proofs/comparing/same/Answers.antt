@@ -3,7 +3,7 @@ use Rattle.std.proofs.lemmas.Cmp.{tied_itself}
 use Rattle.std.specs.declared.cmp.Ordering.TheVariants.{Equal}
 use Rattle.pig_value.specs.Trees.{tree}
 use Rattle.pig_value.specs.Orders.{tree_cmp}
-use Rattle.pig_value.specs.OrderLaws.{tree_same, tree_total}
+use Rattle.pig_value.proofs.OrderLaws.{tree_same, tree_total}
 use Rattle.pig_value.proofs.comparing.same.Goals as goal
 
 pub returns : goal.returns

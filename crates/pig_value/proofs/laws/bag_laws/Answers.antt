@@ -1,7 +1,7 @@
 use Rattle.pig_value.specs.Orders.{row_cmp}
-use Rattle.pig_value.specs.OrderLaws.{row_total, row_same}
-use Rattle.pig_value.specs.Bags.{permutation_from_bag, bag_from_permutation, times_from_permutation, one_order, sort_times, sort_ascends, bag_once}
-use Rattle.pig_value.specs.ValidLaws.{bag_is_value}
+use Rattle.pig_value.proofs.OrderLaws.{row_total, row_same}
+use Rattle.pig_value.proofs.list_laws.Bags.{permutation_from_bag, bag_from_permutation, times_from_permutation, one_order, sort_times, sort_ascends, bag_once}
+use Rattle.pig_value.proofs.ValidLaws.{bag_is_value}
 use Rattle.pig_value.proofs.laws.bag_laws.Goals as goal
 
 pub returns : goal.returns

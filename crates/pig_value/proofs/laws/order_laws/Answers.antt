@@ -2,7 +2,7 @@ use Rattle.std.proofs.Common.{◌≡◌, subst}
 use Rattle.std.proofs.lemmas.Cmp.{tied_itself}
 use Rattle.std.specs.declared.cmp.Ordering.TheVariants.{Equal}
 use Rattle.pig_value.specs.Orders.{tree_cmp}
-use Rattle.pig_value.specs.OrderLaws.{tree_total, tree_same}
+use Rattle.pig_value.proofs.OrderLaws.{tree_total, tree_same}
 use Rattle.pig_value.proofs.laws.order_laws.Goals as goal
 
 pub returns : goal.returns

@@ -2,7 +2,7 @@ use Rattle.std.proofs.Common.{◌≡◌, subst}
 use Rattle.std.proofs.lemmas.Cmp.{tied_itself}
 use Rattle.std.specs.declared.cmp.Ordering.TheVariants.{Equal}
 use Rattle.pig_value.specs.Orders.{row_cmp}
-use Rattle.pig_value.specs.OrderLaws.{row_total, row_same}
+use Rattle.pig_value.proofs.OrderLaws.{row_total, row_same}
 use Rattle.pig_value.proofs.laws.row_order_laws.Goals as goal
 
 pub returns : goal.returns

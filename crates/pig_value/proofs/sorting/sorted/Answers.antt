@@ -4,8 +4,8 @@ use Rattle.std.proofs.lemmas.Fn.{always_returns_same}
 use Rattle.std.proofs.lemmas.List.Sorted.{ranks_by}
 use Rattle.pig_value.specs.Trees.{tree}
 use Rattle.pig_value.specs.Orders.{row_cmp}
-use Rattle.pig_value.specs.OrderLaws.{row_total, row_same}
-use Rattle.pig_value.specs.Bags.{bag_key}
+use Rattle.pig_value.proofs.OrderLaws.{row_total, row_same}
+use Rattle.pig_value.proofs.list_laws.Bags.{bag_key}
 use Rattle.pig_value.proofs.sorting.sorted.Goals as goal
 
 pub returns : goal.returns

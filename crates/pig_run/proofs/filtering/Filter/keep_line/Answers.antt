@@ -1,6 +1,6 @@
 use Rattle.std.proofs.Common.{rules, ◌≡◌, ◌++◌, OnOk, subst, length}
 use Rattle.pig_value.specs.Trees.{row_tree}
-use Rattle.pig_value.specs.Fields.{row_of}
+use Rattle.pig_value.specs.FieldRows.{row_of}
 use Rattle.pig_value.specs.Texts.{rows_text}
 use Rattle.pig_run.specs.Running.{keeps_row, counted}
 use Rattle.pig_run.proofs.filtering.Filter.keep_line.Goals as goal

@@ -13,8 +13,8 @@ use Rattle.std.proofs.lemmas.List.Sorted.{IsPermutation-refl, IsPermutation-cons
 use Rattle.std.proofs.lemmas.List.Elements.{filter-append}
 use Rattle.std.proofs.lemmas.List.{length-append}
 use Rattle.pig_value.specs.Sorts.{put, sort, Rises, Ascends, times}
-use Rattle.pig_value.specs.Listing.{each-filter}
-use Rattle.pig_value.specs.Permutations.{along_permutation, IsPermutation-filter, IsPermutation-same, neighbours}
+use Rattle.pig_value.proofs.list_laws.Listing.{each-filter}
+use Rattle.pig_value.proofs.list_laws.Permutations.{along_permutation, IsPermutation-filter, IsPermutation-same, neighbours}
 
 -- a test is true or false
 pub either_way : {G : Type 0} (b : Bool) → (b ≡ true → G) → (b ≡ false → G) → G

@@ -9,8 +9,8 @@ use Rattle.std.specs.declared.cmp.Ordering.{Ordering}
 use Rattle.std.specs.declared.cmp.Ordering.TheVariants.{Equal}
 use Rattle.std.proofs.lemmas.Cmp.{tied_back}
 use Rattle.pig_value.specs.Sorts.{put, Ascends, times, distinct}
-use Rattle.pig_value.specs.Listing.{each-filter}
-use Rattle.pig_value.specs.Bags.{either_way, eq_is, each-put, put_permutes, put_ascends, filter_ascends, times-cons, times_from_permutation, times-filter, ascending_same}
+use Rattle.pig_value.proofs.list_laws.Listing.{each-filter}
+use Rattle.pig_value.proofs.list_laws.Bags.{either_way, eq_is, each-put, put_permutes, put_ascends, filter_ascends, times-cons, times_from_permutation, times-filter, ascending_same}
 
 module _ {X : Type 0} (R : X → X → Ordering) (total : IsTotalOrder R) where
   pub distinct_ascends : (xs : List X) → Ascends R (distinct R xs)

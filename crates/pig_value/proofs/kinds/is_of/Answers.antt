@@ -1,7 +1,7 @@
 use Rattle.std.proofs.Common.{sym, ◌∙◌}
 use Rattle.pig_value.specs.Trees.{tree, kind_tree}
-use Rattle.pig_value.specs.KindLaws.{passes_is_of, is_of_passes}
-use Rattle.pig_value.proofs.shapes.is_of.Goals as goal
+use Rattle.pig_value.proofs.KindLaws.{passes_is_of, is_of_passes}
+use Rattle.pig_value.proofs.kinds.is_of.Goals as goal
 
 pub returns : goal.returns
 returns c = (

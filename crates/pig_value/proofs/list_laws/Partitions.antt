@@ -2,7 +2,7 @@
 use Rattle.std.specs.Prelude.{◌≡◌, ◌<◌, ◌≤◌, ◌+◌, ◌==◌, ℕ, Bool, true, false, ◌&&◌, List, [], ◌∷◌, ◌++◌, map, refl}
 use Rattle.std.proofs.Common.{ap, sym, ◌∙◌, subst, arith, cond, suc, zero}
 use Rattle.std.specs.Cmp.{IsTotalOrder}
-use Rattle.std.specs.List.{filter, flat_map, range_with_len, AllByRecursion}
+use Rattle.std.specs.List.{flat_map, range_with_len, AllByRecursion}
 use Rattle.std.specs.List.Sorted.{IsPermutation}
 use Rattle.std.specs.Ordering.{is_eq, is_gt}
 use Rattle.std.specs.declared.cmp.Ordering.{Ordering}
@@ -10,23 +10,12 @@ use Rattle.std.specs.declared.cmp.Ordering.TheVariants.{Equal}
 use Rattle.std.proofs.lemmas.Bool.Decides.{nat_tests}
 use Rattle.std.proofs.lemmas.List.Sorted.{IsPermutation-cons, IsPermutation-trans, IsPermutation-sym, IsPermutation-append_right, IsPermutation-middle, IsPermutation-map}
 use Rattle.std.proofs.lemmas.List.Elements.{filter_agree}
+use Rattle.pig_value.specs.Gathering.{in_part, with_key, by_key}
 use Rattle.pig_value.specs.Sorts.{distinct, Ascends, sort}
-use Rattle.pig_value.specs.Listing.{filter-map, filter-filter, filter-flat_map, flat_map_each, flat_map_none, flat_map_where, flat_map-flat_map, each_of_all, each-append, each_weaker, each_filtered}
-use Rattle.pig_value.specs.Permutations.{IsPermutation-same, IsPermutation-filter, IsPermutation-flat_map}
-use Rattle.pig_value.specs.Bags.{either_way, eq_is, one_way, filter_ascends, sort-filter, sort_is, sort_ascends, bag_once}
-use Rattle.pig_value.specs.Distinct.{distinct_permuted, filter-distinct}
-
--- the elements of a part
-abbrev pub in_part : {X : Type 0} → (X → ℕ) → ℕ → List X → List X
-in_part part p xs = filter (λ x. part x == p) xs
-
--- the elements with a key
-abbrev pub with_key : {K X : Type 0} → (K → K → Ordering) → (X → K) → K → List X → List X
-with_key C key k xs = filter (λ x. is_eq (C (key x) k)) xs
-
--- what `make` gives of each key and the elements that have it, the keys in ascending order
-abbrev pub by_key : {K X Y : Type 0} → (K → K → Ordering) → (X → K) → (K → List X → List Y) → List X → List Y
-by_key C key make xs = flat_map (λ k. make k (with_key C key k xs)) (distinct C (map key xs))
+use Rattle.pig_value.proofs.list_laws.Listing.{filter-map, filter-filter, filter-flat_map, flat_map_each, flat_map_none, flat_map_where, flat_map-flat_map, each_of_all, each-append, each_weaker, each_filtered}
+use Rattle.pig_value.proofs.list_laws.Permutations.{IsPermutation-same, IsPermutation-filter, IsPermutation-flat_map}
+use Rattle.pig_value.proofs.list_laws.Bags.{either_way, eq_is, one_way, filter_ascends, sort-filter, sort_is, sort_ascends, bag_once}
+use Rattle.pig_value.proofs.list_laws.Distinct.{distinct_permuted, filter-distinct}
 
 -- one more element, whose part is among those from `from` on
 

@@ -1,7 +1,7 @@
 use Rattle.std.proofs.Common.{◌≡◌, map, drop, ◌+◌, ◌*◌}
 use Rattle.pig_value.specs.Trees.{tree, entry_of, kind_tree, fields_of, tuples_of, entries_of, kinds_of}
 use Rattle.pig_value.specs.Kinds.{fields_of_kinds, tuples_of_kinds, entries_of_kind}
-use Rattle.pig_value.proofs.shapes.+is_of.Given as goal
+use Rattle.pig_value.proofs.kinds.+is_of.Given as goal
 
 abbrev pub decreases-value_is_of : goal.decreases-value_is_of
 decreases-value_is_of l = 3 * goal.size-value_is_of l

@@ -3,10 +3,10 @@ use Rattle.std.specs.Prelude.{List, [], ◌∷◌}
 use Rattle.std.proofs.Common.{ap, sym, ◌∙◌}
 use Rattle.std.specs.List.{AllByRecursion}
 use Rattle.pig_value.specs.Trees.{Tree, v_bag, tuples_of}
-use Rattle.pig_value.specs.TreeLaws.{tuples_back}
-use Rattle.pig_value.specs.Bags.{each-sort, bag_once}
+use Rattle.pig_value.proofs.TreeLaws.{tuples_back}
+use Rattle.pig_value.proofs.list_laws.Bags.{each-sort, bag_once}
 use Rattle.pig_value.specs.Orders.{row_cmp, bag_of}
-use Rattle.pig_value.specs.OrderLaws.{row_total}
+use Rattle.pig_value.proofs.OrderLaws.{row_total}
 use Rattle.pig_value.specs.Valid.{IsValue, IsRow, AreRows}
 
 -- rows of values, row by row

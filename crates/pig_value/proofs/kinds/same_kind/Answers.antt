@@ -1,8 +1,8 @@
 use Rattle.std.proofs.Common.{sym, ◌∙◌, ap}
 use Rattle.pig_value.specs.Trees.{kind_tree}
 use Rattle.pig_value.specs.Kinds.{kind_eq}
-use Rattle.pig_value.specs.KindLaws.{kind_same, kind_itself}
-use Rattle.pig_value.proofs.shapes.same_kind.Goals as goal
+use Rattle.pig_value.proofs.KindLaws.{kind_same, kind_itself}
+use Rattle.pig_value.proofs.kinds.same_kind.Goals as goal
 
 pub returns : goal.returns
 returns c = (

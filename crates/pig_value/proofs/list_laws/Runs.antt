@@ -1,26 +1,19 @@
 -- Runs of equal keys at the front of a list: gathering the list by key gives what the run gives, and then what the rest gives.
-use Rattle.std.specs.Prelude.{◌≡◌, Bool, true, false, not, List, [], ◌∷◌, ◌++◌, map, refl, if◌then◌else◌}
-use Rattle.std.proofs.Common.{ap, sym, ◌∙◌, subst, append-nil}
+use Rattle.std.specs.Prelude.{◌≡◌, true, false, not, List, [], ◌∷◌, ◌++◌, map, refl, if◌then◌else◌}
+use Rattle.std.proofs.Common.{ap, ◌∙◌, append-nil}
 use Rattle.std.specs.Cmp.{IsTotalOrder}
 use Rattle.std.specs.List.{filter, flat_map, AllByRecursion}
 use Rattle.std.specs.Ordering.{is_eq, is_gt, ordering_reverse}
 use Rattle.std.specs.declared.cmp.Ordering.{Ordering}
-use Rattle.std.specs.declared.cmp.Ordering.TheVariants.{Less, Equal}
+use Rattle.std.specs.declared.cmp.Ordering.TheVariants.{Less}
 use Rattle.std.proofs.lemmas.Cmp.{tied_itself}
 use Rattle.std.proofs.lemmas.List.{map-append}
 use Rattle.std.proofs.lemmas.List.Elements.{filter-append}
-use Rattle.pig_value.specs.Sorts.{put, Rises, distinct}
-use Rattle.pig_value.specs.Listing.{each_weaker, each-map, filter_all, filter_none, flat_map_each}
-use Rattle.pig_value.specs.Bags.{put_first}
-use Rattle.pig_value.specs.Distinct.{each-distinct}
-use Rattle.pig_value.specs.Partitions.{with_key, by_key}
-
--- the elements have this key, or a greater one
-abbrev pub HaveKey : {K X : Type 0} → (X → K) → K → List X → Type 0
-HaveKey key k xs = AllByRecursion (λ x. key x ≡ k) xs
-
-abbrev pub HaveGreater : {K X : Type 0} → (K → K → Ordering) → (X → K) → K → List X → Type 0
-HaveGreater C key k xs = AllByRecursion (λ x. C k (key x) ≡ Less) xs
+use Rattle.pig_value.specs.Sorts.{put, distinct}
+use Rattle.pig_value.proofs.list_laws.Listing.{each_weaker, each-map, filter_all, filter_none, flat_map_each}
+use Rattle.pig_value.proofs.list_laws.Bags.{put_first}
+use Rattle.pig_value.proofs.list_laws.Distinct.{each-distinct}
+use Rattle.pig_value.specs.Gathering.{with_key, by_key, HaveKey, HaveGreater}
 
 -- the keys of a run, before greater ones
 module _ {K : Type 0} (C : K → K → Ordering) (total : IsTotalOrder C) (k : K) where
