@@ -2,7 +2,7 @@
 use Rattle.std.proofs.Common.{◌≡◌, ◌≢◌, ℕ, ◌+◌, ◌-◌, ◌<◌, ◌≤◌, Bool, true, false, Option, Some, None, List, [], ◌∷◌, ◌++◌, cond, refl, sym, ◌∙◌, ap, subst, arith, inl, inr}
 use Rattle.std.specs.Prelude.{◌==◌, nat_le, count_by, sum_by, All, MatchBool}
 use Rattle.std.specs.List.{list_any}
-use Rattle.std.proofs.lemmas.Bool.{cases_eq, eq-eqb, ne_eqb, or_left, or_right, le-leb}
+use Rattle.std.proofs.lemmas.Bool.{cases_eq, cases_lt, lt-ltb, le-ltb, eq-eqb, ne_eqb, or_left, or_right, le-leb}
 use Rattle.std.proofs.lemmas.List.Folds.{list_any-append}
 use Rattle.std.proofs.lemmas.List.Elements.{All-push, All-nil}
 use Rattle.std.proofs.lemmas.List.Sums.{sum_by_push}
@@ -12,13 +12,13 @@ use Rattle.pig_job.specs.declared.Fate.TheVariants.{Unended, Won, Late, Failed}
 use Rattle.pig_job.specs.Rule.{has_failed, settle}
 use Rattle.pig_job.proofs.Keeps.{attempt}
 use Rattle.pig_board.specs.declared.view.View.{View}
-use Rattle.pig_board.specs.View.{steps_of, has_open, has_open_of, knows_winner, fails_of, all_fails, wins_of, drew, began, won, came_late, failed_at, earliest, saw_winner, saw_count, is_win_of, IsLate}
+use Rattle.pig_board.specs.View.{steps_of, has_open, has_open_of, knows_winner, fails_of, all_fails, wins_of, drew, began, won, came_late, failed_at, earliest, saw_winner, saw_count, is_win_of, IsLate, IsDraw}
 use Rattle.pig_board.specs.Laws.{NotesStay}
 use Rattle.pig_board.proofs.Notes.{steps_keep}
 use Rattle.pig_board.proofs.Counts.{earliest-open, counted-any}
 use Rattle.pig_board.proofs.Steps.{settled_fails}
 use Rattle.pig_board.proofs.CountLaws.{steps_drew, steps_began, steps_won, steps_late, steps_failed, steps_saw_winner, steps_saw_count, began-open, began-open_of, fails_began, fails_failed, wins_began, wins_won, wins_won_other, wins_late, wins_failed}
-use Rattle.pig_pool.specs.Workers.{outputs_of, HasWon, Works, saw_limit}
+use Rattle.pig_pool.specs.Workers.{outputs_of, HasWon, Works, KnowsAll, saw_limit}
 
 -- notes that stay twice stay
 pub notes-trans : (u v w : View) → NotesStay u v → NotesStay v w → NotesStay u w
@@ -209,3 +209,46 @@ room-tried t c a o v x y z e f g =
     let q = room-failures t c x y f in
     let r = room-begin t a y z g in
     omega arith
+
+-- a draw
+pub calm-drawn : (n : ℕ) (o : Option ℕ) (v w : View) → 0 < v.room → IsDraw n v w o → IsCalm v w
+calm-drawn n o v w room d = calm-draw d.number v w room d.beyond d.view
+
+pub won-drawn : {O : Type 0} (r : ℕ → O → Type 0) (n : ℕ) (o : Option ℕ) (v w : View) (os : List (ℕ × O)) → IsDraw n v w o → HasWon r v os → HasWon r w os
+won-drawn r n o v w os d h = won-calm r v w os (λ u. ap (wins_of u) d.view) h
+
+-- a draw that gives task t
+pub record IsDrawn (n t : ℕ) (v w : View) : Type 0 where
+  pub beyond : v.known ≤ t
+  pub below : t < n
+  pub known : w.known ≡ t + 1
+  pub room : w.room ≡ v.room - 1
+
+pub drawn-some : (n t : ℕ) (v w : View) → IsDraw n v w (Some t) → IsDrawn n t v w
+drawn-some n t v w d = elim (cases_lt d.number n) as (λ _. IsDrawn n t v w) [
+  | inl l ↦
+      let is : Some t ≡ Some d.number = d.answer_is ∙ ap (λ b. cond {A = Option ℕ} b (Some d.number) None) (lt-ltb d.number n l) in
+      let same : t ≡ d.number = cc in
+      let known = ap (λ (z : View). z.known) d.view in
+      let room = ap (λ (z : View). z.room) d.view in
+      let beyond = d.beyond in
+      record { beyond = omega arith; below = omega arith; known = omega arith; room = omega arith }
+  | inr m ↦
+      let is : ◌≡◌ {A = Option ℕ} (Some t) None = d.answer_is ∙ ap (λ b. cond {A = Option ℕ} b (Some d.number) None) (le-ltb d.number n m) in
+      absurd (cc)
+]
+
+pub drawn-none : (n : ℕ) (v w : View) → IsDraw n v w None → n ≤ w.known
+drawn-none n v w d = elim (cases_lt d.number n) as (λ _. n ≤ w.known) [
+  | inl l ↦
+      let is : ◌≡◌ {A = Option ℕ} None (Some d.number) = d.answer_is ∙ ap (λ b. cond {A = Option ℕ} b (Some d.number) None) (lt-ltb d.number n l) in
+      absurd (cc)
+  | inr m ↦ let known = ap (λ (z : View). z.known) d.view in omega arith
+]
+
+-- one task more that the pass knows to be won
+pub knows-more : (t : ℕ) (v w : View) → NotesStay v w → KnowsAll t v → knows_winner t w ≡ true → KnowsAll (t + 1) w
+knows-more t v w stay all here u l = elim (cases_eq u t) as (λ _. knows_winner u w ≡ true) [
+  | inl same ↦ ap (λ k. knows_winner k w) same ∙ here
+  | inr other ↦ stay.winner u (all u (omega arith))
+]
