@@ -4,18 +4,21 @@ use pig_outside::{Depot, Host, OutsideError};
 use pig_run::pig_main;
 use pig_value::{Text, Words};
 use std::fs;
+use std::io;
+use std::os::fd::AsRawFd;
+use std::os::unix::fs::symlink;
 use std::test::Fail;
 
 #[test]
 fn a_folder_is_an_input_and_an_output(rt: HostRuntime) -> Result<(), Fail> {
     let alloc = rt.alloc();
-    fs::create_dir_all(&rt, "in/nested")?;
+    fs::create_dir_all(&rt, "in/nested.gz")?;
     for (path, text) in [
         ("in/b", "7\n"),
         ("in/a", "5"),
         ("in/_no", "1"),
         ("in/.no", "2"),
-        ("in/nested/c", "3"),
+        ("in/nested.gz/c", "3"),
     ] {
         fs::write(&rt, path, text)?;
     }
@@ -56,6 +59,59 @@ fn a_folder_is_an_input_and_an_output(rt: HostRuntime) -> Result<(), Fail> {
     assert_eq!(rt; depot.script("in/b", 1, &mut script), Ok(true));
     assert_eq!(rt; depot.script("in/b", 9, &mut script), Ok(true));
     assert_eq!(rt; script.as_slice(), b"77\n".as_slice());
+    Ok(())
+}
+
+/// Whether the depot fails at an input.
+fn fails<D: Depot>(depot: &mut D, path: &str) -> bool {
+    matches!(depot.pieces(path), Err(OutsideError::Failed))
+}
+
+#[test]
+fn what_is_no_file_is_a_failure(rt: HostRuntime) -> Result<(), Fail> {
+    let alloc = rt.alloc();
+    let mut depot = FileDepot::new(rt.clone()?, alloc);
+    let mut host = FileHost::new(rt.clone()?, alloc);
+    let (reader, _writer) = io::pipe(&rt)?;
+    let pipe = format!(in alloc; "/proc/self/fd/{}", reader.as_raw_fd())?;
+    for folder in ["device", "piped", "dangling", "odd", "left"] {
+        fs::create_dir_all(&rt, folder)?;
+    }
+    symlink(&rt, "/dev/null", "device/a")?;
+    symlink(&rt, pipe.as_str(), "piped/a")?;
+    symlink(&rt, "nowhere", "dangling/a")?;
+    symlink(&rt, "nowhere", "left/_a")?;
+    symlink(&rt, "/dev/null", "left/.a")?;
+    assert!(rt; os::create(b"odd/\xff") >= 0);
+    for path in ["/dev/null", pipe.as_str(), "device", "piped", "dangling", "odd"] {
+        assert!(rt; fails(&mut depot, path));
+    }
+    let left = depot.pieces("left")?.expect(&rt, "the folder");
+    assert_eq!(rt; left.len(), 0);
+    let mut into = [0; 1];
+    for path in ["/dev/null", pipe.as_str(), "device", "piped", "dangling", "odd", "left"] {
+        assert_eq!(rt; host.read(path, 0, 0, &mut into), Err(OutsideError::Failed));
+    }
+    Ok(())
+}
+
+#[test]
+fn a_host_lists_a_folder_once(rt: HostRuntime) -> Result<(), Fail> {
+    let alloc = rt.alloc();
+    fs::create_dir_all(&rt, "in")?;
+    fs::write(&rt, "in/b", "b")?;
+    fs::write(&rt, "in/c", "c")?;
+    let mut host = FileHost::new(rt.clone()?, alloc);
+    let mut into = [0; 1];
+    host.read("in", 0, 0, &mut into)?;
+    assert_eq!(rt; into, [b'b']);
+    // A host that listed it again would find b here.
+    fs::write(&rt, "in/a", "a")?;
+    host.read("in", 1, 0, &mut into)?;
+    assert_eq!(rt; into, [b'c']);
+    let mut other = FileHost::new(rt.clone()?, alloc);
+    other.read("in", 1, 0, &mut into)?;
+    assert_eq!(rt; into, [b'b']);
     Ok(())
 }
 

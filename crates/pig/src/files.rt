@@ -1,9 +1,9 @@
 // Files and folders as the depot and the hosts, and standard output as the console. They tell no contents.
-ghost use Rattle.std.specs.Prelude.{◌≡◌, ◌≤◌, None, OnOk, OnErr};
-ghost use Rattle.pig_outside.specs.Faults.{FailedRose};
+ghost use Rattle.std.specs.Prelude.{◌≡◌, ◌≤◌, ◌<◌, None, Ok, false, OnOk, OnErr};
+ghost use Rattle.pig_outside.specs.Counts.{all_faults, stores_failed};
 ghost use Rattle.pig_outside.specs.Shelf.{Grows};
 
-use pig_outside::{Console, Depot, Failed, Host, OutsideError};
+use pig_outside::{Console, Depot, Failed, FaultCounts, Host, OutsideError};
 use pig_value::{Lengths, Text};
 use std::alloc::Global;
 use std::fs::File;
@@ -15,27 +15,30 @@ use std::{fs, io};
 /// How a compressed file's name ends.
 const COMPRESSED: [&str; 4] = [".gz", ".bz2", ".lzo", ".zst"];
 
-/// The failures of a device so far.
-#[derive(Drop)]
-struct Faults {
-    count: u64,
+/// The answer to an error of the system. Each but want of memory is counted.
+fn answer(faults: &mut FaultCounts, error: io::Error) -> OutsideError
+    ensures later { all_faults faults.old ≤ all_faults faults.new }
+    ensures failed { result ≡ OutsideError.Failed → all_faults faults.old < all_faults faults.new }
+    ensures memory { result ≡ OutsideError.OutOfMemory → all_faults faults.new ≡ all_faults faults.old }
+    ensures stores { stores_failed faults.new ≡ stores_failed faults.old }
+{
+    if error.kind() == ErrorKind::OutOfMemory {
+        return OutsideError::OutOfMemory;
+    }
+    faults.fail()
 }
 
-impl Faults {
-    ghost use Rattle.pig.specs.Faults.{count_of};
-
-    /// The answer to an error of the system. Each but want of memory is counted.
-    fn answer(&mut self, error: io::Error) -> OutsideError
-        ensures later { count_of self.old ≤ count_of self.new }
-        ensures failed { result ≡ OutsideError.Failed → FailedRose (count_of self.old) (count_of self.new) }
-        ensures memory { result ≡ OutsideError.OutOfMemory → count_of self.new ≡ count_of self.old }
-    {
-        if error.kind() == ErrorKind::OutOfMemory {
-            return OutsideError::OutOfMemory;
-        }
-        self.count = self.count.saturating_add(1);
-        OutsideError::Failed
+/// The same where a directory was being made.
+fn answer_store(faults: &mut FaultCounts, error: io::Error) -> OutsideError
+    ensures later { all_faults faults.old ≤ all_faults faults.new }
+    ensures failed { result ≡ OutsideError.Failed → all_faults faults.old < all_faults faults.new }
+    ensures stores_later { stores_failed faults.old ≤ stores_failed faults.new }
+    ensures stores { result ≡ OutsideError.Failed → stores_failed faults.old < stores_failed faults.new }
+{
+    if error.kind() == ErrorKind::OutOfMemory {
+        return OutsideError::OutOfMemory;
     }
+    faults.fail_store()
 }
 
 /// The file system as a depot: a script and an input are paths, and a directory is a folder of part files.
@@ -43,7 +46,7 @@ impl Faults {
 pub struct FileDepot<R: Files + AllocGlobal + Clone + Drop> {
     rt: R,
     alloc: Global,
-    faults: Faults,
+    faults: FaultCounts,
 }
 
 impl<R: Files + AllocGlobal + Clone + Drop> FileDepot<R> {
@@ -51,29 +54,31 @@ impl<R: Files + AllocGlobal + Clone + Drop> FileDepot<R> {
         FileDepot {
             rt,
             alloc,
-            faults: Faults { count: 0 },
+            faults: FaultCounts::new(),
         }
     }
 }
 
 impl<R: Files + AllocGlobal + Clone + Drop> Depot for FileDepot<R> {
-    ghost use Rattle.pig.specs.Faults.{count_of};
-
     ghost shelf = { λ _. None };
 
-    ghost faults = { λ d. count_of d.faults };
+    ghost calls = { λ _. None };
+
+    ghost faults = { λ d. all_faults d.faults };
+
+    ghost store_faults = { λ d. stores_failed d.faults };
 
     fn script(&mut self, path: &str, most: u64, into: &mut Vec<u8>) -> Result<bool, OutsideError> {
         match read_front(&self.rt, self.alloc, path, most, into) {
             Ok(there) => Ok(there),
-            Err(error) => Err(self.faults.answer(error)),
+            Err(error) => Err(answer(&mut self.faults, error)),
         }
     }
 
     fn pieces(&mut self, path: &str) -> Result<Option<Lengths>, OutsideError> {
         match piece_lengths(&self.rt, self.alloc, path) {
             Ok(lengths) => Ok(lengths),
-            Err(error) => Err(self.faults.answer(error)),
+            Err(error) => Err(answer(&mut self.faults, error)),
         }
     }
 
@@ -81,28 +86,28 @@ impl<R: Files + AllocGlobal + Clone + Drop> Depot for FileDepot<R> {
         match fs::symlink_metadata(&self.rt, dir) {
             Ok(_) => Ok(true),
             Err(error) if is_absent(&error) => Ok(false),
-            Err(error) => Err(self.faults.answer(error)),
+            Err(error) => Err(answer(&mut self.faults, error)),
         }
     }
 
     fn create(&mut self, dir: &str) -> Result<(), OutsideError> {
         match make_folder(&self.rt, dir) {
             Ok(()) => Ok(()),
-            Err(error) => Err(self.faults.answer(error)),
+            Err(error) => Err(answer_store(&mut self.faults, error)),
         }
     }
 
     fn put(&mut self, dir: &str, part: u32, bytes: &[u8]) -> Result<(), OutsideError> {
         match write_part(&self.rt, self.alloc, dir, part, bytes) {
             Ok(()) => Ok(()),
-            Err(error) => Err(self.faults.answer(error)),
+            Err(error) => Err(answer_store(&mut self.faults, error)),
         }
     }
 
     fn finish(&mut self, dir: &str) -> Result<(), OutsideError> {
         match write_marker(&self.rt, self.alloc, dir) {
             Ok(()) => Ok(()),
-            Err(error) => Err(self.faults.answer(error)),
+            Err(error) => Err(answer_store(&mut self.faults, error)),
         }
     }
 }
@@ -121,6 +126,7 @@ fn read_front<R: Files>(
     into: &mut Vec<u8>,
 ) -> io::Result<bool>
     ensures grows { OnOk result (Grows most into.old.items into.new.items) }
+    ensures absent { result ≡ Ok false → into.new.items ≡ into.old.items }
     ensures err { OnErr result (into.new.items ≡ into.old.items) }
 {
     let file = match fs::open(rt, path) {
@@ -148,40 +154,59 @@ fn piece_lengths<R: Files + AllocGlobal + Clone + Drop>(
     };
     let mut lengths = Lengths::new(alloc);
     if !found.is_dir() {
-        lengths.push(found.len())?;
+        lengths.push(file_length(&found)?)?;
         return Ok(Some(lengths));
     }
-    for name in piece_names(rt, alloc, path)?.iter() {
-        let file = format!(in alloc; "{path}/{name}")?;
-        lengths.push(fs::metadata(rt, file.as_str())?.len())?;
+    for piece in list_pieces(rt, alloc, path)?.iter() {
+        lengths.push(piece.length)?;
     }
     Ok(Some(lengths))
 }
 
-/// The names of a folder's pieces in ascending byte order: its files, without those that begin with `_` or `.`.
-/// A name that isn't text, and one of a compressed file, is an error.
-fn piece_names<R: Files + AllocGlobal + Clone + Drop>(
+/// The length of a file. A pipe, a device or a folder has none, and is an error.
+fn file_length(found: &fs::Metadata) -> io::Result<u64> {
+    if !found.is_file() {
+        return Err(io::Error::from(ErrorKind::InvalidInput));
+    }
+    Ok(found.len())
+}
+
+/// A piece of a folder.
+#[derive(Drop)]
+struct FolderPiece {
+    name: String,
+    length: u64,
+}
+
+/// A folder's pieces in ascending byte order of names: its files, without subfolders and without those whose names
+/// begin with `_` or `.`. A name that isn't text, one of a compressed file, a link to nothing, a pipe and a device
+/// are errors.
+fn list_pieces<R: Files + AllocGlobal + Clone + Drop>(
     rt: &R,
     alloc: Global,
     folder: &str,
-) -> io::Result<Vec<String>> {
-    let mut names = Vec::new(alloc);
+) -> io::Result<Vec<FolderPiece>> {
+    let mut pieces = Vec::new(alloc);
     for entry in fs::read_dir(rt, folder)? {
         let entry = entry?;
         let name = entry.file_name();
         if name.starts_with('_') || name.starts_with('.') {
             continue;
         }
-        if fs::metadata(rt, entry.path())?.is_dir() {
+        let found = fs::metadata(rt, entry.path())?;
+        if found.is_dir() {
             continue;
         }
         if COMPRESSED.iter().any(|ending| name.ends_with(*ending)) {
             return Err(io::Error::from(ErrorKind::InvalidFilename));
         }
-        names.push(String::from_str(alloc, name)?)?;
+        pieces.push(FolderPiece {
+            name: String::from_str(alloc, name)?,
+            length: file_length(&found)?,
+        })?;
     }
-    names.sort()?;
-    Ok(names)
+    pieces.sort_by(|a, b| a.name.as_str().cmp(b.name.as_str()))?;
+    Ok(pieces)
 }
 
 /// Makes a folder that isn't there, and its missing parents.
@@ -212,13 +237,21 @@ fn write_marker<R: Files>(rt: &R, alloc: Global, dir: &str) -> io::Result<()> {
     fs::write(rt, path.as_str(), b"".as_slice())
 }
 
-/// The file system as a host. The piece that was read last stays open.
+/// The file system as a host. The piece that was read last stays open, and a folder is listed once.
 #[derive(Drop)]
 pub struct FileHost<R: Files<File = File> + AllocGlobal + Clone + Drop> {
     rt: R,
     alloc: Global,
+    folders: Vec<Folder>,
     open: Option<OpenPiece>,
-    faults: Faults,
+    faults: FaultCounts,
+}
+
+/// A folder that was listed.
+#[derive(Drop)]
+struct Folder {
+    path: Text,
+    pieces: Vec<FolderPiece>,
 }
 
 /// An open piece.
@@ -234,18 +267,32 @@ impl<R: Files<File = File> + AllocGlobal + Clone + Drop> FileHost<R> {
         FileHost {
             rt,
             alloc,
+            folders: Vec::new(alloc),
             open: None,
-            faults: Faults { count: 0 },
+            faults: FaultCounts::new(),
         }
+    }
+
+    /// Fills the buffer from a piece, which is opened where it isn't open.
+    fn read_piece(&mut self, path: &str, piece: u32, from: u64, into: &mut [u8]) -> io::Result<()>
+        ensures { all_faults self.new.faults ≡ all_faults self.old.faults }
+    {
+        let current = match self.open.take() {
+            Some(last) if last.piece == piece && last.path.as_str() == path => last,
+            _ => open_piece(&self.rt, self.alloc, &mut self.folders, path, piece)?,
+        };
+        current.file.read_exact_at(into, from)?;
+        self.open = Some(current);
+        Ok(())
     }
 }
 
 impl<R: Files<File = File> + AllocGlobal + Clone + Drop> Host for FileHost<R> {
-    ghost use Rattle.pig.specs.Faults.{count_of};
-
     ghost inputs = { λ _. None };
 
-    ghost faults = { λ h. count_of h.faults };
+    ghost begun = { λ _. None };
+
+    ghost faults = { λ h. all_faults h.faults };
 
     fn begin(&mut self, wave: u32, task: u32, attempt: u32) -> Result<(), Failed> {
         let _ = (wave, task, attempt);
@@ -259,88 +306,85 @@ impl<R: Files<File = File> + AllocGlobal + Clone + Drop> Host for FileHost<R> {
         from: u64,
         into: &mut [u8],
     ) -> Result<(), OutsideError> {
-        match read_piece(
-            &self.rt,
-            self.alloc,
-            &mut self.open,
-            path,
-            piece,
-            from,
-            into,
-        ) {
+        match self.read_piece(path, piece, from, into) {
             Ok(()) => Ok(()),
-            Err(error) => Err(self.faults.answer(error)),
+            Err(error) => Err(answer(&mut self.faults, error)),
         }
     }
 }
 
-/// Fills the buffer from a piece, which is opened where it isn't open.
-fn read_piece<R: Files<File = File> + AllocGlobal + Clone + Drop>(
-    rt: &R,
-    alloc: Global,
-    open: &mut Option<OpenPiece>,
-    path: &str,
-    piece: u32,
-    from: u64,
-    into: &mut [u8],
-) -> io::Result<()> {
-    let current = match open.take() {
-        Some(last) if last.piece == piece && last.path.as_str() == path => last,
-        _ => open_piece(rt, alloc, path, piece)?,
-    };
-    current.file.read_exact_at(into, from)?;
-    *open = Some(current);
-    Ok(())
-}
-
-/// Opens a piece: the file itself, or that one of a folder's pieces.
+/// Opens a piece: the file itself, or that one of a folder's pieces. What is neither a file nor a folder is not
+/// opened, since a pipe would be waited for.
 fn open_piece<R: Files<File = File> + AllocGlobal + Clone + Drop>(
     rt: &R,
     alloc: Global,
+    folders: &mut Vec<Folder>,
     path: &str,
     piece: u32,
 ) -> io::Result<OpenPiece> {
-    let file = if fs::metadata(rt, path)?.is_dir() {
-        let names = piece_names(rt, alloc, path)?;
-        let Some(name) = names.get(piece as usize) else {
-            return Err(io::Error::from(ErrorKind::NotFound));
-        };
-        let file = format!(in alloc; "{path}/{name}")?;
-        fs::open(rt, file.as_str())?
+    let found = fs::metadata(rt, path)?;
+    let file = if found.is_dir() {
+        let file = piece_path(rt, alloc, folders, path, piece)?;
+        open_file(rt, file.as_str())?
     } else {
-        fs::open(rt, path)?
+        open_file(rt, path)?
     };
     let path = Text::from_str(alloc, path)?;
     Ok(OpenPiece { path, piece, file })
+}
+
+/// Opens what is a file.
+fn open_file<R: Files<File = File>>(rt: &R, path: &str) -> io::Result<File> {
+    file_length(&fs::metadata(rt, path)?)?;
+    fs::open(rt, path)
+}
+
+/// The path of a folder's piece. The folder is listed where it was not yet.
+fn piece_path<R: Files + AllocGlobal + Clone + Drop>(
+    rt: &R,
+    alloc: Global,
+    folders: &mut Vec<Folder>,
+    folder: &str,
+    piece: u32,
+) -> io::Result<String> {
+    if !folders.iter().any(|known| known.path.as_str() == folder) {
+        folders.push(Folder {
+            path: Text::from_str(alloc, folder)?,
+            pieces: list_pieces(rt, alloc, folder)?,
+        })?;
+    }
+    let listed = folders.iter().find(|known| known.path.as_str() == folder);
+    match listed.and_then(|known| known.pieces.get(piece as usize)) {
+        Some(piece) => Ok(format!(in alloc; "{folder}/{}", piece.name)?),
+        None => Err(io::Error::from(ErrorKind::NotFound)),
+    }
 }
 
 /// Standard output as the console.
 #[derive(Drop)]
 pub struct StdConsole<R: Print + Drop> {
     rt: R,
-    faults: Faults,
+    faults: FaultCounts,
 }
 
 impl<R: Print + Drop> StdConsole<R> {
     pub fn new(rt: R) -> StdConsole<R> {
         StdConsole {
             rt,
-            faults: Faults { count: 0 },
+            faults: FaultCounts::new(),
         }
     }
 }
 
 impl<R: Print + Drop> Console for StdConsole<R> {
-    ghost use Rattle.pig.specs.Faults.{count_of};
-
     ghost text = { λ _. None };
 
-    ghost faults = { λ c. count_of c.faults };
+    ghost faults = { λ c. all_faults c.faults };
 
     fn write(&mut self, bytes: &[u8]) -> Result<(), OutsideError> {
         match io::writer(&self.rt).write_all(bytes) {
             Ok(()) => Ok(()),
-            Err(error) => Err(self.faults.answer(error)),
+            Err(error) => Err(answer(&mut self.faults, error)),
         }
     }
 }

@@ -1,5 +1,5 @@
 -- What the calls of a depot in memory leave, told of its shelf.
-use Rattle.std.proofs.Common.{◌≡◌, ◌∙◌, ◌++◌, ℕ, List, [], ◌∷◌, Some, Result, OnOk, OnErr, refl, sym, ap}
+use Rattle.std.proofs.Common.{◌≡◌, ◌∙◌, ◌++◌, ℕ, List, [], ◌∷◌, Some, Result, Ok, Err, OnOk, OnErr, refl, sym, ap, subst}
 use Rattle.std.proofs.lemmas.Result.{on_ok_weaker, on_err_weaker}
 use Rattle.pig_outside.specs.declared.contents.Directory.{Directory}
 use Rattle.pig_outside.specs.Shelf.{Shelf, parts_in, with_new, open_state, IsOpen, IsOpenIn, CanCreate, LeftUnmarked}
@@ -28,3 +28,8 @@ left_as_before result path parts shelf dirs there same =
     on_err_weaker result
     (λ (e : dirs ≡ shelf.dirs). let before = unmarked_as_before path parts shelf there in (before.0, ap (λ ds. Some (with_dirs shelf ds)) e ∙ before.1))
     same
+
+-- Where the shelf is as before, an open directory is unmarked.
+pub left_unchanged : {T E : Type 0} (result : Result T E) (path : List ℕ) (parts : List (List ℕ)) (old new : Shelf) → IsOpen path parts old → new ≡ old → OnErr result (LeftUnmarked path (Some old) (Some new))
+left_unchanged (Ok _) path parts old new there same = tt
+left_unchanged (Err _) path parts old new there same = subst (λ s. LeftUnmarked path (Some old) (Some s)) (sym same) (unmarked_as_before path parts old there)

@@ -1,13 +1,21 @@
 -- How a device in memory counts its calls and failures.
-use Rattle.std.specs.Prelude.{◌≡◌, ◌≢◌, ◌+◌, ◌-◌, ◌^◌, ℕ, List, Any, min, slice_index}
+use Rattle.std.specs.Prelude.{◌≡◌, ◌≢◌, ◌<◌, ◌+◌, ◌-◌, ◌^◌, ℕ, List, Any, Result, IsErr, IsErrOf, min, slice_index}
 use Rattle.pig_outside.specs.declared.failing.Method.{Method}
 use Rattle.pig_outside.specs.declared.failing.Method.TheVariants.{Script, Pieces, Exists, Create, Put, Finish, Begin, Read, Write}
 use Rattle.pig_outside.specs.declared.failing.Call.{Call}
 use Rattle.pig_outside.specs.declared.failing.Failing.{Failing}
+use Rattle.pig_outside.specs.declared.faults.OutsideError.{OutsideError}
+use Rattle.pig_outside.specs.declared.faults.OutsideError.TheVariants.{Failed}
+use Rattle.pig_outside.specs.Counts.{all_faults, stores_failed}
+use Rattle.pig_outside.specs.Faults.{HasCause, count_end}
 
 -- How often it has failed.
 abbrev pub fault_count : Failing → ℕ
-fault_count f = f.faults
+fault_count f = all_faults f.faults
+
+-- How often it has failed in the calls that make a directory.
+abbrev pub store_fault_count : Failing → ℕ
+store_fault_count f = stores_failed f.faults
 
 -- The calls that are to fail.
 abbrev pub listed_calls : Failing → List Call
@@ -42,6 +50,7 @@ pub record IsUncalled (calls : List Call) (f : Failing) : Type 0 where
   pub listed : listed_calls f ≡ calls
   pub none : (method : Method) → calls_made method f ≡ 0
   pub faults : fault_count f ≡ 0
+  pub stores : store_fault_count f ≡ 0
 
 -- One more call of the method was made, and no other.
 pub record IsCounted (method : Method) (old new : Failing) : Type 0 where
@@ -52,3 +61,22 @@ pub record IsCounted (method : Method) (old new : Failing) : Type 0 where
 -- The last call of the method is one of those that are to fail.
 abbrev pub IsLastListed : Method → Failing → Type 0
 IsLastListed method f = IsListed method (calls_made method f) (listed_calls f)
+
+-- A call was made, and failed only where it was to fail, and wherever it was and the count could go on.
+pub record EndsAsListed {T : Type 0} (method : Method) (old new : Failing) (result : Result T OutsideError) : Type 0 where
+  pub counted : IsCounted method old new
+  pub only : IsErrOf result Failed → IsLastListed method new
+  pub each : IsLastListed method new → fault_count old < count_end → IsErrOf result Failed
+
+-- The same of `begin`, which goes well where the count can't go on.
+pub record BeginsAsListed {T E : Type 0} (old new : Failing) (result : Result T E) : Type 0 where
+  pub counted : IsCounted Begin old new
+  pub only : IsErr result → IsLastListed Begin new
+  pub each : IsLastListed Begin new → fault_count old < count_end → IsErr result
+
+-- The failures of calls that make a directory are counted apart, and no other call touches that count.
+abbrev pub StoreCause : {T : Type 0} → Method → ℕ → ℕ → Result T OutsideError → Type 0
+StoreCause Create before now result = HasCause before now result
+StoreCause Put before now result = HasCause before now result
+StoreCause Finish before now result = HasCause before now result
+StoreCause _ before now result = now ≡ before

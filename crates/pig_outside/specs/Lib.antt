@@ -1,3 +1,6 @@
+pub mod Asked
+pub mod Calls
+pub mod Counts
 pub mod Failing
 pub mod Faults
 pub mod Memory

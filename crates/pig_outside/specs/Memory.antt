@@ -5,7 +5,8 @@ use Rattle.pig_outside.specs.declared.failing.Failing.{Failing}
 use Rattle.pig_outside.specs.declared.memory_depot.MemoryDepot.{MemoryDepot}
 use Rattle.pig_outside.specs.declared.memory_host.MemoryHost.{MemoryHost}
 use Rattle.pig_outside.specs.declared.memory_console.MemoryConsole.{MemoryConsole}
-use Rattle.pig_outside.specs.Failing.{fault_count}
+use Rattle.pig_outside.specs.Calls.{DepotCall, Attempt}
+use Rattle.pig_outside.specs.Failing.{fault_count, store_fault_count}
 use Rattle.pig_outside.specs.Shelf.{Shelf}
 
 -- A depot's shelf.
@@ -16,13 +17,25 @@ depot_shelf m = record { scripts = m.scripts; inputs = m.inputs; dirs = m.dirs.i
 abbrev pub told_shelf : MemoryDepot → Option Shelf
 told_shelf m = Some (depot_shelf m)
 
--- Its calls, and those that are to fail.
-abbrev pub depot_calls : MemoryDepot → Failing
-depot_calls m = m.failing
+-- Its calls so far.
+abbrev pub depot_calls : MemoryDepot → List DepotCall
+depot_calls m = m.history.calls
+
+-- It tells them.
+abbrev pub told_calls : MemoryDepot → Option (List DepotCall)
+told_calls m = Some (depot_calls m)
+
+-- How often each method was called, and the calls that are to fail.
+abbrev pub depot_failing : MemoryDepot → Failing
+depot_failing m = m.failing
 
 -- How often it has failed.
 abbrev pub depot_faults : MemoryDepot → ℕ
 depot_faults m = fault_count m.failing
+
+-- How often it has failed in the calls that make a directory.
+abbrev pub depot_store_faults : MemoryDepot → ℕ
+depot_store_faults m = store_fault_count m.failing
 
 -- A host's inputs.
 abbrev pub host_inputs : MemoryHost → List Input
@@ -32,9 +45,17 @@ host_inputs m = m.inputs
 abbrev pub told_inputs : MemoryHost → Option (List Input)
 told_inputs m = Some (host_inputs m)
 
--- Its calls, and those that are to fail.
-abbrev pub host_calls : MemoryHost → Failing
-host_calls m = m.failing
+-- The attempts so far.
+abbrev pub host_begun : MemoryHost → List Attempt
+host_begun m = m.history.begun
+
+-- It tells them.
+abbrev pub told_begun : MemoryHost → Option (List Attempt)
+told_begun m = Some (host_begun m)
+
+-- How often each method was called, and the calls that are to fail.
+abbrev pub host_failing : MemoryHost → Failing
+host_failing m = m.failing
 
 -- How often it has failed.
 abbrev pub host_faults : MemoryHost → ℕ
@@ -48,9 +69,9 @@ console_text m = m.text.items
 abbrev pub told_text : MemoryConsole → Option (List ℕ)
 told_text m = Some (console_text m)
 
--- Its calls, and those that are to fail.
-abbrev pub console_calls : MemoryConsole → Failing
-console_calls m = m.failing
+-- How often it was called, and the calls that are to fail.
+abbrev pub console_failing : MemoryConsole → Failing
+console_failing m = m.failing
 
 -- How often it has failed.
 abbrev pub console_faults : MemoryConsole → ℕ

@@ -1,8 +1,9 @@
 // Which calls of a device in memory are to fail, and how often it was called.
-ghost use Rattle.std.specs.Prelude.{◌≡◌, ◌≢◌, ◌≤◌, ◌<◌, ◌+◌, ◌-◌, ◌^◌, ◌↔◌, min, IsTrue, MatchBool};
-ghost use Rattle.pig_outside.specs.Faults.{FailedRose};
-ghost use Rattle.pig_outside.specs.Failing.{fault_count, count_of, IsListed, IsUncalled, IsCounted, IsLastListed};
+ghost use Rattle.std.specs.Prelude.{◌≡◌, ◌≢◌, ◌+◌, ◌-◌, ◌^◌, ◌↔◌, min, Err, IsTrue};
+ghost use Rattle.pig_outside.specs.Faults.{HasConsoleCause, count_end};
+ghost use Rattle.pig_outside.specs.Failing.{fault_count, store_fault_count, count_of, IsListed, IsUncalled, EndsAsListed, StoreCause};
 
+use crate::{FaultCounts, OutsideError};
 use pig_value::Seq;
 
 /// A method of a device.
@@ -34,7 +35,7 @@ pub type Calls = Seq<Call>;
 pub struct Failing {
     calls: Calls,
     made: [u64; 9],
-    faults: u64,
+    faults: FaultCounts,
 }
 
 impl Failing {
@@ -45,23 +46,26 @@ impl Failing {
         Failing {
             calls,
             made: [0; 9],
-            faults: 0,
+            faults: FaultCounts::new(),
         }
     }
 
-    /// One more call of the method is made. Whether it fails, as one of the listed calls.
-    pub fn fails(&mut self, method: Method) -> bool
-        ensures counted { IsCounted method self.old self.new }
-        ensures listed { IsTrue result ↔ IsLastListed method self.new }
-        ensures later { fault_count self.old ≤ fault_count self.new }
-        ensures rose { MatchBool result (FailedRose (fault_count self.old) (fault_count self.new)) (fault_count self.new ≡ fault_count self.old) }
+    /// One more call of the method is made. Failed: it is one of the listed calls. Out of memory: it is one of
+    /// them, and the count of failures can't go on.
+    pub fn call(&mut self, method: Method) -> Result<(), OutsideError>
+        ensures listed { EndsAsListed method self.old self.new result }
+        ensures cause { HasConsoleCause (fault_count self.old) (fault_count self.new) result }
+        ensures stores { StoreCause method (store_fault_count self.old) (store_fault_count self.new) result }
+        ensures full { result ≡ Err OutsideError.OutOfMemory → fault_count self.old ≡ count_end }
     {
         let number = count(&mut self.made, method);
-        let fails = is_listed(self.calls.as_slice(), method, number);
-        if fails {
-            self.faults = self.faults.saturating_add(1);
+        if !is_listed(self.calls.as_slice(), method, number) {
+            return Ok(());
         }
-        fails
+        Err(match method {
+            Method::Create | Method::Put | Method::Finish => self.faults.fail_store(),
+            _ => self.faults.fail(),
+        })
     }
 }
 

@@ -10,9 +10,11 @@
 
 mod console;
 mod contents;
+mod counts;
 mod depot;
 mod failing;
 mod faults;
+mod history;
 mod host;
 mod lookups;
 mod memory_console;
@@ -23,6 +25,7 @@ mod tests;
 
 pub use console::Console;
 pub use contents::{DirState, Directory, Parts, Source, Sources};
+pub use counts::FaultCounts;
 pub use depot::Depot;
 pub use failing::{Call, Calls, Method};
 pub use faults::{AttemptFault, Failed, OutsideError};

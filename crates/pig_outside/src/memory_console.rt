@@ -6,7 +6,8 @@ use crate::failing::{Calls, Failing, Method};
 use crate::{Console, OutsideError};
 use std::alloc::Global;
 
-/// A console in memory. It tells its text, and fails at the calls that it was given, and at no other.
+/// A console in memory. It tells its text, and fails at the calls that it was given, and at no other. A write that
+/// fails leaves the text as it was.
 #[derive(Debug, Drop)]
 pub struct MemoryConsole {
     text: Vec<u8>,
@@ -15,12 +16,12 @@ pub struct MemoryConsole {
 
 impl MemoryConsole {
     ghost use Rattle.pig_outside.specs.Failing.{IsUncalled};
-    ghost use Rattle.pig_outside.specs.Memory.{console_text, console_calls};
+    ghost use Rattle.pig_outside.specs.Memory.{console_text, console_failing};
 
     /// A console with no text. It takes no memory.
     pub fn new(alloc: Global, failing: Calls) -> MemoryConsole
         ensures text { console_text result ≡ [] }
-        ensures calls { IsUncalled failing (console_calls result) }
+        ensures failing { IsUncalled failing (console_failing result) }
     {
         MemoryConsole {
             text: Vec::new(alloc),
@@ -37,11 +38,10 @@ impl MemoryConsole {
 }
 
 impl Console for MemoryConsole {
-    ghost use Rattle.std.specs.Prelude.{◌↔◌, IsErrOf};
     ghost use Rattle.pig_outside.specs.Faults.{HasConsoleCause};
     ghost use Rattle.pig_outside.specs.Text.{LeftPrefix};
-    ghost use Rattle.pig_outside.specs.Memory.{told_text, console_calls, console_faults};
-    ghost use Rattle.pig_outside.specs.Failing.{IsCounted, IsLastListed};
+    ghost use Rattle.pig_outside.specs.Memory.{told_text, console_failing, console_faults};
+    ghost use Rattle.pig_outside.specs.Failing.{EndsAsListed};
 
     ghost text = { told_text };
 
@@ -51,12 +51,10 @@ impl Console for MemoryConsole {
         ensures written { OnOk result (told_text self.new ≡ option_map (λ t. t ++ bytes.now) (told_text self.old)) }
         ensures err { OnErr result (LeftPrefix bytes.now (told_text self.old) (told_text self.new)) }
         ensures cause { HasConsoleCause (console_faults self.old) (console_faults self.new) result }
-        ensures counted { IsCounted Method.Write (console_calls self.old) (console_calls self.new) }
-        ensures listed { IsErrOf result OutsideError.Failed ↔ IsLastListed Method.Write (console_calls self.new) }
+        ensures as_before { OnErr result (told_text self.new ≡ told_text self.old) }
+        ensures listed { EndsAsListed Method.Write (console_failing self.old) (console_failing self.new) result }
     {
-        if self.failing.fails(Method::Write) {
-            return Err(OutsideError::Failed);
-        }
+        self.failing.call(Method::Write)?;
         self.text.extend_from_slice(bytes)?;
         Ok(())
     }

@@ -1,34 +1,40 @@
 // A depot in memory.
-ghost use Rattle.std.specs.Prelude.{◌≡◌, ◌∷◌, ◌++◌, [], Some, IfOk, OnOk, OnErr, take, is_some, IsSome};
+ghost use Rattle.std.specs.Prelude.{◌≡◌, ◌∷◌, ◌++◌, [], Some, Err, IfOk, OnOk, OnErr, take, is_some, IsSome};
 ghost use Rattle.std.specs.Option.{ForSome, option_map, option_copied};
 ghost use Rattle.pig_outside.specs.Places.{IsPlace};
 ghost use Rattle.pig_outside.specs.Faults.{HasCause};
 ghost use Rattle.pig_outside.specs.Shelf.{lengths_of, state_of, parts_in, set_dir, open_state, whole_state, IsOpenIn, script_of, script_bytes, lengths_at, has_dir, with_new, with_part, with_mark, Grows, CanCreate, CanPut, CanFinish, LeftUnmarked, LeftAbsentOrEmpty};
 
 use crate::failing::{Calls, Failing, Method};
+use crate::history::{Asked, History};
 use crate::lookups::{find, place};
 use crate::{Depot, DirState, Directory, OutsideError, Parts, Sources};
 use pig_value::{Blob, Inputs, Lengths, Seq, Text};
 use std::alloc::{AllocError, Global};
 
-/// A depot in memory. It tells its shelf, and fails at the calls that it was given, and at no other.
-#[derive(Debug, Drop)]
+/// A depot in memory. It tells its shelf and what it was asked, and fails at the calls that it was given, and at no
+/// other. A call that is to fail does nothing else.
+#[derive(Drop)]
 pub struct MemoryDepot {
     alloc: Global,
     scripts: Sources,
     inputs: Inputs,
     dirs: Vec<Directory>,
     failing: Failing,
+    history: History,
 }
 
 impl MemoryDepot {
-    ghost use Rattle.pig_outside.specs.Failing.{IsUncalled};
-    ghost use Rattle.pig_outside.specs.Memory.{depot_shelf, depot_calls};
+    ghost use Rattle.pig_outside.specs.Failing.{IsUncalled, EndsAsListed, StoreCause, fault_count, store_fault_count};
+    ghost use Rattle.pig_outside.specs.Faults.{HasConsoleCause, count_end};
+    ghost use Rattle.pig_outside.specs.Calls.{and_call};
+    ghost use Rattle.pig_outside.specs.Memory.{depot_shelf, depot_calls, depot_failing, depot_faults, depot_store_faults};
 
     /// A depot with these scripts and inputs, and no directory. It takes no memory.
     pub fn new(alloc: Global, scripts: Sources, inputs: Inputs, failing: Calls) -> MemoryDepot
         ensures shelf { depot_shelf result ≡ record { scripts = scripts; inputs = inputs; dirs = [] } }
-        ensures calls { IsUncalled failing (depot_calls result) }
+        ensures calls { depot_calls result ≡ [] }
+        ensures failing { IsUncalled failing (depot_failing result) }
     {
         MemoryDepot {
             alloc,
@@ -36,7 +42,21 @@ impl MemoryDepot {
             inputs,
             dirs: Vec::new(alloc),
             failing: Failing::new(failing),
+            history: History::new(),
         }
+    }
+
+    /// A call is made, and fails where it is to fail.
+    fn call(&mut self, method: Method, path: &str) -> Result<(), OutsideError>
+        ensures shelf { depot_shelf self.new ≡ depot_shelf self.old }
+        ensures calls { depot_calls self.new ≡ and_call method path.now (depot_calls self.old) }
+        ensures listed { EndsAsListed method (depot_failing self.old) (depot_failing self.new) result }
+        ensures cause { HasConsoleCause (depot_faults self.old) (depot_faults self.new) result }
+        ensures stores { StoreCause method (depot_store_faults self.old) (depot_store_faults self.new) result }
+        ensures full { result ≡ Err OutsideError.OutOfMemory → depot_faults self.old ≡ count_end }
+    {
+        self.history = self.history.and(&Asked::Call { method, path });
+        self.failing.call(method)
     }
 
     /// The directory of that path. None: there is none.
@@ -51,27 +71,32 @@ impl MemoryDepot {
 }
 
 impl Depot for MemoryDepot {
-    ghost use Rattle.std.specs.Prelude.{◌↔◌, IsErrOf};
-    ghost use Rattle.pig_outside.specs.Memory.{told_shelf, depot_calls, depot_faults};
-    ghost use Rattle.pig_outside.specs.Failing.{IsCounted, IsLastListed};
+    ghost use Rattle.std.specs.Prelude.{Ok, false};
+    ghost use Rattle.pig_outside.specs.Calls.{and_call};
+    ghost use Rattle.pig_outside.specs.Memory.{told_shelf, told_calls, depot_failing, depot_faults, depot_store_faults};
+    ghost use Rattle.pig_outside.specs.Failing.{EndsAsListed};
 
     ghost shelf = { told_shelf };
 
+    ghost calls = { told_calls };
+
     ghost faults = { depot_faults };
+
+    ghost store_faults = { depot_store_faults };
 
     fn script(&mut self, path: &str, most: u64, into: &mut Vec<u8>) -> Result<bool, OutsideError>
         ensures there { ForSome (told_shelf self.old) (λ s. IfOk result (λ there. there ≡ is_some (script_of path.now s))) }
         ensures read { ForSome (told_shelf self.old) (λ s. OnOk result (into.new.items ≡ into.old.items ++ script_bytes path.now most s)) }
         ensures grows { OnOk result (Grows most into.old.items into.new.items) }
+        ensures absent { result ≡ Ok false → into.new.items ≡ into.old.items }
         ensures err { OnErr result (into.new.items ≡ into.old.items) }
         ensures shelf { told_shelf self.new ≡ told_shelf self.old }
+        ensures calls { told_calls self.new ≡ option_map (and_call Method.Script path.now) (told_calls self.old) }
         ensures cause { HasCause (depot_faults self.old) (depot_faults self.new) result }
-        ensures counted { IsCounted Method.Script (depot_calls self.old) (depot_calls self.new) }
-        ensures listed { IsErrOf result OutsideError.Failed ↔ IsLastListed Method.Script (depot_calls self.new) }
+        ensures store_faults { depot_store_faults self.new ≡ depot_store_faults self.old }
+        ensures listed { EndsAsListed Method.Script (depot_failing self.old) (depot_failing self.new) result }
     {
-        if self.failing.fails(Method::Script) {
-            return Err(OutsideError::Failed);
-        }
+        self.call(Method::Script, path)?;
         match find(self.scripts.as_slice(), path) {
             Some(source) => {
                 append_front(source.bytes.as_slice(), most, into)?;
@@ -84,13 +109,12 @@ impl Depot for MemoryDepot {
     fn pieces(&mut self, path: &str) -> Result<Option<Lengths>, OutsideError>
         ensures lengths { ForSome (told_shelf self.old) (λ s. IfOk result (λ found. found ≡ lengths_at path.now s)) }
         ensures shelf { told_shelf self.new ≡ told_shelf self.old }
+        ensures calls { told_calls self.new ≡ option_map (and_call Method.Pieces path.now) (told_calls self.old) }
         ensures cause { HasCause (depot_faults self.old) (depot_faults self.new) result }
-        ensures counted { IsCounted Method.Pieces (depot_calls self.old) (depot_calls self.new) }
-        ensures listed { IsErrOf result OutsideError.Failed ↔ IsLastListed Method.Pieces (depot_calls self.new) }
+        ensures store_faults { depot_store_faults self.new ≡ depot_store_faults self.old }
+        ensures listed { EndsAsListed Method.Pieces (depot_failing self.old) (depot_failing self.new) result }
     {
-        if self.failing.fails(Method::Pieces) {
-            return Err(OutsideError::Failed);
-        }
+        self.call(Method::Pieces, path)?;
         match find(self.inputs.as_slice(), path) {
             Some(input) => Ok(Some(lengths(self.alloc, input.pieces.as_slice())?)),
             None => Ok(None),
@@ -100,13 +124,12 @@ impl Depot for MemoryDepot {
     fn exists(&mut self, dir: &str) -> Result<bool, OutsideError>
         ensures there { ForSome (told_shelf self.old) (λ s. IfOk result (λ there. there ≡ has_dir dir.now s)) }
         ensures shelf { told_shelf self.new ≡ told_shelf self.old }
+        ensures calls { told_calls self.new ≡ option_map (and_call Method.Exists dir.now) (told_calls self.old) }
         ensures cause { HasCause (depot_faults self.old) (depot_faults self.new) result }
-        ensures counted { IsCounted Method.Exists (depot_calls self.old) (depot_calls self.new) }
-        ensures listed { IsErrOf result OutsideError.Failed ↔ IsLastListed Method.Exists (depot_calls self.new) }
+        ensures store_faults { depot_store_faults self.new ≡ depot_store_faults self.old }
+        ensures listed { EndsAsListed Method.Exists (depot_failing self.old) (depot_failing self.new) result }
     {
-        if self.failing.fails(Method::Exists) {
-            return Err(OutsideError::Failed);
-        }
+        self.call(Method::Exists, dir)?;
         Ok(find(self.dirs.as_slice(), dir).is_some())
     }
 
@@ -114,13 +137,13 @@ impl Depot for MemoryDepot {
         requires { ForSome (told_shelf self.old) (CanCreate dir.now) }
         ensures created { OnOk result (told_shelf self.new ≡ option_map (with_new dir.now) (told_shelf self.old)) }
         ensures err { OnErr result (LeftAbsentOrEmpty dir.now (told_shelf self.old) (told_shelf self.new)) }
+        ensures as_before { OnErr result (told_shelf self.new ≡ told_shelf self.old) }
+        ensures calls { told_calls self.new ≡ option_map (and_call Method.Create dir.now) (told_calls self.old) }
         ensures cause { HasCause (depot_faults self.old) (depot_faults self.new) result }
-        ensures counted { IsCounted Method.Create (depot_calls self.old) (depot_calls self.new) }
-        ensures listed { IsErrOf result OutsideError.Failed ↔ IsLastListed Method.Create (depot_calls self.new) }
+        ensures store_cause { HasCause (depot_store_faults self.old) (depot_store_faults self.new) result }
+        ensures listed { EndsAsListed Method.Create (depot_failing self.old) (depot_failing self.new) result }
     {
-        if self.failing.fails(Method::Create) {
-            return Err(OutsideError::Failed);
-        }
+        self.call(Method::Create, dir)?;
         add_dir(self.alloc, &mut self.dirs, dir)
     }
 
@@ -128,13 +151,13 @@ impl Depot for MemoryDepot {
         requires { ForSome (told_shelf self.old) (CanPut dir.now part) }
         ensures put { OnOk result (told_shelf self.new ≡ option_map (with_part dir.now bytes.now) (told_shelf self.old)) }
         ensures err { OnErr result (LeftUnmarked dir.now (told_shelf self.old) (told_shelf self.new)) }
+        ensures as_before { OnErr result (told_shelf self.new ≡ told_shelf self.old) }
+        ensures calls { told_calls self.new ≡ option_map (and_call Method.Put dir.now) (told_calls self.old) }
         ensures cause { HasCause (depot_faults self.old) (depot_faults self.new) result }
-        ensures counted { IsCounted Method.Put (depot_calls self.old) (depot_calls self.new) }
-        ensures listed { IsErrOf result OutsideError.Failed ↔ IsLastListed Method.Put (depot_calls self.new) }
+        ensures store_cause { HasCause (depot_store_faults self.old) (depot_store_faults self.new) result }
+        ensures listed { EndsAsListed Method.Put (depot_failing self.old) (depot_failing self.new) result }
     {
-        if self.failing.fails(Method::Put) {
-            return Err(OutsideError::Failed);
-        }
+        self.call(Method::Put, dir)?;
         let _ = part;
         add_part(self.alloc, &mut self.dirs, dir, bytes)
     }
@@ -143,13 +166,13 @@ impl Depot for MemoryDepot {
         requires { ForSome (told_shelf self.old) (CanFinish dir.now) }
         ensures marked { OnOk result (told_shelf self.new ≡ option_map (with_mark dir.now) (told_shelf self.old)) }
         ensures err { OnErr result (LeftUnmarked dir.now (told_shelf self.old) (told_shelf self.new)) }
+        ensures as_before { OnErr result (told_shelf self.new ≡ told_shelf self.old) }
+        ensures calls { told_calls self.new ≡ option_map (and_call Method.Finish dir.now) (told_calls self.old) }
         ensures cause { HasCause (depot_faults self.old) (depot_faults self.new) result }
-        ensures counted { IsCounted Method.Finish (depot_calls self.old) (depot_calls self.new) }
-        ensures listed { IsErrOf result OutsideError.Failed ↔ IsLastListed Method.Finish (depot_calls self.new) }
+        ensures store_cause { HasCause (depot_store_faults self.old) (depot_store_faults self.new) result }
+        ensures listed { EndsAsListed Method.Finish (depot_failing self.old) (depot_failing self.new) result }
     {
-        if self.failing.fails(Method::Finish) {
-            return Err(OutsideError::Failed);
-        }
+        self.call(Method::Finish, dir)?;
         mark(&mut self.dirs, dir);
         Ok(())
     }

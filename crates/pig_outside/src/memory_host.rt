@@ -1,58 +1,71 @@
 // A host in memory.
-ghost use Rattle.std.specs.Prelude.{◌≡◌, ◌≤◌, ◌+◌, Some, None, OnOk, OnErr, length};
+ghost use Rattle.std.specs.Prelude.{◌≡◌, ◌≤◌, ◌+◌, [], Some, None, Err, OnOk, OnErr, length};
 ghost use Rattle.std.specs.Option.{ForSome, option_copied};
 ghost use Rattle.pig_outside.specs.Shelf.{piece_of, HasRange, range_of};
 
 use crate::failing::{Calls, Failing, Method};
+use crate::history::{Asked, History};
 use crate::lookups::find;
 use crate::{Failed, Host, OutsideError};
 use pig_value::{Blob, Input, Inputs};
 
-/// A host in memory. It tells its inputs, and fails at the calls that it was given, and at no other.
-#[derive(Debug, Drop)]
+/// A host in memory. It tells its inputs and the attempts that it was told of, and fails at the calls that it was
+/// given, and at no other. A read that fails leaves the buffer as it was.
+#[derive(Drop)]
 pub struct MemoryHost {
     inputs: Inputs,
     failing: Failing,
+    history: History,
 }
 
 impl MemoryHost {
     ghost use Rattle.pig_outside.specs.Failing.{IsUncalled};
-    ghost use Rattle.pig_outside.specs.Memory.{host_inputs, host_calls};
+    ghost use Rattle.pig_outside.specs.Memory.{host_inputs, host_begun, host_failing};
 
     /// A host with these inputs. It takes no memory.
     pub fn new(inputs: Inputs, failing: Calls) -> MemoryHost
         ensures inputs { host_inputs result ≡ inputs }
-        ensures calls { IsUncalled failing (host_calls result) }
+        ensures begun { host_begun result ≡ [] }
+        ensures failing { IsUncalled failing (host_failing result) }
     {
         MemoryHost {
             inputs,
             failing: Failing::new(failing),
+            history: History::new(),
         }
     }
 }
 
 impl Host for MemoryHost {
-    ghost use Rattle.std.specs.Prelude.{◌↔◌, IsErr, IsErrOf};
-    ghost use Rattle.pig_outside.specs.Faults.{FailedRose, HasCause};
-    ghost use Rattle.pig_outside.specs.Memory.{told_inputs, host_calls, host_faults};
-    ghost use Rattle.pig_outside.specs.Failing.{IsCounted, IsLastListed};
+    ghost use Rattle.std.specs.Prelude.{◌<◌};
+    ghost use Rattle.std.specs.Option.{option_map};
+    ghost use Rattle.pig_outside.specs.Calls.{and_attempt};
+    ghost use Rattle.pig_outside.specs.Faults.{HasCause, count_end};
+    ghost use Rattle.pig_outside.specs.Memory.{told_inputs, told_begun, host_failing, host_faults};
+    ghost use Rattle.pig_outside.specs.Failing.{BeginsAsListed, EndsAsListed};
 
     ghost inputs = { told_inputs };
+
+    ghost begun = { told_begun };
 
     ghost faults = { host_faults };
 
     fn begin(&mut self, wave: u32, task: u32, attempt: u32) -> Result<(), Failed>
         ensures inputs { told_inputs self.new ≡ told_inputs self.old }
+        ensures begun { told_begun self.new ≡ option_map (and_attempt wave task attempt) (told_begun self.old) }
         ensures later { host_faults self.old ≤ host_faults self.new }
-        ensures failed { OnErr result (FailedRose (host_faults self.old) (host_faults self.new)) }
-        ensures counted { IsCounted Method.Begin (host_calls self.old) (host_calls self.new) }
-        ensures listed { IsErr result ↔ IsLastListed Method.Begin (host_calls self.new) }
+        ensures failed { OnErr result (host_faults self.old < host_faults self.new) }
+        ensures listed { BeginsAsListed (host_failing self.old) (host_failing self.new) result }
     {
-        let _ = (wave, task, attempt);
-        if self.failing.fails(Method::Begin) {
-            return Err(Failed);
+        self.history = self.history.and(&Asked::Begin {
+            wave,
+            task,
+            attempt,
+        });
+        match self.failing.call(Method::Begin) {
+            Err(OutsideError::Failed) => Err(Failed),
+            _ => Ok(()),
         }
-        Ok(())
     }
 
     fn read(
@@ -64,14 +77,14 @@ impl Host for MemoryHost {
     ) -> Result<(), OutsideError>
         requires { ForSome (told_inputs self.old) (HasRange path.now piece from (length into.old)) }
         ensures filled { ForSome (told_inputs self.old) (λ i. OnOk result (into.new ≡ range_of path.now piece from (length into.old) i)) }
+        ensures as_before { OnErr result (into.new ≡ into.old) }
         ensures inputs { told_inputs self.new ≡ told_inputs self.old }
+        ensures begun { told_begun self.new ≡ told_begun self.old }
         ensures cause { HasCause (host_faults self.old) (host_faults self.new) result }
-        ensures counted { IsCounted Method.Read (host_calls self.old) (host_calls self.new) }
-        ensures listed { IsErrOf result OutsideError.Failed ↔ IsLastListed Method.Read (host_calls self.new) }
+        ensures listed { EndsAsListed Method.Read (host_failing self.old) (host_failing self.new) result }
+        ensures full { result ≡ Err OutsideError.OutOfMemory → host_faults self.old ≡ count_end }
     {
-        if self.failing.fails(Method::Read) {
-            return Err(OutsideError::Failed);
-        }
+        self.failing.call(Method::Read)?;
         read_range(self.inputs.as_slice(), path, piece, from, into);
         Ok(())
     }

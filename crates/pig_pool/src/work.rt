@@ -28,6 +28,7 @@ pub trait Work {
         requires suits { suits self.now (H.inputs host.old) }
         ensures right { IfOk result (right self.now t) }
         ensures inputs { H.inputs host.new ≡ H.inputs host.old }
+        ensures begun { H.begun host.new ≡ H.begun host.old }
         ensures later { H.faults host.old ≤ H.faults host.new }
         ensures lost { IsErrOf result AttemptFault.Lost → H.faults host.old < H.faults host.new };
 }

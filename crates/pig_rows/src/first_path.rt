@@ -180,19 +180,31 @@ fn refuses_in_order(rt: HostRuntime) -> Result<(), Fail> {
 fn each_failing_call_has_its_answer(rt: HostRuntime) -> Result<(), Fail> {
     let alloc = rt.alloc();
     let script = script(alloc, "k:int", "k > 4")?;
-    for (method, want) in [
-        (Method::Script, "6 the depot failed: none"),
-        (Method::Pieces, "6 the depot failed: none"),
-        (Method::Exists, "6 the depot failed: none"),
-        (Method::Read, "7 the host failed: none"),
-        (Method::Create, "6 the depot failed, store 3: none"),
-        (Method::Put, "6 the depot failed, store 3: open"),
-        (Method::Finish, "6 the depot failed, store 3: open 5\n"),
-        (Method::Begin, "0 read 1 stored 1: whole 5\n"),
-        (Method::Write, "0 read 1 stored 1: whole 5\n"),
+    let done = "0 read 1 stored 1: whole 5\n";
+    // Each method is called once, and `begin` and `write` not at all.
+    for (method, number, want) in [
+        (Method::Script, 1, "6 the depot failed: none"),
+        (Method::Script, 2, done),
+        (Method::Pieces, 1, "6 the depot failed: none"),
+        (Method::Pieces, 2, done),
+        (Method::Exists, 1, "6 the depot failed: none"),
+        (Method::Exists, 2, done),
+        (Method::Read, 1, "7 the host failed: none"),
+        (Method::Read, 2, done),
+        (Method::Create, 1, "6 the depot failed, store 3: none"),
+        (Method::Create, 2, done),
+        (Method::Put, 1, "6 the depot failed, store 3: open"),
+        (Method::Put, 2, done),
+        (Method::Finish, 1, "6 the depot failed, store 3: open 5\n"),
+        (Method::Finish, 2, done),
+        (Method::Begin, 1, done),
+        (Method::Begin, 2, done),
+        (Method::Write, 1, done),
+        (Method::Write, 2, done),
     ] {
-        let got = told(&rt, alloc, &RUN, script.as_str(), "5\n", Some((method, 1)))?;
-        assert_eq!(rt; got.as_str(), want);
+        let call = Some((method, number));
+        let got = told(&rt, alloc, &RUN, script.as_str(), "5\n", call)?;
+        assert_eq!(rt; got.as_str(), want, "at {method:?} {number}");
     }
     Ok(())
 }

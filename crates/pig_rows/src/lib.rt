@@ -8,3 +8,5 @@ mod first_path;
 mod scripts;
 #[cfg(test)]
 mod setting;
+#[cfg(test)]
+mod words;

@@ -1,5 +1,5 @@
 -- What a run keeps of the lines that it reads, and what its steps say of each other.
-use Rattle.std.specs.Prelude.{◌≡◌, ◌≤◌, ◌+◌, ◌%◌, ◌^◌, ℕ, Bool, List, [], ◌∷◌, length, map, filter, Some, Result, IsErrOf}
+use Rattle.std.specs.Prelude.{◌≡◌, ◌≤◌, ◌<◌, ◌+◌, ◌%◌, ◌^◌, ℕ, Bool, List, [], ◌∷◌, length, map, filter, Some, Result, IsErrOf}
 use Rattle.std.specs.List.{flat_map}
 use Rattle.pig_value.specs.declared.inputs.Input.{Input}
 use Rattle.pig_value.specs.Trees.{Tree, tree}
@@ -7,7 +7,6 @@ use Rattle.pig_value.specs.Lines.{lines}
 use Rattle.pig_value.specs.FieldRows.{row_of}
 use Rattle.pig_value.specs.Texts.{rows_text}
 use Rattle.pig_outside.specs.Shelf.{pieces_of, lengths_of}
-use Rattle.pig_outside.specs.Faults.{FailedRose}
 use Rattle.pig_outside.specs.declared.faults.OutsideError.{OutsideError}
 use Rattle.pig_outside.specs.declared.faults.OutsideError.TheVariants as outside
 use Rattle.pig_syntax.specs.declared.trees.Stmt.{Stmt}
@@ -97,4 +96,4 @@ IsRunEnd found = (number : ℕ) × IsRunStep number found
 -- the host's count has not fallen, and has risen where the host is blamed
 pub record HostCause {T : Type 0} (before now : ℕ) (result : Result T RunFault) : Type 0 where
   pub later : before ≤ now
-  pub failed : IsErrOf result fault.HostFault → FailedRose before now
+  pub failed : IsErrOf result fault.HostFault → before < now

@@ -1,9 +1,8 @@
 -- What the steps before a run find, and how each may end.
-use Rattle.std.specs.Prelude.{◌≡◌, ◌≤◌, ◌⊎◌, ℕ, false, List, Option, Some, None, Result, IsErrOf}
+use Rattle.std.specs.Prelude.{◌≡◌, ◌≤◌, ◌<◌, ◌⊎◌, ℕ, false, List, Option, Some, None, Result, IsErrOf}
 use Rattle.pig_outside.specs.declared.faults.OutsideError.{OutsideError}
 use Rattle.pig_outside.specs.declared.faults.OutsideError.TheVariants as outside
 use Rattle.pig_outside.specs.Shelf.{Shelf, script_of, pieces_of, lengths_of, has_dir}
-use Rattle.pig_outside.specs.Faults.{FailedRose}
 use Rattle.pig_run.specs.declared.outcome.RunFault.{RunFault}
 use Rattle.pig_run.specs.declared.outcome.RunFault.TheVariants as fault
 use Rattle.pig_run.specs.declared.first_form.FirstForm.{FirstForm}
@@ -32,7 +31,14 @@ IsPlanFault _ = Unit {0}
 -- the depot's count has not fallen, and has risen where the depot is blamed
 pub record DepotCause {T : Type 0} (before now : ℕ) (result : Result T RunFault) : Type 0 where
   pub later : before ≤ now
-  pub failed : (store : Option ℕ) → IsErrOf result (fault.DepotFault store) → FailedRose before now
+  pub failed : (store : Option ℕ) → IsErrOf result (fault.DepotFault store) → before < now
+
+-- the count of the depot's failures at making a directory has not fallen, has risen where a STORE is blamed, and stands
+-- still where the depot is blamed without one
+pub record StoreCause {T : Type 0} (before now : ℕ) (result : Result T RunFault) : Type 0 where
+  pub later : before ≤ now
+  pub store : (number : ℕ) → IsErrOf result (fault.DepotFault (Some number)) → before < now
+  pub lookup : IsErrOf result (fault.DepotFault None) → now ≡ before
 
 -- the script at the path is found to be this
 pub record IsScriptAt (path : List ℕ) (shelf : Shelf) (finding : Finding) : Type 0 where

@@ -2,7 +2,7 @@ ghost use Rattle.std.specs.Prelude.{◌≡◌, ◌∷◌, [], OnOk, OnErr, IfErr
 ghost use Rattle.std.specs.Option.{ForSome, option_map};
 ghost use Rattle.pig_outside.specs.Shelf.{CanCreate, with_dir, whole_state};
 ghost use Rattle.pig_run.specs.Answers.{LeftOpen};
-ghost use Rattle.pig_run.specs.Steps.{DepotCause, IsCommitFault};
+ghost use Rattle.pig_run.specs.Steps.{DepotCause, StoreCause, IsCommitFault};
 
 use crate::RunFault;
 use crate::plan::depot_fault;
@@ -15,6 +15,7 @@ pub fn commit<D: Depot>(depot: &mut D, dir: &str, bytes: &[u8], store: u32) -> R
     ensures err { OnErr result (LeftOpen dir.now (D.shelf depot.old) (D.shelf depot.new)) }
     ensures fault { IfErr result (IsCommitFault store) }
     ensures cause { DepotCause (D.faults depot.old) (D.faults depot.new) result }
+    ensures stores { StoreCause (D.store_faults depot.old) (D.store_faults depot.new) result }
 {
     if let Err(error) = depot.create(dir) {
         return Err(depot_fault(error, Some(store)));

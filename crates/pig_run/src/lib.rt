@@ -21,8 +21,6 @@ mod running;
 mod stored;
 mod top;
 mod words;
-#[cfg(test)]
-mod words_tests;
 
 pub use first_form::{FieldType, FirstForm, FormField, FormFields, Literal, one_first_form};
 pub use outcome::{Counts, Outcome, RunFault, TooLarge};

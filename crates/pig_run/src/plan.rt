@@ -48,6 +48,7 @@ fn load_form<D: Depot>(alloc: Global, depot: &mut D, path: &str) -> Result<First
     ensures fault { IfErr result IsPlanFault }
     ensures shelf { D.shelf depot.new ≡ D.shelf depot.old }
     ensures cause { DepotCause (D.faults depot.old) (D.faults depot.new) result }
+    ensures stores { D.store_faults depot.new ≡ D.store_faults depot.old }
 {
     let mut script = Vec::new(alloc);
     match depot.script(path, MOST_SCRIPT + 1, &mut script) {
@@ -73,6 +74,7 @@ fn read_plan<D: Depot>(
     ensures words { MatchResult result (λ _. HasWords (record { hosts = hosts; words = words.now })) (SaysWords (record { hosts = hosts; words = words.now })) }
     ensures shelf { D.shelf depot.new ≡ D.shelf depot.old }
     ensures cause { DepotCause (D.faults depot.old) (D.faults depot.new) result }
+    ensures stores { D.store_faults depot.new ≡ D.store_faults depot.old }
 {
     let path = read_path(alloc, words, hosts)?;
     load_form(alloc, depot, path.as_str())
@@ -86,6 +88,7 @@ fn find_input<D: Depot>(alloc: Global, depot: &mut D, form: &FirstForm) -> Resul
     ensures fault { IfErr result IsPlanFault }
     ensures shelf { D.shelf depot.new ≡ D.shelf depot.old }
     ensures cause { DepotCause (D.faults depot.old) (D.faults depot.new) result }
+    ensures stores { D.store_faults depot.new ≡ D.store_faults depot.old }
 {
     match depot.pieces(form.input.as_str()) {
         Ok(Some(lengths)) => Ok(lengths),
@@ -104,6 +107,7 @@ fn check_output<D: Depot>(alloc: Global, depot: &mut D, form: &FirstForm) -> Res
     ensures fault { IfErr result IsPlanFault }
     ensures shelf { D.shelf depot.new ≡ D.shelf depot.old }
     ensures cause { DepotCause (D.faults depot.old) (D.faults depot.new) result }
+    ensures stores { D.store_faults depot.new ≡ D.store_faults depot.old }
 {
     match depot.exists(form.output.as_str()) {
         Ok(false) => Ok(()),
@@ -136,6 +140,7 @@ pub fn prepare<D: Depot>(
     ensures words { MatchResult result (λ _. HasWords (record { hosts = hosts; words = words.now })) (SaysWords (record { hosts = hosts; words = words.now })) }
     ensures shelf { D.shelf depot.new ≡ D.shelf depot.old }
     ensures cause { DepotCause (D.faults depot.old) (D.faults depot.new) result }
+    ensures stores { D.store_faults depot.new ≡ D.store_faults depot.old }
 {
     let form = read_plan(alloc, words, hosts, depot)?;
     let lengths = find_input(alloc, depot, &form)?;

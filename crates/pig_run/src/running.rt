@@ -2,7 +2,7 @@ ghost use Rattle.std.specs.Prelude.{◌≡◌, ℕ, List, Some, OnOk, OnErr, IfO
 ghost use Rattle.std.specs.Option.{ForSome};
 ghost use Rattle.pig_outside.specs.Shelf.{HasRange, range_of, pieces_of, CanCreate};
 ghost use Rattle.pig_run.specs.Answers.{LeftOpen, IsRun};
-ghost use Rattle.pig_run.specs.Steps.{DepotCause};
+ghost use Rattle.pig_run.specs.Steps.{DepotCause, StoreCause};
 ghost use Rattle.pig_run.specs.Running.{IsForm, HasLengths, IsStored, IsHostStep, IsRunStep, HostCause, host_fault_of};
 ghost use Rattle.pig_run.specs.declared.outcome.RunFault.TheVariants as fault;
 
@@ -92,6 +92,7 @@ pub fn perform<D: Depot, H: Host>(
     ensures host_left { IfErr result (λ f. f ≡ fault.HostFault → D.shelf depot.new ≡ D.shelf depot.old) }
     ensures fault { IfErr result (IsRunStep plan.now.form.store) }
     ensures depot { DepotCause (D.faults depot.old) (D.faults depot.new) result }
+    ensures stores { StoreCause (D.store_faults depot.old) (D.store_faults depot.new) result }
     ensures host { HostCause (H.faults host.old) (H.faults host.new) result }
 {
     let filter = filter_of(alloc, &plan.form)?;

@@ -1,9 +1,8 @@
-ghost use Rattle.std.specs.Prelude.{◌≡◌, ◌≤◌, ◌⊎◌, ◌↔◌, ℕ, List, [], Option, Some, None, length, All, IfSome, IfErr, MatchResult};
+ghost use Rattle.std.specs.Prelude.{◌≡◌, ◌≤◌, ◌<◌, ◌⊎◌, ◌↔◌, ℕ, List, [], Option, Some, None, length, All, IfSome, IfErr, MatchResult};
 ghost use Rattle.std.specs.Option.{ForSome};
-ghost use Rattle.pig_outside.specs.Faults.{FailedRose};
 ghost use Rattle.pig_outside.specs.Shelf.{Shelf};
 ghost use Rattle.pig_run.specs.Answers.{CommandLine, line_of, HasWords, IsDue, Verdict, Runs, IsAnswer, Leaves, IsRun, TellsOf, Tells, first_of, status_of, no_counts};
-ghost use Rattle.pig_run.specs.Steps.{DepotCause, IsPlanFault, SaysWords};
+ghost use Rattle.pig_run.specs.Steps.{DepotCause, StoreCause, IsPlanFault, SaysWords};
 ghost use Rattle.pig_run.specs.Running.{IsRunEnd, HostCause};
 ghost use Rattle.pig_run.specs.Told.{IsTold};
 ghost use Rattle.pig_run.specs.declared.first_form.FirstForm.{FirstForm};
@@ -32,6 +31,7 @@ fn run<D: Depot, H: Host>(
     ensures fault { IfErr result (λ f. (f ≡ fault.Usage) ⊎ IsPlanFault f ⊎ IsRunEnd f) }
     ensures words { MatchResult result (λ _. HasWords (record { hosts = hosts; words = words.now })) (SaysWords (record { hosts = hosts; words = words.now })) }
     ensures depot { DepotCause (D.faults depot.old) (D.faults depot.new) result }
+    ensures stores { StoreCause (D.store_faults depot.old) (D.store_faults depot.new) result }
     ensures host { HostCause (H.faults host.old) (H.faults host.new) result }
 {
     let plan = prepare(alloc, words, hosts, depot)?;
@@ -60,12 +60,14 @@ pub fn pig_main<R: Threads + Sync, D: Depot, H: Host + Send, C: Console>(
     ensures state { ForSome (D.shelf depot.old) (λ s. (v : Verdict) → IsDue (line_of hosts.old.items words.now) s v → IfSome result.fault (λ f. Leaves f v (D.shelf depot.old) (D.shelf depot.new))) }
     ensures usage { result.fault ≡ Some fault.Usage → ¬ HasWords (line_of hosts.old.items words.now) }
     ensures off_words { ¬ HasWords (line_of hosts.old.items words.now) → (result.fault ≡ Some fault.Usage) ⊎ (result.fault ≡ Some fault.OutOfMemory) }
-    ensures depot_fault { (store : Option ℕ) → result.fault ≡ Some (fault.DepotFault store) → FailedRose (D.faults depot.old) (D.faults depot.new) }
+    ensures depot_fault { (store : Option ℕ) → result.fault ≡ Some (fault.DepotFault store) → D.faults depot.old < D.faults depot.new }
+    ensures store_fault { (store : ℕ) → result.fault ≡ Some (fault.DepotFault (Some store)) → D.store_faults depot.old < D.store_faults depot.new }
+    ensures lookup_fault { result.fault ≡ Some (fault.DepotFault None) → D.store_faults depot.new ≡ D.store_faults depot.old }
     ensures store { ForSome (D.shelf depot.old) (λ s. (form : FirstForm) (pieces : List (List ℕ)) → IsDue (line_of hosts.old.items words.now) s (Runs form pieces)
         → (store : ℕ) → result.fault ≡ Some (fault.DepotFault (Some store)) → store ≡ form.store) }
-    ensures host_fault { result.fault ≡ Some fault.HostFault → FailedRose (first_of H.faults hosts.old.items) (first_of H.faults hosts.new.items) }
+    ensures host_fault { result.fault ≡ Some fault.HostFault → first_of H.faults hosts.old.items < first_of H.faults hosts.new.items }
     ensures complete { ForSome (D.shelf depot.old) (λ s. (form : FirstForm) (pieces : List (List ℕ)) → IsDue (line_of hosts.old.items words.now) s (Runs form pieces)
-        → ¬ FailedRose (D.faults depot.old) (D.faults depot.new) → ¬ FailedRose (first_of H.faults hosts.old.items) (first_of H.faults hosts.new.items)
+        → ¬ (D.faults depot.old < D.faults depot.new) → ¬ (first_of H.faults hosts.old.items < first_of H.faults hosts.new.items)
         → (result.fault ≡ None) ⊎ (result.fault ≡ Some fault.OutOfMemory)) }
     ensures status { result.status ≡ status_of result.fault }
     ensures kept { result.kept ≡ [] }

@@ -1,9 +1,11 @@
 -- The test of being of a kind decides it, and that on kinds decides whether they are the same.
-use Rattle.std.specs.Prelude.{◌≡◌, Bool, true, false, ◌&&◌, List, [], ◌∷◌, refl}
-use Rattle.std.proofs.Common.{ap}
+use Rattle.std.specs.Prelude.{◌≡◌, ◌++◌, ℕ, zero, suc, length, take, replicate, slice_get, Some, Bool, true, false, ◌&&◌, List, [], ◌∷◌, refl}
+use Rattle.std.proofs.Common.{ap, subst}
 use Rattle.pig_value.specs.Trees.{Tree, Fields, Tuples, Entries, v_null, v_bool, v_int, v_long, v_chars, v_bytes, v_tuple, v_bag, v_listed, v_map, no_fields, more_fields, no_tuples, more_tuples, no_entries, more_entries, KindTree, KindTrees, k_boolean, k_int, k_long, k_chars, k_bytes, k_tuple, k_bag, k_map, no_kinds, more_kinds}
-use Rattle.std.specs.List.{AllByRecursion}
+use Rattle.std.specs.List.{filter, AllByRecursion}
 use Rattle.pig_value.proofs.list_laws.Bags.{each-sort}
+use Rattle.pig_value.specs.Casts.{CanCast, CastsTo, may_cast}
+use Rattle.pig_value.proofs.list_laws.Listing.{each-append, each-filter, each-take, some_same}
 use Rattle.pig_value.specs.Orders.{row_cmp, bag_of}
 use Rattle.pig_value.specs.Kinds.{IsRowOf, AreRowsOf, IsOf, FieldsOf, TuplesOf, EntriesOf, is_of_kind, fields_of_kinds, tuples_of_kinds, entries_of_kind, kind_eq, kinds_eq}
 
@@ -119,3 +121,110 @@ rows_of_from_each kinds (row ∷ rows) h = (h.0, rows_of_from_each kinds rows h.
 
 pub rows_of_sorted : (kinds : List KindTree) (rows : List (List Tree)) → AreRowsOf rows kinds → AreRowsOf (bag_of rows) kinds
 rows_of_sorted kinds rows h = rows_of_from_each kinds (bag_of rows) (each-sort row_cmp (λ row. IsRowOf row kinds) rows (rows_of_each kinds rows h))
+
+pub rows_of-append : (kinds : List KindTree) (xs ys : List (List Tree)) → AreRowsOf xs kinds → AreRowsOf ys kinds → AreRowsOf (xs ++ ys) kinds
+rows_of-append kinds xs ys h k =
+    rows_of_from_each kinds (xs ++ ys) (each-append (λ row. IsRowOf row kinds) xs ys (rows_of_each kinds xs h) (rows_of_each kinds ys k))
+
+pub rows_of-take : (kinds : List KindTree) (n : ℕ) (rows : List (List Tree)) → AreRowsOf rows kinds → AreRowsOf (take n rows) kinds
+rows_of-take kinds n rows h = rows_of_from_each kinds (take n rows) (each-take (λ row. IsRowOf row kinds) n rows (rows_of_each kinds rows h))
+
+pub rows_of-filter : (kinds : List KindTree) (p : List Tree → Bool) (rows : List (List Tree)) → AreRowsOf rows kinds → AreRowsOf (filter p rows) kinds
+rows_of-filter kinds p rows h = rows_of_from_each kinds (filter p rows) (each-filter p (λ row. IsRowOf row kinds) rows (rows_of_each kinds rows h))
+
+-- joined rows have the kinds of both, so many nulls are of as many kinds, and a field is of the kind at its place
+pub row_of-append : (xs ys : List Tree) (ks ls : List KindTree) → IsRowOf xs ks → IsRowOf ys ls → IsRowOf (xs ++ ys) (ks ++ ls)
+row_of-append [] ys [] ls h k = k
+row_of-append [] ys (l ∷ ks) ls h k = absurd h
+row_of-append (x ∷ xs) ys [] ls h k = absurd h
+row_of-append (x ∷ xs) ys (l ∷ ks) ls h k = (h.0, row_of-append xs ys ks ls h.1 k)
+
+pub row_of_nulls : (kinds : List KindTree) → IsRowOf (replicate (length kinds) v_null) kinds
+row_of_nulls [] = tt
+row_of_nulls (k ∷ kinds) = (tt, row_of_nulls kinds)
+
+pub row_of_field : (row : List Tree) (kinds : List KindTree) (i : ℕ) (v : Tree) (k : KindTree)
+    → slice_get row i ≡ Some v → slice_get kinds i ≡ Some k → IsRowOf row kinds → IsOf v k
+row_of_field [] kinds i v k at kind h = absurd (cc)
+row_of_field (x ∷ row) [] i v k at kind h = absurd (cc)
+row_of_field (x ∷ row) (l ∷ kinds) zero v k at kind h = subst (λ m. IsOf v m) (some_same l k kind) (subst (λ w. IsOf w l) (some_same x v at) h.0)
+row_of_field (x ∷ row) (l ∷ kinds) (suc i) v k at kind h = row_of_field row kinds i v k at kind h.1
+
+pub length_row_of : (row : List Tree) (kinds : List KindTree) → IsRowOf row kinds → length row ≡ length kinds
+length_row_of [] [] h = refl
+length_row_of [] (k ∷ kinds) h = absurd h
+length_row_of (x ∷ row) [] h = absurd h
+length_row_of (x ∷ row) (k ∷ kinds) h = ap suc (length_row_of row kinds h.1)
+
+-- the test of casts decides which kinds cast to which, and then each value of the kind may be cast
+casts_same : (k : KindTree) → CastsTo k k
+casts_same k_boolean = refl
+casts_same k_int = refl
+casts_same k_long = refl
+casts_same k_chars = refl
+casts_same k_bytes = tt
+casts_same (k_tuple ks) = refl
+casts_same (k_bag ks) = refl
+casts_same (k_map k) = refl
+
+casts_itself : (from to : KindTree) → kind_eq from to ≡ true → CastsTo from to
+casts_itself from to h = subst (CastsTo from) (kind_same from to h) (casts_same from)
+
+pub passes_casts : (from to : KindTree) → may_cast from to ≡ true → CastsTo from to
+passes_casts k_bytes to h = tt
+passes_casts k_chars k_boolean h = tt
+passes_casts k_chars k_int h = tt
+passes_casts k_chars k_long h = tt
+passes_casts k_int k_long h = tt
+passes_casts k_long k_int h = tt
+passes_casts k_boolean k_chars h = tt
+passes_casts k_int k_chars h = tt
+passes_casts k_long k_chars h = tt
+passes_casts from to h = casts_itself from to h
+
+pub casts_pass : (from to : KindTree) → CastsTo from to → may_cast from to ≡ true
+casts_pass k_bytes to h = refl
+casts_pass k_chars k_boolean h = refl
+casts_pass k_chars k_int h = refl
+casts_pass k_chars k_long h = refl
+casts_pass k_int k_long h = refl
+casts_pass k_long k_int h = refl
+casts_pass k_boolean k_chars h = refl
+casts_pass k_int k_chars h = refl
+casts_pass k_long k_chars h = refl
+casts_pass from to h = subst (λ k. kind_eq from k ≡ true) h (kind_itself from)
+
+can_itself : (k : KindTree) (v : Tree) → IsOf v k → CanCast k v
+can_itself k v_null h = tt
+can_itself k (v_bytes bytes) h = tt
+can_itself k_boolean (v_chars text) h = tt
+can_itself k_int (v_chars text) h = tt
+can_itself k_long (v_chars text) h = tt
+can_itself k_long (v_int z) h = tt
+can_itself k_int (v_long z) h = tt
+can_itself k_chars (v_bool b) h = tt
+can_itself k_chars (v_int z) h = tt
+can_itself k_chars (v_long z) h = tt
+can_itself k v h = h
+
+pub value_casts : (from to : KindTree) (v : Tree) → CastsTo from to → IsOf v from → CanCast to v
+value_casts from to v_null h k = tt
+value_casts from to (v_bytes bytes) h k = tt
+value_casts k_bytes to v h k = absurd k
+value_casts k_boolean k_chars (v_bool b) h k = tt
+value_casts k_boolean k_chars v h k = absurd k
+value_casts k_chars k_boolean (v_chars text) h k = tt
+value_casts k_chars k_boolean v h k = absurd k
+value_casts k_chars k_int (v_chars text) h k = tt
+value_casts k_chars k_int v h k = absurd k
+value_casts k_chars k_long (v_chars text) h k = tt
+value_casts k_chars k_long v h k = absurd k
+value_casts k_int k_long (v_int z) h k = tt
+value_casts k_int k_long v h k = absurd k
+value_casts k_int k_chars (v_int z) h k = tt
+value_casts k_int k_chars v h k = absurd k
+value_casts k_long k_int (v_long z) h k = tt
+value_casts k_long k_int v h k = absurd k
+value_casts k_long k_chars (v_long z) h k = tt
+value_casts k_long k_chars v h k = absurd k
+value_casts from to v h k = subst (λ l. CanCast l v) h (can_itself from v k)

@@ -6,6 +6,8 @@ use Rattle.std.specs.Cmp.{IsTotalOrder}
 use Rattle.std.proofs.lemmas.Cmp.{on_total, lists_total, int_cmp_total, int_ranked, ranked}
 use Rattle.std.specs.declared.cmp.Ordering.{Ordering}
 use Rattle.std.specs.declared.cmp.Ordering.TheVariants.{Less, Equal, Greater}
+use Rattle.pig_value.specs.declared.operators.Dir.{Dir}
+use Rattle.pig_value.specs.declared.operators.Dir.TheVariants as dir
 use Rattle.pig_value.specs.Trees.{
   Tree,
   Fields,
@@ -31,7 +33,7 @@ use Rattle.pig_value.specs.Trees.{
   tuples_of,
   entries_of,
 }
-use Rattle.pig_value.specs.Orders.{tree_cmp, fields_cmp, tuples_cmp, entries_cmp, text_cmp, row_cmp, rows_cmp, pair_cmp, pairs_cmp}
+use Rattle.pig_value.specs.Orders.{dir_cmp, dirs_cmp, tree_cmp, fields_cmp, tuples_cmp, entries_cmp, text_cmp, row_cmp, rows_cmp, pair_cmp, pairs_cmp}
 
 -- the orders on lists are the same, list by list
 pub fields_are : (xs ys : List Tree) → fields_cmp (fields_of xs) (fields_of ys) ≡ row_cmp xs ys
@@ -221,9 +223,6 @@ tree_total = subst IsTotalOrder (λ i a b. tree_flat a b i) (on_total flat flat_
 pub row_total : IsTotalOrder row_cmp
 row_total = lists_total tree_total
 
-pub rows_total : IsTotalOrder rows_cmp
-rows_total = lists_total row_total
-
 abbrev first : Flat → Flat
 first (leaf z) = leaf z
 first (pair a b) = a
@@ -300,3 +299,60 @@ row_same (v ∷ vs) [] h = absurd (cc)
 row_same (v ∷ vs) (w ∷ ws) h =
     let both = then_equal (tree_cmp v w) (row_cmp vs ws) h in
     ap (λ x. x ∷ vs) (tree_same v w both.0) ∙ ap (λ x. w ∷ x) (row_same vs ws both.1)
+
+-- the order in directions is total, and what it ranks as equal is the same
+dir_back : (d : Dir) (a b : Tree) → dir_cmp d a b ≡ ordering_reverse (dir_cmp d b a)
+dir_back dir.Asc a b = tree_total.antisymm a b
+dir_back dir.Desc a b = tree_total.antisymm b a
+
+dir_on : (d : Dir) (a b c : Tree) → dir_cmp d a b ≡ Less → dir_cmp d b c ≡ Less → dir_cmp d a c ≡ Less
+dir_on dir.Asc a b c h k = tree_total.trans a b c h k
+dir_on dir.Desc a b c h k = tree_total.trans c b a k h
+
+pub dir_same : (d : Dir) (a b : Tree) → dir_cmp d a b ≡ Equal → a ≡ b
+dir_same dir.Asc a b h = tree_same a b h
+dir_same dir.Desc a b h = sym (tree_same b a h)
+
+pub dir_total : (d : Dir) → IsTotalOrder (dir_cmp d)
+dir_total d = record { antisymm = dir_back d; trans = dir_on d; congr = λ a b c h. ap (λ x. dir_cmp d x c) (dir_same d a b h) }
+
+pub dirs_same : (ds : List Dir) (a b : List Tree) → dirs_cmp ds a b ≡ Equal → a ≡ b
+dirs_same [] a b h = row_same a b h
+dirs_same (d ∷ ds) [] b h = row_same [] b h
+dirs_same (d ∷ ds) (v ∷ vs) [] h = row_same (v ∷ vs) [] h
+dirs_same (d ∷ ds) (v ∷ vs) (w ∷ ws) h =
+    let both = then_equal (dir_cmp d v w) (dirs_cmp ds vs ws) h in
+    λ i. dir_same d v w both.0 i ∷ dirs_same ds vs ws both.1 i
+
+dirs_back : (ds : List Dir) (a b : List Tree) → dirs_cmp ds a b ≡ ordering_reverse (dirs_cmp ds b a)
+dirs_back [] a b = row_total.antisymm a b
+dirs_back (d ∷ ds) [] [] = row_total.antisymm [] []
+dirs_back (d ∷ ds) [] (w ∷ ws) = row_total.antisymm [] (w ∷ ws)
+dirs_back (d ∷ ds) (v ∷ vs) [] = row_total.antisymm (v ∷ vs) []
+dirs_back (d ∷ ds) (v ∷ vs) (w ∷ ws) =
+    ap (λ r. ordering_then r (dirs_cmp ds vs ws)) (dir_back d v w) ∙ ap (ordering_then (ordering_reverse (dir_cmp d w v))) (dirs_back ds vs ws)
+    ∙ sym (reverse_then (dir_cmp d w v) (dirs_cmp ds ws vs))
+
+dirs_on : (ds : List Dir) (a b c : List Tree) → dirs_cmp ds a b ≡ Less → dirs_cmp ds b c ≡ Less → dirs_cmp ds a c ≡ Less
+dirs_on [] a b c h k = row_total.trans a b c h k
+dirs_on (d ∷ ds) [] [] c h k = absurd (cc)
+dirs_on (d ∷ ds) [] (w ∷ ws) [] h k = absurd (cc)
+dirs_on (d ∷ ds) [] (w ∷ ws) (u ∷ us) h k = refl
+dirs_on (d ∷ ds) (v ∷ vs) [] c h k = absurd (cc)
+dirs_on (d ∷ ds) (v ∷ vs) (w ∷ ws) [] h k = absurd (cc)
+dirs_on (d ∷ ds) (v ∷ vs) (w ∷ ws) (u ∷ us) h k =
+    elim (then_less (dir_cmp d v w) (dirs_cmp ds vs ws) h) [
+      | inl first ↦ elim (then_less (dir_cmp d w u) (dirs_cmp ds ws us) k) [
+        | inl next ↦ ap (λ r. ordering_then r (dirs_cmp ds vs us)) (dir_on d v w u first next)
+        | inr next ↦ ap (λ r. ordering_then r (dirs_cmp ds vs us)) (subst (λ x. dir_cmp d v x ≡ Less) (dir_same d w u next.0) first)
+      ]
+      | inr first ↦ elim (then_less (dir_cmp d w u) (dirs_cmp ds ws us) k) [
+        | inl next ↦ ap (λ r. ordering_then r (dirs_cmp ds vs us)) (subst (λ x. dir_cmp d x u ≡ Less) (sym (dir_same d v w first.0)) next)
+        | inr next ↦
+            ap (λ r. ordering_then r (dirs_cmp ds vs us)) (subst (λ x. dir_cmp d v x ≡ Equal) (dir_same d w u next.0) first.0)
+            ∙ dirs_on ds vs ws us first.1 next.1
+      ]
+    ]
+
+pub dirs_total : (ds : List Dir) → IsTotalOrder (dirs_cmp ds)
+dirs_total ds = record { antisymm = dirs_back ds; trans = dirs_on ds; congr = λ a b c h. ap (λ x. dirs_cmp ds x c) (dirs_same ds a b h) }

@@ -1,9 +1,9 @@
 -- Casts: which are allowed, and what they give.
-use Rattle.std.specs.Prelude.{⊤}
+use Rattle.std.specs.Prelude.{◌≡◌, Bool, true, ⊤}
 use Rattle.std.specs.Fmt.{signed_decimal}
 use Rattle.std.specs.Int.{w32, int_wrap}
 use Rattle.pig_value.specs.FieldReader.{field_value}
-use Rattle.pig_value.specs.Kinds.{IsOf}
+use Rattle.pig_value.specs.Kinds.{IsOf, kind_eq}
 use Rattle.pig_value.specs.Texts.{bool_text}
 use Rattle.pig_value.specs.Trees.{Tree, v_null, v_bool, v_int, v_long, v_chars, v_bytes, KindTree, k_boolean, k_int, k_long, k_chars, k_bytes}
 
@@ -36,3 +36,29 @@ cast_of k_chars (v_bool b) = v_chars (bool_text b)
 cast_of k_chars (v_int z) = v_chars (signed_decimal z)
 cast_of k_chars (v_long z) = v_chars (signed_decimal z)
 cast_of k v = v
+
+-- The same of kinds: each value of the first kind may be cast to the second.
+abbrev pub CastsTo : KindTree → KindTree → Type 0
+CastsTo k_bytes to = ⊤
+CastsTo k_chars k_boolean = ⊤
+CastsTo k_chars k_int = ⊤
+CastsTo k_chars k_long = ⊤
+CastsTo k_int k_long = ⊤
+CastsTo k_long k_int = ⊤
+CastsTo k_boolean k_chars = ⊤
+CastsTo k_int k_chars = ⊤
+CastsTo k_long k_chars = ⊤
+CastsTo from to = from ≡ to
+
+-- and as a test
+abbrev pub may_cast : KindTree → KindTree → Bool
+may_cast k_bytes to = true
+may_cast k_chars k_boolean = true
+may_cast k_chars k_int = true
+may_cast k_chars k_long = true
+may_cast k_int k_long = true
+may_cast k_long k_int = true
+may_cast k_boolean k_chars = true
+may_cast k_int k_chars = true
+may_cast k_long k_chars = true
+may_cast from to = kind_eq from to

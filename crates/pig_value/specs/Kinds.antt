@@ -1,5 +1,5 @@
--- Which values are of a kind, and when two kinds are the same.
-use Rattle.std.specs.Prelude.{Bool, true, false, ◌&&◌, List, ⊤}
+-- Which values are of a kind, when two kinds are the same, and what a kind holds.
+use Rattle.std.specs.Prelude.{ℕ, ◌+◌, max, Bool, true, false, ◌&&◌, ◌||◌, List, ⊤}
 use Rattle.pig_value.specs.Trees.{Tree, Fields, Tuples, Entries, v_null, v_bool, v_int, v_long, v_chars, v_bytes, v_tuple, v_bag, v_listed, v_map, no_fields, more_fields, no_tuples, more_tuples, no_entries, more_entries, KindTree, KindTrees, k_boolean, k_int, k_long, k_chars, k_bytes, k_tuple, k_bag, k_map, no_kinds, more_kinds, fields_of, tuples_of, kinds_of}
 
 -- Null is of each kind. A tuple has as many fields as its kind, each of its own; a bag, also a listed one, has
@@ -83,3 +83,39 @@ abbrev mutual
   kinds_eq no_kinds no_kinds = true
   kinds_eq (more_kinds k ks) (more_kinds l ls) = kind_eq k l && kinds_eq ks ls
   kinds_eq _ _ = false
+
+-- how many kinds there are within a kind, itself counted: each scalar, tuple, bag and map is one
+abbrev mutual
+  pub width_of : KindTree → ℕ
+  width_of (k_tuple ks) = 1 + widths_of ks
+  width_of (k_bag ks) = 1 + widths_of ks
+  width_of (k_map k) = 1 + width_of k
+  width_of _ = 1
+
+  pub widths_of : KindTrees → ℕ
+  widths_of no_kinds = 0
+  widths_of (more_kinds k ks) = width_of k + widths_of ks
+
+-- how deep a kind nests: a scalar is 1 deep, and a tuple, a bag and a map are one deeper than what they hold
+abbrev mutual
+  pub depth_of : KindTree → ℕ
+  depth_of (k_tuple ks) = 1 + depths_of ks
+  depth_of (k_bag ks) = 1 + depths_of ks
+  depth_of (k_map k) = 1 + depth_of k
+  depth_of _ = 1
+
+  pub depths_of : KindTrees → ℕ
+  depths_of no_kinds = 0
+  depths_of (more_kinds k ks) = max (depth_of k) (depths_of ks)
+
+-- a kind is a bag or a map, or holds one
+abbrev mutual
+  pub has_bag_or_map : KindTree → Bool
+  has_bag_or_map (k_tuple ks) = have_bag_or_map ks
+  has_bag_or_map (k_bag ks) = true
+  has_bag_or_map (k_map k) = true
+  has_bag_or_map _ = false
+
+  pub have_bag_or_map : KindTrees → Bool
+  have_bag_or_map no_kinds = false
+  have_bag_or_map (more_kinds k ks) = has_bag_or_map k || have_bag_or_map ks

@@ -5,6 +5,7 @@ pub mod Sorts
 pub mod Gathering
 pub mod Orders
 pub mod Kinds
+pub mod Leaves
 pub mod Valid
 pub mod Lines
 pub mod Extended
@@ -15,3 +16,7 @@ pub mod FieldRows
 pub mod Texts
 pub mod Casts
 pub mod Stored
+pub mod TreeViews
+pub mod TreeCode
+pub mod Functions
+pub mod FunctionKinds

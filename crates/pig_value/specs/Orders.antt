@@ -1,5 +1,5 @@
 -- The total order of values, and the normal form of a bag.
-use Rattle.std.specs.Prelude.{ℕ, Bool, not, List}
+use Rattle.std.specs.Prelude.{ℕ, Bool, not, List, ◌∷◌}
 use Rattle.std.specs.Ordering.{ordering_then, nat_cmp, int_cmp, bool_cmp, is_lt, is_le, is_eq, is_gt, is_ge}
 use Rattle.std.specs.Cmp.Lexicographic.{slice_cmp}
 use Rattle.std.specs.declared.cmp.Ordering.{Ordering}
@@ -27,6 +27,8 @@ use Rattle.pig_value.specs.Trees.{
   more_entries,
 }
 use Rattle.pig_value.specs.Sorts.{sort}
+use Rattle.pig_value.specs.declared.operators.Dir.{Dir}
+use Rattle.pig_value.specs.declared.operators.Dir.TheVariants as dir
 use Rattle.pig_value.specs.declared.operators.Rel.{Rel}
 use Rattle.pig_value.specs.declared.operators.Rel.TheVariants as rel
 
@@ -92,6 +94,16 @@ pair_cmp p q = ordering_then (text_cmp p.0 q.0) (tree_cmp p.1 q.1)
 
 abbrev pub pairs_cmp : List (List ℕ × Tree) → List (List ℕ × Tree) → Ordering
 pairs_cmp = slice_cmp pair_cmp
+
+-- the order of values in a direction
+abbrev pub dir_cmp : Dir → Tree → Tree → Ordering
+dir_cmp dir.Asc a b = tree_cmp a b
+dir_cmp dir.Desc a b = tree_cmp b a
+
+-- The order of rows in directions: field by field, each in its own, and what is behind the last direction ascending.
+abbrev pub dirs_cmp : List Dir → List Tree → List Tree → Ordering
+dirs_cmp (d ∷ ds) (v ∷ vs) (w ∷ ws) = ordering_then (dir_cmp d v w) (dirs_cmp ds vs ws)
+dirs_cmp _ vs ws = row_cmp vs ws
 
 -- whether a comparison holds where the operands stand so
 abbrev pub rel_holds : Rel → Ordering → Bool

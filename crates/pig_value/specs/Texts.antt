@@ -2,6 +2,7 @@
 use Rattle.std.specs.Prelude.{◌≢◌, ⊤, ℕ, Bool, List, [], ◌∷◌, ◌++◌, map, All, codes, if◌then◌else◌}
 use Rattle.std.specs.Fmt.{signed_decimal}
 use Rattle.std.specs.List.{join_with_byte, flat_map}
+use Rattle.pig_value.specs.Leaves.{Leaf, LeavesAre, FieldLeavesAre, TupleLeavesAre, EntryLeavesAre}
 use Rattle.pig_value.specs.Trees.{Tree, Fields, Tuples, Entries, v_null, v_bool, v_int, v_long, v_chars, v_bytes, v_tuple, v_bag, v_listed, v_map, no_fields, more_fields, no_tuples, more_tuples, no_entries, more_entries}
 
 -- the texts between two brackets, with a comma between each two
@@ -55,27 +56,20 @@ abbrev pub HasNoLf : List ℕ → Type 0
 HasNoLf bytes = All (λ b. b ≢ 10) bytes
 
 -- no text, bytearray or key in the value holds an LF
-abbrev mutual
-  pub IsLineFree : Tree → Type 0
-  IsLineFree (v_chars text) = HasNoLf text
-  IsLineFree (v_bytes bytes) = HasNoLf bytes
-  IsLineFree (v_tuple vs) = FieldsAreLineFree vs
-  IsLineFree (v_bag rs) = TuplesAreLineFree rs
-  IsLineFree (v_listed rs) = TuplesAreLineFree rs
-  IsLineFree (v_map ps) = EntriesAreLineFree ps
-  IsLineFree _ = ⊤
+abbrev pub line_free : Leaf
+line_free = record { chars = HasNoLf; bytes = HasNoLf; key = HasNoLf; listed = ⊤ }
 
-  pub FieldsAreLineFree : Fields → Type 0
-  FieldsAreLineFree no_fields = ⊤
-  FieldsAreLineFree (more_fields v vs) = IsLineFree v × FieldsAreLineFree vs
+abbrev pub IsLineFree : Tree → Type 0
+IsLineFree = LeavesAre line_free
 
-  pub TuplesAreLineFree : Tuples → Type 0
-  TuplesAreLineFree no_tuples = ⊤
-  TuplesAreLineFree (more_tuples r rs) = FieldsAreLineFree r × TuplesAreLineFree rs
+abbrev pub FieldsAreLineFree : Fields → Type 0
+FieldsAreLineFree = FieldLeavesAre line_free
 
-  pub EntriesAreLineFree : Entries → Type 0
-  EntriesAreLineFree no_entries = ⊤
-  EntriesAreLineFree (more_entries key v ps) = HasNoLf key × IsLineFree v × EntriesAreLineFree ps
+abbrev pub TuplesAreLineFree : Tuples → Type 0
+TuplesAreLineFree = TupleLeavesAre line_free
+
+abbrev pub EntriesAreLineFree : Entries → Type 0
+EntriesAreLineFree = EntryLeavesAre line_free
 
 -- each field of the row is line-free, and each row of the rows
 abbrev pub IsLineFreeRow : List Tree → Type 0

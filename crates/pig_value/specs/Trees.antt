@@ -1,5 +1,7 @@
 -- Values and kinds as trees, which is what clauses say of them.
-use Rattle.std.specs.Prelude.{ℕ, ℤ, Bool, List, [], ◌∷◌, map}
+use Rattle.std.specs.Prelude.{ℕ, ℤ, Bool, List, [], ◌∷◌, map, Option, slice_get}
+use Rattle.std.specs.Borrow.{Bor}
+use Rattle.std.specs.Option.{option_copied, option_map, unwrap_or}
 use Rattle.pig_value.specs.declared.values.Value.{Value}
 use Rattle.pig_value.specs.declared.values.Value.TheOpen.{Value-F, Pair-F}
 use Rattle.pig_value.specs.declared.values.Value.TheFolds.{fold-Value, fold-Pair}
@@ -92,6 +94,17 @@ row_tree = map tree
 
 abbrev pub rows_tree : List (List Value) → List (List Tree)
 rows_tree = map (map tree)
+
+-- the field of a row at a place: null where there is none
+abbrev pub or_null : Option Tree → Tree
+or_null value = unwrap_or value v_null
+
+abbrev pub at : ℕ → List Tree → Tree
+at place row = or_null (slice_get row place)
+
+-- the tree of a field that was looked for: null where there is none
+abbrev pub field_tree : Option (Bor Value) → Tree
+field_tree found = or_null (option_map tree (option_copied found))
 
 -- a kind
 mutual

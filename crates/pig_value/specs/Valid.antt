@@ -1,9 +1,11 @@
--- What makes a tree a value: a bag is its own normal form, the keys of a map ascend and differ, and an int and a long fit their
--- widths.
+-- What makes a tree a value: a bag is its own normal form, the keys of a map ascend and differ, an int and a long fit their
+-- widths, chararrays and keys are UTF-8, and bytearrays are of bytes.
 use Rattle.std.specs.Prelude.{◌≡◌, ℕ, List, [], ◌∷◌, map, ⊤, FitsSigned}
 use Rattle.std.specs.Int.{w32, w64}
 use Rattle.std.specs.declared.cmp.Ordering.TheVariants.{Less}
-use Rattle.pig_value.specs.Trees.{Tree, Fields, Tuples, Entries, v_int, v_long, v_tuple, v_bag, v_listed, v_map, no_fields, more_fields, no_tuples, more_tuples, no_entries, more_entries, fields_of, tuples_of, tuples_list, entries_list}
+use Rattle.pig_value.specs.Trees.{Tree, Fields, Tuples, Entries, v_int, v_long, v_chars, v_bytes, v_tuple, v_bag, v_listed, v_map, no_fields, more_fields, no_tuples, more_tuples, no_entries, more_entries, fields_of, tuples_of, tuples_list, entries_list}
+use Rattle.std.specs.Str.{IsUtf8}
+use Rattle.pig_value.specs.Leaves.{AreBytes}
 use Rattle.pig_value.specs.Orders.{text_cmp, bag_of}
 
 -- each text stands before the next
@@ -16,6 +18,8 @@ abbrev mutual
   pub IsValue : Tree → Type 0
   IsValue (v_int z) = FitsSigned w32 z
   IsValue (v_long z) = FitsSigned w64 z
+  IsValue (v_chars text) = IsUtf8 text
+  IsValue (v_bytes bytes) = AreBytes bytes
   IsValue (v_tuple vs) = AreFields vs
   IsValue (v_bag rs) = (bag_of (tuples_list rs) ≡ tuples_list rs) × AreTuples rs
   IsValue (v_listed rs) = AreTuples rs
@@ -32,7 +36,7 @@ abbrev mutual
 
   pub AreEntries : Entries → Type 0
   AreEntries no_entries = ⊤
-  AreEntries (more_entries _ v ps) = IsValue v × AreEntries ps
+  AreEntries (more_entries key v ps) = IsUtf8 key × IsValue v × AreEntries ps
 
 -- a row of values, and rows of values
 abbrev pub IsRow : List Tree → Type 0

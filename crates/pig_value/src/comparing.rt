@@ -18,7 +18,7 @@ pub fn order(a: &Value, b: &Value) -> Ordering
         (Value::Bool(x), Value::Bool(y)) => x.cmp(y),
         (Value::Int(x), Value::Int(y)) => x.cmp(y),
         (Value::Long(x), Value::Long(y)) => x.cmp(y),
-        (Value::Chars(x), Value::Chars(y)) => x.as_bytes().cmp(y.as_bytes()),
+        (Value::Chars(x), Value::Chars(y)) => x.as_str().cmp(y.as_str()),
         (Value::Bytes(x), Value::Bytes(y)) => x.as_slice().cmp(y.as_slice()),
         (Value::Tuple(x), Value::Tuple(y)) => order_values(x.as_slice(), y.as_slice()),
         (Value::Bag(x), Value::Bag(y)) => order_tuples(x.as_slice(), y.as_slice()),
@@ -92,7 +92,7 @@ fn order_tuples(a: &[Tuple], b: &[Tuple]) -> Ordering
 fn order_pair(a: &Pair, b: &Pair) -> Ordering
     ensures { result ≡ pair_cmp (entry_of a.now) (entry_of b.now) }
 {
-    match a.key.as_bytes().cmp(b.key.as_bytes()) {
+    match a.key.as_str().cmp(b.key.as_str()) {
         Ordering::Equal => order(&a.value, &b.value),
         found => found,
     }

@@ -84,8 +84,9 @@ pub fn copy_kind(alloc: Global, k: &Kind) -> Result<Kind, AllocError>
     }
 }
 
+/// A copy of kinds, which holds memory of its own.
 #[cycle(copy_kind)]
-fn copy_kinds(alloc: Global, kinds: &[Kind]) -> Result<Kinds, AllocError>
+pub fn copy_kinds(alloc: Global, kinds: &[Kind]) -> Result<Kinds, AllocError>
     ensures { IfOk result (λ c. c ≡ kinds.now) }
 {
     let mut made = Vec::with_capacity(alloc, kinds.len())?;

@@ -1,6 +1,7 @@
-ghost use Rattle.std.specs.Prelude.{◌≡◌, ◌↔◌, IsTrue, map};
+ghost use Rattle.std.specs.Prelude.{◌≡◌, ◌-◌, ◌^◌, ◌↔◌, IsTrue, map, min};
+ghost use Rattle.pig_value.specs.Casts.{CastsTo, may_cast};
 ghost use Rattle.pig_value.specs.Trees.{tree, entry_of, kind_tree, fields_of, tuples_of, entries_of, kinds_of};
-ghost use Rattle.pig_value.specs.Kinds.{IsOf, is_of_kind, fields_of_kinds, tuples_of_kinds, entries_of_kind, kind_eq, kinds_eq};
+ghost use Rattle.pig_value.specs.Kinds.{depth_of, depths_of, has_bag_or_map, have_bag_or_map, width_of, widths_of, IsOf, is_of_kind, fields_of_kinds, tuples_of_kinds, entries_of_kind, kind_eq, kinds_eq};
 
 use crate::{Kind, Pair, Tuple, Value};
 
@@ -71,7 +72,8 @@ fn values_are_of(pairs: &[Pair], kind: &Kind) -> bool
 
 /// Whether two kinds are the same.
 pub fn same_kind(a: &Kind, b: &Kind) -> bool
-    ensures { IsTrue result ↔ (kind_tree a.now ≡ kind_tree b.now) }
+    ensures same { IsTrue result ↔ (kind_tree a.now ≡ kind_tree b.now) }
+    ensures test { result ≡ kind_eq (kind_tree a.now) (kind_tree b.now) }
 {
     kinds_match(a, b)
 }
@@ -104,4 +106,102 @@ fn lists_match(a: &[Kind], b: &[Kind]) -> bool
         }
     }
     a.len() == b.len()
+}
+
+/// Whether each value of the first kind may be cast to the second.
+pub fn casts_to(from: &Kind, to: &Kind) -> bool
+    ensures test { result ≡ may_cast (kind_tree from.now) (kind_tree to.now) }
+    ensures allowed { IsTrue result ↔ CastsTo (kind_tree from.now) (kind_tree to.now) }
+{
+    is_cast(from, to)
+}
+
+fn is_cast(from: &Kind, to: &Kind) -> bool
+    ensures { result ≡ may_cast (kind_tree from.now) (kind_tree to.now) }
+{
+    match (from, to) {
+        (Kind::Bytearray, _) => true,
+        (Kind::Chararray, Kind::Boolean) => true,
+        (Kind::Chararray, Kind::Int) => true,
+        (Kind::Chararray, Kind::Long) => true,
+        (Kind::Int, Kind::Long) => true,
+        (Kind::Long, Kind::Int) => true,
+        (Kind::Boolean, Kind::Chararray) => true,
+        (Kind::Int, Kind::Chararray) => true,
+        (Kind::Long, Kind::Chararray) => true,
+        _ => kinds_match(from, to),
+    }
+}
+
+/// How many kinds there are within a kind, itself counted, or the greatest `usize` where they are more.
+#[cycle(width)]
+pub fn kind_width(k: &Kind) -> usize
+    ensures { result ≡ min (width_of (kind_tree k.now)) (2 ^ 64 - 1) }
+{
+    match k {
+        Kind::Tuple(kinds) => kinds_width(kinds.as_slice()).saturating_add(1),
+        Kind::Bag(kinds) => kinds_width(kinds.as_slice()).saturating_add(1),
+        Kind::Map(of) => kind_width(of.get()).saturating_add(1),
+        _ => 1,
+    }
+}
+
+#[cycle(width)]
+fn kinds_width(kinds: &[Kind]) -> usize
+    ensures { result ≡ min (widths_of (kinds_of (map kind_tree kinds.now))) (2 ^ 64 - 1) }
+{
+    let mut total: usize = 0;
+    for i in 0..kinds.len() {
+        total = total.saturating_add(kind_width(&kinds[i]));
+    }
+    total
+}
+
+/// How deep a kind nests, from 1 for a scalar, or the greatest `usize` where it is deeper.
+#[cycle(depth)]
+pub fn kind_depth(k: &Kind) -> usize
+    ensures { result ≡ min (depth_of (kind_tree k.now)) (2 ^ 64 - 1) }
+{
+    match k {
+        Kind::Tuple(kinds) => kinds_depth(kinds.as_slice()).saturating_add(1),
+        Kind::Bag(kinds) => kinds_depth(kinds.as_slice()).saturating_add(1),
+        Kind::Map(of) => kind_depth(of.get()).saturating_add(1),
+        _ => 1,
+    }
+}
+
+#[cycle(depth)]
+fn kinds_depth(kinds: &[Kind]) -> usize
+    ensures { result ≡ min (depths_of (kinds_of (map kind_tree kinds.now))) (2 ^ 64 - 1) }
+{
+    let mut deepest: usize = 0;
+    for i in 0..kinds.len() {
+        deepest = deepest.max(kind_depth(&kinds[i]));
+    }
+    deepest
+}
+
+/// Whether a kind is a bag or a map, or holds one.
+#[cycle(holds)]
+pub fn holds_bag_or_map(k: &Kind) -> bool
+    ensures { result ≡ has_bag_or_map (kind_tree k.now) }
+{
+    match k {
+        Kind::Tuple(kinds) => any_holds(kinds.as_slice()),
+        Kind::Bag(_) => true,
+        Kind::Map(_) => true,
+        _ => false,
+    }
+}
+
+#[cycle(holds)]
+fn any_holds(kinds: &[Kind]) -> bool
+    ensures { result ≡ have_bag_or_map (kinds_of (map kind_tree kinds.now)) }
+{
+    for i in 0..kinds.len() {
+        if holds_bag_or_map(&kinds[i]) {
+            return true;
+        }
+    }
+    false
 }

@@ -3,8 +3,11 @@ ghost use Rattle.std.specs.List.Sorted.{IsPermutation};
 ghost use Rattle.std.specs.Ordering.{ordering_reverse};
 ghost use Rattle.std.specs.declared.cmp.Ordering.{Ordering};
 ghost use Rattle.std.specs.declared.cmp.Ordering.TheVariants.{Less, Equal};
-ghost use Rattle.pig_value.specs.Trees.{Tree, v_bag, tuples_of};
-ghost use Rattle.pig_value.specs.Orders.{tree_cmp, row_cmp, bag_of};
+ghost use Rattle.pig_value.specs.Trees.{KindTree, Tree, v_bag, tuples_of};
+ghost use Rattle.pig_value.specs.Orders.{dirs_cmp, tree_cmp, row_cmp, bag_of};
+ghost use Rattle.pig_value.specs.Casts.{CanCast, CastsTo};
+ghost use Rattle.pig_value.specs.Kinds.{IsOf};
+ghost use Rattle.pig_value.specs.declared.operators.Dir.{Dir};
 ghost use Rattle.pig_value.specs.Sorts.{Ascends, times};
 ghost use Rattle.pig_value.specs.Valid.{AreRows, IsValue};
 
@@ -32,4 +35,16 @@ pub fn bag_laws()
     ensures ascends { (xs : List (List Tree)) → Ascends row_cmp (bag_of xs) }
     ensures once { (xs : List (List Tree)) → bag_of (bag_of xs) ≡ bag_of xs }
     ensures value { (xs : List (List Tree)) → AreRows xs → IsValue (v_bag (tuples_of (bag_of xs))) }
+{}
+
+/// The order of rows in directions is total, and what it ranks as equal is the same.
+pub fn direction_laws()
+    ensures either_way { (ds : List Dir) (a b : List Tree) → dirs_cmp ds a b ≡ ordering_reverse (dirs_cmp ds b a) }
+    ensures transitive { (ds : List Dir) (a b c : List Tree) → dirs_cmp ds a b ≡ Less → dirs_cmp ds b c ≡ Less → dirs_cmp ds a c ≡ Less }
+    ensures equal_is_same { (ds : List Dir) (a b : List Tree) → (dirs_cmp ds a b ≡ Equal) ↔ (a ≡ b) }
+{}
+
+/// Where a kind casts to another, each of its values may be cast.
+pub fn cast_laws()
+    ensures { (from to : KindTree) (v : Tree) → CastsTo from to → IsOf v from → CanCast to v }
 {}

@@ -19,6 +19,7 @@ mod boxes;
 mod comparing;
 mod copying;
 mod delimiters;
+mod functions;
 mod inputs;
 mod kinds;
 mod laws;
@@ -26,27 +27,36 @@ mod lists;
 mod operators;
 mod outcomes;
 mod sorting;
-#[cfg(test)]
-mod tests;
 mod texts;
+mod threads;
 mod values;
 
 pub use boxes::Boxed;
 pub use comparing::{order, order_rows, same};
-pub use copying::{copy, copy_kind, copy_row};
+pub use copying::{copy, copy_kind, copy_kinds, copy_row};
 pub use delimiters::{BadDelimiter, Delim};
+pub use functions::Function;
 pub use inputs::{Column, Columns, Input, Inputs};
-pub use kinds::{is_of, same_kind};
-pub use laws::{bag_laws, order_laws, row_order_laws};
+pub use kinds::{casts_to, holds_bag_or_map, is_of, kind_depth, kind_width, same_kind};
+pub use laws::{bag_laws, cast_laws, direction_laws, order_laws, row_order_laws};
 pub use lists::Seq;
 pub use operators::{ChainOp, Dir, Dirs, Rel, Side};
 pub use outcomes::{Kept, KeptList, WordFault};
 pub use sorting::bag;
-pub use texts::{Blob, Text};
-pub use values::{Kind, Kinds, Pair, Pairs, Rows, Tuple, Value};
+pub use texts::{Blob, Text, known_bytes};
+pub use threads::values_cross_threads;
+pub use values::{Kind, Kinds, Pair, Pairs, Rows, Tuple, Value, field_at};
 
-/// A list of texts, as the words of a command line.
+/// A list of texts.
+pub type Texts = Seq<Text>;
+/// The words of a command line.
 pub type Words = Seq<Text>;
+/// A list of numbers, as those of nodes.
+pub type Numbers = Seq<u32>;
+/// A list of places in a row, counted from 0.
+pub type Positions = Seq<u32>;
+/// What the tasks of a wave gave, in their order.
+pub type OutList<O> = Seq<O>;
 /// A list of byte strings, as the pieces of an input or the parts of an output.
 pub type Blobs = Seq<Blob>;
 /// A list of lengths in bytes.

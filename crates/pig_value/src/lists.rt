@@ -1,4 +1,4 @@
-ghost use Rattle.std.specs.Prelude.{◌≡◌, [], ◌∷◌, ◌++◌, ◌<◌, length, slice_get, ◌↔◌, IsTrue, OnOk, OnErr, OnSome, MatchOption};
+ghost use Rattle.std.specs.Prelude.{◌≡◌, [], ◌∷◌, ◌++◌, ◌<◌, length, slice_get, ◌↔◌, IsTrue, IfOk, OnOk, OnErr, OnSome, MatchOption};
 ghost use Rattle.std.specs.Option.{option_copied};
 
 use std::alloc::{AllocError, Global};
@@ -86,6 +86,26 @@ impl<T> Seq<T> {
 }
 
 impl<T: Drop> Seq<T> {
+    /// An empty list with room for so many elements.
+    pub fn with_capacity(alloc: Global, room: usize) -> Result<Seq<T>, AllocError>
+        ensures { IfOk result (λ s. s ≡ []) }
+    {
+        Ok(Seq {
+            items: Vec::with_capacity(alloc, room)?,
+        })
+    }
+
+    /// Adds the elements of another list at the end; where memory is wanting, the list stays as it was.
+    pub fn extend(&mut self, more: Seq<T>) -> Result<(), AllocError>
+        ensures ok { OnOk result (self.new ≡ self.old ++ more) }
+        ensures err { OnErr result (self.new ≡ self.old) }
+    {
+        let Seq { items } = more;
+        let mut items = items;
+        self.items.append(&mut items)?;
+        Ok(())
+    }
+
     /// Adds an element at the end; where memory is wanting, the list stays as it was.
     pub fn push(&mut self, item: T) -> Result<(), AllocError>
         ensures ok { OnOk result (self.new ≡ self.old ++ item ∷ []) }

@@ -1,4 +1,6 @@
-ghost use Rattle.std.specs.Prelude.{◌≡◌, [], ◌∷◌, ◌++◌, length, IfOk, OnOk, OnErr, string_bytes};
+ghost use Rattle.std.specs.Str.{IsUtf8};
+ghost use Rattle.pig_value.specs.Leaves.{AreBytes};
+ghost use Rattle.std.specs.Prelude.{◌≡◌, [], ◌∷◌, ◌++◌, length, IfOk, OnOk, OnErr, slice_get, string_bytes};
 
 use std::alloc::{AllocError, Global};
 use std::marker::Model;
@@ -44,16 +46,18 @@ impl Text {
 
     /// The text as a `&str`.
     pub fn as_str(&self) -> &str
-        ensures { result.now ≡ self.now }
+        ensures text { result.now ≡ self.now }
+        ensures utf8 { IsUtf8 result.now }
     {
         self.text.as_str()
     }
 
     /// The bytes of the text.
     pub fn as_bytes(&self) -> &[u8]
-        ensures { result.now ≡ self.now }
+        ensures bytes { result.now ≡ self.now }
+        ensures utf8 { IsUtf8 result.now }
     {
-        self.text.as_bytes()
+        self.as_str().as_bytes()
     }
 
     /// The length in bytes.
@@ -120,9 +124,10 @@ impl Blob {
 
     /// The bytes as a slice.
     pub fn as_slice(&self) -> &[u8]
-        ensures { result.now ≡ self.now }
+        ensures bytes { result.now ≡ self.now }
+        ensures small { AreBytes result.now }
     {
-        self.bytes.as_slice()
+        known_bytes(self.bytes.as_slice())
     }
 
     /// The number of bytes.
@@ -130,6 +135,22 @@ impl Blob {
         ensures { result ≡ length self.now }
     {
         self.bytes.len()
+    }
+
+    /// The byte at a place, counted from 0.
+    pub fn get(&self, at: usize) -> Option<u8>
+        ensures { result ≡ slice_get self.now at }
+    {
+        self.bytes.get(at).copied()
+    }
+
+    /// Adds bytes at the end; where memory is wanting, the bytes stay as they were.
+    pub fn extend_from_slice(&mut self, more: &[u8]) -> Result<(), AllocError>
+        ensures ok { OnOk result (self.new ≡ self.old ++ more.now) }
+        ensures err { OnErr result (self.new ≡ self.old) }
+    {
+        self.bytes.extend_from_slice(more)?;
+        Ok(())
     }
 
     /// Adds a byte at the end; where memory is wanting, the bytes stay as they were.
@@ -147,4 +168,12 @@ impl Blob {
     {
         Blob::from_slice(alloc, self.bytes.as_slice())
     }
+}
+
+/// The same bytes, of which contracts then know that each is below 256.
+pub fn known_bytes(bytes: &[u8]) -> &[u8]
+    ensures same { result.now ≡ bytes.now }
+    ensures small { AreBytes result.now }
+{
+    bytes
 }

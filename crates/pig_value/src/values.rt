@@ -1,3 +1,6 @@
+ghost use Rattle.std.specs.Prelude.{◌≡◌};
+ghost use Rattle.pig_value.specs.Trees.{at, field_tree, row_tree};
+
 use crate::{Blob, Boxed, Seq, Text};
 
 /// The fields of a row, in order.
@@ -51,13 +54,9 @@ pub enum Kind {
     Map(Boxed<Kind>),
 }
 
-/// Values and kinds may be shared and handed to other threads.
-fn crosses<T: Send + Sync>() {}
-
-/// Shows that values, rows and kinds are `Send` and `Sync`.
-pub fn crosses_threads() {
-    crosses::<Value>();
-    crosses::<Tuple>();
-    crosses::<Rows>();
-    crosses::<Kind>();
+/// The field of a row at a place, counted from 0.
+pub fn field_at(row: &Tuple, place: u32) -> Option<&Value>
+    ensures { field_tree result ≡ at place (row_tree row.now) }
+{
+    row.get(place as usize)
 }

@@ -1,8 +1,9 @@
 -- Laws of sorted lists over an order that is total and tells different elements apart: sorting forgets the order of a list and
 -- nothing else, so two lists are equal as bags exactly where they are equal once sorted.
-use Rattle.std.specs.Prelude.{◌≡◌, ◌<◌, ◌+◌, ℕ, Bool, true, false, List, [], ◌∷◌, ◌++◌, map, length, refl, slice_index_or, if◌then◌else◌}
+use Rattle.std.specs.Prelude.{zero, suc, take, drop, ◌≡◌, ◌<◌, ◌≤◌, ◌+◌, ℕ, Bool, true, false, List, [], ◌∷◌, ◌++◌, map, length, refl, slice_index_or, if◌then◌else◌}
 use Rattle.std.proofs.Common.{ap, sym, ◌∙◌, subst, arith, cond, true≢false, add-one}
 use Rattle.std.specs.Cmp.{IsTotalOrder}
+use Rattle.std.proofs.Math.Bool.{Bool-set}
 use Rattle.std.specs.List.{filter, AllByRecursion}
 use Rattle.std.specs.List.Sorted.{IsPermutation, IsSortedBy}
 use Rattle.std.specs.Ordering.{is_gt, is_lt, is_eq, ordering_reverse}
@@ -65,9 +66,6 @@ module _ {X : Type 0} (R : X → X → Ordering) where
   sort_permutes [] = IsPermutation-refl []
   sort_permutes (x ∷ xs) =
       IsPermutation-trans (x ∷ xs) (x ∷ sort R xs) (sort R (x ∷ xs)) (IsPermutation-cons x xs (sort R xs) (sort_permutes xs)) (put_permutes x (sort R xs))
-
-  pub length-sort : (xs : List X) → length (sort R xs) ≡ length xs
-  length-sort xs = length_permutation xs (sort R xs) (sort_permutes xs)
 
   -- what ascends is sorted already
   pub sorted_is : (xs : List X) → Ascends R xs → sort R xs ≡ xs
@@ -158,6 +156,20 @@ module _ {X V : Type 0} (R : X → X → Ordering) (total : IsTotalOrder R) (f :
         (subst (λ n. is_lt (R (f (slice_index_or (v ∷ w ∷ vs) (k + 1 + 1) d)) (f (slice_index_or (v ∷ w ∷ vs) n d))) ≡ false) (add-one k)
         (h (k + 1) d (omega arith) (omega arith)))),
   )
+
+  -- and the other way round
+  pub sorted_by_key : (vs : List V) → Ascends R (map f vs) → IsSortedBy (λ v w. is_lt (R (f v) (f w))) vs
+  sorted_by_key [] h = λ k d low high. absurd (omega (arith, high))
+  sorted_by_key (v ∷ []) h = λ k d low high. absurd (omega (arith, high))
+  sorted_by_key (v ∷ w ∷ vs) h = adjacent (sorted_by_key (w ∷ vs) h.1)
+    where
+      adjacent : IsSortedBy (λ a b. is_lt (R (f a) (f b))) (w ∷ vs) → (k : ℕ) (d : V) → 0 ≤ k → k + 1 < length (v ∷ w ∷ vs)
+          → is_lt (R (f (slice_index_or (v ∷ w ∷ vs) (k + 1) d)) (f (slice_index_or (v ∷ w ∷ vs) k d))) ≡ false
+      adjacent behind zero d low high = sym (gt_is_lt R total (f v) (f w)) ∙ h.0
+      adjacent behind (suc k) d low high =
+          subst (λ n. is_lt (R (f (slice_index_or (v ∷ w ∷ vs) n d)) (f (slice_index_or (w ∷ vs) k d))) ≡ false) (sym (add-one (suc k)))
+          (subst (λ n. is_lt (R (f (slice_index_or (w ∷ vs) n d)) (f (slice_index_or (w ∷ vs) k d))) ≡ false) (add-one k)
+          (behind k d (omega arith) (omega (arith, high))))
 
 -- a sort of std by a key gives the bag of the keys
 module _ {X V : Type 0} (R : X → X → Ordering) (total : IsTotalOrder R) (tells : (x y : X) → R x y ≡ Equal → x ≡ y) (f : V → X) where
@@ -305,3 +317,50 @@ module _ {X : Type 0} (R : X → X → Ordering) (total : IsTotalOrder R) (tells
       (met (p x) z x (filter p xs) xs (subst (λ y. times R z (filter p xs) ≡ cond (p y) (times R z xs) 0) is rest)))
       (λ e. let none : ◌≡◌ {A = ℕ} (cond (is_eq (R z x)) 1 0) 0 = ap (λ b. cond b 1 0) e in
       missed (p x) z x (filter p xs) none ∙ rest ∙ ap (λ n. cond (p z) n 0) (sym (missed true z x xs none)))
+
+-- sorting what a function that keeps the order gives, or the function of what is sorted
+module _ {X Y : Type 0} (R : X → X → Ordering) (S : Y → Y → Ordering) (f : X → Y) (keeps : (x y : X) → S (f x) (f y) ≡ R x y) where
+  map-put : (x : X) (ys : List X) → map f (put R x ys) ≡ put S (f x) (map f ys)
+  map-put x [] = refl
+  map-put x (y ∷ ys) = either_way (is_gt (R x y))
+      (λ e. ap (map f) (put_on R x y ys e) ∙ ap (λ zs. f y ∷ zs) (map-put x ys) ∙ sym (put_on S (f x) (f y) (map f ys) (ap is_gt (keeps x y) ∙ e)))
+      (λ e. ap (map f) (put_here R x y ys e) ∙ sym (put_here S (f x) (f y) (map f ys) (ap is_gt (keeps x y) ∙ e)))
+
+  pub sort_map : (xs : List X) → sort S (map f xs) ≡ map f (sort R xs)
+  sort_map [] = refl
+  sort_map (x ∷ xs) = ap (put S (f x)) (sort_map xs) ∙ sym (map-put x (sort R xs))
+
+-- the same where the function keeps the order of the elements that are as one asks
+module _ {X Y : Type 0} (R : X → X → Ordering) (S : Y → Y → Ordering) (f : X → Y) (P : X → Type 0) (keeps : (x y : X) → P x → P y → S (f x) (f y) ≡ R x y) where
+  map-put_where : (x : X) (ys : List X) → P x → AllByRecursion P ys → map f (put R x ys) ≡ put S (f x) (map f ys)
+  map-put_where x [] h k = refl
+  map-put_where x (y ∷ ys) h k = either_way (is_gt (R x y))
+      (λ e. ap (map f) (put_on R x y ys e) ∙ ap (λ zs. f y ∷ zs) (map-put_where x ys h k.1) ∙ sym (put_on S (f x) (f y) (map f ys) (ap is_gt (keeps x y h k.0) ∙ e)))
+      (λ e. ap (map f) (put_here R x y ys e) ∙ sym (put_here S (f x) (f y) (map f ys) (ap is_gt (keeps x y h k.0) ∙ e)))
+
+  pub sort_map_where : (xs : List X) → AllByRecursion P xs → sort S (map f xs) ≡ map f (sort R xs)
+  sort_map_where [] h = refl
+  sort_map_where (x ∷ xs) h = ap (put S (f x)) (sort_map_where xs h.1) ∙ sym (map-put_where x (sort R xs) h.0 (each-sort R P xs h.1))
+
+-- a sorted list's first elements, and what is left without them
+module _ {X : Type 0} (R : X → X → Ordering) where
+  rises-take : (x : X) (n : ℕ) (ys : List X) → Rises R x ys → Rises R x (take n ys)
+  rises-take x zero ys h = tt
+  rises-take x (suc n) [] h = tt
+  rises-take x (suc n) (y ∷ ys) h = h
+
+  pub take_ascends : (n : ℕ) (xs : List X) → Ascends R xs → Ascends R (take n xs)
+  take_ascends zero xs h = tt
+  take_ascends (suc n) [] h = tt
+  take_ascends (suc n) (x ∷ xs) h = (rises-take x n xs h.0, take_ascends n xs h.1)
+
+  pub drop_ascends : (n : ℕ) (xs : List X) → Ascends R xs → Ascends R (drop n xs)
+  drop_ascends zero xs h = h
+  drop_ascends (suc n) [] h = tt
+  drop_ascends (suc n) (x ∷ xs) h = drop_ascends n xs h.1
+
+  -- being sorted is a proposition
+  pub ascends_prop : (xs : List X) → IsProp (Ascends R xs)
+  ascends_prop [] a b = refl
+  ascends_prop (x ∷ []) a b = refl
+  ascends_prop (x ∷ y ∷ xs) a b = λ i. (Bool-set (is_gt (R x y)) false a.0 b.0 i, ascends_prop (y ∷ xs) a.1 b.1 i)

@@ -1,6 +1,7 @@
 -- A list beside a loop over it that goes by index: what an index finds, what stands before it and from it on.
-use Rattle.std.specs.Prelude.{◌≡◌, ◌<◌, ◌+◌, ℕ, zero, suc, List, [], ◌∷◌, ◌++◌, length, take, drop, slice_get, Some, refl}
+use Rattle.std.specs.Prelude.{◌≡◌, ◌<◌, ◌+◌, ℕ, zero, suc, List, [], ◌∷◌, ◌++◌, length, take, drop, slice_get, Some, refl, map}
 use Rattle.std.proofs.Common.{ap, sym, ◌∙◌, arith, add-one}
+use Rattle.std.specs.Option.{option_map}
 use Rattle.std.proofs.Math.Seq.{drop-nil, drop-cons, take-suc}
 use Rattle.std.proofs.lemmas.Option.{slice_get_within, get_or_from_slice_get}
 
@@ -34,3 +35,9 @@ module _ {X : Type 0} where
   drop-add xs zero m = let e : 0 + m ≡ m = omega arith in ap (λ k. drop k xs) (sym e)
   drop-add [] (suc n) m = drop-nil m ∙ sym (drop-nil (suc n + m))
   drop-add (x ∷ xs) (suc n) m = let e : suc n + m ≡ suc (n + m) = omega arith in drop-add xs n m ∙ ap (λ k. drop k (x ∷ xs)) (sym e)
+
+-- what an index finds once each element is mapped
+pub get_map : {X Y : Type 0} (f : X → Y) (xs : List X) (i : ℕ) → slice_get (map f xs) i ≡ option_map f (slice_get xs i)
+get_map f [] i = refl
+get_map f (x ∷ xs) zero = refl
+get_map f (x ∷ xs) (suc i) = get_map f xs i

@@ -1,10 +1,14 @@
 -- Laws of filtering, mapping and joining lists.
-use Rattle.std.specs.Prelude.{◌≡◌, Bool, true, false, ◌&&◌, List, [], ◌∷◌, ◌++◌, map, refl}
-use Rattle.std.proofs.Common.{ap, ◌∙◌, cond}
+use Rattle.std.specs.Prelude.{◌≡◌, ℕ, zero, suc, take, drop, slice_get, Some, Bool, true, false, ◌&&◌, List, [], ◌∷◌, ◌++◌, map, refl}
+use Rattle.std.proofs.Common.{ap, ◌∙◌, cond, subst}
+use Rattle.std.specs.Option.{unwrap_or}
 use Rattle.std.specs.List.{filter, flat_map, AllByRecursion}
 use Rattle.std.proofs.lemmas.List.{map-append}
 use Rattle.std.proofs.lemmas.List.Concat.{flat_map-append}
 use Rattle.std.proofs.lemmas.List.Elements.{filter-append}
+
+pub some_same : {X : Type 0} (x y : X) → Some x ≡ Some y → x ≡ y
+some_same x y h = ap (λ o. unwrap_or o x) h
 
 module _ {X : Type 0} where
   -- what holds of each element holds of each that is kept
@@ -28,6 +32,22 @@ module _ {X : Type 0} where
   pub each-append : (P : X → Type 0) (xs ys : List X) → AllByRecursion P xs → AllByRecursion P ys → AllByRecursion P (xs ++ ys)
   each-append P [] ys h k = k
   each-append P (x ∷ xs) ys h k = (h.0, each-append P xs ys h.1 k)
+
+  pub each-take : (P : X → Type 0) (n : ℕ) (xs : List X) → AllByRecursion P xs → AllByRecursion P (take n xs)
+  each-take P zero xs h = tt
+  each-take P (suc n) [] h = tt
+  each-take P (suc n) (x ∷ xs) h = (h.0, each-take P n xs h.1)
+
+  pub each-drop : (P : X → Type 0) (n : ℕ) (xs : List X) → AllByRecursion P xs → AllByRecursion P (drop n xs)
+  each-drop P zero xs h = h
+  each-drop P (suc n) [] h = tt
+  each-drop P (suc n) (x ∷ xs) h = each-drop P n xs h.1
+
+  -- what holds of each element holds of the one at an index
+  pub each_at : (P : X → Type 0) (xs : List X) (i : ℕ) (x : X) → slice_get xs i ≡ Some x → AllByRecursion P xs → P x
+  each_at P [] i x at h = absurd (cc)
+  each_at P (y ∷ xs) zero x at h = subst P (some_same y x at) h.0
+  each_at P (y ∷ xs) (suc i) x at h = each_at P xs i x at h.1
 
   pub each_weaker : (P Q : X → Type 0) → ((x : X) → P x → Q x) → (xs : List X) → AllByRecursion P xs → AllByRecursion Q xs
   each_weaker P Q f [] h = tt

@@ -1,10 +1,10 @@
 -- What holds along every exchange of neighbours holds of any two lists of which one is the other in another order.
 use Rattle.std.specs.Prelude.{◌≡◌, ◌<◌, ℕ, List, [], ◌∷◌, ◌++◌, length, refl, slice_set, slice_index_or}
-use Rattle.std.proofs.Common.{◌∙◌, subst, arith, suc, zero, Bool, true, false, cond}
+use Rattle.std.proofs.Common.{ap, sym, append-nil, ◌∙◌, subst, arith, suc, zero, Bool, true, false, cond}
 use Rattle.std.specs.List as lists
-use Rattle.std.specs.List.{filter, flat_map}
+use Rattle.std.specs.List.{filter, flat_map, fold}
 use Rattle.std.specs.List.Sorted.{IsPermutation}
-use Rattle.std.proofs.lemmas.List.Sorted.{IsPermutation-keeps, IsPermutation-refl, IsPermutation-cons, IsPermutation-trans, IsPermutation-swap, IsPermutation-append, IsPermutation-append_right, IsPermutation-append_left, IsPermutation-append_comm}
+use Rattle.std.proofs.lemmas.List.Sorted.{IsPermutation-keeps, IsPermutation-refl, IsPermutation-cons, IsPermutation-trans, IsPermutation-swap, IsPermutation-append, IsPermutation-append_right, IsPermutation-append_left, IsPermutation-append_comm, IsPermutation-middle}
 use Rattle.std.proofs.lemmas.List.{append_assoc}
 
 -- one list becomes the other by exchanges of neighbours
@@ -41,12 +41,6 @@ module _ {X : Type 0} where
 
   pub neighbours : (x y : X) (zs : List X) → IsPermutation (x ∷ y ∷ zs) (y ∷ x ∷ zs)
   neighbours x y zs = IsPermutation-swap (x ∷ y ∷ zs) (y ∷ x ∷ zs) 0 1 (omega arith) (omega arith) refl
-
-  pub permutation_from_shuffled : {xs ys : List X} → Shuffled xs ys → IsPermutation xs ys
-  permutation_from_shuffled (same xs) = IsPermutation-refl xs
-  permutation_from_shuffled (under x {xs} {ys} h) = IsPermutation-cons x xs ys (permutation_from_shuffled h)
-  permutation_from_shuffled (swapped x y zs) = neighbours x y zs
-  permutation_from_shuffled (after {xs} {ys} {zs} h k) = IsPermutation-trans xs ys zs (permutation_from_shuffled h) (permutation_from_shuffled k)
 
 -- a function that does not tell two neighbours' orders apart does not tell two orders of a list apart
 module _ {X A : Type 0} (f : List X → A) (more : (x : X) (xs ys : List X) → f xs ≡ f ys → f (x ∷ xs) ≡ f (x ∷ ys)) (swaps : (x y : X) (zs : List X) → f (x ∷ y ∷ zs) ≡ f (y ∷ x ∷ zs)) where
@@ -102,3 +96,18 @@ pub IsPermutation-flat_map_each : {X Y : Type 0} (f g : X → List Y) → ((x : 
 IsPermutation-flat_map_each f g each [] = IsPermutation-refl []
 IsPermutation-flat_map_each f g each (x ∷ xs) =
     IsPermutation-append (f x) (g x) (flat_map f xs) (flat_map g xs) (each x) (IsPermutation-flat_map_each f g each xs)
+
+-- a fold whose step may take two elements either way gives the same along a permutation
+module _ {X A : Type 0} (step : A → X → A) (swaps : (a : A) (x y : X) → step (step a x) y ≡ step (step a y) x) where
+  pub fold_same : (xs ys : List X) → IsPermutation xs ys → (a : A) → fold step a xs ≡ fold step a ys
+  fold_same xs ys h a =
+      ap {A = A → A} (λ f. f a)
+      (along_permutation (λ zs b. fold step b zs) (λ x us vs e. λ i b. e i (step b x)) (λ x y zs. λ i b. fold step (swaps b x y i) zs) xs ys h)
+
+-- a fold from the left goes on with what a function gives that takes one more element at the front
+module _ {X A : Type 0} (f : List X → A) (g : A → X → A) (front : (x : X) (xs : List X) → f (x ∷ xs) ≡ g (f xs) x) (same_of : (xs ys : List X) → IsPermutation xs ys → f xs ≡ f ys) where
+  pub goes_on : (us vs : List X) → fold g (f us) vs ≡ f (us ++ vs)
+  goes_on us [] = sym (ap f (append-nil us))
+  goes_on us (v ∷ vs) =
+      ap (λ a. fold g a vs) (sym (front v us)) ∙ goes_on (v ∷ us) vs
+      ∙ sym (same_of (us ++ v ∷ vs) (v ∷ us ++ vs) (IsPermutation-middle us v vs))

@@ -1,5 +1,4 @@
 use Rattle.std.proofs.Common.{rules, ◌≡◌, ◌⊎◌, ◌<◌, ℕ, Option, Some, inr, ap, subst, slice_index_or, slice_set, length}
-use Rattle.pig_outside.specs.Faults.{FailedRose}
 use Rattle.pig_run.specs.declared.outcome.RunFault.TheVariants as fault
 use Rattle.pig_run.specs.Answers.{line_of, Tells, Runs, first_of}
 use Rattle.pig_run.specs.Told.{EndedWell, RefusedBefore, BrokeOff}
@@ -41,10 +40,10 @@ returns-in-Err-clause-complete g c s told form pieces due sound hosted =
     let new = g.D.Depot.shelf c.run.new.depot in
     let broke : RefusedBefore (line_of c.args.hosts.now.items c.args.words.now) s new c.in-Err.fault ⊎ BrokeOff (line_of c.args.hosts.now.items c.args.words.now) s new c.in-Err.fault =
     subst (λ n. RefusedBefore (record { hosts = n; words = c.args.words.now }) s new c.in-Err.fault ⊎ BrokeOff (record { hosts = n; words = c.args.words.now }) s new c.in-Err.fault) (search rules) (c.in-Err.ensures.told s told) in
-    let depot : (store : Option ℕ) → c.in-Err.fault ≡ fault.DepotFault store → FailedRose (g.D.Depot.faults c.args.depot.now) (g.D.Depot.faults c.run.new.depot) = search rules in
-    let host : c.in-Err.fault ≡ fault.HostFault → FailedRose (first_of g.H.Host.faults c.args.hosts.now.items) (first_of g.H.Host.faults (slice_set c.args.hosts.now.items 0 c.run.new.host)) = search rules in
-    inr (ap (λ f. Some f) (completes c.in-Err.fault form pieces (FailedRose (g.D.Depot.faults c.args.depot.now) (g.D.Depot.faults c.run.new.depot))
-    (FailedRose (first_of g.H.Host.faults c.args.hosts.now.items) (first_of g.H.Host.faults (slice_set c.args.hosts.now.items 0 c.run.new.host))) depot host
+    let depot : (store : Option ℕ) → c.in-Err.fault ≡ fault.DepotFault store → g.D.Depot.faults c.args.depot.now < g.D.Depot.faults c.run.new.depot = search rules in
+    let host : c.in-Err.fault ≡ fault.HostFault → first_of g.H.Host.faults c.args.hosts.now.items < first_of g.H.Host.faults (slice_set c.args.hosts.now.items 0 c.run.new.host) = search rules in
+    inr (ap (λ f. Some f) (completes c.in-Err.fault form pieces (g.D.Depot.faults c.args.depot.now < g.D.Depot.faults c.run.new.depot)
+    (first_of g.H.Host.faults c.args.hosts.now.items < first_of g.H.Host.faults (slice_set c.args.hosts.now.items 0 c.run.new.host)) depot host
     (answers_fault (line_of c.args.hosts.now.items c.args.words.now) s old new c.in-Err.fault told broke (Runs form pieces) due) sound hosted))
 
 pub returns-in-Err-clause-store : goal.returns-in-Err-clause-store

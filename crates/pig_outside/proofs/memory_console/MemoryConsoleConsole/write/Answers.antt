@@ -10,4 +10,4 @@ nothing_written (Err _) bytes old new same = (0, omega arith, ap (λ t. Some t) 
 
 pub returns-in_err-extend_from_slice-clause-err : goal.returns-in_err-extend_from_slice-clause-err
 returns-in_err-extend_from_slice-clause-err c =
-    nothing_written c.from_residual.result c.args.bytes.now c.args.self.now.text.items c.extend_from_slice.new.self.items c.in_err-extend_from_slice.ensures.items
+    nothing_written c.from_residual-in_err-extend_from_slice.result c.args.bytes.now c.args.self.now.text.items c.extend_from_slice.new.self.items c.in_err-extend_from_slice.ensures.items

@@ -1,0 +1,6 @@
+//! Worked rows of the base: values, fields, text, schemas and key codes, each against values written by hand from
+//! the definitions. It has tests alone, one file for each crate.
+#![tactic(auto)]
+
+#[cfg(test)]
+mod values;

@@ -1,0 +1,185 @@
+//! Commands by hand, and words that are none.
+use pig_run::read_words;
+use pig_value::{Text, WordFault, Words};
+use std::alloc::{AllocError, Global};
+use std::test::Fail;
+
+// The words of a line, with one space between each two.
+fn words(alloc: Global, line: &str) -> Result<Words, AllocError> {
+    let mut words = Words::new(alloc);
+    for word in line.split(' ') {
+        words.push(Text::from_str(alloc, word)?)?;
+    }
+    Ok(words)
+}
+
+// The command's verb, operand, workers, reducers and split, or the fault.
+fn shown(alloc: Global, words: &Words, hosts: u32) -> Result<String, AllocError> {
+    match read_words(alloc, words, hosts.clamp(1, 256)) {
+        Ok(command) => {
+            let verb = command.verb;
+            let operand = command.operand.as_str();
+            let (workers, reducers, split) = (command.workers, command.reducers, command.split);
+            format!(in alloc; "{verb:?} {operand} {workers} {reducers} {split}")
+        }
+        Err(WordFault::Usage) => String::from_str(alloc, "usage"),
+        Err(WordFault::OutOfMemory) => String::from_str(alloc, "out of memory"),
+    }
+}
+
+// Each line: the number of hosts, the words, and what they are.
+
+// Verbs and operands.
+const VERBS: &str = "\
+16||usage
+16|run|usage
+16|help|usage
+16|s run|usage
+16|Run s|usage
+16|runs s|usage
+16|run s|Run s 4 4 1048576
+16|explain s|Explain s 4 4 1048576
+16|check s|Check s 4 4 1048576
+16|demo 4|Demo 4 4 4 1048576
+16|run help|Run help 4 4 1048576
+16|run run|Run run 4 4 1048576
+16|run |Run  4 4 1048576
+16|run é|Run é 4 4 1048576
+16|run s t|usage
+16|run  s|usage
+";
+
+// Each option, in both forms and both places.
+const OPTIONS: &str = "\
+16|run --workers 3 s|Run s 3 4 1048576
+16|run --workers=3 s|Run s 3 4 1048576
+16|run s --workers 3|Run s 3 4 1048576
+16|run s --workers=3|Run s 3 4 1048576
+16|run --reducers 2 s|Run s 4 2 1048576
+16|run --reducers=2 s|Run s 4 2 1048576
+16|run s --reducers 2|Run s 4 2 1048576
+16|run s --reducers=2|Run s 4 2 1048576
+16|run --split 7 s|Run s 4 4 7
+16|run --split=7 s|Run s 4 4 7
+16|run s --split 7|Run s 4 4 7
+16|run s --split=7|Run s 4 4 7
+16|explain --split 9 s --reducers=2 --workers 1|Explain s 1 2 9
+16|check --workers=1 --reducers 3 --split=5 s|Check s 1 3 5
+16|demo --workers 2 3|Demo 3 2 4 1048576
+";
+
+// Options twice, without a value, and others.
+const FAULTS: &str = "\
+16|run s --workers=2 --workers 3|usage
+16|run s --workers 2 --workers=2|usage
+16|run --reducers=1 s --reducers 2|usage
+16|run --split 5 --split 5 s|usage
+16|run s --workers|usage
+16|run s --workers --split 5|usage
+16|run --workers -- s|usage
+16|run --workers s|usage
+16|run s --workers=2=3|usage
+16|run s --work 2|usage
+16|run s --WORKERS 2|usage
+16|run s --operand=t|usage
+16|run s --=5|usage
+16|run s ---|usage
+16|run --é s|usage
+16|--workers 2 run s|usage
+16|--help|usage
+16|run --help|usage
+16|run s --version|usage
+16|run s -h|usage
+";
+
+// Dashes.
+const DASHES: &str = "\
+16|run -|Run - 4 4 1048576
+16|run s -|usage
+16|run -x|usage
+16|run -x s|usage
+16|run -é|usage
+16|run -1|usage
+16|run --|usage
+16|run s --|Run s 4 4 1048576
+16|run s --workers 2 --|Run s 2 4 1048576
+16|run -- s|Run s 4 4 1048576
+16|run -- -x|Run -x 4 4 1048576
+16|run -- --|Run -- 4 4 1048576
+16|run -- --workers=2|Run --workers=2 4 4 1048576
+16|run --split=2 -- -|Run - 4 4 2
+16|run -- s t|usage
+16|run s -- t|usage
+16|run -- s --|usage
+16|run -- s --workers 2|usage
+16|run -- --workers 2|usage
+16|-- run s|usage
+";
+
+// Values: their digits and their ranges.
+const VALUES: &str = "\
+16|run s --workers=|usage
+16|run s --workers |usage
+16|run s --workers 0|usage
+16|run s --workers 000000000|usage
+16|run s --workers 000000001|Run s 1 4 1048576
+16|run s --workers 0000000001|usage
+16|run s --workers 007|Run s 7 4 1048576
+16|run s --workers +3|usage
+16|run s --workers -3|usage
+16|run s --workers -|usage
+16|run s --workers 3x|usage
+16|run s --workers 16|Run s 16 4 1048576
+16|run s --workers 17|usage
+256|run s --workers 256|Run s 256 4 1048576
+256|run s --workers 257|usage
+1|run s|Run s 1 4 1048576
+3|run s|Run s 3 4 1048576
+3|run s --workers 4|usage
+16|run s --reducers 0|usage
+16|run s --reducers 256|Run s 4 256 1048576
+16|run s --reducers 257|usage
+16|run s --split 1|Run s 4 4 1
+16|run s --split 67108864|Run s 4 4 67108864
+16|run s --split 67108865|usage
+16|run s --split 999999999|usage
+";
+
+// The count of `demo`.
+const COUNTS: &str = "\
+16|demo 0|usage
+16|demo 1|Demo 1 4 4 1048576
+16|demo 000100000|Demo 000100000 4 4 1048576
+16|demo 0000000001|usage
+16|demo 100001|usage
+16|demo s|usage
+16|demo -- 5|Demo 5 4 4 1048576
+";
+
+// The first line of a table that is answered otherwise; nothing where there is none.
+fn first_wrong(alloc: Global, table: &str) -> Result<&str, AllocError> {
+    for case in table.lines() {
+        let mut parts = case.split('|');
+        let (Some(hosts), Some(line), Some(wanted)) = (parts.next(), parts.next(), parts.next())
+        else {
+            return Ok(case);
+        };
+        let words = words(alloc, line)?;
+        let found = shown(alloc, &words, hosts.parse().unwrap_or(0))?;
+        if found.as_str() != wanted {
+            return Ok(case);
+        }
+    }
+    Ok("")
+}
+
+#[test]
+fn reads_each_command(rt: HostRuntime) -> Result<(), Fail> {
+    for table in [VERBS, OPTIONS, FAULTS, DASHES, VALUES, COUNTS] {
+        assert_eq!(rt; first_wrong(rt.alloc(), table)?, "");
+    }
+    let none = Words::new(rt.alloc());
+    let found = shown(rt.alloc(), &none, 16)?;
+    assert_eq!(rt; found.as_str(), "usage");
+    Ok(())
+}
