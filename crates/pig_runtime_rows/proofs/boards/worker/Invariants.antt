@@ -1,7 +1,7 @@
 use Rattle.std.proofs.Common.{◌≡◌, ◌+◌, ◌*◌, ◌≤◌}
 use Rattle.pig_board.specs.View.{steps_of}
 use Rattle.pig_board.specs.Pass.{view_of, OnBoard}
-use Rattle.pig_board.proofs.tests.worker.Given as goal
+use Rattle.pig_runtime_rows.proofs.boards.worker.Given as goal
 
 abbrev pub invariant-loop-t : goal.invariant-loop-t
 invariant-loop-t l = record {

@@ -1,9 +1,11 @@
+//! What a board tells one pass, two, and those of four threads.
+
 ghost use Rattle.std.specs.Prelude.{◌≡◌, ◌+◌, ◌<◌, ◌≤◌};
 ghost use Rattle.std.specs.Thread.{IsSync};
 ghost use Rattle.pig_board.specs.View.{steps_of};
 ghost use Rattle.pig_board.specs.Pass.{tasks_of, view_of, OnBoard};
 
-use super::*;
+use pig_board::{Board, Pass, TaskEnd};
 use std::test::Fail;
 use std::thread::{Threads, join};
 

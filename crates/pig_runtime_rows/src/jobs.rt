@@ -1,4 +1,6 @@
-use super::*;
+//! What a job takes and refuses.
+
+use pig_job::{Core, Event, JobFault};
 use std::test::Fail;
 
 const NOT_NOW: Result<(), JobFault> = Err(JobFault::NotNow);

@@ -5,11 +5,11 @@ use Rattle.pig_board.specs.declared.view.View.{View}
 use Rattle.pig_board.specs.View.{steps_of, has_open, has_open_of, IsLate, began, won, failed_at}
 use Rattle.pig_board.proofs.CountLaws.{steps_began, steps_failed, steps_won, steps_late, began-open, began-open_of}
 
-pub tried_failed : (t a : ℕ) (v w u : View) → 1 < v.room → w ≡ began t a v → u ≡ failed_at t w → steps_of u ≡ steps_of v
-tried_failed t a v w u room e f =
+pub tried_failed : (t a k : ℕ) (v w u : View) → 1 < v.room → w ≡ began t a v → u ≡ failed_at t k w → steps_of u ≡ steps_of v
+tried_failed t a k v w u room e f =
     let is : has_open_of t w ≡ true = ap (has_open_of t) e ∙ began-open_of t a v in
     let left : w.room ≡ v.room - 1 = ap (λ (z : View). z.room) e in
-    ap steps_of f ∙ steps_failed t w is (omega arith) ∙ ap steps_of e ∙ steps_began t a v (omega arith)
+    ap steps_of f ∙ steps_failed t k w is (omega arith) ∙ ap steps_of e ∙ steps_began t a v (omega arith)
 
 pub tried_commit : (t a : ℕ) (b : Bool) (v w u : View) → 0 < v.room → w ≡ began t a v → MatchBool b (u ≡ won t a w) (IsLate t a w u) → steps_of u ≡ steps_of v
 tried_commit t a true v w u room e f =
