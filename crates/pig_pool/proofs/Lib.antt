@@ -1,3 +1,0 @@
-pub mod Crews
-pub mod Placing
-pub mod Steps

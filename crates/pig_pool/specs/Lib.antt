@@ -1,3 +1,0 @@
-pub mod Crew
-pub mod Wave
-pub mod Workers

@@ -1,5 +1,0 @@
-pub mod Order
-pub mod Adding
-pub mod Reading
-pub mod SortedSlots
-pub mod Merging
