@@ -281,5 +281,5 @@ kinds_of_result f.Abs args kinds h = abs_of args kinds h
 kinds_of_result f.ToTuple args kinds h = totuple_of args kinds h
 kinds_of_result (f.ToBag width) args kinds h = tobag_of width args kinds h
 
-pub kinds_kept : (function : Function) (args : List Tree) (kinds : List KindTree) (given : KindTree) → function_kind function kinds ≡ Some given → IsRowOf args kinds → IsOf (apply_tree function args) given
-kinds_kept function args kinds given is h = subst (OfKind (apply_tree function args)) is (kinds_of_result function args kinds h)
+pub kinds_kept : (function : Function) (args : List Tree) (kinds : List KindTree) (given : KindTree) → IsRowOf args kinds → function_kind function kinds ≡ Some given → IsOf (apply_tree function args) given
+kinds_kept function args kinds given h is = subst (OfKind (apply_tree function args)) is (kinds_of_result function args kinds h)

@@ -12,7 +12,7 @@ ghost use Rattle.pig_builtins.specs.Folds.{merge_found};
 /// A function gives a value of its kind of arguments of the kinds that it takes, a value of values, and a
 /// line-free one of line-free ones.
 pub fn function_laws()
-    ensures kinds { (function : Function) (args : List Tree) (kinds : List KindTree) (kind : KindTree) → function_kind function kinds ≡ Some kind → IsRowOf args kinds → IsOf (apply_tree function args) kind }
+    ensures kinds { (function : Function) (args : List Tree) (kinds : List KindTree) (kind : KindTree) → IsRowOf args kinds → function_kind function kinds ≡ Some kind → IsOf (apply_tree function args) kind }
     ensures values { (function : Function) (args : List Tree) → IsRow args → IsValue (apply_tree function args) }
     ensures line_free { (function : Function) (args : List Tree) → IsRow args → IsLineFreeRow args → IsLineFree (apply_tree function args) }
 {}
