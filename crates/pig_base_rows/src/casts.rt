@@ -1,5 +1,5 @@
 //! Numbers, fields and casts by hand.
-use crate::{cast, number, read_field};
+use pig_cast::{cast, number, read_field};
 use pig_value::{Blob, Boxed, Kind, Kinds, Pair, Pairs, Rows, Seq, Text, Tuple, Value, same};
 use std::alloc::{AllocError, Global};
 use std::test::Fail;
@@ -301,6 +301,55 @@ fn reads_nested_items(rt: HostRuntime) -> Result<(), Fail> {
             &expected
         )?
     );
+    Ok(())
+}
+
+// Text that opens so many brackets of each kind in turn, and closes them; the innermost closing one is given.
+fn nested(alloc: Global, depth: usize, innermost: u8) -> Result<Vec<u8>, AllocError> {
+    let mut text = Vec::new(alloc);
+    for i in 0..depth {
+        text.push(b"([{"[i % 3])?;
+    }
+    text.push(innermost)?;
+    for i in 1..depth {
+        text.push(b")]}"[(depth - 1 - i) % 3])?;
+    }
+    Ok(text)
+}
+
+// Brackets match however deep they stand.
+#[test]
+fn reads_deep_brackets(rt: HostRuntime) -> Result<(), Fail> {
+    let alloc = rt.alloc();
+    let mut kinds = Seq::new(alloc);
+    kinds.push(Kind::Chararray)?;
+    let kind = Kind::Tuple(kinds);
+    // the last of so many brackets is of the kind that the remainder of the place by 3 names
+    let cases: [(usize, u8, bool); 8] = [
+        (30, b'}', true),
+        (30, b')', false),
+        (31, b')', true),
+        (32, b']', true),
+        (33, b'}', true),
+        (33, b')', false),
+        (99, b'}', true),
+        (99, b']', false),
+    ];
+    for (depth, innermost, balanced) in cases {
+        let inner = nested(alloc, depth, innermost)?;
+        let mut field = Vec::from_slice(alloc, b"(")?;
+        field.extend_from_slice(&inner)?;
+        field.push(b')')?;
+        let mut row = Seq::new(alloc);
+        let written = String::from_utf8_lossy(alloc, &inner)?;
+        row.push(text(alloc, written.as_str())?)?;
+        let expected = if balanced {
+            Value::Tuple(row)
+        } else {
+            Value::Null
+        };
+        assert!(rt; reads(alloc, &field, &kind, &expected)?, "for {depth}");
+    }
     Ok(())
 }
 

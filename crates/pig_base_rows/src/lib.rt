@@ -11,4 +11,6 @@ mod outside;
 #[cfg(test)]
 mod storage;
 #[cfg(test)]
+mod text;
+#[cfg(test)]
 mod values;

@@ -1,8 +1,6 @@
-//! Lines, rows and texts by hand: what is stored for an input, and the text of each form of value.
-use crate::{line_row, next_line, write_row};
-use pig_value::{
-    Blob, Boxed, Column, Columns, Delim, Kind, Kinds, Pair, Pairs, Rows, Seq, Text, Tuple, Value,
-};
+//! Lines and rows by hand: where the lines of an input stand, and what is stored for it.
+use pig_storage::{Span, line_row, next_line, write_row};
+use pig_value::{Boxed, Column, Columns, Delim, Kind, Kinds, Seq};
 use std::alloc::{AllocError, Global};
 use std::test::Fail;
 
@@ -63,6 +61,35 @@ fn stored(
         from = span.next;
     }
     Ok(out)
+}
+
+// The place of each line's first byte, the one behind its last, and the one behind its LF.
+#[test]
+fn finds_each_line(rt: HostRuntime) -> Result<(), Fail> {
+    let cases: [(&[u8], &[(usize, usize, usize)]); 6] = [
+        (b"", &[]),
+        (b"a\n\r\n", &[(0, 1, 2), (2, 2, 4)]),
+        (b"a\r\n\nb\r", &[(0, 1, 3), (3, 3, 4), (4, 5, 6)]),
+        (b"\n\n", &[(0, 0, 1), (1, 1, 2)]),
+        (b"\r\r\n\r", &[(0, 1, 3), (3, 3, 4)]),
+        (b"abc", &[(0, 3, 3)]),
+    ];
+    for (input, spans) in cases {
+        let mut place = 0;
+        for (from, to, next) in spans {
+            let expected = Span {
+                from: *from,
+                to: *to,
+                next: *next,
+            };
+            assert_eq!(rt; place, *from, "in {input:?}");
+            assert_eq!(rt; next_line(input, *from), Some(expected), "in {input:?}");
+            place = *next;
+        }
+        assert_eq!(rt; next_line(input, input.len()), None, "in {input:?}");
+        assert_eq!(rt; place, input.len(), "in {input:?}");
+    }
+    Ok(())
 }
 
 #[test]
@@ -201,56 +228,5 @@ fn reads_a_line_of_a_million_fields(rt: HostRuntime) -> Result<(), Fail> {
     write_row(&row, Delim::tab(), &mut out)?;
     let expected: &[u8] = b"\tend\t\tend\n";
     assert_eq!(rt; out.as_slice(), expected);
-    Ok(())
-}
-
-fn text(alloc: Global, text: &str) -> Result<Value, AllocError> {
-    Ok(Value::Chars(Text::from_str(alloc, text)?))
-}
-
-fn pair(alloc: Global, first: Value, second: Value) -> Result<Tuple, AllocError> {
-    let mut tuple = Seq::new(alloc);
-    tuple.push(first)?;
-    tuple.push(second)?;
-    Ok(tuple)
-}
-
-fn one_key(alloc: Global, key: &str, value: Value) -> Result<Pairs, AllocError> {
-    let mut pairs = Seq::new(alloc);
-    pairs.push(Pair {
-        key: Text::from_str(alloc, key)?,
-        value,
-    })?;
-    Ok(pairs)
-}
-
-fn two_rows(alloc: Global, first: Tuple, second: Tuple) -> Result<Rows, AllocError> {
-    let mut rows = Seq::new(alloc);
-    rows.push(first)?;
-    rows.push(second)?;
-    Ok(rows)
-}
-
-#[test]
-fn writes_each_form(rt: HostRuntime) -> Result<(), Fail> {
-    let alloc = rt.alloc();
-    let bag = two_rows(
-        alloc,
-        pair(alloc, Value::Null, Value::Long(-9))?,
-        pair(alloc, Value::Bool(true), text(alloc, "é")?)?,
-    )?;
-    let mut row = Seq::new(alloc);
-    row.push(Value::Null)?;
-    row.push(Value::Map(one_key(alloc, "k", Value::Int(2))?))?;
-    row.push(Value::Tuple(pair(alloc, Value::Int(1), Value::Int(2))?))?;
-    row.push(Value::Bag(bag))?;
-    row.push(Value::Listed(Seq::new(alloc)))?;
-    row.push(Value::Tuple(Seq::new(alloc)))?;
-    row.push(Value::Bytes(Blob::from_slice(alloc, b"\xff")?))?;
-    row.push(Value::Bool(false))?;
-    let mut out = Vec::from_slice(alloc, b"before\n")?;
-    write_row(&row, Delim::tab(), &mut out)?;
-    let expected = "before\n\t[k#2]\t(1,2)\t{(,-9),(true,é)}\t{}\t()\t\u{fffd}\tfalse\n";
-    assert_eq!(rt; String::from_utf8_lossy(alloc, &out)?.as_str(), expected);
     Ok(())
 }

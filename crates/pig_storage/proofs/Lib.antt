@@ -3,7 +3,6 @@ pub mod Delims
 pub mod FirstLine
 mod Pieces
 mod Loops
-pub mod TextLists
 pub mod LineFree
 pub mod Walks
 pub mod StoredRows

@@ -1,4 +1,3 @@
 pub mod NextLine
 pub mod Pieces
-pub mod Written
 pub mod ReadBack

@@ -1,8 +1,11 @@
 ghost use Rattle.std.specs.Prelude.{◌≡◌, refl};
 ghost use Rattle.std.specs.List.{fold};
-ghost use Rattle.pig_text.specs.Hash.{hash_step, hash_onwards};
+ghost use Rattle.pig_value.specs.Texts.{text_of};
+ghost use Rattle.pig_value.specs.Trees.{tree};
+ghost use Rattle.pig_text.specs.Hash.{hash_of, hash_step, hash_onwards};
 
-use crate::TextSink;
+use crate::{TextSink, tell_value};
+use pig_value::Value;
 
 /// A hash of the bytes that it takes: from 0, each takes it to 31 times what it was, and the byte, modulo 2 ^ 32.
 #[derive(Debug, Clone, Copy, Drop)]
@@ -33,6 +36,15 @@ impl TextSink for TextHash {
         }
         self.hash = hash;
     }
+}
+
+/// The hash of a value's text.
+pub fn text_hash(value: &Value) -> u32
+    ensures { result ≡ hash_of (text_of (tree value.now)) }
+{
+    let mut told = TextHash::new();
+    tell_value(value, &mut told);
+    told.hash
 }
 
 fn after_byte(hash: u32, byte: u8) -> u32

@@ -1,12 +1,12 @@
-ghost use Rattle.std.specs.Prelude.{◌==◌, [], ◌∷◌, map, if◌then◌else◌};
+ghost use Rattle.std.specs.Prelude.{◌==◌, ◌++◌, [], ◌∷◌, map, if◌then◌else◌};
 ghost use Rattle.std.specs.List.{join_with_byte};
-ghost use Rattle.pig_value.specs.Texts.{text_of, bool_text, tuple_text, bracketed};
+ghost use Rattle.pig_value.specs.Texts.{text_of, row_text, bool_text, tuple_text, bracketed};
 ghost use Rattle.pig_value.specs.Trees.{tree, row_tree, rows_tree, entry_of};
 ghost use Rattle.pig_text.specs.Texts.{row_as_tuple, pair_text};
 
 use crate::TextSink;
 use itoa::Buffer;
-use pig_value::{Pair, Tuple, Value};
+use pig_value::{Delim, Pair, Tuple, Value};
 
 /// Tells the text of a value.
 #[cycle(text)]
@@ -25,6 +25,14 @@ pub fn tell_value<S: TextSink>(value: &Value, sink: &mut S)
         Value::Listed(rows) => tell_bag(rows.as_slice(), sink),
         Value::Map(pairs) => tell_map(pairs.as_slice(), sink),
     }
+}
+
+/// Tells the text of a row, its fields' texts with the delimiter between each two, and an LF.
+pub fn tell_row<S: TextSink>(row: &Tuple, delim: Delim, sink: &mut S)
+    ensures { S.after sink.old (row_text delim (row_tree row.now) ++ 10 ∷ []) sink.new }
+{
+    tell_fields(row.as_slice(), delim.byte(), sink);
+    sink.put(b"\n");
 }
 
 fn tell_bool<S: TextSink>(truth: bool, sink: &mut S)
