@@ -31,8 +31,8 @@ steps_won t a v h = let l = settled_length t a Won v h in let c = settled_fails 
 pub steps_late : (t a b : ℕ) (v : View) → has_open t a v ≡ true → steps_of (came_late t a b v) ≡ steps_of v
 steps_late t a b v h = let l = settled_length t a Late v h in let c = settled_fails t a Late v h in omega arith
 
-pub steps_failed : (t : ℕ) (v : View) → has_open_of t v ≡ true → 0 < v.room → steps_of (failed_at t v) ≡ steps_of v
-steps_failed t v h room =
+pub steps_failed : (t k : ℕ) (v : View) → has_open_of t v ≡ true → 0 < v.room → steps_of (failed_at t k v) ≡ steps_of v
+steps_failed t k v h room =
     let is = earliest-open t v.tried h in
     let l = settled_length t (earliest t v.tried) Failed v is in
     let c = settled_fails t (earliest t v.tried) Failed v is in
@@ -100,22 +100,22 @@ fails_late u t a b v h = swapped_alike (is_failure_of u) _ _ _ _ (Swaps-settle t
 pub wins_late : (u t a b : ℕ) (v : View) → has_open t a v ≡ true → wins_of u (came_late t a b v) ≡ wins_of u v
 wins_late u t a b v h = swapped_alike (is_win_of u) _ _ _ _ (Swaps-settle t a Late v.tried h) refl
 
-pub fails_failed : (t : ℕ) (v : View) → has_open_of t v ≡ true → fails_of t (failed_at t v) ≡ fails_of t v + 1
-fails_failed t v h =
+pub fails_failed : (t k : ℕ) (v : View) → has_open_of t v ≡ true → fails_of t (failed_at t k v) ≡ fails_of t v + 1
+fails_failed t k v h =
     let d = Swaps-settle t (earliest t v.tried) Failed v.tried (earliest-open t v.tried h) in
     let p = d.sums (λ z. cond {A = ℕ} (is_failure_of t z) 1 0) in
     let one : cond {A = ℕ} (t == t) 1 0 ≡ 1 = ap (λ c. cond {A = ℕ} c 1 0) (eq-eqb t t refl) in
     omega arith
 
-pub fails_failed_other : (u t : ℕ) (v : View) → has_open_of t v ≡ true → t ≢ u → fails_of u (failed_at t v) ≡ fails_of u v
-fails_failed_other u t v h n =
+pub fails_failed_other : (u t k : ℕ) (v : View) → has_open_of t v ≡ true → t ≢ u → fails_of u (failed_at t k v) ≡ fails_of u v
+fails_failed_other u t k v h n =
     let d = Swaps-settle t (earliest t v.tried) Failed v.tried (earliest-open t v.tried h) in
     let p = d.sums (λ z. cond {A = ℕ} (is_failure_of u z) 1 0) in
     let none : cond {A = ℕ} (t == u) 1 0 ≡ 0 = ap (λ c. cond {A = ℕ} c 1 0) (ne_eqb t u n) in
     omega arith
 
-pub wins_failed : (u t : ℕ) (v : View) → has_open_of t v ≡ true → wins_of u (failed_at t v) ≡ wins_of u v
-wins_failed u t v h = swapped_alike (is_win_of u) _ _ _ _ (Swaps-settle t (earliest t v.tried) Failed v.tried (earliest-open t v.tried h)) refl
+pub wins_failed : (u t k : ℕ) (v : View) → has_open_of t v ≡ true → wins_of u (failed_at t k v) ≡ wins_of u v
+wins_failed u t k v h = swapped_alike (is_win_of u) _ _ _ _ (Swaps-settle t (earliest t v.tried) Failed v.tried (earliest-open t v.tried h)) refl
 
 -- a join adds them
 pub fails_both : (u : ℕ) (v w : View) → fails_of u (both v w) ≡ fails_of u v + fails_of u w

@@ -1,10 +1,11 @@
 pub mod CountLaws
 pub mod Counts
+pub mod EndLaws
 pub mod Ends
 pub mod Moves
+pub mod Notes
 pub mod Opening
 pub mod Parts
 pub mod Reached
 pub mod Steps
-pub mod Tries
 pub mod Writes

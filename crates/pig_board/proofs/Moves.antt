@@ -123,8 +123,8 @@ commit_answer t a (suc c) v w is another =
     subst (λ b. MatchBool b (w ≡ won t a v) (IsLate t a v w)) (sym (ne_eqb (suc c) 0 (λ h. omega arith))) late
 
 -- the failures of a pass, once one more has failed
-one_more_failure : (t : ℕ) (v : View) → has_open_of t v ≡ true → fails_of t (failed_at t v) ≡ fails_of t v + 1
-one_more_failure t v h =
+one_more_failure : (t c : ℕ) (v : View) → has_open_of t v ≡ true → fails_of t (failed_at t c v) ≡ fails_of t v + 1
+one_more_failure t c v h =
     let a = earliest t v.tried in
     let d = Swaps-settle t a Failed v.tried (earliest-open t v.tried h) in
     let p = d.sums (λ z. cond {A = ℕ} (is_failure_of t z) 1 0) in
@@ -153,18 +153,18 @@ fail_allowed {S} n slots id t word m room is at_word s b homes at below =
     let part = summand-le (λ u. get_or s.words (3 * u + 2) 0) n t there in
     let small : x < 2 ^ 31 = omega arith in
     let more = next_number x small in
-    let w = failed_at t m.0 in
-    let one = one_more_failure t m.0 is in
+    let w = failed_at t (x + 1) m.0 in
+    let one = one_more_failure t (x + 1) m.0 is in
     let own = own_failures n s.words s.views id t m.0 b at in (
       w,
       keeps,
       tt,
-      fail_kept n s.words s.views id t word ((x + 1) % 2 ^ 64) m.0 b at room is at_word more,
+      fail_kept n s.words s.views id t word ((x + 1) % 2 ^ 64) (x + 1) m.0 b at room is at_word more refl,
       record {
         slots = refl;
         room = refl;
         small = small;
-        after = λ u e. same_task (λ k. ◌≡◌ {A = Me S View} (w, m.1) (failed_at k m.0, m.1)) t u (omega arith) refl;
+        after = λ u e. same_task (λ k. ◌≡◌ {A = Me S View} (w, m.1) (failed_at k (x + 1) m.0, m.1)) t u (omega arith) refl;
         own = λ u e. same_task (λ k. fails_of k w ≤ x + 1) t u (omega arith) (omega arith);
         noted = λ u e. same_task (λ k. All (λ p. p.0 ≡ k → p.1 ≤ x) m.0.counts) t u (omega arith) (noted_failures n s.words s.views id t x m.0 b at x_is);
         alone = λ u e only. same_task (λ k. x + 1 ≡ fails_of k w) t u (omega arith) (let q = all_failures n s.words s.views id t m.0 b at only in omega arith);

@@ -111,10 +111,10 @@ attempt_there n ws vs id t a v b at h =
     below_once : (m k : ℕ) → 0 < once_below m k → k < m
     below_once m k h = grind (arith, nat_tests)
 
-pub fail_kept : (n : ℕ) (ws : List ℕ) (vs : List View) (id t i y : ℕ) (v : View) → IsBoard n ws vs → get_elem? vs id ≡ some v → 0 < v.room → has_open_of t v ≡ true → i ≡ 3 * t + 2 → y ≡ get_or ws i 0 + 1 → IsBoard n (set ws i y) (set vs id (failed_at t v))
-fail_kept n ws vs id t i y v b at room h word e =
+pub fail_kept : (n : ℕ) (ws : List ℕ) (vs : List View) (id t i y c : ℕ) (v : View) → IsBoard n ws vs → get_elem? vs id ≡ some v → 0 < v.room → has_open_of t v ≡ true → i ≡ 3 * t + 2 → y ≡ get_or ws i 0 + 1 → c ≡ get_or ws i 0 + 1 → IsBoard n (set ws i y) (set vs id (failed_at t c v))
+fail_kept n ws vs id t i y c v b at room h word e count =
     let a = earliest t v.tried in
-    let w = failed_at t v in
+    let w = failed_at t c v in
     let is = earliest-open t v.tried h in
     let there = (attempt_there n ws vs id t a v b at is).0 in
     let long = b.long in
@@ -123,9 +123,10 @@ fail_kept n ws vs id t i y v b at room h word e =
     let keeps = keeps_fail (words_of n ws) (words_of n (set ws i y)) t a (flat_map (λ u. u.drawn) vs) _ _ s swap b.kept in
     let kept = keeps_same (words_of n (set ws i y)) (words_of n (set ws i y)) _ _ _ _ (record { tasks = refl; next = refl; begun = λ u. refl; failed = λ u. refl; winner = λ u. refl }) (SameBag-view (λ (u : View). u.drawn) vs id v w at refl) (record { sums = λ f. refl }) keeps in
     let old = noted_still (words_of n ws) (words_of n (set ws i y)) v (Grows-fail _ _ t s) (b.noted id v at) in
+    let failed : (words_of n (set ws i y)).failed t ≡ c = s.failed ∙ ap (λ k. get_or ws k 0 + 1) (sym word) ∙ sym count in
     let total = total-fail (words_of n ws) (words_of n (set ws i y)) t there s in
     changed n ws vs i y id v w b at kept (Grows-fail _ _ t s)
-    (record { known = old.known; winners = old.winners; counts = old.counts })
+    (record { known = old.known; winners = old.winners; counts = All-push (λ p. p.1 ≤ (words_of n (set ws i y)).failed p.0) v.counts (t, c) old.counts (omega arith) })
     (omega arith)
     (let l = settled_length t a Failed v is in let c = settled_fails t a Failed v is in omega arith)
 

@@ -36,7 +36,7 @@ pub record FailTold {S : Type 0} (st : Step S) (m : Me S View) (x : ℕ) (m' : M
   pub slots : m'.1 ≡ m.1
   pub room : m'.0.room ≡ m.0.room - 1
   pub small : x < 2 ^ 31
-  pub after : (t : ℕ) → st.word ≡ 3 * t + 2 → m' ≡ (failed_at t m.0, m.1)
+  pub after : (t : ℕ) → st.word ≡ 3 * t + 2 → m' ≡ (failed_at t (x + 1) m.0, m.1)
   pub own : (t : ℕ) → st.word ≡ 3 * t + 2 → fails_of t m'.0 ≤ x + 1
   pub noted : (t : ℕ) → st.word ≡ 3 * t + 2 → All (λ p. p.0 ≡ t → p.1 ≤ x) m.0.counts
   pub alone : (t : ℕ) → st.word ≡ 3 * t + 2 → IsAlone m.0 → x + 1 ≡ fails_of t m'.0

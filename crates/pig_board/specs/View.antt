@@ -38,6 +38,10 @@ knows_winner t v = list_any (is_win_of t) v.tried || list_any (λ p. p.0 == t) v
 abbrev pub fails_of : ℕ → View → ℕ
 fails_of t v = count_by (is_failure_of t) v.tried
 
+-- the number of the pass's failed attempts, of all tasks
+abbrev pub all_fails : View → ℕ
+all_fails v = count_by (λ x. has_failed x.fate) v.tried
+
 -- the number of the pass's attempts of task t that won
 abbrev pub wins_of : ℕ → View → ℕ
 wins_of t v = count_by (is_win_of t) v.tried
@@ -77,9 +81,13 @@ abbrev pub earliest : ℕ → List Attempt → ℕ
 earliest t [] = 0
 earliest t (x ∷ xs) = if is_open_of t x then x.number else earliest t xs
 
--- after the earliest attempt of task t that is not ended has failed
-abbrev pub failed_at : ℕ → View → View
-failed_at t v = record v { tried = settle t (earliest t v.tried) Failed v.tried; room = v.room - 1 }
+-- after the earliest attempt of task t that is not ended has failed, which makes c failures, and c is noted
+abbrev pub failed_at : ℕ → ℕ → View → View
+failed_at t c v = record v {
+  tried = settle t (earliest t v.tried) Failed v.tried;
+  counts = v.counts ++ (t, c) ∷ [];
+  room = v.room - 1;
+}
 
 -- after a look at the winner of task t, which is noted if there is one
 abbrev pub saw_winner : ℕ → Option ℕ → View → View

@@ -105,13 +105,13 @@ impl Board {
     }
 
     /// Ends the earliest attempt of task `t` that this pass has under way, as failed. The answer is the number of
-    /// failures of the task, with this one.
+    /// failures of the task, with this one, which the pass notes.
     pub fn fail(&self, pass: &mut Pass, t: u32) -> u32
         requires board { OnBoard self.now pass.old }
         requires under_way { has_open_of t (view_of pass.old) ≡ true }
         requires room { 0 < (view_of pass.old).room }
         ensures board { OnBoard self.now pass.new }
-        ensures view { view_of pass.new ≡ failed_at t (view_of pass.old) }
+        ensures view { view_of pass.new ≡ failed_at t result (view_of pass.old) }
         ensures own { fails_of t (view_of pass.new) ≤ result }
         ensures noted { All (λ p. p.0 ≡ t → p.1 < result) (view_of pass.old).counts }
         ensures alone { IsAlone (view_of pass.old) → result ≡ fails_of t (view_of pass.new) }

@@ -11,8 +11,9 @@
 //!
 //! `specs/View.antt` says what a pass knows and what each call makes of it, `specs/Rule.antt` has the board's rule,
 //! `specs/Told.antt` what a step on a word tells, `specs/Pass.antt` the words for a pass and its board,
-//! `specs/End.antt` the end of a job, and `specs/Laws.antt` the law that every board that meets the rule is a job which
-//! its own steps reach (`board_is_reached`).
+//! `specs/End.antt` the end of a job, and `specs/Laws.antt` the laws: every board that meets the rule is a job which
+//! its own steps reach (`board_is_reached`), and the end of a job tells what the last pass won, failed and noted
+//! (`an_end_tells`).
 #![tactic(auto)]
 
 mod board;
@@ -24,8 +25,5 @@ mod view;
 
 pub use board::{Board, Pass};
 pub use end::{JobEnd, TaskEnd};
-pub use laws::{board_is_reached, cross_threads};
+pub use laws::{an_end_tells, board_is_reached, cross_threads};
 pub use view::View;
-
-#[cfg(test)]
-mod tests;

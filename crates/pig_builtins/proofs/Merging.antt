@@ -1,13 +1,12 @@
 -- What the parts of a column find together is what the column finds, however it is cut, and in whatever order it is taken.
 use Rattle.std.proofs.Common.{◌≡◌, refl, sym, ap, ◌∙◌, append-nil}
-use Rattle.std.specs.Prelude.{ℕ, ℤ, pos, ◌+ℤ◌, ◌+◌, Bool, true, false, cond, List, [], ◌∷◌, ◌++◌, length, Option, Some, None, slice_get, if◌then◌else◌}
+use Rattle.std.specs.Prelude.{ℤ, pos, ◌+ℤ◌, true, false, List, [], ◌∷◌, ◌++◌, length, Option, Some, None, slice_get, if◌then◌else◌}
 use Rattle.std.specs.Cmp.{IsTotalOrder}
 use Rattle.std.specs.Int.{w64, int_wrap}
 use Rattle.std.specs.List.{filter, filter_map, cons_option}
 use Rattle.std.specs.List.Sorted.{IsPermutation}
 use Rattle.std.specs.Ordering.{is_gt}
 use Rattle.std.specs.declared.cmp.Ordering.{Ordering}
-use Rattle.std.specs.declared.cmp.Ordering.TheVariants.{Less, Equal, Greater}
 use Rattle.std.proofs.lemmas.List.{length-append}
 use Rattle.std.proofs.lemmas.List.Elements.{filter-append, filter_map-append}
 use Rattle.pig_value.specs.Functions.{column_found, first_found, is_present, is_ranked, length_of, long_of, number_of, sum_found, sum_ℤ}
@@ -23,7 +22,7 @@ use Rattle.pig_value.specs.declared.functions.Function.{Function}
 use Rattle.pig_value.specs.declared.functions.Function.TheVariants as f
 use Rattle.pig_value.specs.declared.operators.Dir.{Dir}
 use Rattle.pig_value.specs.declared.operators.Dir.TheVariants as dir
-use Rattle.pig_builtins.specs.Folds.{is_algebraic, together, add_tree, first_of, merge_found}
+use Rattle.pig_builtins.specs.Folds.{together, add_tree, first_of, merge_found}
 use Rattle.pig_builtins.proofs.Sums.{sum_ℤ-append, wraps_both}
 
 -- lengths
@@ -72,11 +71,11 @@ module _ {X : Type 0} (R : X → X → Ordering) (total : IsTotalOrder R) where
   earlier_assoc : (a b c : X) → earlier a (earlier b c) ≡ earlier (earlier a b) c
   earlier_assoc a b c = either_way (is_gt (R b c))
       (λ k. ap (earlier a) (earlier_is b c k) ∙ either_way (is_gt (R a b))
-        (λ h. earlier_is a c (beyond a b c h k) ∙ sym (earlier_is b c k) ∙ ap (λ x. earlier x c) (sym (earlier_is a b h)))
-        (λ h. ap (λ x. earlier x c) (sym (earlier_stays a b h))))
+      (λ h. earlier_is a c (beyond a b c h k) ∙ sym (earlier_is b c k) ∙ ap (λ x. earlier x c) (sym (earlier_is a b h)))
+      (λ h. ap (λ x. earlier x c) (sym (earlier_stays a b h))))
       (λ k. ap (earlier a) (earlier_stays b c k) ∙ either_way (is_gt (R a b))
-        (λ h. earlier_is a b h ∙ sym (earlier_stays b c k) ∙ ap (λ x. earlier x c) (sym (earlier_is a b h)))
-        (λ h. earlier_stays a b h ∙ sym (earlier_stays a c (upto a b c h k)) ∙ ap (λ x. earlier x c) (sym (earlier_stays a b h))))
+      (λ h. earlier_is a b h ∙ sym (earlier_stays b c k) ∙ ap (λ x. earlier x c) (sym (earlier_is a b h)))
+      (λ h. earlier_stays a b h ∙ sym (earlier_stays a c (upto a b c h k)) ∙ ap (λ x. earlier x c) (sym (earlier_stays a b h))))
 
   either_assoc : (a b c : Option X) → either a (either b c) ≡ either (either a b) c
   either_assoc None b c = refl

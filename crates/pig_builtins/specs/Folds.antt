@@ -1,5 +1,5 @@
 -- The algebraic functions taken a value at a time: what a fold has found so far, and what the parts of a column give together.
-use Rattle.std.specs.Prelude.{ℕ, pos, ◌+ℤ◌, Bool, true, false, List, map, Option, Some, None, slice_get, if◌then◌else◌}
+use Rattle.std.specs.Prelude.{◌+ℤ◌, Bool, true, false, Option, Some, None, if◌then◌else◌}
 use Rattle.std.specs.Borrow.{Bor}
 use Rattle.std.specs.Option.{option_copied, option_map}
 use Rattle.std.specs.Ordering.{is_gt}

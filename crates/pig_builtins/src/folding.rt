@@ -172,7 +172,12 @@ fn only_field(row: &Tuple) -> Option<&Value>
 
 /// What an algebraic function gives of the values of a column, the field at a position of each row; null where
 /// the function is not algebraic. The rows are read in place.
-pub fn apply_column(alloc: Global, function: Function, rows: &[Tuple], position: u32) -> Result<Value, AllocError>
+pub fn apply_column(
+    alloc: Global,
+    function: Function,
+    rows: &[Tuple],
+    position: u32,
+) -> Result<Value, AllocError>
     ensures { IfOk result (λ v. tree v ≡ column_tree function (map (at position) (rows_tree rows.now))) }
 {
     match Fold::start(function) {

@@ -124,6 +124,3 @@ pub enum Event {
         worker: u32,
     },
 }
-
-#[cfg(test)]
-mod tests;

@@ -1,4 +1,4 @@
--- A code is of bytes where the value's texts are.
+-- A code is of bytes.
 use Rattle.std.proofs.Common.{◌≡◌, ◌<◌, ℕ, zero, suc, Bool, true, false, ◌&&◌, List, [], ◌∷◌, ◌++◌, refl, arith, subst, inl, inr}
 use Rattle.std.specs.Str.{IsUtf8}
 use Rattle.std.specs.Int.{byte_at, bytes_high_first}
@@ -7,7 +7,8 @@ use Rattle.std.proofs.lemmas.Bool.{cases_lt, lt-ltb, le-ltb}
 use lib.Utf8.{encode, encodes, scalar, scalars, scalar_cases}
 use Rattle.pig_value.specs.Trees.{Tree, Fields, Tuples, Entries, v_null, v_bool, v_int, v_long, v_chars, v_bytes, v_tuple, v_bag, v_listed, v_map, no_fields, more_fields, no_tuples, more_tuples, no_entries, more_entries}
 use Rattle.pig_keycode.specs.Codes.{bool_code, escaped, text_code, code, fields_code, tuples_code, entries_code}
-use Rattle.pig_keycode.specs.Codable.{AreBytes, HasText, FieldsHaveText, TuplesHaveText, EntriesHaveText}
+use Rattle.pig_value.specs.Leaves.{AreBytes}
+use Rattle.pig_value.specs.Valid.{IsValue, AreFields, AreTuples, AreEntries}
 
 pub bytes-append : (xs ys : List ℕ) → AreBytes xs → AreBytes ys → AreBytes (xs ++ ys)
 bytes-append [] ys h k = k
@@ -66,7 +67,7 @@ bool_small false = omega arith
 bool_small true = omega arith
 
 mutual
-  pub code_bytes : (v : Tree) → HasText v → AreBytes (code v)
+  pub code_bytes : (v : Tree) → IsValue v → AreBytes (code v)
   code_bytes v_null h = (omega arith, tt)
   code_bytes (v_bool b) h = (omega arith, (bool_small b, tt))
   code_bytes (v_int z) h = (omega arith, number_bytes 4 _)
@@ -74,19 +75,19 @@ mutual
   code_bytes (v_chars text) h = (omega arith, text_bytes text (utf8_bytes text h))
   code_bytes (v_bytes bytes) h = (omega arith, text_bytes bytes h)
   code_bytes (v_tuple vs) h = (omega arith, fields_bytes vs h)
-  code_bytes (v_bag rs) h = (omega arith, tuples_bytes rs h)
+  code_bytes (v_bag rs) h = (omega arith, tuples_bytes rs h.1)
   code_bytes (v_listed rs) h = (omega arith, tuples_bytes rs h)
-  code_bytes (v_map ps) h = (omega arith, entries_bytes ps h)
+  code_bytes (v_map ps) h = (omega arith, entries_bytes ps h.1)
 
-  fields_bytes : (vs : Fields) → FieldsHaveText vs → AreBytes (fields_code vs)
+  fields_bytes : (vs : Fields) → AreFields vs → AreBytes (fields_code vs)
   fields_bytes no_fields h = (omega arith, tt)
   fields_bytes (more_fields v vs) h = (omega arith, bytes-append (code v) (fields_code vs) (code_bytes v h.0) (fields_bytes vs h.1))
 
-  tuples_bytes : (rs : Tuples) → TuplesHaveText rs → AreBytes (tuples_code rs)
+  tuples_bytes : (rs : Tuples) → AreTuples rs → AreBytes (tuples_code rs)
   tuples_bytes no_tuples h = (omega arith, tt)
   tuples_bytes (more_tuples r rs) h = (omega arith, (omega arith, bytes-append (fields_code r) (tuples_code rs) (fields_bytes r h.0) (tuples_bytes rs h.1)))
 
-  entries_bytes : (ps : Entries) → EntriesHaveText ps → AreBytes (entries_code ps)
+  entries_bytes : (ps : Entries) → AreEntries ps → AreBytes (entries_code ps)
   entries_bytes no_entries h = (omega arith, tt)
   entries_bytes (more_entries key v ps) h =
       (omega arith, (omega arith, bytes-append (text_code key) (code v ++ entries_code ps) (text_bytes key (utf8_bytes key h.0)) (bytes-append (code v) (entries_code ps) (code_bytes v h.1) (entries_bytes ps h.2))))

@@ -18,7 +18,7 @@ bool_order true false s t = refl
 bool_order true true s t = refl
 
 -- a part and what follows it, before what follows both
-chained : (x y u w s t : List ℕ) (r q : Ordering)
+pub chained : (x y u w s t : List ℕ) (r q : Ordering)
     → ((s t : List ℕ) → slice_cmp nat_cmp (x ++ s) (y ++ t) ≡ ordering_then r (slice_cmp nat_cmp s t))
     → slice_cmp nat_cmp (u ++ s) (w ++ t) ≡ ordering_then q (slice_cmp nat_cmp s t)
     → slice_cmp nat_cmp ((x ++ u) ++ s) ((y ++ w) ++ t) ≡ ordering_then (ordering_then r q) (slice_cmp nat_cmp s t)
@@ -61,5 +61,5 @@ mutual
   entries_order (more_entries key v ps) no_entries h k s t = refl
   entries_order (more_entries key v ps) (more_entries l w qs) h k s t =
       chained (text_code key) (text_code l) (code v ++ entries_code ps) (code w ++ entries_code qs) s t (text_cmp key l) (ordering_then (tree_cmp v w) (entries_cmp ps qs)) (text_order key l)
-      (chained (code v) (code w) (entries_code ps) (entries_code qs) s t (tree_cmp v w) (entries_cmp ps qs) (code_order v w h.0 k.0) (entries_order ps qs h.1 k.1 s t))
+      (chained (code v) (code w) (entries_code ps) (entries_code qs) s t (tree_cmp v w) (entries_cmp ps qs) (code_order v w h.1 k.1) (entries_order ps qs h.2 k.2 s t))
       ∙ ap (λ r. ordering_then r (slice_cmp nat_cmp s t)) (sym (then_assoc (text_cmp key l) (tree_cmp v w) (entries_cmp ps qs)))

@@ -4,6 +4,7 @@ pub mod CodeOrder
 pub mod Unique
 pub mod CodeBytes
 pub mod Turned
+pub mod KeyOrder
 pub mod Writing
 pub mod Sequences
 pub mod Passing

@@ -28,7 +28,7 @@ same p a b l m Less e h = subst (λ c. a * p + l < c * p + m) e (omega arith)
 same p a b l m Equal e h = ap (λ c. c * p + l) e ∙ ap (λ d. b * p + d) h
 same p a b l m Greater e h = subst (λ c. c * p + m < a * p + l) e (omega arith)
 
-digits_cmp : (p a b l m : ℕ) → l < p → m < p → ordering_then (nat_cmp a b) (nat_cmp l m) ≡ nat_cmp (a * p + l) (b * p + m)
+pub digits_cmp : (p a b l m : ℕ) → l < p → m < p → ordering_then (nat_cmp a b) (nat_cmp l m) ≡ nat_cmp (a * p + l) (b * p + m)
 digits_cmp p a b l m lp mp = by (nat_cmp a b) (ranked a b (nat_cmp a b) refl)
   where
     by : (r : Ordering) → MatchOrdering r (a < b) (a ≡ b) (b < a) → ordering_then r (nat_cmp l m) ≡ nat_cmp (a * p + l) (b * p + m)
@@ -57,7 +57,7 @@ bytes_order (suc k) m n s t =
     ∙ (ap (λ x. ordering_then (nat_cmp x (byte_at k n * 256 ^ k + n % 256 ^ k)) (slice_cmp nat_cmp s t)) (one_more k m)
     ∙ ap (λ y. ordering_then (nat_cmp (m % 256 ^ suc k) y) (slice_cmp nat_cmp s t)) (one_more k n))))
 
-whole_order : (k m n : ℕ) (s t : List ℕ) → m < 256 ^ k → n < 256 ^ k → slice_cmp nat_cmp (bytes_high_first k m ++ s) (bytes_high_first k n ++ t) ≡ ordering_then (nat_cmp m n) (slice_cmp nat_cmp s t)
+pub whole_order : (k m n : ℕ) (s t : List ℕ) → m < 256 ^ k → n < 256 ^ k → slice_cmp nat_cmp (bytes_high_first k m ++ s) (bytes_high_first k n ++ t) ≡ ordering_then (nat_cmp m n) (slice_cmp nat_cmp s t)
 whole_order k m n s t p q =
     bytes_order k m n s t
     ∙ (ap (λ x. ordering_then (nat_cmp x (n % 256 ^ k)) (slice_cmp nat_cmp s t)) (mod-eq_of_lt p)

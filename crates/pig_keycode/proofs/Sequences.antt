@@ -1,11 +1,11 @@
 -- Steps one after another up to an end, as they are read from the front.
-use Rattle.std.proofs.Common.{◌≡◌, ◌<◌, ℕ, zero, suc, true, false, List, [], ◌∷◌, ◌++◌, length, refl, sym, ◌∙◌, ap, subst, arith}
+use Rattle.std.proofs.Common.{◌≡◌, ◌<◌, ℕ, zero, suc, true, false, List, [], ◌∷◌, ◌++◌, length, take, drop, refl, sym, ◌∙◌, ap, subst, arith}
 use Rattle.std.specs.List.{AllByRecursion}
-use Rattle.std.proofs.lemmas.List.{append_assoc, append-nil}
+use Rattle.std.proofs.lemmas.List.{append_assoc, append-nil, take-append-drop}
 use Rattle.std.specs.declared.option.Option.TheVariants.{Some, None}
 use Rattle.pig_keycode.specs.Codes.{escaped, escaped_byte, text_code}
-use Rattle.pig_keycode.specs.Codable.{AreBytes}
-use Rattle.pig_keycode.specs.Reading.{StandsFirst, NoneFirst, mark_code, AnyMark, byte_code, IsByteOrEnd}
+use Rattle.pig_value.specs.Leaves.{AreBytes}
+use Rattle.pig_keycode.specs.Reading.{StandsFirst, NoneFirst, mark_code, AnyMark, byte_code, IsByteOrEnd, HasNoZero}
 
 -- steps one after another, and an end
 abbrev pub sequence_code : {X : Type 0} → (X → List ℕ) → List ℕ → List X → List ℕ
@@ -98,6 +98,19 @@ TextGoes = Goes escaped_byte (0 ∷ 0 ∷ []) (λ b. b < 256)
 pub text_goes_on : (bytes rest left text : List ℕ) (b : ℕ) → TextGoes bytes rest text → StandsFirst byte_code IsByteOrEnd rest (Some b) left → TextGoes bytes left (text ++ b ∷ [])
 text_goes_on bytes rest left text b g h =
     goes_on escaped_byte (0 ∷ 0 ∷ []) (λ b. b < 256) (λ x y s t p q e. byte_told x y s t e) byte_apart bytes rest left text b g (record { is = h.is; good = h.good })
+
+-- several bytes at once, none of them zero
+pub text_goes_along : (chunk bytes left text : List ℕ) → HasNoZero chunk → AreBytes (chunk ++ left) → TextGoes bytes (chunk ++ left) text → TextGoes bytes left (text ++ chunk)
+text_goes_along [] bytes left text h small g = subst (TextGoes bytes left) (sym (append-nil text)) g
+text_goes_along (zero ∷ chunk) bytes left text h small g = absurd (h.0 refl)
+text_goes_along (suc b ∷ chunk) bytes left text h small g =
+    subst (TextGoes bytes left) (append_assoc text (suc b ∷ []) chunk)
+    (text_goes_along chunk bytes left (text ++ suc b ∷ []) h.1 small.1 (text_goes_on bytes (suc b ∷ (chunk ++ left)) (chunk ++ left) text (suc b) g (record { is = refl; good = small.0 })))
+
+pub text_chunk : (bytes rest plain more text new : List ℕ) (n : ℕ) → plain ≡ take n rest → more ≡ drop n rest → HasNoZero (take n rest) → AreBytes rest → new ≡ text ++ plain → TextGoes bytes rest text → TextGoes bytes more new
+text_chunk bytes rest plain more text new n front back none small grown g =
+    let whole : rest ≡ plain ++ more = sym (take-append-drop n rest) ∙ (ap (λ l. l ++ drop n rest) (sym front) ∙ ap (λ l. plain ++ l) (sym back)) in
+    subst (TextGoes bytes more) (sym grown) (text_goes_along plain bytes more text (subst HasNoZero (sym front) none) (subst AreBytes whole small) (subst (λ l. TextGoes bytes l text) whole g))
 
 pub text_ends : (bytes rest left text : List ℕ) → TextGoes bytes rest text → StandsFirst byte_code IsByteOrEnd rest None left → StandsFirst text_code AreBytes bytes text left
 text_ends bytes rest left text g h =

@@ -12,12 +12,12 @@ use Rattle.pig_value.specs.Orders.{tree_cmp}
 use Rattle.pig_value.proofs.OrderLaws.{tree_same, tree_total}
 use Rattle.pig_value.specs.Valid.{IsValue}
 use Rattle.pig_keycode.specs.Codes.{code, turned}
-use Rattle.pig_keycode.specs.Codable.{AreBytes, HasText}
+use Rattle.pig_value.specs.Leaves.{AreBytes}
 use Rattle.pig_keycode.proofs.CodeOrder.{code_order}
 use Rattle.pig_keycode.proofs.CodeBytes.{code_bytes}
 use Rattle.pig_keycode.proofs.Unique.{code_told}
 
-then_nothing : (r : Ordering) → ordering_then r Equal ≡ r
+pub then_nothing : (r : Ordering) → ordering_then r Equal ≡ r
 then_nothing Less = refl
 then_nothing Equal = refl
 then_nothing Greater = refl
@@ -59,9 +59,9 @@ less_turned [] (y ∷ ys) s t b h = absurd (let wrong : 256 < y = not_less y (sl
 less_turned (x ∷ xs) [] s t b h = absurd (cc)
 less_turned (x ∷ xs) (y ∷ ys) s t b h = first_differs x y xs ys s t (nat_cmp x y) b.0 refl (less_turned xs ys s t b.1) h
 
-code_turned : (a b : Tree) (s t : List ℕ) → IsValue a → IsValue b → HasText b → tree_cmp a b ≡ Less → slice_cmp nat_cmp (turned (code a) ++ s) (turned (code b) ++ t) ≡ Greater
-code_turned a b s t h k text less =
-    less_turned (code a) (code b) s t (code_bytes b text)
+code_turned : (a b : Tree) (s t : List ℕ) → IsValue a → IsValue b → tree_cmp a b ≡ Less → slice_cmp nat_cmp (turned (code a) ++ s) (turned (code b) ++ t) ≡ Greater
+code_turned a b s t h k less =
+    less_turned (code a) (code b) s t (code_bytes b k)
     (ap (λ l. slice_cmp nat_cmp (code a ++ 256 ∷ []) l) (sym (append-nil (code b)))
     ∙ (code_order a b h k (256 ∷ []) [] ∙ ap (λ r. ordering_then r Greater) less))
 
@@ -70,18 +70,18 @@ behind_same : (xs s t : List ℕ) → slice_cmp nat_cmp (xs ++ s) (xs ++ t) ≡ 
 behind_same [] s t = refl
 behind_same (x ∷ xs) s t = ap (λ r. ordering_then r (slice_cmp nat_cmp (xs ++ s) (xs ++ t))) (sym (nat_cmp_is x x Equal refl)) ∙ behind_same xs s t
 
-pub turned_followed : (a b : Tree) (s t : List ℕ) → IsValue a → IsValue b → HasText a → HasText b → slice_cmp nat_cmp (turned (code a) ++ s) (turned (code b) ++ t) ≡ ordering_then (ordering_reverse (tree_cmp a b)) (slice_cmp nat_cmp s t)
-turned_followed a b s t h k f g = by (tree_cmp a b) refl
+pub turned_followed : (a b : Tree) (s t : List ℕ) → IsValue a → IsValue b → slice_cmp nat_cmp (turned (code a) ++ s) (turned (code b) ++ t) ≡ ordering_then (ordering_reverse (tree_cmp a b)) (slice_cmp nat_cmp s t)
+turned_followed a b s t h k = by (tree_cmp a b) refl
   where
     by : (r : Ordering) → tree_cmp a b ≡ r → slice_cmp nat_cmp (turned (code a) ++ s) (turned (code b) ++ t) ≡ ordering_then (ordering_reverse r) (slice_cmp nat_cmp s t)
-    by Less e = code_turned a b s t h k g e
+    by Less e = code_turned a b s t h k e
     by Equal e = ap (λ v. slice_cmp nat_cmp (turned (code a) ++ s) (turned (code v) ++ t)) (sym (tree_same a b e)) ∙ behind_same (turned (code a)) s t
     by Greater e =
         (lists_total nat_cmp_total).antisymm (turned (code a) ++ s) (turned (code b) ++ t)
-        ∙ ap ordering_reverse (code_turned b a t s k h f (tree_total.antisymm b a ∙ ap ordering_reverse e))
+        ∙ ap ordering_reverse (code_turned b a t s k h (tree_total.antisymm b a ∙ ap ordering_reverse e))
 
-pub turned_order : (a b : Tree) → IsValue a → IsValue b → HasText a → HasText b → slice_cmp nat_cmp (turned (code a)) (turned (code b)) ≡ ordering_reverse (tree_cmp a b)
-turned_order a b h k f g =
+pub turned_order : (a b : Tree) → IsValue a → IsValue b → slice_cmp nat_cmp (turned (code a)) (turned (code b)) ≡ ordering_reverse (tree_cmp a b)
+turned_order a b h k =
     ap (λ l. slice_cmp nat_cmp l (turned (code b))) (sym (append-nil (turned (code a))))
     ∙ (ap (λ l. slice_cmp nat_cmp (turned (code a) ++ []) l) (sym (append-nil (turned (code b))))
-    ∙ (turned_followed a b [] [] h k f g ∙ then_nothing (ordering_reverse (tree_cmp a b))))
+    ∙ (turned_followed a b [] [] h k ∙ then_nothing (ordering_reverse (tree_cmp a b))))

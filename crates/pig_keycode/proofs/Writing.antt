@@ -1,11 +1,13 @@
 -- Steps of the loops that write codes.
-use Rattle.std.proofs.Common.{◌≡◌, ℕ, suc, ◌+◌, ◌<◌, List, [], ◌∷◌, ◌++◌, length, map, drop, get_or, sym, ◌∙◌, ap, subst}
+use Rattle.std.proofs.Common.{◌≡◌, ℕ, zero, suc, ◌+◌, ◌<◌, List, [], ◌∷◌, ◌++◌, length, map, drop, get_or, refl, sym, ◌∙◌, ap, arith}
 use Rattle.std.proofs.lemmas.List.{append_assoc, drop_more}
-use Rattle.pig_value.specs.Trees.{Tree, entries_of}
-use Rattle.pig_keycode.specs.Codes.{text_code, code, entries_code}
-use Rattle.std.specs.Str.{IsUtf8}
-use Rattle.pig_keycode.specs.Codable.{AreBytes, HasText, EntriesHaveText}
-use Rattle.pig_keycode.specs.Grown.{IsGrown}
+use Rattle.pig_value.specs.Trees.{Tree, row_tree, entries_of}
+use Rattle.pig_value.specs.declared.values.Value.{Value}
+use Rattle.pig_value.specs.declared.operators.Dir.{Dir}
+use Rattle.pig_keycode.specs.Keys.{codes_in}
+use Rattle.pig_keycode.specs.Codes.{escaped, escaped_byte, text_code, code, entries_code}
+use Rattle.pig_keycode.specs.Reading.{HasNoZero}
+use Rattle.pig_value.specs.Extended.{IsExtended}
 
 -- a pair is written: the mark, the key as a chararray and the value
 pub pair_written : {V : Type 0} (entry : V → List ℕ × Tree) (xs : List V) (i : ℕ) (x : V) (key : List ℕ) (v : Tree) (old marked with_key new whole : List ℕ)
@@ -26,7 +28,7 @@ pair_written entry xs i x key v old marked with_key new whole within at is mark 
     ∙ (ap (λ l. old ++ entries_code (entries_of (map entry l))) (sym here) ∙ so_far)))))))
 
 -- what has grown three times has grown
-pub grown_thrice : (start old marked with_key new : List ℕ) → IsGrown start old → marked ≡ old ++ 1 ∷ [] → IsGrown marked with_key → IsGrown with_key new → IsGrown start new
+pub grown_thrice : (start old marked with_key new : List ℕ) → IsExtended start old → marked ≡ old ++ 1 ∷ [] → IsExtended marked with_key → IsExtended with_key new → IsExtended start new
 grown_thrice start old marked with_key new a mark b c = record {
   more = a.more ++ 1 ∷ (b.more ++ c.more);
   is =
@@ -39,16 +41,51 @@ grown_thrice start old marked with_key new a mark b c = record {
       ∙ append_assoc start a.more (1 ∷ (b.more ++ c.more)))))));
 }
 
--- a pair has text, and those behind it
-pub pair_has_text : {V : Type 0} (entry : V → List ℕ × Tree) (xs : List V) (i : ℕ) (x : V) (key : List ℕ) (v : Tree)
-    → i < length xs → x ≡ get_or xs i x → entry x ≡ (key, v) → IsUtf8 key → HasText v
-    → EntriesHaveText (entries_of (map entry (drop (i + 1) xs))) → EntriesHaveText (entries_of (map entry (drop i xs)))
-pair_has_text entry xs i x key v within at is utf8 text behind =
-    let here : drop i xs ≡ x ∷ drop (i + 1) xs = drop_more xs i x within ∙ ap (λ y. y ∷ drop (i + 1) xs) (sym at) in
-    subst (λ l. EntriesHaveText (entries_of (map entry l))) (sym here)
-    (subst (λ p. EntriesHaveText (entries_of (p ∷ map entry (drop (i + 1) xs)))) (sym is) (utf8, text, behind))
+-- what has grown by parts has grown
+pub grown_twice : (start old mid new first second : List ℕ) → IsExtended start old → mid ≡ old ++ first → new ≡ mid ++ second → IsExtended start new
+grown_twice start old mid new first second a b c = record {
+  more = a.more ++ (first ++ second);
+  is =
+      c
+      ∙ (ap (λ l. l ++ second) b
+      ∙ (append_assoc old first second
+      ∙ (ap (λ l. l ++ (first ++ second)) a.is
+      ∙ append_assoc start a.more (first ++ second))));
+}
 
--- bytes, by index
-pub bytes_at : (bs : List ℕ) → ((i : ℕ) → get_or bs i 0 < 256) → AreBytes bs
-bytes_at [] h = tt
-bytes_at (b ∷ bs) h = (h 0, bytes_at bs (λ i. let next : get_or (b ∷ bs) (suc i) 0 < 256 = h (suc i) in next))
+-- a zero byte and what is before it are written, and what is behind it is left; or nothing is left but the end
+pub escaped_plain : (xs : List ℕ) → HasNoZero xs → escaped xs ≡ xs
+escaped_plain [] h = refl
+escaped_plain (zero ∷ xs) h = absurd (h.0 refl)
+escaped_plain (suc x ∷ xs) h = ap (λ l. suc x ∷ l) (escaped_plain xs h.1)
+
+escaped-append : (xs ys : List ℕ) → escaped (xs ++ ys) ≡ escaped xs ++ escaped ys
+escaped-append [] ys = refl
+escaped-append (x ∷ xs) ys = ap (λ l. escaped_byte x ++ l) (escaped-append xs ys) ∙ sym (append_assoc (escaped_byte x) (escaped xs) (escaped ys))
+
+pub zero_written : (old out new whole rest plain more : List ℕ) → out ≡ old ++ plain → new ≡ out ++ 0 ∷ 255 ∷ []
+    → HasNoZero plain → rest ≡ plain ++ 0 ∷ more → old ++ text_code rest ≡ whole → new ++ text_code more ≡ whole
+zero_written old out new whole rest plain more first second none is so_far =
+    let split : escaped rest ≡ plain ++ 0 ∷ 255 ∷ escaped more =
+    ap escaped is ∙ (escaped-append plain (0 ∷ more) ∙ ap (λ l. l ++ 0 ∷ 255 ∷ escaped more) (escaped_plain plain none))
+    in
+    ap (λ l. l ++ text_code more) second
+    ∙ (append_assoc out (0 ∷ 255 ∷ []) (text_code more)
+    ∙ (ap (λ l. l ++ 0 ∷ 255 ∷ text_code more) first
+    ∙ (append_assoc old plain (0 ∷ 255 ∷ text_code more)
+    ∙ (ap (λ l. old ++ l) (sym (ap (λ l. l ++ 0 ∷ 0 ∷ []) split ∙ append_assoc plain (0 ∷ 255 ∷ escaped more) (0 ∷ 0 ∷ [])))
+    ∙ so_far))))
+
+pub end_written : (old out new whole rest : List ℕ) → out ≡ old ++ rest → new ≡ out ++ 0 ∷ 0 ∷ [] → HasNoZero rest → old ++ text_code rest ≡ whole → new ≡ whole
+end_written old out new whole rest first second none so_far =
+    second
+    ∙ (ap (λ l. l ++ 0 ∷ 0 ∷ []) first
+    ∙ (append_assoc old rest (0 ∷ 0 ∷ [])
+    ∙ (ap (λ l. old ++ (l ++ 0 ∷ 0 ∷ [])) (sym (escaped_plain rest none))
+    ∙ so_far)))
+
+-- no fields have no codes, in any directions
+pub none_directed : (ds : List Dir) (vs : List Value) → length vs < 1 → codes_in ds (row_tree vs) ≡ []
+none_directed [] vs h = refl
+none_directed (d ∷ ds) [] h = refl
+none_directed (d ∷ ds) (v ∷ vs) h = absurd (omega (arith, h))

@@ -1,4 +1,4 @@
 pub mod Codes
 pub mod Codable
-pub mod Grown
+pub mod Keys
 pub mod Reading

@@ -1,6 +1,7 @@
 -- What is read from the front of bytes: a part in the grammar and the bytes behind it, or that no part stands there.
 use Rattle.std.specs.Prelude.{◌≡◌, ◌<◌, ℕ, Bool, List, [], ◌∷◌, ◌++◌, map, ⊤}
 use Rattle.std.specs.Borrow.{Bor}
+use Rattle.std.specs.List.{AllByRecursion}
 use Rattle.std.specs.Str.{IsUtf8}
 use Rattle.std.specs.declared.option.Option.{Option}
 use Rattle.std.specs.declared.option.Option.TheVariants.{Some, None}
@@ -9,9 +10,8 @@ use Rattle.std.specs.declared.result.Result.TheVariants.{Ok, Err}
 use Rattle.std.specs.declared.cmp.Ordering.TheVariants.{Less}
 use Rattle.pig_value.specs.Orders.{text_cmp}
 use Rattle.pig_value.specs.Trees.{Tree, v_chars, v_tuple, fields_of, tuples_of, entries_of}
-use Rattle.pig_value.specs.Valid.{AreTuples, AreEntries}
+use Rattle.pig_value.specs.Valid.{IsValue, AreEntries}
 use Rattle.pig_keycode.specs.Codes.{bool_code, escaped_byte, code, fields_code, tuples_code, entries_code}
-use Rattle.pig_keycode.specs.Codable.{IsCodable, TuplesHaveText, EntriesHaveText}
 use Rattle.pig_keycode.specs.declared.decoding.ReadFault.{ReadFault}
 use Rattle.pig_keycode.specs.declared.decoding.ReadFault.TheVariants as fault
 
@@ -45,35 +45,33 @@ abbrev pub IsByteOrEnd : Option ℕ → Type 0
 IsByteOrEnd None = ⊤
 IsByteOrEnd (Some b) = b < 256
 
--- a row as a tuple of a bag, and its fields alone
+-- none of the bytes is zero
+abbrev pub HasNoZero : List ℕ → Type 0
+HasNoZero = AllByRecursion (λ b. b ≡ 0 → ⊥)
+
+-- a row as a tuple, and its fields alone
 abbrev pub row_code : List Tree → List ℕ
 row_code row = code (v_tuple (fields_of row))
 
 abbrev pub fields_part : List Tree → List ℕ
 fields_part row = fields_code (fields_of row)
 
-abbrev pub IsCodableRow : List Tree → Type 0
-IsCodableRow row = IsCodable (v_tuple (fields_of row))
-
 -- the rows of a bag
 abbrev pub rows_part : List (List Tree) → List ℕ
 rows_part rows = tuples_code (tuples_of rows)
-
-abbrev pub AreCodableRows : List (List Tree) → Type 0
-AreCodableRows rows = AreTuples (tuples_of rows) × TuplesHaveText (tuples_of rows)
 
 -- a key with its value, and the pairs of a map
 abbrev pub pair_code : List ℕ × Tree → List ℕ
 pair_code p = code (v_chars p.0) ++ code p.1
 
-abbrev pub IsCodablePair : List ℕ × Tree → Type 0
-IsCodablePair p = IsUtf8 p.0 × IsCodable p.1
+abbrev pub IsCodedPair : List ℕ × Tree → Type 0
+IsCodedPair p = IsUtf8 p.0 × IsValue p.1
 
 abbrev pub pairs_part : List (List ℕ × Tree) → List ℕ
 pairs_part pairs = entries_code (entries_of pairs)
 
-abbrev pub AreCodablePairs : List (List ℕ × Tree) → Type 0
-AreCodablePairs pairs = AreEntries (entries_of pairs) × EntriesHaveText (entries_of pairs)
+abbrev pub AreCodedPairs : List (List ℕ × Tree) → Type 0
+AreCodedPairs pairs = AreEntries (entries_of pairs)
 
 -- the keys of a map's pairs
 abbrev pub keys_of : List (List ℕ × Tree) → List (List ℕ)

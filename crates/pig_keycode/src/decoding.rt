@@ -1,18 +1,21 @@
-ghost use Rattle.std.specs.Prelude.{◌≡◌, ◌^◌, [], ◌∷◌, ◌++◌, length, map, ◌↔◌, IsTrue, IfOk, IfSome, MatchOption, FitsSigned, option_map, Some};
+ghost use Rattle.std.specs.Prelude.{◌≡◌, ◌^◌, [], ◌∷◌, ◌++◌, length, map, ◌↔◌, IsTrue, IfOk, IfSome, MatchOption, FitsSigned, option_map, Some, IfErr, OnOk, List};
 ghost use Rattle.std.specs.Int.{w32, w64, to_be_bytes};
 ghost use Rattle.std.specs.Str.{IsUtf8};
-ghost use Rattle.pig_value.specs.Trees.{Tree, v_chars, tree, row_tree, rows_tree, entry_of};
+ghost use Rattle.pig_value.specs.Trees.{Tree, v_chars, v_tuple, fields_of, tree, row_tree, rows_tree, entry_of};
 ghost use Rattle.pig_value.specs.Orders.{row_cmp};
 ghost use Rattle.pig_value.specs.Sorts.{Ascends, Rises};
-ghost use Rattle.pig_value.specs.Valid.{TextsAscend};
+ghost use Rattle.pig_value.specs.Leaves.{AreBytes};
+ghost use Rattle.pig_value.specs.Valid.{TextsAscend, IsValue, IsRow, AreRows};
+ghost use Rattle.pig_keycode.specs.declared.decoding.ReadFault.TheVariants.{OutOfMemory};
 ghost use Rattle.pig_keycode.specs.Codes.{biased, text_code, code};
-ghost use Rattle.pig_keycode.specs.Codable.{AreBytes, IsCodable, IsCodeOf};
-ghost use Rattle.pig_keycode.specs.Reading.{Reads, mark_code, AnyMark, byte_code, IsByteOrEnd, row_code, fields_part, IsCodableRow, rows_part, AreCodableRows, pair_code, IsCodablePair, pairs_part, AreCodablePairs, keys_of, KeyRises};
+ghost use Rattle.pig_keycode.specs.Codable.{IsCodeOf, IsCodeOfRow};
+ghost use Rattle.pig_keycode.specs.Reading.{Reads, StandsFirst, NoneFirst, mark_code, AnyMark, byte_code, IsByteOrEnd, row_code, fields_part, rows_part, pair_code, IsCodedPair, pairs_part, AreCodedPairs, keys_of, KeyRises};
 
 use crate::tags::{
     BAG, BOOL, BYTES, CHARS, END, ESCAPED, INT, ITEM, LISTED, LONG, MAP, NULL, TUPLE,
 };
-use pig_value::{Blob, Pair, Pairs, Rows, Seq, Text, Tuple, Value, order_rows};
+use crate::zeros::plain_length;
+use pig_value::{Blob, Pair, Pairs, Rows, Seq, Text, Tuple, Value, known_bytes, order_rows};
 use std::alloc::{AllocError, Global};
 use std::cmp::Ordering;
 
@@ -59,19 +62,29 @@ fn read_byte(bytes: &[u8]) -> Result<(Option<u8>, &[u8]), ReadFault>
 }
 
 // The bytes of a text up to the mark of its end.
-fn read_text(alloc: Global, bytes: &[u8]) -> Result<(Blob, &[u8]), ReadFault>
-    ensures { Reads (λ text. text) text_code AreBytes bytes.now result }
+fn read_text(alloc: Global, bytes: &[u8]) -> Result<(Vec<u8>, &[u8]), ReadFault>
+    ensures { Reads (λ text. text.items) text_code AreBytes bytes.now result }
 {
-    let mut text = Blob::new(alloc);
+    let mut text = Vec::new(alloc);
     let mut rest = bytes;
     loop {
-        let (byte, left) = read_byte(rest)?;
+        let here = known_bytes(rest);
+        let (plain, more) = here.split_at(plain_length(here));
+        text.extend_from_slice(plain)?;
+        let (byte, left) = read_byte(more)?;
         match byte {
-            Some(byte) => text.push(byte)?,
+            Some(byte) => push_byte(byte, &mut text)?,
             None => return Ok((text, left)),
         }
         rest = left;
     }
+}
+
+fn push_byte(byte: u8, text: &mut Vec<u8>) -> Result<(), AllocError>
+    ensures { OnOk result (text.new.items ≡ text.old.items ++ byte ∷ []) }
+{
+    text.push(byte)?;
+    Ok(())
 }
 
 fn read_int(bytes: &[u8]) -> Result<(i32, &[u8]), ReadFault>
@@ -107,10 +120,10 @@ fn unbiased_long(number: u64) -> i64
 }
 
 // The text of bytes, if they are UTF-8.
-fn utf8(bytes: Blob) -> Option<Text>
-    ensures { MatchOption result (¬ IsUtf8 bytes) (λ text. (text ≡ bytes) × IsUtf8 bytes) }
+fn utf8(bytes: Vec<u8>) -> Option<Text>
+    ensures { MatchOption result (¬ IsUtf8 bytes.items) (λ text. (text ≡ bytes.items) × IsUtf8 bytes.items) }
 {
-    match String::from_utf8(bytes.into_vec()) {
+    match String::from_utf8(bytes) {
         Ok(text) => Some(Text::from_string(text)),
         Err(_) => None,
     }
@@ -137,20 +150,38 @@ fn read_key(alloc: Global, bytes: &[u8]) -> Result<(Text, &[u8]), ReadFault>
     }
 }
 
-// A value, by its tag.
+// How many values may stand inside one another in a value that is read.
+const LEVELS: u32 = 256;
+
+// The levels that are left inside a value.
+fn inner(levels: u32) -> Result<u32, ReadFault>
+    ensures { IfErr result (λ fault. fault ≡ OutOfMemory) }
+{
+    match levels.checked_sub(1) {
+        Some(left) => Ok(left),
+        None => Err(ReadFault::OutOfMemory),
+    }
+}
+
+// A value, by its tag; one that nests deeper than `levels` is answered as want of memory.
 #[cycle(read)]
-fn read_value(alloc: Global, bytes: &[u8]) -> Result<(Value, &[u8]), ReadFault>
-    ensures { Reads tree code IsCodable bytes.now result }
+fn read_value(alloc: Global, levels: u32, bytes: &[u8]) -> Result<(Value, &[u8]), ReadFault>
+    ensures { Reads tree code IsValue bytes.now result }
 {
     match bytes.split_first() {
-        Some((tag, content)) => read_content(alloc, *tag, content),
+        Some((tag, content)) => read_content(alloc, inner(levels)?, *tag, content),
         None => Err(ReadFault::Off),
     }
 }
 
 #[cycle(read)]
-fn read_content(alloc: Global, tag: u8, content: &[u8]) -> Result<(Value, &[u8]), ReadFault>
-    ensures { Reads tree code IsCodable (tag ∷ content.now) result }
+fn read_content(
+    alloc: Global,
+    levels: u32,
+    tag: u8,
+    content: &[u8],
+) -> Result<(Value, &[u8]), ReadFault>
+    ensures { Reads tree code IsValue (tag ∷ content.now) result }
 {
     match tag {
         NULL => Ok((Value::Null, content)),
@@ -159,63 +190,63 @@ fn read_content(alloc: Global, tag: u8, content: &[u8]) -> Result<(Value, &[u8])
         LONG => read_long_value(content),
         CHARS => read_chars_value(alloc, content),
         BYTES => read_bytes_value(alloc, content),
-        TUPLE => read_tuple_value(alloc, content),
-        BAG => read_bag_value(alloc, content),
-        LISTED => read_listed_value(alloc, content),
-        MAP => read_map_value(alloc, content),
+        TUPLE => read_tuple_value(alloc, levels, content),
+        BAG => read_bag_value(alloc, levels, content),
+        LISTED => read_listed_value(alloc, levels, content),
+        MAP => read_map_value(alloc, levels, content),
         _ => Err(ReadFault::Off),
     }
 }
 
 // The values of each form, behind their tags.
 fn read_bool_value(content: &[u8]) -> Result<(Value, &[u8]), ReadFault>
-    ensures { Reads tree code IsCodable (1 ∷ content.now) result }
+    ensures { Reads tree code IsValue (1 ∷ content.now) result }
 {
     let (truth, rest) = read_mark(content)?;
     Ok((Value::Bool(truth), rest))
 }
 
 fn read_int_value(content: &[u8]) -> Result<(Value, &[u8]), ReadFault>
-    ensures { Reads tree code IsCodable (2 ∷ content.now) result }
+    ensures { Reads tree code IsValue (2 ∷ content.now) result }
 {
     let (number, rest) = read_int(content)?;
     Ok((Value::Int(number), rest))
 }
 
 fn read_long_value(content: &[u8]) -> Result<(Value, &[u8]), ReadFault>
-    ensures { Reads tree code IsCodable (3 ∷ content.now) result }
+    ensures { Reads tree code IsValue (3 ∷ content.now) result }
 {
     let (number, rest) = read_long(content)?;
     Ok((Value::Long(number), rest))
 }
 
 fn read_chars_value(alloc: Global, content: &[u8]) -> Result<(Value, &[u8]), ReadFault>
-    ensures { Reads tree code IsCodable (4 ∷ content.now) result }
+    ensures { Reads tree code IsValue (4 ∷ content.now) result }
 {
     let (text, rest) = read_chars(alloc, content)?;
     Ok((Value::Chars(text), rest))
 }
 
 fn read_bytes_value(alloc: Global, content: &[u8]) -> Result<(Value, &[u8]), ReadFault>
-    ensures { Reads tree code IsCodable (5 ∷ content.now) result }
+    ensures { Reads tree code IsValue (5 ∷ content.now) result }
 {
     let (bytes, rest) = read_text(alloc, content)?;
-    Ok((Value::Bytes(bytes), rest))
+    Ok((Value::Bytes(Blob::from_vec(bytes)), rest))
 }
 
 #[cycle(read)]
-fn read_tuple_value(alloc: Global, content: &[u8]) -> Result<(Value, &[u8]), ReadFault>
-    ensures { Reads tree code IsCodable (6 ∷ content.now) result }
+fn read_tuple_value(alloc: Global, levels: u32, content: &[u8]) -> Result<(Value, &[u8]), ReadFault>
+    ensures { Reads tree code IsValue (6 ∷ content.now) result }
 {
-    let (fields, rest) = read_fields(alloc, content)?;
+    let (fields, rest) = read_fields(alloc, levels, content)?;
     Ok((Value::Tuple(fields), rest))
 }
 
 #[cycle(read)]
-fn read_bag_value(alloc: Global, content: &[u8]) -> Result<(Value, &[u8]), ReadFault>
-    ensures { Reads tree code IsCodable (7 ∷ content.now) result }
+fn read_bag_value(alloc: Global, levels: u32, content: &[u8]) -> Result<(Value, &[u8]), ReadFault>
+    ensures { Reads tree code IsValue (7 ∷ content.now) result }
 {
-    let (rows, rest) = read_rows(alloc, content)?;
+    let (rows, rest) = read_rows(alloc, levels, content)?;
     if is_bag(rows.as_slice()) {
         Ok((Value::Bag(rows), rest))
     } else {
@@ -224,18 +255,22 @@ fn read_bag_value(alloc: Global, content: &[u8]) -> Result<(Value, &[u8]), ReadF
 }
 
 #[cycle(read)]
-fn read_listed_value(alloc: Global, content: &[u8]) -> Result<(Value, &[u8]), ReadFault>
-    ensures { Reads tree code IsCodable (8 ∷ content.now) result }
+fn read_listed_value(
+    alloc: Global,
+    levels: u32,
+    content: &[u8],
+) -> Result<(Value, &[u8]), ReadFault>
+    ensures { Reads tree code IsValue (8 ∷ content.now) result }
 {
-    let (rows, rest) = read_rows(alloc, content)?;
+    let (rows, rest) = read_rows(alloc, levels, content)?;
     Ok((Value::Listed(rows), rest))
 }
 
 #[cycle(read)]
-fn read_map_value(alloc: Global, content: &[u8]) -> Result<(Value, &[u8]), ReadFault>
-    ensures { Reads tree code IsCodable (9 ∷ content.now) result }
+fn read_map_value(alloc: Global, levels: u32, content: &[u8]) -> Result<(Value, &[u8]), ReadFault>
+    ensures { Reads tree code IsValue (9 ∷ content.now) result }
 {
-    let (pairs, rest) = read_pairs(alloc, content)?;
+    let (pairs, rest) = read_pairs(alloc, levels, content)?;
     if keys_ascend(pairs.as_slice()) {
         Ok((Value::Map(pairs), rest))
     } else {
@@ -245,8 +280,8 @@ fn read_map_value(alloc: Global, content: &[u8]) -> Result<(Value, &[u8]), ReadF
 
 // Lists, each to the mark behind its last item.
 #[cycle(read)]
-fn read_fields(alloc: Global, bytes: &[u8]) -> Result<(Tuple, &[u8]), ReadFault>
-    ensures { Reads row_tree fields_part IsCodableRow bytes.now result }
+fn read_fields(alloc: Global, levels: u32, bytes: &[u8]) -> Result<(Tuple, &[u8]), ReadFault>
+    ensures { Reads row_tree fields_part IsRow bytes.now result }
 {
     let mut fields = Seq::new(alloc);
     let mut rest = bytes;
@@ -255,15 +290,15 @@ fn read_fields(alloc: Global, bytes: &[u8]) -> Result<(Tuple, &[u8]), ReadFault>
         if !more {
             return Ok((fields, item));
         }
-        let (value, after) = read_value(alloc, item)?;
+        let (value, after) = read_value(alloc, levels, item)?;
         fields.push(value)?;
         rest = after;
     }
 }
 
 #[cycle(read)]
-fn read_rows(alloc: Global, bytes: &[u8]) -> Result<(Rows, &[u8]), ReadFault>
-    ensures { Reads rows_tree rows_part AreCodableRows bytes.now result }
+fn read_rows(alloc: Global, levels: u32, bytes: &[u8]) -> Result<(Rows, &[u8]), ReadFault>
+    ensures { Reads rows_tree rows_part AreRows bytes.now result }
 {
     let mut rows = Seq::new(alloc);
     let mut rest = bytes;
@@ -272,15 +307,15 @@ fn read_rows(alloc: Global, bytes: &[u8]) -> Result<(Rows, &[u8]), ReadFault>
         if !more {
             return Ok((rows, item));
         }
-        let (row, after) = read_row(alloc, item)?;
+        let (row, after) = read_row(alloc, levels, item)?;
         rows.push(row)?;
         rest = after;
     }
 }
 
 #[cycle(read)]
-fn read_pairs(alloc: Global, bytes: &[u8]) -> Result<(Pairs, &[u8]), ReadFault>
-    ensures { Reads (map entry_of) pairs_part AreCodablePairs bytes.now result }
+fn read_pairs(alloc: Global, levels: u32, bytes: &[u8]) -> Result<(Pairs, &[u8]), ReadFault>
+    ensures { Reads (map entry_of) pairs_part AreCodedPairs bytes.now result }
 {
     let mut pairs = Seq::new(alloc);
     let mut rest = bytes;
@@ -289,7 +324,7 @@ fn read_pairs(alloc: Global, bytes: &[u8]) -> Result<(Pairs, &[u8]), ReadFault>
         if !more {
             return Ok((pairs, item));
         }
-        let (pair, after) = read_pair(alloc, item)?;
+        let (pair, after) = read_pair(alloc, levels, item)?;
         pairs.push(pair)?;
         rest = after;
     }
@@ -297,22 +332,22 @@ fn read_pairs(alloc: Global, bytes: &[u8]) -> Result<(Pairs, &[u8]), ReadFault>
 
 // A tuple of a bag.
 #[cycle(read)]
-fn read_row(alloc: Global, bytes: &[u8]) -> Result<(Tuple, &[u8]), ReadFault>
-    ensures { Reads row_tree row_code IsCodableRow bytes.now result }
+fn read_row(alloc: Global, levels: u32, bytes: &[u8]) -> Result<(Tuple, &[u8]), ReadFault>
+    ensures { Reads row_tree row_code IsRow bytes.now result }
 {
     match bytes {
-        [TUPLE, content @ ..] => read_fields(alloc, content),
+        [TUPLE, content @ ..] => read_fields(alloc, levels, content),
         _ => Err(ReadFault::Off),
     }
 }
 
 // A key of a map with its value.
 #[cycle(read)]
-fn read_pair(alloc: Global, bytes: &[u8]) -> Result<(Pair, &[u8]), ReadFault>
-    ensures { Reads entry_of pair_code IsCodablePair bytes.now result }
+fn read_pair(alloc: Global, levels: u32, bytes: &[u8]) -> Result<(Pair, &[u8]), ReadFault>
+    ensures { Reads entry_of pair_code IsCodedPair bytes.now result }
 {
     let (key, after) = read_key(alloc, bytes)?;
-    let (value, rest) = read_value(alloc, after)?;
+    let (value, rest) = read_value(alloc, levels, after)?;
     Ok((Pair { key, value }, rest))
 }
 
@@ -367,13 +402,38 @@ fn key_rises(pair: &Pair, others: &[Pair]) -> bool
 /// The value of an ascending code, or none where the bytes are not the code of a value in the grammar: texts
 /// in UTF-8, bags in their order, the keys of a map ascending and different, and nothing behind the code.
 ///
-/// The calls nest as deep as the value does, and for bytes off the grammar at most as deep as half their number.
+/// Bytes in which more than 256 values stand inside one another are answered as want of memory, so that the calls
+/// nest no deeper.
 pub fn decode(alloc: Global, bytes: &[u8]) -> Result<Option<Value>, AllocError>
     ensures value { IfOk result (λ found. MatchOption found ((v : Tree) → ¬ (IsCodeOf bytes.now v)) (λ v. IsCodeOf bytes.now (tree v))) }
     ensures round_trip { (v : Tree) → IsCodeOf bytes.now v → IfOk result (λ found. option_map tree found ≡ Some v) }
 {
-    match read_value(alloc, bytes) {
+    match read_value(alloc, LEVELS, bytes) {
         Ok((value, rest)) => Ok(whole(value, rest)),
+        Err(ReadFault::Off) => Ok(None),
+        Err(ReadFault::OutOfMemory) => Err(AllocError),
+    }
+}
+
+/// The row of the ascending code of a tuple, or none where [`decode`] finds no tuple.
+pub fn decode_row(alloc: Global, bytes: &[u8]) -> Result<Option<Tuple>, AllocError>
+    ensures row { IfOk result (λ found. MatchOption found ((row : List Tree) → ¬ (IsCodeOfRow bytes.now row)) (λ row. IsCodeOfRow bytes.now (row_tree row))) }
+    ensures round_trip { (row : List Tree) → IsCodeOfRow bytes.now row → IfOk result (λ found. option_map row_tree found ≡ Some row) }
+{
+    match decode(alloc, bytes) {
+        Ok(Some(value)) => Ok(row_of(value)),
+        Ok(None) => Ok(None),
+        Err(fault) => Err(fault),
+    }
+}
+
+/// The value whose ascending code the bytes begin with, and the bytes behind it; none where they begin with no code.
+/// The limit of [`decode`] holds.
+pub fn read_code(alloc: Global, bytes: &[u8]) -> Result<Option<(Value, &[u8])>, AllocError>
+    ensures { IfOk result (λ found. MatchOption found (NoneFirst code IsValue bytes.now) (λ read. StandsFirst code IsValue bytes.now (tree read.0) read.1.now)) }
+{
+    match read_value(alloc, LEVELS, bytes) {
+        Ok(read) => Ok(Some(read)),
         Err(ReadFault::Off) => Ok(None),
         Err(ReadFault::OutOfMemory) => Err(AllocError),
     }
@@ -384,4 +444,14 @@ fn whole(value: Value, rest: &[u8]) -> Option<Value>
     ensures { MatchOption result (¬ (rest.now ≡ [])) (λ v. (v ≡ value) × (rest.now ≡ [])) }
 {
     if rest.is_empty() { Some(value) } else { None }
+}
+
+// The row of a tuple.
+fn row_of(value: Value) -> Option<Tuple>
+    ensures { MatchOption result ((row : List Tree) → ¬ (tree value ≡ v_tuple (fields_of row))) (λ row. tree value ≡ v_tuple (fields_of (row_tree row))) }
+{
+    match value {
+        Value::Tuple(row) => Some(row),
+        _ => None,
+    }
 }

@@ -1,16 +1,17 @@
-ghost use Rattle.std.specs.Prelude.{◌≡◌, ◌≤◌, ◌^◌, [], ◌∷◌, ◌++◌, length, take, drop, map, ◌-◌, OnOk, OnErr};
+ghost use Rattle.std.specs.Prelude.{◌≡◌, ◌≤◌, ◌<◌, ◌^◌, ◌+◌, [], ◌∷◌, ◌++◌, length, take, drop, map, ◌-◌, OnOk, OnErr, IfSome, IfNone};
 ghost use Rattle.std.specs.Int.{w32, w64, to_be_bytes};
+ghost use Rattle.pig_value.specs.Extended.{IsExtended};
 ghost use Rattle.pig_value.specs.Trees.{tree, row_tree, rows_tree, entry_of, fields_of, tuples_of, entries_of};
 ghost use Rattle.pig_value.specs.declared.operators.Dir.{Dir};
-ghost use Rattle.pig_keycode.specs.Codes.{bool_code, biased, escaped, escaped_byte, text_code, code, fields_code, tuples_code, entries_code, turned, in_direction, code_in};
-ghost use Rattle.std.specs.Str.{IsUtf8};
-ghost use Rattle.pig_keycode.specs.Codable.{AreBytes, HasText, FieldsHaveText, TuplesHaveText, EntriesHaveText};
-ghost use Rattle.pig_keycode.specs.Grown.{IsGrown};
+ghost use Rattle.pig_keycode.specs.Codes.{bool_code, biased, escaped, text_code, code, fields_code, tuples_code, entries_code, turned, in_direction, code_in};
+ghost use Rattle.pig_keycode.specs.Keys.{fields_in, key_code, codes_in};
+ghost use Rattle.pig_keycode.specs.Reading.{row_code};
 
 use crate::tags::{
     BAG, BOOL, BYTES, CHARS, END, ESCAPED, INT, ITEM, LISTED, LONG, MAP, NULL, TUPLE,
 };
-use pig_value::{Blob, Dir, Pairs, Rows, Text, Tuple, Value};
+use crate::zeros::cut_at_zero;
+use pig_value::{Blob, Dir, Dirs, Pairs, Rows, Text, Tuple, Value};
 use std::alloc::AllocError;
 
 /// Appends the code of a value in a direction. Where memory is wanting, `out` stays as it was.
@@ -18,7 +19,6 @@ use std::alloc::AllocError;
 /// The calls nest as deep as the value does.
 pub fn encode(v: &Value, dir: Dir, out: &mut Vec<u8>) -> Result<(), AllocError>
     ensures ok { OnOk result (out.new.items ≡ out.old.items ++ code_in dir (tree v.now)) }
-    ensures text { OnOk result (HasText (tree v.now)) }
     ensures err { OnErr result (out.new.items ≡ out.old.items) }
 {
     let start = out.len();
@@ -34,12 +34,87 @@ pub fn encode(v: &Value, dir: Dir, out: &mut Vec<u8>) -> Result<(), AllocError>
     }
 }
 
+/// Appends the ascending code of a row as a tuple. Where memory is wanting, `out` stays as it was.
+pub fn encode_row(row: &Tuple, out: &mut Vec<u8>) -> Result<(), AllocError>
+    ensures ok { OnOk result (out.new.items ≡ out.old.items ++ row_code (row_tree row.now)) }
+    ensures err { OnErr result (out.new.items ≡ out.old.items) }
+{
+    let start = out.len();
+    match write_fields(TUPLE, row, out) {
+        Ok(()) => Ok(()),
+        Err(fault) => {
+            out.truncate(start);
+            Err(fault)
+        }
+    }
+}
+
+/// Appends the code of a key: ascending where there are no directions, or else the codes of its fields, each in
+/// its own direction. Where memory is wanting, `out` stays as it was.
+pub fn encode_key(key: &Value, dirs: &Dirs, out: &mut Vec<u8>) -> Result<(), AllocError>
+    ensures ok { OnOk result (out.new.items ≡ out.old.items ++ key_code dirs.now (tree key.now)) }
+    ensures err { OnErr result (out.new.items ≡ out.old.items) }
+{
+    let start = out.len();
+    match write_key(key, dirs.as_slice(), out) {
+        Ok(()) => Ok(()),
+        Err(fault) => {
+            out.truncate(start);
+            Err(fault)
+        }
+    }
+}
+
+fn write_key(key: &Value, dirs: &[Dir], out: &mut Vec<u8>) -> Result<(), AllocError>
+    ensures ok { OnOk result (out.new.items ≡ out.old.items ++ key_code dirs.now (tree key.now)) }
+    ensures grows { IsExtended out.old.items out.new.items }
+{
+    match dirs {
+        [] => write_value(key, out),
+        [_, ..] => write_directed(fields_in(key), dirs, out),
+    }
+}
+
+// The fields of a key that is a tuple.
+fn fields_in(key: &Value) -> &[Value]
+    ensures { row_tree result.now ≡ fields_in (tree key.now) }
+{
+    match key {
+        Value::Tuple(fields) => fields.as_slice(),
+        _ => &[],
+    }
+}
+
+// Appends the codes of fields, each in its own direction.
+fn write_directed(fields: &[Value], dirs: &[Dir], out: &mut Vec<u8>) -> Result<(), AllocError>
+    ensures ok { OnOk result (out.new.items ≡ out.old.items ++ codes_in dirs.now (row_tree fields.now)) }
+    ensures grows { IsExtended out.old.items out.new.items }
+{
+    let mut left = fields;
+    for dir in dirs {
+        match left {
+            [field, others @ ..] => {
+                write_in(*dir, field, out)?;
+                left = others;
+            }
+            [] => return Ok(()),
+        }
+    }
+    Ok(())
+}
+
+fn write_in(dir: Dir, value: &Value, out: &mut Vec<u8>) -> Result<(), AllocError>
+    ensures ok { OnOk result (out.new.items ≡ out.old.items ++ code_in dir (tree value.now)) }
+    ensures grows { IsExtended out.old.items out.new.items }
+{
+    encode(value, dir, out)
+}
+
 // Appends the ascending code of a value.
 #[cycle(code)]
 fn write_value(value: &Value, out: &mut Vec<u8>) -> Result<(), AllocError>
     ensures ok { OnOk result (out.new.items ≡ out.old.items ++ code (tree value.now)) }
-    ensures text { OnOk result (HasText (tree value.now)) }
-    ensures grows { IsGrown out.old.items out.new.items }
+    ensures grows { IsExtended out.old.items out.new.items }
 {
     match value {
         Value::Null => write_bytes(&[NULL], out),
@@ -59,8 +134,7 @@ fn write_value(value: &Value, out: &mut Vec<u8>) -> Result<(), AllocError>
 #[cycle(code)]
 fn write_fields(tag: u8, fields: &Tuple, out: &mut Vec<u8>) -> Result<(), AllocError>
     ensures ok { OnOk result (out.new.items ≡ out.old.items ++ tag ∷ fields_code (fields_of (row_tree fields.now))) }
-    ensures text { OnOk result (FieldsHaveText (fields_of (row_tree fields.now))) }
-    ensures grows { IsGrown out.old.items out.new.items }
+    ensures grows { IsExtended out.old.items out.new.items }
 {
     out.push(tag)?;
     for value in fields.as_slice() {
@@ -74,8 +148,7 @@ fn write_fields(tag: u8, fields: &Tuple, out: &mut Vec<u8>) -> Result<(), AllocE
 #[cycle(code)]
 fn write_rows(tag: u8, rows: &Rows, out: &mut Vec<u8>) -> Result<(), AllocError>
     ensures ok { OnOk result (out.new.items ≡ out.old.items ++ tag ∷ tuples_code (tuples_of (rows_tree rows.now))) }
-    ensures text { OnOk result (TuplesHaveText (tuples_of (rows_tree rows.now))) }
-    ensures grows { IsGrown out.old.items out.new.items }
+    ensures grows { IsExtended out.old.items out.new.items }
 {
     out.push(tag)?;
     for row in rows.as_slice() {
@@ -89,8 +162,7 @@ fn write_rows(tag: u8, rows: &Rows, out: &mut Vec<u8>) -> Result<(), AllocError>
 #[cycle(code)]
 fn write_pairs(tag: u8, pairs: &Pairs, out: &mut Vec<u8>) -> Result<(), AllocError>
     ensures ok { OnOk result (out.new.items ≡ out.old.items ++ tag ∷ entries_code (entries_of (map entry_of pairs.now))) }
-    ensures text { OnOk result (EntriesHaveText (entries_of (map entry_of pairs.now))) }
-    ensures grows { IsGrown out.old.items out.new.items }
+    ensures grows { IsExtended out.old.items out.new.items }
 {
     out.push(tag)?;
     for pair in pairs.as_slice() {
@@ -102,57 +174,41 @@ fn write_pairs(tag: u8, pairs: &Pairs, out: &mut Vec<u8>) -> Result<(), AllocErr
     Ok(())
 }
 
-// Appends the code of a chararray, whose bytes are UTF-8.
+// Appends the code of a chararray.
 fn write_chars(text: &Text, out: &mut Vec<u8>) -> Result<(), AllocError>
     ensures ok { OnOk result (out.new.items ≡ out.old.items ++ 4 ∷ text_code text.now) }
-    ensures text { IsUtf8 text.now }
-    ensures grows { IsGrown out.old.items out.new.items }
+    ensures grows { IsExtended out.old.items out.new.items }
 {
     write_text(CHARS, text.as_str().as_bytes(), out)
 }
 
 fn write_blob(bytes: &Blob, out: &mut Vec<u8>) -> Result<(), AllocError>
     ensures ok { OnOk result (out.new.items ≡ out.old.items ++ 5 ∷ text_code bytes.now) }
-    ensures text { AreBytes bytes.now }
-    ensures grows { IsGrown out.old.items out.new.items }
+    ensures grows { IsExtended out.old.items out.new.items }
 {
-    write_text(BYTES, known_bytes(bytes.as_slice()), out)
-}
-
-// The same bytes, known to be bytes.
-fn known_bytes(bytes: &[u8]) -> &[u8]
-    ensures same { result.now ≡ bytes.now }
-    ensures small { AreBytes result.now }
-{
-    bytes
+    write_text(BYTES, bytes.as_slice(), out)
 }
 
 // Appends a tag, and the bytes of a text with the mark of its end.
 fn write_text(tag: u8, text: &[u8], out: &mut Vec<u8>) -> Result<(), AllocError>
     ensures ok { OnOk result (out.new.items ≡ out.old.items ++ tag ∷ text_code text.now) }
-    ensures grows { IsGrown out.old.items out.new.items }
+    ensures grows { IsExtended out.old.items out.new.items }
 {
     out.push(tag)?;
-    for byte in text {
-        write_escaped(*byte, out)?;
+    let mut rest = text;
+    while let Some((plain, more)) = cut_at_zero(rest) {
+        write_bytes(plain, out)?;
+        write_bytes(&[0, ESCAPED], out)?;
+        rest = more;
     }
-    write_bytes(&[END, END], out)
-}
-
-fn write_escaped(byte: u8, out: &mut Vec<u8>) -> Result<(), AllocError>
-    ensures ok { OnOk result (out.new.items ≡ out.old.items ++ escaped_byte byte) }
-    ensures grows { IsGrown out.old.items out.new.items }
-{
-    out.push(byte)?;
-    if byte == 0 {
-        out.push(ESCAPED)?;
-    }
+    write_bytes(rest, out)?;
+    write_bytes(&[END, END], out)?;
     Ok(())
 }
 
 fn write_int(number: i32, out: &mut Vec<u8>) -> Result<(), AllocError>
     ensures ok { OnOk result (out.new.items ≡ out.old.items ++ 2 ∷ to_be_bytes w32 (biased (2 ^ 31) number)) }
-    ensures grows { IsGrown out.old.items out.new.items }
+    ensures grows { IsExtended out.old.items out.new.items }
 {
     out.push(INT)?;
     write_bytes(&biased_int(number).to_be_bytes(), out)
@@ -160,7 +216,7 @@ fn write_int(number: i32, out: &mut Vec<u8>) -> Result<(), AllocError>
 
 fn write_long(number: i64, out: &mut Vec<u8>) -> Result<(), AllocError>
     ensures ok { OnOk result (out.new.items ≡ out.old.items ++ 3 ∷ to_be_bytes w64 (biased (2 ^ 63) number)) }
-    ensures grows { IsGrown out.old.items out.new.items }
+    ensures grows { IsExtended out.old.items out.new.items }
 {
     out.push(LONG)?;
     write_bytes(&biased_long(number).to_be_bytes(), out)
@@ -187,7 +243,7 @@ fn bool_byte(truth: bool) -> u8
 
 fn write_bytes(bytes: &[u8], out: &mut Vec<u8>) -> Result<(), AllocError>
     ensures ok { OnOk result (out.new.items ≡ out.old.items ++ bytes.now) }
-    ensures grows { IsGrown out.old.items out.new.items }
+    ensures grows { IsExtended out.old.items out.new.items }
 {
     out.extend_from_slice(bytes)?;
     Ok(())

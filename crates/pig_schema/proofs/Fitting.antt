@@ -1,25 +1,60 @@
--- A name and the name of one field.
-use Rattle.std.proofs.Common.{◌≡◌, ◌≢◌, ◌∙◌, ℕ, List, [], ◌++◌, Bool, true, false, refl, sym, ap, subst, take, length, drop, ◌-◌, ◌⊎◌, inl, inr}
-use Rattle.std.specs.Prelude.{Option, Some, None}
+-- A name and the name of one field: the tests decide what they test.
+use Rattle.std.proofs.Common.{◌≡◌, ◌≢◌, ◌∙◌, ℕ, List, [], ◌++◌, Bool, true, false, ◌||◌, refl, sym, ap, subst, inl, inr}
+use Rattle.std.specs.Prelude.{Option, Some, None, nat_eq}
 use Rattle.std.specs.Bool.{Decides}
-use Rattle.std.specs.Cmp.Lexicographic.{pointwise}
 use Rattle.std.specs.Str.{bytes_eq}
-use Rattle.std.proofs.Math.Dec.{eqb}
+use Rattle.std.specs.List.{ends_with}
 use Rattle.std.proofs.lemmas.Bool.Decides.{Decides-eqb}
 use Rattle.std.proofs.lemmas.Bool.{false≢true}
 use Rattle.std.proofs.lemmas.List.{append_assoc, append_cancel_right}
 use Rattle.std.proofs.lemmas.Slice.Eq.{bytes_eq-Decides, ends_is}
-use Rattle.pig_schema.specs.declared.schema.Field.{Field}
-use Rattle.pig_schema.specs.Names.{colons, name_of, Fits, HasName, FitsField}
+use Rattle.pig_schema.specs.Names.{colons, Fits, fits, HasName, has_name, FitsField, fits_field}
 
--- where the name is no end, it doesn't fit
-pub unfit : (full name : List ℕ) → ((front : List ℕ) → full ≢ front ++ name) → Fits full name → ⊥
-unfit full name h (inl e) = h [] e
-unfit full name h (inr (before, e)) = h (before ++ colons) e
+-- what is asked of names is decided
+fit_is : (full name : List ℕ) → Decides (fits full name) (Fits full name)
+fit_is full name =
+    by (bytes_eq full name) (bytes_eq-Decides full name) (ends_with nat_eq full (colons ++ name)) _
+    (ends_is Decides-eqb full (colons ++ name) (ends_with nat_eq full (colons ++ name)) refl)
+  where
+    by : (same : Bool) → Decides same (full ≡ name) → (ends : Bool) (front : List ℕ) → ((ends ≡ true → full ≡ front ++ (colons ++ name)) × ((front : List ℕ) → full ≡ front ++ (colons ++ name) → ends ≡ true)) → Decides (same || ends) (Fits full name)
+    by true d ends front e = (λ t. inl (d.0 refl), λ k. refl)
+    by false d true front e = (λ t. inr (front, e.0 refl ∙ sym (append_assoc front colons name)), λ k. refl)
+    by false d false front e = (λ t. absurd (false≢true t), neither)
+      where
+        neither : Fits full name → false ≡ true
+        neither (inl k) = d.1 k
+        neither (inr (before, k)) = e.1 before (k ∙ append_assoc before colons name)
 
--- a name that is a proper end fits where `::` stands before it
-pub fit : (full before name : List ℕ) (taken : List ℕ) (r : Bool) → full ≡ before ++ name → (before ≡ [] → ⊥) → ((r ≡ true → before ≡ taken ++ colons) × ((front : List ℕ) → before ≡ front ++ colons → r ≡ true)) → Decides r (Fits full name)
-fit full before name taken r e more told = (there, back)
+-- two names of one field are the same
+one_name : (field : Option (List ℕ)) (full name : List ℕ) → field ≡ Some full → field ≡ Some name → full ≡ name
+one_name field full name h k = let e : Some full ≡ Some name = sym h ∙ k in cc
+
+pub named_is : (name : List ℕ) (field : Option (List ℕ)) → Decides (has_name name field) (HasName name field)
+named_is name None = (λ t. absurd (false≢true t), λ k. absurd (cc))
+named_is name (Some full) = let d = bytes_eq-Decides full name in (λ t. ap Some (d.0 t), λ k. d.1 (one_name (Some full) full name refl k))
+
+pub fitting_is : (name : List ℕ) (field : Option (List ℕ)) → Decides (fits_field name field) (FitsField name field)
+fitting_is name None = (λ t. absurd (false≢true t), λ k. absurd (let e = k.1 in cc))
+fitting_is name (Some full) =
+    let d = fit_is full name in
+    (λ t. (full, refl, d.0 t), λ k. d.1 (subst (λ x. Fits x name) (sym (one_name (Some full) full k.0 refl k.1)) k.2))
+
+-- what has the name fits
+pub has_fits : (name : List ℕ) (field : Option (List ℕ)) → HasName name field → FitsField name field
+has_fits name field h = (name, h, inl refl)
+
+-- two tests that decide the same are the same
+same_test : (P : Type 0) (a b : Bool) → Decides a P → Decides b P → a ≡ b
+same_test P true b h k = sym (k.1 (h.0 refl))
+same_test P false true h k = h.1 (k.0 refl)
+same_test P false false h k = refl
+
+-- the name is all of the full name, a proper end of it, or no end
+pub whole_fits : (full before name : List ℕ) → full ≡ before ++ name → before ≡ [] → true ≡ fits full name
+whole_fits full before name e none = sym ((fit_is full name).1 (inl (e ∙ ap (λ b. b ++ name) none)))
+
+pub end_fits : (full before name : List ℕ) (taken : List ℕ) (r : Bool) → full ≡ before ++ name → (before ≡ [] → ⊥) → ((r ≡ true → before ≡ taken ++ colons) × ((front : List ℕ) → before ≡ front ++ colons → r ≡ true)) → r ≡ fits full name
+end_fits full before name taken r e more told = same_test (Fits full name) r (fits full name) (there, back) (fit_is full name)
   where
     there : r ≡ true → Fits full name
     there t = inr (taken, e ∙ ap (λ b. b ++ name) (told.0 t))
@@ -28,65 +63,9 @@ fit full before name taken r e more told = (there, back)
     back (inl k) = absurd (more (append_cancel_right before [] name (sym e ∙ k)))
     back (inr (front, k)) = told.1 front (append_cancel_right before (front ++ colons) name (sym e ∙ k))
 
--- two names of one field are the same
-pub one_name : (field : Field) (full name : List ℕ) → name_of field ≡ Some full → name_of field ≡ Some name → full ≡ name
-one_name field full name h k = let e : Some full ≡ Some name = sym h ∙ k in cc
-
-pub no_name : (field : Field) (name : List ℕ) → name_of field ≡ None → name_of field ≡ Some name → ⊥
-no_name field name h k = let e : None ≡ Some name = sym h ∙ k in cc
-
-pub decides_name : (field : Field) (full name : List ℕ) (r : Bool) → name_of field ≡ Some full → Decides r (full ≡ name) → Decides r (HasName name field)
-decides_name field full name r h d = (λ t. h ∙ ap Some (d.0 t), λ k. d.1 (one_name field full name h k))
-
-pub decides_fit : (field : Field) (full name : List ℕ) (r : Bool) → name_of field ≡ Some full → Decides r (Fits full name) → Decides r (FitsField name field)
-decides_fit field full name r h d = (λ t. (full, h, d.0 t), λ k. d.1 (subst (λ x. Fits x name) (sym (one_name field full k.0 h k.1)) k.2))
-
--- either the list ends in the other, or it doesn't
-ends_or_not : (xs p : List ℕ) → ((front : List ℕ) × (xs ≡ front ++ p)) ⊎ ((front : List ℕ) → xs ≢ front ++ p)
-ends_or_not xs p = by_test (pointwise eqb p (drop (length xs - length p) xs)) (ends_is Decides-eqb xs p (pointwise eqb p (drop (length xs - length p) xs)) refl)
+pub no_end_fits : (full name : List ℕ) → ((front : List ℕ) → full ≢ front ++ name) → false ≡ fits full name
+no_end_fits full name none = same_test (Fits full name) false (fits full name) (λ t. absurd (false≢true t), λ k. absurd (wrong k)) (fit_is full name)
   where
-    by_test : (t : Bool) → ((t ≡ true → xs ≡ take (length xs - length p) xs ++ p) × ((front : List ℕ) → xs ≡ front ++ p → t ≡ true)) → ((front : List ℕ) × (xs ≡ front ++ p)) ⊎ ((front : List ℕ) → xs ≢ front ++ p)
-    by_test true h = inl (take (length xs - length p) xs, h.0 refl)
-    by_test false h = inr (λ front e. false≢true (h.1 front e))
-
-fits_or_not : (full name : List ℕ) → Fits full name ⊎ (Fits full name → ⊥)
-fits_or_not full name = by_end (ends_or_not full (colons ++ name))
-  where
-    by_test : ((front : List ℕ) → full ≢ front ++ (colons ++ name)) → (t : Bool) → Decides t (full ≡ name) → Fits full name ⊎ (Fits full name → ⊥)
-    by_test h true d = inl (inl (d.0 refl))
-    by_test h false d = inr neither
-      where
-        neither : Fits full name → ⊥
-        neither (inl e) = false≢true (d.1 e)
-        neither (inr (front, e)) = h front (e ∙ append_assoc front colons name)
-
-    by_end : ((front : List ℕ) × (full ≡ front ++ (colons ++ name))) ⊎ ((front : List ℕ) → full ≢ front ++ (colons ++ name)) → Fits full name ⊎ (Fits full name → ⊥)
-    by_end (inl (front, e)) = inl (inr (front, e ∙ sym (append_assoc front colons name)))
-    by_end (inr h) = by_test h (bytes_eq full name) (bytes_eq-Decides full name)
-
--- a field has the name or not, and the name fits it or not
-pub has_or_not : (name : List ℕ) (field : Field) → HasName name field ⊎ (HasName name field → ⊥)
-has_or_not name field = by_name (name_of field) refl
-  where
-    by_test : (full : List ℕ) → name_of field ≡ Some full → (t : Bool) → Decides t (full ≡ name) → HasName name field ⊎ (HasName name field → ⊥)
-    by_test full h true d = inl (h ∙ ap Some (d.0 refl))
-    by_test full h false d = inr (λ k. false≢true (d.1 (one_name field full name h k)))
-
-    by_name : (o : Option (List ℕ)) → name_of field ≡ o → HasName name field ⊎ (HasName name field → ⊥)
-    by_name None h = inr (λ k. no_name field name h k)
-    by_name (Some full) h = by_test full h (bytes_eq full name) (bytes_eq-Decides full name)
-
-pub field_or_not : (name : List ℕ) (field : Field) → FitsField name field ⊎ (FitsField name field → ⊥)
-field_or_not name field = by_name (name_of field) refl
-  where
-    by_fit : (full : List ℕ) → name_of field ≡ Some full → Fits full name ⊎ (Fits full name → ⊥) → FitsField name field ⊎ (FitsField name field → ⊥)
-    by_fit full h (inl f) = inl (full, h, f)
-    by_fit full h (inr f) = inr (λ k. f (subst (λ x. Fits x name) (sym (one_name field full k.0 h k.1)) k.2))
-
-    by_name : (o : Option (List ℕ)) → name_of field ≡ o → FitsField name field ⊎ (FitsField name field → ⊥)
-    by_name None h = inr (λ k. no_name field k.0 h k.1)
-    by_name (Some full) h = by_fit full h (fits_or_not full name)
-
--- what has the name fits
-pub has_fits : (name : List ℕ) (field : Field) → HasName name field → FitsField name field
-has_fits name field h = (name, h, inl refl)
+    wrong : Fits full name → ⊥
+    wrong (inl e) = none [] e
+    wrong (inr (before, e)) = none (before ++ colons) e

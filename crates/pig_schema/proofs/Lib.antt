@@ -1,3 +1,5 @@
+mod Samples
 pub mod Fitting
-pub mod Places
+pub mod Counting
+pub mod Searching
 pub mod Readings

@@ -1,8 +1,9 @@
-ghost use Rattle.std.specs.Prelude.{◌≡◌, ◌<◌, ◌≤◌, Ok, Err, length, IfOk, IfErr, IfSome, IfNone, nat_eq};
-ghost use Rattle.std.specs.Bool.{Decides};
+ghost use Rattle.std.specs.Prelude.{◌≡◌, ◌∷◌, [], ◌<◌, ◌≤◌, ◌+◌, Ok, Err, length, IfOk, IfErr, IfSome, IfNone, nat_eq, option_map};
 ghost use Rattle.std.specs.List.{ends_with};
+ghost use Rattle.std.specs.Str.{bytes_eq};
 ghost use Rattle.pig_schema.specs.declared.naming.NameFault.TheVariants.{Ambiguous, PositionOut};
-ghost use Rattle.pig_schema.specs.Names.{colons, Fits, HasName, FitsField, IsNext, NoneFrom, IsMeant, IsNameFault};
+ghost use Rattle.pig_schema.specs.FieldTrees.{name_of, names_of};
+ghost use Rattle.pig_schema.specs.Names.{colons, fits, has_name, fits_field, places_from, meaning, IsMeant, IsNameFault};
 
 use crate::{Field, Schema};
 
@@ -26,11 +27,16 @@ pub enum NameFault {
 ///
 /// [`NameFault::Unknown`] where no field fits, [`NameFault::Ambiguous`] otherwise.
 pub fn find(s: &Schema, name: &str) -> Result<usize, NameFault>
-    ensures meant { IfOk result (IsMeant s.now name.now) }
-    ensures fault { IfErr result (IsNameFault s.now name.now) }
+    ensures is { result ≡ meaning (names_of s.now) name.now }
+    ensures meant { IfOk result (IsMeant (names_of s.now) name.now) }
+    ensures fault { IfErr result (IsNameFault (names_of s.now) name.now) }
 {
-    let fields = s.as_slice();
-    let name = name.as_bytes();
+    meaning_of(s.as_slice(), name.as_bytes())
+}
+
+fn meaning_of(fields: &[Field], name: &[u8]) -> Result<usize, NameFault>
+    ensures { result ≡ meaning (names_of fields.now) name.now }
+{
     if let Some(place) = next_named(fields, name, 0) {
         return only(place, next_named(fields, name, place + 1));
     }
@@ -72,12 +78,12 @@ fn only(place: usize, other: Option<usize>) -> Result<usize, NameFault>
 
 // The first place from `start` on whose field has the name.
 fn next_named(fields: &[Field], name: &[u8], start: usize) -> Option<usize>
-    ensures found { IfSome result (IsNext (HasName name.now) fields.now start) }
+    ensures found { IfSome result (λ place. places_from (has_name name.now) (names_of fields.now) start ≡ place ∷ places_from (has_name name.now) (names_of fields.now) (place + 1)) }
     ensures within { IfSome result (λ place. place < length fields.now) }
-    ensures none { IfNone result (NoneFrom (HasName name.now) fields.now start) }
+    ensures none { IfNone result (places_from (has_name name.now) (names_of fields.now) start ≡ []) }
 {
     for place in start..fields.len() {
-        if has_name(&fields[place], name) {
+        if is_named(&fields[place], name) {
             return Some(place);
         }
     }
@@ -86,20 +92,20 @@ fn next_named(fields: &[Field], name: &[u8], start: usize) -> Option<usize>
 
 // The first place from `start` on whose field fits.
 fn next_fitting(fields: &[Field], name: &[u8], start: usize) -> Option<usize>
-    ensures found { IfSome result (IsNext (FitsField name.now) fields.now start) }
+    ensures found { IfSome result (λ place. places_from (fits_field name.now) (names_of fields.now) start ≡ place ∷ places_from (fits_field name.now) (names_of fields.now) (place + 1)) }
     ensures within { IfSome result (λ place. place < length fields.now) }
-    ensures none { IfNone result (NoneFrom (FitsField name.now) fields.now start) }
+    ensures none { IfNone result (places_from (fits_field name.now) (names_of fields.now) start ≡ []) }
 {
     for place in start..fields.len() {
-        if fits_field(&fields[place], name) {
+        if is_fitting(&fields[place], name) {
             return Some(place);
         }
     }
     None
 }
 
-fn has_name(field: &Field, name: &[u8]) -> bool
-    ensures { Decides result (HasName name.now field.now) }
+fn is_named(field: &Field, name: &[u8]) -> bool
+    ensures { result ≡ has_name name.now (name_of field.now) }
 {
     match &field.name {
         Some(full) => is_same(full.as_bytes(), name),
@@ -107,24 +113,24 @@ fn has_name(field: &Field, name: &[u8]) -> bool
     }
 }
 
-fn is_same(full: &[u8], name: &[u8]) -> bool
-    ensures { Decides result (full.now ≡ name.now) }
-{
-    full == name
-}
-
-fn fits_field(field: &Field, name: &[u8]) -> bool
-    ensures { Decides result (FitsField name.now field.now) }
+fn is_fitting(field: &Field, name: &[u8]) -> bool
+    ensures { result ≡ fits_field name.now (name_of field.now) }
 {
     match &field.name {
-        Some(full) => fits(full.as_bytes(), name),
+        Some(full) => is_fit(full.as_bytes(), name),
         None => false,
     }
 }
 
+fn is_same(full: &[u8], name: &[u8]) -> bool
+    ensures { result ≡ bytes_eq full.now name.now }
+{
+    full == name
+}
+
 // Whether the full name is the name, or ends in `::` followed by it.
-fn fits(full: &[u8], name: &[u8]) -> bool
-    ensures { Decides result (Fits full.now name.now) }
+fn is_fit(full: &[u8], name: &[u8]) -> bool
+    ensures { result ≡ fits full.now name.now }
 {
     match full.strip_suffix(name) {
         Some(before) => before.is_empty() || ends_in_colons(before),

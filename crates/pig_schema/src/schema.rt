@@ -1,5 +1,5 @@
 ghost use Rattle.std.specs.Prelude.{◌≡◌, IfOk, map};
-ghost use Rattle.pig_schema.specs.Names.{kind_of};
+ghost use Rattle.pig_schema.specs.FieldTrees.{kind_of};
 
 use pig_value::{Kind, Kinds, Seq, Text, copy_kind};
 use std::alloc::{AllocError, Global};
@@ -7,14 +7,14 @@ use std::alloc::{AllocError, Global};
 /// The fields of a relation's tuples, in order.
 pub type Schema = Seq<Field>;
 
-/// A field of a schema.
+/// A field of a schema. Where it holds fields its kind tells their kinds (`IsField` in `specs/FieldTrees`).
 #[cycle(schema)]
 #[derive(Debug, Drop)]
 pub struct Field {
     /// None where the field can be used by its position alone.
     pub name: Option<Text>,
     pub kind: Kind,
-    /// The fields of a tuple, or of the tuples of a bag.
+    /// The fields of a tuple or of the tuples of a bag; of a map those of its values, and none of other kinds.
     pub inner: Schema,
 }
 
@@ -27,6 +27,38 @@ pub fn kinds(alloc: Global, s: &Schema) -> Result<Kinds, AllocError>
         kinds.push(copy_kind(alloc, &field.kind)?)?;
     }
     Ok(kinds)
+}
+
+/// A copy of a field, which holds memory of its own.
+#[cycle(copy_field)]
+pub fn copy_field(alloc: Global, f: &Field) -> Result<Field, AllocError>
+    ensures { IfOk result (λ c. c ≡ f.now) }
+{
+    let name = copy_name(alloc, &f.name)?;
+    let kind = copy_kind(alloc, &f.kind)?;
+    let inner = copy_schema(alloc, &f.inner)?;
+    Ok(Field { name, kind, inner })
+}
+
+/// A copy of a schema, which holds memory of its own.
+#[cycle(copy_field)]
+pub fn copy_schema(alloc: Global, s: &Schema) -> Result<Schema, AllocError>
+    ensures { IfOk result (λ c. c ≡ s.now) }
+{
+    let mut made = Vec::with_capacity(alloc, s.len())?;
+    for field in s.as_slice() {
+        made.push(copy_field(alloc, field)?)?;
+    }
+    Ok(Seq::from_vec(made))
+}
+
+fn copy_name(alloc: Global, name: &Option<Text>) -> Result<Option<Text>, AllocError>
+    ensures { IfOk result (λ c. c ≡ name.now) }
+{
+    match name {
+        Some(text) => Ok(Some(text.copy(alloc)?)),
+        None => Ok(None),
+    }
 }
 
 /// Schemas may be shared and handed to other threads.

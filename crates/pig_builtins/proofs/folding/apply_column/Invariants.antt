@@ -7,5 +7,5 @@ use Rattle.pig_builtins.proofs.folding.apply_column.Given as goal
 abbrev pub invariant-loop-row : goal.invariant-loop-row
 invariant-loop-row l = record {
   function : fold_function l.fold ≡ l.fn.function;
-  found : fold_found l.fold ≡ column_found l.fn.function (map (at l.position) (rows_tree (take l.row-index l.rows)))
+  found : fold_found l.fold ≡ column_found l.fn.function (map (at l.position) (rows_tree (take l.row-index l.rows)));
 }

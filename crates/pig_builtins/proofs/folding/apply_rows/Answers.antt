@@ -1,6 +1,5 @@
-use Rattle.std.proofs.Common.{◌≡◌, ap, sym, ◌∙◌, map, take, ◌++◌, [], ◌∷◌, rules}
+use Rattle.std.proofs.Common.{rules}
 use Rattle.pig_value.specs.Functions.{looked_at}
-use Rattle.pig_value.specs.Trees.{rows_tree, tree}
 use Rattle.pig_builtins.proofs.Columns.{next_value}
 use Rattle.pig_builtins.proofs.folding.apply_rows.Goals as goal
 
@@ -8,5 +7,5 @@ pub loop-row-preserved : goal.loop-row-preserved
 loop-row-preserved c = record {
   function = search rules;
   found = next_value c.args.function (looked_at c.args.function) c.loop-row.fold c.add-fold.result c.looked_at.result c.args.rows.now c.loop-row.row-index c.row-item.result
-      c.loop-row-test.true c.row-item.is c.loop-row.invariant.function c.loop-row.invariant.found c.looked_at.ensures c.add-fold.ensures.found
+      c.loop-row-test.true c.row-item.is c.loop-row.invariant.function c.loop-row.invariant.found c.looked_at.ensures c.add-fold.ensures.found;
 }

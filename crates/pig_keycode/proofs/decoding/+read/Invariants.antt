@@ -3,8 +3,9 @@
 use Rattle.std.proofs.Common.{◌≤◌, ◌+◌, ◌*◌, length, map}
 use Rattle.pig_value.specs.Trees.{row_tree, rows_tree, entry_of}
 use Rattle.pig_keycode.specs.Codes.{code}
-use Rattle.pig_keycode.specs.Codable.{IsCodable}
-use Rattle.pig_keycode.specs.Reading.{row_code, IsCodableRow, pair_code, IsCodablePair}
+use Rattle.pig_value.specs.Valid.{IsValue}
+use Rattle.pig_keycode.specs.Reading.{row_code, pair_code, IsCodedPair}
+use Rattle.pig_value.specs.Valid.{IsRow}
 use Rattle.pig_keycode.proofs.Sequences.{ListGoes}
 use Rattle.pig_keycode.proofs.decoding.+read.Given as goal
 
@@ -42,19 +43,19 @@ abbrev pub decreases-read_pair : goal.decreases-read_pair
 decreases-read_pair l = 8 * length l.bytes.now + 1
 
 abbrev pub invariant-read_fields-loop-fields : goal.invariant-read_fields-loop-fields
-invariant-read_fields-loop-fields l = ListGoes code IsCodable l.bytes l.rest (row_tree l.fields) × (length l.rest ≤ length l.bytes)
+invariant-read_fields-loop-fields l = ListGoes code IsValue l.bytes l.rest (row_tree l.fields) × (length l.rest ≤ length l.bytes)
 
 abbrev pub decreases-read_fields-loop-fields : goal.decreases-read_fields-loop-fields
 decreases-read_fields-loop-fields l = length l.rest
 
 abbrev pub invariant-read_rows-loop-rows : goal.invariant-read_rows-loop-rows
-invariant-read_rows-loop-rows l = ListGoes row_code IsCodableRow l.bytes l.rest (rows_tree l.rows) × (length l.rest ≤ length l.bytes)
+invariant-read_rows-loop-rows l = ListGoes row_code IsRow l.bytes l.rest (rows_tree l.rows) × (length l.rest ≤ length l.bytes)
 
 abbrev pub decreases-read_rows-loop-rows : goal.decreases-read_rows-loop-rows
 decreases-read_rows-loop-rows l = length l.rest
 
 abbrev pub invariant-read_pairs-loop-pairs : goal.invariant-read_pairs-loop-pairs
-invariant-read_pairs-loop-pairs l = ListGoes pair_code IsCodablePair l.bytes l.rest (map entry_of l.pairs) × (length l.rest ≤ length l.bytes)
+invariant-read_pairs-loop-pairs l = ListGoes pair_code IsCodedPair l.bytes l.rest (map entry_of l.pairs) × (length l.rest ≤ length l.bytes)
 
 abbrev pub decreases-read_pairs-loop-pairs : goal.decreases-read_pairs-loop-pairs
 decreases-read_pairs-loop-pairs l = length l.rest

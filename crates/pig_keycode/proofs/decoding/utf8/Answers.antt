@@ -6,5 +6,5 @@ use Rattle.pig_keycode.proofs.decoding.utf8.Goals as goal
 
 pub returns-in-Ok : goal.returns-in-Ok
 returns-in-Ok c =
-    let same : string_bytes c.in-Ok.text ≡ c.args.bytes = ap (λ v. v.items) c.in-Ok.ensures.ok ∙ c.into_vec.ensures in
+    let same : string_bytes c.in-Ok.text ≡ c.args.bytes.items = ap (λ v. v.items) c.in-Ok.ensures.ok in
     (c.from_string.ensures ∙ same, subst IsUtf8 same (IsUtf8-string_bytes c.in-Ok.text))

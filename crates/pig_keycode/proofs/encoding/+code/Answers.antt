@@ -2,7 +2,7 @@ use Rattle.std.proofs.Common.{◌≡◌, [], ◌∷◌, ◌++◌}
 use Rattle.pig_value.proofs.TreeLaws.{entry_is}
 use Rattle.pig_value.specs.Trees.{tree, entry_of}
 use Rattle.pig_keycode.specs.Codes.{text_code}
-use Rattle.pig_keycode.proofs.Writing.{pair_written, grown_thrice, pair_has_text}
+use Rattle.pig_keycode.proofs.Writing.{pair_written, grown_thrice}
 use Rattle.pig_keycode.proofs.encoding.+code.Goals as goal
 
 pub write_pairs-loop-pair-preserved : goal.write_pairs-loop-pair-preserved
@@ -16,5 +16,4 @@ write_pairs-loop-pair-preserved t c =
     let head : with_key ≡ marked ++ 4 ∷ text_code pair.key = c.in_ok-write_chars.ensures.ok in (
       pair_written entry_of c.as_slice-pair-items.result.now c.loop-pair.pair-index pair pair.key (tree pair.value) old marked with_key new _ c.loop-pair-test.true c.pair-item.is (entry_is pair) mark head c.in_ok-write_value.ensures.ok c.loop-pair.invariant.0,
       grown_thrice c.args.out.now.items old marked with_key new c.loop-pair.invariant.1 mark c.in_ok-write_chars.ensures.grows c.in_ok-write_value.ensures.grows,
-      λ h. c.loop-pair.invariant.2 (pair_has_text entry_of c.as_slice-pair-items.result.now c.loop-pair.pair-index pair pair.key (tree pair.value) c.loop-pair-test.true c.pair-item.is (entry_is pair) c.in_ok-write_chars.ensures.text c.in_ok-write_value.ensures.text h),
     )

@@ -3,8 +3,7 @@
 use Rattle.std.proofs.Common.{◌≡◌, ◌+◌, ◌*◌, ◌∷◌, ◌++◌, drop, map}
 use Rattle.pig_value.specs.Trees.{row_tree, rows_tree, entry_of, fields_of, tuples_of, entries_of}
 use Rattle.pig_keycode.specs.Codes.{fields_code, tuples_code, entries_code}
-use Rattle.pig_keycode.specs.Codable.{FieldsHaveText, TuplesHaveText, EntriesHaveText}
-use Rattle.pig_keycode.specs.Grown.{IsGrown}
+use Rattle.pig_value.specs.Extended.{IsExtended}
 use Rattle.pig_keycode.proofs.encoding.+code.Given as goal
 
 abbrev pub decreases-write_value : goal.decreases-write_value
@@ -20,10 +19,10 @@ abbrev pub decreases-write_pairs : goal.decreases-write_pairs
 decreases-write_pairs l = 3 * goal.size-write_pairs l + 1
 
 abbrev pub invariant-write_fields-loop-value : goal.invariant-write_fields-loop-value
-invariant-write_fields-loop-value l = (l.out.items ++ fields_code (fields_of (row_tree (drop l.value-index l.value-items))) ≡ l.fn.out.items ++ l.tag ∷ fields_code (fields_of (row_tree l.value-items))) × IsGrown l.fn.out.items l.out.items × (FieldsHaveText (fields_of (row_tree (drop l.value-index l.value-items))) → FieldsHaveText (fields_of (row_tree (l.value-items))))
+invariant-write_fields-loop-value l = (l.out.items ++ fields_code (fields_of (row_tree (drop l.value-index l.value-items))) ≡ l.fn.out.items ++ l.tag ∷ fields_code (fields_of (row_tree l.value-items))) × IsExtended l.fn.out.items l.out.items
 
 abbrev pub invariant-write_rows-loop-row : goal.invariant-write_rows-loop-row
-invariant-write_rows-loop-row l = (l.out.items ++ tuples_code (tuples_of (rows_tree (drop l.row-index l.row-items))) ≡ l.fn.out.items ++ l.tag ∷ tuples_code (tuples_of (rows_tree l.row-items))) × IsGrown l.fn.out.items l.out.items × (TuplesHaveText (tuples_of (rows_tree (drop l.row-index l.row-items))) → TuplesHaveText (tuples_of (rows_tree (l.row-items))))
+invariant-write_rows-loop-row l = (l.out.items ++ tuples_code (tuples_of (rows_tree (drop l.row-index l.row-items))) ≡ l.fn.out.items ++ l.tag ∷ tuples_code (tuples_of (rows_tree l.row-items))) × IsExtended l.fn.out.items l.out.items
 
 abbrev pub invariant-write_pairs-loop-pair : goal.invariant-write_pairs-loop-pair
-invariant-write_pairs-loop-pair l = (l.out.items ++ entries_code (entries_of (map entry_of (drop l.pair-index l.pair-items))) ≡ l.fn.out.items ++ l.tag ∷ entries_code (entries_of (map entry_of l.pair-items))) × IsGrown l.fn.out.items l.out.items × (EntriesHaveText (entries_of (map entry_of (drop l.pair-index l.pair-items))) → EntriesHaveText (entries_of (map entry_of (l.pair-items))))
+invariant-write_pairs-loop-pair l = (l.out.items ++ entries_code (entries_of (map entry_of (drop l.pair-index l.pair-items))) ≡ l.fn.out.items ++ l.tag ∷ entries_code (entries_of (map entry_of l.pair-items))) × IsExtended l.fn.out.items l.out.items

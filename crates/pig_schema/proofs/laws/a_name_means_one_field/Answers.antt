@@ -1,13 +1,13 @@
-use Rattle.pig_schema.proofs.Readings.{meant_known, meant_within, one_meant, some_reading, two_of}
+use Rattle.pig_schema.proofs.Readings.{told, meant_is, unknown_is, ambiguous_is, meant_within, two_of}
 use Rattle.pig_schema.proofs.laws.a_name_means_one_field.Goals as goal
 
 pub returns : goal.returns
 returns c = record {
-  some = some_reading;
-  one = one_meant;
+  place = λ fields name. (told fields name).0;
+  fault = λ fields name. (told fields name).1;
+  meant = meant_is;
+  unknown = unknown_is;
+  ambiguous = ambiguous_is;
   within = meant_within;
-  meant_not_unknown = meant_known;
-  meant_not_ambiguous = λ schema name place meant ambiguous. ambiguous.unmeant place meant;
-  unknown_not_ambiguous = λ schema name unknown ambiguous. ambiguous.known unknown;
   two = two_of;
 }

@@ -1,13 +1,12 @@
-use Rattle.std.proofs.lemmas.Bool.{false≢true}
-use Rattle.pig_schema.specs.Names.{FitsField}
-use Rattle.pig_schema.proofs.Places.{none_left, none_more, stands_not}
+use Rattle.std.proofs.Common.{sym, ◌∙◌}
+use Rattle.pig_schema.specs.Names.{fits_field}
+use Rattle.pig_schema.proofs.Searching.{found_at, not_at}
 use Rattle.pig_schema.proofs.naming.next_fitting.Goals as goal
+
+pub returns-then-is_fitting-clause-found : goal.returns-then-is_fitting-clause-found
+returns-then-is_fitting-clause-found c =
+    found_at (fits_field c.args.name.now) c.args.fields.now c.args.start c.loop-place.place c.index-fields-place.result c.loop-place.invariant c.loop-place-test.true c.index-fields-place.is (sym c.if-is_fitting.true ∙ c.is_fitting.ensures)
 
 pub loop-place-preserved : goal.loop-place-preserved
 loop-place-preserved c =
-    let P = FitsField c.args.name.now in
-    let not_here = stands_not P c.args.fields.now c.loop-place.place c.index-fields-place.result c.loop-place-test.true c.index-fields-place.is (λ p. false≢true (c.if-fits_field.ensures.1 p)) in
-    none_more P c.args.fields.now c.args.start c.loop-place.place c.loop-place.invariant not_here
-
-pub returns-clause-none : goal.returns-clause-none
-returns-clause-none c = none_left (FitsField c.args.name.now) c.args.fields.now c.args.start c.loop-place.place c.loop-place-test.false c.loop-place.invariant
+    not_at (fits_field c.args.name.now) c.args.fields.now c.args.start c.loop-place.place c.index-fields-place.result c.loop-place.invariant c.loop-place-test.true c.index-fields-place.is (sym c.if-is_fitting.false ∙ c.is_fitting.ensures)

@@ -1,5 +1,8 @@
-use Rattle.pig_schema.specs.Names.{FitsField, NoneIn}
+-- No place before this one is found.
+use Rattle.std.proofs.Common.{◌≡◌}
+use Rattle.pig_schema.specs.FieldTrees.{names_of}
+use Rattle.pig_schema.specs.Names.{fits_field, places_from}
 use Rattle.pig_schema.proofs.naming.next_fitting.Given as goal
 
 abbrev pub invariant-loop-place : goal.invariant-loop-place
-invariant-loop-place l = NoneIn (FitsField l.name) l.fields l.start l.place
+invariant-loop-place l = places_from (fits_field l.name) (names_of l.fields) l.start ≡ places_from (fits_field l.name) (names_of l.fields) l.place

@@ -1,7 +1,7 @@
-use Rattle.std.proofs.Common.{◌≡◌, ap, sym, ◌∙◌, [], ◌∷◌}
+use Rattle.std.proofs.Common.{ap, sym, ◌∙◌, [], ◌∷◌}
 use Rattle.pig_value.specs.Functions.{column_found}
 use Rattle.pig_value.specs.Trees.{field_tree}
-use Rattle.pig_builtins.specs.Folds.{fold_found, fold_function, merge_found}
+use Rattle.pig_builtins.specs.Folds.{fold_function, merge_found}
 use Rattle.pig_builtins.proofs.Merging.{merged}
 use Rattle.pig_builtins.proofs.folding.Fold.add.Goals as goal
 

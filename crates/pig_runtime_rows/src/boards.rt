@@ -1,0 +1,205 @@
+//! What a board tells one pass, two, and those of four threads.
+
+ghost use Rattle.std.specs.Prelude.{◌≡◌, ◌+◌, ◌<◌, ◌≤◌};
+ghost use Rattle.std.specs.Thread.{IsSync};
+ghost use Rattle.pig_board.specs.View.{steps_of};
+ghost use Rattle.pig_board.specs.Pass.{tasks_of, view_of, OnBoard};
+
+use pig_board::{Board, Pass, TaskEnd};
+use std::test::Fail;
+use std::thread::{Threads, join};
+
+#[test]
+fn one_pass(rt: HostRuntime) -> Result<(), Fail> {
+    let (board, mut pass) = Board::open(rt.alloc(), 2)?;
+    assert_eq!(rt; board.draw(&mut pass), Some(0));
+    assert_eq!(rt; board.begin(&mut pass, 0), 0);
+    assert_eq!(rt; board.begin(&mut pass, 0), 1);
+    assert!(rt; board.commit(&mut pass, 0, 1));
+    assert!(rt; !board.commit(&mut pass, 0, 0));
+    assert_eq!(rt; board.closed(&mut pass, 0), Some(1));
+    assert_eq!(rt; board.draw(&mut pass), Some(1));
+    assert_eq!(rt; board.begin(&mut pass, 1), 0);
+    assert_eq!(rt; board.fail(&mut pass, 1), 1);
+    assert_eq!(rt; board.failures(&mut pass, 1), 1);
+    assert_eq!(rt; board.draw(&mut pass), None);
+    let end = board.close(pass);
+    assert_eq!(rt; end.len(), 2);
+    assert_eq!(rt;
+        end.task(0),
+        TaskEnd {
+            attempts: 2,
+            failed: 0,
+            winner: Some(1)
+        }
+    );
+    assert_eq!(rt;
+        end.task(1),
+        TaskEnd {
+            attempts: 1,
+            failed: 1,
+            winner: None
+        }
+    );
+    Ok(())
+}
+
+#[test]
+fn two_passes(rt: HostRuntime) -> Result<(), Fail> {
+    let (board, mut pass) = Board::open(rt.alloc(), 1)?;
+    let mut other = board.split(&mut pass);
+    assert_eq!(rt; (pass.room(), other.room()), (1_073_741_824, 1_073_741_824));
+    assert_eq!(rt; board.draw(&mut pass), Some(0));
+    assert_eq!(rt; board.begin(&mut pass, 0), 0);
+    assert_eq!(rt; board.begin(&mut pass, 0), 1);
+    assert_eq!(rt; board.fail(&mut pass, 0), 1);
+    assert!(rt; board.commit(&mut pass, 0, 1));
+    assert_eq!(rt; board.closed(&mut other, 0), Some(1));
+    assert_eq!(rt; board.failures(&mut other, 0), 1);
+    Ok(())
+}
+
+// What a worker was told: the number that it drew, and for each of four tasks one more than its attempt that won.
+#[derive(Clone, Copy)]
+struct Told {
+    drawn: u32,
+    won: [u32; 4],
+}
+
+// Tries task `t`: the attempt fails, or it is committed. The answer is one more than the attempt that won, or 0.
+fn try_task(board: &Board, pass: &mut Pass, t: u32, fails: bool) -> u32
+    requires board { OnBoard board.now pass.old }
+    requires task { t < tasks_of board.now }
+    requires drawn { t < (view_of pass.old).known }
+    requires room { 1 < (view_of pass.old).room }
+    ensures board { OnBoard board.now pass.new }
+    ensures steps { steps_of (view_of pass.new) ≡ steps_of (view_of pass.old) }
+    ensures known { (view_of pass.new).known ≡ (view_of pass.old).known }
+    ensures room { (view_of pass.old).room ≤ (view_of pass.new).room + 2 }
+{
+    let attempt = board.begin(pass, t);
+    if fails {
+        board.fail(pass, t);
+        return 0;
+    }
+    let won = board.commit(pass, t, attempt);
+    if won {
+        return attempt.wrapping_add(1);
+    }
+    0
+}
+
+// Draws once, and tries four tasks, each once, but the one that it is numbered by fails once more.
+fn worker(board: &Board, mut pass: Pass, who: u32) -> (Pass, Told)
+    requires board { OnBoard board.now pass }
+    requires tasks { 4 ≤ tasks_of board.now }
+    requires drawn { 4 ≤ (view_of pass).known }
+    requires room { 100 ≤ (view_of pass).room }
+    ensures board { OnBoard board.now result.0 }
+    ensures steps { steps_of (view_of result.0) ≡ steps_of (view_of pass) }
+{
+    let drawn = board.draw(&mut pass).unwrap_or(99);
+    let mut won = [0; 4];
+    for t in 0..4u32 {
+        if t == who {
+            try_task(board, &mut pass, t, true);
+        }
+        won[t as usize] = try_task(board, &mut pass, t, false);
+    }
+    (pass, Told { drawn, won })
+}
+
+// Two workers beside each other, each with half of the pass.
+fn pair<R: Threads + Sync>(rt: &R, board: &Board, pass: Pass, who: u32) -> (Pass, Told, Told)
+    requires board { OnBoard board.now pass }
+    requires tasks { 4 ≤ tasks_of board.now }
+    requires drawn { 4 ≤ (view_of pass).known }
+    requires room { 300 ≤ (view_of pass).room }
+    ensures board { OnBoard board.now result.0 }
+    ensures steps { steps_of (view_of result.0) ≡ steps_of (view_of pass) }
+{
+    let mut left = pass;
+    let right = board.split(&mut left);
+    let ((mut left, one), (right, two)) = join(
+        rt,
+        || -> (Pass, Told)
+            requires { OnBoard board.now left × (4 ≤ tasks_of board.now) × (4 ≤ (view_of left).known) × (100 ≤ (view_of left).room) }
+            ensures { OnBoard board.entry.now result.0 × (steps_of (view_of result.0) ≡ steps_of (view_of left)) }
+        { worker(board, left, who) },
+        || -> (Pass, Told)
+            requires { OnBoard board.now right × (4 ≤ tasks_of board.now) × (4 ≤ (view_of right).known) × (100 ≤ (view_of right).room) }
+            ensures { OnBoard board.entry.now result.0 × (steps_of (view_of result.0) ≡ steps_of (view_of right)) }
+        { worker(board, right, who ^ 1) },
+    );
+    board.join(&mut left, right);
+    (left, one, two)
+}
+
+// Four workers on one board: each draws once and tries the same four tasks.
+fn crew<R: Threads + Sync>(rt: &R, board: &Board, pass: Pass) -> (Pass, [Told; 4])
+    requires board { OnBoard board.now pass }
+    requires tasks { 4 ≤ tasks_of board.now }
+    requires drawn { 4 ≤ (view_of pass).known }
+    requires room { 700 ≤ (view_of pass).room }
+    ensures board { OnBoard board.now result.0 }
+    ensures steps { steps_of (view_of result.0) ≡ steps_of (view_of pass) }
+{
+    let mut left = pass;
+    let right = board.split(&mut left);
+    let ((mut left, a, b), (right, c, d)) = join(
+        rt,
+        || -> (Pass, Told, Told)
+            requires { IsSync R.row × OnBoard board.now left × (4 ≤ tasks_of board.now) × (4 ≤ (view_of left).known) × (300 ≤ (view_of left).room) }
+            ensures { OnBoard board.entry.now result.0 × (steps_of (view_of result.0) ≡ steps_of (view_of left)) }
+        { pair(rt, board, left, 0) },
+        || -> (Pass, Told, Told)
+            requires { IsSync R.row × OnBoard board.now right × (4 ≤ tasks_of board.now) × (4 ≤ (view_of right).known) × (300 ≤ (view_of right).room) }
+            ensures { OnBoard board.entry.now result.0 × (steps_of (view_of result.0) ≡ steps_of (view_of right)) }
+        { pair(rt, board, right, 2) },
+    );
+    board.join(&mut left, right);
+    (left, [a, b, c, d])
+}
+
+// The number of the attempt that won task `t`, by what the workers were told, and how many were told that they won.
+fn told_winner(told: &[Told; 4], t: usize) -> (u32, u32)
+    requires { t < 4 }
+{
+    let mut winner = 0;
+    let mut winners = 0u32;
+    for one in told {
+        if one.won[t] > 0 {
+            winner = one.won[t] - 1;
+            winners = winners.wrapping_add(1);
+        }
+    }
+    (winner, winners)
+}
+
+#[test]
+fn four_workers(rt: HostRuntime) -> Result<(), Fail> {
+    let (board, mut pass) = Board::open(rt.alloc(), 8)?;
+    assert_eq!(rt; board.draw(&mut pass), Some(0));
+    assert_eq!(rt; board.draw(&mut pass), Some(1));
+    assert_eq!(rt; board.draw(&mut pass), Some(2));
+    assert_eq!(rt; board.draw(&mut pass), Some(3));
+    let (pass, told) = crew(&rt, &board, pass);
+    let end = board.close(pass);
+    let mut drawn = 0u32;
+    for one in &told {
+        assert!(rt; one.drawn < 8);
+        drawn |= 1 << one.drawn;
+    }
+    assert_eq!(rt; drawn, 0b1111_0000);
+    for t in 0..4u32 {
+        let (winner, winners) = told_winner(&told, t as usize);
+        assert_eq!(rt; winners, 1);
+        let whole = TaskEnd {
+            attempts: 5,
+            failed: 1,
+            winner: Some(winner),
+        };
+        assert_eq!(rt; end.task(t), whole);
+    }
+    Ok(())
+}

@@ -1,0 +1,158 @@
+//! What a job takes and refuses.
+
+use pig_job::{Core, Event, JobFault};
+use std::test::Fail;
+
+const NOT_NOW: Result<(), JobFault> = Err(JobFault::NotNow);
+
+fn draw(worker: u32) -> Event {
+    Event::Draw { worker }
+}
+
+fn begin(worker: u32, task: u32) -> Event {
+    Event::Begin { worker, task }
+}
+
+fn commit(worker: u32, task: u32, attempt: u32) -> Event {
+    Event::Commit {
+        worker,
+        task,
+        attempt,
+    }
+}
+
+fn late(worker: u32, task: u32, attempt: u32) -> Event {
+    Event::Late {
+        worker,
+        task,
+        attempt,
+    }
+}
+
+fn fail(worker: u32, task: u32, attempt: u32) -> Event {
+    Event::Fail {
+        worker,
+        task,
+        attempt,
+    }
+}
+
+fn leave(worker: u32) -> Event {
+    Event::Leave { worker }
+}
+
+fn abort(worker: u32) -> Event {
+    Event::Abort { worker }
+}
+
+// Task 0 is won by its second attempt, and task 1 has failed once: nobody may leave.
+#[test]
+fn one_worker(rt: HostRuntime) -> Result<(), Fail> {
+    let mut core = Core::open(rt.alloc(), 2, 1)?;
+    let cases = [
+        (draw(0), Ok(())),
+        (begin(0, 0), Ok(())),
+        (begin(0, 0), Ok(())),
+        (commit(0, 0, 1), Ok(())),
+        (commit(0, 0, 0), NOT_NOW),
+        (late(0, 0, 0), Ok(())),
+        (draw(0), Ok(())),
+        (begin(0, 1), Ok(())),
+        (fail(0, 1, 0), Ok(())),
+        (draw(0), Ok(())),
+        (leave(0), NOT_NOW),
+    ];
+    for (event, answer) in cases {
+        assert_eq!(rt; core.step(&event), answer, "at {event:?}");
+    }
+    Ok(())
+}
+
+// The one task fails once and is then won: both may leave, and take no step more.
+#[test]
+fn two_workers(rt: HostRuntime) -> Result<(), Fail> {
+    let mut core = Core::open(rt.alloc(), 1, 2)?;
+    let cases = [
+        (draw(0), Ok(())),
+        (begin(0, 0), Ok(())),
+        (begin(0, 0), Ok(())),
+        (fail(0, 0, 0), Ok(())),
+        (commit(0, 0, 1), Ok(())),
+        (leave(1), Ok(())),
+        (leave(0), Ok(())),
+        (draw(0), NOT_NOW),
+        (leave(0), NOT_NOW),
+        (abort(1), NOT_NOW),
+    ];
+    for (event, answer) in cases {
+        assert_eq!(rt; core.step(&event), answer, "at {event:?}");
+    }
+    Ok(())
+}
+
+// Each kind of step, taken and refused for each of its reasons but the bound of the total.
+#[test]
+fn each_condition(rt: HostRuntime) -> Result<(), Fail> {
+    let mut core = Core::open(rt.alloc(), 2, 2)?;
+    let cases = [
+        // There is no worker 2.
+        (draw(2), NOT_NOW),
+        (abort(2), NOT_NOW),
+        // A task is begun once it is drawn, whoever drew it, and there is no task 2.
+        (begin(1, 0), NOT_NOW),
+        (draw(0), Ok(())),
+        (begin(1, 0), Ok(())),
+        (begin(0, 1), NOT_NOW),
+        (draw(0), Ok(())),
+        (draw(0), Ok(())),
+        (begin(0, 2), NOT_NOW),
+        // The attempt is under way at worker 1, and its task has no winner.
+        (commit(0, 0, 0), NOT_NOW),
+        (fail(0, 0, 0), NOT_NOW),
+        (late(1, 0, 0), NOT_NOW),
+        (leave(1), NOT_NOW),
+        (begin(0, 0), Ok(())),
+        (commit(1, 0, 0), Ok(())),
+        // It has ended, and its task has a winner.
+        (commit(1, 0, 0), NOT_NOW),
+        (fail(1, 0, 0), NOT_NOW),
+        (late(1, 0, 0), NOT_NOW),
+        (commit(0, 0, 1), NOT_NOW),
+        (late(0, 0, 1), Ok(())),
+        (late(0, 0, 1), NOT_NOW),
+        // Task 1 has neither a winner nor four failures until the fourth.
+        (leave(1), NOT_NOW),
+        (begin(0, 1), Ok(())),
+        (fail(0, 1, 0), Ok(())),
+        (fail(0, 1, 0), NOT_NOW),
+        (begin(0, 1), Ok(())),
+        (fail(0, 1, 1), Ok(())),
+        (begin(0, 1), Ok(())),
+        (fail(0, 1, 2), Ok(())),
+        (leave(1), NOT_NOW),
+        (begin(0, 1), Ok(())),
+        (fail(0, 1, 3), Ok(())),
+        (leave(1), Ok(())),
+        // Worker 1 has left, and worker 0 has attempts under way.
+        (draw(1), NOT_NOW),
+        (begin(1, 1), NOT_NOW),
+        (leave(1), NOT_NOW),
+        (abort(1), NOT_NOW),
+        (begin(0, 1), Ok(())),
+        (begin(0, 0), Ok(())),
+        (leave(0), NOT_NOW),
+        // Worker 0 has aborted, with attempts under way.
+        (abort(0), Ok(())),
+        (abort(0), NOT_NOW),
+        (begin(0, 1), NOT_NOW),
+        (commit(0, 1, 4), NOT_NOW),
+        (late(0, 0, 2), NOT_NOW),
+        (fail(0, 1, 4), NOT_NOW),
+        (leave(0), NOT_NOW),
+        (draw(0), NOT_NOW),
+    ];
+    for (event, answer) in cases {
+        assert_eq!(rt; core.step(&event), answer, "at {event:?}");
+    }
+    Ok(())
+}

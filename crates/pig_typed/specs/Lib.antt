@@ -1,0 +1,11 @@
+pub mod Typed
+pub mod Operators
+pub mod Evaluation
+pub mod ExprKinds
+pub mod Seen
+pub mod Signatures
+pub mod Literals
+pub mod Premises
+pub mod Products
+pub mod Blocks
+pub mod BlockKinds
