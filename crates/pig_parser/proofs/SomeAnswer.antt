@@ -1,5 +1,5 @@
 -- Statements have trees, or there is a first one that has none.
-use Rattle.std.proofs.Common.{◌≡◌, ◌+◌, ℕ, suc, length, true, false, Bool, List, [], ◌∷◌, refl, sym, ◌∙◌, ap, arith, inl, inr, ◌⊎◌, Option, Some, None}
+use Rattle.std.proofs.Common.{◌≡◌, ◌≤◌, ◌+◌, ℕ, suc, length, true, false, Bool, List, [], ◌∷◌, refl, sym, ◌∙◌, ap, arith, inl, inr, ◌⊎◌, Option, Some, None}
 use Rattle.std.specs.Prelude.{slice_get}
 use Rattle.std.specs.Option.{option_map}
 use Rattle.pig_syntax.specs.declared.cutting.Piece.{Piece}
@@ -14,20 +14,17 @@ use Rattle.pig_parser.proofs.StatementsFound.{statement_complete}
 use Rattle.pig_parser.proofs.StatementsSound.{statement_sound}
 
 module _ (ts : List Token) (p : Piece) where
-  -- a bound that any nesting keeps
-  deep : ℕ
-  deep = length (forms (piece_of ts p))
-
-  by_mark : (o : Option Bool) → option_map (λ t. is_semicolon t.form) (slice_get ts p.to) ≡ o → (found : Option Stmt) → statement_at (suc deep) (forms (piece_of ts p)) ≡ found → ((s : Stmt) × IsTreeOf ts p s) ⊎ HasNoTree ts p
-  by_mark None e found h = inr (λ s is. let wrong = sym e ∙ is.ended in cc)
-  by_mark (Some false) e found h = inr (λ s is. let wrong = sym e ∙ is.ended in cc)
-  by_mark (Some true) e (Some s) h = inl (s, record { ended = e; stands = statement_sound (suc deep) (forms (piece_of ts p)) s h })
-  by_mark (Some true) e None h =
-      inr (λ s is. let wrong = sym h ∙ statement_complete (forms (piece_of ts p)) s is.stands deep (suc deep) (fits_length (forms (piece_of ts p)) deep (omega arith)) (omega arith) in cc)
+  -- by any bound on how deep brackets nest that their number keeps
+  by_mark : (deep : ℕ) → length (forms (piece_of ts p)) ≤ deep → (o : Option Bool) → option_map (λ t. is_semicolon t.form) (slice_get ts p.to) ≡ o → (found : Option Stmt) → statement_at (suc deep) (forms (piece_of ts p)) ≡ found → ((s : Stmt) × IsTreeOf ts p s) ⊎ HasNoTree ts p
+  by_mark deep few None e found h = inr (λ s is. let wrong = sym e ∙ is.ended in cc)
+  by_mark deep few (Some false) e found h = inr (λ s is. let wrong = sym e ∙ is.ended in cc)
+  by_mark deep few (Some true) e (Some s) h = inl (s, record { ended = e; stands = statement_sound (suc deep) (forms (piece_of ts p)) s h })
+  by_mark deep few (Some true) e None h =
+      inr (λ s is. let wrong = sym h ∙ statement_complete (forms (piece_of ts p)) s is.stands deep (suc deep) (fits_length (forms (piece_of ts p)) deep few) (omega arith) in cc)
 
   -- the statement has a tree or none
   pub tree_decided : ((s : Stmt) × IsTreeOf ts p s) ⊎ HasNoTree ts p
-  tree_decided = by_mark (option_map (λ t. is_semicolon t.form) (slice_get ts p.to)) refl (statement_at (suc deep) (forms (piece_of ts p))) refl
+  tree_decided = by_mark (length (forms (piece_of ts p))) (omega arith) (option_map (λ t. is_semicolon t.form) (slice_get ts p.to)) refl (statement_at (suc (length (forms (piece_of ts p)))) (forms (piece_of ts p))) refl
 
 behind_one : (ts : List Token) (p : Piece) (ps : List Piece) (s : Stmt) (n : ℕ) → IsTreeOf ts p s → IsFirstOff ts ps n → IsFirstOff ts (p ∷ ps) (n + 1)
 behind_one ts p ps s n is h = record {

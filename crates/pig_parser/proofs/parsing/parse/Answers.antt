@@ -21,5 +21,5 @@ pub returns-clause-formed : goal.returns-clause-formed
 returns-clause-formed c = λ free.
     let whole : AreTrees c.as_slice-tokens.result.now (take c.loop-index.index c.as_slice-piece-items.result.now) c.loop-index.trees = c.loop-index.invariant in
     let all : AreTrees c.args.tokens.now c.args.pieces.now c.loop-index.trees =
-        rw (← c.as_slice-tokens.ensures, ← c.as_slice-piece-items.ensures) (rw (take_all c.loop-index.index c.as_slice-piece-items.result.now c.loop-index-test.false) at whole) in
+    rw (← c.as_slice-tokens.ensures, ← c.as_slice-piece-items.ensures) (rw (take_all c.loop-index.index c.as_slice-piece-items.result.now c.loop-index-test.false) at whole) in
     trees_formed c.args.tokens.now all free
