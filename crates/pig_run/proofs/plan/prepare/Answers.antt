@@ -1,4 +1,4 @@
-use Rattle.std.proofs.Common.{rules, ◌≡◌, ◌⊎◌, true, false, None, Some, MatchResult}
+use Rattle.std.proofs.Common.{rules, ◌≡◌, ◌∷◌, [], ◌⊎◌, true, false, None, Some, MatchResult}
 use Rattle.std.proofs.lemmas.Result.{MatchResult-weaker}
 use Rattle.pig_outside.specs.Shelf.{lengths_at, has_dir}
 use Rattle.pig_run.specs.declared.outcome.RunFault.TheVariants as fault
