@@ -5,7 +5,7 @@ use Rattle.pig_run.specs.declared.words.Command.{Command}
 use Rattle.pig_run.specs.declared.words.Verb.{Verb}
 use Rattle.pig_run.specs.declared.words.Verb.TheVariants as verbs
 use Rattle.pig_run.specs.CommandWords.{Given, Gives, finished, operand, joined, apart, dashes, operand_last, IsCommand, IsCount, IsSet, IsValue, Makes, Setting, Workers, Reducers, Split, Word, nothing_given, verb_word, with_operand, with_value}
-use Rattle.pig_run.specs.ClapWords.{AreRead, AreValues, LackOperand, number_at, numbers_at, setting_at, takes}
+use Rattle.pig_run.specs.ClapWords.{AreRead, AreValues, number_at, numbers_at, setting_at, takes}
 use Rattle.pig_run.proofs.ClapFinds.{one_given}
 use Rattle.pig_run.proofs.WordNumbers.{number_set, set_number, set_setting, setting_set}
 

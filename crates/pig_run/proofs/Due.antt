@@ -6,7 +6,7 @@ use Rattle.pig_run.specs.declared.outcome.RunFault.{RunFault}
 use Rattle.pig_run.specs.declared.outcome.RunFault.TheVariants as fault
 use Rattle.pig_run.specs.declared.first_form.FirstForm.{FirstForm}
 use Rattle.pig_run.specs.Answers.{CommandLine, AreWords, HasWords, IsDue, usage, no_script, script_refused as refused_script, no_input, output_exists, Refused}
-use Rattle.pig_run.specs.Steps.{IsScripted, IsReady, IsRefused, ScriptRefusal, IsDepotStep, IsPlanFault, IsNotUsage}
+use Rattle.pig_run.specs.Steps.{IsScripted, IsReady, IsRefused, ScriptRefusal, IsDepotStep}
 
 due_as : (words : CommandLine) (s : Shelf) (f g : RunFault) → f ≡ g → IsDue words s (Refused g) → IsDue words s (Refused f)
 due_as words s f g same due = subst (λ x. IsDue words s (Refused x)) (sym same) due

@@ -1,11 +1,11 @@
-use Rattle.std.proofs.Common.{rules, ◌≡◌, ◌⊎◌, true, false, None, Some, MatchResult}
+use Rattle.std.proofs.Common.{rules, ◌≡◌, ◌∷◌, [], ◌⊎◌, true, false, None, Some, MatchResult}
 use Rattle.std.proofs.lemmas.Result.{MatchResult-weaker}
 use Rattle.pig_outside.specs.Shelf.{lengths_at, has_dir}
 use Rattle.pig_run.specs.declared.outcome.RunFault.TheVariants as fault
 use Rattle.pig_run.specs.Steps.{IsScripted, IsReady, IsDepotStep}
 use Rattle.pig_run.proofs.Due.{input_refused, output_refused, is_ready}
 use Rattle.pig_outside.specs.declared.failing.Method.TheVariants as method
-use Rattle.pig_run.specs.Asked.{AskedFor, call, look_calls}
+use Rattle.pig_run.specs.Asked.{AskedFor, call}
 use Rattle.pig_run.proofs.Asking.{asked_then}
 use Rattle.pig_run.proofs.plan.prepare.Goals as goal
 

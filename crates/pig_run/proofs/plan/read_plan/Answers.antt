@@ -4,7 +4,6 @@ use Rattle.pig_run.specs.declared.outcome.RunFault.TheVariants as fault
 use Rattle.pig_run.specs.Answers.{AreWords, CommandLine, HasWords}
 use Rattle.pig_run.specs.Steps.{IsScripted}
 use Rattle.pig_run.proofs.Due.{words_refused, script_refused}
-use Rattle.pig_run.specs.Asked.{AskedFor}
 use Rattle.pig_run.proofs.Asking.{where_ok}
 use Rattle.pig_run.proofs.plan.read_plan.Goals as goal
 
