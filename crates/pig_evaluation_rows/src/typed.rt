@@ -310,6 +310,7 @@ fn written(alloc: Global, letters: &[u8]) -> Result<Option<TExpr>, AllocError> {
     Ok(stack.pop())
 }
 
+#[cycle(show)]
 fn show_all(kinds: &[Kind], into: &mut String) -> Result<(), AllocError> {
     for kind in kinds {
         show(kind, into)?;
@@ -317,6 +318,7 @@ fn show_all(kinds: &[Kind], into: &mut String) -> Result<(), AllocError> {
     Ok(())
 }
 
+#[cycle(show)]
 fn show(kind: &Kind, into: &mut String) -> Result<(), AllocError> {
     match kind {
         Kind::Boolean => into.push_str("b"),
@@ -366,5 +368,193 @@ fn expressions_have_their_kinds(rt: HostRuntime) -> Result<(), Fail> {
         found.push_str("\n")?;
     }
     assert_eq!(rt; found.as_str(), TABLE);
+    Ok(())
+}
+
+// A line for each block: its steps, its items, and the kinds of its rows or `-`. A step is its form (`f` FILTER, `o` ORDER,
+// `l` LIMIT, `d` DISTINCT, `t` the bag alone), its bag, and after `:` its condition, or the position that it sorts by.
+// An item is an expression, after `*` and its width where it is flattened.
+const BLOCKS: &str = ". 0,*26,*25 iilic
+. *10,*1n iy
+. *16 -
+. *26,7 il[i]
+. *17 -
+. 8 -
+o6:1,lL L {il}
+o6:1,d6p 1,L l{il}
+f6:0i= *2L il
+f6:0 L -
+f6:2 L -
+f6:0z L {il}
+o6:2 L -
+o66V:0 L -
+t66V L {{il}}
+d5 L -
+t6p *1L i
+t7 0 -
+";
+
+fn step(alloc: Global, text: &str) -> Result<Option<BlockStep>, AllocError> {
+    let (form, rest) = match text.as_bytes() {
+        [form, rest @ ..] => (*form, rest),
+        [] => return Ok(None),
+    };
+    let mut parts = rest.split(|b| *b == b':');
+    let from = match parts.next() {
+        Some(letters) => written(alloc, letters)?,
+        None => None,
+    };
+    let Some(from) = from else {
+        return Ok(None);
+    };
+    let argument = parts.next().unwrap_or(&[]);
+    match form {
+        b'f' => match written(alloc, argument)? {
+            Some(cond) => Ok(Some(BlockStep::Filter { from, cond })),
+            None => Ok(None),
+        },
+        b'o' => Ok(Some(ordered(alloc, from, argument)?)),
+        b'l' => Ok(Some(BlockStep::Limit { from, count: 1 })),
+        b'd' => Ok(Some(BlockStep::Distinct { from })),
+        _ => Ok(Some(BlockStep::Take { from })),
+    }
+}
+
+fn ordered(alloc: Global, from: TExpr, digits: &[u8]) -> Result<BlockStep, AllocError> {
+    let mut keys = Seq::new(alloc);
+    for digit in digits {
+        keys.push(SortKey {
+            position: number(*digit),
+            dir: Dir::Desc,
+        })?;
+    }
+    Ok(BlockStep::Order { from, keys })
+}
+
+fn number(digit: u8) -> u32 {
+    match digit {
+        b'0'..=b'9' => u32::from(digit - b'0'),
+        _ => 0,
+    }
+}
+
+fn item(alloc: Global, text: &str) -> Result<Option<BlockItem>, AllocError> {
+    let (flatten, width, letters) = match text.as_bytes() {
+        [b'*', width, rest @ ..] => (true, number(*width), rest),
+        letters => (false, 1, letters),
+    };
+    match written(alloc, letters)? {
+        Some(value) => Ok(Some(BlockItem {
+            value,
+            flatten,
+            width,
+        })),
+        None => Ok(None),
+    }
+}
+
+fn block(alloc: Global, steps: &str, items: &str) -> Result<Block, AllocError> {
+    let mut block = Block {
+        steps: Seq::new(alloc),
+        items: Seq::new(alloc),
+    };
+    for text in steps.split(',') {
+        if let Some(step) = step(alloc, text)? {
+            block.steps.push(step)?;
+        }
+    }
+    for text in items.split(',') {
+        if let Some(item) = item(alloc, text)? {
+            block.items.push(item)?;
+        }
+    }
+    Ok(block)
+}
+
+fn show_row(alloc: Global, block: &Block, into: &mut String) -> Result<(), AllocError> {
+    let copied = copy_block(alloc, block)?;
+    match block_kinds(alloc, &copied, &row(alloc)?)? {
+        Some(kinds) => show_all(kinds.as_slice(), into),
+        None => into.push_str("-"),
+    }
+}
+
+#[test]
+fn blocks_have_their_kinds(rt: HostRuntime) -> Result<(), Fail> {
+    let alloc = rt.alloc();
+    let mut found = String::new(alloc);
+    for line in BLOCKS.lines() {
+        let mut parts = line.split(' ');
+        let steps = parts.next().unwrap_or("");
+        let items = parts.next().unwrap_or("");
+        found.push_str(steps)?;
+        found.push_str(" ")?;
+        found.push_str(items)?;
+        found.push_str(" ")?;
+        show_row(alloc, &block(alloc, steps, items)?, &mut found)?;
+        found.push_str("\n")?;
+    }
+    assert_eq!(rt; found.as_str(), BLOCKS);
+    Ok(())
+}
+
+// So many links `+ 2`, and one more of a long.
+fn long_chain(alloc: Global, links: u32) -> Result<TExpr, AllocError> {
+    let mut rest = Seq::new(alloc);
+    for _ in 0..links {
+        rest.push(TLink {
+            op: ChainOp::Add,
+            a: TExpr::Int(2),
+        })?;
+    }
+    rest.push(TLink {
+        op: ChainOp::Sub,
+        a: TExpr::Long(3),
+    })?;
+    let first = boxed(alloc, TExpr::Int(1))?;
+    Ok(TExpr::Chain { first, rest })
+}
+
+fn links(e: &TExpr) -> usize {
+    match e {
+        TExpr::Chain { rest, .. } => rest.len(),
+        _ => 0,
+    }
+}
+
+// `- (t ? 2 : - (t ? 2 : ..))`, so many levels of both.
+fn deep(alloc: Global, levels: u32) -> Result<TExpr, AllocError> {
+    let mut e = TExpr::Int(2);
+    for _ in 0..levels {
+        e = choose(alloc, TExpr::Bool(true), TExpr::Int(2), e)?;
+        e = TExpr::Minus(boxed(alloc, e)?);
+    }
+    Ok(e)
+}
+
+fn is_kind(alloc: Global, e: &TExpr, row: &Kinds, shown: &str) -> Result<bool, AllocError> {
+    let mut text = String::new(alloc);
+    match kind_of(alloc, e, row, &Seq::new(alloc))? {
+        Some(kind) => show(&kind, &mut text)?,
+        None => text.push_str("-")?,
+    }
+    Ok(text.as_str() == shown)
+}
+
+#[test]
+fn large_expressions_have_kinds(rt: HostRuntime) -> Result<(), Fail> {
+    let alloc = rt.alloc();
+    let none = Seq::new(alloc);
+    let chain = copy_expr(alloc, &long_chain(alloc, 100_000)?)?;
+    assert_eq!(rt; links(&chain), 100_001);
+    assert!(rt; is_kind(alloc, &chain, &none, "l")?);
+    assert!(rt; is_kind(alloc, &copy_expr(alloc, &deep(alloc, 64)?)?, &none, "i")?);
+    let mut wide = Seq::new(alloc);
+    for _ in 0..511 {
+        wide.push(Kind::Int)?;
+    }
+    wide.push(Kind::Chararray)?;
+    assert!(rt; is_kind(alloc, &TExpr::Field(511), &wide, "c")?);
+    assert!(rt; is_kind(alloc, &TExpr::Field(512), &wide, "-")?);
     Ok(())
 }
