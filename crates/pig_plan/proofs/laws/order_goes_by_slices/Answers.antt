@@ -1,0 +1,5 @@
+use Rattle.pig_plan.proofs.Ordered.{ordered_slices}
+use Rattle.pig_plan.proofs.laws.order_goes_by_slices.Goals as goal
+
+pub returns : goal.returns
+returns c = ordered_slices

@@ -1,0 +1,11 @@
+pub mod ByKey
+pub mod Plans
+pub mod Results
+pub mod Nodes
+pub mod NodeKinds
+pub mod Given
+pub mod Written
+pub mod Valid
+pub mod Operators
+pub mod Meaning
+pub mod Laws

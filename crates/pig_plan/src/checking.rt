@@ -1,0 +1,263 @@
+ghost use Rattle.std.specs.Prelude.{◌≡◌, map, not, IfOk};
+ghost use Rattle.std.specs.Option.{option_map};
+ghost use Rattle.std.specs.List.{list_all};
+ghost use Rattle.pig_value.specs.FieldReader.{all_of};
+ghost use Rattle.pig_value.specs.Trees.{kind_tree};
+ghost use Rattle.pig_typed.specs.Typed.{block_typed, typed};
+ghost use Rattle.pig_plan.specs.Given.{before_of, given_kinds};
+ghost use Rattle.pig_plan.specs.NodeKinds.{are_alike, foreach_gives, group_all_gives, group_gives, is_join, join_gives, load_gives};
+ghost use Rattle.pig_plan.specs.NodeKinds.{node_gives, order_gives, rank_gives, same_gives, store_gives, tested_gives, union_gives, union_kinds};
+ghost use Rattle.pig_plan.specs.Plans.{keyed_of, op_of};
+
+use crate::given::{Given, column_kinds, columns_ascend, is_condition, rows_before, sorts_by};
+use crate::keyed::{group_row, joined_row, keyed_rows};
+use crate::{KeyedInput, KeyedInputs, NodeOp};
+use pig_typed::{Block, SortKeys, TExpr, block_kinds};
+use pig_value::{Columns, Kind, Kinds, Numbers, Seq, Side, copy_kind, copy_kinds, same_kinds};
+use std::alloc::{AllocError, Global};
+
+/// What a node gives behind these, or None where it is not valid there as to its inputs and kinds.
+pub fn given(alloc: Global, before: &[Given], op: &NodeOp) -> Result<Option<Given>, AllocError>
+    ensures { IfOk result (λ g. option_map given_kinds g ≡ node_gives (before_of before.now) (op_of op.now)) }
+{
+    match op {
+        NodeOp::Load { columns, .. } => load(alloc, columns),
+        NodeOp::Filter { input, cond } => tested(alloc, before, *input, cond),
+        NodeOp::Foreach { input, block } => foreach(alloc, before, *input, block),
+        NodeOp::GroupAll { input } => group_all(alloc, before, *input),
+        NodeOp::Group { inputs } => group(alloc, before, inputs),
+        NodeOp::Join {
+            inputs,
+            side,
+            replicated,
+        } => join(alloc, before, inputs, *side, *replicated),
+        NodeOp::Union { inputs } => union(alloc, before, inputs),
+        NodeOp::Distinct { input } => same(alloc, before, *input),
+        NodeOp::Order { input, keys } => order(alloc, before, *input, keys),
+        NodeOp::Limit { input, .. } => same(alloc, before, *input),
+        NodeOp::Store { input, .. } => Ok(store(before, *input)),
+        NodeOp::Assert { input, cond, .. } => tested(alloc, before, *input, cond),
+        NodeOp::Rank { input, keys, .. } => rank(alloc, before, *input, keys),
+    }
+}
+
+fn load(alloc: Global, columns: &Columns) -> Result<Option<Given>, AllocError>
+    ensures { IfOk result (λ g. option_map given_kinds g ≡ load_gives columns.now) }
+{
+    if !columns_ascend(columns.as_slice()) {
+        return Ok(None);
+    }
+    Ok(Some(Given::Rows(column_kinds(alloc, columns.as_slice())?)))
+}
+
+fn tested(
+    alloc: Global,
+    before: &[Given],
+    input: u32,
+    cond: &TExpr,
+) -> Result<Option<Given>, AllocError>
+    ensures { IfOk result (λ g. option_map given_kinds g ≡ tested_gives (before_of before.now) input (typed cond.now)) }
+{
+    let Some(row) = rows_before(before, input) else {
+        return Ok(None);
+    };
+    if !is_condition(alloc, row, cond)? {
+        return Ok(None);
+    }
+    Ok(Some(Given::Rows(copy_kinds(alloc, row.as_slice())?)))
+}
+
+fn foreach(
+    alloc: Global,
+    before: &[Given],
+    input: u32,
+    block: &Block,
+) -> Result<Option<Given>, AllocError>
+    ensures { IfOk result (λ g. option_map given_kinds g ≡ foreach_gives (before_of before.now) input (block_typed block.now)) }
+{
+    let Some(row) = rows_before(before, input) else {
+        return Ok(None);
+    };
+    let Some(kinds) = block_kinds(alloc, block, row)? else {
+        return Ok(None);
+    };
+    Ok(Some(Given::Rows(kinds)))
+}
+
+fn group_all(alloc: Global, before: &[Given], input: u32) -> Result<Option<Given>, AllocError>
+    ensures { IfOk result (λ g. option_map given_kinds g ≡ group_all_gives (before_of before.now) input) }
+{
+    let Some(row) = rows_before(before, input) else {
+        return Ok(None);
+    };
+    let mut kinds = Kinds::new(alloc);
+    kinds.push(Kind::Chararray)?;
+    kinds.push(Kind::Bag(copy_kinds(alloc, row.as_slice())?))?;
+    Ok(Some(Given::Rows(kinds)))
+}
+
+fn group(alloc: Global, before: &[Given], inputs: &KeyedInputs) -> Result<Option<Given>, AllocError>
+    ensures { IfOk result (λ g. option_map given_kinds g ≡ group_gives (before_of before.now) (map keyed_of inputs.now)) }
+{
+    let Some(found) = keyed_rows(alloc, before, inputs)? else {
+        return Ok(None);
+    };
+    Ok(Some(Given::Rows(group_row(alloc, found.as_slice())?)))
+}
+
+fn join(
+    alloc: Global,
+    before: &[Given],
+    inputs: &KeyedInputs,
+    side: Side,
+    replicated: bool,
+) -> Result<Option<Given>, AllocError>
+    ensures { IfOk result (λ g. option_map given_kinds g ≡ join_gives (before_of before.now) (map keyed_of inputs.now) side replicated) }
+{
+    let Some(found) = keyed_rows(alloc, before, inputs)? else {
+        return Ok(None);
+    };
+    let joins = is_side(side, replicated, found.len()) && none_is_inner(inputs.as_slice());
+    if !joins {
+        return Ok(None);
+    }
+    Ok(Some(Given::Rows(joined_row(alloc, found.as_slice())?)))
+}
+
+/// Whether so many inputs may be joined so: a side other than INNER has just two, and a replicated join is INNER or LEFT.
+fn is_side(side: Side, replicated: bool, inputs: usize) -> bool
+    ensures { result ≡ is_join side replicated inputs }
+{
+    match side {
+        Side::Inner => 2 <= inputs,
+        Side::Left => inputs == 2,
+        _ => inputs == 2 && !replicated,
+    }
+}
+
+fn none_is_inner(inputs: &[KeyedInput]) -> bool
+    ensures { result ≡ list_all (λ input. not input.inner) (map keyed_of inputs.now) }
+{
+    let mut left = inputs;
+    while let [input, rest @ ..] = left {
+        if input.inner {
+            return false;
+        }
+        left = rest;
+    }
+    true
+}
+
+fn union(alloc: Global, before: &[Given], inputs: &Numbers) -> Result<Option<Given>, AllocError>
+    ensures { IfOk result (λ g. option_map given_kinds g ≡ union_gives (before_of before.now) inputs.now) }
+{
+    let Some(found) = each_relation(alloc, before, inputs)? else {
+        return Ok(None);
+    };
+    let Some(row) = common_kinds(alloc, found.as_slice())? else {
+        return Ok(None);
+    };
+    Ok(Some(Given::Rows(row)))
+}
+
+fn each_relation(
+    alloc: Global,
+    before: &[Given],
+    inputs: &Numbers,
+) -> Result<Option<Seq<Kinds>>, AllocError>
+    ensures { IfOk result (λ found. option_map (map (map kind_tree)) found ≡ all_of (before_of before.now) inputs.now) }
+{
+    let mut found = Vec::with_capacity(alloc, inputs.len())?;
+    for input in inputs.as_slice() {
+        match rows_before(before, *input) {
+            Some(row) => found.push(copy_kinds(alloc, row.as_slice())?)?,
+            None => return Ok(None),
+        }
+    }
+    Ok(Some(Seq::from_vec(found)))
+}
+
+fn common_kinds(alloc: Global, found: &[Kinds]) -> Result<Option<Kinds>, AllocError>
+    ensures { IfOk result (λ row. option_map (map kind_tree) row ≡ union_kinds (map (map kind_tree) found.now)) }
+{
+    match found {
+        [first, others @ ..] => {
+            let unite = !others.is_empty() && all_same(first, others);
+            if !unite {
+                return Ok(None);
+            }
+            Ok(Some(copy_kinds(alloc, first.as_slice())?))
+        }
+        [] => Ok(None),
+    }
+}
+
+fn all_same(row: &Kinds, others: &[Kinds]) -> bool
+    ensures { result ≡ are_alike (map kind_tree row.now) (map (map kind_tree) others.now) }
+{
+    let mut left = others;
+    while let [other, rest @ ..] = left {
+        if !same_kinds(row.as_slice(), other.as_slice()) {
+            return false;
+        }
+        left = rest;
+    }
+    true
+}
+
+fn same(alloc: Global, before: &[Given], input: u32) -> Result<Option<Given>, AllocError>
+    ensures { IfOk result (λ g. option_map given_kinds g ≡ same_gives (before_of before.now) input) }
+{
+    let Some(row) = rows_before(before, input) else {
+        return Ok(None);
+    };
+    Ok(Some(Given::Rows(copy_kinds(alloc, row.as_slice())?)))
+}
+
+fn order(
+    alloc: Global,
+    before: &[Given],
+    input: u32,
+    keys: &SortKeys,
+) -> Result<Option<Given>, AllocError>
+    ensures { IfOk result (λ g. option_map given_kinds g ≡ order_gives (before_of before.now) input keys.now) }
+{
+    let Some(row) = rows_before(before, input) else {
+        return Ok(None);
+    };
+    if !sorts_by(row, keys) {
+        return Ok(None);
+    }
+    Ok(Some(Given::Rows(copy_kinds(alloc, row.as_slice())?)))
+}
+
+fn store(before: &[Given], input: u32) -> Option<Given>
+    ensures { option_map given_kinds result ≡ store_gives (before_of before.now) input }
+{
+    match rows_before(before, input) {
+        Some(_) => Some(Given::Nothing),
+        None => None,
+    }
+}
+
+fn rank(
+    alloc: Global,
+    before: &[Given],
+    input: u32,
+    keys: &SortKeys,
+) -> Result<Option<Given>, AllocError>
+    ensures { IfOk result (λ g. option_map given_kinds g ≡ rank_gives (before_of before.now) input keys.now) }
+{
+    let Some(row) = rows_before(before, input) else {
+        return Ok(None);
+    };
+    if !sorts_by(row, keys) {
+        return Ok(None);
+    }
+    let mut kinds = Vec::with_capacity(alloc, row.len().saturating_add(1))?;
+    kinds.push(Kind::Long)?;
+    for kind in row.as_slice() {
+        kinds.push(copy_kind(alloc, kind)?)?;
+    }
+    Ok(Some(Given::Rows(Kinds::from_vec(kinds))))
+}

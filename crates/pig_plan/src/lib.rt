@@ -1,0 +1,15 @@
+//! Plans of Pig Latin scripts, and what their nodes mean.
+#![tactic(auto)]
+
+mod checking;
+mod given;
+mod keyed;
+mod laws;
+mod literals;
+mod nodes;
+mod plan;
+mod written;
+
+pub use laws::{meaning_goes_by_nodes, order_goes_by_slices, parts_give_the_whole};
+pub use nodes::{KeyedInput, KeyedInputs, Node, NodeOp, Nodes};
+pub use plan::Plan;

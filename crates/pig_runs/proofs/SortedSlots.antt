@@ -1,0 +1,45 @@
+-- Slots that are sorted by their bytes stand for the sorted entries.
+use Rattle.std.proofs.Common.{◌≡◌, ◌<◌, ℕ, List, [], ◌∷◌, ◌++◌, map, length, take, get_or, refl, sym, ◌∙◌, ap, subst, arith}
+use Rattle.std.specs.Prelude.{IsPermutation}
+use Rattle.std.specs.List.{AllByRecursion}
+use Rattle.std.specs.Coded.{Coded-set, coded_list}
+use Rattle.std.proofs.Math.Logic.{∥∥₁_map, ∥∥₁_elim}
+use Rattle.pig_value.proofs.list_laws.Permutations.{Shuffled, same, under, swapped, after, shuffled_from_permutation}
+use Rattle.pig_value.specs.Sorts.{sort, Ascends}
+use Rattle.pig_value.specs.declared.operators.Dir.{Dir}
+use Rattle.pig_value.proofs.list_laws.Bags.{each-sort, sort_ascends}
+use Rattle.pig_runs.specs.declared.slots.Slot.{Slot}
+use Rattle.pig_runs.specs.Entries.{Keyed, IsEntry, AreEntries, InDirections, run_cmp, run_of}
+use Rattle.pig_runs.specs.Packed.{Packed, packed, packed_cmp, found_at, IsWithin, Held, held_prop, coded_packed}
+use Rattle.pig_runs.proofs.Order.{run_total, sorted_codes}
+
+module _ (ds : List Dir) (bytes : List ℕ) (slots done : List Slot) (held : Held ds (map (found_at bytes) slots))
+    (sorted : map (found_at bytes) done ≡ sort packed_cmp (map (found_at bytes) slots)) where
+  pub held_sorted : Held ds (map (found_at bytes) done)
+  held_sorted = (
+    sort (run_cmp ds) held.0,
+    (
+      ∥∥₁_map held.1.0 (λ h. each-sort (run_cmp ds) (IsEntry ds) held.0 h),
+      ∥∥₁_elim held.1.0 (Coded-set (coded_list coded_packed) (map (packed ds) (sort (run_cmp ds) held.0)) (map (found_at bytes) done))
+          (λ h. sym (sorted_codes ds held.0 h) ∙ (ap (sort packed_cmp) held.1.1 ∙ sym sorted)),
+    ),
+  )
+
+  pub seen_sorted : (given : Held ds (map (found_at bytes) done)) (b : InDirections) → b ≡ record { dirs = ds; entries = held.0 } → record { dirs = ds; entries = given.0 } ≡ run_of b.dirs b.entries
+  unfolding held_sorted
+  seen_sorted given b was =
+      let is : given.0 ≡ sort (run_cmp ds) held.0 = ap (λ h. h.0) (held_prop ds (map (found_at bytes) done) given held_sorted) in
+      ap (λ l. record { dirs = ds; entries = l }) is ∙ sym (ap (λ c. run_of c.dirs c.entries) was)
+
+-- what holds of each element holds of each in another order
+along : {X : Type 0} (P : X → Type 0) {xs ys : List X} → Shuffled xs ys → AllByRecursion P xs → AllByRecursion P ys
+along P (same xs) h = h
+along P (under x s) h = (h.0, along P s h.1)
+along P (swapped x y zs) h = (h.1.0, (h.0, h.1.1))
+along P (after s t) h = along P t (along P s h)
+
+pub within_sorted : (size : ℕ) (slots done : List Slot) → IsPermutation slots done → AllByRecursion (IsWithin size) slots → AllByRecursion (IsWithin size) done
+within_sorted size slots done moved h = along (IsWithin size) (shuffled_from_permutation slots done moved) h
+
+pub ascends_run : (run : InDirections) (ds : List Dir) (es : List Keyed) → run ≡ run_of ds es → Ascends (run_cmp run.dirs) run.entries
+ascends_run run ds es is = subst (λ r. Ascends (run_cmp r.dirs) r.entries) (sym is) (sort_ascends (run_cmp ds) (run_total ds) es)

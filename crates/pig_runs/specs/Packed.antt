@@ -1,0 +1,97 @@
+-- Entries kept as bytes: what stands there for each, and that it tells the entries.
+use Rattle.std.specs.Prelude.{◌≡◌, ◌≤◌, ◌+◌, ◌-◌, ℕ, List, [], ◌∷◌, map, length, take, drop, refl}
+use Rattle.std.proofs.Common.{sym, ◌∙◌, ap}
+use Rattle.std.specs.List.{AllByRecursion}
+use Rattle.std.specs.Ordering.{ordering_then, nat_cmp}
+use Rattle.std.specs.declared.cmp.Ordering.{Ordering}
+use Rattle.std.specs.Coded.{Coded, Coded-set, code_by, coded×, coded_ℕ, coded_list, ×_prop}
+use Rattle.std.proofs.Math.Logic.{∥∥₁_prop, ∥∥₁_elim}
+use mathlib.Core.HLevel.{Σ_prop_path}
+use Rattle.pig_value.specs.Trees.{Tree}
+use Rattle.pig_value.specs.Orders.{text_cmp}
+use Rattle.pig_value.specs.declared.operators.Dir.{Dir}
+use Rattle.pig_keycode.specs.Keys.{key_code}
+use Rattle.pig_keycode.specs.Reading.{row_code}
+use Rattle.pig_keycode.proofs.KeyOrder.{one_key}
+use Rattle.pig_keycode.proofs.Wholes.{one_row}
+use Rattle.pig_runs.specs.declared.slots.Slot.{Slot}
+use Rattle.pig_runs.specs.Entries.{Keyed, IsEntry, AreEntries, coded_keyed}
+
+-- an entry as bytes: the code of its key, the number of its input, the code of its row
+pub record Packed : Type 0 where
+  pub key : List ℕ
+  pub input : ℕ
+  pub row : List ℕ
+
+abbrev pub packed : List Dir → Keyed → Packed
+packed ds e = record { key = key_code ds e.key; input = e.input; row = row_code e.row }
+
+-- part by part, as bytes
+abbrev pub packed_cmp : Packed → Packed → Ordering
+packed_cmp p q = ordering_then (text_cmp p.key q.key) (ordering_then (nat_cmp p.input q.input) (text_cmp p.row q.row))
+
+-- so many bytes from a place on
+abbrev pub part : List ℕ → ℕ → ℕ → List ℕ
+part bytes at len = take len (drop at bytes)
+
+-- what a slot finds in the bytes
+abbrev pub found_at : List ℕ → Slot → Packed
+found_at bytes s = record { key = part bytes s.key_at s.key_len; input = s.input; row = part bytes s.row_at s.row_len }
+
+-- the slot of an entry whose bytes are appended to so many
+abbrev pub slot_of : ℕ → List ℕ → List ℕ → ℕ → Slot
+slot_of size key row input = record { key_at = size; key_len = length key; row_at = size + length key; row_len = length row; input = input }
+
+-- a slot whose bytes are moved behind so many others
+abbrev pub moved : ℕ → Slot → Slot
+moved base s = record { key_at = base + s.key_at; key_len = s.key_len; row_at = base + s.row_at; row_len = s.row_len; input = s.input }
+
+-- both places of a slot lie within so many bytes
+pub record IsWithin (size : ℕ) (s : Slot) : Type 0 where
+  pub key : s.key_at + s.key_len ≤ size
+  pub row : s.row_at + s.row_len ≤ size
+
+-- ---- the bytes tell the entries
+
+abbrev parts_of : Packed → List ℕ × (ℕ × List ℕ)
+parts_of p = (p.key, (p.input, p.row))
+
+abbrev of_parts : List ℕ × (ℕ × List ℕ) → Packed
+of_parts p = record { key = p.0; input = p.1.0; row = p.1.1 }
+
+abbrev pub coded_packed : Coded Packed
+coded_packed = code_by (List ℕ × (ℕ × List ℕ)) (coded× (coded_list coded_ℕ) (coded× coded_ℕ (coded_list coded_ℕ))) parts_of of_parts (λ _. refl)
+
+pub entry_told : (ds : List Dir) (e f : Keyed) → IsEntry ds e → IsEntry ds f → packed ds e ≡ packed ds f → e ≡ f
+entry_told ds e f h k same =
+    let key : e.key ≡ f.key = one_key ds e.key f.key h.key k.key (ap (λ p. p.key) same) in
+    let input : e.input ≡ f.input = ap (λ p. p.input) same in
+    let row : e.row ≡ f.row = one_row e.row f.row h.row k.row (ap (λ p. p.row) same) in
+    λ i. record { key = key i; input = input i; row = row i }
+
+abbrev first_or : Packed → List Packed → Packed
+first_or p [] = p
+first_or p (q ∷ ps) = q
+
+abbrev behind : List Packed → List Packed
+behind [] = []
+behind (p ∷ ps) = ps
+
+pub entries_told : (ds : List Dir) (es fs : List Keyed) → AreEntries ds es → AreEntries ds fs → map (packed ds) es ≡ map (packed ds) fs → es ≡ fs
+entries_told ds [] [] h k same = refl
+entries_told ds [] (f ∷ fs) h k same = absurd (cc)
+entries_told ds (e ∷ es) [] h k same = absurd (cc)
+entries_told ds (e ∷ es) (f ∷ fs) h k same =
+    let head = entry_told ds e f h.0 k.0 (ap (first_or (packed ds e)) same) in
+    let tail = entries_told ds es fs h.1 k.1 (ap behind same) in
+    λ i. head i ∷ tail i
+
+-- the entries that bytes stand for
+abbrev pub Held : List Dir → List Packed → Type 0
+Held ds ps = (es : List Keyed) × (∥ AreEntries ds es ∥₁ × (map (packed ds) es ≡ ps))
+
+pub held_prop : (ds : List Dir) (ps : List Packed) → IsProp (Held ds ps)
+held_prop ds ps x y =
+    Σ_prop_path {A = List Keyed} {B = λ es. ∥ AreEntries ds es ∥₁ × (map (packed ds) es ≡ ps)}
+    (λ es. ×_prop ∥∥₁_prop (Coded-set (coded_list coded_packed) (map (packed ds) es) ps)) {u = x} {v = y}
+    (∥∥₁_elim x.1.0 (Coded-set (coded_list coded_keyed) x.0 y.0) (λ h. ∥∥₁_elim y.1.0 (Coded-set (coded_list coded_keyed) x.0 y.0) (λ k. entries_told ds x.0 y.0 h k (x.1.1 ∙ sym y.1.1))))

@@ -1,0 +1,153 @@
+ghost use Rattle.std.specs.Prelude.{◌≡◌, ◌<◌, [], ◌∷◌, length, map, option_map, slice_get, Some, OnOk, OnErr, IfOk};
+ghost use Rattle.pig_runs.specs.Entries.{run_of};
+ghost use Rattle.pig_runs.specs.Packed.{found_at, Held, held_prop};
+
+use crate::packing::{
+    add_entry, append_entries, read_key, read_row, same_key_bytes, slot_at, sort_slots,
+};
+use crate::run::Run;
+use crate::slots::Slot;
+use pig_value::{Dirs, Tuple, Value};
+use std::alloc::{AllocError, Global};
+use std::marker::Model;
+
+/// Entries that a run will be made of, kept as bytes.
+///
+/// Contracts see the directions of their keys, and the entries in the order in which they were added.
+#[derive(Debug, Drop)]
+pub struct RunBuilder {
+    pub(crate) dirs: Dirs,
+    pub(crate) bytes: Vec<u8>,
+    pub(crate) slots: Vec<Slot>,
+    pub(crate) ghost held: { Held dirs (map (found_at bytes.items) slots.items) } by { held_prop dirs (map (found_at bytes.items) slots.items) },
+}
+
+impl Model for RunBuilder {
+    ghost use Rattle.std.specs.Prelude.{length};
+    ghost use Rattle.std.specs.List.{AllByRecursion};
+    ghost use Rattle.pig_runs.specs.Entries.{InDirections, coded_in_directions};
+    ghost use Rattle.pig_runs.specs.Packed.{IsWithin};
+
+    ghost Value = { InDirections };
+
+    ghost coded = { coded_in_directions };
+
+    ghost view = { λ b. record { dirs = b.dirs; entries = b.held.0 } };
+
+    ghost invariant = { λ b. AllByRecursion (IsWithin (length b.bytes.items)) b.slots.items };
+}
+
+impl RunBuilder {
+    ghost use Rattle.pig_runs.specs.Entries.{no_entries_in, and_entries, key_at};
+    ghost use Rattle.std.specs.Bool.{Decides};
+    ghost use Rattle.pig_keycode.specs.Keys.{IsKey};
+    ghost use Rattle.pig_value.specs.Trees.{tree, row_tree};
+    ghost use Rattle.pig_value.specs.Valid.{IsRow};
+
+    /// No entries yet, which takes no memory; their keys will be compared in these directions.
+    pub fn new(alloc: Global, dirs: Dirs) -> RunBuilder
+        ensures { result ≡ no_entries_in dirs }
+    {
+        RunBuilder {
+            dirs,
+            bytes: Vec::new(alloc),
+            slots: Vec::new(alloc),
+        }
+    }
+
+    /// Adds a row under its key, encoding both at once. Where memory is wanting, the entries stay as they were.
+    pub fn add(&mut self, key: &Value, input: u32, row: &Tuple) -> Result<(), AllocError>
+        requires key { IsKey self.old.dirs (tree key.now) }
+        requires row { IsRow (row_tree row.now) }
+        ensures ok { OnOk result (self.new ≡ and_entries (record { key = tree key.now; input = input; row = row_tree row.now } ∷ []) self.old) }
+        ensures err { OnErr result (self.new ≡ self.old) }
+    {
+        add_entry(
+            &self.dirs,
+            &mut self.bytes,
+            &mut self.slots,
+            key,
+            input,
+            row,
+        )
+    }
+
+    // Adds all entries of another builder. Where memory is wanting, the entries stay as they were.
+    pub(crate) fn append(&mut self, other: &RunBuilder) -> Result<(), AllocError>
+        requires { other.now.dirs ≡ self.old.dirs }
+        ensures ok { OnOk result (self.new ≡ and_entries other.now.entries self.old) }
+        ensures err { OnErr result (self.new ≡ self.old) }
+    {
+        let more = other.bytes.as_slice();
+        append_entries(
+            &mut self.bytes,
+            &mut self.slots,
+            more,
+            other.slots.as_slice(),
+        )
+    }
+
+    /// The sorted run of the entries.
+    pub fn finish(self) -> Run
+        ensures { result ≡ run_of self.dirs self.entries }
+    {
+        let mut built = self;
+        built.sort();
+        Run::from_sorted(built)
+    }
+
+    fn sort(&mut self)
+        ensures { self.new ≡ run_of self.old.dirs self.old.entries }
+    {
+        sort_slots(self.bytes.as_slice(), &mut self.slots);
+    }
+
+    /// The number of entries.
+    pub fn len(&self) -> usize
+        ensures { result ≡ length self.now.entries }
+    {
+        self.slots.len()
+    }
+
+    // The number of the input of an entry.
+    pub(crate) fn input(&self, at: usize) -> u32
+        requires { at < length self.now.entries }
+        ensures { option_map (λ e. e.input) (slice_get self.now.entries at) ≡ Some result }
+    {
+        let slot = slot_at(self.slots.as_slice(), at);
+        slot.input
+    }
+
+    // The row of an entry.
+    pub(crate) fn row(&self, alloc: Global, at: usize) -> Result<Tuple, AllocError>
+        requires { at < length self.now.entries }
+        ensures { IfOk result (λ row. option_map (λ e. e.row) (slice_get self.now.entries at) ≡ Some (row_tree row)) }
+    {
+        let slot = slot_at(self.slots.as_slice(), at);
+        read_row(alloc, self.bytes.as_slice(), slot)
+    }
+
+    // The key of an entry, where keys have no directions.
+    pub(crate) fn key(&self, alloc: Global, at: usize) -> Result<Value, AllocError>
+        requires within { at < length self.now.entries }
+        requires ascending { self.now.dirs ≡ [] }
+        ensures { IfOk result (λ key. key_at self.now at ≡ Some (tree key)) }
+    {
+        let slot = slot_at(self.slots.as_slice(), at);
+        read_key(alloc, self.bytes.as_slice(), slot)
+    }
+
+    // Whether two entries have the same key.
+    pub(crate) fn same_key(&self, at: usize, other: usize) -> bool
+        requires here { at < length self.now.entries }
+        requires there { other < length self.now.entries }
+        ensures { Decides result (key_at self.now at ≡ key_at self.now other) }
+    {
+        let slots = self.slots.as_slice();
+        same_key_bytes(
+            self.bytes.as_slice(),
+            slot_at(slots, at),
+            slot_at(slots, other),
+        )
+    }
+}

@@ -1,0 +1,18 @@
+//! Sorted runs.
+#![tactic(auto)]
+
+mod builder;
+mod entries;
+mod laws;
+mod packing;
+mod parts;
+mod run;
+mod slots;
+mod sorting;
+
+pub use builder::RunBuilder;
+pub use entries::{Entries, Entry};
+pub use laws::{run_laws, runs_cross_threads};
+pub use parts::part_of;
+pub use run::{Run, Runs};
+pub use sorting::{merge, sort_run};

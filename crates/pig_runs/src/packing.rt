@@ -1,0 +1,246 @@
+ghost use Rattle.std.specs.Prelude.{◌≡◌, ◌<◌, ◌≤◌, ◌^◌, ◌++◌, ◌∷◌, [], ◌+◌, List, Some, slice_get, length, map, OnOk, OnErr, IfOk, IsPermutation};
+ghost use Rattle.std.specs.Bool.{Decides};
+ghost use Rattle.std.specs.List.{AllByRecursion};
+ghost use Rattle.std.specs.Ordering.{ordering_then, nat_cmp};
+ghost use Rattle.pig_value.specs.Orders.{text_cmp};
+ghost use Rattle.pig_value.specs.Sorts.{sort};
+ghost use Rattle.pig_value.specs.Trees.{Tree, tree, row_tree};
+ghost use Rattle.pig_keycode.specs.Codable.{IsCodeOf, IsCodeOfRow};
+ghost use Rattle.pig_keycode.specs.Keys.{key_code};
+ghost use Rattle.pig_keycode.specs.Reading.{row_code};
+ghost use Rattle.pig_runs.specs.Packed.{part, found_at, packed_cmp, slot_of, moved, IsWithin};
+
+use crate::slots::Slot;
+use pig_keycode::{decode, decode_row, encode_key, encode_row};
+use pig_value::{Dirs, Seq, Tuple, Value};
+use std::alloc::{AllocError, Global};
+use std::cmp::Ordering;
+
+// So many bytes from a place on.
+pub(crate) fn part(bytes: &[u8], at: usize, len: usize) -> &[u8]
+    ensures { result.now ≡ part bytes.now at len }
+{
+    match bytes.get(at..) {
+        Some(rest) => match rest.get(..len) {
+            Some(part) => part,
+            None => rest,
+        },
+        None => &[],
+    }
+}
+
+// How two entries stand, by the bytes of their keys, their inputs, and the bytes of their rows.
+pub(crate) fn compare(bytes: &[u8], a: &Slot, b: &Slot) -> Ordering
+    ensures { result ≡ packed_cmp (found_at bytes.now a.now) (found_at bytes.now b.now) }
+{
+    let keys = part(bytes, a.key_at, a.key_len).cmp(part(bytes, b.key_at, b.key_len));
+    match keys {
+        Ordering::Equal => compare_rows(bytes, a, b),
+        found => found,
+    }
+}
+
+fn compare_rows(bytes: &[u8], a: &Slot, b: &Slot) -> Ordering
+    ensures { result ≡ ordering_then (nat_cmp a.now.input b.now.input) (text_cmp (part bytes.now a.now.row_at a.now.row_len) (part bytes.now b.now.row_at b.now.row_len)) }
+{
+    match a.input.cmp(&b.input) {
+        Ordering::Equal => part(bytes, a.row_at, a.row_len).cmp(part(bytes, b.row_at, b.row_len)),
+        found => found,
+    }
+}
+
+// Appends the bytes of an entry. Where memory is wanting, the bytes stay as they were.
+fn write_entry(
+    dirs: &Dirs,
+    bytes: &mut Vec<u8>,
+    key: &Value,
+    input: u32,
+    row: &Tuple,
+) -> Result<Slot, AllocError>
+    ensures bytes { OnOk result (bytes.new.items ≡ bytes.old.items ++ (key_code dirs.now (tree key.now) ++ row_code (row_tree row.now))) }
+    ensures slot { IfOk result (λ slot. slot ≡ slot_of (length bytes.old.items) (key_code dirs.now (tree key.now)) (row_code (row_tree row.now)) input) }
+    ensures err { OnErr result (bytes.new.items ≡ bytes.old.items) }
+{
+    let key_at = bytes.len();
+    encode_key(key, dirs, bytes)?;
+    let row_at = bytes.len();
+    match encode_row(row, bytes) {
+        Ok(()) => {
+            let key_len = row_at - key_at;
+            let row_len = bytes.len() - row_at;
+            Ok(Slot {
+                key_at,
+                key_len,
+                row_at,
+                row_len,
+                input,
+            })
+        }
+        Err(fault) => {
+            bytes.truncate(key_at);
+            Err(fault)
+        }
+    }
+}
+
+fn push_slot(slot: Slot, slots: &mut Vec<Slot>) -> Result<(), AllocError>
+    ensures ok { OnOk result (slots.new.items ≡ slots.old.items ++ slot ∷ []) }
+    ensures err { OnErr result (slots.new.items ≡ slots.old.items) }
+{
+    slots.push(slot)?;
+    Ok(())
+}
+
+// Appends an entry and its slot. Where memory is wanting, both stay as they were.
+pub(crate) fn add_entry(
+    dirs: &Dirs,
+    bytes: &mut Vec<u8>,
+    slots: &mut Vec<Slot>,
+    key: &Value,
+    input: u32,
+    row: &Tuple,
+) -> Result<(), AllocError>
+    ensures bytes { OnOk result (bytes.new.items ≡ bytes.old.items ++ (key_code dirs.now (tree key.now) ++ row_code (row_tree row.now))) }
+    ensures slots { OnOk result (slots.new.items ≡ slots.old.items ++ slot_of (length bytes.old.items) (key_code dirs.now (tree key.now)) (row_code (row_tree row.now)) input ∷ []) }
+    ensures err_bytes { OnErr result (bytes.new.items ≡ bytes.old.items) }
+    ensures err_slots { OnErr result (slots.new.items ≡ slots.old.items) }
+{
+    let start = bytes.len();
+    let slot = write_entry(dirs, bytes, key, input, row)?;
+    match push_slot(slot, slots) {
+        Ok(()) => Ok(()),
+        Err(fault) => {
+            bytes.truncate(start);
+            Err(fault)
+        }
+    }
+}
+
+// Sorts slots by their entries.
+pub(crate) fn sort_slots(bytes: &[u8], slots: &mut Vec<Slot>)
+    ensures order { map (found_at bytes.now) slots.new.items ≡ sort packed_cmp (map (found_at bytes.now) slots.old.items) }
+    ensures same { IsPermutation slots.old.items slots.new.items }
+{
+    slots.sort_unstable_by(|a, b| compare(bytes, a, b));
+}
+
+pub(crate) fn slot_at(slots: &[Slot], at: usize) -> Slot
+    requires { at < length slots.now }
+    ensures { slice_get slots.now at ≡ Some result }
+{
+    slots[at]
+}
+
+// The row of a slot.
+pub(crate) fn read_row(alloc: Global, bytes: &[u8], slot: Slot) -> Result<Tuple, AllocError>
+    ensures { (row : List Tree) → IsCodeOfRow (part bytes.now slot.row_at slot.row_len) row → IfOk result (λ found. row_tree found ≡ row) }
+{
+    match decode_row(alloc, part(bytes, slot.row_at, slot.row_len)) {
+        Ok(Some(row)) => Ok(row),
+        Ok(None) => Ok(Seq::new(alloc)),
+        Err(fault) => Err(fault),
+    }
+}
+
+// The key of a slot.
+pub(crate) fn read_key(alloc: Global, bytes: &[u8], slot: Slot) -> Result<Value, AllocError>
+    ensures { (key : Tree) → IsCodeOf (part bytes.now slot.key_at slot.key_len) key → IfOk result (λ found. tree found ≡ key) }
+{
+    match decode(alloc, part(bytes, slot.key_at, slot.key_len)) {
+        Ok(Some(key)) => Ok(key),
+        Ok(None) => Ok(Value::Null),
+        Err(fault) => Err(fault),
+    }
+}
+
+// A slot whose bytes are moved behind others.
+fn moved(slot: Slot, base: usize) -> Slot
+    requires key { base + slot.key_at < 2 ^ 64 }
+    requires row { base + slot.row_at < 2 ^ 64 }
+    ensures { result ≡ moved base slot }
+{
+    Slot {
+        key_at: base + slot.key_at,
+        row_at: base + slot.row_at,
+        ..slot
+    }
+}
+
+// Slots whose bytes are moved behind others, which then end at a place.
+fn all_moved(
+    alloc: Global,
+    slots: &[Slot],
+    base: usize,
+    end: usize,
+) -> Result<Vec<Slot>, AllocError>
+    requires { AllByRecursion (λ s. (base + s.key_at ≤ end) × (base + s.row_at ≤ end)) slots.now }
+    ensures { IfOk result (λ all. all.items ≡ map (moved base) slots.now) }
+{
+    let mut all = Vec::with_capacity(alloc, slots.len())?;
+    for slot in slots {
+        all.push(moved(*slot, base))?;
+    }
+    Ok(all)
+}
+
+fn extend_bytes(bytes: &mut Vec<u8>, more: &[u8]) -> Result<(), AllocError>
+    ensures ok { OnOk result (bytes.new.items ≡ bytes.old.items ++ more.now) }
+    ensures err { OnErr result (bytes.new.items ≡ bytes.old.items) }
+{
+    bytes.extend_from_slice(more)?;
+    Ok(())
+}
+
+fn extend_slots(slots: &mut Vec<Slot>, more: &[Slot]) -> Result<(), AllocError>
+    ensures ok { OnOk result (slots.new.items ≡ slots.old.items ++ more.now) }
+    ensures err { OnErr result (slots.new.items ≡ slots.old.items) }
+{
+    slots.extend_from_slice(more)?;
+    Ok(())
+}
+
+// Appends the bytes of other entries, and their slots. Where memory is wanting, both stay as they were.
+pub(crate) fn append_entries(
+    bytes: &mut Vec<u8>,
+    slots: &mut Vec<Slot>,
+    more: &[u8],
+    more_slots: &[Slot],
+) -> Result<(), AllocError>
+    requires { AllByRecursion (IsWithin (length more.now)) more_slots.now }
+    ensures bytes { OnOk result (bytes.new.items ≡ bytes.old.items ++ more.now) }
+    ensures slots { OnOk result (slots.new.items ≡ slots.old.items ++ map (moved (length bytes.old.items)) more_slots.now) }
+    ensures err_bytes { OnErr result (bytes.new.items ≡ bytes.old.items) }
+    ensures err_slots { OnErr result (slots.new.items ≡ slots.old.items) }
+{
+    let base = bytes.len();
+    extend_bytes(bytes, more)?;
+    match push_moved(slots, more_slots, base, bytes.len()) {
+        Ok(()) => Ok(()),
+        Err(fault) => {
+            bytes.truncate(base);
+            Err(fault)
+        }
+    }
+}
+
+fn push_moved(
+    slots: &mut Vec<Slot>,
+    more: &[Slot],
+    base: usize,
+    end: usize,
+) -> Result<(), AllocError>
+    requires { AllByRecursion (λ s. (base + s.key_at ≤ end) × (base + s.row_at ≤ end)) more.now }
+    ensures ok { OnOk result (slots.new.items ≡ slots.old.items ++ map (moved base) more.now) }
+    ensures err { OnErr result (slots.new.items ≡ slots.old.items) }
+{
+    let alloc = *slots.allocator();
+    let more = all_moved(alloc, more, base, end)?;
+    extend_slots(slots, more.as_slice())
+}
+
+// Whether the keys of two slots have the same bytes.
+pub(crate) fn same_key_bytes(bytes: &[u8], a: Slot, b: Slot) -> bool
+    ensures { Decides result (part bytes.now a.key_at a.key_len ≡ part bytes.now b.key_at b.key_len) }
+{
+    part(bytes, a.key_at, a.key_len) == part(bytes, b.key_at, b.key_len)
+}
