@@ -6,7 +6,7 @@ use Rattle.std.specs.Option.{option_and_then, option_map, option_or}
 use Rattle.std.specs.Str.{chars, encode_utf8_all}
 use Rattle.std.proofs.Math.ListN.{replicate}
 use Rattle.pig_value.specs.FieldReader.{all_of}
-use Rattle.pig_value.specs.Functions.{abs_tree, endswith_tree, indexof_tree, isempty_tree, number_of, size_tree, startswith_tree, substring_tree, tokenize_tree, totuple_tree, apply_tree, bag_tree, bytes_in, column_tree, concat_tree, first_found, first_place, int_of, is_ranked, is_separator, long_of, looked_at, one_field, place_or_none, row_from, rows_in, substring, sum_found, text_in, tobag_tree, tokens}
+use Rattle.pig_value.specs.Functions.{abs_tree, endswith_tree, indexof_tree, isempty_tree, whole_of, size_tree, startswith_tree, substring_tree, tokenize_tree, totuple_tree, apply_tree, bag_tree, bytes_in, column_tree, concat_tree, first_found, first_place, int_of, is_ranked, is_separator, long_of, looked_at, one_field, place_or_none, row_from, argument_rows, substring, sum_found, text_in, tobag_tree, tokens}
 use Rattle.pig_value.specs.Orders.{dir_cmp}
 use Rattle.pig_value.specs.Sorts.{sort}
 use Rattle.pig_value.specs.Trees.{Tree, Fields, Tuples, or_null, at, v_null, v_bool, v_int, v_long, v_chars, v_bytes, v_tuple, v_bag, v_listed, v_map, fields_of, fields_list, tuples_list}
@@ -87,14 +87,14 @@ module _ (P : Tree → Type 0) (k : Keeps P) where
   first : (d : Dir) (vs : List Tree) → AllByRecursion P vs → P (or_null (first_found d vs))
   first d vs h = field (sort (dir_cmp d) (filter is_ranked vs)) 0 (each-sort (dir_cmp d) P (filter is_ranked vs) (each-filter is_ranked P vs h))
 
-  rows_kept : (args : List Tree) → AllByRecursion P args → IfThere (AllByRecursion (AllByRecursion P)) (rows_in args)
+  rows_kept : (args : List Tree) → AllByRecursion P args → IfThere (AllByRecursion (AllByRecursion P)) (argument_rows args)
   rows_kept (v_bag rows ∷ []) h = k.rows rows h.0
   rows_kept (v_listed rows ∷ []) h = k.listed rows h.0
   rows_kept args h = tt
 
   over : (g : List (List Tree) → Tree) → ((rows : List (List Tree)) → AllByRecursion (AllByRecursion P) rows → P (g rows)) → (args : List Tree) → AllByRecursion P args
-      → P (or_null (option_map g (rows_in args)))
-  over g keeps args h = step (rows_in args) (rows_kept args h)
+      → P (or_null (option_map g (argument_rows args)))
+  over g keeps args h = step (argument_rows args) (rows_kept args h)
     where
       step : (o : Option (List (List Tree))) → IfThere (AllByRecursion (AllByRecursion P)) o → P (or_null (option_map g o))
       step None h = k.null
@@ -207,7 +207,7 @@ module _ (P : Tree → Type 0) (k : Keeps P) where
   pub kept : (function : Function) (args : List Tree) → AllByRecursion P args → P (apply_tree function args)
   kept f.Count args h = over (λ rows. column_tree f.Count (map (looked_at f.Count) rows)) (λ rows hs. k.long _) args h
   kept f.CountStar args h = over (λ rows. column_tree f.CountStar (map (looked_at f.CountStar) rows)) (λ rows hs. k.long _) args h
-  kept f.Sum args h = over (λ rows. column_tree f.Sum (map one_field rows)) (λ rows hs. sum (filter_map number_of (map one_field rows))) args h
+  kept f.Sum args h = over (λ rows. column_tree f.Sum (map one_field rows)) (λ rows hs. sum (filter_map whole_of (map one_field rows))) args h
   kept f.Min args h = over (λ rows. column_tree f.Min (map one_field rows)) (λ rows hs. first dir.Asc (map one_field rows) (column one_field only rows hs)) args h
   kept f.Max args h = over (λ rows. column_tree f.Max (map one_field rows)) (λ rows hs. first dir.Desc (map one_field rows) (column one_field only rows hs)) args h
   kept f.Size args h = size_kept args

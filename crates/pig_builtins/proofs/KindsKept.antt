@@ -8,7 +8,7 @@ use Rattle.std.proofs.Math.ListN.{replicate}
 use Rattle.std.proofs.lemmas.Bool.Decides.{Decides-eqb}
 use Rattle.pig_value.specs.FieldReader.{all_of}
 use Rattle.pig_value.specs.FunctionKinds.{function_kind, sum_kind, ranked_kind, concat_kind, tobag_kind}
-use Rattle.pig_value.specs.Functions.{abs_tree, apply_tree, bag_tree, bytes_in, column_tree, concat_tree, endswith_tree, first_found, first_place, indexof_tree, isempty_tree, looked_at, number_of, one_field, place_or_none, row_from, rows_in, size_tree, startswith_tree, substring, substring_tree, sum_found, text_in, tobag_tree, tokenize_tree, tokens, totuple_tree, is_ranked}
+use Rattle.pig_value.specs.Functions.{abs_tree, apply_tree, bag_tree, bytes_in, column_tree, concat_tree, endswith_tree, first_found, first_place, indexof_tree, isempty_tree, looked_at, whole_of, one_field, place_or_none, row_from, argument_rows, size_tree, startswith_tree, substring, substring_tree, sum_found, text_in, tobag_tree, tokenize_tree, tokens, totuple_tree, is_ranked}
 use Rattle.pig_value.specs.Kinds.{IsOf, FieldsOf, TuplesOf, IsRowOf, AreRowsOf, kind_eq}
 use Rattle.pig_value.specs.Orders.{dir_cmp}
 use Rattle.pig_value.specs.Sorts.{sort}
@@ -64,7 +64,7 @@ first_of_kind d k rows h =
     head_of k (sort (dir_cmp d) (filter is_ranked vs)) (each-sort (dir_cmp d) (λ v. IsOf v k) (filter is_ranked vs) (each-filter is_ranked (λ v. IsOf v k) vs (column_of k rows h)))
 
 best : (d : Dir) (function : Function) → ((rows : Tuples) → column_tree function (map (looked_at function) (tuples_list rows)) ≡ or_null (first_found d (map one_field (tuples_list rows))))
-    → (v : Tree) (k : KindTree) → IsOf v (k_bag (more_kinds k no_kinds)) → IsOf (or_null (option_map (λ rows. column_tree function (map (looked_at function) rows)) (rows_in (v ∷ [])))) k
+    → (v : Tree) (k : KindTree) → IsOf v (k_bag (more_kinds k no_kinds)) → IsOf (or_null (option_map (λ rows. column_tree function (map (looked_at function) rows)) (argument_rows (v ∷ [])))) k
 best d function is v_null k h = tt
 best d function is (v_bag rows) k h = subst (λ t. IsOf t k) (sym (is rows)) (first_of_kind d k rows h)
 best d function is (v_listed rows) k h = subst (λ t. IsOf t k) (sym (is rows)) (first_of_kind d k rows h)
@@ -241,20 +241,20 @@ totuple_of (v ∷ vs) (k ∷ kinds) h = h
 
 -- an algebraic function of a bag of one field
 sum_kept : (args : List Tree) (kinds : List KindTree) → IsRowOf args kinds → OfKind (apply_tree f.Sum args) (function_kind f.Sum kinds)
-sum_kept args (k_bag (more_kinds k no_kinds) ∷ []) h = summed (apply_tree f.Sum args) k (count_of f.Sum args (rows_in args) (λ rows. sum_of (filter_map number_of (map one_field rows))))
+sum_kept args (k_bag (more_kinds k no_kinds) ∷ []) h = summed (apply_tree f.Sum args) k (count_of f.Sum args (argument_rows args) (λ rows. sum_of (filter_map whole_of (map one_field rows))))
 sum_kept args kinds h = tt
 
 best_kept : (args : List Tree) (k : KindTree) (d : Dir) (function : Function)
     → ((rows : Tuples) → column_tree function (map (looked_at function) (tuples_list rows)) ≡ or_null (first_found d (map one_field (tuples_list rows))))
-    → IsRowOf args (k_bag (more_kinds k no_kinds) ∷ []) → OfKind (or_null (option_map (λ rows. column_tree function (map (looked_at function) rows)) (rows_in args))) (ranked_kind k)
+    → IsRowOf args (k_bag (more_kinds k no_kinds) ∷ []) → OfKind (or_null (option_map (λ rows. column_tree function (map (looked_at function) rows)) (argument_rows args))) (ranked_kind k)
 best_kept [] k d function is h = absurd h
 best_kept (v ∷ []) k d function is h = ranked _ k (best d function is v k h.0)
 best_kept (v ∷ w ∷ more) k d function is h = absurd h.1
 
 pub kinds_of_result : (function : Function) (args : List Tree) (kinds : List KindTree) → IsRowOf args kinds → OfKind (apply_tree function args) (function_kind function kinds)
-kinds_of_result f.Count args (k_bag fields ∷ []) h = count_of f.Count args (rows_in args) (λ rows. tt)
+kinds_of_result f.Count args (k_bag fields ∷ []) h = count_of f.Count args (argument_rows args) (λ rows. tt)
 kinds_of_result f.Count args kinds h = tt
-kinds_of_result f.CountStar args (k_bag fields ∷ []) h = count_of f.CountStar args (rows_in args) (λ rows. tt)
+kinds_of_result f.CountStar args (k_bag fields ∷ []) h = count_of f.CountStar args (argument_rows args) (λ rows. tt)
 kinds_of_result f.CountStar args kinds h = tt
 kinds_of_result f.Sum args kinds h = sum_kept args kinds h
 kinds_of_result f.Min args (k_bag (more_kinds k no_kinds) ∷ []) h = best_kept args k dir.Asc f.Min (λ rows. refl) h

@@ -9,7 +9,7 @@ use Rattle.std.specs.Ordering.{is_gt}
 use Rattle.std.specs.declared.cmp.Ordering.{Ordering}
 use Rattle.std.proofs.lemmas.List.{length-append}
 use Rattle.std.proofs.lemmas.List.Elements.{filter-append, filter_map-append}
-use Rattle.pig_value.specs.Functions.{column_found, first_found, is_present, is_ranked, length_of, long_of, number_of, sum_found, sum_ℤ}
+use Rattle.pig_value.specs.Functions.{column_found, first_found, is_present, is_ranked, length_of, long_of, whole_of, sum_found, sum_ℤ}
 use Rattle.pig_value.specs.Orders.{dir_cmp}
 use Rattle.pig_value.specs.Sorts.{sort, put}
 use Rattle.pig_value.specs.Trees.{Tree, v_long}
@@ -104,7 +104,7 @@ ranked_together d us vs =
 pub merged : (function : Function) (us vs : List Tree) → column_found function (us ++ vs) ≡ merge_found function (column_found function us) (column_found function vs)
 merged f.Count us vs = ap Some (ap length_of (filter-append is_present us vs) ∙ lengths_together (filter is_present us) (filter is_present vs))
 merged f.CountStar us vs = ap Some (lengths_together us vs)
-merged f.Sum us vs = ap sum_found (filter_map-append number_of us vs) ∙ sums_together (filter_map number_of us) (filter_map number_of vs)
+merged f.Sum us vs = ap sum_found (filter_map-append whole_of us vs) ∙ sums_together (filter_map whole_of us) (filter_map whole_of vs)
 merged f.Min us vs = ranked_together dir.Asc us vs
 merged f.Max us vs = ranked_together dir.Desc us vs
 merged f.Size us vs = refl
@@ -135,7 +135,7 @@ lengths_same xs ys h = ap (λ n. long_of (pos n)) (sym (length_permutation xs ys
 two_swap : (function : Function) (v w : Tree) → column_found function (v ∷ w ∷ []) ≡ column_found function (w ∷ v ∷ [])
 two_swap f.Count v w = ap Some (lengths_same (filter is_present (v ∷ w ∷ [])) (filter is_present (w ∷ v ∷ [])) (IsPermutation-filter is_present (v ∷ w ∷ []) (w ∷ v ∷ []) (neighbours v w [])))
 two_swap f.CountStar v w = refl
-two_swap f.Sum v w = sums_swap (number_of v) (number_of w)
+two_swap f.Sum v w = sums_swap (whole_of v) (whole_of w)
 two_swap f.Min v w = ranked_swap dir.Asc (v ∷ w ∷ []) (w ∷ v ∷ []) (neighbours v w [])
 two_swap f.Max v w = ranked_swap dir.Desc (v ∷ w ∷ []) (w ∷ v ∷ []) (neighbours v w [])
 two_swap f.Size v w = refl

@@ -2,7 +2,7 @@
 use Rattle.std.proofs.Common.{◌≡◌, refl, ap, ◌∙◌, [], ◌∷◌, List, ℕ}
 use Rattle.std.specs.Prelude.{Some, None, pos, length, map, nat_eq, ◌==◌, if◌then◌else◌}
 use Rattle.std.proofs.lemmas.List.{length-map}
-use Rattle.pig_value.specs.Functions.{rows_in, size_tree, isempty_tree, long_of, bag_tree, row_from, totuple_tree}
+use Rattle.pig_value.specs.Functions.{argument_rows, size_tree, isempty_tree, long_of, bag_tree, row_from, totuple_tree}
 use Rattle.pig_value.specs.Orders.{bag_of}
 use Rattle.pig_value.specs.Trees.{Tree, tree, entry_of, rows_tree, v_bag, v_bool, fields_list, fields_of, tuples_list, tuples_of, entries_list, entries_of}
 use Rattle.pig_value.proofs.TreeLaws.{tree-Tuple, tree-Bag, tree-Listed, tree-Map, fields_back, tuples_back, entries_back}
@@ -10,11 +10,11 @@ use Rattle.pig_value.specs.declared.values.Pair.{Pair}
 use Rattle.pig_value.specs.declared.values.Value.{Value}
 use Rattle.pig_value.specs.declared.values.Value.TheVariants as value
 
-pub bag_rows : (rows : List (List Value)) → rows_in (tree (value.Bag rows) ∷ []) ≡ Some (rows_tree rows)
-bag_rows rows = ap (λ v. rows_in (v ∷ [])) (tree-Bag rows) ∙ ap Some (tuples_back (rows_tree rows))
+pub bag_rows : (rows : List (List Value)) → argument_rows (tree (value.Bag rows) ∷ []) ≡ Some (rows_tree rows)
+bag_rows rows = ap (λ v. argument_rows (v ∷ [])) (tree-Bag rows) ∙ ap Some (tuples_back (rows_tree rows))
 
-pub listed_rows : (rows : List (List Value)) → rows_in (tree (value.Listed rows) ∷ []) ≡ Some (rows_tree rows)
-listed_rows rows = ap (λ v. rows_in (v ∷ [])) (tree-Listed rows) ∙ ap Some (tuples_back (rows_tree rows))
+pub listed_rows : (rows : List (List Value)) → argument_rows (tree (value.Listed rows) ∷ []) ≡ Some (rows_tree rows)
+listed_rows rows = ap (λ v. argument_rows (v ∷ [])) (tree-Listed rows) ∙ ap Some (tuples_back (rows_tree rows))
 
 -- as many as the value has
 fields_counted : (vs : List Value) → length (fields_list (fields_of (map tree vs))) ≡ length vs

@@ -2,7 +2,7 @@ ghost use Rattle.std.specs.Prelude.{◌≡◌, ◌++◌, ◌+ℤ◌, [], ◌∷�
 ghost use Rattle.std.specs.Int.{w64, int_wrap};
 ghost use Rattle.std.specs.List.{filter, filter_map};
 ghost use Rattle.std.specs.Option.{option_map};
-ghost use Rattle.pig_value.specs.Functions.{column_found, column_tree, first_found, is_present, length_of, looked_at as looked_at_of, number_of, one_field, sum_found};
+ghost use Rattle.pig_value.specs.Functions.{column_found, column_tree, first_found, is_present, length_of, looked_at as looked_at_of, whole_of, one_field, sum_found};
 ghost use Rattle.pig_value.specs.Trees.{Tree, at, field_tree, or_null, rows_tree, tree, v_long};
 ghost use Rattle.pig_value.specs.declared.functions.Function.TheVariants.{Sum};
 ghost use Rattle.pig_value.specs.declared.operators.Dir.TheVariants.{Asc, Desc};
@@ -106,7 +106,7 @@ fn count(field: Option<&Value>) -> i64
 
 // The number that a value is.
 fn number(field: Option<&Value>) -> Option<i64>
-    ensures { option_map v_long result ≡ sum_found (filter_map number_of (field_tree field.entry ∷ [])) }
+    ensures { option_map v_long result ≡ sum_found (filter_map whole_of (field_tree field.entry ∷ [])) }
 {
     match field {
         Some(Value::Int(n)) => Some(long(i64::from(*n))),

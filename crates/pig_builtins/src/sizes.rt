@@ -2,7 +2,7 @@ ghost use Rattle.std.specs.Prelude.{◌≡◌, [], ◌∷◌, length, nat_eq, po
 ghost use Rattle.std.specs.Int.{w32, w64, int_wrap};
 ghost use Rattle.std.specs.Option.{option_map};
 ghost use Rattle.std.specs.Str.{chars};
-ghost use Rattle.pig_value.specs.Functions.{abs_tree, isempty_tree, long_of, rows_in, size_tree};
+ghost use Rattle.pig_value.specs.Functions.{abs_tree, isempty_tree, long_of, argument_rows, size_tree};
 ghost use Rattle.pig_value.specs.Trees.{rows_tree, tree, v_bool};
 
 use pig_value::{Rows, Value};
@@ -10,7 +10,7 @@ use pig_value::{Rows, Value};
 /// The rows of a bag, also of a listed one.
 #[tactic(auto, using(crate::proofs::Trees::bag_rows, crate::proofs::Trees::listed_rows))]
 pub fn rows_of(v: &Value) -> Option<&Rows>
-    ensures { option_map (λ rows. rows_tree rows.now) result ≡ rows_in (tree v.now ∷ []) }
+    ensures { option_map (λ rows. rows_tree rows.now) result ≡ argument_rows (tree v.now ∷ []) }
 {
     match v {
         Value::Bag(rows) | Value::Listed(rows) => Some(rows),

@@ -1,18 +1,19 @@
-ghost use Rattle.std.specs.Prelude.{◌≡◌, IfOk};
+ghost use Rattle.std.specs.Prelude.{◌≡◌, IfOk, cond};
 ghost use Rattle.std.specs.Fmt.{signed_decimal};
 ghost use Rattle.std.specs.Int.{w32, int_wrap};
 ghost use Rattle.pig_value.specs.Casts.{cast_of};
+ghost use Rattle.pig_value.specs.Kinds.{is_of_kind};
 ghost use Rattle.pig_value.specs.Texts.{bool_text};
-ghost use Rattle.pig_value.specs.Trees.{tree, kind_tree, v_chars};
+ghost use Rattle.pig_value.specs.Trees.{tree, kind_tree, v_null, v_chars};
 
 use crate::fields::read_value;
 use itoa::Buffer;
-use pig_value::{Kind, Text, Value, copy};
+use pig_value::{Kind, Text, Value, copy, is_of};
 use std::alloc::{AllocError, Global};
 
 /// The value as one of a kind: a bytearray and a chararray are read as a field is, a long keeps its low 32
-/// bits as an int, a boolean and a number become their texts, and any other value is copied. Where the cast
-/// is allowed (`CanCast` of pig_value), what it gives is of the kind.
+/// bits as an int, a boolean and a number become their texts, a value of the kind is copied, and what may not
+/// be cast (`CanCast` of pig_value) gives null.
 pub fn cast(alloc: Global, v: &Value, k: &Kind) -> Result<Value, AllocError>
     ensures { IfOk result (λ w. tree w ≡ cast_of (kind_tree k.now) (tree v.now)) }
 {
@@ -27,8 +28,15 @@ pub fn cast(alloc: Global, v: &Value, k: &Kind) -> Result<Value, AllocError>
         (Value::Bool(b), Kind::Chararray) => truth(alloc, *b),
         (Value::Int(n), Kind::Chararray) => decimal(alloc, i64::from(*n)),
         (Value::Long(n), Kind::Chararray) => decimal(alloc, *n),
-        _ => copy(alloc, v),
+        _ => stays(alloc, v, k),
     }
+}
+
+// A value of the kind stays as it is, and any other gives null.
+fn stays(alloc: Global, v: &Value, k: &Kind) -> Result<Value, AllocError>
+    ensures { IfOk result (λ w. tree w ≡ cond (is_of_kind (tree v.now) (kind_tree k.now)) (tree v.now) v_null) }
+{
+    if is_of(v, k) { copy(alloc, v) } else { Ok(Value::Null) }
 }
 
 // The low 32 bits of a long, as an int.

@@ -1,5 +1,5 @@
 ghost use Rattle.std.specs.Prelude.{◌≡◌, ◌↔◌, ℕ, List};
-ghost use Rattle.pig_value.specs.Casts.{CanCast, cast_of};
+ghost use Rattle.pig_value.specs.Casts.{cast_of};
 ghost use Rattle.pig_value.specs.Fields.{IsField};
 ghost use Rattle.pig_value.specs.FieldReader.{field_value};
 ghost use Rattle.pig_value.specs.Kinds.{IsOf};
@@ -21,9 +21,9 @@ pub fn fields_are_of_their_kind()
     ensures value { (k : KindTree) (bytes : List ℕ) → AreBytes bytes → IsValue (field_value k bytes) }
 {}
 
-/// An allowed cast gives a value of the kind that it casts to, and of a value it gives a value.
+/// A cast gives a value of the kind that it casts to, and of a value it gives a value.
 pub fn casts_are_of_their_kind()
-    ensures kind { (k : KindTree) (v : Tree) → CanCast k v → IsOf (cast_of k v) k }
+    ensures kind { (k : KindTree) (v : Tree) → IsOf (cast_of k v) k }
     ensures value { (k : KindTree) (v : Tree) → IsValue v → IsValue (cast_of k v) }
 {}
 

@@ -15,7 +15,7 @@ use Rattle.pig_value.specs.declared.operators.ChainOp.{ChainOp}
 use Rattle.pig_value.specs.declared.operators.ChainOp.TheVariants as op
 use Rattle.pig_value.specs.declared.operators.Rel.{Rel}
 use Rattle.pig_value.proofs.CastKinds.{cast_of_kind}
-use Rattle.pig_value.proofs.KindLaws.{kind_same, passes_casts, rows_of_sorted, value_casts}
+use Rattle.pig_value.proofs.KindLaws.{kind_same, rows_of_sorted}
 use Rattle.pig_value.proofs.OfRead.{OfRead}
 use Rattle.pig_typed.specs.Evaluation.{ev, ev_args, ev_links}
 use Rattle.pig_typed.specs.ExprKinds.{args_kinds, cast_kind, chain_kind, choose_kind, compare_kind, expr_kind, is_selection, links_kind, look_kind, may_compare, minus_kind, not_kind, number_kind, part_kind, picked_kinds, project_kind, selected_kind, truth_kind}
@@ -110,7 +110,7 @@ choose_kept k_boolean k l x v w h g =
 choose_kept c k l x v w h g = tt
 
 cast_kept : (to k : KindTree) (v : Tree) → IsOf v k → OfRead (IsOf (cast_of to v)) (cast_kind to k)
-cast_kept to k v h = tested (IsOf (cast_of to v)) (may_cast k to) (Some to) (λ e. cast_of_kind to v (value_casts k to v (passes_casts k to e) h))
+cast_kept to k v h = tested (IsOf (cast_of to v)) (may_cast k to) (Some to) (λ e. cast_of_kind to v)
 
 -- ---- parts of a value
 

@@ -1,10 +1,11 @@
--- What an allowed cast of a line-free value gives holds no LF.
+-- What a cast of a line-free value gives holds no LF.
 use Rattle.std.proofs.Common.{◌≢◌, ◌+◌, ◌/◌, ◌%◌, ◌==◌, ℕ, zero, suc, ℤ, pos, negsuc, Bool, true, false, cond, nat_lt, List, [], ◌∷◌, arith, rules}
 use Rattle.std.specs.Fmt.{decimal, digit_glyph, digits, digits_onto, signed_decimal}
 use Rattle.std.proofs.lemmas.List.Elements.{All-cons, All-from_recursion, All-nil}
 use Rattle.pig_value.specs.Casts.{cast_of}
+use Rattle.pig_value.specs.Kinds.{is_of_kind}
 use Rattle.pig_value.specs.Texts.{HasNoLf, IsLineFree, bool_text}
-use Rattle.pig_value.specs.Trees.{Tree, v_bool, v_int, v_long, v_chars, v_bytes, KindTree, k_boolean, k_int, k_long, k_chars, k_bytes, k_tuple, k_bag, k_map}
+use Rattle.pig_value.specs.Trees.{Tree, v_null, v_bool, v_int, v_long, v_chars, v_bytes, KindTree, k_boolean, k_int, k_long, k_chars, k_bytes, k_tuple, k_bag, k_map}
 use Rattle.pig_value.proofs.FieldFree.{field_free}
 
 -- a byte other than LF
@@ -42,7 +43,10 @@ pub bool_text_free : (b : Bool) → HasNoLf (bool_text b)
 bool_text_free true = All-from_recursion NotLf (bool_text true) (search rules)
 bool_text_free false = All-from_recursion NotLf (bool_text false) (search rules)
 
--- what is not cast to another kind stays as it is
+stays_free : (b : Bool) (v : Tree) → IsLineFree v → IsLineFree (cond b v v_null)
+stays_free true v free = free
+stays_free false v free = tt
+
 pub cast_free : (k : KindTree) (v : Tree) → IsLineFree v → IsLineFree (cast_of k v)
 cast_free k_bytes (v_bytes bytes) free = free
 cast_free k_boolean (v_bytes bytes) free = field_free k_boolean bytes free
@@ -60,4 +64,4 @@ cast_free k_int (v_long z) free = tt
 cast_free k_chars (v_bool b) free = bool_text_free b
 cast_free k_chars (v_int z) free = signed_free z
 cast_free k_chars (v_long z) free = signed_free z
-cast_free k v free = free
+cast_free k v free = stays_free (is_of_kind v k) v free

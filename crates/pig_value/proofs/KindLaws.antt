@@ -1,6 +1,6 @@
 -- The test of being of a kind decides it, and that on kinds decides whether they are the same.
 use Rattle.std.specs.Prelude.{◌≡◌, ◌++◌, ℕ, zero, suc, length, take, replicate, slice_get, Some, Bool, true, false, ◌&&◌, List, [], ◌∷◌, refl}
-use Rattle.std.proofs.Common.{ap, subst}
+use Rattle.std.proofs.Common.{ap, subst, ◌∙◌, pos}
 use Rattle.pig_value.specs.Trees.{Tree, Fields, Tuples, Entries, v_null, v_bool, v_int, v_long, v_chars, v_bytes, v_tuple, v_bag, v_listed, v_map, no_fields, more_fields, no_tuples, more_tuples, no_entries, more_entries, KindTree, KindTrees, k_boolean, k_int, k_long, k_chars, k_bytes, k_tuple, k_bag, k_map, no_kinds, more_kinds}
 use Rattle.std.specs.List.{filter, AllByRecursion}
 use Rattle.pig_value.proofs.list_laws.Bags.{each-sort}
@@ -228,3 +228,67 @@ value_casts k_long k_int v h k = absurd k
 value_casts k_long k_chars (v_long z) h k = tt
 value_casts k_long k_chars v h k = absurd k
 value_casts from to v h k = subst (λ l. CanCast l v) h (can_itself from v k)
+
+-- a value of a kind with no null in it, which is of no other kind
+abbrev mutual
+  witness : KindTree → Tree
+  witness k_boolean = v_bool true
+  witness k_int = v_int (pos 0)
+  witness k_long = v_long (pos 0)
+  witness k_chars = v_chars []
+  witness k_bytes = v_bytes []
+  witness (k_tuple ks) = v_tuple (witnesses ks)
+  witness (k_bag ks) = v_bag (more_tuples (witnesses ks) no_tuples)
+  witness (k_map k) = v_map (more_entries [] (witness k) no_entries)
+
+  witnesses : KindTrees → Fields
+  witnesses no_kinds = no_fields
+  witnesses (more_kinds k ks) = more_fields (witness k) (witnesses ks)
+
+mutual
+  witness_is : (k : KindTree) → IsOf (witness k) k
+  witness_is k_boolean = tt
+  witness_is k_int = tt
+  witness_is k_long = tt
+  witness_is k_chars = tt
+  witness_is k_bytes = tt
+  witness_is (k_tuple ks) = witnesses_are ks
+  witness_is (k_bag ks) = (witnesses_are ks, tt)
+  witness_is (k_map k) = (witness_is k, tt)
+
+  witnesses_are : (ks : KindTrees) → FieldsOf (witnesses ks) ks
+  witnesses_are no_kinds = tt
+  witnesses_are (more_kinds k ks) = (witness_is k, witnesses_are ks)
+
+mutual
+  witness_tells : (k l : KindTree) → IsOf (witness k) l → k ≡ l
+  witness_tells k_boolean k_boolean h = refl
+  witness_tells k_int k_int h = refl
+  witness_tells k_long k_long h = refl
+  witness_tells k_chars k_chars h = refl
+  witness_tells k_bytes k_bytes h = refl
+  witness_tells (k_tuple ks) (k_tuple ls) h = ap k_tuple (witnesses_tell ks ls h)
+  witness_tells (k_bag ks) (k_bag ls) h = ap k_bag (witnesses_tell ks ls h.0)
+  witness_tells (k_map k) (k_map l) h = ap k_map (witness_tells k l h.0)
+  witness_tells k l h = absurd h
+
+  witnesses_tell : (ks ls : KindTrees) → FieldsOf (witnesses ks) ls → ks ≡ ls
+  witnesses_tell no_kinds no_kinds h = refl
+  witnesses_tell (more_kinds k ks) (more_kinds l ls) h = ap (λ m. more_kinds m ks) (witness_tells k l h.0) ∙ ap (more_kinds l) (witnesses_tell ks ls h.1)
+  witnesses_tell ks ls h = absurd h
+
+-- where each value of a kind may be cast to another, the kind casts to it
+pub casts_of_values : (from to : KindTree) → ((v : Tree) → IsOf v from → CanCast to v) → CastsTo from to
+casts_of_values from to each = told from to (each (witness from) (witness_is from))
+  where
+    told : (k l : KindTree) → CanCast l (witness k) → CastsTo k l
+    told k_bytes l can = tt
+    told k_chars k_boolean can = tt
+    told k_chars k_int can = tt
+    told k_chars k_long can = tt
+    told k_int k_long can = tt
+    told k_long k_int can = tt
+    told k_boolean k_chars can = tt
+    told k_int k_chars can = tt
+    told k_long k_chars can = tt
+    told k l can = witness_tells k l can

@@ -1,9 +1,9 @@
 -- Casts: which are allowed, and what they give.
-use Rattle.std.specs.Prelude.{◌≡◌, Bool, true, ⊤}
+use Rattle.std.specs.Prelude.{◌≡◌, Bool, true, cond, ⊤}
 use Rattle.std.specs.Fmt.{signed_decimal}
 use Rattle.std.specs.Int.{w32, int_wrap}
 use Rattle.pig_value.specs.FieldReader.{field_value}
-use Rattle.pig_value.specs.Kinds.{IsOf, kind_eq}
+use Rattle.pig_value.specs.Kinds.{IsOf, is_of_kind, kind_eq}
 use Rattle.pig_value.specs.Texts.{bool_text}
 use Rattle.pig_value.specs.Trees.{Tree, v_null, v_bool, v_int, v_long, v_chars, v_bytes, KindTree, k_boolean, k_int, k_long, k_chars, k_bytes}
 
@@ -23,7 +23,7 @@ CanCast k_chars (v_long _) = ⊤
 CanCast k v = IsOf v k
 
 -- A bytearray and a chararray read as a field does, a long keeps its low 32 bits, a boolean and a number become their
--- texts, and a value of the kind stays as it is.
+-- texts, a value of the kind stays as it is, and any other gives null.
 abbrev pub cast_of : KindTree → Tree → Tree
 cast_of k_bytes (v_bytes bytes) = v_bytes bytes
 cast_of k (v_bytes bytes) = field_value k bytes
@@ -35,7 +35,7 @@ cast_of k_int (v_long z) = v_int (int_wrap w32 z)
 cast_of k_chars (v_bool b) = v_chars (bool_text b)
 cast_of k_chars (v_int z) = v_chars (signed_decimal z)
 cast_of k_chars (v_long z) = v_chars (signed_decimal z)
-cast_of k v = v
+cast_of k v = cond (is_of_kind v k) v v_null
 
 -- The same of kinds: each value of the first kind may be cast to the second.
 abbrev pub CastsTo : KindTree → KindTree → Type 0

@@ -68,10 +68,10 @@ is_present v_null = false
 is_present v = true
 
 -- a whole number, of either width
-abbrev pub number_of : Tree → Option ℤ
-number_of (v_int z) = Some z
-number_of (v_long z) = Some z
-number_of v = None
+abbrev pub whole_of : Tree → Option ℤ
+whole_of (v_int z) = Some z
+whole_of (v_long z) = Some z
+whole_of v = None
 
 -- what MIN and MAX choose among: ints, longs and chararrays
 abbrev pub is_ranked : Tree → Bool
@@ -97,7 +97,7 @@ first_found d vs = slice_get (sort (dir_cmp d) (filter is_ranked vs)) 0
 abbrev pub column_found : Function → List Tree → Option Tree
 column_found f.Count vs = Some (length_of (filter is_present vs))
 column_found f.CountStar vs = Some (length_of vs)
-column_found f.Sum vs = sum_found (filter_map number_of vs)
+column_found f.Sum vs = sum_found (filter_map whole_of vs)
 column_found f.Min vs = first_found dir.Asc vs
 column_found f.Max vs = first_found dir.Desc vs
 column_found f vs = None
@@ -118,13 +118,13 @@ looked_at f.Max = one_field
 looked_at f = at 0
 
 -- the rows of the one argument, where that is a bag, also a listed one
-abbrev pub rows_in : List Tree → Option (List (List Tree))
-rows_in (v_bag rows ∷ []) = Some (tuples_list rows)
-rows_in (v_listed rows ∷ []) = Some (tuples_list rows)
-rows_in args = None
+abbrev pub argument_rows : List Tree → Option (List (List Tree))
+argument_rows (v_bag rows ∷ []) = Some (tuples_list rows)
+argument_rows (v_listed rows ∷ []) = Some (tuples_list rows)
+argument_rows args = None
 
 abbrev pub aggregate : Function → List Tree → Tree
-aggregate f args = or_null (option_map (λ rows. column_tree f (map (looked_at f) rows)) (rows_in args))
+aggregate f args = or_null (option_map (λ rows. column_tree f (map (looked_at f) rows)) (argument_rows args))
 
 -- ---- SIZE, IsEmpty, ABS
 

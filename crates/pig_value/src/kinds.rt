@@ -7,7 +7,8 @@ use crate::{Kind, Pair, Tuple, Value};
 
 /// Whether a value is of a kind. Null is of each kind, and a listed bag is of a bag kind.
 pub fn is_of(v: &Value, k: &Kind) -> bool
-    ensures { IsTrue result ↔ IsOf (tree v.now) (kind_tree k.now) }
+    ensures kind { IsTrue result ↔ IsOf (tree v.now) (kind_tree k.now) }
+    ensures test { result ≡ is_of_kind (tree v.now) (kind_tree k.now) }
 {
     value_is_of(v, k)
 }

@@ -3,9 +3,9 @@ ghost use Rattle.std.specs.List.Sorted.{IsPermutation};
 ghost use Rattle.std.specs.Ordering.{ordering_reverse};
 ghost use Rattle.std.specs.declared.cmp.Ordering.{Ordering};
 ghost use Rattle.std.specs.declared.cmp.Ordering.TheVariants.{Less, Equal};
-ghost use Rattle.pig_value.specs.Trees.{KindTree, Tree, v_bag, tuples_of};
+ghost use Rattle.pig_value.specs.Trees.{KindTree, Tree, v_null, v_bag, tuples_of};
 ghost use Rattle.pig_value.specs.Orders.{dirs_cmp, tree_cmp, row_cmp, bag_of};
-ghost use Rattle.pig_value.specs.Casts.{CanCast, CastsTo};
+ghost use Rattle.pig_value.specs.Casts.{CanCast, CastsTo, cast_of};
 ghost use Rattle.pig_value.specs.Kinds.{IsOf};
 ghost use Rattle.pig_value.specs.declared.operators.Dir.{Dir};
 ghost use Rattle.pig_value.specs.Sorts.{Ascends, times};
@@ -44,7 +44,9 @@ pub fn direction_laws()
     ensures equal_is_same { (ds : List Dir) (a b : List Tree) → (dirs_cmp ds a b ≡ Equal) ↔ (a ≡ b) }
 {}
 
-/// Where a kind casts to another, each of its values may be cast.
+/// A kind casts to another exactly where each of its values may be cast to it, and what may not be cast gives null.
 pub fn cast_laws()
-    ensures { (from to : KindTree) (v : Tree) → CastsTo from to → IsOf v from → CanCast to v }
+    ensures values { (from to : KindTree) (v : Tree) → CastsTo from to → IsOf v from → CanCast to v }
+    ensures kinds { (from to : KindTree) → ((v : Tree) → IsOf v from → CanCast to v) → CastsTo from to }
+    ensures refused { (k : KindTree) (v : Tree) → (CanCast k v → ⊥) → cast_of k v ≡ v_null }
 {}
