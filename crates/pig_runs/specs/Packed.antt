@@ -14,6 +14,7 @@ use Rattle.pig_keycode.specs.Keys.{key_code}
 use Rattle.pig_keycode.specs.Reading.{row_code}
 use Rattle.pig_keycode.proofs.KeyOrder.{one_key}
 use Rattle.pig_keycode.proofs.Wholes.{one_row}
+use Rattle.pig_runs.specs.declared.lent.Lent.{Lent}
 use Rattle.pig_runs.specs.declared.slots.Slot.{Slot}
 use Rattle.pig_runs.specs.Entries.{Keyed, IsEntry, AreEntries, coded_keyed}
 
@@ -25,6 +26,10 @@ pub record Packed : Type 0 where
 
 abbrev pub packed : List Dir → Keyed → Packed
 packed ds e = record { key = key_code ds e.key; input = e.input; row = row_code e.row }
+
+-- lent bytes of an entry
+abbrev pub packed_lent : Lent → Packed
+packed_lent l = record { key = l.key.now; input = l.input; row = l.row.now }
 
 -- part by part, as bytes
 abbrev pub packed_cmp : Packed → Packed → Ordering
@@ -85,6 +90,11 @@ entries_told ds (e ∷ es) (f ∷ fs) h k same =
     let head = entry_told ds e f h.0 k.0 (ap (first_or (packed ds e)) same) in
     let tail = entries_told ds es fs h.1 k.1 (ap behind same) in
     λ i. head i ∷ tail i
+
+-- the bytes are those of these entries, which are of values
+pub record Stand (ds : List Dir) (es : List Keyed) (ps : List Packed) : Type 0 where
+  pub good : ∥ AreEntries ds es ∥₁
+  pub told : map (packed ds) es ≡ ps
 
 -- the entries that bytes stand for
 abbrev pub Held : List Dir → List Packed → Type 0
