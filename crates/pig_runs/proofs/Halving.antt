@@ -1,16 +1,16 @@
 -- Where sorted entries are divided by one.
-use Rattle.std.proofs.Common.{◌≡◌, zero, suc, ◌<◌, ◌≤◌, ◌+◌, ℕ, Bool, true, false, List, [], ◌∷◌, ◌++◌, map, length, take, drop, refl, sym, ◌∙◌, ap, subst, arith}
+use Rattle.std.proofs.Common.{◌≡◌, zero, suc, ◌<◌, ◌≤◌, ◌+◌, ℕ, Bool, true, false, List, [], ◌∷◌, ◌++◌, length, take, drop, sym, ◌∙◌, ap, subst, arith}
 use Rattle.std.proofs.lemmas.Cmp.{tied_itself}
 use Rattle.std.proofs.lemmas.List.{append-nil, take-append-drop}
 use Rattle.std.proofs.lemmas.List.Elements.{filter-append}
 use Rattle.std.proofs.Math.Logic.{∥∥₁_elim}
 use Rattle.std.specs.Cmp.{IsTotalOrder}
-use Rattle.std.specs.Prelude.{not, Option, Some, None, slice_get}
+use Rattle.std.specs.Prelude.{Some, slice_get}
 use Rattle.std.specs.List.{AllByRecursion, filter}
 use Rattle.std.specs.Ordering.{is_gt, is_lt}
 use Rattle.std.specs.declared.cmp.Ordering.{Ordering}
 use Rattle.pig_value.specs.declared.operators.Dir.{Dir}
-use Rattle.pig_value.specs.Sorts.{Ascends, Rises}
+use Rattle.pig_value.specs.Sorts.{Ascends}
 use Rattle.pig_value.proofs.list_laws.Bags.{either_way, gt_is_lt, rises_over, rises_all, drop_ascends, ascends_prop}
 use Rattle.pig_value.proofs.list_laws.Indexing.{dropped, some_at}
 use Rattle.pig_value.proofs.list_laws.Listing.{each_at, each_weaker, each-take, filter_all, filter_none}

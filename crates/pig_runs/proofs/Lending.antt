@@ -1,12 +1,11 @@
 -- Entries that are lent as bytes.
-use Rattle.std.proofs.Common.{◌≡◌, zero, suc, ◌<◌, ◌≤◌, ◌+◌, ◌*◌, ◌/◌, ℕ, Bool, List, [], ◌∷◌, ◌++◌, map, length, take, drop, get_or, refl, sym, ◌∙◌, ap, subst}
+use Rattle.std.proofs.Common.{◌≡◌, ◌<◌, ◌+◌, ◌*◌, ◌/◌, ℕ, Bool, List, [], ◌∷◌, ◌++◌, map, length, take, drop, get_or, refl, sym, ◌∙◌, ap, subst}
 use Rattle.std.proofs.Math.Bool.{Bool-set}
 use Rattle.std.proofs.Math.Logic.{∥∥₁_map, ∥∥₁_map₂, ∥∥₁_elim, ∥∥₁_prop}
 use Rattle.std.specs.Prelude.{Option, Some, None, Result, Ok, Err, OnOk, option_map, slice_get}
 use Rattle.std.specs.Coded.{Coded-set, coded_list}
-use Rattle.std.specs.List.{AllByRecursion}
 use Rattle.std.specs.Ordering.{is_lt}
-use Rattle.std.proofs.lemmas.List.{length-map, map-append, append_assoc, append-nil}
+use Rattle.std.proofs.lemmas.List.{length-map, map-append, append-nil}
 use Rattle.std.proofs.lemmas.Option.{slice_get-map, slice_get_read}
 use Rattle.pig_value.specs.declared.operators.Dir.{Dir}
 use Rattle.pig_value.specs.Sorts.{sort}
@@ -92,13 +91,13 @@ one_run_lent ds runs i run lent ps qs alike within at same good so_far grown =
     record {
       good = subst (λ es. ∥ AreEntries ds es ∥₁) (sym all) (∥∥₁_map₂ so_far.good well (λ h k. each-append (IsEntry ds) (entries_of_all (take i runs)) run.entries h k));
       told = ap (map (packed ds)) all
-      ∙ (map-append (packed ds) (entries_of_all (take i runs)) run.entries
-      ∙ ((λ j. so_far.told j ++ map (packed (sym dirs j)) (sym same j).entries) ∙ sym grown));
+          ∙ (map-append (packed ds) (entries_of_all (take i runs)) run.entries
+          ∙ ((λ j. so_far.told j ++ map (packed (sym dirs j)) (sym same j).entries) ∙ sym grown));
     }
 
 pub stand_sorted : (ds : List Dir) (es : List Keyed) (ps qs : List Packed) → Stand ds es ps → qs ≡ sort packed_cmp ps → Stand ds (sort (run_cmp ds) es) qs
 stand_sorted ds es ps qs stands sorted = record {
   good = ∥∥₁_map stands.good (λ h. each-sort (run_cmp ds) (IsEntry ds) es h);
   told = ∥∥₁_elim stands.good (Coded-set (coded_list coded_packed) (map (packed ds) (sort (run_cmp ds) es)) qs)
-  (λ h. sym (sorted_codes ds es h) ∙ (ap (sort packed_cmp) stands.told ∙ sym sorted));
+      (λ h. sym (sorted_codes ds es h) ∙ (ap (sort packed_cmp) stands.told ∙ sym sorted));
 }

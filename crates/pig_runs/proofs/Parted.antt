@@ -1,11 +1,11 @@
 -- The slices of a run are its entries in order, each once, and the points of cuts ascend.
-use Rattle.std.proofs.Common.{◌≡◌, zero, suc, ◌<◌, ◌≤◌, ◌+◌, ◌-◌, ◌*◌, ◌/◌, ℕ, Bool, true, false, List, [], ◌∷◌, ◌++◌, map, length, cond, refl, sym, ◌∙◌, ap, subst, arith}
-use Rattle.std.specs.Prelude.{not, ◌&&◌, Option, Some, None, slice_get}
+use Rattle.std.proofs.Common.{◌≡◌, zero, suc, ◌<◌, ◌≤◌, ◌+◌, ◌-◌, ◌*◌, ◌/◌, ℕ, Bool, true, false, List, [], ◌∷◌, ◌++◌, map, length, cond, refl, sym, ◌∙◌, ap, arith}
+use Rattle.std.specs.Prelude.{not, ◌&&◌, Some, None, slice_get}
 use Rattle.std.specs.Cmp.{IsTotalOrder}
 use Rattle.std.specs.List.{AllByRecursion, filter, flat_map, range_with_len}
 use Rattle.std.specs.Option.{option_map_or}
 use Rattle.std.specs.Ordering.{is_lt, is_gt, ordering_reverse}
-use Rattle.std.specs.declared.cmp.Ordering.TheVariants.{Less, Equal, Greater}
+use Rattle.std.specs.declared.cmp.Ordering.TheVariants.{Less, Equal}
 use Rattle.std.proofs.Math.Nat.{le-div_iff_mul-le, div-mul-le_self, mul-le-mul_right}
 use Rattle.std.proofs.lemmas.Cmp.{tied_itself}
 use Rattle.std.proofs.lemmas.List.{append-nil}
@@ -61,11 +61,11 @@ module _ (ds : List Dir) where
       ++ cond (not b) (e ∷ filter (λ f. not (stands_before ds p f)) es) (filter (λ f. not (stands_before ds p f)) es)) is
       ∙ ap (λ l. e ∷ l) (split p es h.1))
       (λ is.
-          let all : AllByRecursion (λ f. stands_before ds p f ≡ false) (e ∷ es) =
-          (is, each_weaker (λ f. is_gt (run_cmp ds e f) ≡ false) (λ f. stands_before ds p f ≡ false) (λ f k. stays_above (point_cmp ds) point_total (Some e) (Some f) p is k) es (rises_all (run_cmp ds) (run_total ds) e es h.0 h.1))
-          in
-          λ i. filter_none (stands_before ds p) (e ∷ es) all i
-          ++ filter_all (λ f. not (stands_before ds p f)) (e ∷ es) (each_weaker (λ f. stands_before ds p f ≡ false) (λ f. not (stands_before ds p f) ≡ true) (λ f k. ap not k) (e ∷ es) all) i)
+      let all : AllByRecursion (λ f. stands_before ds p f ≡ false) (e ∷ es) =
+      (is, each_weaker (λ f. is_gt (run_cmp ds e f) ≡ false) (λ f. stands_before ds p f ≡ false) (λ f k. stays_above (point_cmp ds) point_total (Some e) (Some f) p is k) es (rises_all (run_cmp ds) (run_total ds) e es h.0 h.1))
+      in
+      λ i. filter_none (stands_before ds p) (e ∷ es) all i
+      ++ filter_all (λ f. not (stands_before ds p f)) (e ∷ es) (each_weaker (λ f. stands_before ds p f ≡ false) (λ f. not (stands_before ds p f) ≡ true) (λ f k. ap not k) (e ∷ es) all) i)
 
   and_true : (b : Bool) → (b && true) ≡ b
   and_true true = refl

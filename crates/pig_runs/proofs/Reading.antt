@@ -18,7 +18,7 @@ use Rattle.pig_runs.specs.declared.entries.Entry.{Entry}
 use Rattle.pig_runs.specs.declared.lent.Lent.{Lent}
 use Rattle.pig_runs.specs.declared.slots.Slot.{Slot}
 use Rattle.pig_runs.specs.Entries.{Keyed, keyed, IsEntry, AreEntries}
-use Rattle.pig_runs.specs.Packed.{Packed, packed, packed_lent, part, found_at, Held}
+use Rattle.pig_runs.specs.Packed.{packed, packed_lent, part, found_at, Held}
 
 some_same : {X : Type 0} {x y : X} → Some x ≡ Some y → x ≡ y
 some_same h = cc

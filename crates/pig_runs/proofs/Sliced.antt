@@ -1,6 +1,6 @@
 -- Points and slices of entries.
-use Rattle.std.proofs.Common.{◌≡◌, zero, suc, ◌<◌, ◌≤◌, ◌+◌, ◌-◌, ◌*◌, ◌/◌, ℕ, Bool, true, false, List, [], ◌∷◌, ◌++◌, map, length, take, drop, get_or, refl, sym, ◌∙◌, ap, subst, arith}
-use Rattle.std.specs.Prelude.{not, replicate, Option, Some, None, Result, Ok, Err, OnOk, slice_get}
+use Rattle.std.proofs.Common.{◌≡◌, zero, suc, ◌<◌, ◌≤◌, ◌+◌, ◌-◌, ◌*◌, ◌/◌, ℕ, Bool, true, false, List, [], ◌∷◌, ◌++◌, map, length, take, drop, refl, sym, ◌∙◌, ap, subst, arith}
+use Rattle.std.specs.Prelude.{not, replicate, Option, Some, None, slice_get}
 use Rattle.std.specs.List.{AllByRecursion, filter, flat_map, range_with_len}
 use Rattle.std.specs.Option.{option_map_or}
 use Rattle.std.specs.Ordering.{is_lt}
@@ -8,14 +8,13 @@ use Rattle.std.proofs.Math.Logic.{∥∥₁_map, ∥∥₁_elim}
 use Rattle.std.proofs.Math.Nat.{div-lt_iff_lt-mul, mul_comm, mul-lt-mul_of_pos_right}
 use Rattle.std.proofs.lemmas.Grind.{flat_map-append}
 use Rattle.std.proofs.lemmas.List.{append-nil, append_assoc, length-take, drop-append-le, length-map}
-use Rattle.std.proofs.lemmas.Option.{slice_get-map, slice_get_past, slice_get_read}
 use Rattle.pig_value.specs.declared.operators.Dir.{Dir}
 use Rattle.pig_value.specs.Sorts.{Ascends}
 use Rattle.pig_value.proofs.list_laws.Bags.{ascends_prop, drop_ascends, take_ascends}
 use Rattle.pig_value.proofs.list_laws.Indexing.{some_at, take_one, more_taken}
 use Rattle.pig_value.proofs.list_laws.Listing.{each_of_all, each_weaker, filter-filter}
 use Rattle.pig_runs.specs.Cutting.{Point, Points, Divides, Leads, cut_at, cut_points, is_below, is_from, picked, points_at, slice_of, stands_before}
-use Rattle.pig_runs.specs.Entries.{Keyed, AreEntries, InDirections, and_entries, no_entries_in, run_cmp}
+use Rattle.pig_runs.specs.Entries.{Keyed, InDirections, and_entries, no_entries_in, run_cmp}
 use Rattle.pig_runs.specs.Packed.{Packed, packed, Held, Stand}
 use Rattle.pig_runs.proofs.Halving.{divided, led}
 

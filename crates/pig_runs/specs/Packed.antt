@@ -1,13 +1,11 @@
 -- Entries kept as bytes: what stands there for each, and that it tells the entries.
-use Rattle.std.specs.Prelude.{◌≡◌, ◌≤◌, ◌+◌, ◌-◌, ℕ, List, [], ◌∷◌, map, length, take, drop, refl}
+use Rattle.std.specs.Prelude.{◌≡◌, ◌≤◌, ◌+◌, ℕ, List, [], ◌∷◌, map, length, take, drop, refl}
 use Rattle.std.proofs.Common.{sym, ◌∙◌, ap}
-use Rattle.std.specs.List.{AllByRecursion}
 use Rattle.std.specs.Ordering.{ordering_then, nat_cmp}
 use Rattle.std.specs.declared.cmp.Ordering.{Ordering}
 use Rattle.std.specs.Coded.{Coded, Coded-set, code_by, coded×, coded_ℕ, coded_list, ×_prop}
 use Rattle.std.proofs.Math.Logic.{∥∥₁_prop, ∥∥₁_elim}
 use mathlib.Core.HLevel.{Σ_prop_path}
-use Rattle.pig_value.specs.Trees.{Tree}
 use Rattle.pig_value.specs.Orders.{text_cmp}
 use Rattle.pig_value.specs.declared.operators.Dir.{Dir}
 use Rattle.pig_keycode.specs.Keys.{key_code}

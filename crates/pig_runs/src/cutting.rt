@@ -153,12 +153,7 @@ fn lent_at<'r>(order: &[Lent<'r>], at: usize) -> Lent<'r>
 /// The entries of a run that stand before the point numbered `part`, and not before the one in front of it.
 ///
 /// Points are numbered from 0, and a missing point is no bound.
-pub fn slice(
-    alloc: Global,
-    run: &Run,
-    points: &CutPoints,
-    part: u32,
-) -> Result<Run, AllocError>
+pub fn slice(alloc: Global, run: &Run, points: &CutPoints, part: u32) -> Result<Run, AllocError>
     requires within { part ≤ length points.now.points }
     requires alike { points.now.dirs ≡ run.now.dirs }
     ensures { IfOk result (λ found. found ≡ record { dirs = run.now.dirs; entries = slice_of run.now.dirs points.now.points part run.now.entries }) }

@@ -3,7 +3,7 @@ use Rattle.std.proofs.lemmas.List.{length-map}
 use Rattle.pig_value.specs.declared.operators.Dir.{Dir}
 use Rattle.pig_value.specs.Sorts.{sort}
 use Rattle.pig_runs.specs.Cutting.{dirs_of_all, picked}
-use Rattle.pig_runs.specs.Entries.{Keyed, InDirections, and_entries, no_entries_in, entries_of_all, run_cmp}
+use Rattle.pig_runs.specs.Entries.{Keyed, and_entries, no_entries_in, entries_of_all, run_cmp}
 use Rattle.pig_runs.specs.Packed.{Held, Stand, packed_lent}
 use Rattle.pig_runs.proofs.Sliced.{held_stand, cut_ends, cut_all}
 use Rattle.pig_runs.proofs.cutting.cuts.Goals as goal

@@ -1,6 +1,6 @@
-use Rattle.std.proofs.Common.{◌≡◌, [], ◌∷◌, sym, ap, subst}
-use Rattle.std.specs.Prelude.{Some, option_map, slice_get, OnOk}
-use Rattle.pig_runs.specs.Entries.{Keyed, IsEntry, AreEntries, and_entries}
+use Rattle.std.proofs.Common.{◌≡◌, subst}
+use Rattle.std.specs.Prelude.{Some, option_map, slice_get}
+use Rattle.pig_runs.specs.Entries.{AreEntries}
 use Rattle.pig_runs.specs.Packed.{packed, packed_lent}
 use Rattle.pig_runs.proofs.Lending.{held_one, copied}
 use Rattle.pig_runs.proofs.builder.RunBuilder.copy_entry.Goals as goal
