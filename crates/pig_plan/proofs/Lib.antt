@@ -1,7 +1,11 @@
 mod Samples
+mod WrongBodies
 pub mod Unfolds
 pub mod Gathered
 pub mod Ordered
 pub mod Looking
 pub mod Lower
 mod Grows
+pub mod Adding
+pub mod Seen
+pub mod Listed

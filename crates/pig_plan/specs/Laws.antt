@@ -1,24 +1,54 @@
 -- The laws of plans and of their operators.
-use Rattle.std.specs.Prelude.{◌≡◌, ◌<◌, ◌≤◌, ℕ, false, List, Some, slice_get}
-use Rattle.std.specs.List.{flat_map, range_with_len}
+use Rattle.std.specs.Prelude.{◌≡◌, ◌<◌, ◌≤◌, ℕ, Bool, true, false, List, [], ◌∷◌, ◌++◌, length, Some, slice_get}
+use Rattle.std.specs.List.{AllByRecursion, flat_map, range_with_len}
 use Rattle.std.specs.List.Sorted.{IsPermutation}
 use Rattle.std.specs.Ordering.{is_gt}
 use Rattle.pig_value.specs.declared.inputs.Input.{Input}
 use Rattle.pig_value.specs.declared.outcomes.Kept.{Kept}
 use Rattle.pig_value.specs.Gathering.{in_part}
+use Rattle.pig_value.specs.Orders.{bag_of}
 use Rattle.pig_value.specs.Sorts.{sort}
 use Rattle.pig_value.specs.Trees.{Tree}
 use Rattle.pig_typed.specs.declared.blocks.SortKey.{SortKey}
 use Rattle.pig_typed.specs.Blocks.{keys_cmp}
 use Rattle.pig_plan.specs.ByKey.{Entry, gathered}
 use Rattle.pig_plan.specs.Meaning.{meaning, setting}
-use Rattle.pig_plan.specs.Operators.{operator_rows}
-use Rattle.pig_plan.specs.Plans.{Plan, PlanNode}
-use Rattle.pig_plan.specs.Valid.{IsPlan}
+use Rattle.pig_plan.specs.Nodes.{inputs_of, is_list, is_sorted, lists}
+use Rattle.pig_plan.specs.Operators.{Setting, operator_rows}
+use Rattle.pig_plan.specs.Plans.{Plan, PlanNode, PlanOp, p_limit, p_store, p_assert}
+use Rattle.pig_plan.specs.Valid.{IsPlan, fits}
 
 abbrev pub MeaningGoesByNodes : Type 0
 MeaningGoesByNodes = (plan : Plan) (inputs : List Input) (kept : List Kept) → IsPlan plan → (k : ℕ) (node : PlanNode) → slice_get plan k ≡ Some node
     → meaning plan inputs kept k ≡ operator_rows (setting plan inputs kept) node.statement node.op (meaning plan inputs kept)
+
+abbrev pub FurtherNodesChangeNone : Type 0
+FurtherNodesChangeNone = (plan : Plan) (node : PlanNode) (inputs : List Input) (kept : List Kept) → IsPlan plan → fits plan node ≡ true → (k : ℕ) → k < length plan
+    → meaning (plan ++ node ∷ []) inputs kept k ≡ meaning plan inputs kept k
+
+-- Nodes that hand on their input's list, or the first rows of it. The others see their inputs as bags.
+abbrev pub hands_on : (ℕ → Bool) → PlanOp → Bool
+hands_on sorted (p_limit input count) = sorted input
+hands_on sorted (p_store input path delim) = true
+hands_on sorted (p_assert input cond message) = true
+hands_on sorted o = false
+
+abbrev pub OthersSeeBags : Type 0
+OthersSeeBags = (s : Setting) (statement : ℕ) (o : PlanOp) (f g : ℕ → List (List Tree)) → hands_on s.sorted o ≡ false
+    → AllByRecursion (λ i. bag_of (f i) ≡ bag_of (g i)) (inputs_of o) → operator_rows s statement o f ≡ operator_rows s statement o g
+
+-- a node's rows in two ways, alike as bags, and as lists where the node is a list
+abbrev pub Alike : (ℕ → Bool) → (ℕ → List (List Tree)) → (ℕ → List (List Tree)) → ℕ → Type 0
+Alike listed f g i = (bag_of (f i) ≡ bag_of (g i)) × (listed i ≡ true → f i ≡ g i)
+
+abbrev pub OperatorsKeepAlike : Type 0
+OperatorsKeepAlike = (s : Setting) (listed : ℕ → Bool) → ((i : ℕ) → s.sorted i ≡ true → listed i ≡ true)
+    → (f g : ℕ → List (List Tree)) (statement : ℕ) (o : PlanOp) → AllByRecursion (Alike listed f g) (inputs_of o)
+    → (bag_of (operator_rows s statement o f) ≡ bag_of (operator_rows s statement o g))
+    × (lists s.sorted o listed ≡ true → operator_rows s statement o f ≡ operator_rows s statement o g)
+
+abbrev pub SortedNodesAreLists : Type 0
+SortedNodesAreLists = (plan : Plan) → IsPlan plan → (k : ℕ) → is_sorted plan k ≡ true → is_list plan k ≡ true
 
 abbrev pub PartsGiveTheWhole : Type 0
 PartsGiveTheWhole = (make : Tree → (ℕ → List (List Tree)) → List (List Tree)) (part : Tree → ℕ) (n : ℕ) → ((k : Tree) → part k < n)

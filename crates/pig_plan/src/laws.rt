@@ -1,8 +1,23 @@
-ghost use Rattle.pig_plan.specs.Laws.{MeaningGoesByNodes, OrderGoesBySlices, PartsGiveTheWhole};
+ghost use Rattle.pig_plan.specs.Laws.{FurtherNodesChangeNone, MeaningGoesByNodes, OperatorsKeepAlike, OrderGoesBySlices, OthersSeeBags};
+ghost use Rattle.pig_plan.specs.Laws.{PartsGiveTheWhole, SortedNodesAreLists};
 
 /// The meaning of each node of a plan is its operator on the meanings of its inputs.
 pub fn meaning_goes_by_nodes()
     ensures { MeaningGoesByNodes }
+{}
+
+/// A further node changes the meaning of none before it.
+pub fn further_nodes_change_none()
+    ensures { FurtherNodesChangeNone }
+{}
+
+/// Operators depend on the rows of their inputs only as bags, but for those that hand a list on: an ASSERT, a STORE,
+/// and a LIMIT on a sorted node. Of rows that agree as bags, and as lists where the node is a list, each operator
+/// makes such rows.
+pub fn operators_see_bags()
+    ensures others { OthersSeeBags }
+    ensures all { OperatorsKeepAlike }
+    ensures sorted { SortedNodesAreLists }
 {}
 
 /// Entries that are split into parts by their keys, in any tasks, give part by part what they give at once.
