@@ -5,13 +5,12 @@ use Rattle.pig_value.specs.declared.functions.Function.TheVariants as function
 use Rattle.pig_value.specs.declared.operators.ChainOp.TheVariants as op
 use Rattle.pig_value.specs.declared.operators.Dir.TheVariants as dir
 use Rattle.pig_value.specs.declared.operators.Rel.TheVariants as rel
-use Rattle.pig_value.specs.declared.operators.Side.{Side}
 use Rattle.pig_value.specs.declared.operators.Side.TheVariants as side
 use Rattle.pig_value.specs.Trees.{Tree, v_null, v_int, v_long, v_chars, v_bag, tuples_of, k_long}
 use Rattle.pig_typed.specs.declared.blocks.SortKey.{SortKey}
 use Rattle.pig_typed.specs.Typed.{Typed, TypedArgs, TypedItem, TypedBlock, x_int, x_field, x_chain, x_compare, x_not, x_cast, x_project, x_call, no_links, more_links, no_args, more_args}
 use Rattle.pig_plan.specs.Operators.{Setting, operator_rows}
-use Rattle.pig_plan.specs.Plans.{Keyed, PlanOp, p_filter, p_foreach, p_group_all, p_group, p_join, p_union, p_distinct, p_order, p_limit, p_store, p_assert, p_rank}
+use Rattle.pig_plan.specs.Plans.{Keyed, PlanOp, p_filter, p_foreach, p_group_all, p_group, p_join, p_union, p_distinct, p_order, p_limit, p_assert, p_rank}
 
 abbrev pub Rows : Type 0
 Rows = List (List Tree)

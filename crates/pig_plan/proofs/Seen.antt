@@ -9,7 +9,6 @@ use Rattle.pig_value.specs.declared.operators.Side.{Side}
 use Rattle.pig_value.specs.declared.operators.Side.TheVariants as side
 use Rattle.pig_value.specs.Functions.{long_of}
 use Rattle.pig_value.specs.Orders.{bag_of, row_cmp}
-use Rattle.pig_value.specs.Sorts.{distinct, sort}
 use Rattle.pig_value.specs.Trees.{Tree, v_chars}
 use Rattle.pig_value.proofs.OrderLaws.{row_total, row_same}
 use Rattle.pig_value.proofs.list_laws.Bags.{bag_from_permutation, permutation_from_bag, sort-filter}
@@ -21,10 +20,10 @@ use Rattle.pig_typed.specs.Blocks.{foreach_all, foreach_rows, keys_cmp}
 use Rattle.pig_typed.specs.Evaluation.{passes}
 use Rattle.pig_plan.proofs.Gathered.{gathered_same}
 use Rattle.pig_plan.proofs.Ordered.{keys_same, keys_total}
-use Rattle.pig_plan.specs.ByKey.{Entry, cogroup_of, entries_of_input, gathered, group_of, join_of, key_of, outer_of}
+use Rattle.pig_plan.specs.ByKey.{cogroup_of, entries_of_input, gathered, group_of, join_of, key_of, outer_of}
 use Rattle.pig_plan.specs.Laws.{Alike, hands_on}
 use Rattle.pig_plan.specs.Nodes.{inputs_of, lists}
-use Rattle.pig_plan.specs.Operators.{Setting, group_all, group_rows, join_rows, key_fields, keyed_entries, keys_of, limit_rows, operator_rows, order_rows, rank_of, rank_rows, sort_keys_cmp, stand_before}
+use Rattle.pig_plan.specs.Operators.{Setting, group_rows, join_rows, key_fields, keyed_entries, keys_of, limit_rows, operator_rows, rank_of, rank_rows, sort_keys_cmp, stand_before}
 use Rattle.pig_plan.specs.Plans.{Keyed, PlanOp, p_load, p_filter, p_foreach, p_group_all, p_group, p_join, p_union, p_distinct, p_order, p_limit, p_store, p_assert, p_rank}
 
 bag_same : (xs ys : List (List Tree)) → IsPermutation xs ys → bag_of xs ≡ bag_of ys
@@ -123,13 +122,13 @@ module _ (s : Setting) (listed : ℕ → Bool) (sorted_listed : (i : ℕ) → s.
   from_own : (o : PlanOp) → hands_on s.sorted o ≡ false → AllByRecursion (Alike listed f g) (inputs_of o) → Both o
   from_own o own h =
       let same : operator_rows s statement o f ≡ operator_rows s statement o g =
-          seen f g s statement o own (each_weaker (Alike listed f g) (λ i. bag_of (f i) ≡ bag_of (g i)) (λ i a. a.0) (inputs_of o) h) in
+      seen f g s statement o own (each_weaker (Alike listed f g) (λ i. bag_of (f i) ≡ bag_of (g i)) (λ i a. a.0) (inputs_of o) h) in
       (ap bag_of same, λ e. same)
 
   limit_seen : (input count : ℕ) (b : Bool) → s.sorted input ≡ b → AllByRecursion (Alike listed f g) (inputs_of (p_limit input count)) → Both (p_limit input count)
   limit_seen input count true e h =
       let same : operator_rows s statement (p_limit input count) f ≡ operator_rows s statement (p_limit input count) g =
-          ap (λ b. limit_rows b count (s.kept statement) (f input)) e ∙ ap (take count) (h.0.1 (sorted_listed input e)) ∙ sym (ap (λ b. limit_rows b count (s.kept statement) (g input)) e) in
+      ap (λ b. limit_rows b count (s.kept statement) (f input)) e ∙ ap (take count) (h.0.1 (sorted_listed input e)) ∙ sym (ap (λ b. limit_rows b count (s.kept statement) (g input)) e) in
       (ap bag_of same, λ i. same)
   limit_seen input count false e h = from_own (p_limit input count) e h
 
