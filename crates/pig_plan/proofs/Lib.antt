@@ -9,3 +9,7 @@ mod Grows
 pub mod Adding
 pub mod Seen
 pub mod Listed
+pub mod LoadRows
+pub mod Carries
+pub mod Meanings
+pub mod Values

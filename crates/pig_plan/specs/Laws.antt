@@ -1,5 +1,5 @@
 -- The laws of plans and of their operators.
-use Rattle.std.specs.Prelude.{◌≡◌, ◌<◌, ◌≤◌, ℕ, Bool, true, false, List, [], ◌∷◌, ◌++◌, length, Some, slice_get}
+use Rattle.std.specs.Prelude.{◌≡◌, ◌<◌, ◌≤◌, ℕ, Bool, true, false, List, [], ◌∷◌, ◌++◌, length, Some, slice_get, ⊤}
 use Rattle.std.specs.List.{AllByRecursion, flat_map, range_with_len}
 use Rattle.std.specs.List.Sorted.{IsPermutation}
 use Rattle.std.specs.Ordering.{is_gt}
@@ -12,11 +12,15 @@ use Rattle.pig_value.specs.Trees.{Tree}
 use Rattle.pig_typed.specs.declared.blocks.SortKey.{SortKey}
 use Rattle.pig_typed.specs.Blocks.{keys_cmp}
 use Rattle.pig_plan.specs.ByKey.{Entry, gathered}
-use Rattle.pig_plan.specs.Meaning.{meaning, setting}
-use Rattle.pig_plan.specs.Nodes.{inputs_of, is_list, is_sorted, lists}
+use Rattle.pig_plan.specs.Meaning.{meaning, setting, EachIsKept}
+use Rattle.pig_plan.specs.Nodes.{inputs_of, is_list, is_sorted, lists, is_live}
 use Rattle.pig_plan.specs.Operators.{Setting, operator_rows}
-use Rattle.pig_plan.specs.Plans.{Plan, PlanNode, PlanOp, p_limit, p_store, p_assert}
+use Rattle.pig_plan.specs.Plans.{Plan, PlanNode, PlanOp, p_limit, p_store, p_assert, Keyed, p_filter, p_foreach, p_group, p_join}
 use Rattle.pig_plan.specs.Valid.{IsPlan, fits}
+use Rattle.pig_value.specs.Leaves.{AreBytes}
+use Rattle.pig_value.specs.Valid.{AreRows, IsValue}
+use Rattle.pig_typed.specs.Literals.{BlockLiteralsAre, LiteralsAre}
+use Rattle.pig_typed.specs.Premises.{FunctionsKeepValues}
 
 abbrev pub MeaningGoesByNodes : Type 0
 MeaningGoesByNodes = (plan : Plan) (inputs : List Input) (kept : List Kept) → IsPlan plan → (k : ℕ) (node : PlanNode) → slice_get plan k ≡ Some node
@@ -58,3 +62,27 @@ PartsGiveTheWhole = (make : Tree → (ℕ → List (List Tree)) → List (List T
 abbrev pub OrderGoesBySlices : Type 0
 OrderGoesBySlices = (keys : List SortKey) (part : List Tree → ℕ) (n : ℕ) → ((x y : List Tree) → is_gt (keys_cmp keys x y) ≡ false → part x ≤ part y)
     → ((x : List Tree) → part x < n) → (rows : List (List Tree)) → flat_map (λ p. sort (keys_cmp keys) (in_part part p rows)) (range_with_len 0 n) ≡ sort (keys_cmp keys) rows
+
+-- what is asked of the literals of a plan, each taken as the value that it stands for
+abbrev pub KeyLiteralsAre : (Tree → Type 0) → List Keyed → Type 0
+KeyLiteralsAre P inputs = AllByRecursion (λ input. AllByRecursion (LiteralsAre P) input.keys) inputs
+
+abbrev pub OpLiteralsAre : (Tree → Type 0) → PlanOp → Type 0
+OpLiteralsAre P (p_filter input cond) = LiteralsAre P cond
+OpLiteralsAre P (p_foreach input block) = BlockLiteralsAre P block
+OpLiteralsAre P (p_group inputs) = KeyLiteralsAre P inputs
+OpLiteralsAre P (p_join inputs side replicated) = KeyLiteralsAre P inputs
+OpLiteralsAre P (p_assert input cond message) = LiteralsAre P cond
+OpLiteralsAre P o = ⊤
+
+abbrev pub PlanLiteralsAre : (Tree → Type 0) → Plan → Type 0
+PlanLiteralsAre P plan = AllByRecursion (λ node. OpLiteralsAre P node.op) plan
+
+-- inputs whose pieces are of bytes
+abbrev pub AreOfBytes : List Input → Type 0
+AreOfBytes inputs = AllByRecursion (λ input. AllByRecursion AreBytes input.pieces) inputs
+
+-- the rows of live nodes are of values
+abbrev pub MeaningsAreValues : Type 0
+MeaningsAreValues = FunctionsKeepValues → (plan : Plan) (inputs : List Input) (kept : List Kept) → IsPlan plan → PlanLiteralsAre IsValue plan → AreOfBytes inputs
+    → EachIsKept plan inputs kept → (k : ℕ) → is_live plan k ≡ true → AreRows (meaning plan inputs kept k)

@@ -1,5 +1,5 @@
-ghost use Rattle.pig_plan.specs.Laws.{FurtherNodesChangeNone, MeaningGoesByNodes, OperatorsKeepAlike, OrderGoesBySlices, OthersSeeBags};
-ghost use Rattle.pig_plan.specs.Laws.{PartsGiveTheWhole, SortedNodesAreLists};
+ghost use Rattle.pig_plan.specs.Laws.{FurtherNodesChangeNone, MeaningGoesByNodes, MeaningsAreValues, OperatorsKeepAlike, OrderGoesBySlices};
+ghost use Rattle.pig_plan.specs.Laws.{OthersSeeBags, PartsGiveTheWhole, SortedNodesAreLists};
 
 /// The meaning of each node of a plan is its operator on the meanings of its inputs.
 pub fn meaning_goes_by_nodes()
@@ -28,4 +28,11 @@ pub fn parts_give_the_whole()
 /// Slices between places in the order of an ORDER, each sorted, are in turn the whole sorted.
 pub fn order_goes_by_slices()
     ensures { OrderGoesBySlices }
+{}
+
+/// The rows of the live nodes of a plan are rows of values: bags are sorted, keys of maps ascend and differ, numbers are in
+/// range and texts are UTF-8. So it is where the inputs are of bytes, what a bare LIMIT kept stands among the rows of its
+/// source, and functions give values of values.
+pub fn meanings_are_values()
+    ensures { MeaningsAreValues }
 {}
