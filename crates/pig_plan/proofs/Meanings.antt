@@ -1,5 +1,5 @@
 -- What holds of the rows of a plan's inputs holds of the rows of its live nodes.
-use Rattle.std.specs.Prelude.{◌≡◌, ◌<◌, ◌≤◌, ◌+◌, ◌-◌, ◌==◌, ℕ, ℤ, Bool, true, false, ◌&&◌, ◌||◌, List, [], ◌∷◌, length, drop, codes, Option, None, Some, slice_get, refl, IsTrue}
+use Rattle.std.specs.Prelude.{◌≡◌, ◌<◌, ◌≤◌, ◌+◌, ◌-◌, ◌==◌, ℕ, ℤ, Bool, true, false, ◌&&◌, ◌||◌, List, [], ◌∷◌, length, drop, codes, Option, None, Some, slice_get, refl}
 use Rattle.std.proofs.Common.{ap, sym, ◌∙◌, subst, arith, suc, zero, true≢false, cond}
 use Rattle.std.specs.List.{AllByRecursion, filter, list_any}
 use Rattle.std.specs.Option.{option_map_or}
@@ -30,6 +30,9 @@ use Rattle.pig_plan.specs.Valid.{IsPlan}
 
 -- ---- rows that stand among others
 
+abbrev unit_or_none : Bool → ℕ
+unit_or_none b = cond b 1 0
+
 module _ (P : List Tree → Type 0) where
   first_of : (row : List Tree) (found : List (List Tree)) → 1 ≤ length found → AllByRecursion (λ other. is_eq (row_cmp row other) ≡ true) found → AllByRecursion P found → P row
   first_of row [] h g p = absurd (omega (arith, h))
@@ -41,7 +44,7 @@ module _ (P : List Tree → Type 0) where
   pub each_held : (kept rows : List (List Tree)) → ((row : List Tree) → times row_cmp row kept ≤ times row_cmp row rows) → AllByRecursion P rows → AllByRecursion P kept
   each_held [] rows h p = tt
   each_held (x ∷ kept) rows h p =
-      let one : cond (is_eq (row_cmp x x)) 1 0 ≡ 1 = ap (λ b. cond b 1 0) (ap is_eq (tied_itself row_total x)) in
+      let one : ◌≡◌ {A = ℕ} (cond (is_eq (row_cmp x x)) 1 0) 1 = ap (λ b. unit_or_none b) (ap is_eq (tied_itself row_total x)) in
       let counted = times-cons row_cmp x x kept in
       let held = h x in (
         among x rows (omega (arith, one, counted, held)) p,
@@ -116,7 +119,7 @@ module _ (P : Tree → Type 0) (c : IsCarried P) (long : (z : ℤ) → P (long_o
       → OwnAre P c long word (meaning plan inputs kept) (setting plan inputs kept) statement o
   own_held k statement (p_load path delim columns) at live h = loads path delim columns
   own_held k statement (p_limit input count) at live h = λ unsorted.
-      each_held (AllByRecursion P) (kept_at kept statement) (meaning plan inputs kept input) (each k statement input count at (subst IsTrue (sym live) tt) unsorted).held h.0
+      each_held (AllByRecursion P) (kept_at kept statement) (meaning plan inputs kept input) (each k statement input count at live unsorted).held h.0
   own_held k statement (p_filter input test) at live h = tt
   own_held k statement (p_foreach input block) at live h = tt
   own_held k statement (p_group_all input) at live h = tt
