@@ -36,7 +36,11 @@ pub fn cast(alloc: Global, v: &Value, k: &Kind) -> Result<Value, AllocError>
 fn stays(alloc: Global, v: &Value, k: &Kind) -> Result<Value, AllocError>
     ensures { IfOk result (λ w. tree w ≡ cond (is_of_kind (tree v.now) (kind_tree k.now)) (tree v.now) v_null) }
 {
-    if is_of(v, k) { copy(alloc, v) } else { Ok(Value::Null) }
+    if is_of(v, k) {
+        copy(alloc, v)
+    } else {
+        Ok(Value::Null)
+    }
 }
 
 // The low 32 bits of a long, as an int.

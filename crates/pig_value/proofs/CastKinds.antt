@@ -31,8 +31,8 @@ null_of_kind k = tt
 
 stays_of_kind : (k : KindTree) (v : Tree) → IsOf (cond (is_of_kind v k) v v_null) k
 stays_of_kind k v = either_way (is_of_kind v k)
-  (λ e. subst (λ b. IsOf (cond b v v_null) k) (sym e) (passes_is_of v k e))
-  (λ e. subst (λ b. IsOf (cond b v v_null) k) (sym e) (null_of_kind k))
+    (λ e. subst (λ b. IsOf (cond b v v_null) k) (sym e) (passes_is_of v k e))
+    (λ e. subst (λ b. IsOf (cond b v v_null) k) (sym e) (null_of_kind k))
 
 pub cast_of_kind : (k : KindTree) (v : Tree) → IsOf (cast_of k v) k
 cast_of_kind k_bytes (v_bytes bytes) = tt
@@ -56,8 +56,8 @@ cast_of_kind k v = stays_of_kind k v
 -- what may not be cast gives null
 refused : (k : KindTree) (v : Tree) → (IsOf v k → ⊥) → cond (is_of_kind v k) v v_null ≡ v_null
 refused k v never = either_way (is_of_kind v k)
-  (λ e. absurd (never (passes_is_of v k e)))
-  (λ e. ap (λ b. cond b v v_null) e)
+    (λ e. absurd (never (passes_is_of v k e)))
+    (λ e. ap (λ b. cond b v v_null) e)
 
 pub refused_is_null : (k : KindTree) (v : Tree) → (CanCast k v → ⊥) → cast_of k v ≡ v_null
 refused_is_null k_bytes (v_bytes bytes) never = absurd (never tt)
