@@ -22,7 +22,7 @@ once_in : (n t : ℕ) → 0 < once_below n t → t < n
 once_in n t h = grind (arith, nat_tests)
 
 pub once_at_most : (n t : ℕ) → t < n → once_below n t ≡ 1
-pub once_at_most n t h = grind (arith, nat_tests)
+once_at_most n t h = grind (arith, nat_tests)
 
 pub placing-starts : {O : Type 0} (is_right : ℕ → O → Type 0) (n : ℕ) (places : List (Option O)) (outputs : List (ℕ × O)) → length places ≡ n
     → ((t : ℕ) → outputs_of t outputs ≡ once_below n t) → All (λ o. is_right o.0 o.1) outputs → ArePlacing is_right n places outputs
