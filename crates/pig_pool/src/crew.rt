@@ -153,10 +153,14 @@ pub fn run_crew<R: Threads + Sync, W: Work + Sync, H: Host + Send>(
             ensures same_reference { right.exit.hosts.ghost_name ≡ right.entry.hosts.ghost_name }
         { run_half(rt, alloc, work, wave, board, below, &mut right) },
     );
-    // The left half is taken apart, so that the hosts are given back before anything is dropped.
+    // What is left of both halves is taken apart, so that the hosts are given back before anything is dropped.
     let Half {
         pass: _kept,
         hosts: _front,
     } = left;
+    let Half {
+        pass: _given,
+        hosts: _back,
+    } = right;
     merge(board, one?, two?)
 }
