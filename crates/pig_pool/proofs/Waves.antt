@@ -75,9 +75,9 @@ has_reason n v ends done tells count unwon few = elim (cases_Bool (saw_limit v))
       let a = few t.0 in
       let b = t.1 in
       absurd (omega arith)
-  | inr no ↦
+  | inr none ↦
       let below = unwon.below in
-      let known = done.all no unwon.task (omega arith) in
+      let known = done.all none unwon.task (omega arith) in
       false≢true (sym (ap is_some unwon.unwon) ∙ tells.known unwon.task known)
 ]
 

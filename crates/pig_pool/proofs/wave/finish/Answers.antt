@@ -9,13 +9,13 @@ use Rattle.pig_pool.proofs.Waves.{each_once, all_won, has_reason}
 use Rattle.pig_pool.proofs.wave.finish.Goals as goal
 
 pub gather-outs-requires-clause-each : goal.gather-outs-requires-clause-each
-gather-outs-requires-clause-each g c =
+gather-outs-requires-clause-each g c κs within =
     let tells = an_end (view_of c.args.worker.pass) c.close-end.result c.close-end.ensures.ends in
     let all : AllWon c.close-end.result = search rules in
     each_once (g.W.Work.right c.args.work.now) (g.W.Work.count c.args.work.now) (view_of c.args.worker.pass) c.close-end.result c.args.worker.outputs c.requires.won tells (c.close-end.ensures.count ∙ c.requires.count) all
 
 pub gather-outs-requires-clause-right : goal.gather-outs-requires-clause-right
-gather-outs-requires-clause-right g c = c.requires.won.right
+gather-outs-requires-clause-right g c κs within = c.requires.won.right
 
 pub returns-then-is_won-clause-won : goal.returns-then-is_won-clause-won
 returns-then-is_won-clause-won g c =
