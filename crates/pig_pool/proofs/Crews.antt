@@ -1,8 +1,8 @@
 -- A pass cut in two, and what two workers have, joined.
-use Rattle.std.proofs.Common.{◌≡◌, ℕ, ◌+◌, ◌-◌, ◌*◌, ◌/◌, ◌^◌, ◌<◌, ◌≤◌, Bool, true, false, ◌||◌, List, [], ◌∷◌, ◌++◌, cond, length, map, refl, sym, ◌∙◌, ap, subst, arith, zero, suc}
-use Rattle.std.specs.Prelude.{◌==◌, nat_le, count_by, All, Result, Ok, Err, IfOk}
-use Rattle.std.specs.List.{list_any, sum_by}
-use Rattle.std.proofs.lemmas.Bool.{or_left, or_right, false_from_ne_true, false≢true}
+use Rattle.std.proofs.Common.{◌≡◌, ℕ, ◌+◌, ◌-◌, ◌*◌, ◌/◌, ◌^◌, ◌<◌, ◌≤◌, false, List, ◌++◌, cond, map, sym, ◌∙◌, ap, subst, arith, zero, suc}
+use Rattle.std.specs.Prelude.{◌==◌, nat_le, Result, Ok, Err, IfOk}
+use Rattle.std.specs.List.{sum_by}
+use Rattle.std.proofs.lemmas.Bool.{or_left, false_from_ne_true, false≢true}
 use Rattle.std.proofs.lemmas.List.{map-append}
 use Rattle.std.proofs.lemmas.List.Folds.{list_any-append}
 use Rattle.std.proofs.lemmas.List.Elements.{All-append}
@@ -15,11 +15,11 @@ use Rattle.pig_board.specs.declared.board.Board.{Board}
 use Rattle.pig_board.specs.declared.board.Pass.{Pass}
 use Rattle.pig_board.specs.declared.view.View.{View}
 use Rattle.pig_board.specs.Pass.{view_of, OnBoard}
-use Rattle.pig_board.specs.View.{steps_of, knows_winner, fails_of, all_fails, wins_of, kept_half, other_half, both}
+use Rattle.pig_board.specs.View.{steps_of, all_fails, kept_half, other_half, both}
 use Rattle.pig_board.specs.Laws.{NotesStay}
 use Rattle.pig_board.proofs.Notes.{steps_keep}
 use Rattle.pig_board.proofs.CountLaws.{steps_cut, steps_both, wins_both}
-use Rattle.pig_pool.specs.Workers.{outputs_of, HasWon, Works, IsDone, KnowsAll, saw_limit, worker_room}
+use Rattle.pig_pool.specs.Workers.{HasWon, Works, IsDone, saw_limit, worker_room}
 use Rattle.pig_pool.specs.Crew.{IsReady}
 use Rattle.pig_pool.proofs.Steps.{notes-trans}
 

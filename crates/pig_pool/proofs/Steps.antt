@@ -1,10 +1,10 @@
 -- What each call of a worker does, and calls after one another.
-use Rattle.std.proofs.Common.{◌≡◌, ◌≢◌, ℕ, ◌+◌, ◌-◌, ◌<◌, ◌≤◌, Bool, true, false, Option, Some, None, List, [], ◌∷◌, ◌++◌, cond, refl, sym, ◌∙◌, ap, subst, arith, inl, inr}
-use Rattle.std.specs.Prelude.{◌==◌, nat_le, count_by, sum_by, All, MatchBool}
+use Rattle.std.proofs.Common.{◌≡◌, ℕ, ◌+◌, ◌-◌, ◌<◌, ◌≤◌, Bool, true, false, Option, Some, None, List, [], ◌∷◌, ◌++◌, cond, refl, sym, ◌∙◌, ap, subst, arith, inl, inr}
+use Rattle.std.specs.Prelude.{◌==◌, nat_le, MatchBool}
 use Rattle.std.specs.List.{list_any}
 use Rattle.std.proofs.lemmas.Bool.{cases_eq, cases_lt, lt-ltb, le-ltb, eq-eqb, ne_eqb, or_left, or_right, le-leb}
 use Rattle.std.proofs.lemmas.List.Folds.{list_any-append}
-use Rattle.std.proofs.lemmas.List.Elements.{All-push, All-nil}
+use Rattle.std.proofs.lemmas.List.Elements.{All-push}
 use Rattle.std.proofs.lemmas.List.Sums.{sum_by_push}
 use Rattle.pig_job.specs.Job.{failure_limit}
 use Rattle.pig_job.specs.declared.Attempt.{Attempt}
@@ -17,7 +17,7 @@ use Rattle.pig_board.specs.Laws.{NotesStay}
 use Rattle.pig_board.proofs.Notes.{steps_keep}
 use Rattle.pig_board.proofs.Counts.{earliest-open, counted-any}
 use Rattle.pig_board.proofs.Steps.{settled_fails}
-use Rattle.pig_board.proofs.CountLaws.{steps_drew, steps_began, steps_won, steps_late, steps_failed, steps_saw_winner, steps_saw_count, began-open, began-open_of, fails_began, fails_failed, wins_began, wins_won, wins_won_other, wins_late, wins_failed}
+use Rattle.pig_board.proofs.CountLaws.{steps_drew, steps_began, steps_won, steps_late, steps_failed, began-open, began-open_of, fails_began, fails_failed, wins_began, wins_won, wins_won_other, wins_late, wins_failed}
 use Rattle.pig_pool.specs.Workers.{outputs_of, HasWon, Works, KnowsAll, saw_limit}
 
 -- notes that stay twice stay

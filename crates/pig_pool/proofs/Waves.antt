@@ -1,7 +1,7 @@
 -- The end of a wave, from what its workers tell.
-use Rattle.std.proofs.Common.{◌≡◌, ℕ, ◌+◌, ◌<◌, ◌≤◌, Bool, true, false, Option, Some, None, List, [], ◌∷◌, cond, length, get_or, refl, sym, ◌∙◌, ap, arith, inl, inr}
-use Rattle.std.specs.Prelude.{◌*◌, ◌^◌, is_some, nat_le, All, Result, Ok, Err, IfErr, MatchResult}
-use Rattle.std.specs.List.{list_any, sum_by}
+use Rattle.std.proofs.Common.{◌≡◌, ℕ, ◌+◌, ◌<◌, ◌≤◌, true, Option, Some, None, List, [], ◌∷◌, cond, length, refl, sym, ◌∙◌, ap, arith, inl, inr}
+use Rattle.std.specs.Prelude.{◌^◌, is_some, nat_le, All, Result, Ok, Err, IfErr, MatchResult}
+use Rattle.std.specs.List.{list_any}
 use Rattle.std.proofs.lemmas.Bool.{cases_Bool, cases_lt, or_cases, leb-true, false≢true}
 use Rattle.std.proofs.lemmas.Bool.Decides.{nat_tests}
 use Rattle.std.proofs.lemmas.List.{get_or_past}
@@ -13,11 +13,11 @@ use Rattle.pig_board.specs.declared.view.View.{View}
 use Rattle.pig_board.specs.declared.end.TaskEnd.{TaskEnd}
 use Rattle.pig_board.specs.declared.board.Board.{Board}
 use Rattle.pig_board.specs.declared.board.Pass.{Pass}
-use Rattle.pig_board.specs.View.{steps_of, IsAlone, all_fails, wins_of, fresh}
+use Rattle.pig_board.specs.View.{steps_of, IsAlone, all_fails, fresh}
 use Rattle.pig_board.specs.Pass.{view_of, OnBoard}
 use Rattle.pig_board.specs.End.{untried, end_of}
 use Rattle.pig_board.specs.Laws.{EndTells}
-use Rattle.pig_pool.specs.Workers.{outputs_of, HasWon, Works, IsDone, saw_limit, worker_room}
+use Rattle.pig_pool.specs.Workers.{outputs_of, HasWon, Works, IsDone, saw_limit}
 use Rattle.pig_pool.specs.Crew.{IsReady}
 use Rattle.pig_pool.specs.declared.wave.WaveFault.{WaveFault}
 use Rattle.pig_pool.specs.declared.wave.WaveFault.TheVariants.{TaskFailed, OutOfMemory}

@@ -1,5 +1,5 @@
 -- What a wave gives.
-use Rattle.std.specs.Prelude.{◌≡◌, ℕ, ◌+◌, ◌<◌, ◌≤◌, ⊤, true, Option, Some, None, is_some, List, length, slice_get, sum_by}
+use Rattle.std.specs.Prelude.{◌≡◌, ℕ, ◌<◌, ◌≤◌, ⊤, true, Option, Some, None, is_some, List, length, slice_get, sum_by}
 use Rattle.pig_job.specs.Job.{failure_limit}
 use Rattle.pig_board.specs.declared.end.TaskEnd.{TaskEnd}
 use Rattle.pig_board.specs.End.{end_of}

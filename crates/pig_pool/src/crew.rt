@@ -69,7 +69,11 @@ fn run_half<R: Threads + Sync, W: Work + Sync, H: Host + Send>(
     requires fit { length half.old.hosts.now ≤ 2 ^ depth }
     requires suit { All (λ h. W.suits work.now (H.inputs h)) half.old.hosts.now }
     ensures board { IfOk result (λ r. OnBoard board.now r.pass) }
-    ensures works { IfOk result (λ r. Holds half.old.pass (λ p. Works (view_of p) (view_of r.pass) (sum_by H.faults half.old.hosts.now) (sum_by H.faults half.new.hosts.now))) }
+    ensures works { IfOk result (λ r. Holds half.old.pass (λ p. Works
+        (view_of p)
+        (view_of r.pass)
+        (sum_by H.faults half.old.hosts.now)
+        (sum_by H.faults half.new.hosts.now))) }
     ensures won { IfOk result (λ r. HasWon (W.right work.now) (view_of r.pass) r.outputs) }
     ensures done { IfOk result (λ r. IsDone (tasks_of board.now) (view_of r.pass)) }
     ensures inputs { map H.inputs half.new.hosts.now ≡ map H.inputs half.old.hosts.now }
@@ -101,7 +105,11 @@ pub fn run_crew<R: Threads + Sync, W: Work + Sync, H: Host + Send>(
     requires fit { length hosts.old ≤ 2 ^ depth }
     requires suit { All (λ h. W.suits work.now (H.inputs h)) hosts.old }
     ensures board { IfOk result (λ r. OnBoard board.now r.pass) }
-    ensures works { IfOk result (λ r. Works (view_of pass) (view_of r.pass) (sum_by H.faults hosts.old) (sum_by H.faults hosts.new)) }
+    ensures works { IfOk result (λ r. Works
+        (view_of pass)
+        (view_of r.pass)
+        (sum_by H.faults hosts.old)
+        (sum_by H.faults hosts.new)) }
     ensures won { IfOk result (λ r. HasWon (W.right work.now) (view_of r.pass) r.outputs) }
     ensures done { IfOk result (λ r. IsDone (tasks_of board.now) (view_of r.pass)) }
     ensures inputs { map H.inputs hosts.new ≡ map H.inputs hosts.old }
@@ -131,7 +139,11 @@ pub fn run_crew<R: Threads + Sync, W: Work + Sync, H: Host + Send>(
             requires fit { (0 < length left.hosts.now) × (length left.hosts.now ≤ 2 ^ below) }
             requires suit { All (λ h. W.suits work.now (H.inputs h)) left.hosts.now }
             ensures board { IfOk result (λ r. OnBoard board.entry.now r.pass) }
-            ensures works { IfOk result (λ r. Holds left.entry.pass (λ p. Works (view_of p) (view_of r.pass) (sum_by H.faults left.entry.hosts.now) (sum_by H.faults left.exit.hosts.now))) }
+            ensures works { IfOk result (λ r. Holds left.entry.pass (λ p. Works
+                (view_of p)
+                (view_of r.pass)
+                (sum_by H.faults left.entry.hosts.now)
+                (sum_by H.faults left.exit.hosts.now))) }
             ensures won { IfOk result (λ r. HasWon (W.right work.entry.now) (view_of r.pass) r.outputs) }
             ensures done { IfOk result (λ r. IsDone (tasks_of board.entry.now) (view_of r.pass)) }
             ensures inputs { map H.inputs left.exit.hosts.now ≡ map H.inputs left.entry.hosts.now }
@@ -145,7 +157,11 @@ pub fn run_crew<R: Threads + Sync, W: Work + Sync, H: Host + Send>(
             requires fit { (0 < length right.hosts.now) × (length right.hosts.now ≤ 2 ^ below) }
             requires suit { All (λ h. W.suits work.now (H.inputs h)) right.hosts.now }
             ensures board { IfOk result (λ r. OnBoard board.entry.now r.pass) }
-            ensures works { IfOk result (λ r. Holds right.entry.pass (λ p. Works (view_of p) (view_of r.pass) (sum_by H.faults right.entry.hosts.now) (sum_by H.faults right.exit.hosts.now))) }
+            ensures works { IfOk result (λ r. Holds right.entry.pass (λ p. Works
+                (view_of p)
+                (view_of r.pass)
+                (sum_by H.faults right.entry.hosts.now)
+                (sum_by H.faults right.exit.hosts.now))) }
             ensures won { IfOk result (λ r. HasWon (W.right work.entry.now) (view_of r.pass) r.outputs) }
             ensures done { IfOk result (λ r. IsDone (tasks_of board.entry.now) (view_of r.pass)) }
             ensures inputs { map H.inputs right.exit.hosts.now ≡ map H.inputs right.entry.hosts.now }

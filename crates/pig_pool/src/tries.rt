@@ -57,8 +57,12 @@ fn offer<O: Drop>(
     requires board { OnBoard board.now pass.old }
     requires under_way { has_open t attempt (view_of pass.old) ≡ true }
     ensures board { OnBoard board.now pass.new }
-    ensures view { IfOk result (λ b. MatchBool b (view_of pass.new ≡ won t attempt (view_of pass.old)) (IsLate t attempt (view_of pass.old) (view_of pass.new))) }
-    ensures outputs { IfOk result (λ b. MatchBool b (outputs.new ≡ outputs.old ++ (t, output) ∷ []) (outputs.new ≡ outputs.old)) }
+    ensures view { IfOk result (λ b. MatchBool b
+        (view_of pass.new ≡ won t attempt (view_of pass.old))
+        (IsLate t attempt (view_of pass.old) (view_of pass.new))) }
+    ensures outputs { IfOk result (λ b. MatchBool b
+        (outputs.new ≡ outputs.old ++ (t, output) ∷ [])
+        (outputs.new ≡ outputs.old)) }
 {
     outputs.push_back((t, output))?;
     if board.commit(pass, t, attempt) {
@@ -86,7 +90,8 @@ pub fn try_once<W: Work, H: Host>(
     requires suits { W.suits work.now (H.inputs host.old) }
     requires won { HasWon (W.right work.now) (view_of pass.old) outputs.old }
     ensures board { OnBoard board.now pass.new }
-    ensures works { OnOk result (Works (view_of pass.old) (view_of pass.new) (H.faults host.old) (H.faults host.new)) }
+    ensures works { OnOk result
+        (Works (view_of pass.old) (view_of pass.new) (H.faults host.old) (H.faults host.new)) }
     ensures won { OnOk result (HasWon (W.right work.now) (view_of pass.new) outputs.new) }
     ensures tried { IfOk result (IsTried t (view_of pass.old) (view_of pass.new)) }
     ensures room { OnOk result ((view_of pass.old).room ≤ (view_of pass.new).room + 2) }

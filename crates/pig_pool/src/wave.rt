@@ -61,7 +61,9 @@ fn is_won(end: &JobEnd) -> bool
 
 /// The least task that has failed too often.
 fn given_up(end: &JobEnd) -> Option<u32>
-    ensures { MatchOption result ((t : ℕ) → (end_of end.now t).failed < failure_limit) (λ t. IsLeast t end.now) }
+    ensures { MatchOption result
+        ((t : ℕ) → (end_of end.now t).failed < failure_limit)
+        (λ t. IsLeast t end.now) }
 {
     for t in 0..end.len() {
         if end.task(t).failed >= FAILURE_LIMIT {
@@ -89,7 +91,9 @@ fn finish<W: Work>(
     ensures outs { IfOk result (λ r. AreOutputs (W.right work.now) (W.count work.now) r.outs) }
     ensures won { IfOk result (λ r. IsWonWave (W.count work.now) r.end) }
     ensures failed { IfErr result (HasFailed (W.count work.now)) }
-    ensures failures { MatchResult result (λ r. failures_in r.end ≡ all_fails (view_of worker.pass)) (λ e. failures_of e ≡ all_fails (view_of worker.pass)) }
+    ensures failures { MatchResult result
+        (λ r. failures_in r.end ≡ all_fails (view_of worker.pass))
+        (λ e. failures_of e ≡ all_fails (view_of worker.pass)) }
 {
     let Worker { pass, outputs } = worker;
     let end = board.close(pass);
@@ -119,8 +123,11 @@ pub fn run_wave<R: Threads + Sync, W: Work + Sync, H: Host + Send>(
     ensures outs { IfOk result (λ r. AreOutputs (W.right work.now) (W.count work.now) r.outs) }
     ensures won { IfOk result (λ r. IsWonWave (W.count work.now) r.end) }
     ensures failed { IfErr result (HasFailed (W.count work.now)) }
-    ensures failures { MatchResult result (λ r. sum_by H.faults hosts.old + failures_in r.end ≤ sum_by H.faults hosts.new) (λ e. sum_by H.faults hosts.old + failures_of e ≤ sum_by H.faults hosts.new) }
-    ensures complete { sum_by H.faults hosts.new < sum_by H.faults hosts.old + failure_limit → IfErr result (λ e. e ≡ OutOfMemory) }
+    ensures failures { MatchResult result
+        (λ r. sum_by H.faults hosts.old + failures_in r.end ≤ sum_by H.faults hosts.new)
+        (λ e. sum_by H.faults hosts.old + failures_of e ≤ sum_by H.faults hosts.new) }
+    ensures complete { sum_by H.faults hosts.new < sum_by H.faults hosts.old + failure_limit
+        → IfErr result (λ e. e ≡ OutOfMemory) }
     ensures inputs { map H.inputs hosts.new ≡ map H.inputs hosts.old }
     ensures later { sum_by H.faults hosts.old ≤ sum_by H.faults hosts.new }
 {

@@ -30,9 +30,12 @@ fn try_task<W: Work, H: Host>(
     requires suits { W.suits work.now (H.inputs host.old) }
     requires won { HasWon (W.right work.now) (view_of pass.old) outputs.old }
     ensures board { OnBoard board.now pass.new }
-    ensures works { OnOk result (Works (view_of pass.old) (view_of pass.new) (H.faults host.old) (H.faults host.new)) }
+    ensures works { OnOk result
+        (Works (view_of pass.old) (view_of pass.new) (H.faults host.old) (H.faults host.new)) }
     ensures won { OnOk result (HasWon (W.right work.now) (view_of pass.new) outputs.new) }
-    ensures tried { IfOk result (λ b. MatchBool b (knows_winner t (view_of pass.new) ≡ true) (saw_limit (view_of pass.new) ≡ true)) }
+    ensures tried { IfOk result (λ b. MatchBool b
+        (knows_winner t (view_of pass.new) ≡ true)
+        (saw_limit (view_of pass.new) ≡ true)) }
     ensures room { OnOk result ((view_of pass.old).room ≤ (view_of pass.new).room + 8) }
     ensures inputs { H.inputs host.new ≡ H.inputs host.old }
     ensures later { H.faults host.old ≤ H.faults host.new }
@@ -61,10 +64,14 @@ fn try_drawn<W: Work, H: Host>(
     requires suits { W.suits work.now (H.inputs host.old) }
     requires won { HasWon (W.right work.now) (view_of pass.old) outputs.old }
     ensures board { OnBoard board.now pass.new }
-    ensures works { OnOk result (Works (view_of pass.old) (view_of pass.new) (H.faults host.old) (H.faults host.new)) }
+    ensures works { OnOk result
+        (Works (view_of pass.old) (view_of pass.new) (H.faults host.old) (H.faults host.new)) }
     ensures won { OnOk result (HasWon (W.right work.now) (view_of pass.new) outputs.new) }
-    ensures drawn { IfOk result (λ b. MatchBool b (tasks_of board.now ≤ (view_of pass.new).known) (saw_limit (view_of pass.new) ≡ true)) }
-    ensures room { OnOk result ((view_of pass.old).room ≤ (view_of pass.new).room + 9 * tasks_of board.now + 1) }
+    ensures drawn { IfOk result (λ b. MatchBool b
+        (tasks_of board.now ≤ (view_of pass.new).known)
+        (saw_limit (view_of pass.new) ≡ true)) }
+    ensures room { OnOk result
+        ((view_of pass.old).room ≤ (view_of pass.new).room + 9 * tasks_of board.now + 1) }
     ensures inputs { H.inputs host.new ≡ H.inputs host.old }
     ensures later { H.faults host.old ≤ H.faults host.new }
 {
@@ -93,9 +100,12 @@ fn try_rest<W: Work, H: Host>(
     requires suits { W.suits work.now (H.inputs host.old) }
     requires won { HasWon (W.right work.now) (view_of pass.old) outputs.old }
     ensures board { OnBoard board.now pass.new }
-    ensures works { OnOk result (Works (view_of pass.old) (view_of pass.new) (H.faults host.old) (H.faults host.new)) }
+    ensures works { OnOk result
+        (Works (view_of pass.old) (view_of pass.new) (H.faults host.old) (H.faults host.new)) }
     ensures won { OnOk result (HasWon (W.right work.now) (view_of pass.new) outputs.new) }
-    ensures all { IfOk result (λ b. MatchBool b (KnowsAll (tasks_of board.now) (view_of pass.new)) (saw_limit (view_of pass.new) ≡ true)) }
+    ensures all { IfOk result (λ b. MatchBool b
+        (KnowsAll (tasks_of board.now) (view_of pass.new))
+        (saw_limit (view_of pass.new) ≡ true)) }
     ensures inputs { H.inputs host.new ≡ H.inputs host.old }
     ensures later { H.faults host.old ≤ H.faults host.new }
 {
@@ -130,7 +140,8 @@ pub fn run_worker<W: Work, H: Host>(
     requires room { worker_room ≤ (view_of pass).room }
     requires suits { W.suits work.now (H.inputs host.old) }
     ensures board { IfOk result (λ r. OnBoard board.now r.pass) }
-    ensures works { IfOk result (λ r. Works (view_of pass) (view_of r.pass) (H.faults host.old) (H.faults host.new)) }
+    ensures works { IfOk result
+        (λ r. Works (view_of pass) (view_of r.pass) (H.faults host.old) (H.faults host.new)) }
     ensures won { IfOk result (λ r. HasWon (W.right work.now) (view_of r.pass) r.outputs) }
     ensures done { IfOk result (λ r. IsDone (tasks_of board.now) (view_of r.pass)) }
     ensures inputs { H.inputs host.new ≡ H.inputs host.old }

@@ -1,10 +1,9 @@
-use Rattle.std.proofs.Common.{◌≡◌, ◌<◌, ◌≤◌, ◌*◌, ◌+◌, ◌-◌, ◌^◌, length, map, rules, sym, subst, arith}
+use Rattle.std.proofs.Common.{◌≡◌, ◌<◌, ◌+◌, ◌-◌, length, rules, sym, subst, arith}
 use Rattle.std.specs.Prelude.{All}
-use Rattle.std.specs.List.{sum_by}
 use Rattle.std.proofs.lemmas.List.Elements.{All-take, All-drop}
 use Rattle.pig_board.specs.View.{kept_half, other_half}
-use Rattle.pig_board.specs.Pass.{view_of, OnBoard}
-use Rattle.pig_pool.specs.Workers.{Works, HasWon, IsDone}
+use Rattle.pig_board.specs.Pass.{view_of}
+use Rattle.pig_pool.specs.Workers.{HasWon, IsDone}
 use Rattle.pig_pool.specs.Crew.{IsReady}
 use Rattle.pig_pool.proofs.Crews.{halves_fit, ready-kept, ready-given, later_halves, same_halves, works_halves, won-both, done-both, ok_weaker, ok_both}
 use Rattle.pig_pool.proofs.crew.+halves.Goals as goal

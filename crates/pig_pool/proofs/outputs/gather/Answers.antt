@@ -1,4 +1,4 @@
-use Rattle.std.proofs.Common.{◌≡◌, ◌<◌, ℕ, Option, Some, None, set, rules, refl, sym, ◌∙◌, ap, arith}
+use Rattle.std.proofs.Common.{◌≡◌, ◌<◌, Option, Some, None, set, sym, ◌∙◌, ap, arith}
 use Rattle.pig_pool.proofs.Placing.{taken-there, taken-at, taken-goes}
 use Rattle.pig_pool.proofs.outputs.gather.Goals as goal
 

@@ -1,4 +1,4 @@
-use Rattle.std.proofs.Common.{◌≡◌, ◌∷◌, ℕ, List, Some, rules, refl, arith}
+use Rattle.std.proofs.Common.{◌≡◌, ◌∷◌, rules, refl, arith}
 use Rattle.pig_pool.proofs.Placing.{placing-starts, placing-below, placing-goes}
 use Rattle.pig_pool.proofs.outputs.place.Goals as goal
 

@@ -1,8 +1,6 @@
-use Rattle.std.proofs.Common.{◌≡◌, ◌<◌, ◌≤◌, ◌+◌, ◌-◌, true, rules, ◌∙◌, arith}
-use Rattle.pig_board.specs.View.{has_open, has_open_of}
+use Rattle.std.proofs.Common.{◌<◌, rules, ◌∙◌, arith}
 use Rattle.pig_board.specs.Pass.{view_of}
-use Rattle.pig_pool.specs.Workers.{Works}
-use Rattle.pig_pool.proofs.Steps.{works-trans, IsCalm, calm-trans, calm-works, calm-closed, calm-failures, calm-tried, room-tried, works-failed, works-offer, won-calm, won-offer, known-offer, open-begin, open_of-begin, own-failed, wins-failed}
+use Rattle.pig_pool.proofs.Steps.{works-trans, calm-trans, calm-works, calm-closed, calm-failures, calm-tried, room-tried, works-failed, works-offer, won-calm, won-offer, known-offer, open-begin, open_of-begin, own-failed, wins-failed}
 use Rattle.pig_pool.proofs.tries.try_once.Goals as goal
 
 pub returns-in-Some-clause-won : goal.returns-in-Some-clause-won

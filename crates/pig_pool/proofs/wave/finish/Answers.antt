@@ -1,4 +1,4 @@
-use Rattle.std.proofs.Common.{◌≡◌, ◌<◌, ℕ, true, length, rules, sym, ◌∙◌, subst, arith}
+use Rattle.std.proofs.Common.{◌<◌, ℕ, rules, ◌∙◌, subst}
 use Rattle.pig_job.specs.Job.{failure_limit}
 use Rattle.pig_board.specs.Pass.{view_of}
 use Rattle.pig_board.specs.End.{end_of}

@@ -1,10 +1,9 @@
-use Rattle.std.proofs.Common.{◌≡◌, ◌<◌, ◌≤◌, ◌+◌, ◌*◌, ◌-◌, ℕ, true, Some, None, rules, refl, sym, ◌∙◌, ap, subst, arith}
-use Rattle.std.specs.Prelude.{min}
+use Rattle.std.proofs.Common.{◌<◌, ◌≤◌, ◌+◌, Some, rules, refl, sym, ◌∙◌, ap, subst, arith}
 use Rattle.pig_board.specs.declared.view.View.{View}
 use Rattle.pig_board.specs.View.{IsDraw}
 use Rattle.pig_board.specs.Pass.{tasks_of, view_of}
 use Rattle.pig_pool.specs.Workers.{Works}
-use Rattle.pig_pool.proofs.Steps.{works-refl, works-trans, calm-works, calm-drawn, drawn-some, drawn-none, won-drawn}
+use Rattle.pig_pool.proofs.Steps.{works-refl, works-trans, calm-works, calm-drawn, drawn-some, won-drawn}
 use Rattle.pig_pool.proofs.worker.try_drawn.Goals as goal
 
 pub loop-t-init : goal.loop-t-init

@@ -1,7 +1,7 @@
-use Rattle.std.proofs.Common.{◌≡◌, ◌<◌, ◌≤◌, ◌+◌, ◌*◌, ◌-◌, ℕ, true, rules, refl, sym, ◌∙◌, subst, arith}
+use Rattle.std.proofs.Common.{◌≡◌, ◌<◌, ◌≤◌, ◌+◌, true, rules, refl, sym, ◌∙◌, subst, arith}
 use Rattle.pig_board.specs.View.{knows_winner}
 use Rattle.pig_board.specs.Pass.{tasks_of, view_of}
-use Rattle.pig_pool.specs.Workers.{Works, KnowsAll}
+use Rattle.pig_pool.specs.Workers.{Works}
 use Rattle.pig_pool.proofs.Steps.{works-refl, works-trans, knows-more}
 use Rattle.pig_pool.proofs.worker.try_rest.Goals as goal
 

@@ -1,4 +1,4 @@
-use Rattle.std.proofs.Common.{◌≡◌, ◌<◌, ◌≤◌, ◌+◌, ◌*◌, ◌-◌, ℕ, true, rules, refl, sym, ◌∙◌, subst, arith}
+use Rattle.std.proofs.Common.{◌≡◌, ◌<◌, ◌≤◌, ◌+◌, rules, refl, sym, ◌∙◌, subst, arith}
 use Rattle.pig_board.specs.View.{fails_of}
 use Rattle.pig_board.specs.Pass.{view_of}
 use Rattle.pig_pool.specs.Workers.{Works}
