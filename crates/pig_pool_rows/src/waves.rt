@@ -140,7 +140,7 @@ fn may_be(ended: &Result<WaveEnd<u64>, WaveFault>) -> bool {
 #[test]
 fn one_always_fails(rt: HostRuntime) -> Result<(), Fail> {
     let alloc = rt.alloc();
-    let fails: Vec<u64> = (1..=80u64).collect_in(alloc)?;
+    let fails: Vec<u64> = (1..=80u64).collect(alloc)?;
     let mut hosts = hosts(alloc, 2, &fails)?;
     let work = Doubles {
         tasks: 20,
