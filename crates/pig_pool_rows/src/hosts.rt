@@ -74,7 +74,7 @@ impl Host for Meeting {
 }
 
 /// Two hosts that meet: at its first `begin` each waits for the other, for so many looks.
-pub fn meeting(alloc: Global, turns: u32) -> Result<[Meeting; 2], AllocError> {
+pub fn make_meeting(alloc: Global, turns: u32) -> Result<[Meeting; 2], AllocError> {
     let one = Arc::new(alloc, AtomicBool::new(false))?;
     let two = Arc::new(alloc, AtomicBool::new(false))?;
     let first = Meeting {

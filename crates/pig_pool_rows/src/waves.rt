@@ -1,5 +1,5 @@
 // Waves on one host, on many, and on hosts that meet.
-use crate::hosts::{hosts, meeting};
+use crate::hosts::{hosts, make_meeting};
 use crate::work::{Doubles, wave};
 use pig_board::JobEnd;
 use pig_pool::{WaveEnd, WaveFault};
@@ -154,7 +154,7 @@ fn one_always_fails(rt: HostRuntime) -> Result<(), Fail> {
 #[test]
 fn two_hosts_meet(rt: HostRuntime) -> Result<(), Fail> {
     let alloc = rt.alloc();
-    let mut hosts = meeting(alloc, 200_000_000)?;
+    let mut hosts = make_meeting(alloc, 200_000_000)?;
     let work = Doubles {
         tasks: 1,
         wants: NONE,
