@@ -1,0 +1,5 @@
+mod Samples
+pub mod Chains
+pub mod References
+pub mod Told
+pub mod Found

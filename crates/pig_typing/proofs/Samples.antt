@@ -10,7 +10,7 @@ use Rattle.pig_schema.specs.FieldTrees.{FieldTree, a_field, no_inner, more_inner
 use Rattle.pig_syntax.specs.ExprTrees.{ExprForm, e_int, e_long, e_float, e_text, e_bool, e_null, e_field, e_chain, e_compare, e_is_null, e_not, e_minus, e_post, e_call, e_choose, no_links, more_links, no_exprs, more_exprs}
 use Rattle.pig_syntax.specs.declared.trees.FieldRef.TheVariants as ref
 use Rattle.pig_syntax.specs.declared.trees.PostStep.TheVariants as step
-use Rattle.pig_typed.specs.Typed.{Typed, TypedLinks, TypedArgs, x_null, x_bool, x_int, x_long, x_chars, x_field, x_local, x_chain, x_compare, x_is_null, x_not, x_minus, x_choose, x_cast, x_project, x_look, x_call, no_links, more_links, no_args, more_args} as x
+use Rattle.pig_typed.specs.Typed.{Typed, TypedLinks, TypedArgs, x_null, x_bool, x_int, x_long, x_chars, x_field, x_local, x_chain, x_compare, x_is_null, x_not, x_minus, x_choose, x_cast, x_project, x_look, x_call, links_of, args_of}
 use Rattle.pig_typing.specs.declared.faults.CheckKind.TheVariants as kind
 use Rattle.pig_typing.specs.Columns.{Place}
 use Rattle.pig_typing.specs.Parts.{typing}

@@ -7,7 +7,7 @@ use Rattle.std.specs.Str.{bytes_eq}
 use Rattle.std.specs.declared.result.Result.{Result}
 use Rattle.std.specs.declared.result.Result.TheVariants.{Ok, Err}
 use Rattle.pig_value.specs.Trees.{KindTree, KindTrees, k_tuple, k_bag, k_map, no_kinds, more_kinds}
-use Rattle.pig_schema.specs.FieldTrees.{FieldTree, FieldTrees, a_field, no_inner, more_inner, tree_name, tree_kind, tree_inner, field_tree, schema_tree}
+use Rattle.pig_schema.specs.FieldTrees.{FieldTree, a_field, inner_of, tree_name, tree_kind, tree_inner, field_tree, schema_tree}
 use Rattle.pig_schema.specs.Names.{IsMeant, IsUnknown, IsAmbiguous, meaning}
 use Rattle.pig_schema.specs.declared.naming.NameFault.{NameFault}
 use Rattle.pig_schema.specs.declared.naming.NameFault.TheVariants as fault
@@ -21,18 +21,18 @@ use Rattle.pig_typing.specs.Results.{Checked, due, ◌>>=◌}
 
 -- a column of this kind, with no name of its own nor inside
 abbrev mutual
-  pub inner_unnamed : KindTree → FieldTrees
+  pub inner_unnamed : KindTree → List FieldTree
   inner_unnamed (k_tuple ks) = each_unnamed ks
   inner_unnamed (k_bag ks) = each_unnamed ks
   inner_unnamed (k_map k) = inner_unnamed k
-  inner_unnamed k = no_inner
+  inner_unnamed k = []
 
-  pub each_unnamed : KindTrees → FieldTrees
-  each_unnamed no_kinds = no_inner
-  each_unnamed (more_kinds k ks) = more_inner (a_field None k (inner_unnamed k)) (each_unnamed ks)
+  pub each_unnamed : KindTrees → List FieldTree
+  each_unnamed no_kinds = []
+  each_unnamed (more_kinds k ks) = a_field None k (inner_of (inner_unnamed k)) ∷ each_unnamed ks
 
 abbrev pub unnamed : KindTree → FieldTree
-unnamed k = a_field None k (inner_unnamed k)
+unnamed k = a_field None k (inner_of (inner_unnamed k))
 
 -- the same column without its name
 abbrev pub nameless : FieldTree → FieldTree

@@ -3,7 +3,7 @@
 use Rattle.std.specs.Prelude.{◌≡◌, ℕ, Bool, true, false, List, [], ◌∷◌, map, Option, Some, None}
 use Rattle.std.specs.declared.result.Result.TheVariants.{Ok, Err}
 use Rattle.pig_value.specs.Trees.{KindTree, k_tuple, k_bag, k_map}
-use Rattle.pig_schema.specs.FieldTrees.{FieldTree, a_field, inner_of, inner_list, tree_name, tree_kind, tree_inner}
+use Rattle.pig_schema.specs.FieldTrees.{FieldTree, a_field, inner_list, tree_name, tree_kind, tree_inner}
 use Rattle.pig_syntax.specs.declared.trees.FieldRef.{FieldRef}
 use Rattle.pig_syntax.specs.declared.trees.PostStep.{PostStep}
 use Rattle.pig_syntax.specs.declared.trees.PostStep.TheVariants as step
@@ -13,7 +13,7 @@ use Rattle.pig_typing.specs.declared.faults.CheckKind.TheVariants as kind
 use Rattle.pig_typing.specs.Columns.{Means, MeansNone, refer}
 use Rattle.pig_typing.specs.Limits.{limited}
 use Rattle.pig_typing.specs.Results.{Checked, due, ◌>>=◌}
-use Rattle.pig_typing.specs.Written.{kinds_in, of_fields}
+use Rattle.pig_typing.specs.Written.{of_fields}
 
 -- what an expression is typed as: a typed expression, and the column that it gives
 pub data Typing : Type 0 where
@@ -57,13 +57,16 @@ fields_in (a_field name (k_tuple ks) inner) = Some (inner_list inner)
 fields_in (a_field name (k_bag ks) inner) = Some (inner_list inner)
 fields_in c = None
 
+abbrev pub renamed : Option (List ℕ) → FieldTree → FieldTree
+renamed name c = a_field name (tree_kind c) (tree_inner c)
+
 -- One field of a tuple is this column, and of a bag a bag of it that keeps its name. Several give a tuple, or a bag, without a name.
 -- No field, and several that stand without parentheses, are of no grammar.
 abbrev pub projected : Bool → FieldTree → List FieldTree → Option FieldTree
 projected true (a_field name (k_tuple ks) inner) (c ∷ []) = Some c
-projected true (a_field name (k_bag ks) inner) (c ∷ []) = Some (a_field (tree_name c) (k_bag (kinds_in (inner_of (c ∷ [])))) (inner_of (c ∷ [])))
-projected false (a_field name (k_tuple ks) inner) (c ∷ cs) = Some (of_fields k_tuple (inner_of (c ∷ cs)))
-projected false (a_field name (k_bag ks) inner) (c ∷ cs) = Some (of_fields k_bag (inner_of (c ∷ cs)))
+projected true (a_field name (k_bag ks) inner) (c ∷ []) = Some (renamed (tree_name c) (of_fields k_bag (c ∷ [])))
+projected false (a_field name (k_tuple ks) inner) (c ∷ cs) = Some (of_fields k_tuple (c ∷ cs))
+projected false (a_field name (k_bag ks) inner) (c ∷ cs) = Some (of_fields k_bag (c ∷ cs))
 projected single of columns = None
 
 -- the values of a map

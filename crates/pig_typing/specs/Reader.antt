@@ -24,7 +24,7 @@ use Rattle.pig_typing.specs.Limits.{limited}
 use Rattle.pig_typing.specs.Parts.{Typing, typing, typed_of, column_of, kind_in, steps_of}
 use Rattle.pig_typing.specs.Results.{Checked, due, ◌>>=◌}
 use Rattle.pig_typing.specs.Typing.{Sofar, begun, after, chain_typing, called, call_kind, cast_args, count}
-use Rattle.pig_typing.specs.Written.{scalar, written}
+use Rattle.pig_typing.specs.Written.{written}
 
 -- ---- names
 
@@ -53,7 +53,7 @@ name_of s (ref.Position n) = field_of s.columns (ref.Position n)
 unfoldable pub compare_of : Rel → Typing → Typing → Checked Typing
 compare_of r p q = do
   j ← due kind.TypeMismatch (compared r (kind_in p) (kind_in q))
-  Ok (typing (x_compare r (cast_if j.left j.kind (typed_of p)) (cast_if j.right j.kind (typed_of q))) (scalar k_boolean))
+  Ok (typing (x_compare r (cast_if j.left j.kind (typed_of p)) (cast_if j.right j.kind (typed_of q))) (unnamed k_boolean))
 
 -- an operand as a condition
 unfoldable pub condition_of : Typing → Checked Typed
@@ -64,7 +64,7 @@ condition_of p = do
 unfoldable pub minus_of : Typing → Checked Typing
 minus_of p = do
   k ← due kind.TypeMismatch (minus_kind (kind_in p))
-  Ok (typing (x_minus (typed_of p)) (scalar k))
+  Ok (typing (x_minus (typed_of p)) (unnamed k))
 
 unfoldable pub choose_of : Typed → Typing → Typing → Checked Typing
 choose_of t p q = do
@@ -103,12 +103,12 @@ call_of f ps = do
 
 unfoldable mutual
   pub type_of : Place → ExprForm → Checked Typing
-  type_of s (e_int z) = Ok (typing (x_int z) (scalar k_int))
-  type_of s (e_long z) = Ok (typing (x_long z) (scalar k_long))
+  type_of s (e_int z) = Ok (typing (x_int z) (unnamed k_int))
+  type_of s (e_long z) = Ok (typing (x_long z) (unnamed k_long))
   type_of s e_float = Err kind.FloatType
-  type_of s (e_text text) = Ok (typing (x_chars text) (scalar k_chars))
-  type_of s (e_bool b) = Ok (typing (x_bool b) (scalar k_boolean))
-  type_of s e_null = Ok (typing x_null (scalar k_bytes))
+  type_of s (e_text text) = Ok (typing (x_chars text) (unnamed k_chars))
+  type_of s (e_bool b) = Ok (typing (x_bool b) (unnamed k_boolean))
+  type_of s e_null = Ok (typing x_null (unnamed k_bytes))
   type_of s (e_field r) = name_of s r
   type_of s (e_chain a no_links) = type_of s a
   type_of s (e_chain a (more_links o b ls)) = do
@@ -121,11 +121,11 @@ unfoldable mutual
     compare_of r p q
   type_of s (e_is_null a negated) = do
     p ← type_of s a
-    Ok (typing (x_is_null (typed_of p) negated) (scalar k_boolean))
+    Ok (typing (x_is_null (typed_of p) negated) (unnamed k_boolean))
   type_of s (e_not a) = do
     p ← type_of s a
     t ← condition_of p
-    Ok (typing (x_not t) (scalar k_boolean))
+    Ok (typing (x_not t) (unnamed k_boolean))
   type_of s (e_minus a) = do
     p ← type_of s a
     minus_of p

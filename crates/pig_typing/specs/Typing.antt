@@ -22,7 +22,7 @@ use Rattle.pig_typing.specs.Columns.{Means, Place, latest, nameless, unnamed}
 use Rattle.pig_typing.specs.Joins.{Join, alike, cast_if, chained, compared, condition}
 use Rattle.pig_typing.specs.Limits.{limited}
 use Rattle.pig_typing.specs.Parts.{Typing, typing, typed_of, column_of, kind_in, Walks}
-use Rattle.pig_typing.specs.Written.{scalar, written}
+use Rattle.pig_typing.specs.Written.{written}
 
 -- ---- chains
 
@@ -69,11 +69,11 @@ count (more_exprs a others) = suc (count others)
 
 mutual
   pub data Types (s : Place) : ExprForm → Typing → Type 0 where
-    type_int : {z : ℤ} → Types s (e_int z) (typing (x_int z) (scalar k_int))
-    type_long : {z : ℤ} → Types s (e_long z) (typing (x_long z) (scalar k_long))
-    type_text : {text : List ℕ} → Types s (e_text text) (typing (x_chars text) (scalar k_chars))
-    type_bool : {b : Bool} → Types s (e_bool b) (typing (x_bool b) (scalar k_boolean))
-    type_null : Types s e_null (typing x_null (scalar k_bytes))
+    type_int : {z : ℤ} → Types s (e_int z) (typing (x_int z) (unnamed k_int))
+    type_long : {z : ℤ} → Types s (e_long z) (typing (x_long z) (unnamed k_long))
+    type_text : {text : List ℕ} → Types s (e_text text) (typing (x_chars text) (unnamed k_chars))
+    type_bool : {b : Bool} → Types s (e_bool b) (typing (x_bool b) (unnamed k_boolean))
+    type_null : Types s e_null (typing x_null (unnamed k_bytes))
     -- a nested alias hides a field of the same name, and has no name as an item
     type_local : {name : List ℕ} {found : ℕ × FieldTree} → latest name s.locals ≡ Some found → Types s (e_field (ref.Name name)) (typing (x_local found.0) (nameless found.1))
     type_named : {name : List ℕ} {n : ℕ} {c : FieldTree} → latest name s.locals ≡ None → Means s.columns (ref.Name name) n c → Types s (e_field (ref.Name name)) (typing (x_field n) c)
@@ -84,11 +84,11 @@ mutual
         → Types s a p → Links s (begun p) (more_links o b ls) whole → Types s (e_chain a (more_links o b ls)) (chain_typing whole)
     type_compare : {r : Rel} {a b : ExprForm} {p q : Typing} {j : Join}
         → Types s a p → Types s b q → compared r (kind_in p) (kind_in q) ≡ Some j
-        → Types s (e_compare r a b) (typing (x_compare r (cast_if j.left j.kind (typed_of p)) (cast_if j.right j.kind (typed_of q))) (scalar k_boolean))
-    type_is_null : {a : ExprForm} {negated : Bool} {p : Typing} → Types s a p → Types s (e_is_null a negated) (typing (x_is_null (typed_of p) negated) (scalar k_boolean))
+        → Types s (e_compare r a b) (typing (x_compare r (cast_if j.left j.kind (typed_of p)) (cast_if j.right j.kind (typed_of q))) (unnamed k_boolean))
+    type_is_null : {a : ExprForm} {negated : Bool} {p : Typing} → Types s a p → Types s (e_is_null a negated) (typing (x_is_null (typed_of p) negated) (unnamed k_boolean))
     type_not : {a : ExprForm} {p : Typing} {is_cast : Bool}
-        → Types s a p → condition (kind_in p) ≡ Some is_cast → Types s (e_not a) (typing (x_not (cast_if is_cast k_boolean (typed_of p))) (scalar k_boolean))
-    type_minus : {a : ExprForm} {p : Typing} {k : KindTree} → Types s a p → minus_kind (kind_in p) ≡ Some k → Types s (e_minus a) (typing (x_minus (typed_of p)) (scalar k))
+        → Types s a p → condition (kind_in p) ≡ Some is_cast → Types s (e_not a) (typing (x_not (cast_if is_cast k_boolean (typed_of p))) (unnamed k_boolean))
+    type_minus : {a : ExprForm} {p : Typing} {k : KindTree} → Types s a p → minus_kind (kind_in p) ≡ Some k → Types s (e_minus a) (typing (x_minus (typed_of p)) (unnamed k))
     type_cast : {to : TypeTree} {a : ExprForm} {p : Typing} {d : FieldTree} {k : KindTree}
         → written (type_form to) ≡ Some d → limited (tree_kind d) ≡ Ok k → Types s a p → may_cast (kind_in p) (tree_kind d) ≡ true
         → Types s (e_cast to a) (typing (x_cast (tree_kind d) (typed_of p)) d)

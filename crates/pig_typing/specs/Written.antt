@@ -1,21 +1,16 @@
 -- What a written type is: its kind, with the names of the fields inside it.
 -- (Pig Latin Basics: "Data Types and More", "Schemas". That floating numbers and dates are left out is a choice of this profile.)
-use Rattle.std.specs.Prelude.{ℕ, List, [], ◌∷◌, Option, Some, None}
+use Rattle.std.specs.Prelude.{ℕ, List, [], ◌∷◌, map, Option, Some, None}
 use Rattle.std.specs.Option.{option_and_then, option_map}
-use Rattle.pig_value.specs.Trees.{KindTree, KindTrees, k_boolean, k_int, k_long, k_chars, k_bytes, k_tuple, k_bag, k_map, no_kinds, more_kinds}
-use Rattle.pig_schema.specs.FieldTrees.{FieldTree, FieldTrees, a_field, no_inner, more_inner, tree_kind, tree_inner}
+use Rattle.pig_value.specs.Trees.{KindTree, KindTrees, k_boolean, k_int, k_long, k_chars, k_bytes, k_tuple, k_bag, k_map, kinds_of}
+use Rattle.pig_schema.specs.FieldTrees.{FieldTree, a_field, no_inner, inner_of, tree_kind, tree_inner}
 use Rattle.pig_syntax.specs.ExprTrees.{TypeForm, FieldForms, t_int, t_long, t_chars, t_bytes, t_boolean, t_float, t_tuple, t_bag, t_map, t_map_bare, no_fields, typed_field, bare_field}
-
--- the kinds of columns
-abbrev pub kinds_in : FieldTrees → KindTrees
-kinds_in no_inner = no_kinds
-kinds_in (more_inner c cs) = more_kinds (tree_kind c) (kinds_in cs)
 
 abbrev pub scalar : KindTree → FieldTree
 scalar k = a_field None k no_inner
 
-abbrev pub of_fields : (KindTrees → KindTree) → FieldTrees → FieldTree
-of_fields make inner = a_field None (make (kinds_in inner)) inner
+abbrev pub of_fields : (KindTrees → KindTree) → List FieldTree → FieldTree
+of_fields make inner = a_field None (make (kinds_of (map tree_kind inner))) (inner_of inner)
 
 abbrev pub of_values : FieldTree → FieldTree
 of_values c = a_field None (k_map (tree_kind c)) (tree_inner c)
@@ -38,8 +33,8 @@ abbrev mutual
   written (t_map values) = option_map of_values (written values)
   written t_map_bare = Some (of_values (scalar k_bytes))
 
-  pub written_fields : FieldForms → Option FieldTrees
-  written_fields no_fields = Some no_inner
+  pub written_fields : FieldForms → Option (List FieldTree)
+  written_fields no_fields = Some []
   written_fields (typed_field name type fields) =
-      option_and_then (λ c. option_map (more_inner (with_name name c)) (written_fields fields)) (written type)
-  written_fields (bare_field name fields) = option_map (more_inner (with_name name (scalar k_bytes))) (written_fields fields)
+      option_and_then (λ c. option_map (λ inner. with_name name c ∷ inner) (written_fields fields)) (written type)
+  written_fields (bare_field name fields) = option_map (λ inner. with_name name (scalar k_bytes) ∷ inner) (written_fields fields)

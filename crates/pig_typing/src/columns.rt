@@ -1,0 +1,144 @@
+ghost use Rattle.std.specs.Prelude.{◌≡◌, IfOk, map};
+ghost use Rattle.pig_value.specs.Trees.{kind_tree, kinds_of};
+ghost use Rattle.pig_schema.specs.FieldTrees.{field_tree, inner_list, schema_tree, tree_inner, tree_kind, tree_name};
+ghost use Rattle.pig_typing.specs.Columns.{each_unnamed, inner_unnamed, nameless, unnamed};
+ghost use Rattle.pig_typing.specs.Views.{column_tree, typing_tree};
+ghost use Rattle.pig_typed.specs.Typed.{typed};
+ghost use Rattle.pig_typing.specs.Parts.{typing};
+
+use pig_schema::{Field, Schema, copy_field, copy_schema};
+use pig_typed::TExpr;
+use pig_value::{Boxed, Kind, Seq, copy_kind};
+use std::alloc::{AllocError, Global};
+
+/// A column that stands in the scope, such a one without its name, or one that was made.
+#[derive(Drop)]
+pub enum Column<'a> {
+    Lent(&'a Field),
+    Nameless(&'a Field),
+    Made(Boxed<Field>),
+}
+
+/// An expression as it is typed, and the column that it gives.
+#[derive(Drop)]
+pub struct Typing<'a> {
+    pub expr: Boxed<TExpr>,
+    pub column: Column<'a>,
+}
+
+fn field<'b, 'a>(column: &'b Column<'a>) -> &'b Field
+    ensures kind { tree_kind (field_tree result.now) ≡ tree_kind (column_tree column.now) }
+    ensures inner { tree_inner (field_tree result.now) ≡ tree_inner (column_tree column.now) }
+{
+    match column {
+        Column::Lent(field) => *field,
+        Column::Nameless(field) => *field,
+        Column::Made(field) => field.get(),
+    }
+}
+
+/// The kind of a column.
+pub fn kind<'b, 'a>(column: &'b Column<'a>) -> &'b Kind
+    ensures { kind_tree result.now ≡ tree_kind (column_tree column.now) }
+{
+    &field(column).kind
+}
+
+/// The columns inside a column.
+pub fn inner<'b, 'a>(column: &'b Column<'a>) -> &'b Schema
+    ensures { schema_tree result.now ≡ inner_list (tree_inner (column_tree column.now)) }
+{
+    &field(column).inner
+}
+
+/// A column with memory of its own.
+pub fn owned(alloc: Global, column: Column) -> Result<Field, AllocError>
+    ensures { IfOk result (λ f. field_tree f ≡ column_tree column.entry) }
+{
+    match column {
+        Column::Lent(field) => copy_field(alloc, field),
+        Column::Nameless(field) => nameless(alloc, field),
+        Column::Made(field) => Ok(field.into_inner()),
+    }
+}
+
+/// A copy of a column with memory of its own.
+pub fn copied(alloc: Global, column: &Column) -> Result<Field, AllocError>
+    ensures { IfOk result (λ f. field_tree f ≡ column_tree column.now) }
+{
+    match column {
+        Column::Lent(field) => copy_field(alloc, *field),
+        Column::Nameless(field) => nameless(alloc, *field),
+        Column::Made(field) => copy_field(alloc, field.get()),
+    }
+}
+
+fn nameless(alloc: Global, field: &Field) -> Result<Field, AllocError>
+    ensures { IfOk result (λ f. field_tree f ≡ nameless (field_tree field.now)) }
+{
+    let kind = copy_kind(alloc, &field.kind)?;
+    let inner = copy_schema(alloc, &field.inner)?;
+    Ok(Field {
+        name: None,
+        kind,
+        inner,
+    })
+}
+
+/// A column of a kind, without a name of its own or inside.
+pub fn unnamed(alloc: Global, kind: Kind) -> Result<Field, AllocError>
+    ensures { IfOk result (λ f. field_tree f ≡ unnamed (kind_tree kind)) }
+{
+    let inner = inner_unnamed(alloc, &kind)?;
+    Ok(Field {
+        name: None,
+        kind,
+        inner,
+    })
+}
+
+#[cycle(unnamed)]
+fn inner_unnamed(alloc: Global, kind: &Kind) -> Result<Schema, AllocError>
+    ensures { IfOk result (λ s. schema_tree s ≡ inner_unnamed (kind_tree kind.now)) }
+{
+    match kind {
+        Kind::Tuple(kinds) => each_unnamed(alloc, kinds.as_slice()),
+        Kind::Bag(kinds) => each_unnamed(alloc, kinds.as_slice()),
+        Kind::Map(of) => inner_unnamed(alloc, of.get()),
+        _ => Ok(Seq::new(alloc)),
+    }
+}
+
+#[cycle(unnamed)]
+fn each_unnamed(alloc: Global, kinds: &[Kind]) -> Result<Schema, AllocError>
+    ensures { IfOk result (λ s. schema_tree s ≡ each_unnamed (kinds_of (map kind_tree kinds.now))) }
+{
+    let mut made = Vec::with_capacity(alloc, kinds.len())?;
+    for kind in kinds {
+        let inner = inner_unnamed(alloc, kind)?;
+        let kind = copy_kind(alloc, kind)?;
+        made.push(Field {
+            name: None,
+            kind,
+            inner,
+        })?;
+    }
+    Ok(Seq::from_vec(made))
+}
+
+/// An expression with a column that was made for it.
+pub fn made<'a>(alloc: Global, form: TExpr, column: Field) -> Result<Typing<'a>, AllocError>
+    ensures { IfOk result (λ p. typing_tree p ≡ typing (typed form) (field_tree column)) }
+{
+    let expr = Boxed::new(alloc, form)?;
+    let column = Column::Made(Boxed::new(alloc, column)?);
+    Ok(Typing { expr, column })
+}
+
+/// An expression of a kind without names.
+pub fn plain<'a>(alloc: Global, form: TExpr, kind: Kind) -> Result<Typing<'a>, AllocError>
+    ensures { IfOk result (λ p. typing_tree p ≡ typing (typed form) (unnamed (kind_tree kind))) }
+{
+    let column = unnamed(alloc, kind)?;
+    made(alloc, form, column)
+}
