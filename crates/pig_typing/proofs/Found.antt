@@ -18,7 +18,7 @@ use Rattle.pig_typing.specs.Limits.{limited}
 use Rattle.pig_typing.specs.Parts.{Typing, kind_in, steps_of}
 use Rattle.pig_typing.specs.Reader.{field_of, name_of, compare_of, condition_of, minus_of, choose_of, type_of_cast, cast_of, link_of, counted, function_of, call_of, type_of, links_on, args_on}
 use Rattle.pig_typing.specs.Results.{Checked, due, ◌>>=◌}
-use Rattle.pig_typing.specs.Typing.{Types, Links, Args, Sofar, begun, count, type_int, type_long, type_text, type_bool, type_null, type_local, type_named, type_numbered, type_alone, type_chain, type_compare, type_is_null, type_not, type_minus, type_cast, type_post, type_call, type_choose, links_end, links_go, args_end, args_go}
+use Rattle.pig_typing.specs.Typing.{Types, Links, Args, Sofar, begun, count, type_int, type_long, type_text, type_bool, type_null, type_local, type_named, type_numbered, type_chain, type_compare, type_is_null, type_not, type_minus, type_cast, type_post, type_call, type_choose, links_end, links_go, args_end, args_go}
 use Rattle.pig_typing.proofs.Chains.{then_told}
 use Rattle.pig_typing.proofs.References.{Fails, failed, fails_first, fails_next, not_both, refer_is, refer_fails, walk_is, walk_fails}
 
@@ -26,6 +26,7 @@ use Rattle.pig_typing.proofs.References.{Fails, failed, fails_first, fails_next,
 
 mutual
   unfolding type_of links_on args_on link_of name_of field_of compare_of condition_of minus_of choose_of type_of_cast cast_of counted function_of call_of
+
   pub found : {s : Place} {a : ExprForm} {p : Typing} → Types s a p → type_of s a ≡ Ok p
   found type_int = refl
   found type_long = refl
@@ -35,7 +36,6 @@ mutual
   found (type_local e) = rw (e) refl
   found (type_named e means) = rw (e, refer_is means) refl
   found (type_numbered means) = rw (refer_is means) refl
-  found (type_alone h) = found h
   found (type_chain h g) = rw (found h, links_found g) refl
   found (type_compare h g e) = rw (found h, found g, e) refl
   found (type_is_null h) = rw (found h) refl
@@ -61,12 +61,6 @@ unfolding links_on link_of
 links_fail (here h e) = rw (found h, e) failed
 links_fail (later h e g) = rw (found h, e) (links_fail g)
 
--- where links fail a chain does, whatever stands first
-chain_fails : (s : Place) (a : ExprForm) (ls : LinkForms) (p : Typing) → Types s a p → LinksWrong s (begun p) ls → Fails (type_of s (e_chain a ls))
-unfolding type_of
-chain_fails s a no_links p h g = elim g [ ]
-chain_fails s a (more_links o b ls) p h g = rw (found h) (fails_first _ (links_fail g))
-
 average_is_none : function_named average ≡ None
 unfolding function_named
 average_is_none = refl
@@ -87,7 +81,7 @@ wrong_fails (wrong_type e) = rw (e) failed
 wrong_fails (wrong_average e) = rw (e, average_is_none) failed
 wrong_fails (wrong_name e means) = rw (e, refer_fails means) failed
 wrong_fails (wrong_position means) = rw (refer_fails means) failed
-wrong_fails {s = s} (wrong_chain {a = a} {ls = ls} {p = p} h g) = chain_fails s a ls p h g
+wrong_fails (wrong_chain h g) = rw (found h) (fails_first _ (links_fail g))
 wrong_fails (wrong_compare h g e) = rw (found h, found g, e) failed
 wrong_fails (wrong_not h e) = rw (found h, e) failed
 wrong_fails (wrong_minus h e) = rw (found h, e) failed
@@ -113,20 +107,10 @@ unfolding args_on
 args_operand s in_arg h = fails_first _ h
 args_operand s (in_others {b = b} i) h = fails_next _ (type_of s b) (λ p. fails_first _ (args_operand s i h))
 
-chain_operand : (s : Place) (a b : ExprForm) (ls : LinkForms) → InLinks b ls → Fails (type_of s b) → Fails (type_of s (e_chain a ls))
-unfolding type_of
-chain_operand s a b no_links i h = elim i [ ]
-chain_operand s a b (more_links o c ls) i h = fails_next _ (type_of s a) (λ p. fails_first _ (links_operand s _ i h))
-
-chain_first : (s : Place) (a : ExprForm) (ls : LinkForms) → Fails (type_of s a) → Fails (type_of s (e_chain a ls))
-unfolding type_of
-chain_first s a no_links h = h
-chain_first s a (more_links o b ls) h = fails_first _ h
-
 operand_fails : (s : Place) {a b : ExprForm} → Operand b a → Fails (type_of s b) → Fails (type_of s a)
 unfolding type_of
-operand_fails s (of_first {a = a} {ls = ls}) h = chain_first s a ls h
-operand_fails s (of_link {a = a} {b = b} {ls = ls} i) h = chain_operand s a b ls i h
+operand_fails s of_first h = fails_first _ h
+operand_fails s (of_link {a = a} i) h = fails_next _ (type_of s a) (λ p. fails_first _ (links_operand s (begun p) i h))
 operand_fails s of_left h = fails_first _ h
 operand_fails s (of_right {a = a}) h = fails_next _ (type_of s a) (λ p. fails_first _ h)
 operand_fails s of_is_null h = fails_first _ h

@@ -5,12 +5,13 @@ use Rattle.std.specs.declared.result.Result.{Result}
 use Rattle.std.specs.declared.result.Result.TheVariants.{Ok, Err}
 use Rattle.std.proofs.lemmas.Option.{slice_get_cases, slice_get_past}
 use Rattle.std.proofs.lemmas.List.{length-map}
+use Rattle.pig_value.specs.Trees.{KindTree}
 use Rattle.pig_value.proofs.list_laws.Indexing.{some_at}
 use Rattle.pig_schema.specs.FieldTrees.{FieldTree, tree_name, tree_kind}
 use Rattle.pig_schema.specs.Names.{IsMeant, IsUnknown, IsAmbiguous, IsNameFault, meaning}
 use Rattle.pig_schema.specs.declared.naming.NameFault.{NameFault}
 use Rattle.pig_schema.specs.declared.naming.NameFault.TheVariants as fault
-use Rattle.pig_schema.proofs.Readings.{told, meant_is, unknown_is, ambiguous_is, meant_within} 
+use Rattle.pig_schema.proofs.Readings.{told, meant_is, unknown_is, ambiguous_is, meant_within}
 use Rattle.pig_syntax.specs.declared.trees.FieldRef.{FieldRef}
 use Rattle.pig_syntax.specs.declared.trees.FieldRef.TheVariants as ref
 use Rattle.pig_syntax.specs.declared.trees.PostStep.{PostStep}
@@ -19,7 +20,7 @@ use Rattle.pig_typing.specs.declared.faults.CheckKind.{CheckKind}
 use Rattle.pig_typing.specs.declared.faults.CheckKind.TheVariants as kind
 use Rattle.pig_typing.specs.Columns.{Means, MeansNone, by_name, by_position, unknown, ambiguous, outside, name_place, column_at, refer}
 use Rattle.pig_typing.specs.Limits.{limited}
-use Rattle.pig_typing.specs.Parts.{Typing, Picks, Selects, SelectsNot, none_selected, one_selected, here, later, fields_in, projected, value_in, picked, column_of, Steps, StepsNot, projects, looks, of_no_fields, of_no_field, of_no_grammar, past_limits, of_no_map, Walks, WalksNot, ends, goes, stops, goes_on, select, projection, step_of, steps_of}
+use Rattle.pig_typing.specs.Parts.{Typing, Picks, Selects, SelectsNot, none_selected, one_selected, here, later, fields_in, projected, value_in, picked, column_of, kind_in, Steps, StepsNot, projects, looks, of_no_fields, of_no_field, of_no_grammar, past_limits, of_no_map, Walks, WalksNot, ends, goes, stops, goes_on, select, chosen_of, given_of, step_of, steps_of}
 use Rattle.pig_typing.specs.Results.{Checked, due, ◌>>=◌}
 use Rattle.pig_typing.proofs.Chains.{then_told, passes, then_is, due_is}
 
@@ -41,6 +42,7 @@ referred columns (ref.Name name) = by (meaning (map tree_name columns) name) (to
         let within : n < length columns = subst (λ m. n < m) l w in
         let k = (some_at columns n within).1 in
         let both : Some _ ≡ None = sym k ∙ e in absurd (cc)
+
     by : (m : Result ℕ NameFault) → IfOk m (IsMeant (map tree_name columns) name) × IfErr m (IsNameFault (map tree_name columns) name)
         → IsReferred columns (ref.Name name) (name_place m >>= column_at columns)
     by (Ok n) h = there n h.0 (slice_get columns n) refl
@@ -111,25 +113,44 @@ abbrev pub IsStep : Typing → PostStep → Checked Typing → Type 0
 IsStep p s (Ok q) = Steps p s q
 IsStep p s (Err f) = StepsNot p s f
 
-pub stepped : (p : Typing) (s : PostStep) → IsStep p s (step_of p s)
-unfolding step_of projection
-stepped p (step.Project refs single) =
-    due_is (IsStep p (step.Project refs single)) _ kind.TypeMismatch (fields_in (column_of p))
-    (λ columns e. then_told (IsSelected columns refs) (IsStep p (step.Project refs single)) _ (select columns refs) (selected columns refs)
-        (λ ps g. due_is (IsStep p (step.Project refs single)) _ kind.TypeMismatch (projected single (column_of p) (picked ps))
-            (λ d made. then_is (IsStep p (step.Project refs single)) _ (limited (tree_kind d)) (λ k within. projects e g made within) (λ f past. past_limits e g made past))
-            (λ made. of_no_grammar e g made))
-        (λ f g. of_no_field e g))
+abbrev IsChosen : Typing → List FieldRef → Bool → Checked Picks → Type 0
+IsChosen p refs single (Ok picks) = (columns : List FieldTree) × (fields_in (column_of p) ≡ Some columns) × Selects columns refs picks
+IsChosen p refs single (Err f) = StepsNot p (step.Project refs single) f
+
+chosen : (p : Typing) (refs : List FieldRef) (single : Bool) → IsChosen p refs single (chosen_of (column_of p) refs)
+unfolding chosen_of
+chosen p refs single =
+    due_is (IsChosen p refs single) _ kind.TypeMismatch (fields_in (column_of p))
+    (λ columns e. passes (IsSelected columns refs) (IsChosen p refs single) (select columns refs) (selected columns refs) (λ picks g. (columns, e, g)) (λ f g. of_no_field e g))
     (λ e. of_no_fields e)
+
+abbrev IsGiven : Typing → List FieldRef → Bool → Picks → Checked FieldTree → Type 0
+IsGiven p refs single picks (Ok d) = (projected single (kind_in p) (picked picks) ≡ Some d) × ((k : KindTree) × (limited (tree_kind d) ≡ Ok k))
+IsGiven p refs single picks (Err f) = StepsNot p (step.Project refs single) f
+
+given_is : (p : Typing) (refs : List FieldRef) (single : Bool) (picks : Picks) → IsChosen p refs single (Ok picks) → IsGiven p refs single picks (given_of single (kind_in p) picks)
+unfolding given_of
+given_is p refs single picks w =
+    due_is (IsGiven p refs single picks) _ kind.TypeMismatch (projected single (kind_in p) (picked picks))
+    (λ d made. then_is (IsGiven p refs single picks) _ (limited (tree_kind d)) (λ k within. (made, (k, within))) (λ f past. past_limits w.1 w.2 made past))
+    (λ made. of_no_grammar w.1 w.2 made)
+
+pub stepped : (p : Typing) (s : PostStep) → IsStep p s (step_of p s)
+unfolding step_of
+stepped p (step.Project refs single) =
+    then_told (IsChosen p refs single) (IsStep p (step.Project refs single)) _ (chosen_of (column_of p) refs) (chosen p refs single)
+    (λ picks w. then_told (IsGiven p refs single picks) (IsStep p (step.Project refs single)) _ (given_of single (kind_in p) picks) (given_is p refs single picks w)
+    (λ d v. projects w.1 w.2 v.0 v.1.1) (λ f v. v))
+    (λ f w. w)
 stepped p (step.Look key) = due_is (IsStep p (step.Look key)) _ kind.TypeMismatch (value_in (column_of p)) (λ d e. looks e) (λ e. of_no_map e)
 
 pub step_is : {p q : Typing} {s : PostStep} → Steps p s q → step_of p s ≡ Ok q
-unfolding step_of projection
+unfolding step_of chosen_of given_of
 step_is (projects e g made within) = rw (e, select_is g, made, within) refl
 step_is (looks e) = rw (e) refl
 
 pub step_fails : {p : Typing} {s : PostStep} {f : CheckKind} → StepsNot p s f → Fails (step_of p s)
-unfolding step_of projection
+unfolding step_of chosen_of given_of
 step_fails (of_no_fields e) = rw (e) failed
 step_fails (of_no_field e g) = rw (e) (fails_first _ (select_fails g))
 step_fails (of_no_grammar e g made) = rw (e, select_is g, made) failed

@@ -30,7 +30,7 @@ use Rattle.pig_typing.specs.Limits.{limited}
 use Rattle.pig_typing.specs.Parts.{Typing, typing, typed_of, column_of, kind_in, steps_of}
 use Rattle.pig_typing.specs.Reader.{field_of, field_typing, local_or, name_of, compare_of, condition_of, minus_of, choose_of, type_of_cast, cast_of, link_of, counted, function_of, call_of, type_of, links_on, args_on}
 use Rattle.pig_typing.specs.Results.{Checked, due, ◌>>=◌}
-use Rattle.pig_typing.specs.Typing.{Types, Links, Args, Sofar, begun, after, chain_typing, call_kind, count, type_int, type_long, type_text, type_bool, type_null, type_local, type_named, type_numbered, type_alone, type_chain, type_compare, type_is_null, type_not, type_minus, type_cast, type_post, type_call, type_choose, links_end, links_go, args_end, args_go}
+use Rattle.pig_typing.specs.Typing.{Types, Links, Args, Sofar, begun, after, chain_typing, call_kind, count, type_int, type_long, type_text, type_bool, type_null, type_local, type_named, type_numbered, type_chain, type_compare, type_is_null, type_not, type_minus, type_cast, type_post, type_call, type_choose, links_end, links_go, args_end, args_go}
 use Rattle.pig_typing.specs.Written.{written}
 use Rattle.pig_typing.proofs.Chains.{then_told, passes, then_is, due_is, due_made}
 use Rattle.pig_typing.proofs.References.{IsReferred, referred, IsWalk, walked}
@@ -132,6 +132,7 @@ converted_told s to a d p w h = by (may_cast (kind_in p) (tree_kind d)) refl
 
 mutual
   unfolding type_of links_on args_on link_of compare_of condition_of minus_of choose_of
+
   pub told : (s : Place) (a : ExprForm) → IsTold s a (type_of s a)
   told s (e_int z) = type_int
   told s (e_long z) = type_long
@@ -140,18 +141,15 @@ mutual
   told s (e_bool b) = type_bool
   told s e_null = type_null
   told s (e_field r) = name_told s r
-  told s (e_chain a no_links) = passes (IsTold s a) (IsTold s (e_chain a no_links)) (type_of s a) (told s a) (λ p h. type_alone h) (λ f h. inside of_first h)
-  told s (e_chain a (more_links o b ls)) =
-      then_told (IsTold s a) (IsTold s (e_chain a (more_links o b ls))) _ (type_of s a) (told s a)
-      (λ p h. then_told (AreTold s (begun p) (more_links o b ls)) (IsTold s (e_chain a (more_links o b ls))) _ (links_on s (begun p) (more_links o b ls)) (links_told s (begun p) (more_links o b ls))
-          (λ whole g. type_chain h g)
-          (λ f g. chain_fault s a (more_links o b ls) p f h g))
+  told s (e_chain a ls) =
+      then_told (IsTold s a) (IsTold s (e_chain a ls)) _ (type_of s a) (told s a)
+      (λ p h. then_told (AreTold s (begun p) ls) (IsTold s (e_chain a ls)) _ (links_on s (begun p) ls) (links_told s (begun p) ls) (λ whole g. type_chain h g) (λ f g. chain_fault s a ls p f h g))
       (λ f h. inside of_first h)
   told s (e_compare r a b) =
       then_told (IsTold s a) (IsTold s (e_compare r a b)) _ (type_of s a) (told s a)
       (λ p h. then_told (IsTold s b) (IsTold s (e_compare r a b)) _ (type_of s b) (told s b)
-          (λ q g. due_is (IsTold s (e_compare r a b)) _ kind.TypeMismatch (compared r (kind_in p) (kind_in q)) (λ j e. type_compare h g e) (λ e. own (wrong_compare h g e)))
-          (λ f g. inside of_right g))
+      (λ q g. due_is (IsTold s (e_compare r a b)) _ kind.TypeMismatch (compared r (kind_in p) (kind_in q)) (λ j e. type_compare h g e) (λ e. own (wrong_compare h g e)))
+      (λ f g. inside of_right g))
       (λ f h. inside of_left h)
   told s (e_is_null a negated) =
       then_told (IsTold s a) (IsTold s (e_is_null a negated)) _ (type_of s a) (told s a) (λ p h. type_is_null h) (λ f h. inside of_is_null h)
@@ -174,20 +172,20 @@ mutual
   told s (e_call name args) =
       then_told (FunctionTold s name args) (IsTold s (e_call name args)) _ (function_of name) (function_told s name args)
       (λ g e. then_told (CountTold s name args g) (IsTold s (e_call name args)) _ (counted (count args) g) (count_told s name args g e)
-          (λ g' t. then_told (ArgsTold s args) (IsTold s (e_call name args)) _ (args_on s args) (args_told s args)
-              (λ ps h. subst (λ x. IsTold s (e_call name args) (call_of x ps)) t.0 (call_told s name args g ps e t.1 h))
-              (λ f h. inside (of_arg h.1) h.2))
-          (λ f w. own w))
+      (λ g' t. then_told (ArgsTold s args) (IsTold s (e_call name args)) _ (args_on s args) (args_told s args)
+      (λ ps h. subst (λ x. IsTold s (e_call name args) (call_of x ps)) t.0 (call_told s name args g ps e t.1 h))
+      (λ f h. inside (of_arg h.1) h.2))
+      (λ f w. own w))
       (λ f w. own w)
   told s (e_choose a b c) =
       then_told (IsTold s a) (IsTold s (e_choose a b c)) _ (type_of s a) (told s a)
       (λ p h. due_made (IsTold s (e_choose a b c)) _ _ kind.TypeMismatch (condition (kind_in p))
-          (λ is_cast e. then_told (IsTold s b) (IsTold s (e_choose a b c)) _ (type_of s b) (told s b)
-              (λ q g. then_told (IsTold s c) (IsTold s (e_choose a b c)) _ (type_of s c) (told s c)
-                  (λ r k. due_is (IsTold s (e_choose a b c)) _ kind.TypeMismatch (alike (kind_in q) (kind_in r)) (λ j e'. type_choose h e g k e') (λ e'. own (wrong_choice g k e')))
-                  (λ f k. inside of_no k))
-              (λ f g. inside of_yes g))
-          (λ e. own (wrong_condition h e)))
+      (λ is_cast e. then_told (IsTold s b) (IsTold s (e_choose a b c)) _ (type_of s b) (told s b)
+      (λ q g. then_told (IsTold s c) (IsTold s (e_choose a b c)) _ (type_of s c) (told s c)
+      (λ r k. due_is (IsTold s (e_choose a b c)) _ kind.TypeMismatch (alike (kind_in q) (kind_in r)) (λ j e'. type_choose h e g k e') (λ e'. own (wrong_choice g k e')))
+      (λ f k. inside of_no k))
+      (λ f g. inside of_yes g))
+      (λ e. own (wrong_condition h e)))
       (λ f h. inside of_condition h)
 
   links_told : (s : Place) (c : Sofar) (ls : LinkForms) → AreTold s c ls (links_on s c ls)
@@ -195,9 +193,9 @@ mutual
   links_told s c (more_links o a ls) =
       then_told (IsTold s a) (AreTold s c (more_links o a ls)) _ (type_of s a) (told s a)
       (λ p h. due_made (AreTold s c (more_links o a ls)) _ _ kind.TypeMismatch (chained o c.kind (kind_in p))
-          (λ j e. passes (AreTold s (after c o j (typed_of p)) ls) (AreTold s c (more_links o a ls)) (links_on s (after c o j (typed_of p)) ls) (links_told s (after c o j (typed_of p)) ls)
-              (λ whole g. links_go h e g) (λ f g. later_links s c o a ls p j f h e g))
-          (λ e. of_links (here h e)))
+      (λ j e. passes (AreTold s (after c o j (typed_of p)) ls) (AreTold s c (more_links o a ls)) (links_on s (after c o j (typed_of p)) ls) (links_told s (after c o j (typed_of p)) ls)
+      (λ whole g. links_go h e g) (λ f g. later_links s c o a ls p j f h e g))
+      (λ e. of_links (here h e)))
       (λ f h. in_links in_link h)
 
   args_told : (s : Place) (args : ExprForms) → ArgsTold s args (args_on s args)
@@ -205,5 +203,5 @@ mutual
   args_told s (more_exprs a others) =
       then_told (IsTold s a) (ArgsTold s (more_exprs a others)) _ (type_of s a) (told s a)
       (λ p h. then_told (ArgsTold s others) (ArgsTold s (more_exprs a others)) _ (args_on s others) (args_told s others)
-          (λ ps g. args_go h g) (λ f g. (g.0, in_others g.1, g.2)))
+      (λ ps g. args_go h g) (λ f g. (g.0, in_others g.1, g.2)))
       (λ f h. (a, in_arg, h))

@@ -1,6 +1,6 @@
 -- Calls of functions: how many arguments each takes, which of them are cast, and the column of what it gives.
 -- (Built In Functions. Which casts are inserted is a choice of this profile.)
-use Rattle.std.specs.Prelude.{◌≡◌, ℕ, ◌==◌, Bool, true, false, List, [], ◌∷◌, map, length, nat_lt, codes, Option, Some, None, if◌then◌else◌}
+use Rattle.std.specs.Prelude.{◌≡◌, ◌+◌, ℕ, zero, suc, ◌==◌, Bool, true, false, List, [], ◌∷◌, map, length, nat_lt, codes, Option, Some, None, if◌then◌else◌}
 use Rattle.std.specs.List.{list_all, list_any}
 use Rattle.pig_value.specs.FunctionKinds.{function_kind}
 use Rattle.pig_value.specs.Kinds.{kind_eq}
@@ -8,7 +8,7 @@ use Rattle.pig_value.specs.Trees.{KindTree, k_int, k_long, k_chars, k_bytes, k_t
 use Rattle.pig_value.specs.declared.functions.Function.{Function}
 use Rattle.pig_value.specs.declared.functions.Function.TheVariants as f
 use Rattle.pig_schema.specs.FieldTrees.{FieldTree, a_field, no_inner, more_inner, inner_of, tree_kind}
-use Rattle.pig_typed.specs.Typed.{Typed, x_cast}
+use Rattle.pig_typed.specs.Typed.{Typed, x_cast, x_field}
 use Rattle.pig_typing.specs.declared.calls.Casting.{Casting}
 use Rattle.pig_typing.specs.declared.calls.Casting.TheVariants as c
 use Rattle.pig_typing.specs.Columns.{unnamed}
@@ -80,3 +80,8 @@ abbrev pub given : Function → KindTree → List FieldTree → FieldTree
 given f.ToTuple k columns = a_field None k (inner_of columns)
 given f.Tokenize k columns = a_field None k (more_inner (a_field (Some (codes "token")) k_chars no_inner) no_inner)
 given f k columns = unnamed k
+
+-- the fields of a row from a place on, so many
+abbrev pub fields_from : ℕ → ℕ → List Typed
+fields_from n zero = []
+fields_from n (suc count) = x_field n ∷ fields_from (n + 1) count

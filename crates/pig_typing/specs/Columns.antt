@@ -69,10 +69,13 @@ abbrev pub later_or : {A : Type 0} → Option A → Option A → Option A
 later_or (Some later) here = Some later
 later_or None here = here
 
+abbrev pub named_here : List ℕ → ℕ → List ℕ × FieldTree → Option (ℕ × FieldTree)
+named_here alias n l = if bytes_eq l.0 alias then Some (n, l.1) else None
+
 -- the number of the last step that has the alias, the first step having the number `n`, and its column
 abbrev pub latest_from : ℕ → List ℕ → List (List ℕ × FieldTree) → Option (ℕ × FieldTree)
 latest_from n alias [] = None
-latest_from n alias (l ∷ ls) = later_or (latest_from (n + 1) alias ls) (if bytes_eq l.0 alias then Some (n, l.1) else None)
+latest_from n alias (l ∷ ls) = later_or (latest_from (n + 1) alias ls) (named_here alias n l)
 
 abbrev pub latest : List ℕ → List (List ℕ × FieldTree) → Option (ℕ × FieldTree)
 latest = latest_from 0

@@ -3,7 +3,7 @@
 use Rattle.std.specs.Prelude.{◌≡◌, ℕ, Bool, true, false, List, [], ◌∷◌, map, Option, Some, None}
 use Rattle.std.specs.declared.result.Result.TheVariants.{Ok, Err}
 use Rattle.pig_value.specs.Trees.{KindTree, k_tuple, k_bag, k_map}
-use Rattle.pig_schema.specs.FieldTrees.{FieldTree, a_field, inner_list, tree_name, tree_kind, tree_inner}
+use Rattle.pig_schema.specs.FieldTrees.{FieldTree, FieldTrees, a_field, inner_list, tree_name, tree_kind, tree_inner}
 use Rattle.pig_syntax.specs.declared.trees.FieldRef.{FieldRef}
 use Rattle.pig_syntax.specs.declared.trees.PostStep.{PostStep}
 use Rattle.pig_syntax.specs.declared.trees.PostStep.TheVariants as step
@@ -52,31 +52,37 @@ pub data SelectsNot (columns : List FieldTree) : List FieldRef → CheckKind →
 -- ---- one step
 
 -- the fields of a tuple, or of the tuples of a bag
+abbrev pub held_fields : KindTree → List FieldTree → Option (List FieldTree)
+held_fields (k_tuple ks) inner = Some inner
+held_fields (k_bag ks) inner = Some inner
+held_fields k inner = None
+
 abbrev pub fields_in : FieldTree → Option (List FieldTree)
-fields_in (a_field name (k_tuple ks) inner) = Some (inner_list inner)
-fields_in (a_field name (k_bag ks) inner) = Some (inner_list inner)
-fields_in c = None
+fields_in c = held_fields (tree_kind c) (inner_list (tree_inner c))
 
 abbrev pub renamed : Option (List ℕ) → FieldTree → FieldTree
 renamed name c = a_field name (tree_kind c) (tree_inner c)
 
 -- One field of a tuple is this column, and of a bag a bag of it that keeps its name. Several give a tuple, or a bag, without a name.
 -- No field, and several that stand without parentheses, are of no grammar.
-abbrev pub projected : Bool → FieldTree → List FieldTree → Option FieldTree
-projected true (a_field name (k_tuple ks) inner) (c ∷ []) = Some c
-projected true (a_field name (k_bag ks) inner) (c ∷ []) = Some (renamed (tree_name c) (of_fields k_bag (c ∷ [])))
-projected false (a_field name (k_tuple ks) inner) (c ∷ cs) = Some (of_fields k_tuple (c ∷ cs))
-projected false (a_field name (k_bag ks) inner) (c ∷ cs) = Some (of_fields k_bag (c ∷ cs))
-projected single of columns = None
+abbrev pub projected : Bool → KindTree → List FieldTree → Option FieldTree
+projected true (k_tuple ks) (c ∷ []) = Some c
+projected true (k_bag ks) (c ∷ []) = Some (renamed (tree_name c) (of_fields k_bag (c ∷ [])))
+projected false (k_tuple ks) (c ∷ cs) = Some (of_fields k_tuple (c ∷ cs))
+projected false (k_bag ks) (c ∷ cs) = Some (of_fields k_bag (c ∷ cs))
+projected single k columns = None
 
 -- the values of a map
+abbrev pub held_value : KindTree → FieldTrees → Option FieldTree
+held_value (k_map k) inner = Some (a_field None k inner)
+held_value k inner = None
+
 abbrev pub value_in : FieldTree → Option FieldTree
-value_in (a_field name (k_map k) inner) = Some (a_field None k inner)
-value_in c = None
+value_in c = held_value (tree_kind c) (tree_inner c)
 
 pub data Steps : Typing → PostStep → Typing → Type 0 where
   projects : {p : Typing} {columns : List FieldTree} {refs : List FieldRef} {ps : Picks} {single : Bool} {d : FieldTree} {k : KindTree}
-      → fields_in (column_of p) ≡ Some columns → Selects columns refs ps → projected single (column_of p) (picked ps) ≡ Some d → limited (tree_kind d) ≡ Ok k
+      → fields_in (column_of p) ≡ Some columns → Selects columns refs ps → projected single (kind_in p) (picked ps) ≡ Some d → limited (tree_kind d) ≡ Ok k
       → Steps p (step.Project refs single) (typing (x_project (typed_of p) (places ps) single) d)
   looks : {p : Typing} {key : List ℕ} {d : FieldTree} → value_in (column_of p) ≡ Some d → Steps p (step.Look key) (typing (x_look (typed_of p) key) d)
 
@@ -86,9 +92,9 @@ pub data StepsNot : Typing → PostStep → CheckKind → Type 0 where
   of_no_field : {p : Typing} {columns : List FieldTree} {refs : List FieldRef} {single : Bool} {f : CheckKind}
       → fields_in (column_of p) ≡ Some columns → SelectsNot columns refs f → StepsNot p (step.Project refs single) f
   of_no_grammar : {p : Typing} {columns : List FieldTree} {refs : List FieldRef} {ps : Picks} {single : Bool}
-      → fields_in (column_of p) ≡ Some columns → Selects columns refs ps → projected single (column_of p) (picked ps) ≡ None → StepsNot p (step.Project refs single) kind.TypeMismatch
+      → fields_in (column_of p) ≡ Some columns → Selects columns refs ps → projected single (kind_in p) (picked ps) ≡ None → StepsNot p (step.Project refs single) kind.TypeMismatch
   past_limits : {p : Typing} {columns : List FieldTree} {refs : List FieldRef} {ps : Picks} {single : Bool} {d : FieldTree} {f : CheckKind}
-      → fields_in (column_of p) ≡ Some columns → Selects columns refs ps → projected single (column_of p) (picked ps) ≡ Some d → limited (tree_kind d) ≡ Err f
+      → fields_in (column_of p) ≡ Some columns → Selects columns refs ps → projected single (kind_in p) (picked ps) ≡ Some d → limited (tree_kind d) ≡ Err f
       → StepsNot p (step.Project refs single) f
   of_no_map : {p : Typing} {key : List ℕ} → value_in (column_of p) ≡ None → StepsNot p (step.Look key) kind.TypeMismatch
 
@@ -111,17 +117,24 @@ select columns (r ∷ rs) = do
   picks ← select columns rs
   Ok (pick ∷ picks)
 
-unfoldable pub projection : Typing → Bool → Picks → FieldTree → Checked Typing
-projection p single picks d = do
-  k ← limited (tree_kind d)
-  Ok (typing (x_project (typed_of p) (places picks) single) d)
+-- the fields that a projection takes
+unfoldable pub chosen_of : FieldTree → List FieldRef → Checked Picks
+chosen_of c refs = do
+  columns ← due kind.TypeMismatch (fields_in c)
+  select columns refs
+
+-- the column that it gives of them, within the limits
+unfoldable pub given_of : Bool → KindTree → Picks → Checked FieldTree
+given_of single k picks = do
+  d ← due kind.TypeMismatch (projected single k (picked picks))
+  l ← limited (tree_kind d)
+  Ok d
 
 unfoldable pub step_of : Typing → PostStep → Checked Typing
 step_of p (step.Project refs single) = do
-  columns ← due kind.TypeMismatch (fields_in (column_of p))
-  picks ← select columns refs
-  d ← due kind.TypeMismatch (projected single (column_of p) (picked picks))
-  projection p single picks d
+  picks ← chosen_of (column_of p) refs
+  d ← given_of single (kind_in p) picks
+  Ok (typing (x_project (typed_of p) (places picks) single) d)
 step_of p (step.Look key) = do
   d ← due kind.TypeMismatch (value_in (column_of p))
   Ok (typing (x_look (typed_of p) key) d)

@@ -110,11 +110,10 @@ unfoldable mutual
   type_of s (e_bool b) = Ok (typing (x_bool b) (unnamed k_boolean))
   type_of s e_null = Ok (typing x_null (unnamed k_bytes))
   type_of s (e_field r) = name_of s r
-  type_of s (e_chain a no_links) = type_of s a
-  type_of s (e_chain a (more_links o b ls)) = do
+  type_of s (e_chain a ls) = do
     p ← type_of s a
-    so_far ← links_on s (begun p) (more_links o b ls)
-    Ok (chain_typing so_far)
+    whole ← links_on s (begun p) ls
+    Ok (chain_typing whole)
   type_of s (e_compare r a b) = do
     p ← type_of s a
     q ← type_of s b

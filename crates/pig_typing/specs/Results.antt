@@ -18,6 +18,11 @@ infixl 10 ◌>>=◌
 abbrev pub ◌>>=◌ : {A B : Type 0} → Checked A → (A → Checked B) → Checked B
 found >>= next = checked_then next found
 
+-- what is found, made into something else
+abbrev pub checked_map : {A B : Type 0} → (A → B) → Checked A → Checked B
+checked_map make (Ok a) = Ok (make a)
+checked_map make (Err kind) = Err kind
+
 -- what is there, or else this refusal
 abbrev pub due : {A : Type 0} → CheckKind → Option A → Checked A
 due kind (Some a) = Ok a
@@ -28,3 +33,9 @@ abbrev pub Tells : {A B : Type 0} → (B → A) → Checked A → Result B TypeF
 Tells view found (Ok b) = found ≡ Ok (view b)
 Tells view found (Err (fault.Refused kind)) = found ≡ Err kind
 Tells view found (Err fault.OutOfMemory) = Unit {0}
+
+-- of a refusal, what is said of its kind
+abbrev pub IfRefused : {B : Type 0} → Result B TypeFault → (CheckKind → Type 0) → Type 0
+IfRefused (Ok b) P = Unit {0}
+IfRefused (Err (fault.Refused kind)) P = P kind
+IfRefused (Err fault.OutOfMemory) P = Unit {0}

@@ -78,10 +78,7 @@ mutual
     type_local : {name : List ℕ} {found : ℕ × FieldTree} → latest name s.locals ≡ Some found → Types s (e_field (ref.Name name)) (typing (x_local found.0) (nameless found.1))
     type_named : {name : List ℕ} {n : ℕ} {c : FieldTree} → latest name s.locals ≡ None → Means s.columns (ref.Name name) n c → Types s (e_field (ref.Name name)) (typing (x_field n) c)
     type_numbered : {at n : ℕ} {c : FieldTree} → Means s.columns (ref.Position at) n c → Types s (e_field (ref.Position at)) (typing (x_field n) c)
-    -- a chain without operators is of no grammar
-    type_alone : {a : ExprForm} {p : Typing} → Types s a p → Types s (e_chain a no_links) p
-    type_chain : {a b : ExprForm} {o : ChainOp} {ls : LinkForms} {p : Typing} {whole : Sofar}
-        → Types s a p → Links s (begun p) (more_links o b ls) whole → Types s (e_chain a (more_links o b ls)) (chain_typing whole)
+    type_chain : {a : ExprForm} {ls : LinkForms} {p : Typing} {whole : Sofar} → Types s a p → Links s (begun p) ls whole → Types s (e_chain a ls) (chain_typing whole)
     type_compare : {r : Rel} {a b : ExprForm} {p q : Typing} {j : Join}
         → Types s a p → Types s b q → compared r (kind_in p) (kind_in q) ≡ Some j
         → Types s (e_compare r a b) (typing (x_compare r (cast_if j.left j.kind (typed_of p)) (cast_if j.right j.kind (typed_of q))) (unnamed k_boolean))
@@ -99,7 +96,7 @@ mutual
     type_choose : {a b c : ExprForm} {p q r : Typing} {is_cast : Bool} {j : Join}
         → Types s a p → condition (kind_in p) ≡ Some is_cast → Types s b q → Types s c r → alike (kind_in q) (kind_in r) ≡ Some j
         → Types s (e_choose a b c)
-          (typing (x_choose (cast_if is_cast k_boolean (typed_of p)) (cast_if j.left j.kind (typed_of q)) (cast_if j.right j.kind (typed_of r))) (unnamed j.kind))
+        (typing (x_choose (cast_if is_cast k_boolean (typed_of p)) (cast_if j.left j.kind (typed_of q)) (cast_if j.right j.kind (typed_of r))) (unnamed j.kind))
 
   -- the links of a chain, from left to right
   pub data Links (s : Place) : Sofar → LinkForms → Sofar → Type 0 where

@@ -38,3 +38,8 @@ abbrev mutual
   written_fields (typed_field name type fields) =
       option_and_then (λ c. option_map (λ inner. with_name name c ∷ inner) (written_fields fields)) (written type)
   written_fields (bare_field name fields) = option_map (λ inner. with_name name (scalar k_bytes) ∷ inner) (written_fields fields)
+
+-- one field
+abbrev pub written_field : List ℕ × Option TypeForm → Option FieldTree
+written_field (name, Some type) = option_map (with_name name) (written type)
+written_field (name, None) = Some (with_name name (scalar k_bytes))

@@ -1,14 +1,15 @@
-ghost use Rattle.std.specs.Prelude.{◌≡◌, IfOk, map};
-ghost use Rattle.pig_value.specs.Trees.{kind_tree, kinds_of};
-ghost use Rattle.pig_schema.specs.FieldTrees.{field_tree, inner_list, schema_tree, tree_inner, tree_kind, tree_name};
+ghost use Rattle.std.specs.Prelude.{◌≡◌, IfOk, None, map};
+ghost use Rattle.pig_value.specs.Trees.{kind_tree, kinds_of, k_bag, k_tuple};
+ghost use Rattle.pig_schema.specs.FieldTrees.{a_field, field_tree, inner_list, inner_of, schema_tree, tree_inner, tree_kind};
 ghost use Rattle.pig_typing.specs.Columns.{each_unnamed, inner_unnamed, nameless, unnamed};
 ghost use Rattle.pig_typing.specs.Views.{column_tree, typing_tree};
 ghost use Rattle.pig_typed.specs.Typed.{typed};
 ghost use Rattle.pig_typing.specs.Parts.{typing};
+ghost use Rattle.pig_typing.specs.Written.{of_fields};
 
-use pig_schema::{Field, Schema, copy_field, copy_schema};
+use pig_schema::{Field, Schema, copy_field, copy_schema, kinds};
 use pig_typed::TExpr;
-use pig_value::{Boxed, Kind, Seq, copy_kind};
+use pig_value::{Boxed, Kind, Kinds, Seq, copy_kind};
 use std::alloc::{AllocError, Global};
 
 /// A column that stands in the scope, such a one without its name, or one that was made.
@@ -46,7 +47,8 @@ pub fn kind<'b, 'a>(column: &'b Column<'a>) -> &'b Kind
 
 /// The columns inside a column.
 pub fn inner<'b, 'a>(column: &'b Column<'a>) -> &'b Schema
-    ensures { schema_tree result.now ≡ inner_list (tree_inner (column_tree column.now)) }
+    ensures forms { inner_of (schema_tree result.now) ≡ tree_inner (column_tree column.now) }
+    ensures list { schema_tree result.now ≡ inner_list (tree_inner (column_tree column.now)) }
 {
     &field(column).inner
 }
@@ -78,11 +80,7 @@ fn nameless(alloc: Global, field: &Field) -> Result<Field, AllocError>
 {
     let kind = copy_kind(alloc, &field.kind)?;
     let inner = copy_schema(alloc, &field.inner)?;
-    Ok(Field {
-        name: None,
-        kind,
-        inner,
-    })
+    Ok(holding(kind, inner))
 }
 
 /// A column of a kind, without a name of its own or inside.
@@ -90,11 +88,7 @@ pub fn unnamed(alloc: Global, kind: Kind) -> Result<Field, AllocError>
     ensures { IfOk result (λ f. field_tree f ≡ unnamed (kind_tree kind)) }
 {
     let inner = inner_unnamed(alloc, &kind)?;
-    Ok(Field {
-        name: None,
-        kind,
-        inner,
-    })
+    Ok(holding(kind, inner))
 }
 
 #[cycle(unnamed)]
@@ -124,6 +118,39 @@ fn each_unnamed(alloc: Global, kinds: &[Kind]) -> Result<Schema, AllocError>
         })?;
     }
     Ok(Seq::from_vec(made))
+}
+
+/// A column without a name of this kind, with these columns inside.
+pub fn holding(kind: Kind, inner: Schema) -> Field
+    ensures { field_tree result ≡ a_field None (kind_tree kind) (inner_of (schema_tree inner)) }
+{
+    Field {
+        name: None,
+        kind,
+        inner,
+    }
+}
+
+/// A tuple of these columns, without a name.
+pub fn tuple(alloc: Global, columns: Schema) -> Result<Field, AllocError>
+    ensures { IfOk result (λ f. field_tree f ≡ of_fields k_tuple (schema_tree columns)) }
+{
+    let kinds = column_kinds(alloc, &columns)?;
+    Ok(holding(Kind::Tuple(kinds), columns))
+}
+
+/// A bag of tuples of these columns, without a name.
+pub fn bag(alloc: Global, columns: Schema) -> Result<Field, AllocError>
+    ensures { IfOk result (λ f. field_tree f ≡ of_fields k_bag (schema_tree columns)) }
+{
+    let kinds = column_kinds(alloc, &columns)?;
+    Ok(holding(Kind::Bag(kinds), columns))
+}
+
+fn column_kinds(alloc: Global, columns: &Schema) -> Result<Kinds, AllocError>
+    ensures { IfOk result (λ ks. map kind_tree ks ≡ map tree_kind (schema_tree columns.now)) }
+{
+    kinds(alloc, columns)
 }
 
 /// An expression with a column that was made for it.

@@ -14,7 +14,6 @@ use pig_value::{Kind, kind_depth, kind_width};
 /// TooWide where a tuple in it has more than 512 fields, or where there are more than 4096 kinds in it; TooDeep
 /// where it nests more than 64 deep.
 pub fn within_limits(kind: &Kind) -> Result<(), TypeFault>
-    #[x]
     ensures { Tells (λ done. kind_tree kind.now) (limited (kind_tree kind.now)) result }
 {
     if too_wide(kind) {

@@ -1,12 +1,12 @@
-ghost use Rattle.std.specs.Prelude.{◌≡◌, map};
+ghost use Rattle.std.specs.Prelude.{◌≡◌, map, Ok};
 ghost use Rattle.std.specs.Option.{option_map};
 ghost use Rattle.std.specs.Str.{bytes_eq};
 ghost use Rattle.pig_schema.specs.FieldTrees.{field_tree, schema_tree, tree_name};
 ghost use Rattle.pig_schema.specs.Names.{meaning};
-ghost use Rattle.pig_typing.specs.Columns.{column_at, latest, local_of, name_refusal, place_of, refer};
-ghost use Rattle.pig_typing.specs.Reader.{field_of, name_of};
+ghost use Rattle.pig_typing.specs.Columns.{column_at, later_or, latest, local_of, name_refusal, named_here, place_of, refer};
+ghost use Rattle.pig_typing.specs.Reader.{field_of, field_typing, local_typing, name_of};
 ghost use Rattle.pig_typing.specs.Results.{Tells};
-ghost use Rattle.pig_typing.specs.Views.{typing_tree};
+ghost use Rattle.pig_typing.specs.Views.{step_tree, typing_tree};
 
 use crate::columns::{Column, Typing};
 use crate::faults::{CheckKind, TypeFault};
@@ -83,7 +83,7 @@ fn of_columns<'a>(
 /// the position is at least the number of columns.
 #[tactic(auto, unfolding(crate::specs::Columns::refer))]
 pub fn refer<'a>(columns: &'a Schema, field: &FieldRef) -> Result<(usize, &'a Field), TypeFault>
-    ensures { Tells (λ p. (p.0, field_tree p.1.now)) (refer (schema_tree columns.now) field.now) result }
+    ensures { Tells step_tree (refer (schema_tree columns.now) field.now) result }
 {
     match field {
         FieldRef::Name(text) => match place(columns, text.as_str()) {
@@ -112,7 +112,7 @@ fn refusal(fault: NameFault) -> CheckKind
 
 #[tactic(auto, unfolding(crate::specs::Columns::column_at))]
 fn column_at<'a>(columns: &'a Schema, place: usize) -> Result<(usize, &'a Field), TypeFault>
-    ensures { Tells (λ p. (p.0, field_tree p.1.now)) (column_at (schema_tree columns.now) place) result }
+    ensures { Tells step_tree (column_at (schema_tree columns.now) place) result }
 {
     match columns.get(place) {
         Some(column) => Ok((place, column)),
@@ -122,30 +122,35 @@ fn column_at<'a>(columns: &'a Schema, place: usize) -> Result<(usize, &'a Field)
 
 // The last step of an alias, with its number.
 fn latest<'a>(locals: &'a [Local], alias: &[u8]) -> Option<(usize, &'a Field)>
-    ensures { option_map (λ p. (p.0, field_tree p.1.now)) result ≡ latest alias.now (map local_of locals.now) }
+    ensures { option_map step_tree result ≡ latest alias.now (map local_of locals.now) }
 {
     let mut found = None;
     for number in 0..locals.len() {
-        found = or_later(found, locals, alias, number);
+        found = later_or(here(&locals[number], number, alias), found);
     }
     found
 }
 
-fn or_later<'a>(
-    found: Option<(usize, &'a Field)>,
-    locals: &'a [Local],
-    alias: &[u8],
-    number: usize,
+fn later_or<'a>(
+    later: Option<(usize, &'a Field)>,
+    here: Option<(usize, &'a Field)>,
 ) -> Option<(usize, &'a Field)>
-    requires { number < length locals.now }
-    ensures { option_map (λ p. (p.0, field_tree p.1.now)) result
-        ≡ later_or (step_at alias.now number (slice_get (map local_of locals.now) number)) (option_map (λ p. (p.0, field_tree p.1.now)) found) }
+    ensures { option_map step_tree result ≡ later_or (option_map step_tree later) (option_map step_tree here) }
 {
-    let step = &locals[number];
-    if is_same(step.alias.as_bytes(), alias) {
-        return Some((number, &step.column));
+    match later {
+        Some(step) => Some(step),
+        None => here,
     }
-    found
+}
+
+fn here<'a>(step: &'a Local, number: usize, alias: &[u8]) -> Option<(usize, &'a Field)>
+    ensures { option_map step_tree result ≡ named_here alias.now number (local_of step.now) }
+{
+    if is_same(step.alias.as_bytes(), alias) {
+        Some((number, &step.column))
+    } else {
+        None
+    }
 }
 
 fn is_same(a: &[u8], b: &[u8]) -> bool
