@@ -95,7 +95,7 @@ pub fn call<'a>(
 ) -> Result<Typing<'a>, TypeFault>
     ensures { Tells typing_tree (call_of function (map typing_tree args.entry)) result }
 {
-    let casting = casting(function, args.as_slice());
+    let casting = how_cast(function, args.as_slice());
     let called = sized(function, args.as_slice())?;
     let kinds = cast_kinds(alloc, casting, args.as_slice())?;
     let Some(kind) = given_kind(alloc, called, &kinds)? else {
@@ -114,7 +114,7 @@ pub fn call<'a>(
     )?)
 }
 
-fn casting(function: Function, args: &[Typing]) -> Casting
+fn how_cast(function: Function, args: &[Typing]) -> Casting
     ensures { result ≡ casting function (kinds_as_given (map typing_tree args.now)) }
 {
     match function {

@@ -18,7 +18,7 @@ pub struct Join {
     pub right: bool,
 }
 
-fn join(kind: Kind, left: bool, right: bool) -> Join
+fn together(kind: Kind, left: bool, right: bool) -> Join
     ensures { join_tree result ≡ join (kind_tree kind) left right }
 {
     Join { kind, left, right }
@@ -29,14 +29,14 @@ pub fn alike(alloc: Global, a: &Kind, b: &Kind) -> Result<Option<Join>, AllocErr
     ensures { IfOk result (λ found. option_map join_tree found ≡ alike (kind_tree a.now) (kind_tree b.now)) }
 {
     match (a, b) {
-        (Kind::Bytearray, Kind::Bytearray) => Ok(Some(join(Kind::Bytearray, false, false))),
-        (Kind::Bytearray, other) => Ok(Some(join(copy_kind(alloc, other)?, true, false))),
-        (other, Kind::Bytearray) => Ok(Some(join(copy_kind(alloc, other)?, false, true))),
-        (Kind::Int, Kind::Long) => Ok(Some(join(Kind::Long, true, false))),
-        (Kind::Long, Kind::Int) => Ok(Some(join(Kind::Long, false, true))),
+        (Kind::Bytearray, Kind::Bytearray) => Ok(Some(together(Kind::Bytearray, false, false))),
+        (Kind::Bytearray, other) => Ok(Some(together(copy_kind(alloc, other)?, true, false))),
+        (other, Kind::Bytearray) => Ok(Some(together(copy_kind(alloc, other)?, false, true))),
+        (Kind::Int, Kind::Long) => Ok(Some(together(Kind::Long, true, false))),
+        (Kind::Long, Kind::Int) => Ok(Some(together(Kind::Long, false, true))),
         _ => {
             if same_kind(a, b) {
-                Ok(Some(join(copy_kind(alloc, a)?, false, false)))
+                Ok(Some(together(copy_kind(alloc, a)?, false, false)))
             } else {
                 Ok(None)
             }
@@ -110,14 +110,14 @@ fn numbers(a: &Kind, b: &Kind) -> Option<Join>
     ensures { option_map join_tree result ≡ numbers (kind_tree a.now) (kind_tree b.now) }
 {
     match (a, b) {
-        (Kind::Int, Kind::Int) => Some(join(Kind::Int, false, false)),
-        (Kind::Int, Kind::Long) => Some(join(Kind::Long, false, false)),
-        (Kind::Long, Kind::Int) => Some(join(Kind::Long, false, false)),
-        (Kind::Long, Kind::Long) => Some(join(Kind::Long, false, false)),
-        (Kind::Bytearray, Kind::Int) => Some(join(Kind::Int, true, false)),
-        (Kind::Bytearray, Kind::Long) => Some(join(Kind::Long, true, false)),
-        (Kind::Int, Kind::Bytearray) => Some(join(Kind::Int, false, true)),
-        (Kind::Long, Kind::Bytearray) => Some(join(Kind::Long, false, true)),
+        (Kind::Int, Kind::Int) => Some(together(Kind::Int, false, false)),
+        (Kind::Int, Kind::Long) => Some(together(Kind::Long, false, false)),
+        (Kind::Long, Kind::Int) => Some(together(Kind::Long, false, false)),
+        (Kind::Long, Kind::Long) => Some(together(Kind::Long, false, false)),
+        (Kind::Bytearray, Kind::Int) => Some(together(Kind::Int, true, false)),
+        (Kind::Bytearray, Kind::Long) => Some(together(Kind::Long, true, false)),
+        (Kind::Int, Kind::Bytearray) => Some(together(Kind::Int, false, true)),
+        (Kind::Long, Kind::Bytearray) => Some(together(Kind::Long, false, true)),
         _ => None,
     }
 }
@@ -127,7 +127,7 @@ fn conditions(a: &Kind, b: &Kind) -> Option<Join>
 {
     let left = condition(a)?;
     let right = condition(b)?;
-    Some(join(Kind::Boolean, left, right))
+    Some(together(Kind::Boolean, left, right))
 }
 
 /// Whether a condition of a kind is cast, where it may be one.

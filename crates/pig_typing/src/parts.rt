@@ -112,13 +112,13 @@ fn select(alloc: Global, columns: &Schema, fields: &[FieldRef]) -> Result<Seq<Pi
 {
     let mut picks = Seq::with_capacity(alloc, fields.len())?;
     for field in fields {
-        let pick = pick(alloc, columns, field)?;
+        let pick = taken(alloc, columns, field)?;
         picks.push(pick)?;
     }
     Ok(picks)
 }
 
-fn pick(alloc: Global, columns: &Schema, field: &FieldRef) -> Result<Pick, TypeFault>
+fn taken(alloc: Global, columns: &Schema, field: &FieldRef) -> Result<Pick, TypeFault>
     ensures { Tells pick_tree (refer (schema_tree columns.now) field.now) result }
 {
     let (place, column) = refer(columns, field)?;
