@@ -3,7 +3,3 @@ pub mod Chains
 pub mod References
 pub mod Told
 pub mod Found
-mod CodeLaws
-mod Joined
-mod Inside
-pub mod KindsHold

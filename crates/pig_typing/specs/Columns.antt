@@ -1,13 +1,13 @@
 -- Columns: what stands in a place of a row or is given by an expression. A column has a kind, the name that it keeps, if any, and
 -- the columns inside it. Here is which column of some a reference means, and what an expression may refer to.
 -- (Pig Latin Basics: "Schemas", "Referencing Fields". That a nested alias is no field is a choice of this profile.)
-use Rattle.std.specs.Prelude.{◌≡◌, ◌≤◌, ◌+◌, ℕ, List, [], ◌∷◌, map, length, slice_get, Option, Some, None, if◌then◌else◌}
+use Rattle.std.specs.Prelude.{⊤, ◌≡◌, ◌≤◌, ◌+◌, ℕ, List, [], ◌∷◌, map, length, slice_get, Option, Some, None, if◌then◌else◌}
 use Rattle.std.specs.Option.{option_map}
 use Rattle.std.specs.Str.{bytes_eq}
 use Rattle.std.specs.declared.result.Result.{Result}
 use Rattle.std.specs.declared.result.Result.TheVariants.{Ok, Err}
 use Rattle.pig_value.specs.Trees.{KindTree, KindTrees, k_tuple, k_bag, k_map, no_kinds, more_kinds}
-use Rattle.pig_schema.specs.FieldTrees.{FieldTree, a_field, inner_of, tree_name, tree_kind, tree_inner, field_tree, schema_tree}
+use Rattle.pig_schema.specs.FieldTrees.{FieldTree, a_field, inner_of, tree_name, tree_kind, tree_inner, field_tree, schema_tree, IsField}
 use Rattle.pig_schema.specs.Names.{IsMeant, IsUnknown, IsAmbiguous, meaning}
 use Rattle.pig_schema.specs.declared.naming.NameFault.{NameFault}
 use Rattle.pig_schema.specs.declared.naming.NameFault.TheVariants as fault
@@ -79,6 +79,21 @@ latest_from n alias (l ∷ ls) = later_or (latest_from (n + 1) alias ls) (named_
 
 abbrev pub latest : List ℕ → List (List ℕ × FieldTree) → Option (ℕ × FieldTree)
 latest = latest_from 0
+
+-- the kinds of the row and of the nested aliases
+abbrev pub row_of : Place → List KindTree
+row_of s = map tree_kind s.columns
+
+abbrev pub locals_of : Place → List KindTree
+locals_of s = map (λ l. tree_kind l.1) s.locals
+
+-- each of the columns has inside it what is of its kind
+abbrev pub AreFields : List FieldTree → Type 0
+AreFields [] = ⊤
+AreFields (c ∷ cs) = IsField c × AreFields cs
+
+abbrev pub IsPlace : Place → Type 0
+IsPlace s = AreFields s.columns × AreFields (map (λ l. l.1) s.locals)
 
 -- ---- the same as functions
 

@@ -8,4 +8,3 @@ pub mod Parts
 pub mod Typing
 pub mod Faults
 pub mod Reader
-pub mod Views

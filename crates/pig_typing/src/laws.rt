@@ -1,6 +1,6 @@
 ghost use Rattle.std.specs.Prelude.{◌≡◌, ◌⊎◌};
 ghost use Rattle.pig_syntax.specs.ExprTrees.{ExprForm};
-ghost use Rattle.pig_typing.specs.declared.faults.CheckKind;
+ghost use Rattle.pig_typing.specs.declared.faults.CheckKind.{CheckKind};
 ghost use Rattle.pig_typing.specs.Columns.{Place};
 ghost use Rattle.pig_typing.specs.Faults.{Faults};
 ghost use Rattle.pig_typing.specs.Parts.{Typing};

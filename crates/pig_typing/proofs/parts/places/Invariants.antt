@@ -1,7 +1,0 @@
-use Rattle.std.proofs.Common.{◌≡◌, ◌++◌, map, drop}
-use Rattle.pig_typing.specs.Parts.{places}
-use Rattle.pig_typing.specs.Views.{pick_tree}
-use Rattle.pig_typing.proofs.parts.places.Given as goal
-
-abbrev pub invariant-loop-pick : goal.invariant-loop-pick
-invariant-loop-pick l = l.places.items ++ places (map pick_tree (drop l.pick-index l.picks)) ≡ places (map pick_tree l.fn.picks)
