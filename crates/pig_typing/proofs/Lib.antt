@@ -3,3 +3,6 @@ pub mod Chains
 pub mod References
 pub mod Told
 pub mod Found
+mod Joined
+mod Inside
+pub mod KindsHold
