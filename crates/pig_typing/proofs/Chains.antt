@@ -1,6 +1,5 @@
 -- What holds of a result, through what follows it.
 use Rattle.std.specs.Prelude.{◌≡◌, Option, Some, None, refl}
-use Rattle.std.specs.declared.result.Result.{Result}
 use Rattle.std.specs.declared.result.Result.TheVariants.{Ok, Err}
 use Rattle.pig_typing.specs.declared.faults.CheckKind.{CheckKind}
 use Rattle.pig_typing.specs.Results.{Checked, due, ◌>>=◌}

@@ -1,25 +1,19 @@
 -- What holds is found: an expression that has a typing is told it, and one of which a condition of refusal holds is refused.
-use Rattle.std.proofs.Common.{◌≡◌, ◌∙◌, ℕ, List, [], ◌∷◌, map, refl, sym, ap, Bool, true, false, inl, inr}
-use Rattle.std.specs.Prelude.{Option, Some, None, if◌then◌else◌}
-use Rattle.std.specs.Str.{bytes_eq}
-use Rattle.std.specs.declared.result.Result.{Result}
+use Rattle.std.proofs.Common.{◌≡◌, ◌∙◌, List, refl, sym, Bool, true, false}
+use Rattle.std.specs.Prelude.{None, if◌then◌else◌}
 use Rattle.std.specs.declared.result.Result.TheVariants.{Ok, Err}
 use Rattle.pig_value.specs.Functions.{function_named}
-use Rattle.pig_value.specs.declared.functions.Function.{Function}
-use Rattle.pig_value.specs.declared.operators.ChainOp.{ChainOp}
-use Rattle.pig_schema.specs.FieldTrees.{FieldTree, tree_kind}
-use Rattle.pig_syntax.specs.ExprTrees.{ExprForm, LinkForms, ExprForms, e_chain, e_compare, e_is_null, e_not, e_minus, e_cast, e_post, e_call, e_choose, no_links, more_links, no_exprs, more_exprs}
+use Rattle.pig_schema.specs.FieldTrees.{tree_kind}
+use Rattle.pig_syntax.specs.ExprTrees.{ExprForm, LinkForms, ExprForms}
 use Rattle.pig_typing.specs.declared.faults.CheckKind.{CheckKind}
 use Rattle.pig_typing.specs.Calls.{average, takes}
-use Rattle.pig_typing.specs.Columns.{Place, refer}
+use Rattle.pig_typing.specs.Columns.{Place}
 use Rattle.pig_typing.specs.Faults.{LinksWrong, Wrong, InLinks, InArgs, Operand, Faults, here, later, own, inside, wrong_float, wrong_type, wrong_average, wrong_name, wrong_position, wrong_chain, wrong_compare, wrong_not, wrong_minus, wrong_condition, wrong_choice, wrong_cast, wrong_size, wrong_step, wrong_function, wrong_count, wrong_args, wrong_given, in_link, in_later, in_arg, in_others, of_first, of_link, of_left, of_right, of_is_null, of_not, of_minus, of_cast, of_post, of_arg, of_condition, of_yes, of_no}
-use Rattle.pig_typing.specs.Joins.{condition}
 use Rattle.pig_typing.specs.Limits.{limited}
-use Rattle.pig_typing.specs.Parts.{Typing, kind_in, steps_of}
+use Rattle.pig_typing.specs.Parts.{Typing}
 use Rattle.pig_typing.specs.Reader.{field_of, name_of, compare_of, condition_of, minus_of, choose_of, type_of_cast, cast_of, link_of, counted, function_of, call_of, type_of, links_on, args_on}
-use Rattle.pig_typing.specs.Results.{Checked, due, ◌>>=◌}
+use Rattle.pig_typing.specs.Results.{Checked, ◌>>=◌}
 use Rattle.pig_typing.specs.Typing.{Types, Links, Args, Sofar, begun, count, type_int, type_long, type_text, type_bool, type_null, type_local, type_named, type_numbered, type_chain, type_compare, type_is_null, type_not, type_minus, type_cast, type_post, type_call, type_choose, links_end, links_go, args_end, args_go}
-use Rattle.pig_typing.proofs.Chains.{then_told}
 use Rattle.pig_typing.proofs.References.{Fails, failed, fails_first, fails_next, not_both, refer_is, refer_fails, walk_is, walk_fails}
 
 -- ---- a typing is told

@@ -1,15 +1,14 @@
 -- The columns inside what is typed are those of its kind.
-use Rattle.std.proofs.Common.{◌≡◌, ◌∙◌, ℕ, zero, suc, List, [], ◌∷◌, ◌++◌, map, refl, sym, ap, subst, Bool, true, false}
-use Rattle.std.specs.Prelude.{⊤, Option, Some, None, slice_get, codes, if◌then◌else◌}
+use Rattle.std.proofs.Common.{◌≡◌, ℕ, zero, suc, List, [], ◌∷◌, map, refl, sym, ap, subst}
+use Rattle.std.specs.Prelude.{⊤, Option, Some, None, slice_get}
 use Rattle.std.specs.Option.{option_and_then, option_map}
-use Rattle.pig_value.specs.FieldReader.{all_of}
 use Rattle.pig_value.specs.Trees.{KindTree, KindTrees, k_boolean, k_int, k_long, k_chars, k_bytes, k_tuple, k_bag, k_map, no_kinds, more_kinds, kinds_of, kinds_list}
-use Rattle.pig_schema.specs.FieldTrees.{FieldTree, FieldTrees, a_field, no_inner, more_inner, inner_of, inner_list, tree_name, tree_kind, tree_inner, HasInner, AreInner, IsField}
+use Rattle.pig_schema.specs.FieldTrees.{FieldTree, FieldTrees, no_inner, more_inner, inner_of, inner_list, tree_kind, tree_inner, HasInner, AreInner, IsField}
 use Rattle.pig_syntax.specs.ExprTrees.{TypeForm, FieldForms, t_int, t_long, t_chars, t_bytes, t_boolean, t_float, t_tuple, t_bag, t_map, t_map_bare, no_fields, typed_field, bare_field}
 use Rattle.pig_syntax.specs.declared.trees.FieldRef.{FieldRef}
-use Rattle.pig_typed.specs.ExprKinds.{is_selection, project_kind, picked_kinds}
+use Rattle.pig_typed.specs.ExprKinds.{picked_kinds}
 use Rattle.pig_typing.specs.Columns.{AreFields, Means, by_name, by_position, unnamed, inner_unnamed, each_unnamed}
-use Rattle.pig_typing.specs.Parts.{Picks, Selects, none_selected, one_selected, places, picked, held_fields, held_value, fields_in, value_in, projected, renamed}
+use Rattle.pig_typing.specs.Parts.{Picks, Selects, none_selected, one_selected, places, picked}
 use Rattle.pig_typing.specs.Written.{of_fields, of_values, scalar, with_name, written, written_fields}
 
 pub all_inner : (cs : List FieldTree) → AreFields cs → AreInner (kinds_of (map tree_kind cs)) (inner_of cs)

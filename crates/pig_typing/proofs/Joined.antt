@@ -1,16 +1,15 @@
 -- Operands that are joined have kinds that the operator takes once they are cast.
-use Rattle.std.proofs.Common.{List, ◌≡◌, ◌∙◌, Bool, true, false, refl, sym, ap, subst, cond}
-use Rattle.std.specs.Prelude.{◌&&◌, Option, Some, None, if◌then◌else◌}
+use Rattle.std.proofs.Common.{List, ◌≡◌, ◌∙◌, Bool, true, false, refl, sym, subst}
+use Rattle.std.specs.Prelude.{Option, Some, None, if◌then◌else◌}
 use Rattle.std.specs.Option.{option_and_then}
 use Rattle.pig_value.specs.Casts.{may_cast}
 use Rattle.pig_value.specs.Kinds.{kind_eq}
-use Rattle.pig_value.specs.Trees.{KindTree, KindTrees, k_boolean, k_int, k_long, k_chars, k_bytes, k_tuple, k_bag, k_map}
+use Rattle.pig_value.specs.Trees.{KindTree, k_boolean, k_int, k_long, k_chars, k_bytes, k_tuple, k_bag, k_map}
 use Rattle.pig_value.specs.declared.operators.ChainOp.{ChainOp}
 use Rattle.pig_value.specs.declared.operators.ChainOp.TheVariants as op
 use Rattle.pig_value.specs.declared.operators.Rel.{Rel}
 use Rattle.pig_value.proofs.KindLaws.{kind_itself, kind_same}
-use Rattle.pig_value.proofs.list_laws.Bags.{either_way}
-use Rattle.pig_typed.specs.ExprKinds.{◌>>=◌, chain_kind, choose_kind, compare_kind, expr_kind, may_compare, number_kind, truth_kind}
+use Rattle.pig_typed.specs.ExprKinds.{chain_kind, choose_kind, compare_kind, expr_kind, may_compare, number_kind, truth_kind}
 use Rattle.pig_typed.specs.Typed.{Typed}
 use Rattle.pig_typing.specs.Joins.{Join, join, alike, cast_if, chained, compared, condition, conditions, numbers}
 

@@ -1,30 +1,29 @@
 -- What is typed has its kind, over the kinds of the columns and of the nested aliases.
-use Rattle.std.proofs.Common.{◌≡◌, ◌∙◌, ℕ, zero, suc, ◌+◌, List, [], ◌∷◌, ◌++◌, map, length, refl, sym, ap, subst, Bool, true, false, inl, inr, arith}
+use Rattle.std.proofs.Common.{◌≡◌, ◌∙◌, ℕ, suc, ◌+◌, List, [], ◌∷◌, ◌++◌, map, length, refl, sym, ap, subst, Bool, true, false, inl, inr, arith}
 use Rattle.std.specs.Prelude.{◌⊎◌, ⊤, Option, Some, None, slice_get, if◌then◌else◌}
 use Rattle.std.specs.Option.{option_and_then, option_map}
 use Rattle.std.specs.Str.{bytes_eq}
-use Rattle.std.specs.declared.result.Result.TheVariants.{Ok, Err}
 use Rattle.pig_value.specs.Casts.{may_cast}
 use Rattle.pig_value.specs.FunctionKinds.{function_kind}
-use Rattle.pig_value.specs.Trees.{KindTree, KindTrees, k_boolean, k_int, k_long, k_chars, k_bytes, k_tuple, k_bag, k_map, no_kinds, more_kinds, kinds_of, kinds_list}
+use Rattle.pig_value.specs.Trees.{KindTree, k_boolean, k_int, k_long, k_chars, k_bytes, k_tuple, k_bag, k_map, no_kinds, more_kinds, kinds_of, kinds_list}
 use Rattle.pig_value.specs.declared.functions.Function.{Function}
 use Rattle.pig_value.specs.declared.functions.Function.TheVariants as f
 use Rattle.pig_value.specs.declared.operators.ChainOp.{ChainOp}
-use Rattle.pig_schema.specs.FieldTrees.{FieldTree, FieldTrees, a_field, no_inner, more_inner, inner_of, inner_list, tree_name, tree_kind, tree_inner, HasInner, IsField}
+use Rattle.pig_schema.specs.FieldTrees.{FieldTree, a_field, inner_of, inner_list, tree_name, tree_kind, HasInner, IsField}
 use Rattle.pig_syntax.specs.ExprTrees.{ExprForm, LinkForms, ExprForms, type_form}
 use Rattle.pig_syntax.specs.declared.trees.PostStep.{PostStep}
-use Rattle.pig_typed.specs.ExprKinds.{◌>>=◌, args_kinds, chain_kind, expr_kind, links_kind, look_kind, minus_kind, project_kind, picked_kinds, selected_kind, is_selection}
-use Rattle.pig_typed.specs.Typed.{Typed, TypedLinks, links_of, args_of, x_cast, x_project}
+use Rattle.pig_typed.specs.ExprKinds.{args_kinds, chain_kind, expr_kind, links_kind, look_kind, project_kind, picked_kinds}
+use Rattle.pig_typed.specs.Typed.{Typed, links_of, args_of}
 use Rattle.pig_typing.specs.declared.calls.Casting.{Casting}
 use Rattle.pig_typing.specs.declared.calls.Casting.TheVariants as c
-use Rattle.pig_typing.specs.Calls.{casting, cast_by, cast_maybe, kind_after, sized, given}
-use Rattle.pig_typing.specs.Columns.{AreFields, IsPlace, Place, locals_of, row_of, latest, latest_from, later_or, named_here, nameless, unnamed}
+use Rattle.pig_typing.specs.Calls.{casting, cast_by, cast_maybe, kind_after, given}
+use Rattle.pig_typing.specs.Columns.{AreFields, IsPlace, Place, locals_of, row_of, latest_from, later_or, named_here}
 use Rattle.pig_typing.specs.Joins.{Join, cast_if, chained}
-use Rattle.pig_typing.specs.Parts.{Typing, Picks, Selects, typing, typed_of, column_of, kind_in, places, picked, projected, renamed, fields_in, held_fields, held_value, value_in, Steps, projects, looks, Walks, ends, goes}
-use Rattle.pig_typing.specs.Typing.{Types, Links, Args, Sofar, begun, after, chain_typing, called, call_kind, cast_args, cast_kinds, kinds_as_given, count, type_int, type_long, type_text, type_bool, type_null, type_local, type_named, type_numbered, type_chain, type_compare, type_is_null, type_not, type_minus, type_cast, type_post, type_call, type_choose, links_end, links_go, args_end, args_go}
-use Rattle.pig_typing.specs.Written.{of_fields, written}
+use Rattle.pig_typing.specs.Parts.{Typing, Picks, typed_of, column_of, kind_in, places, picked, projected, renamed, fields_in, value_in, Steps, projects, looks, Walks, ends, goes}
+use Rattle.pig_typing.specs.Typing.{Types, Links, Args, Sofar, begun, after, chain_typing, call_kind, kinds_as_given, type_int, type_long, type_text, type_bool, type_null, type_local, type_named, type_numbered, type_chain, type_compare, type_is_null, type_not, type_minus, type_cast, type_post, type_call, type_choose, links_end, links_go, args_end, args_go}
+use Rattle.pig_typing.specs.Written.{of_fields}
 use Rattle.pig_typing.proofs.Inside.{all_inner, inner_all, inner_kinds, unnamed_field, written_field_is, meant_field, meant_kind, picked_fields, picked_kind}
-use Rattle.pig_typing.proofs.Joined.{side, Castable, cast_kind_of, compare_holds, choose_holds, condition_holds, Settled, Chained, chained_holds}
+use Rattle.pig_typing.proofs.Joined.{side, cast_kind_of, compare_holds, choose_holds, condition_holds, Settled, Chained, chained_holds}
 
 -- a typing has its kind, and inside what is of it
 pub record Holds (s : Place) (p : Typing) : Type 0 where

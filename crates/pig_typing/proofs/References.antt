@@ -1,5 +1,5 @@
 -- References, selections and steps: what their readers tell holds, what holds is told, and what is refused is told to be.
-use Rattle.std.proofs.Common.{◌≡◌, ◌∙◌, ℕ, List, [], ◌∷◌, map, length, refl, sym, ap, subst, inl, inr, ◌<◌, ◌≤◌, arith, Bool, true, false}
+use Rattle.std.proofs.Common.{◌≡◌, ◌∙◌, ℕ, List, [], ◌∷◌, map, length, refl, sym, subst, inl, inr, ◌<◌, ◌≤◌, Bool}
 use Rattle.std.specs.Prelude.{◌⊎◌, Option, Some, None, slice_get, get_or, IfOk, IfErr}
 use Rattle.std.specs.declared.result.Result.{Result}
 use Rattle.std.specs.declared.result.Result.TheVariants.{Ok, Err}
@@ -8,7 +8,7 @@ use Rattle.std.proofs.lemmas.List.{length-map}
 use Rattle.pig_value.specs.Trees.{KindTree}
 use Rattle.pig_value.proofs.list_laws.Indexing.{some_at}
 use Rattle.pig_schema.specs.FieldTrees.{FieldTree, tree_name, tree_kind}
-use Rattle.pig_schema.specs.Names.{IsMeant, IsUnknown, IsAmbiguous, IsNameFault, meaning}
+use Rattle.pig_schema.specs.Names.{IsMeant, IsNameFault, meaning}
 use Rattle.pig_schema.specs.declared.naming.NameFault.{NameFault}
 use Rattle.pig_schema.specs.declared.naming.NameFault.TheVariants as fault
 use Rattle.pig_schema.proofs.Readings.{told, meant_is, unknown_is, ambiguous_is, meant_within}
@@ -21,7 +21,7 @@ use Rattle.pig_typing.specs.declared.faults.CheckKind.TheVariants as kind
 use Rattle.pig_typing.specs.Columns.{Means, MeansNone, by_name, by_position, unknown, ambiguous, outside, name_place, column_at, refer}
 use Rattle.pig_typing.specs.Limits.{limited}
 use Rattle.pig_typing.specs.Parts.{Typing, Picks, Selects, SelectsNot, none_selected, one_selected, here, later, fields_in, projected, value_in, picked, column_of, kind_in, Steps, StepsNot, projects, looks, of_no_fields, of_no_field, of_no_grammar, past_limits, of_no_map, Walks, WalksNot, ends, goes, stops, goes_on, select, chosen_of, given_of, step_of, steps_of}
-use Rattle.pig_typing.specs.Results.{Checked, due, ◌>>=◌}
+use Rattle.pig_typing.specs.Results.{Checked, ◌>>=◌}
 use Rattle.pig_typing.proofs.Chains.{then_told, passes, then_is, due_is}
 
 -- ---- references

@@ -1,7 +1,7 @@
 -- Typings, computed.
-use Rattle.std.specs.Prelude.{◌≡◌, ℕ, pos, true, List, [], ◌∷◌, codes, Option, Some, None, refl}
+use Rattle.std.specs.Prelude.{◌≡◌, ℕ, pos, true, List, [], ◌∷◌, codes, Some, None, refl}
 use Rattle.std.specs.declared.result.Result.TheVariants.{Ok, Err}
-use Rattle.pig_value.specs.Trees.{k_boolean, k_int, k_long, k_chars, k_bytes, k_bag, k_map, kinds_of}
+use Rattle.pig_value.specs.Trees.{k_int, k_long, k_chars, k_bytes, k_bag, k_map, kinds_of}
 use Rattle.pig_value.specs.declared.functions.Function.TheVariants as function
 use Rattle.pig_value.specs.declared.operators.ChainOp.TheVariants as op
 use Rattle.pig_value.specs.declared.operators.Rel.TheVariants as rel
@@ -9,9 +9,8 @@ use Rattle.pig_schema.specs.FieldTrees.{a_field, no_inner, inner_of}
 use Rattle.pig_syntax.specs.ExprTrees.{ExprForm, e_int, e_text, e_field, e_chain, e_compare, e_post, e_call, e_choose, no_links, more_links, no_exprs, more_exprs}
 use Rattle.pig_syntax.specs.declared.trees.FieldRef.TheVariants as ref
 use Rattle.pig_syntax.specs.declared.trees.PostStep.TheVariants as step
-use Rattle.pig_typed.specs.Typed.{Typed, x_int, x_chars, x_field, x_local, x_chain, x_compare, x_choose, x_cast, x_project, x_look, x_call, links_of, args_of}
+use Rattle.pig_typed.specs.Typed.{x_int, x_chars, x_field, x_local, x_chain, x_compare, x_choose, x_cast, x_project, x_look, x_call, links_of, args_of}
 use Rattle.pig_typing.specs.declared.faults.CheckKind.TheVariants as kind
-use Rattle.pig_typing.specs.Calls.{cast_by, casting, sized}
 use Rattle.pig_typing.specs.Columns.{Place, column_at, refer, unnamed}
 use Rattle.pig_typing.specs.Limits.{limited}
 use Rattle.pig_typing.specs.Parts.{chosen_of, given_of, select, step_of, steps_of, typing}

@@ -1,13 +1,11 @@
 -- Calls of functions: how many arguments each takes, which of them are cast, and the column of what it gives.
 -- (Built In Functions. Which casts are inserted is a choice of this profile.)
-use Rattle.std.specs.Prelude.{◌≡◌, ◌+◌, ℕ, zero, suc, ◌==◌, Bool, true, false, List, [], ◌∷◌, map, length, nat_lt, codes, Option, Some, None, if◌then◌else◌}
+use Rattle.std.specs.Prelude.{◌+◌, ℕ, zero, suc, ◌==◌, Bool, true, false, List, [], ◌∷◌, length, nat_lt, codes, Option, Some, None, if◌then◌else◌}
 use Rattle.std.specs.List.{list_all, list_any}
-use Rattle.pig_value.specs.FunctionKinds.{function_kind}
-use Rattle.pig_value.specs.Kinds.{kind_eq}
 use Rattle.pig_value.specs.Trees.{KindTree, k_int, k_long, k_chars, k_bytes, k_tuple, kinds_list}
 use Rattle.pig_value.specs.declared.functions.Function.{Function}
 use Rattle.pig_value.specs.declared.functions.Function.TheVariants as f
-use Rattle.pig_schema.specs.FieldTrees.{FieldTree, a_field, no_inner, more_inner, inner_of, tree_kind}
+use Rattle.pig_schema.specs.FieldTrees.{FieldTree, a_field, no_inner, more_inner, inner_of}
 use Rattle.pig_typed.specs.Typed.{Typed, x_cast, x_field}
 use Rattle.pig_typing.specs.declared.calls.Casting.{Casting}
 use Rattle.pig_typing.specs.declared.calls.Casting.TheVariants as c

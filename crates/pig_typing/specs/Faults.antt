@@ -1,7 +1,7 @@
 -- Why an expression has no typing: the condition of each kind of refusal, of the expression itself or of one inside it. Where two
 -- hold, either may be answered.
-use Rattle.std.specs.Prelude.{◌≡◌, ℕ, Bool, true, false, List, Option, Some, None}
-use Rattle.std.specs.declared.result.Result.TheVariants.{Ok, Err}
+use Rattle.std.specs.Prelude.{◌≡◌, ℕ, Bool, true, false, List, Some, None}
+use Rattle.std.specs.declared.result.Result.TheVariants.{Err}
 use Rattle.pig_value.specs.Casts.{may_cast}
 use Rattle.pig_value.specs.Functions.{function_named}
 use Rattle.pig_value.specs.Trees.{KindTree}
@@ -14,7 +14,6 @@ use Rattle.pig_syntax.specs.declared.trees.FieldRef.TheVariants as ref
 use Rattle.pig_syntax.specs.declared.trees.PostStep.{PostStep}
 use Rattle.pig_syntax.specs.declared.trees.TypeTree.{TypeTree}
 use Rattle.pig_typed.specs.ExprKinds.{minus_kind}
-use Rattle.pig_typed.specs.Typed.{Typed}
 use Rattle.pig_typing.specs.declared.faults.CheckKind.{CheckKind}
 use Rattle.pig_typing.specs.declared.faults.CheckKind.TheVariants as kind
 use Rattle.pig_typing.specs.Calls.{average, takes}

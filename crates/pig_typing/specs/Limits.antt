@@ -1,5 +1,5 @@
 -- How wide and how deep a kind may be. (The limits are choices of this profile.)
-use Rattle.std.specs.Prelude.{Bool, true, false, ◌||◌, length, nat_lt, if◌then◌else◌}
+use Rattle.std.specs.Prelude.{Bool, false, ◌||◌, length, nat_lt, if◌then◌else◌}
 use Rattle.std.specs.declared.result.Result.TheVariants.{Ok, Err}
 use Rattle.pig_value.specs.Kinds.{depth_of, width_of}
 use Rattle.pig_value.specs.Trees.{KindTree, KindTrees, k_tuple, k_bag, k_map, no_kinds, more_kinds, kinds_list}

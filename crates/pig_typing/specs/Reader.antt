@@ -1,10 +1,10 @@
 -- The typing of expressions as a function, which the code follows.
-use Rattle.std.specs.Prelude.{ℕ, Bool, true, false, List, [], ◌∷◌, map, Option, Some, None, if◌then◌else◌}
+use Rattle.std.specs.Prelude.{ℕ, List, [], ◌∷◌, map, Option, Some, None, if◌then◌else◌}
 use Rattle.std.specs.Str.{bytes_eq}
 use Rattle.std.specs.declared.result.Result.TheVariants.{Ok, Err}
 use Rattle.pig_value.specs.Casts.{may_cast}
 use Rattle.pig_value.specs.Functions.{function_named}
-use Rattle.pig_value.specs.Trees.{KindTree, k_boolean, k_int, k_long, k_chars, k_bytes}
+use Rattle.pig_value.specs.Trees.{k_boolean, k_int, k_long, k_chars, k_bytes}
 use Rattle.pig_value.specs.declared.functions.Function.{Function}
 use Rattle.pig_value.specs.declared.operators.ChainOp.{ChainOp}
 use Rattle.pig_value.specs.declared.operators.Rel.{Rel}
@@ -15,11 +15,10 @@ use Rattle.pig_syntax.specs.declared.trees.FieldRef.TheVariants as ref
 use Rattle.pig_syntax.specs.declared.trees.TypeTree.{TypeTree}
 use Rattle.pig_typed.specs.ExprKinds.{minus_kind}
 use Rattle.pig_typed.specs.Typed.{Typed, x_null, x_bool, x_int, x_long, x_chars, x_field, x_local, x_compare, x_is_null, x_not, x_minus, x_choose, x_cast, x_call, args_of}
-use Rattle.pig_typing.specs.declared.faults.CheckKind.{CheckKind}
 use Rattle.pig_typing.specs.declared.faults.CheckKind.TheVariants as kind
 use Rattle.pig_typing.specs.Calls.{average, takes, given}
 use Rattle.pig_typing.specs.Columns.{Place, latest, nameless, refer, unnamed}
-use Rattle.pig_typing.specs.Joins.{Join, alike, cast_if, chained, compared, condition}
+use Rattle.pig_typing.specs.Joins.{alike, cast_if, chained, compared, condition}
 use Rattle.pig_typing.specs.Limits.{limited}
 use Rattle.pig_typing.specs.Parts.{Typing, typing, typed_of, column_of, kind_in, steps_of}
 use Rattle.pig_typing.specs.Results.{Checked, due, ◌>>=◌}

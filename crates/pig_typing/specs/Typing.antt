@@ -1,7 +1,7 @@
 -- The typing of expressions: over the columns of a row and the nested aliases so far, an expression has a typed expression, with
 -- its fields by position and every cast written out, and the column that it gives. One case for each form, in the order of the forms.
 -- (Pig Latin Basics: "Arithmetic Operators", "Comparison Operators", "Boolean Operators", "Cast Operators", "Dereference Operators".)
-use Rattle.std.specs.Prelude.{◌≡◌, ◌++◌, ℕ, ℤ, Bool, true, false, List, [], ◌∷◌, map, length, suc, Option, Some, None}
+use Rattle.std.specs.Prelude.{◌≡◌, ◌++◌, ℕ, ℤ, Bool, true, List, [], ◌∷◌, map, suc, Option, Some, None}
 use Rattle.std.specs.declared.result.Result.TheVariants.{Ok}
 use Rattle.pig_value.specs.Casts.{may_cast}
 use Rattle.pig_value.specs.FunctionKinds.{function_kind}
@@ -11,7 +11,7 @@ use Rattle.pig_value.specs.declared.functions.Function.{Function}
 use Rattle.pig_value.specs.declared.operators.ChainOp.{ChainOp}
 use Rattle.pig_value.specs.declared.operators.Rel.{Rel}
 use Rattle.pig_schema.specs.FieldTrees.{FieldTree, tree_kind}
-use Rattle.pig_syntax.specs.ExprTrees.{ExprForm, LinkForms, ExprForms, e_int, e_long, e_float, e_text, e_bool, e_null, e_field, e_chain, e_compare, e_is_null, e_not, e_minus, e_cast, e_post, e_call, e_choose, no_links, more_links, no_exprs, more_exprs, type_form}
+use Rattle.pig_syntax.specs.ExprTrees.{ExprForm, LinkForms, ExprForms, e_int, e_long, e_text, e_bool, e_null, e_field, e_chain, e_compare, e_is_null, e_not, e_minus, e_cast, e_post, e_call, e_choose, no_links, more_links, no_exprs, more_exprs, type_form}
 use Rattle.pig_syntax.specs.declared.trees.FieldRef.TheVariants as ref
 use Rattle.pig_syntax.specs.declared.trees.PostStep.{PostStep}
 use Rattle.pig_syntax.specs.declared.trees.TypeTree.{TypeTree}
