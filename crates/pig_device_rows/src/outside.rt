@@ -136,11 +136,13 @@ fn a_second_look_fails(rt: HostRuntime) -> Result<(), Fail> {
 }
 
 /// Reads the last two bytes of the input `in`, whose one piece is `xyz`.
-fn read_end(host: &mut MemoryHost, into: &mut [u8; 2]) -> Result<(), OutsideError>
+fn read_end(host: &mut MemoryHost) -> Result<[u8; 2], OutsideError>
     requires { host_inputs host.old ≡ one_input }
     ensures { host_inputs host.new ≡ host_inputs host.old }
 {
-    host.read("in", 0, 1, into)
+    let mut into = [0; 2];
+    host.read("in", 0, 1, &mut into)?;
+    Ok(into)
 }
 
 #[test]
@@ -155,14 +157,9 @@ fn a_host_reads_a_range(rt: HostRuntime) -> Result<(), Fail> {
     assert_eq!(rt; host.begin(0, 0, 0), Ok(()));
     assert_eq!(rt; host.begin(0, 0, 1), Err(Failed));
     assert_eq!(rt; host.begin(0, 0, 2), Ok(()));
-    let mut into = [0; 2];
-    assert_eq!(rt; read_end(&mut host, &mut into), Ok(()));
-    assert_eq!(rt; into, [b'y', b'z']);
-    into = [7; 2];
-    assert_eq!(rt; read_end(&mut host, &mut into), Err(OutsideError::Failed));
-    assert_eq!(rt; into, [7; 2]);
-    assert_eq!(rt; read_end(&mut host, &mut into), Ok(()));
-    assert_eq!(rt; into, [b'y', b'z']);
+    assert_eq!(rt; read_end(&mut host), Ok([b'y', b'z']));
+    assert_eq!(rt; read_end(&mut host), Err(OutsideError::Failed));
+    assert_eq!(rt; read_end(&mut host), Ok([b'y', b'z']));
     Ok(())
 }
 
