@@ -517,7 +517,7 @@ fn links_of(op: &Op) -> usize {
 fn reads_a_long_chain(rt: HostRuntime) -> Result<(), Fail> {
     let alloc = rt.alloc();
     let mut script = String::from_str(alloc, "x = FILTER a BY b")?;
-    for _ in 0..30_000 {
+    for _ in 0..100_000 {
         script.push_str(" + b")?;
     }
     script.push_str(";")?;
@@ -525,7 +525,7 @@ fn reads_a_long_chain(rt: HostRuntime) -> Result<(), Fail> {
         Answer::Trees(trees) => links(&trees),
         _ => 0,
     };
-    assert_eq!(rt; number, 30_000);
+    assert_eq!(rt; number, 100_000);
     Ok(())
 }
 
