@@ -102,19 +102,19 @@ fn what_is_no_file_is_a_failure(rt: HostRuntime) -> Result<(), Fail> {
 #[test]
 fn a_host_lists_a_folder_once(rt: HostRuntime) -> Result<(), Fail> {
     let alloc = rt.alloc();
-    fs::create_dir_all(&rt, "in")?;
-    fs::write(&rt, "in/b", "b")?;
-    fs::write(&rt, "in/c", "c")?;
+    fs::create_dir_all(&rt, "listed")?;
+    fs::write(&rt, "listed/b", "b")?;
+    fs::write(&rt, "listed/c", "c")?;
     let mut host = FileHost::new(rt.clone()?, alloc);
     let mut into = [0; 1];
-    host.read("in", 0, 0, &mut into)?;
+    host.read("listed", 0, 0, &mut into)?;
     assert_eq!(rt; into, [b'b']);
     // A host that listed it again would find b here.
-    fs::write(&rt, "in/a", "a")?;
-    host.read("in", 1, 0, &mut into)?;
+    fs::write(&rt, "listed/a", "a")?;
+    host.read("listed", 1, 0, &mut into)?;
     assert_eq!(rt; into, [b'c']);
     let mut other = FileHost::new(rt.clone()?, alloc);
-    other.read("in", 1, 0, &mut into)?;
+    other.read("listed", 1, 0, &mut into)?;
     assert_eq!(rt; into, [b'b']);
     Ok(())
 }
