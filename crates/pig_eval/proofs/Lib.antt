@@ -1,0 +1,4 @@
+pub mod Projections
+pub mod TruthLaws
+pub mod ColumnLaws
+pub mod Evaluated
