@@ -43,7 +43,7 @@ read_column : (function : Function) (ns : List ℕ) (n : ℕ) → ReadsColumn fu
 read_column function ns n reads rows made same =
     ap (column_tree function) (read_rows function ns n reads.1 rows)
     ∙ ap or_null (in_any_order function (map (looked_at function) (map (pick ns) rows)) (map (looked_at function) made)
-        (IsPermutation-map (looked_at function) (map (pick ns) rows) made same))
+    (IsPermutation-map (looked_at function) (map (pick ns) rows) made same))
 
 pub column_is : (function : Function) (ns : List ℕ) (n : ℕ) (single : Bool) (v : Tree) (rows : List (List Tree)) → ReadsColumn function ns n
     → Some rows ≡ argument_rows (v ∷ []) → column_tree function (map (at n) rows) ≡ apply_tree function (project_tree ns single v ∷ [])

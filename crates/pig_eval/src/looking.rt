@@ -25,7 +25,6 @@ use std::alloc::{AllocError, Global};
 ///
 /// A lent value takes no memory. A field, a local and their parts are lent, and so is what a bincond chooses.
 #[cycle(look)]
-#[tactic(auto, using(crate::proofs::TruthLaws::logical_is))]
 pub fn look<'a>(
     alloc: Global,
     e: &'a TExpr,
@@ -92,7 +91,6 @@ fn literal<'a>(alloc: Global, text: &Text) -> Result<Seen<'a>, AllocError>
 ///
 /// Comparisons, AND, OR and NOT make no value on the way, and AND and OR end where the answer is known.
 #[cycle(look)]
-#[tactic(auto, using(crate::proofs::TruthLaws::links_truth_is))]
 pub fn truth<'a>(
     alloc: Global,
     e: &'a TExpr,

@@ -109,11 +109,31 @@ fn text(alloc: Global, at: u32) -> Result<TExpr, AllocError> {
         0 => call_one(alloc, Function::Size, TExpr::Field(0)),
         1 => part(alloc, 1, 3),
         2 => part(alloc, 3, 9),
-        3 => call_two(alloc, Function::IndexOf, TExpr::Field(1), literal(alloc, "na")?),
-        4 => call_two(alloc, Function::IndexOf, TExpr::Field(1), literal(alloc, "x")?),
+        3 => call_two(
+            alloc,
+            Function::IndexOf,
+            TExpr::Field(1),
+            literal(alloc, "na")?,
+        ),
+        4 => call_two(
+            alloc,
+            Function::IndexOf,
+            TExpr::Field(1),
+            literal(alloc, "x")?,
+        ),
         5 => call_one(alloc, Function::Abs, TExpr::Field(2)),
-        6 => call_two(alloc, Function::StartsWith, TExpr::Field(1), literal(alloc, "ba")?),
-        7 => call_two(alloc, Function::EndsWith, TExpr::Field(1), literal(alloc, "ba")?),
+        6 => call_two(
+            alloc,
+            Function::StartsWith,
+            TExpr::Field(1),
+            literal(alloc, "ba")?,
+        ),
+        7 => call_two(
+            alloc,
+            Function::EndsWith,
+            TExpr::Field(1),
+            literal(alloc, "ba")?,
+        ),
         _ => call_two(alloc, Function::Concat, TExpr::Field(0), TExpr::Field(1)),
     }
 }
