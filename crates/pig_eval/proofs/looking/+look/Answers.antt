@@ -8,7 +8,7 @@ use Rattle.pig_eval.proofs.Chains.{chain_truth_is, chain_value_is}
 use Rattle.pig_eval.proofs.looking.+look.Goals as goal
 
 pub look-returns-then-is_condition : goal.look-returns-then-is_condition
-look-returns-then-is_condition c =
+look-returns-then-is_condition t c =
     let row = row_tree c.args.row.now in
     let locals = row_tree c.args.locals.now in
     let same : c.get.result.now ≡ c.in-Chain.first = search rules in
@@ -21,7 +21,7 @@ look-returns-then-is_condition c =
     c.in-Chain.is same begun found logical
 
 pub truth-returns-in_ok-truth-in-Chain : goal.truth-returns-in_ok-truth-in-Chain
-truth-returns-in_ok-truth-in-Chain c =
+truth-returns-in_ok-truth-in-Chain t c =
     let row = row_tree c.args.row.now in
     let locals = row_tree c.args.locals.now in
     let same : c.get.result.now ≡ c.in-Chain.first = search rules in
