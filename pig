@@ -1,13 +1,10 @@
 #!/bin/sh
-# Runs the proved program with the words given, and ends with its status. It is proved and built first where that has
-# not been done for these sources by this toolchain; where that fails, the status is 70.
+# Runs the proved program with the words given, and ends with its status. It is proved and built first where neither
+# this nor the gate has done so for these sources with this toolchain; where that fails, the status is 70.
 root=$(cd "$(dirname "$0")" && pwd) || exit 70
 program=$root/crates/pig/out/pig
 built=$root/crates/pig/out/pig.sources
-sources=$({
-    rt version
-    cd "$root" && find crates.txt HANDLES crates \( -path '*/out' -o -path '*/must-fail' \) -prune -o -type f -print | LC_ALL=C sort | xargs cat
-} | sha256sum)
+sources=$("$root/.ci/sources") || exit 70
 if [ ! -x "$program" ] || [ "$(cat "$built" 2>/dev/null)" != "$sources" ]; then
     rm -f "$program" "$built"
     "$root/.ci/build" || exit 70

@@ -131,7 +131,8 @@ pub fn apply_three(
     c: &Value,
 ) -> Result<Value, AllocError>
     requires { is_variadic_function function ≡ false }
-    ensures { IfOk result (λ v. tree v ≡ apply_tree function (tree a.now ∷ tree b.now ∷ tree c.now ∷ [])) }
+    ensures { IfOk result (λ v. tree v
+        ≡ apply_tree function (tree a.now ∷ tree b.now ∷ tree c.now ∷ [])) }
 {
     match function {
         Function::Substring => part_of(alloc, a, b, c),
@@ -140,7 +141,8 @@ pub fn apply_three(
 }
 
 fn part_of(alloc: Global, a: &Value, b: &Value, c: &Value) -> Result<Value, AllocError>
-    ensures { IfOk result (λ v. tree v ≡ substring_tree (tree a.now ∷ tree b.now ∷ tree c.now ∷ [])) }
+    ensures { IfOk result (λ v. tree v
+        ≡ substring_tree (tree a.now ∷ tree b.now ∷ tree c.now ∷ [])) }
 {
     match (a, b, c) {
         (Value::Chars(text), Value::Int(start), Value::Int(stop)) => {

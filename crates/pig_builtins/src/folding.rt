@@ -29,7 +29,9 @@ impl<'a> Fold<'a> {
     /// The fold of a function over no value yet; none where the function is not algebraic.
     #[tactic(auto, using(crate::proofs::Sums::zero_is))]
     pub fn start(function: Function) -> Option<Fold<'a>>
-        ensures { MatchOption result (is_algebraic function ≡ false) (λ fold. (fold_function fold ≡ function) × (fold_found fold ≡ column_found function [])) }
+        ensures { MatchOption result (is_algebraic function ≡ false)
+            (λ fold. (fold_function fold ≡ function)
+            × (fold_found fold ≡ column_found function [])) }
     {
         match function {
             Function::Count => Some(Fold::Count(0)),
@@ -44,7 +46,10 @@ impl<'a> Fold<'a> {
     /// The fold with one more value, where none stands for null.
     pub fn add(self, field: Option<&'a Value>) -> Fold<'a>
         ensures function { fold_function result ≡ fold_function self.entry }
-        ensures found { (vs : List Tree) → fold_found self.entry ≡ column_found (fold_function self.entry) vs → fold_found result ≡ column_found (fold_function self.entry) (vs ++ field_tree field.entry ∷ []) }
+        ensures found { (vs : List Tree)
+            → fold_found self.entry ≡ column_found (fold_function self.entry) vs
+            → fold_found result
+            ≡ column_found (fold_function self.entry) (vs ++ field_tree field.entry ∷ []) }
     {
         self.step(field)
     }
@@ -52,7 +57,9 @@ impl<'a> Fold<'a> {
     // What the fold and the one value find together.
     fn step(self, field: Option<&'a Value>) -> Fold<'a>
         ensures function { fold_function result ≡ fold_function self.entry }
-        ensures found { fold_found result ≡ merge_found (fold_function self.entry) (fold_found self.entry) (column_found (fold_function self.entry) (field_tree field.entry ∷ [])) }
+        ensures found { fold_found result
+            ≡ merge_found (fold_function self.entry) (fold_found self.entry)
+            (column_found (fold_function self.entry) (field_tree field.entry ∷ [])) }
     {
         match self {
             Fold::Count(n) => Fold::Count(plus(n, count(field))),
@@ -84,7 +91,8 @@ fn plus(a: i64, b: i64) -> i64
 
 // The sum of two numbers, either of which may be missing.
 fn plus_some(a: Option<i64>, b: Option<i64>) -> Option<i64>
-    ensures { option_map v_long result ≡ merge_found Sum (option_map v_long a) (option_map v_long b) }
+    ensures { option_map v_long result
+        ≡ merge_found Sum (option_map v_long a) (option_map v_long b) }
 {
     match (a, b) {
         (None, b) => b,
@@ -106,7 +114,8 @@ fn count(field: Option<&Value>) -> i64
 
 // The number that a value is.
 fn number(field: Option<&Value>) -> Option<i64>
-    ensures { option_map v_long result ≡ sum_found (filter_map whole_of (field_tree field.entry ∷ [])) }
+    ensures { option_map v_long result
+        ≡ sum_found (filter_map whole_of (field_tree field.entry ∷ [])) }
 {
     match field {
         Some(Value::Int(n)) => Some(long(i64::from(*n))),
@@ -178,7 +187,8 @@ pub fn apply_column(
     rows: &[Tuple],
     position: u32,
 ) -> Result<Value, AllocError>
-    ensures { IfOk result (λ v. tree v ≡ column_tree function (map (at position) (rows_tree rows.now))) }
+    ensures { IfOk result (λ v. tree v
+        ≡ column_tree function (map (at position) (rows_tree rows.now))) }
 {
     match Fold::start(function) {
         Some(start) => {
@@ -194,7 +204,8 @@ pub fn apply_column(
 
 /// The same of what the function looks at in each row of a bag.
 pub fn apply_rows(alloc: Global, function: Function, rows: &[Tuple]) -> Result<Value, AllocError>
-    ensures { IfOk result (λ v. tree v ≡ column_tree function (map (looked_at_of function) (rows_tree rows.now))) }
+    ensures { IfOk result (λ v. tree v
+        ≡ column_tree function (map (looked_at_of function) (rows_tree rows.now))) }
 {
     match Fold::start(function) {
         Some(start) => {

@@ -28,7 +28,8 @@ pub fn concat(alloc: Global, args: &[Value]) -> Result<Value, AllocError>
 
 // The chararrays joined, where all are such.
 fn join_texts(alloc: Global, args: &[Value]) -> Result<Option<Text>, AllocError>
-    ensures { IfOk result (λ joined. joined ≡ option_map concat (all_of text_in (row_tree args.now))) }
+    ensures { IfOk result (λ joined. joined
+        ≡ option_map concat (all_of text_in (row_tree args.now))) }
 {
     let mut joined = String::new(alloc);
     for arg in args {
@@ -51,7 +52,8 @@ fn text_of(v: &Value) -> Option<&Text>
 
 // The bytearrays joined, where all are such.
 fn join_bytes(alloc: Global, args: &[Value]) -> Result<Option<Blob>, AllocError>
-    ensures { IfOk result (λ joined. joined ≡ option_map concat (all_of bytes_in (row_tree args.now))) }
+    ensures { IfOk result (λ joined. joined
+        ≡ option_map concat (all_of bytes_in (row_tree args.now))) }
 {
     let mut joined = Vec::new(alloc);
     for arg in args {
@@ -100,7 +102,8 @@ pub fn to_bag(alloc: Global, width: Option<u32>, args: &[Value]) -> Result<Value
 
 // A row for each argument, where each gives one.
 fn rows_from(alloc: Global, width: Option<u32>, args: &[Value]) -> Result<Option<Rows>, AllocError>
-    ensures { IfOk result (λ rows. option_map rows_tree rows ≡ all_of (row_from width) (row_tree args.now)) }
+    ensures { IfOk result (λ rows. option_map rows_tree rows
+        ≡ all_of (row_from width) (row_tree args.now)) }
 {
     let mut rows = Seq::new(alloc);
     for arg in args {
@@ -128,7 +131,8 @@ fn row_from(alloc: Global, width: Option<u32>, arg: &Value) -> Result<Option<Tup
 
 // The fields, where there are as many as wanted.
 fn as_wide(alloc: Global, width: u32, fields: &Tuple) -> Result<Option<Tuple>, AllocError>
-    ensures { IfOk result (λ row. option_map row_tree row ≡ (if length fields.now == width then Some (row_tree fields.now) else None)) }
+    ensures { IfOk result (λ row. option_map row_tree row
+        ≡ (if length fields.now == width then Some (row_tree fields.now) else None)) }
 {
     if fields.len() == width as usize {
         Ok(Some(copy_row(alloc, fields)?))

@@ -10,7 +10,8 @@ use pig_value::{Rows, Value};
 /// The rows of a bag, also of a listed one.
 #[tactic(auto, using(crate::proofs::Trees::bag_rows, crate::proofs::Trees::listed_rows))]
 pub fn rows_of(v: &Value) -> Option<&Rows>
-    ensures { option_map (λ rows. rows_tree rows.now) result ≡ argument_rows (tree v.now ∷ []) }
+    ensures { option_map (λ rows. rows_tree rows.now) result
+        ≡ argument_rows (tree v.now ∷ []) }
 {
     match v {
         Value::Bag(rows) | Value::Listed(rows) => Some(rows),

@@ -74,7 +74,8 @@ fn place_of(text: &str, wanted: &str) -> Option<usize>
 
 /// SUBSTRING.
 pub fn substring(alloc: Global, text: &Text, start: i32, stop: i32) -> Result<Value, AllocError>
-    ensures { IfOk result (λ v. tree v ≡ substring_tree (v_chars text.now ∷ v_int start ∷ v_int stop ∷ [])) }
+    ensures { IfOk result (λ v. tree v
+        ≡ substring_tree (v_chars text.now ∷ v_int start ∷ v_int stop ∷ [])) }
 {
     match part(text.as_str(), natural(start), natural(stop)) {
         Some(part) => Ok(Value::Chars(Text::from_str(alloc, part)?)),
@@ -90,7 +91,8 @@ fn natural(n: i32) -> Option<usize>
 }
 
 fn part(text: &str, start: Option<usize>, stop: Option<usize>) -> Option<&str>
-    ensures { option_map (λ part. part.now) result ≡ option_map encode_utf8_all (part_from (chars text.now) start stop) }
+    ensures { option_map (λ part. part.now) result
+        ≡ option_map encode_utf8_all (part_from (chars text.now) start stop) }
 {
     match (start, stop) {
         (Some(start), Some(stop)) => part_between(text, start, stop),
@@ -100,7 +102,8 @@ fn part(text: &str, start: Option<usize>, stop: Option<usize>) -> Option<&str>
 
 // The characters from start up to and without stop, or up to the end.
 fn part_between(text: &str, start: usize, stop: usize) -> Option<&str>
-    ensures { option_map (λ part. part.now) result ≡ option_map encode_utf8_all (substring (chars text.now) (pos start) (pos stop)) }
+    ensures { option_map (λ part. part.now) result
+        ≡ option_map encode_utf8_all (substring (chars text.now) (pos start) (pos stop)) }
 {
     if stop < start {
         return None;
@@ -113,7 +116,9 @@ fn part_between(text: &str, start: usize, stop: usize) -> Option<&str>
 
 // The text behind so many characters.
 fn behind(text: &str, n: usize) -> Option<&str>
-    ensures { MatchOption result (length (chars text.now) < n) (λ rest. (n ≤ length (chars text.now)) × (rest.now ≡ encode_utf8_all (drop n (chars text.now)))) }
+    ensures { MatchOption result (length (chars text.now) < n)
+        (λ rest. (n ≤ length (chars text.now))
+        × (rest.now ≡ encode_utf8_all (drop n (chars text.now)))) }
 {
     let mut rest = text.chars();
     for _i in 0..n {

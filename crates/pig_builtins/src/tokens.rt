@@ -23,7 +23,8 @@ pub fn tokenize(alloc: Global, text: &Text) -> Result<Value, AllocError>
 
 // A row for each piece that is not empty, in order.
 fn pieces(alloc: Global, text: &str) -> Result<Rows, AllocError>
-    ensures { IfOk result (λ rows. rows_tree rows ≡ piece_rows (slice_split is_separator text.now)) }
+    ensures { IfOk result (λ rows. rows_tree rows
+        ≡ piece_rows (slice_split is_separator text.now)) }
 {
     let mut rows = Seq::new(alloc);
     let mut rest = text;
@@ -37,7 +38,8 @@ fn pieces(alloc: Global, text: &str) -> Result<Rows, AllocError>
 
 // The piece before the first separator, and what stands behind that.
 fn cut(text: &str) -> Option<(&str, &str)>
-    ensures split { MatchOption result (slice_split is_separator text.now ≡ text.now ∷ []) (λ p. slice_split is_separator text.now ≡ p.0.now ∷ slice_split is_separator p.1.now) }
+    ensures split { MatchOption result (slice_split is_separator text.now ≡ text.now ∷ [])
+        (λ p. slice_split is_separator text.now ≡ p.0.now ∷ slice_split is_separator p.1.now) }
     ensures shorter { IfSome result (λ p. length p.1.now < length text.now) }
     ensures utf8 { IfSome result (λ p. IsUtf8 p.1.now) }
 {

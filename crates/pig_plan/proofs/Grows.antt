@@ -29,7 +29,7 @@ stands (w ∷ xs) x (suc k) y h = behind (stands xs x k y h)
     behind (within e t) = within e (ap (λ zs. w ∷ zs) t)
     behind (last e t) = last e (ap (λ zs. w ∷ zs) t)
 
-grows : (plan : Plan) (node : PlanNode) → IsPlan plan → fits plan node ≡ true → IsPlan (plan ++ node ∷ [])
+pub grows : (plan : Plan) (node : PlanNode) → IsPlan plan → fits plan node ≡ true → IsPlan (plan ++ node ∷ [])
 grows plan node valid fitting k other h = by_place (stands plan node k other h)
   where
     by_place : Stands plan node k other → fits (take k (plan ++ node ∷ [])) other ≡ true

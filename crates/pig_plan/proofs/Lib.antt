@@ -1,7 +1,15 @@
 mod Samples
+mod WrongBodies
 pub mod Unfolds
 pub mod Gathered
 pub mod Ordered
 pub mod Looking
 pub mod Lower
 mod Grows
+pub mod Adding
+pub mod Seen
+pub mod Listed
+pub mod LoadRows
+pub mod Carries
+pub mod Meanings
+pub mod Values

@@ -10,6 +10,9 @@ mod nodes;
 mod plan;
 mod written;
 
-pub use laws::{meaning_goes_by_nodes, order_goes_by_slices, parts_give_the_whole};
+pub use laws::{
+    further_nodes_change_none, meaning_goes_by_nodes, meanings_are_values, operators_see_bags,
+    order_goes_by_slices, parts_give_the_whole,
+};
 pub use nodes::{KeyedInput, KeyedInputs, Node, NodeOp, Nodes};
 pub use plan::Plan;

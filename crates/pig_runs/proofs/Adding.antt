@@ -77,6 +77,11 @@ pub finds_new : (ds : List Dir) (bytes : List ℕ) (e : Keyed) → IsEntry ds e
     → Finds ds (bytes ++ ((packed ds e).key ++ (packed ds e).row)) (slot_of (length bytes) (packed ds e).key (packed ds e).row e.input ∷ []) (e ∷ [])
 finds_new ds bytes e good = (∣ (good, tt) ∣₁, (let found = found_new bytes (packed ds e).key (packed ds e).row e.input in λ i. found i ∷ []))
 
+-- the same of an entry that is lent
+pub finds_lent : (ds : List Dir) (bytes : List ℕ) (p : Packed) (one : Held ds (p ∷ []))
+    → Finds ds (bytes ++ (p.key ++ p.row)) (slot_of (length bytes) p.key p.row p.input ∷ []) one.0
+finds_lent ds bytes p one = (one.1.0, (let found = found_new bytes p.key p.row p.input in (λ i. found i ∷ []) ∙ sym one.1.1))
+
 module _ (bytes more held_bytes : List ℕ) (slots held_slots : List Slot) (same_bytes : more ≡ held_bytes) (same_slots : slots ≡ held_slots) where
   pub finds_moved : (ds held_dirs : List Dir) → held_dirs ≡ ds → (held : Held held_dirs (map (found_at held_bytes) held_slots)) → Finds ds (bytes ++ more) (map (moved (length bytes)) slots) held.0
   finds_moved ds held_dirs same held = (
@@ -131,3 +136,13 @@ module _ (ds : List Dir) (fs : List Keyed) (old new more : List ℕ) (slots grow
       let after = held_after {T = T} {E = E} (Err u) finds within held bytes both same_bytes same_slots in
       let is : given.0 ≡ held.0 = ap (λ h. h.0) (held_prop ds (map (found_at new) grown) given after) in
       (tt, ap (λ l. record { dirs = ds; entries = l }) is ∙ sym was)
+
+-- where memory is wanting, what is seen stays
+pub seen_same : {T E : Type 0} (ds : List Dir) (old new : List ℕ) (slots grown : List Slot) (r : Result T E) (held : Held ds (map (found_at old) slots))
+    → OnErr r (new ≡ old) → OnErr r (grown ≡ slots) → (given : Held ds (map (found_at new) grown)) (b : InDirections) → b ≡ record { dirs = ds; entries = held.0 }
+    → OnErr r (record { dirs = ds; entries = given.0 } ≡ b)
+seen_same ds old new slots grown (Ok u) held same_bytes same_slots given b was = tt
+seen_same ds old new slots grown (Err u) held same_bytes same_slots given b was =
+    let after : Held ds (map (found_at new) grown) = (held.0, (held.1.0, held.1.1 ∙ (λ i. map (found_at (sym same_bytes i)) (sym same_slots i)))) in
+    let is : given.0 ≡ held.0 = ap (λ h. h.0) (held_prop ds (map (found_at new) grown) given after) in
+    ap (λ l. record { dirs = ds; entries = l }) is ∙ sym was

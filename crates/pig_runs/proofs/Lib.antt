@@ -3,3 +3,7 @@ pub mod Adding
 pub mod Reading
 pub mod SortedSlots
 pub mod Merging
+pub mod Lending
+pub mod Halving
+pub mod Sliced
+pub mod Parted

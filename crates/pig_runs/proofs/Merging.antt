@@ -10,7 +10,7 @@ use Rattle.pig_value.proofs.list_laws.Bags.{sort-append, sorted_is, sort_ascends
 use Rattle.pig_runs.specs.Entries.{Keyed, InDirections, and_entries, entries_of_all, run_cmp, run_of}
 use Rattle.pig_runs.proofs.Order.{run_total, run_same}
 
-all-append : (xs ys : List InDirections) → entries_of_all (xs ++ ys) ≡ entries_of_all xs ++ entries_of_all ys
+pub all-append : (xs ys : List InDirections) → entries_of_all (xs ++ ys) ≡ entries_of_all xs ++ entries_of_all ys
 all-append [] ys = refl
 all-append (x ∷ xs) ys = ap (λ l. x.entries ++ l) (all-append xs ys) ∙ sym (append_assoc x.entries (entries_of_all xs) (entries_of_all ys))
 

@@ -1,8 +1,7 @@
 -- The order of entries is total and tells them apart, and their bytes stand in it.
-use Rattle.std.proofs.Common.{◌≡◌, ℕ, List, map, sym, ◌∙◌, ap}
+use Rattle.std.proofs.Common.{◌≡◌, ℕ, List, map, sym, ◌∙◌}
 use Rattle.std.specs.Cmp.{IsTotalOrder}
 use Rattle.std.specs.Ordering.{ordering_then, nat_cmp}
-use Rattle.std.specs.declared.cmp.Ordering.{Ordering}
 use Rattle.std.specs.declared.cmp.Ordering.TheVariants.{Equal}
 use Rattle.std.proofs.lemmas.Cmp.{ranked, nat_cmp_total, lists_total, then_total, on_total}
 use Rattle.pig_value.specs.Trees.{Tree, v_tuple, fields_of}
@@ -12,7 +11,7 @@ use Rattle.pig_value.specs.Valid.{IsRow}
 use Rattle.pig_value.specs.declared.operators.Dir.{Dir}
 use Rattle.pig_value.proofs.OrderLaws.{row_total, row_same, fields_are}
 use Rattle.pig_value.proofs.list_laws.Bags.{sort_map_where}
-use Rattle.pig_keycode.specs.Keys.{key_cmp, key_code}
+use Rattle.pig_keycode.specs.Keys.{key_cmp}
 use Rattle.pig_keycode.specs.Reading.{row_code}
 use Rattle.pig_keycode.proofs.KeyOrder.{key_total, key_same, whole_key_order}
 use Rattle.pig_keycode.proofs.Turned.{whole_order}

@@ -15,9 +15,10 @@ use Rattle.pig_value.proofs.list_laws.Listing.{each_at}
 use Rattle.pig_keycode.specs.Codable.{IsCodeOf, IsCodeOfRow}
 use Rattle.pig_keycode.specs.Keys.{IsKey, key_code}
 use Rattle.pig_runs.specs.declared.entries.Entry.{Entry}
+use Rattle.pig_runs.specs.declared.lent.Lent.{Lent}
 use Rattle.pig_runs.specs.declared.slots.Slot.{Slot}
 use Rattle.pig_runs.specs.Entries.{Keyed, keyed, IsEntry, AreEntries}
-use Rattle.pig_runs.specs.Packed.{Packed, packed, part, found_at, Held}
+use Rattle.pig_runs.specs.Packed.{packed, packed_lent, part, found_at, Held}
 
 some_same : {X : Type 0} {x y : X} → Some x ≡ Some y → x ≡ y
 some_same h = cc
@@ -40,6 +41,11 @@ module _ (ds : List Dir) (bytes : List ℕ) (slots : List Slot) (held : Held ds 
   input_read at s here =
       let found = at_slot at s here in
       ap (option_map (λ e. e.input)) found.1 ∙ ap (λ p. Some p.input) found.2
+
+  pub lent_read : (at : ℕ) (s : Slot) (l : Lent) → slice_get slots at ≡ Some s → packed_lent l ≡ found_at bytes s → option_map (packed ds) (slice_get held.0 at) ≡ Some (packed_lent l)
+  lent_read at s l here is =
+      let found = at_slot at s here in
+      ap (option_map (packed ds)) found.1 ∙ ap Some (found.2 ∙ sym is)
 
   pub row_read : {E : Type 0} (at : ℕ) (s : Slot) (r : Result (List Value) E) → slice_get slots at ≡ Some s
       → ((row : List Tree) → IsCodeOfRow (part bytes s.row_at s.row_len) row → IfOk r (λ found. row_tree found ≡ row)) → IfOk r (λ found. option_map (λ e. e.row) (slice_get held.0 at) ≡ Some (row_tree found))

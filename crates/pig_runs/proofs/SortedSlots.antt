@@ -1,5 +1,5 @@
 -- Slots that are sorted by their bytes stand for the sorted entries.
-use Rattle.std.proofs.Common.{◌≡◌, ◌<◌, ℕ, List, [], ◌∷◌, ◌++◌, map, length, take, get_or, refl, sym, ◌∙◌, ap, subst, arith}
+use Rattle.std.proofs.Common.{◌≡◌, ℕ, List, map, sym, ◌∙◌, ap, subst}
 use Rattle.std.specs.Prelude.{IsPermutation}
 use Rattle.std.specs.List.{AllByRecursion}
 use Rattle.std.specs.Coded.{Coded-set, coded_list}
@@ -9,8 +9,8 @@ use Rattle.pig_value.specs.Sorts.{sort, Ascends}
 use Rattle.pig_value.specs.declared.operators.Dir.{Dir}
 use Rattle.pig_value.proofs.list_laws.Bags.{each-sort, sort_ascends}
 use Rattle.pig_runs.specs.declared.slots.Slot.{Slot}
-use Rattle.pig_runs.specs.Entries.{Keyed, IsEntry, AreEntries, InDirections, run_cmp, run_of}
-use Rattle.pig_runs.specs.Packed.{Packed, packed, packed_cmp, found_at, IsWithin, Held, held_prop, coded_packed}
+use Rattle.pig_runs.specs.Entries.{Keyed, IsEntry, InDirections, run_cmp, run_of}
+use Rattle.pig_runs.specs.Packed.{packed, packed_cmp, found_at, IsWithin, Held, held_prop, coded_packed}
 use Rattle.pig_runs.proofs.Order.{run_total, sorted_codes}
 
 module _ (ds : List Dir) (bytes : List ℕ) (slots done : List Slot) (held : Held ds (map (found_at bytes) slots))

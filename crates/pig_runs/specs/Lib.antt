@@ -1,3 +1,4 @@
 pub mod Entries
 pub mod Packed
 pub mod Parts
+pub mod Cutting

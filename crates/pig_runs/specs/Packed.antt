@@ -1,19 +1,18 @@
 -- Entries kept as bytes: what stands there for each, and that it tells the entries.
-use Rattle.std.specs.Prelude.{◌≡◌, ◌≤◌, ◌+◌, ◌-◌, ℕ, List, [], ◌∷◌, map, length, take, drop, refl}
+use Rattle.std.specs.Prelude.{◌≡◌, ◌≤◌, ◌+◌, ℕ, List, [], ◌∷◌, map, length, take, drop, refl}
 use Rattle.std.proofs.Common.{sym, ◌∙◌, ap}
-use Rattle.std.specs.List.{AllByRecursion}
 use Rattle.std.specs.Ordering.{ordering_then, nat_cmp}
 use Rattle.std.specs.declared.cmp.Ordering.{Ordering}
 use Rattle.std.specs.Coded.{Coded, Coded-set, code_by, coded×, coded_ℕ, coded_list, ×_prop}
 use Rattle.std.proofs.Math.Logic.{∥∥₁_prop, ∥∥₁_elim}
 use mathlib.Core.HLevel.{Σ_prop_path}
-use Rattle.pig_value.specs.Trees.{Tree}
 use Rattle.pig_value.specs.Orders.{text_cmp}
 use Rattle.pig_value.specs.declared.operators.Dir.{Dir}
 use Rattle.pig_keycode.specs.Keys.{key_code}
 use Rattle.pig_keycode.specs.Reading.{row_code}
 use Rattle.pig_keycode.proofs.KeyOrder.{one_key}
 use Rattle.pig_keycode.proofs.Wholes.{one_row}
+use Rattle.pig_runs.specs.declared.lent.Lent.{Lent}
 use Rattle.pig_runs.specs.declared.slots.Slot.{Slot}
 use Rattle.pig_runs.specs.Entries.{Keyed, IsEntry, AreEntries, coded_keyed}
 
@@ -25,6 +24,10 @@ pub record Packed : Type 0 where
 
 abbrev pub packed : List Dir → Keyed → Packed
 packed ds e = record { key = key_code ds e.key; input = e.input; row = row_code e.row }
+
+-- lent bytes of an entry
+abbrev pub packed_lent : Lent → Packed
+packed_lent l = record { key = l.key.now; input = l.input; row = l.row.now }
 
 -- part by part, as bytes
 abbrev pub packed_cmp : Packed → Packed → Ordering
@@ -85,6 +88,11 @@ entries_told ds (e ∷ es) (f ∷ fs) h k same =
     let head = entry_told ds e f h.0 k.0 (ap (first_or (packed ds e)) same) in
     let tail = entries_told ds es fs h.1 k.1 (ap behind same) in
     λ i. head i ∷ tail i
+
+-- the bytes are those of these entries, which are of values
+pub record Stand (ds : List Dir) (es : List Keyed) (ps : List Packed) : Type 0 where
+  pub good : ∥ AreEntries ds es ∥₁
+  pub told : map (packed ds) es ≡ ps
 
 -- the entries that bytes stand for
 abbrev pub Held : List Dir → List Packed → Type 0

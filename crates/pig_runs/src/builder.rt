@@ -1,9 +1,11 @@
-ghost use Rattle.std.specs.Prelude.{◌≡◌, ◌<◌, [], ◌∷◌, length, map, option_map, slice_get, Some, OnOk, OnErr, IfOk};
+ghost use Rattle.std.specs.Prelude.{◌≡◌, ◌<◌, ◌≤◌, [], ◌∷◌, ◌++◌, length, map, take, drop, option_map, slice_get, Some, OnOk, OnErr, IfOk};
 ghost use Rattle.pig_runs.specs.Entries.{run_of};
-ghost use Rattle.pig_runs.specs.Packed.{found_at, Held, held_prop};
+ghost use Rattle.pig_runs.specs.Packed.{found_at, packed, packed_lent, Held, held_prop};
 
+use crate::lent::{Lent, stands_before};
 use crate::packing::{
-    add_entry, append_entries, read_key, read_row, same_key_bytes, slot_at, sort_slots,
+    add_entry, add_lent, append_entries, lend, lend_slots, read_key, read_row, same_key_bytes,
+    slot_at, sort_slots,
 };
 use crate::run::Run;
 use crate::slots::Slot;
@@ -38,7 +40,10 @@ impl Model for RunBuilder {
 }
 
 impl RunBuilder {
-    ghost use Rattle.pig_runs.specs.Entries.{no_entries_in, and_entries, key_at};
+    ghost use Rattle.pig_runs.specs.Cutting.{Divides};
+    ghost use Rattle.pig_runs.specs.Entries.{Keyed, IsEntry, AreEntries, no_entries_in, and_entries, key_at, run_cmp};
+    ghost use Rattle.pig_value.specs.Sorts.{Ascends};
+    ghost use Rattle.std.specs.Ordering.{is_lt};
     ghost use Rattle.std.specs.Bool.{Decides};
     ghost use Rattle.pig_keycode.specs.Keys.{IsKey};
     ghost use Rattle.pig_value.specs.Trees.{tree, row_tree};
@@ -104,7 +109,8 @@ impl RunBuilder {
 
     /// The number of entries.
     pub fn len(&self) -> usize
-        ensures { result ≡ length self.now.entries }
+        ensures count { result ≡ length self.now.entries }
+        ensures values { ∥ AreEntries self.now.dirs self.now.entries ∥₁ }
     {
         self.slots.len()
     }
@@ -149,5 +155,119 @@ impl RunBuilder {
             slot_at(slots, at),
             slot_at(slots, other),
         )
+    }
+
+    // A copy of the directions.
+    pub(crate) fn copy_dirs(&self, alloc: Global) -> Result<Dirs, AllocError>
+        ensures { IfOk result (λ dirs. dirs ≡ self.now.dirs) }
+    {
+        let mut copy = Vec::with_capacity(alloc, self.dirs.len())?;
+        copy.extend_from_slice(self.dirs.as_slice())?;
+        Ok(Dirs::from_vec(copy))
+    }
+
+    // The bytes of an entry.
+    pub(crate) fn lend(&self, at: usize) -> Lent<'_>
+        requires { at < length self.now.entries }
+        ensures is { option_map (packed self.now.dirs) (slice_get self.now.entries at) ≡ Some (packed_lent result) }
+        ensures good { ∥ AreEntries self.now.dirs self.now.entries ∥₁ }
+    {
+        let slot = slot_at(self.slots.as_slice(), at);
+        lend(self.bytes.as_slice(), slot)
+    }
+
+    // Adds the bytes of all entries to a list.
+    pub(crate) fn lend_all<'r>(&'r self, all: &mut Vec<Lent<'r>>) -> Result<(), AllocError>
+        ensures told { OnOk result (map packed_lent all.new.items ≡ map packed_lent all.old.items ++ map (packed self.now.dirs) self.now.entries) }
+        ensures good { ∥ AreEntries self.now.dirs self.now.entries ∥₁ }
+    {
+        lend_slots(self.bytes.as_slice(), self.slots.as_slice(), all)
+    }
+
+    // Adds an entry that is lent. Where memory is wanting, the entries stay as they were.
+    pub(crate) fn add_lent(&mut self, lent: Lent) -> Result<(), AllocError>
+        requires { ∥ Held self.old.dirs (packed_lent lent ∷ []) ∥₁ }
+        ensures ok { (e : Keyed) → IsEntry self.old.dirs e → packed self.old.dirs e ≡ packed_lent lent.entry → OnOk result (self.new ≡ and_entries (e ∷ []) self.old) }
+        ensures err { OnErr result (self.new ≡ self.old) }
+        ensures dirs { self.new.dirs ≡ self.old.dirs }
+    {
+        add_lent(&mut self.bytes, &mut self.slots, lent)
+    }
+
+    // Adds a copy of an entry of others.
+    pub(crate) fn copy_entry(&mut self, other: &RunBuilder, at: usize) -> Result<(), AllocError>
+        requires within { at < length other.now.entries }
+        requires alike { other.now.dirs ≡ self.old.dirs }
+        ensures ok { OnOk result (self.new ≡ and_entries (take 1 (drop at other.now.entries)) self.old) }
+        ensures err { OnErr result (self.new ≡ self.old) }
+    {
+        self.add_lent(other.lend(at))
+    }
+
+    // Adds copies of the entries of others from a place on, up to another.
+    pub(crate) fn copy_between(
+        &mut self,
+        other: &RunBuilder,
+        from: usize,
+        end: usize,
+    ) -> Result<(), AllocError>
+        requires order { from ≤ end }
+        requires within { end ≤ length other.now.entries }
+        requires alike { other.now.dirs ≡ self.old.dirs }
+        ensures { OnOk result (self.new ≡ and_entries (drop from (take end other.now.entries)) self.old) }
+    {
+        for at in from..end {
+            self.copy_entry(other, at)?;
+        }
+        Ok(())
+    }
+
+    // The entries from a place on, up to another, where there are any.
+    pub(crate) fn between(
+        &self,
+        alloc: Global,
+        from: usize,
+        end: usize,
+    ) -> Result<RunBuilder, AllocError>
+        requires { end ≤ length self.now.entries }
+        ensures { IfOk result (λ found. found ≡ record { dirs = self.now.dirs; entries = drop from (take end self.now.entries) }) }
+    {
+        let mut found = RunBuilder::new(alloc, self.copy_dirs(alloc)?);
+        if from < end {
+            found.copy_between(self, from, end)?;
+            return Ok(found);
+        }
+        Ok(found)
+    }
+
+    // Whether an entry stands before an entry of others.
+    fn is_before(&self, at: usize, other: &RunBuilder, there: usize) -> bool
+        requires here { at < length self.now.entries }
+        requires there { there < length other.now.entries }
+        requires alike { other.now.dirs ≡ self.now.dirs }
+        ensures { (e f : Keyed) → slice_get self.now.entries at ≡ Some e → slice_get other.now.entries there ≡ Some f → result ≡ is_lt (run_cmp self.now.dirs e f) }
+    {
+        stands_before(&self.lend(at), &other.lend(there))
+    }
+
+    // How many entries, which are sorted, stand before an entry of others.
+    pub(crate) fn count_before(&self, other: &RunBuilder, there: usize) -> usize
+        requires there { there < length other.now.entries }
+        requires alike { other.now.dirs ≡ self.now.dirs }
+        requires sorted { ∥ Ascends (run_cmp self.now.dirs) self.now.entries ∥₁ }
+        ensures bound { result ≤ length self.now.entries }
+        ensures parts { (f : Keyed) → slice_get other.now.entries there ≡ Some f → Divides (λ e. is_lt (run_cmp self.now.dirs e f)) self.now.entries result }
+    {
+        let mut low = 0;
+        let mut high = self.len();
+        'halves: while low < high {
+            let middle = low + (high - low) / 2;
+            if self.is_before(middle, other, there) {
+                low = middle + 1;
+            } else {
+                high = middle;
+            }
+        }
+        low
     }
 }

@@ -2,8 +2,10 @@
 #![tactic(auto)]
 
 mod builder;
+mod cutting;
 mod entries;
 mod laws;
+mod lent;
 mod packing;
 mod parts;
 mod run;
@@ -11,6 +13,7 @@ mod slots;
 mod sorting;
 
 pub use builder::RunBuilder;
+pub use cutting::{CutPoints, cuts, slice};
 pub use entries::{Entries, Entry};
 pub use laws::{run_laws, runs_cross_threads};
 pub use parts::part_of;

@@ -8,8 +8,9 @@ ghost use Rattle.pig_value.specs.Trees.{Tree, tree, row_tree};
 ghost use Rattle.pig_keycode.specs.Codable.{IsCodeOf, IsCodeOfRow};
 ghost use Rattle.pig_keycode.specs.Keys.{key_code};
 ghost use Rattle.pig_keycode.specs.Reading.{row_code};
-ghost use Rattle.pig_runs.specs.Packed.{part, found_at, packed_cmp, slot_of, moved, IsWithin};
+ghost use Rattle.pig_runs.specs.Packed.{part, found_at, packed_cmp, packed_lent, slot_of, moved, IsWithin};
 
+use crate::lent::{Lent, compare_lent};
 use crate::slots::Slot;
 use pig_keycode::{decode, decode_row, encode_key, encode_row};
 use pig_value::{Dirs, Seq, Tuple, Value};
@@ -243,4 +244,82 @@ pub(crate) fn same_key_bytes(bytes: &[u8], a: Slot, b: Slot) -> bool
     ensures { Decides result (part bytes.now a.key_at a.key_len ≡ part bytes.now b.key_at b.key_len) }
 {
     part(bytes, a.key_at, a.key_len) == part(bytes, b.key_at, b.key_len)
+}
+
+// What a slot finds.
+pub(crate) fn lend(bytes: &[u8], slot: Slot) -> Lent<'_>
+    ensures { packed_lent result ≡ found_at bytes.now slot }
+{
+    Lent {
+        key: part(bytes, slot.key_at, slot.key_len),
+        input: slot.input,
+        row: part(bytes, slot.row_at, slot.row_len),
+    }
+}
+
+// Adds what slots find to a list. Where memory is wanting, a part of it may stand there.
+pub(crate) fn lend_slots<'r>(
+    bytes: &'r [u8],
+    slots: &[Slot],
+    all: &mut Vec<Lent<'r>>,
+) -> Result<(), AllocError>
+    ensures { OnOk result (map packed_lent all.new.items ≡ map packed_lent all.old.items ++ map (found_at bytes.now) slots.now) }
+{
+    for slot in slots {
+        all.push(lend(bytes, *slot))?;
+    }
+    Ok(())
+}
+
+// Sorts entries that are lent.
+pub(crate) fn sort_lent(all: &mut Vec<Lent>)
+    ensures { map packed_lent all.new.items ≡ sort packed_cmp (map packed_lent all.old.items) }
+{
+    all.sort_unstable_by(|a, b| compare_lent(a, b));
+}
+
+// Appends the bytes of an entry that is lent. Where memory is wanting, the bytes stay as they were.
+fn write_lent(bytes: &mut Vec<u8>, lent: Lent) -> Result<Slot, AllocError>
+    ensures bytes { OnOk result (bytes.new.items ≡ bytes.old.items ++ (lent.entry.key.now ++ lent.entry.row.now)) }
+    ensures slot { IfOk result (λ slot. slot ≡ slot_of (length bytes.old.items) lent.entry.key.now lent.entry.row.now lent.entry.input) }
+    ensures err { OnErr result (bytes.new.items ≡ bytes.old.items) }
+{
+    let key_at = bytes.len();
+    extend_bytes(bytes, lent.key)?;
+    let row_at = bytes.len();
+    match extend_bytes(bytes, lent.row) {
+        Ok(()) => Ok(Slot {
+            key_at,
+            key_len: lent.key.len(),
+            row_at,
+            row_len: lent.row.len(),
+            input: lent.input,
+        }),
+        Err(fault) => {
+            bytes.truncate(key_at);
+            Err(fault)
+        }
+    }
+}
+
+// Appends an entry that is lent, and its slot. Where memory is wanting, both stay as they were.
+pub(crate) fn add_lent(
+    bytes: &mut Vec<u8>,
+    slots: &mut Vec<Slot>,
+    lent: Lent,
+) -> Result<(), AllocError>
+    ensures bytes { OnOk result (bytes.new.items ≡ bytes.old.items ++ (lent.entry.key.now ++ lent.entry.row.now)) }
+    ensures slots { OnOk result (slots.new.items ≡ slots.old.items ++ slot_of (length bytes.old.items) lent.entry.key.now lent.entry.row.now lent.entry.input ∷ []) }
+    ensures err_bytes { OnErr result (bytes.new.items ≡ bytes.old.items) }
+    ensures err_slots { OnErr result (slots.new.items ≡ slots.old.items) }
+{
+    let start = bytes.len();
+    let slot = write_lent(bytes, lent)?;
+    match push_slot(slot, slots) {
+        Ok(()) => Ok(()),
+        Err(fault) => {
+            bytes.truncate(start);
+            Err(fault)
+        }
+    }
 }

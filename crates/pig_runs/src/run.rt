@@ -32,7 +32,9 @@ impl Model for Run {
 impl Run {
     ghost use Rattle.std.specs.Bool.{Decides};
     ghost use Rattle.pig_value.specs.Trees.{tree, row_tree};
-    ghost use Rattle.pig_runs.specs.Entries.{key_at};
+    ghost use Rattle.pig_keycode.specs.Keys.{key_code};
+    ghost use Rattle.pig_keycode.specs.Reading.{row_code};
+    ghost use Rattle.pig_runs.specs.Entries.{key_at, AreEntries};
 
     pub(crate) fn from_sorted(built: RunBuilder) -> Run
         requires { Ascends (run_cmp built.dirs) built.entries }
@@ -43,7 +45,8 @@ impl Run {
 
     // The entries, in order.
     pub(crate) fn as_builder(&self) -> &RunBuilder
-        ensures { result.now ≡ self.now }
+        ensures is { result.now ≡ self.now }
+        ensures sorted { ∥ Ascends (run_cmp self.now.dirs) self.now.entries ∥₁ }
     {
         &self.built
     }
@@ -52,6 +55,7 @@ impl Run {
     pub fn len(&self) -> usize
         ensures count { result ≡ length self.now.entries }
         ensures sorted { ∥ Ascends (run_cmp self.now.dirs) self.now.entries ∥₁ }
+        ensures values { ∥ AreEntries self.now.dirs self.now.entries ∥₁ }
     {
         self.built.len()
     }
@@ -88,5 +92,21 @@ impl Run {
         ensures { Decides result (key_at self.now at ≡ key_at self.now other) }
     {
         self.built.same_key(at, other)
+    }
+
+    /// The bytes of an entry's key, its code in the run's directions.
+    pub fn key_bytes(&self, at: usize) -> &[u8]
+        requires { at < length self.now.entries }
+        ensures { option_map (λ e. key_code self.now.dirs e.key) (slice_get self.now.entries at) ≡ Some result.now }
+    {
+        self.built.lend(at).key
+    }
+
+    /// The bytes of an entry's row, its code as a tuple.
+    pub fn row_bytes(&self, at: usize) -> &[u8]
+        requires { at < length self.now.entries }
+        ensures { option_map (λ e. row_code e.row) (slice_get self.now.entries at) ≡ Some result.now }
+    {
+        self.built.lend(at).row
     }
 }

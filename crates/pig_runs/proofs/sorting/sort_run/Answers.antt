@@ -1,4 +1,4 @@
-use Rattle.std.proofs.Common.{◌≡◌, ap, map, sym, subst}
+use Rattle.std.proofs.Common.{ap, map, sym, subst}
 use Rattle.pig_value.specs.Trees.{tree}
 use Rattle.pig_keycode.specs.Keys.{IsKey}
 use Rattle.pig_runs.specs.Entries.{keyed, IsEntry, AreEntries}

@@ -1,4 +1,4 @@
-use Rattle.std.proofs.Common.{◌≡◌, [], ◌∷◌, sym, ap, subst}
+use Rattle.std.proofs.Common.{[], ◌∷◌, sym, ap, subst}
 use Rattle.pig_value.specs.Trees.{tree, row_tree}
 use Rattle.pig_keycode.specs.Keys.{IsKey}
 use Rattle.pig_runs.specs.Entries.{Keyed, IsEntry}

@@ -1,4 +1,4 @@
-use Rattle.std.proofs.Common.{◌≡◌, ◌∙◌, ap, sym, subst}
+use Rattle.std.proofs.Common.{◌≡◌, ap, sym, subst}
 use Rattle.pig_keycode.specs.Codable.{IsCodeOfRow}
 use Rattle.pig_runs.specs.Packed.{part}
 use Rattle.std.specs.Prelude.{IfOk, Some, option_map, slice_get}

@@ -1,4 +1,4 @@
-use Rattle.std.proofs.Common.{◌≡◌, map, sym, ◌∙◌, ap}
+use Rattle.std.proofs.Common.{◌≡◌, map, sym, ◌∙◌}
 use Rattle.pig_value.specs.Sorts.{sort}
 use Rattle.pig_runs.specs.Packed.{packed_cmp, found_at}
 use Rattle.pig_runs.proofs.SortedSlots.{held_sorted, seen_sorted, within_sorted}

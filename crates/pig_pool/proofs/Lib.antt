@@ -1,0 +1,4 @@
+pub mod Crews
+pub mod Placing
+pub mod Steps
+pub mod Waves

@@ -1,0 +1,40 @@
+ghost use Rattle.std.specs.Prelude.{◌≡◌};
+ghost use Rattle.std.specs.Ordering.{ordering_then, nat_cmp, is_lt};
+ghost use Rattle.pig_value.specs.Orders.{text_cmp};
+ghost use Rattle.pig_runs.specs.Packed.{packed_cmp, packed_lent};
+
+use std::cmp::Ordering;
+
+// The bytes of an entry: the code of its key, the number of its input, and the code of its row.
+#[derive(Debug, Clone, Copy, Drop)]
+pub(crate) struct Lent<'r> {
+    pub(crate) key: &'r [u8],
+    pub(crate) input: u32,
+    pub(crate) row: &'r [u8],
+}
+
+// How two entries stand.
+pub(crate) fn compare_lent(a: &Lent, b: &Lent) -> Ordering
+    ensures { result ≡ packed_cmp (packed_lent a.now) (packed_lent b.now) }
+{
+    match a.key.cmp(b.key) {
+        Ordering::Equal => compare_rest(a, b),
+        found => found,
+    }
+}
+
+fn compare_rest(a: &Lent, b: &Lent) -> Ordering
+    ensures { result ≡ ordering_then (nat_cmp a.now.input b.now.input) (text_cmp a.now.row.now b.now.row.now) }
+{
+    match a.input.cmp(&b.input) {
+        Ordering::Equal => a.row.cmp(b.row),
+        found => found,
+    }
+}
+
+// Whether an entry stands before another.
+pub(crate) fn stands_before(a: &Lent, b: &Lent) -> bool
+    ensures { result ≡ is_lt (packed_cmp (packed_lent a.now) (packed_lent b.now)) }
+{
+    compare_lent(a, b).is_lt()
+}

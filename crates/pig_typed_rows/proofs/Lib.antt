@@ -1,0 +1,2 @@
+mod ExprSamples
+mod BlockSamples

@@ -1,0 +1,10 @@
+pub mod Results
+pub mod Columns
+pub mod Joins
+pub mod Limits
+pub mod Written
+pub mod Calls
+pub mod Parts
+pub mod Typing
+pub mod Faults
+pub mod Reader

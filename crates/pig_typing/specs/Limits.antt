@@ -1,0 +1,33 @@
+-- How wide and how deep a kind may be. (The limits are choices of this profile.)
+use Rattle.std.specs.Prelude.{Bool, false, ◌||◌, length, nat_lt, if◌then◌else◌}
+use Rattle.std.specs.declared.result.Result.TheVariants.{Ok, Err}
+use Rattle.pig_value.specs.Kinds.{depth_of, width_of}
+use Rattle.pig_value.specs.Trees.{KindTree, KindTrees, k_tuple, k_bag, k_map, no_kinds, more_kinds, kinds_list}
+use Rattle.pig_typing.specs.declared.faults.CheckKind.TheVariants as kind
+use Rattle.pig_typing.specs.Results.{Checked}
+
+-- so many fields are too many
+abbrev pub too_many : KindTrees → Bool
+too_many ks = nat_lt 512 (length (kinds_list ks))
+
+-- a tuple of the kind, or of a bag in it, has too many fields
+abbrev mutual
+  pub is_crowded : KindTree → Bool
+  is_crowded (k_tuple ks) = too_many ks || any_crowded ks
+  is_crowded (k_bag ks) = too_many ks || any_crowded ks
+  is_crowded (k_map k) = is_crowded k
+  is_crowded k = false
+
+  pub any_crowded : KindTrees → Bool
+  any_crowded no_kinds = false
+  any_crowded (more_kinds k ks) = is_crowded k || any_crowded ks
+
+abbrev pub is_too_wide : KindTree → Bool
+is_too_wide k = is_crowded k || nat_lt 4096 (width_of k)
+
+abbrev pub is_too_deep : KindTree → Bool
+is_too_deep k = nat_lt 64 (depth_of k)
+
+-- the kind, where it is within the limits
+unfoldable pub limited : KindTree → Checked KindTree
+limited k = if is_too_wide k then Err kind.TooWide else if is_too_deep k then Err kind.TooDeep else Ok k

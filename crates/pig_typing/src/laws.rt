@@ -1,0 +1,25 @@
+ghost use Rattle.std.specs.Prelude.{◌≡◌, ◌⊎◌, Some, map};
+ghost use Rattle.pig_schema.specs.FieldTrees.{IsField, tree_kind};
+ghost use Rattle.pig_syntax.specs.ExprTrees.{ExprForm};
+ghost use Rattle.pig_typed.specs.ExprKinds.{expr_kind};
+ghost use Rattle.pig_typing.specs.declared.faults.CheckKind.{CheckKind};
+ghost use Rattle.pig_typing.specs.Columns.{IsPlace, Place, locals_of, row_of};
+ghost use Rattle.pig_typing.specs.Faults.{Faults};
+ghost use Rattle.pig_typing.specs.Parts.{Typing, column_of, kind_in, typed_of};
+ghost use Rattle.pig_typing.specs.Typing.{Types};
+
+/// Over the columns and nested aliases of any place an expression has one typing, or the condition of some kind of
+/// refusal holds of it, and never both.
+pub fn expressions_have_one_typing()
+    ensures one { (s : Place) (a : ExprForm) (p q : Typing) → Types s a p → Types s a q → p ≡ q }
+    ensures some { (s : Place) (a : ExprForm) → ((p : Typing) × Types s a p) ⊎ ((kind : CheckKind) × Faults s a kind) }
+    ensures never_both { (s : Place) (a : ExprForm) (p : Typing) (kind : CheckKind) → Types s a p → Faults s a kind → ⊥ }
+{}
+
+/// What is typed has its kind on the kinds of the columns and of the nested aliases, and inside it the columns of
+/// that kind, where these have theirs.
+pub fn typings_have_their_kinds()
+    ensures kind { (s : Place) (a : ExprForm) (p : Typing) → IsPlace s → Types s a p
+        → expr_kind (typed_of p) (row_of s) (locals_of s) ≡ Some (kind_in p) }
+    ensures inside { (s : Place) (a : ExprForm) (p : Typing) → IsPlace s → Types s a p → IsField (column_of p) }
+{}
