@@ -1,0 +1,5 @@
+pub mod Projections
+pub mod TruthLaws
+pub mod Chains
+pub mod ColumnLaws
+pub mod Evaluated

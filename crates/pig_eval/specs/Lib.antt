@@ -1,0 +1,3 @@
+pub mod SeenValues
+pub mod Truths
+pub mod Columned
