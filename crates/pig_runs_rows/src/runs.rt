@@ -98,7 +98,8 @@ fn piece(alloc: Global, at: usize, pieces: usize) -> Result<Run, AllocError>
         if place == at {
             add(alloc, &mut builder, entry)?;
         }
-        place = if place + 1 < pieces { place + 1 } else { 0 };
+        let next = place.saturating_add(1);
+        place = if next < pieces { next } else { 0 };
     }
     Ok(builder.finish())
 }
