@@ -141,7 +141,7 @@ fn pieces_give_one_run(rt: HostRuntime) -> Result<(), Fail> {
                 is_entry(rt.alloc(), &run, at, entry)?,
                 "{pieces} pieces, {at}"
             );
-            at += 1;
+            at = at.saturating_add(1);
         }
     }
     Ok(())
