@@ -14,12 +14,12 @@ pub record Shelf : Type 0 where
   pub dirs : List Directory
 
 -- The first entry of that name.
-abbrev pub entry_of : {X : Type 0} → (X → List ℕ) → List ℕ → List X → Option X
-entry_of name path xs = find (λ x. bytes_eq (name x) path) xs
+abbrev pub entry_named : {X : Type 0} → (X → List ℕ) → List ℕ → List X → Option X
+entry_named name path xs = find (λ x. bytes_eq (name x) path) xs
 
 -- The bytes of the script at a path.
 abbrev pub script_of : List ℕ → Shelf → Option (List ℕ)
-script_of path shelf = option_map (λ s. s.bytes) (entry_of (λ s. s.path) path shelf.scripts)
+script_of path shelf = option_map (λ s. s.bytes) (entry_named (λ s. s.path) path shelf.scripts)
 
 -- The first bytes of the script at a path, at most so many; none where there is no script.
 abbrev pub script_bytes : List ℕ → ℕ → Shelf → List ℕ
@@ -27,7 +27,7 @@ script_bytes path most shelf = take most (unwrap_or (script_of path shelf) [])
 
 -- The pieces of the input at a path.
 abbrev pub pieces_of : List ℕ → List Input → Option (List (List ℕ))
-pieces_of path inputs = option_map (λ i. i.pieces) (entry_of (λ i. i.path) path inputs)
+pieces_of path inputs = option_map (λ i. i.pieces) (entry_named (λ i. i.path) path inputs)
 
 -- The lengths of pieces.
 abbrev pub lengths_of : List (List ℕ) → List ℕ
@@ -53,7 +53,7 @@ pub record HasRange (path : List ℕ) (piece from count : ℕ) (inputs : List In
 
 -- What stands in the directory at a path.
 abbrev pub state_of : List ℕ → List Directory → Option DirState
-state_of path dirs = option_map (λ d. d.state) (entry_of (λ d. d.path) path dirs)
+state_of path dirs = option_map (λ d. d.state) (entry_named (λ d. d.path) path dirs)
 
 -- Whether the shelf has the directory.
 abbrev pub has_dir : List ℕ → Shelf → Bool

@@ -1,7 +1,7 @@
 // Looking things up by their paths.
 ghost use Rattle.std.specs.Prelude.{◌≡◌, List, ℕ};
 ghost use Rattle.std.specs.Option.{option_copied};
-ghost use Rattle.pig_outside.specs.Shelf.{entry_of};
+ghost use Rattle.pig_outside.specs.Shelf.{entry_named};
 ghost use Rattle.pig_outside.specs.Places.{place_of};
 
 use crate::{Directory, Source};
@@ -42,7 +42,7 @@ impl Named for Directory {
 
 /// The first of that path.
 pub fn find<'a, T: Named>(items: &'a [T], path: &str) -> Option<&'a T>
-    ensures { option_copied result ≡ entry_of T.name path.now items.now }
+    ensures { option_copied result ≡ entry_named T.name path.now items.now }
 {
     items.iter().find(|item| item.name() == path)
 }

@@ -11,7 +11,7 @@ use Rattle.clap.specs.Kinds.{Kinds, or_else}
 use Rattle.clap.specs.Faults.{settle_fault, turn_fault, use_fault, walk_fault}
 use Rattle.clap.specs.declared.error.kind.ErrorKind.{ErrorKind}
 use Rattle.clap.specs.declared.error.kind.ErrorKind.TheVariants as kind
-use Rattle.pig_run.specs.CommandWords.{Given, Gives, finished, operand, joined, apart, dashes, operand_last, IsValue, Setting, Workers, Reducers, Split, Word, is_dashed, value_of, with_operand, with_value}
+use Rattle.pig_run.specs.CommandWords.{Given, Gives, finished, operand, joined, apart, dashes, operand_last, IsOptionWord, Setting, Workers, Reducers, Split, Word, is_dashed, option_of, with_operand, with_value}
 use Rattle.pig_run.specs.ClapWords.{name_of}
 use Rattle.pig_run.proofs.ClapRows.{Slot, Operand, Value, Shows, arg_of, args, at, at_put, id_of, put, row_is_given, same_or_other, shows_put, top, use_fails, use_passes, used_new}
 use Rattle.pig_run.proofs.ClapTurns.{IsPlain, Look, Pending, two_dashes, with_equals, name_alone, one_dash, undashed, alone_long, alone_plain, alone_turn, alone_walked, dashes_turn, dashes_walked, held, joined_long, joined_plain, joined_turn, joined_walked, known, look, lookup, operand_turn, operand_walked, plain_from, plain_met, plain_none, short_turn, stand, stray_turn, trailing_met, trailing_none, unknown_turn, value_turn, value_walked, word_alone, word_joined}
@@ -118,7 +118,7 @@ and_first : (a b : Bool) → (a && b) ≡ true → a ≡ true
 and_first true b e = refl
 and_first false b e = e
 
-value_undashed : (value : Word) → IsValue value → is_dashed value ≡ false
+value_undashed : (value : Word) → IsOptionWord value → is_dashed value ≡ false
 value_undashed [] v = refl
 value_undashed (b ∷ []) v = refl
 value_undashed (b ∷ c ∷ rest) v = digit_is_no_dash b (and_first _ _ v.digits)
@@ -207,7 +207,7 @@ stopped_by (word ∷ rest) u rows pending o bad p = at_word (look word u.0)
 
 -- each value that was given is a value
 abbrev pub AreValues : Given → Type 0
-AreValues g = (s : Setting) (v : Word) → value_of s g ≡ Some v → IsValue v
+AreValues g = (s : Setting) (v : Word) → option_of s g ≡ Some v → IsOptionWord v
 
 -- the rows at the end show what the words give, where the values are such
 pub record Comes (g : Given) (w : Walk) (words : List Word) : Type 0 where
@@ -292,7 +292,7 @@ module _ (word : Word) (rest : List Word) (next : Sound rest) (g : Given) (rows 
 
   sound_joined : (name v : Word) (s : Setting) → word ≡ 45 ∷ 45 ∷ name ++ 61 ∷ v → name ≡ name_of s → bytes_eq word (45 ∷ 45 ∷ []) ≡ false → long_of word ≡ Some (name, Some v)
       → Comes g (stand rows pending idle (place o) false) (word ∷ rest)
-  sound_joined name v s is named other long = go (value_of s g) refl
+  sound_joined name v s is named other long = go (option_of s g) refl
     where
       found : arg_by_long args name ≡ Some (arg_of (Value s))
       found = ap (arg_by_long args) named ∙ known s
@@ -301,7 +301,7 @@ module _ (word : Word) (rest : List Word) (next : Sound rest) (g : Given) (rows 
       passed = then_none (settle_fault args false (held rows pending)) (use_fault false (arg_of (Value s)) (v ∷ []) (settled_rows args pending rows))
           (first_none (or_else (settle_fault args false (held rows pending)) (use_fault false (arg_of (Value s)) (v ∷ []) (settled_rows args pending rows))) [] (sym (joined_turn rows pending idle (place o) word name s other found v long) ∙ turn))
 
-      go : (w : Option Word) → value_of s g ≡ w → Comes g (stand rows pending idle (place o) false) (word ∷ rest)
+      go : (w : Option Word) → option_of s g ≡ w → Comes g (stand rows pending idle (place o) false) (word ∷ rest)
       go (Some w) f = some_kind _ _ _ (use_fails (Value s) v (settled_rows args pending rows) (row_is_given (Value s) g (settled_rows args pending rows) r.shows ∙ ap is_some f)) passed
       go None f =
           let step = joined_walked rows pending idle (place o) word name s other found v long in
@@ -333,7 +333,7 @@ module _ (word value : Word) (rest : List Word) (sees : Look value) (u : AllByRe
       lacks : settle_fault args false (held (settled_rows args pending rows) (waits s)) ≢ []
       lacks none = some_kind _ _ _ (unsettled s (settled_rows args pending rows)) none
 
-      comes_value : is_dashed value ≡ false → value_of s g ≡ None → Comes (with_value s value g) (stand (settled_rows args pending rows) (Some (name_of s, value ∷ [])) idle (place o) false) rest
+      comes_value : is_dashed value ≡ false → option_of s g ≡ None → Comes (with_value s value g) (stand (settled_rows args pending rows) (Some (name_of s, value ∷ [])) idle (place o) false) rest
           → Comes g (stand rows pending idle (place o) false) (word ∷ value ∷ rest)
       comes_value undash f c =
           let stepped = value_walked (settled_rows args pending rows) s (place o) value (plain_from value undash) in
@@ -344,7 +344,7 @@ module _ (word value : Word) (rest : List Word) (sees : Look value) (u : AllByRe
                 apart s (word_alone s name word named is) (values s value (persists (Value s) value d (at_put (Value s) value g))) f d;
           }
 
-      go : is_dashed value ≡ false → (w : Option Word) → value_of s g ≡ w → Comes g (stand rows pending idle (place o) false) (word ∷ value ∷ rest)
+      go : is_dashed value ≡ false → (w : Option Word) → option_of s g ≡ w → Comes g (stand rows pending idle (place o) false) (word ∷ value ∷ rest)
       go undash (Some w) f = absurd (stopped_by rest u (settled_rows args pending rows) (Some (name_of s, value ∷ [])) o
           (λ none. some_kind _ _ _ (again s value (settled_rows args pending rows) (row_is_given (Value s) g (settled_rows args pending rows) r.shows ∙ ap is_some f)) none)
           (rest_of _ _ value rest (value_walked (settled_rows args pending rows) s (place o) value (plain_from value undash)) then))
@@ -365,7 +365,7 @@ module _ (word value : Word) (rest : List Word) (sees : Look value) (u : AllByRe
         | inr unknown ↦ some_kind _ _ _ (unknown_turn (settled_rows args pending rows) (waits s) (option (name_of s)) (place o) value n None plain l unknown) turns
       ]
       at_value (one_dash x xs c plain l short first) = some_kind _ _ _ (short_turn (settled_rows args pending rows) (waits s) (option (name_of s)) (place o) value x xs c plain l short first) turns
-      at_value (undashed undash) = go undash (value_of s g) refl
+      at_value (undashed undash) = go undash (option_of s g) refl
 
 -- one word, and the words behind it
 sound_word : (word : Word) (rest : List Word) → IsUtf8 word → AllByRecursion IsUtf8 rest → Sound rest → SoundBehind rest → Sound (word ∷ rest)

@@ -15,7 +15,7 @@ use Rattle.clap.specs.declared.builder.value_parser.Reading.TheVariants as readi
 use Rattle.clap.specs.declared.parser.matches.ValueSource.{ValueSource}
 use Rattle.clap.specs.declared.parser.matches.ValueSource.TheVariants.{CommandLine}
 use Rattle.clap.specs.declared.error.kind.ErrorKind.TheVariants as kind
-use Rattle.pig_run.specs.CommandWords.{Given, Setting, Workers, Reducers, Split, Word, value_of, with_operand, with_value}
+use Rattle.pig_run.specs.CommandWords.{Given, Setting, Workers, Reducers, Split, Word, option_of, with_operand, with_value}
 use Rattle.pig_run.specs.ClapWords.{name_of, pig}
 
 -- ---- the arguments of the command
@@ -79,7 +79,7 @@ pig_is = refl
 
 abbrev pub at : Slot → Given → Option Word
 at Operand g = g.operand
-at (Value s) g = value_of s g
+at (Value s) g = option_of s g
 
 abbrev pub put : Slot → Word → Given → Given
 put Operand word g = with_operand word g

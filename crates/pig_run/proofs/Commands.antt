@@ -4,7 +4,7 @@ use Rattle.std.specs.Str.Parse.{digits_value}
 use Rattle.pig_run.specs.declared.words.Command.{Command}
 use Rattle.pig_run.specs.declared.words.Verb.{Verb}
 use Rattle.pig_run.specs.declared.words.Verb.TheVariants as verbs
-use Rattle.pig_run.specs.CommandWords.{Given, Gives, finished, operand, joined, apart, dashes, operand_last, IsCommand, IsCount, IsSet, IsValue, Makes, Setting, Workers, Reducers, Split, Word, nothing_given, verb_word, with_operand, with_value}
+use Rattle.pig_run.specs.CommandWords.{Given, Gives, finished, operand, joined, apart, dashes, operand_last, IsCommand, IsCount, IsSet, IsOptionWord, Makes, Setting, Workers, Reducers, Split, Word, nothing_given, verb_word, with_operand, with_value}
 use Rattle.pig_run.specs.ClapWords.{AreRead, AreValues, number_at, numbers_at, setting_at, takes}
 use Rattle.pig_run.proofs.ClapFinds.{one_given}
 use Rattle.pig_run.proofs.WordNumbers.{number_set, set_number, set_setting, setting_set}
@@ -22,7 +22,7 @@ each_some (Some n) (Some m) None x y z e = cc
 each_some (Some n) (Some m) (Some k) x y z e =
     (ap (λ (o : Option Three). Some (unwrap_or o (0, 0, 0)).0) e, ap (λ (o : Option Three). Some (unwrap_or o (0, 0, 0)).1) e, ap (λ (o : Option Three). Some (unwrap_or o (0, 0, 0)).2) e)
 
-pub are_values : (g : Given) → ((v : Word) → g.workers ≡ Some v → IsValue v) → ((v : Word) → g.reducers ≡ Some v → IsValue v) → ((v : Word) → g.split ≡ Some v → IsValue v) → AreValues g
+pub are_values : (g : Given) → ((v : Word) → g.workers ≡ Some v → IsOptionWord v) → ((v : Word) → g.reducers ≡ Some v → IsOptionWord v) → ((v : Word) → g.split ≡ Some v → IsOptionWord v) → AreValues g
 are_values g a b c Workers = a
 are_values g a b c Reducers = b
 are_values g a b c Split = c
@@ -113,10 +113,10 @@ one_command hosts words c d h k =
 
 -- ---- what words give has values
 
-this_one : (value w : Word) → IsValue value → Some value ≡ Some w → IsValue w
-this_one value w v e = subst IsValue (ap (λ (x : Option Word). unwrap_or x value) e) v
+this_one : (value w : Word) → IsOptionWord value → Some value ≡ Some w → IsOptionWord w
+this_one value w v e = subst IsOptionWord (ap (λ (x : Option Word). unwrap_or x value) e) v
 
-with_one : (g : Given) (s : Setting) (value : Word) → IsValue value → AreValues g → AreValues (with_value s value g)
+with_one : (g : Given) (s : Setting) (value : Word) → IsOptionWord value → AreValues g → AreValues (with_value s value g)
 with_one g Workers value v h = are_values (with_value Workers value g) (λ w e. this_one value w v e) (h Reducers) (h Split)
 with_one g Reducers value v h = are_values (with_value Reducers value g) (h Workers) (λ w e. this_one value w v e) (h Split)
 with_one g Split value v h = are_values (with_value Split value g) (h Workers) (h Reducers) (λ w e. this_one value w v e)

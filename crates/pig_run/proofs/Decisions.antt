@@ -7,7 +7,7 @@ use Rattle.std.proofs.lemmas.Slice.Eq.{bytes_eq-Decides}
 use Rattle.pig_run.specs.declared.words.Command.{Command}
 use Rattle.pig_run.specs.declared.words.Verb.{Verb}
 use Rattle.pig_run.specs.declared.words.Verb.TheVariants as verbs
-use Rattle.pig_run.specs.CommandWords.{Given, Gives, finished, operand, joined, apart, dashes, operand_last, IsCommand, IsValue, Makes, Setting, Workers, Reducers, Split, Word, is_dashed, nothing_given, option_word, value_of, verb_word, with_operand, with_value}
+use Rattle.pig_run.specs.CommandWords.{Given, Gives, finished, operand, joined, apart, dashes, operand_last, IsCommand, IsOptionWord, Makes, Setting, Workers, Reducers, Split, Word, is_dashed, nothing_given, option_word, option_of, verb_word, with_operand, with_value}
 use Rattle.pig_run.specs.ClapWords.{is_value, numbers_at, takes}
 use Rattle.pig_run.proofs.Commands.{made, none_given, numbers_of_made, same_rest, same_verb, taken_of_made, values_given}
 use Rattle.pig_run.proofs.WordNumbers.{value_from, value_test}
@@ -145,7 +145,7 @@ same_valued Split Split v w e = (refl, ap (drop 8) e)
 abbrev Decided : Given → List Word → Type 0
 Decided g words = ((end : Given) × Gives g words end) ⊎ ((end : Given) → Gives g words end → ⊥)
 
-value_decided : (word : Word) → IsValue word ⊎ (IsValue word → ⊥)
+value_decided : (word : Word) → IsOptionWord word ⊎ (IsOptionWord word → ⊥)
 value_decided word = elim (cases_Bool (is_value word)) [
   | inl h ↦ inl (value_from word h)
   | inr h ↦ inr (λ is. let wrong = sym h ∙ value_test word is in cc)
@@ -209,18 +209,18 @@ module _ (g : Given) (word : Word) (s : Setting) (h : word ≡ option_word s) wh
   no_word_left end (dashes is) = not_dashes_alone s (sym is ∙ h)
 
   -- what its value has to be
-  behind_name : (value : Word) (rest : List Word) (end : Given) → Gives g (word ∷ value ∷ rest) end → IsValue value × (value_of s g ≡ None) × Gives (with_value s value g) rest end
+  behind_name : (value : Word) (rest : List Word) (end : Given) → Gives g (word ∷ value ∷ rest) end → IsOptionWord value × (option_of s g ≡ None) × Gives (with_value s value g) rest end
   behind_name value rest end (operand flat _ _) = absurd (not_plain flat h (dashed_alone s))
   behind_name value rest end (joined t v is _ _ _) = absurd (alone_not_valued s t v (sym h ∙ is))
   behind_name value rest end (apart t is isv none more) =
       let same : t ≡ s = same_alone t s (sym is ∙ h) in
-      (isv, subst (λ u. value_of u g ≡ None) same none, subst (λ u. Gives (with_value u value g) rest end) same more)
+      (isv, subst (λ u. option_of u g ≡ None) same none, subst (λ u. Gives (with_value u value g) rest end) same more)
   behind_name value rest end (operand_last is _) = absurd (not_dashes_alone s (sym is ∙ h))
 
   by_alone : (value : Word) (rest : List Word) → Decided (with_value s value g) rest → Decided g (word ∷ value ∷ rest)
   by_alone value rest later = elim (value_decided value) [
     | inr other ↦ inr (λ end gives. other (behind_name value rest end gives).0)
-    | inl isv ↦ elim (none_decided (value_of s g)) [
+    | inl isv ↦ elim (none_decided (option_of s g)) [
       | inr given ↦ inr (λ end gives. given (behind_name value rest end gives).1)
       | inl none ↦ elim later [
         | inl gives ↦ inl (gives.0, apart s h isv none gives.1)
@@ -231,11 +231,11 @@ module _ (g : Given) (word : Word) (s : Setting) (h : word ≡ option_word s) wh
 
 -- `--name=value`
 module _ (g : Given) (word : Word) (s : Setting) (value : Word) (h : word ≡ option_word s ++ 61 ∷ value) where
-  in_word : (rest : List Word) (end : Given) → Gives g (word ∷ rest) end → IsValue value × (value_of s g ≡ None) × Gives (with_value s value g) rest end
+  in_word : (rest : List Word) (end : Given) → Gives g (word ∷ rest) end → IsOptionWord value × (option_of s g ≡ None) × Gives (with_value s value g) rest end
   in_word rest end (operand flat _ _) = absurd (not_plain flat h (dashed_valued s value))
   in_word rest end (joined t v is isv none more) =
       let same = same_valued t s v value (sym is ∙ h) in
-      (subst IsValue same.1 isv, subst (λ u. value_of u g ≡ None) same.0 none, subst (λ w. Gives (with_value s w g) rest end) same.1 (subst (λ u. Gives (with_value u v g) rest end) same.0 more))
+      (subst IsOptionWord same.1 isv, subst (λ u. option_of u g ≡ None) same.0 none, subst (λ w. Gives (with_value s w g) rest end) same.1 (subst (λ u. Gives (with_value u v g) rest end) same.0 more))
   in_word _ end (apart t is _ _ _) = absurd (alone_not_valued t s value (sym is ∙ h))
   in_word _ end (dashes is) = absurd (not_dashes_valued s value (sym is ∙ h))
   in_word _ end (operand_last is _) = absurd (not_dashes_valued s value (sym is ∙ h))
@@ -243,7 +243,7 @@ module _ (g : Given) (word : Word) (s : Setting) (value : Word) (h : word ≡ op
   by_valued : (rest : List Word) → Decided (with_value s value g) rest → Decided g (word ∷ rest)
   by_valued rest later = elim (value_decided value) [
     | inr other ↦ inr (λ end gives. other (in_word rest end gives).0)
-    | inl isv ↦ elim (none_decided (value_of s g)) [
+    | inl isv ↦ elim (none_decided (option_of s g)) [
       | inr given ↦ inr (λ end gives. given (in_word rest end gives).1)
       | inl none ↦ elim later [
         | inl gives ↦ inl (gives.0, joined s value h isv none gives.1)

@@ -25,7 +25,7 @@ use Rattle.pig_run.specs.declared.first_form.FormField.{FormField}
 use Rattle.pig_run.specs.declared.first_form.Literal.{Literal}
 use Rattle.pig_run.specs.declared.first_form.Literal.TheVariants.{Number, Letters}
 use Rattle.pig_run.specs.declared.first_form.FirstForm.{FirstForm}
-use Rattle.pig_run.specs.FirstForm.{type_tree, field_tree, literal_tree, names, store_tree, trees_of, present, IsPath, IsNumber, IsWord, IsLiteralOf, IsFirstForm}
+use Rattle.pig_run.specs.FirstForm.{type_tree, declared_tree, literal_tree, names, store_tree, trees_of, present, IsPath, IsNumber, IsWord, IsLiteralOf, IsFirstForm}
 use Rattle.pig_run.specs.FormReader.{is_word, is_path, letter_of, type_of, field_of, names_differ, fields_of, literal_in, literal_of, name_in, name_of, compared_by, condition_in, condition_of, load_of, filter_of, store_of, may_compare, compared_at, Seen, is_store, seen_of, seen_in, form_of_seen, form_of}
 use Rattle.pig_run.proofs.FormLemmas.{some_same, bind_some, cond_then, cond_else, both_first, both_second, le_from, le_true, told_other, some_and, distinct_sound, distinct_done, name_at, lower_at, compared_sound, compared_done, first_at, stands_at}
 
@@ -75,7 +75,7 @@ type_done : (k : FieldType) → type_of (Some (type_tree k)) ≡ Some k
 type_done Int = refl
 type_done Chararray = refl
 
-field_is : (t : FieldTree) (f : FormField) → field_of t ≡ Some f → (t ≡ field_tree f) × (is_ascii_lowercase f.name ≡ true)
+field_is : (t : FieldTree) (f : FormField) → field_of t ≡ Some f → (t ≡ declared_tree f) × (is_ascii_lowercase f.name ≡ true)
 unfolding field_of
 field_is t f h =
     let a = bind_some (letter_of t.name) _ f h in
@@ -83,20 +83,20 @@ field_is t f h =
     let name = letter_is t.name a.0 a.1 in
     let kind = type_is t.kind b.0 b.1 in
     let is : record { name = a.0; kind = b.0 } ≡ f = some_same b.2 in
-    ((λ i. record { name = name.0 i; kind = kind i }) ∙ ap field_tree is, subst (λ (g : FormField). is_ascii_lowercase g.name ≡ true) is name.1)
+    ((λ i. record { name = name.0 i; kind = kind i }) ∙ ap declared_tree is, subst (λ (g : FormField). is_ascii_lowercase g.name ≡ true) is name.1)
 
-field_done : (f : FormField) → is_ascii_lowercase f.name ≡ true → field_of (field_tree f) ≡ Some f
+field_done : (f : FormField) → is_ascii_lowercase f.name ≡ true → field_of (declared_tree f) ≡ Some f
 unfolding field_of
 field_done f h = rw (letter_done f.name h, type_done f.kind) refl
 
-all_are : (ts : List FieldTree) (fs : List FormField) → all_of field_of ts ≡ Some fs → (ts ≡ map field_tree fs) × (list_all is_ascii_lowercase (names fs) ≡ true)
-all_are [] fs h = let is : [] ≡ fs = some_same h in (ap (map field_tree) is, subst (λ gs. list_all is_ascii_lowercase (names gs) ≡ true) is refl)
+all_are : (ts : List FieldTree) (fs : List FormField) → all_of field_of ts ≡ Some fs → (ts ≡ map declared_tree fs) × (list_all is_ascii_lowercase (names fs) ≡ true)
+all_are [] fs h = let is : [] ≡ fs = some_same h in (ap (map declared_tree) is, subst (λ gs. list_all is_ascii_lowercase (names gs) ≡ true) is refl)
 all_are (t ∷ ts) fs h =
     let a = bind_some (field_of t) _ fs h in
     let b = map_some (all_of field_of ts) (λ gs. a.0 ∷ gs) fs a.2 in
     let first = field_is t a.0 a.1 in
     let rest = all_are ts b.0 b.1 in (
-      (λ i. first.0 i ∷ rest.0 i) ∙ ap (map field_tree) b.2,
+      (λ i. first.0 i ∷ rest.0 i) ∙ ap (map declared_tree) b.2,
       subst (λ gs. list_all is_ascii_lowercase (names gs) ≡ true) b.2 (rw (first.1) rest.1),
     )
   where
@@ -104,7 +104,7 @@ all_are (t ∷ ts) fs h =
     map_some None f y k = absurd (cc)
     map_some (Some x) f y k = (x, refl, some_same k)
 
-all_done : (fs : List FormField) → list_all is_ascii_lowercase (names fs) ≡ true → all_of field_of (map field_tree fs) ≡ Some fs
+all_done : (fs : List FormField) → list_all is_ascii_lowercase (names fs) ≡ true → all_of field_of (map declared_tree fs) ≡ Some fs
 all_done [] h = refl
 all_done (f ∷ fs) h =
     rw (
@@ -113,7 +113,7 @@ all_done (f ∷ fs) h =
     ) refl
 
 record AreFormFields (ts : List FieldTree) (fs : List FormField) : Type 0 where
-  trees : ts ≡ map field_tree fs
+  trees : ts ≡ map declared_tree fs
   some : 1 ≤ length fs
   few : length fs ≤ 9
   lower : list_all is_ascii_lowercase (names fs) ≡ true
@@ -135,7 +135,7 @@ fields_are ts fs h =
       distinct = distinct_sound a.0 (both_second (nat_le 1 (length a.0) && nat_le (length a.0) 9) (names_differ a.0) b.0);
     })
 
-fields_done : (fs : List FormField) → AreFormFields (map field_tree fs) fs → fields_of (map field_tree fs) ≡ Some fs
+fields_done : (fs : List FormField) → AreFormFields (map declared_tree fs) fs → fields_of (map declared_tree fs) ≡ Some fs
 unfolding fields_of
 fields_done fs h = rw (all_done fs h.lower, le_true 1 (length fs) h.some, le_true (length fs) 9 h.few, distinct_done fs h.distinct) refl
 
@@ -295,7 +295,7 @@ three_is a b c f ss are at found_at s seen h =
     let compared = compared_sound fields.0 y.0.0 y.0.2 place.0 place.1 in
     let name : y.0.0 ≡ get_or (names fields.0) place.0 0 = sym compared.named ∙ sym (name_at fields.0 place.0 compared.field compared.there) in
     let form : FirstForm = record { input = x.0.0; fields = fields.0; compared = place.0; relation = y.0.1; literal = y.0.2; output = z.0; store = at + 1 } in
-    let first : a ≡ stmt.Assign (codes "a") (op.Load x.0.0 None (map field_tree fields.0)) = load.tree ∙ ap (λ v. stmt.Assign (codes "a") (op.Load x.0.0 None v)) are_fields.trees in
+    let first : a ≡ stmt.Assign (codes "a") (op.Load x.0.0 None (map declared_tree fields.0)) = load.tree ∙ ap (λ v. stmt.Assign (codes "a") (op.Load x.0.0 None v)) are_fields.trees in
     let second : b ≡ stmt.Assign (codes "b") (op.Filter (codes "a") (e.Compare y.0.1 (e.Field (ref.Name (get_or (names fields.0) place.0 0 ∷ []))) (literal_tree y.0.2))) =
     condition.tree ∙ ap (λ v. stmt.Assign (codes "b") (op.Filter (codes "a") (e.Compare y.0.1 (e.Field (ref.Name (v ∷ []))) (literal_tree y.0.2)))) name in
     let trees : present ss ≡ trees_of form = are ∙ (λ i. first i ∷ second i ∷ store.tree i ∷ []) in
@@ -335,12 +335,12 @@ module _ (f : FirstForm) (ss : List Stmt) (h : IsFirstForm f ss) where
   lower_name = rw the_name (lower_at f.fields f.compared the_field.0 h.letters the_field.1)
 
   abbrev what_is_seen : Seen
-  what_is_seen = record { input = f.input; schema = map field_tree f.fields; name = get_or (names f.fields) f.compared 0; relation = f.relation; literal = f.literal; output = f.output }
+  what_is_seen = record { input = f.input; schema = map declared_tree f.fields; name = get_or (names f.fields) f.compared 0; relation = f.relation; literal = f.literal; output = f.output }
 
   seen_done : option_and_then (form_of_seen f.store) (seen_in (trees_of f)) ≡ form_of_seen f.store what_is_seen
   unfolding seen_of
   seen_done =
-      rw (load_done f.input (map field_tree f.fields) h.input, filter_done (get_or (names f.fields) f.compared 0) f.relation the_field.0.kind f.literal lower_name the_field.2, store_done f.output h.output) refl
+      rw (load_done f.input (map declared_tree f.fields) h.input, filter_done (get_or (names f.fields) f.compared 0) f.relation the_field.0.kind f.literal lower_name the_field.2, store_done f.output h.output) refl
 
   form_seen : form_of_seen f.store what_is_seen ≡ Some f
   unfolding form_of_seen
@@ -375,7 +375,7 @@ number_few Int (Letters w) n h is = absurd h
 number_few Chararray (Number m) n h is = absurd h
 number_few Chararray (Letters w) n h is = absurd (cc)
 
-pub number_of : (f : FirstForm) (ss : List Stmt) → IsFirstForm f ss → (n : ℕ) → f.literal ≡ Number n → IsNumber n
-number_of f ss h n is =
+pub numeral_of : (f : FirstForm) (ss : List Stmt) → IsFirstForm f ss → (n : ℕ) → f.literal ≡ Number n → IsNumber n
+numeral_of f ss h n is =
     let c = some_and (slice_get f.fields f.compared) (λ field. IsLiteralOf field.kind f.literal) h.compared in
     number_few c.0.kind f.literal n c.2 is

@@ -6,7 +6,7 @@ use Rattle.std.specs.Str.Parse.{digits_value}
 use Rattle.clap.specs.Words.{App, Rule, new_app, new_rule, with_rule}
 use Rattle.clap.specs.Simple.{on_top}
 use Rattle.clap.specs.declared.builder.action.ArgAction.TheVariants.{Set}
-use Rattle.pig_run.specs.CommandWords.{Given, Gives, IsValue, Setting, Workers, Reducers, Split, Word, nothing_given, value_of}
+use Rattle.pig_run.specs.CommandWords.{Given, Gives, IsOptionWord, Setting, Workers, Reducers, Split, Word, nothing_given, option_of}
 use Rattle.pig_run.specs.declared.words.Found.{Found}
 use Rattle.pig_run.specs.declared.words.Verb.{Verb}
 use Rattle.pig_run.specs.declared.words.Verb.TheVariants as verbs
@@ -43,7 +43,7 @@ given_of f = record {
 
 -- each option that was given has a value
 abbrev pub AreValues : Given → Type 0
-AreValues g = (s : Setting) (v : Word) → value_of s g ≡ Some v → IsValue v
+AreValues g = (s : Setting) (v : Word) → option_of s g ≡ Some v → IsOptionWord v
 
 -- the words give just this, and do give it where the options have values
 pub record AreRead (words : List Word) (g : Given) : Type 0 where

@@ -35,10 +35,10 @@ pub record Given : Type 0 where
 abbrev pub nothing_given : Given
 nothing_given = record { operand = None; workers = None; reducers = None; split = None }
 
-abbrev pub value_of : Setting → Given → Option Word
-value_of Workers g = g.workers
-value_of Reducers g = g.reducers
-value_of Split g = g.split
+abbrev pub option_of : Setting → Given → Option Word
+option_of Workers g = g.workers
+option_of Reducers g = g.reducers
+option_of Split g = g.split
 
 abbrev pub with_operand : Word → Given → Given
 with_operand word g = record g { operand = Some word }
@@ -55,7 +55,7 @@ is_dashed (b ∷ []) = false
 is_dashed (b ∷ c ∷ rest) = b == 45
 
 -- 1 to 9 ASCII digits
-pub record IsValue (word : Word) : Type 0 where
+pub record IsOptionWord (word : Word) : Type 0 where
   pub some : 1 ≤ length word
   pub few : length word ≤ 9
   pub digits : list_all is_ascii_digit word ≡ true
@@ -68,11 +68,11 @@ pub data Gives : Given → List Word → Given → Type 0 where
   operand : {g end : Given} {word : Word} {rest : List Word} → is_dashed word ≡ false → g.operand ≡ None
       → Gives (with_operand word g) rest end → Gives g (word ∷ rest) end
   -- `--name=value`; the byte 61 is `=`
-  joined : {g end : Given} {word : Word} {rest : List Word} (s : Setting) (value : Word) → word ≡ option_word s ++ 61 ∷ value → IsValue value
-      → value_of s g ≡ None → Gives (with_value s value g) rest end → Gives g (word ∷ rest) end
+  joined : {g end : Given} {word : Word} {rest : List Word} (s : Setting) (value : Word) → word ≡ option_word s ++ 61 ∷ value → IsOptionWord value
+      → option_of s g ≡ None → Gives (with_value s value g) rest end → Gives g (word ∷ rest) end
   -- `--name value`
-  apart : {g end : Given} {word value : Word} {rest : List Word} (s : Setting) → word ≡ option_word s → IsValue value
-      → value_of s g ≡ None → Gives (with_value s value g) rest end → Gives g (word ∷ value ∷ rest) end
+  apart : {g end : Given} {word value : Word} {rest : List Word} (s : Setting) → word ≡ option_word s → IsOptionWord value
+      → option_of s g ≡ None → Gives (with_value s value g) rest end → Gives g (word ∷ value ∷ rest) end
   -- `--`, and no word behind it
   dashes : {g : Given} {word : Word} → word ≡ codes "--" → Gives g (word ∷ []) g
   -- `--` and the operand, whatever it begins with
@@ -85,7 +85,7 @@ IsSet (Some value) default most n = (n ≡ digits_value 10 value) × (1 ≤ n) �
 
 -- the operand of `demo`: a value from 1 to 100,000
 pub record IsCount (word : Word) : Type 0 where
-  pub value : IsValue word
+  pub value : IsOptionWord word
   pub some : 1 ≤ digits_value 10 word
   pub few : digits_value 10 word ≤ 100000
 

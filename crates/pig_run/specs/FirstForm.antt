@@ -26,8 +26,8 @@ type_tree Int = type.Int
 type_tree Chararray = type.Chararray
 
 -- a field as it is declared, `k:int`
-abbrev pub field_tree : FormField → FieldTree
-field_tree f = record { name = f.name ∷ []; kind = Some (type_tree f.kind) }
+abbrev pub declared_tree : FormField → FieldTree
+declared_tree f = record { name = f.name ∷ []; kind = Some (type_tree f.kind) }
 
 -- a literal
 abbrev pub literal_tree : Literal → Expr
@@ -40,7 +40,7 @@ names fields = map (λ f. f.name) fields
 
 -- `a = LOAD 'p' AS (k:int, v:chararray)`
 abbrev pub load_tree : FirstForm → Stmt
-load_tree f = stmt.Assign (codes "a") (op.Load f.input None (map field_tree f.fields))
+load_tree f = stmt.Assign (codes "a") (op.Load f.input None (map declared_tree f.fields))
 
 -- `b = FILTER a BY k > 4`
 abbrev pub filter_tree : FirstForm → Stmt

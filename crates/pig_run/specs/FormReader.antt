@@ -66,13 +66,13 @@ fields_of trees = do
   if nat_le 1 (length fields) && nat_le (length fields) 9 && names_differ fields then Some fields else None
 
 -- a number of at most 9 digits
-abbrev pub number_of : ℤ → Option Literal
-number_of (pos n) = if nat_le n 999999999 then Some (Number n) else None
-number_of (negsuc n) = None
+abbrev pub numeral_of : ℤ → Option Literal
+numeral_of (pos n) = if nat_le n 999999999 then Some (Number n) else None
+numeral_of (negsuc n) = None
 
 -- a literal
 abbrev pub literal_in : Expr-F Expr Link → Option Literal
-literal_in (Expr-F.Int z) = number_of z
+literal_in (Expr-F.Int z) = numeral_of z
 literal_in (Expr-F.Text text) = if is_word text then Some (Letters text) else None
 literal_in _ = None
 

@@ -5,7 +5,7 @@ ghost use Rattle.pig_value.specs.FieldReader.{all_of};
 ghost use Rattle.pig_syntax.specs.declared.trees.Stmt.{Stmt};
 ghost use Rattle.pig_run.specs.declared.first_form.FirstForm.{FirstForm};
 ghost use Rattle.pig_run.specs.FirstForm.{IsFirstForm, is_empty, present};
-ghost use Rattle.pig_run.specs.FormReader.{is_word, is_path, letter_of, type_of, field_of, names_differ, fields_of, number_of, literal_of, name_of, compared_by, condition_of, load_of, filter_of, store_of, may_compare, compared_at, seen_of, seen_in, is_store, form_of_seen, form_of};
+ghost use Rattle.pig_run.specs.FormReader.{is_word, is_path, letter_of, type_of, field_of, names_differ, fields_of, numeral_of, literal_of, name_of, compared_by, condition_of, load_of, filter_of, store_of, may_compare, compared_at, seen_of, seen_in, is_store, form_of_seen, form_of};
 ghost use Rattle.pig_run.specs.FormParts.{whole, seen};
 
 use pig_syntax::{Expr, FieldRef, FieldTree, Fields, Op, Stmt, Stmts, TypeTree};
@@ -188,7 +188,7 @@ fn read_literal(tree: &Expr) -> Option<LiteralPart<'_>>
 
 // A number of at most 9 digits.
 fn number(n: i32) -> Option<LiteralPart<'static>>
-    ensures { option_map whole result ≡ number_of n }
+    ensures { option_map whole result ≡ numeral_of n }
 {
     match u32::try_from(n) {
         Ok(n) if n <= MOST_NUMBER => Some(LiteralPart::Number(n)),

@@ -8,7 +8,7 @@ use Rattle.std.proofs.lemmas.List.{append-nil, length-append, length-drop, drop-
 use Rattle.pig_value.specs.declared.operators.Dir.{Dir}
 use Rattle.pig_value.proofs.list_laws.Listing.{each-append, each_weaker}
 use Rattle.pig_runs.specs.declared.slots.Slot.{Slot}
-use Rattle.pig_runs.specs.Entries.{Keyed, IsEntry, AreEntries, InDirections, and_entries}
+use Rattle.pig_runs.specs.Entries.{Keyed, IsEntry, AreKeyed, InDirections, and_entries}
 use Rattle.pig_runs.specs.Packed.{Packed, packed, part, found_at, slot_of, moved, IsWithin, Held, held_prop}
 
 part_kept : (bytes more : List ℕ) (at len : ℕ) → at + len ≤ length bytes → part (bytes ++ more) at len ≡ part bytes at len
@@ -71,7 +71,7 @@ new_within bytes key row input =
 
 -- the entries that slots at the end find
 abbrev pub Finds : List Dir → List ℕ → List Slot → List Keyed → Type 0
-Finds ds bytes slots es = ∥ AreEntries ds es ∥₁ × (map (found_at bytes) slots ≡ map (packed ds) es)
+Finds ds bytes slots es = ∥ AreKeyed ds es ∥₁ × (map (found_at bytes) slots ≡ map (packed ds) es)
 
 pub finds_new : (ds : List Dir) (bytes : List ℕ) (e : Keyed) → IsEntry ds e
     → Finds ds (bytes ++ ((packed ds e).key ++ (packed ds e).row)) (slot_of (length bytes) (packed ds e).key (packed ds e).row e.input ∷ []) (e ∷ [])
@@ -85,7 +85,7 @@ finds_lent ds bytes p one = (one.1.0, (let found = found_new bytes p.key p.row p
 module _ (bytes more held_bytes : List ℕ) (slots held_slots : List Slot) (same_bytes : more ≡ held_bytes) (same_slots : slots ≡ held_slots) where
   pub finds_moved : (ds held_dirs : List Dir) → held_dirs ≡ ds → (held : Held held_dirs (map (found_at held_bytes) held_slots)) → Finds ds (bytes ++ more) (map (moved (length bytes)) slots) held.0
   finds_moved ds held_dirs same held = (
-    subst (λ d. ∥ AreEntries d held.0 ∥₁) same held.1.0,
+    subst (λ d. ∥ AreKeyed d held.0 ∥₁) same held.1.0,
     all_moved bytes more slots ∙ ((λ i. map (found_at (same_bytes i)) (same_slots i)) ∙ (sym held.1.1 ∙ ap (λ d. map (packed d) held.0) same)),
   )
 

@@ -15,7 +15,7 @@ use Rattle.pig_value.proofs.list_laws.Listing.{some_same, each_at, each-append}
 use Rattle.pig_runs.specs.declared.lent.Lent.{Lent}
 use Rattle.pig_runs.specs.declared.slots.Slot.{Slot}
 use Rattle.pig_runs.specs.Cutting.{HaveDirections}
-use Rattle.pig_runs.specs.Entries.{Keyed, IsEntry, AreEntries, InDirections, and_entries, coded_in_directions, entries_of_all, run_cmp}
+use Rattle.pig_runs.specs.Entries.{Keyed, IsEntry, AreKeyed, InDirections, and_entries, coded_in_directions, entries_of_all, run_cmp}
 use Rattle.pig_runs.specs.Packed.{Packed, packed, packed_lent, packed_cmp, found_at, Held, Stand, coded_packed}
 use Rattle.pig_runs.proofs.Merging.{all-append}
 use Rattle.pig_runs.proofs.Order.{entry_order, sorted_codes}
@@ -25,13 +25,13 @@ pub lent_entry : (ds : List Dir) (o : Option Keyed) (p : Packed) → option_map 
 lent_entry ds None p h = absurd (cc)
 lent_entry ds (Some e) p h = (e, (refl, some_same (packed ds e) p h))
 
-pub held_one : (ds : List Dir) (es : List Keyed) (at : ℕ) (p : Packed) → ∥ AreEntries ds es ∥₁ → option_map (packed ds) (slice_get es at) ≡ Some p → ∥ Held ds (p ∷ []) ∥₁
+pub held_one : (ds : List Dir) (es : List Keyed) (at : ℕ) (p : Packed) → ∥ AreKeyed ds es ∥₁ → option_map (packed ds) (slice_get es at) ≡ Some p → ∥ Held ds (p ∷ []) ∥₁
 held_one ds es at p good is =
     let found = lent_entry ds (slice_get es at) p is in
     ∥∥₁_map good (λ h. (found.0 ∷ [], (∣ (each_at (IsEntry ds) es at found.0 found.1.0 h, tt) ∣₁, (let told = found.1.1 in λ i. told i ∷ []))))
 
 -- what is added is the entry at the place
-pub copied : {T E : Type 0} (ds : List Dir) (es : List Keyed) (at : ℕ) (p : Packed) (b new : InDirections) (r : Result T E) → ∥ AreEntries ds es ∥₁
+pub copied : {T E : Type 0} (ds : List Dir) (es : List Keyed) (at : ℕ) (p : Packed) (b new : InDirections) (r : Result T E) → ∥ AreKeyed ds es ∥₁
     → option_map (packed ds) (slice_get es at) ≡ Some p → ((e : Keyed) → IsEntry ds e → packed ds e ≡ p → OnOk r (new ≡ and_entries (e ∷ []) b))
     → OnOk r (new ≡ and_entries (take 1 (drop at es)) b)
 copied ds es at p b new (Err u) good is added = tt
@@ -64,7 +64,7 @@ lent_all ds bytes b slots s held old new (Ok u) same_bytes same_slots h =
     h ∙ ap (λ ps. old ++ ps) ((λ i. map (found_at (same_bytes i)) (same_slots i)) ∙ sym held.1.1)
 
 -- two entries that are lent stand as they do
-pub lent_before : (ds : List Dir) (es fs : List Keyed) (at there : ℕ) (p q : Packed) (r : Bool) → ∥ AreEntries ds es ∥₁ → ∥ AreEntries ds fs ∥₁
+pub lent_before : (ds : List Dir) (es fs : List Keyed) (at there : ℕ) (p q : Packed) (r : Bool) → ∥ AreKeyed ds es ∥₁ → ∥ AreKeyed ds fs ∥₁
     → option_map (packed ds) (slice_get es at) ≡ Some p → option_map (packed ds) (slice_get fs there) ≡ Some q → r ≡ is_lt (packed_cmp p q)
     → (e f : Keyed) → slice_get es at ≡ Some e → slice_get fs there ≡ Some f → r ≡ is_lt (run_cmp ds e f)
 lent_before ds es fs at there p q r good well is_p is_q told e f here found =
@@ -80,16 +80,16 @@ pub none_stand : (ds : List Dir) → Stand ds [] []
 none_stand ds = record { good = ∣ tt ∣₁; told = refl }
 
 pub one_run_lent : (ds : List Dir) (runs : List InDirections) (i : ℕ) (run lent : InDirections) (ps qs : List Packed) → HaveDirections ds runs → i < length runs → run ≡ get_or runs i run → lent ≡ run
-    → ∥ AreEntries lent.dirs lent.entries ∥₁ → Stand ds (entries_of_all (take i runs)) ps → qs ≡ ps ++ map (packed lent.dirs) lent.entries → Stand ds (entries_of_all (take (i + 1) runs)) qs
+    → ∥ AreKeyed lent.dirs lent.entries ∥₁ → Stand ds (entries_of_all (take i runs)) ps → qs ≡ ps ++ map (packed lent.dirs) lent.entries → Stand ds (entries_of_all (take (i + 1) runs)) qs
 one_run_lent ds runs i run lent ps qs alike within at same good so_far grown =
     let here : slice_get runs i ≡ Some run = slice_get_read runs (length runs) i run refl within at in
     let dirs : lent.dirs ≡ ds = ap (λ r. r.dirs) same ∙ each_at (λ r. r.dirs ≡ ds) runs i run here alike in
     let all : entries_of_all (take (i + 1) runs) ≡ entries_of_all (take i runs) ++ run.entries =
     ap entries_of_all (more_taken runs i run here) ∙ (all-append (take i runs) (run ∷ []) ∙ ap (λ l. entries_of_all (take i runs) ++ l) (append-nil run.entries))
     in
-    let well : ∥ AreEntries ds run.entries ∥₁ = subst (λ d. ∥ AreEntries d run.entries ∥₁) dirs (subst (λ r. ∥ AreEntries lent.dirs r.entries ∥₁) same good) in
+    let well : ∥ AreKeyed ds run.entries ∥₁ = subst (λ d. ∥ AreKeyed d run.entries ∥₁) dirs (subst (λ r. ∥ AreKeyed lent.dirs r.entries ∥₁) same good) in
     record {
-      good = subst (λ es. ∥ AreEntries ds es ∥₁) (sym all) (∥∥₁_map₂ so_far.good well (λ h k. each-append (IsEntry ds) (entries_of_all (take i runs)) run.entries h k));
+      good = subst (λ es. ∥ AreKeyed ds es ∥₁) (sym all) (∥∥₁_map₂ so_far.good well (λ h k. each-append (IsEntry ds) (entries_of_all (take i runs)) run.entries h k));
       told = ap (map (packed ds)) all
           ∙ (map-append (packed ds) (entries_of_all (take i runs)) run.entries
           ∙ ((λ j. so_far.told j ++ map (packed (sym dirs j)) (sym same j).entries) ∙ sym grown));

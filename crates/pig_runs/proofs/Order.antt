@@ -16,7 +16,7 @@ use Rattle.pig_keycode.specs.Reading.{row_code}
 use Rattle.pig_keycode.proofs.KeyOrder.{key_total, key_same, whole_key_order}
 use Rattle.pig_keycode.proofs.Turned.{whole_order}
 use Rattle.pig_keycode.proofs.Unique.{both_equal, same_bytes}
-use Rattle.pig_runs.specs.Entries.{Keyed, IsEntry, AreEntries, run_cmp}
+use Rattle.pig_runs.specs.Entries.{Keyed, IsEntry, AreKeyed, run_cmp}
 use Rattle.pig_runs.specs.Packed.{Packed, packed, packed_cmp}
 
 texts_total : IsTotalOrder text_cmp
@@ -58,5 +58,5 @@ entry_order ds e f h k =
     let row = row_order e.row f.row h.row k.row in
     λ i. ordering_then (key i) (ordering_then (nat_cmp e.input f.input) (row i))
 
-pub sorted_codes : (ds : List Dir) (es : List Keyed) → AreEntries ds es → sort packed_cmp (map (packed ds) es) ≡ map (packed ds) (sort (run_cmp ds) es)
+pub sorted_codes : (ds : List Dir) (es : List Keyed) → AreKeyed ds es → sort packed_cmp (map (packed ds) es) ≡ map (packed ds) (sort (run_cmp ds) es)
 sorted_codes ds es h = sort_map_where (run_cmp ds) packed_cmp (packed ds) (IsEntry ds) (entry_order ds) es h

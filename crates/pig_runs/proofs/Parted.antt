@@ -14,7 +14,7 @@ use Rattle.pig_value.specs.Sorts.{Ascends}
 use Rattle.pig_value.proofs.list_laws.Bags.{either_way, gt_is_lt, rises_over, rises_all, filter_ascends}
 use Rattle.pig_value.proofs.list_laws.Indexing.{some_at}
 use Rattle.pig_value.proofs.list_laws.Listing.{each_at, each_of_all, each_weaker, filter_all, filter_none, filter-filter, flat_map_each}
-use Rattle.pig_runs.specs.Cutting.{Point, point_cmp, cut_at, cut_points, in_slice, is_below, is_from, slice_of, stands_before}
+use Rattle.pig_runs.specs.Cutting.{Point, point_cmp, cut_point, cut_points, in_slice, is_below, is_from, slice_of, stands_before}
 use Rattle.pig_runs.specs.Entries.{Keyed, run_cmp}
 use Rattle.pig_runs.proofs.Halving.{stays_above}
 use Rattle.pig_runs.proofs.Order.{run_total}
@@ -138,7 +138,7 @@ module _ (ds : List Dir) where
       let more : (a + 1) * m ≤ (a + 1 + 1) * m = mul-le-mul_right m (omega arith) in
       (le-div_iff_mul-le {k = n} {x = ((a + 1) * m) / n} {y = (a + 1 + 1) * m} some).1 (omega (arith, low, more))
 
-  cuts_from : (n : ℕ) (es : List Keyed) → 0 < n → Ascends (run_cmp ds) es → (a c : ℕ) → Ascends (point_cmp ds) (map (cut_at n es) (range_with_len a c))
+  cuts_from : (n : ℕ) (es : List Keyed) → 0 < n → Ascends (run_cmp ds) es → (a c : ℕ) → Ascends (point_cmp ds) (map (cut_point n es) (range_with_len a c))
   cuts_from n es some h a zero = tt
   cuts_from n es some h a (suc zero) = (tt, tt)
   cuts_from n es some h a (suc (suc c)) =

@@ -17,7 +17,7 @@ use Rattle.pig_keycode.specs.Keys.{IsKey, key_code}
 use Rattle.pig_runs.specs.declared.entries.Entry.{Entry}
 use Rattle.pig_runs.specs.declared.lent.Lent.{Lent}
 use Rattle.pig_runs.specs.declared.slots.Slot.{Slot}
-use Rattle.pig_runs.specs.Entries.{Keyed, keyed, IsEntry, AreEntries}
+use Rattle.pig_runs.specs.Entries.{Keyed, keyed, IsEntry, AreKeyed}
 use Rattle.pig_runs.specs.Packed.{packed, packed_lent, part, found_at, Held}
 
 some_same : {X : Type 0} {x y : X} → Some x ≡ Some y → x ≡ y
@@ -95,6 +95,6 @@ module _ (ds : List Dir) (bytes : List ℕ) (slots : List Slot) (held : Held ds 
       )
 
 -- what holds of the entries of a list holds of the one at an index
-pub entry_at : (ds : List Dir) (es : List Entry) (i : ℕ) (e : Entry) → i < length es → e ≡ get_or es i e → AreEntries ds (map keyed es) → IsEntry ds (keyed e)
+pub entry_at : (ds : List Dir) (es : List Entry) (i : ℕ) (e : Entry) → i < length es → e ≡ get_or es i e → AreKeyed ds (map keyed es) → IsEntry ds (keyed e)
 entry_at ds es i e within at h =
     each_at (IsEntry ds) (map keyed es) i (keyed e) (slice_get-map keyed es i ∙ ap (option_map keyed) (slice_get_read es (length es) i e refl within at)) h

@@ -13,7 +13,7 @@ use Rattle.pig_value.specs.Sorts.{Ascends}
 use Rattle.pig_value.proofs.list_laws.Bags.{ascends_prop, drop_ascends, take_ascends}
 use Rattle.pig_value.proofs.list_laws.Indexing.{some_at, take_one, more_taken}
 use Rattle.pig_value.proofs.list_laws.Listing.{each_of_all, each_weaker, filter-filter}
-use Rattle.pig_runs.specs.Cutting.{Point, Points, Divides, Leads, cut_at, cut_points, is_below, is_from, picked, points_at, slice_of, stands_before}
+use Rattle.pig_runs.specs.Cutting.{Point, Points, Divides, Leads, cut_point, cut_points, is_below, is_from, picked, points_at, slice_of, stands_before}
 use Rattle.pig_runs.specs.Entries.{Keyed, InDirections, and_entries, no_entries_in, run_cmp}
 use Rattle.pig_runs.specs.Packed.{Packed, packed, Held, Stand}
 use Rattle.pig_runs.proofs.Halving.{divided, led}
@@ -159,7 +159,7 @@ module _ (n : ℕ) (es : List Keyed) where
       ∙ (ap (and_entries (at_place k)) so_far
       ∙ ap (λ l. record { dirs = b.dirs; entries = l }) (append_assoc b.entries (picked n es k) (at_place k) ∙ ap (λ l. b.entries ++ l) (sym (picked_more k))))
 
-  picked_points : 0 < length es → (a c : ℕ) → a + c < n → map Some (flat_map at_place (range_with_len a c)) ≡ map (cut_at n es) (range_with_len a c)
+  picked_points : 0 < length es → (a c : ℕ) → a + c < n → map Some (flat_map at_place (range_with_len a c)) ≡ map (cut_point n es) (range_with_len a c)
   picked_points some a zero below = refl
   picked_points some a (suc c) below =
       let found = some_at es (((a + 1) * length es) / n) (place_within a n (length es) (omega (arith, below)) some) in
@@ -169,7 +169,7 @@ module _ (n : ℕ) (es : List Keyed) where
   pub cut_picked : 0 < n → 0 < length es → points_at (picked n es (n - 1)) 0 ≡ cut_points n es
   cut_picked many some = append-nil (map Some (picked n es (n - 1))) ∙ picked_points some 0 (n - 1) (omega (arith, many))
 
-no_points : (n a c : ℕ) → replicate c None ≡ map (cut_at n []) (range_with_len a c)
+no_points : (n a c : ℕ) → replicate c None ≡ map (cut_point n []) (range_with_len a c)
 no_points n a zero = refl
 no_points n a (suc c) = ap (λ l. None ∷ l) (no_points n (a + 1) c)
 

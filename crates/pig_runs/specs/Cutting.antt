@@ -30,11 +30,11 @@ abbrev pub stands_before : List Dir → Point → Keyed → Bool
 stands_before ds point e = is_lt (point_cmp ds (Some e) point)
 
 -- the point numbered k, of those that cut sorted entries into n slices: the entry at place (k + 1) * m / n of m, rounded down
-abbrev pub cut_at : ℕ → List Keyed → ℕ → Point
-cut_at n entries k = slice_get entries (((k + 1) * length entries) / n)
+abbrev pub cut_point : ℕ → List Keyed → ℕ → Point
+cut_point n entries k = slice_get entries (((k + 1) * length entries) / n)
 
 abbrev pub cut_points : ℕ → List Keyed → List Point
-cut_points n entries = map (cut_at n entries) (range_with_len 0 (n - 1))
+cut_points n entries = map (cut_point n entries) (range_with_len 0 (n - 1))
 
 -- the entry stands before the point numbered k, where there is one
 abbrev pub is_below : List Dir → List Point → ℕ → Keyed → Bool

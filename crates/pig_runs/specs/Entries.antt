@@ -33,8 +33,8 @@ pub record IsEntry (ds : List Dir) (e : Keyed) : Type 0 where
   pub key : IsKey ds e.key
   pub row : IsRow e.row
 
-abbrev pub AreEntries : List Dir → List Keyed → Type 0
-AreEntries ds = AllByRecursion (IsEntry ds)
+abbrev pub AreKeyed : List Dir → List Keyed → Type 0
+AreKeyed ds = AllByRecursion (IsEntry ds)
 
 -- the order of a run: by key in its directions, then by input, then by row
 abbrev pub run_cmp : List Dir → Keyed → Keyed → Ordering

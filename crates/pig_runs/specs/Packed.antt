@@ -14,7 +14,7 @@ use Rattle.pig_keycode.proofs.KeyOrder.{one_key}
 use Rattle.pig_keycode.proofs.Wholes.{one_row}
 use Rattle.pig_runs.specs.declared.lent.Lent.{Lent}
 use Rattle.pig_runs.specs.declared.slots.Slot.{Slot}
-use Rattle.pig_runs.specs.Entries.{Keyed, IsEntry, AreEntries, coded_keyed}
+use Rattle.pig_runs.specs.Entries.{Keyed, IsEntry, AreKeyed, coded_keyed}
 
 -- an entry as bytes: the code of its key, the number of its input, the code of its row
 pub record Packed : Type 0 where
@@ -80,7 +80,7 @@ abbrev behind : List Packed → List Packed
 behind [] = []
 behind (p ∷ ps) = ps
 
-pub entries_told : (ds : List Dir) (es fs : List Keyed) → AreEntries ds es → AreEntries ds fs → map (packed ds) es ≡ map (packed ds) fs → es ≡ fs
+pub entries_told : (ds : List Dir) (es fs : List Keyed) → AreKeyed ds es → AreKeyed ds fs → map (packed ds) es ≡ map (packed ds) fs → es ≡ fs
 entries_told ds [] [] h k same = refl
 entries_told ds [] (f ∷ fs) h k same = absurd (cc)
 entries_told ds (e ∷ es) [] h k same = absurd (cc)
@@ -91,15 +91,15 @@ entries_told ds (e ∷ es) (f ∷ fs) h k same =
 
 -- the bytes are those of these entries, which are of values
 pub record Stand (ds : List Dir) (es : List Keyed) (ps : List Packed) : Type 0 where
-  pub good : ∥ AreEntries ds es ∥₁
+  pub good : ∥ AreKeyed ds es ∥₁
   pub told : map (packed ds) es ≡ ps
 
 -- the entries that bytes stand for
 abbrev pub Held : List Dir → List Packed → Type 0
-Held ds ps = (es : List Keyed) × (∥ AreEntries ds es ∥₁ × (map (packed ds) es ≡ ps))
+Held ds ps = (es : List Keyed) × (∥ AreKeyed ds es ∥₁ × (map (packed ds) es ≡ ps))
 
 pub held_prop : (ds : List Dir) (ps : List Packed) → IsProp (Held ds ps)
 held_prop ds ps x y =
-    Σ_prop_path {A = List Keyed} {B = λ es. ∥ AreEntries ds es ∥₁ × (map (packed ds) es ≡ ps)}
+    Σ_prop_path {A = List Keyed} {B = λ es. ∥ AreKeyed ds es ∥₁ × (map (packed ds) es ≡ ps)}
     (λ es. ×_prop ∥∥₁_prop (Coded-set (coded_list coded_packed) (map (packed ds) es) ps)) {u = x} {v = y}
     (∥∥₁_elim x.1.0 (Coded-set (coded_list coded_keyed) x.0 y.0) (λ h. ∥∥₁_elim y.1.0 (Coded-set (coded_list coded_keyed) x.0 y.0) (λ k. entries_told ds x.0 y.0 h k (x.1.1 ∙ sym y.1.1))))

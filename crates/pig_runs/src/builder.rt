@@ -41,7 +41,7 @@ impl Model for RunBuilder {
 
 impl RunBuilder {
     ghost use Rattle.pig_runs.specs.Cutting.{Divides};
-    ghost use Rattle.pig_runs.specs.Entries.{Keyed, IsEntry, AreEntries, no_entries_in, and_entries, key_at, run_cmp};
+    ghost use Rattle.pig_runs.specs.Entries.{Keyed, IsEntry, AreKeyed, no_entries_in, and_entries, key_at, run_cmp};
     ghost use Rattle.pig_value.specs.Sorts.{Ascends};
     ghost use Rattle.std.specs.Ordering.{is_lt};
     ghost use Rattle.std.specs.Bool.{Decides};
@@ -110,7 +110,7 @@ impl RunBuilder {
     /// The number of entries.
     pub fn len(&self) -> usize
         ensures count { result ≡ length self.now.entries }
-        ensures values { ∥ AreEntries self.now.dirs self.now.entries ∥₁ }
+        ensures values { ∥ AreKeyed self.now.dirs self.now.entries ∥₁ }
     {
         self.slots.len()
     }
@@ -170,7 +170,7 @@ impl RunBuilder {
     pub(crate) fn lend(&self, at: usize) -> Lent<'_>
         requires { at < length self.now.entries }
         ensures is { option_map (packed self.now.dirs) (slice_get self.now.entries at) ≡ Some (packed_lent result) }
-        ensures good { ∥ AreEntries self.now.dirs self.now.entries ∥₁ }
+        ensures good { ∥ AreKeyed self.now.dirs self.now.entries ∥₁ }
     {
         let slot = slot_at(self.slots.as_slice(), at);
         lend(self.bytes.as_slice(), slot)
@@ -179,7 +179,7 @@ impl RunBuilder {
     // Adds the bytes of all entries to a list.
     pub(crate) fn lend_all<'r>(&'r self, all: &mut Vec<Lent<'r>>) -> Result<(), AllocError>
         ensures told { OnOk result (map packed_lent all.new.items ≡ map packed_lent all.old.items ++ map (packed self.now.dirs) self.now.entries) }
-        ensures good { ∥ AreEntries self.now.dirs self.now.entries ∥₁ }
+        ensures good { ∥ AreKeyed self.now.dirs self.now.entries ∥₁ }
     {
         lend_slots(self.bytes.as_slice(), self.slots.as_slice(), all)
     }

@@ -34,7 +34,7 @@ impl Run {
     ghost use Rattle.pig_value.specs.Trees.{tree, row_tree};
     ghost use Rattle.pig_keycode.specs.Keys.{key_code};
     ghost use Rattle.pig_keycode.specs.Reading.{row_code};
-    ghost use Rattle.pig_runs.specs.Entries.{key_at, AreEntries};
+    ghost use Rattle.pig_runs.specs.Entries.{key_at, AreKeyed};
 
     pub(crate) fn from_sorted(built: RunBuilder) -> Run
         requires { Ascends (run_cmp built.dirs) built.entries }
@@ -55,7 +55,7 @@ impl Run {
     pub fn len(&self) -> usize
         ensures count { result ≡ length self.now.entries }
         ensures sorted { ∥ Ascends (run_cmp self.now.dirs) self.now.entries ∥₁ }
-        ensures values { ∥ AreEntries self.now.dirs self.now.entries ∥₁ }
+        ensures values { ∥ AreKeyed self.now.dirs self.now.entries ∥₁ }
     {
         self.built.len()
     }

@@ -1,6 +1,6 @@
 ghost use Rattle.std.specs.Prelude.{◌≡◌, map, IfOk};
 ghost use Rattle.std.specs.List.{AllByRecursion};
-ghost use Rattle.pig_runs.specs.Entries.{keyed, AreEntries, run_of, entries_of_all};
+ghost use Rattle.pig_runs.specs.Entries.{keyed, AreKeyed, run_of, entries_of_all};
 
 use crate::builder::RunBuilder;
 use crate::entries::Entries;
@@ -10,7 +10,7 @@ use std::alloc::{AllocError, Global};
 
 /// The sorted run of these entries. A refusal gives up the entries.
 pub fn sort_run(alloc: Global, entries: Entries, dirs: Dirs) -> Result<Run, AllocError>
-    requires { AreEntries dirs (map keyed entries) }
+    requires { AreKeyed dirs (map keyed entries) }
     ensures { IfOk result (λ run. run ≡ run_of dirs (map keyed entries)) }
 {
     let mut builder = RunBuilder::new(alloc, dirs);

@@ -40,11 +40,11 @@ abbrev pub field_step : Field-F FieldTree → FieldTree
 field_step f = a_field f.name (kind_tree f.kind) (inner_of f.inner)
 
 -- a field and a schema as trees
-abbrev pub field_tree : Field → FieldTree
-field_tree = fold-Field FieldTree field_step
+abbrev pub named_tree : Field → FieldTree
+named_tree = fold-Field FieldTree field_step
 
 abbrev pub schema_tree : List Field → List FieldTree
-schema_tree = map field_tree
+schema_tree = map named_tree
 
 -- what stands in the tree of a field
 abbrev pub tree_name : FieldTree → Option (List ℕ)
@@ -71,5 +71,5 @@ abbrev mutual
   AreInner (more_kinds k ks) (more_inner f fs) = (tree_kind f ≡ k) × HasInner k (tree_inner f) × AreInner ks fs
 
 -- the inner fields of a field, and of each field of a schema, are those of its kind
-abbrev pub IsField : FieldTree → Type 0
-IsField f = HasInner (tree_kind f) (tree_inner f)
+abbrev pub IsColumn : FieldTree → Type 0
+IsColumn f = HasInner (tree_kind f) (tree_inner f)

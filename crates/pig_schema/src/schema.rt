@@ -7,7 +7,7 @@ use std::alloc::{AllocError, Global};
 /// The fields of a relation's tuples, in order.
 pub type Schema = Seq<Field>;
 
-/// A field of a schema. Where it holds fields its kind tells their kinds (`IsField` in `specs/FieldTrees`).
+/// A field of a schema. Where it holds fields its kind tells their kinds (`IsColumn` in `specs/FieldTrees`).
 #[cycle(schema)]
 #[derive(Debug, Drop)]
 pub struct Field {

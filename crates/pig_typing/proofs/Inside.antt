@@ -3,19 +3,19 @@ use Rattle.std.proofs.Common.{◌≡◌, ℕ, zero, suc, List, [], ◌∷◌, ma
 use Rattle.std.specs.Prelude.{⊤, Option, Some, None, slice_get}
 use Rattle.std.specs.Option.{option_and_then, option_map}
 use Rattle.pig_value.specs.Trees.{KindTree, KindTrees, k_boolean, k_int, k_long, k_chars, k_bytes, k_tuple, k_bag, k_map, no_kinds, more_kinds, kinds_of, kinds_list}
-use Rattle.pig_schema.specs.FieldTrees.{FieldTree, FieldTrees, no_inner, more_inner, inner_of, inner_list, tree_kind, tree_inner, HasInner, AreInner, IsField}
+use Rattle.pig_schema.specs.FieldTrees.{FieldTree, FieldTrees, no_inner, more_inner, inner_of, inner_list, tree_kind, tree_inner, HasInner, AreInner, IsColumn}
 use Rattle.pig_syntax.specs.ExprTrees.{TypeForm, FieldForms, t_int, t_long, t_chars, t_bytes, t_boolean, t_float, t_tuple, t_bag, t_map, t_map_bare, no_fields, typed_field, bare_field}
 use Rattle.pig_syntax.specs.declared.trees.FieldRef.{FieldRef}
 use Rattle.pig_typed.specs.ExprKinds.{picked_kinds}
-use Rattle.pig_typing.specs.Columns.{AreFields, Means, by_name, by_position, unnamed, inner_unnamed, each_unnamed}
+use Rattle.pig_typing.specs.Columns.{AreColumns, RefersTo, by_name, by_position, unnamed, inner_unnamed, each_unnamed}
 use Rattle.pig_typing.specs.Parts.{Picks, Selects, none_selected, one_selected, places, picked}
 use Rattle.pig_typing.specs.Written.{of_fields, of_values, scalar, with_name, written, written_fields}
 
-pub all_inner : (cs : List FieldTree) → AreFields cs → AreInner (kinds_of (map tree_kind cs)) (inner_of cs)
+pub all_inner : (cs : List FieldTree) → AreColumns cs → AreInner (kinds_of (map tree_kind cs)) (inner_of cs)
 all_inner [] h = refl
 all_inner (c ∷ cs) h = (refl, h.0, all_inner cs h.1)
 
-pub inner_all : (ks : KindTrees) (inner : FieldTrees) → AreInner ks inner → AreFields (inner_list inner)
+pub inner_all : (ks : KindTrees) (inner : FieldTrees) → AreInner ks inner → AreColumns (inner_list inner)
 inner_all no_kinds no_inner h = tt
 inner_all no_kinds (more_inner c cs) h = absurd (cc)
 inner_all (more_kinds k ks) no_inner h = absurd h
@@ -44,7 +44,7 @@ mutual
   unnamed_each no_kinds = refl
   unnamed_each (more_kinds k ks) = (refl, unnamed_inner k, unnamed_each ks)
 
-pub unnamed_field : (k : KindTree) → IsField (unnamed k)
+pub unnamed_field : (k : KindTree) → IsColumn (unnamed k)
 unnamed_field k = unnamed_inner k
 
 -- what holds of what is found, if something is
@@ -57,37 +57,37 @@ each_map P Q f keeps None h = tt
 each_map P Q f keeps (Some a) h = keeps a h
 
 mutual
-  written_each : (type : TypeForm) → Each IsField (written type)
+  written_each : (type : TypeForm) → Each IsColumn (written type)
   written_each t_int = refl
   written_each t_long = refl
   written_each t_chars = refl
   written_each t_bytes = refl
   written_each t_boolean = refl
   written_each t_float = tt
-  written_each (t_tuple fields) = each_map AreFields IsField (of_fields k_tuple) (λ cs h. all_inner cs h) (written_fields fields) (fields_each fields)
-  written_each (t_bag fields) = each_map AreFields IsField (of_fields k_bag) (λ cs h. all_inner cs h) (written_fields fields) (fields_each fields)
-  written_each (t_map values) = each_map IsField IsField of_values (λ c h. h) (written values) (written_each values)
+  written_each (t_tuple fields) = each_map AreColumns IsColumn (of_fields k_tuple) (λ cs h. all_inner cs h) (written_fields fields) (fields_each fields)
+  written_each (t_bag fields) = each_map AreColumns IsColumn (of_fields k_bag) (λ cs h. all_inner cs h) (written_fields fields) (fields_each fields)
+  written_each (t_map values) = each_map IsColumn IsColumn of_values (λ c h. h) (written values) (written_each values)
   written_each t_map_bare = refl
 
-  fields_each : (fields : FieldForms) → Each AreFields (written_fields fields)
+  fields_each : (fields : FieldForms) → Each AreColumns (written_fields fields)
   fields_each no_fields = tt
   fields_each (typed_field name type fields) = both (written type) (written_each type) (written_fields fields) (fields_each fields)
     where
-      both : (o : Option FieldTree) → Each IsField o → (p : Option (List FieldTree)) → Each AreFields p
-          → Each AreFields (option_and_then (λ c. option_map (λ inner. with_name name c ∷ inner) p) o)
+      both : (o : Option FieldTree) → Each IsColumn o → (p : Option (List FieldTree)) → Each AreColumns p
+          → Each AreColumns (option_and_then (λ c. option_map (λ inner. with_name name c ∷ inner) p) o)
       both None h p g = tt
       both (Some c) h None g = tt
       both (Some c) h (Some inner) g = (h, g)
-  fields_each (bare_field name fields) = each_map AreFields AreFields (λ inner. with_name name (scalar k_bytes) ∷ inner) (λ inner h. (refl, h)) (written_fields fields) (fields_each fields)
+  fields_each (bare_field name fields) = each_map AreColumns AreColumns (λ inner. with_name name (scalar k_bytes) ∷ inner) (λ inner h. (refl, h)) (written_fields fields) (fields_each fields)
 
-pub written_field_is : (type : TypeForm) (c : FieldTree) → written type ≡ Some c → IsField c
-written_field_is type c e = subst (Each IsField) e (written_each type)
+pub written_field_is : (type : TypeForm) (c : FieldTree) → written type ≡ Some c → IsColumn c
+written_field_is type c e = subst (Each IsColumn) e (written_each type)
 
 -- ---- selections
 
-field_at : (columns : List FieldTree) (n : ℕ) (c : FieldTree) → slice_get columns n ≡ Some c → AreFields columns → IsField c
+field_at : (columns : List FieldTree) (n : ℕ) (c : FieldTree) → slice_get columns n ≡ Some c → AreColumns columns → IsColumn c
 field_at [] n c e h = absurd (cc)
-field_at (d ∷ columns) zero c e h = let same : d ≡ c = cc in subst IsField same h.0
+field_at (d ∷ columns) zero c e h = let same : d ≡ c = cc in subst IsColumn same h.0
 field_at (d ∷ columns) (suc n) c e h = field_at columns n c e h.1
 
 kind_at : (columns : List FieldTree) (n : ℕ) (c : FieldTree) → slice_get columns n ≡ Some c → slice_get (map tree_kind columns) n ≡ Some (tree_kind c)
@@ -95,17 +95,17 @@ kind_at [] n c e = absurd (cc)
 kind_at (d ∷ columns) zero c e = let same : d ≡ c = cc in ap (λ x. Some (tree_kind x)) same
 kind_at (d ∷ columns) (suc n) c e = kind_at columns n c e
 
-stands : {columns : List FieldTree} {r : FieldRef} {n : ℕ} {c : FieldTree} → Means columns r n c → slice_get columns n ≡ Some c
+stands : {columns : List FieldTree} {r : FieldRef} {n : ℕ} {c : FieldTree} → RefersTo columns r n c → slice_get columns n ≡ Some c
 stands (by_name meant e) = e
 stands (by_position e) = e
 
-pub meant_field : {columns : List FieldTree} {r : FieldRef} {n : ℕ} {c : FieldTree} → AreFields columns → Means columns r n c → IsField c
+pub meant_field : {columns : List FieldTree} {r : FieldRef} {n : ℕ} {c : FieldTree} → AreColumns columns → RefersTo columns r n c → IsColumn c
 meant_field {columns = columns} {n = n} {c = c} h m = field_at columns n c (stands m) h
 
-pub meant_kind : {columns : List FieldTree} {r : FieldRef} {n : ℕ} {c : FieldTree} → Means columns r n c → slice_get (map tree_kind columns) n ≡ Some (tree_kind c)
+pub meant_kind : {columns : List FieldTree} {r : FieldRef} {n : ℕ} {c : FieldTree} → RefersTo columns r n c → slice_get (map tree_kind columns) n ≡ Some (tree_kind c)
 meant_kind {columns = columns} {n = n} {c = c} m = kind_at columns n c (stands m)
 
-pub picked_fields : {columns : List FieldTree} {rs : List FieldRef} {ps : Picks} → AreFields columns → Selects columns rs ps → AreFields (picked ps)
+pub picked_fields : {columns : List FieldTree} {rs : List FieldRef} {ps : Picks} → AreColumns columns → Selects columns rs ps → AreColumns (picked ps)
 picked_fields h none_selected = tt
 picked_fields h (one_selected m g) = (meant_field h m, picked_fields h g)
 

@@ -9,7 +9,7 @@ use Rattle.pig_value.specs.Trees.{KindTree, k_boolean, k_int, k_long, k_chars, k
 use Rattle.pig_value.specs.declared.functions.Function.{Function}
 use Rattle.pig_value.specs.declared.functions.Function.TheVariants as f
 use Rattle.pig_value.specs.declared.operators.ChainOp.{ChainOp}
-use Rattle.pig_schema.specs.FieldTrees.{FieldTree, a_field, inner_of, inner_list, tree_name, tree_kind, HasInner, IsField}
+use Rattle.pig_schema.specs.FieldTrees.{FieldTree, a_field, inner_of, inner_list, tree_name, tree_kind, HasInner, IsColumn}
 use Rattle.pig_syntax.specs.ExprTrees.{ExprForm, LinkForms, ExprForms, type_form}
 use Rattle.pig_syntax.specs.declared.trees.PostStep.{PostStep}
 use Rattle.pig_typed.specs.ExprKinds.{args_kinds, chain_kind, expr_kind, links_kind, look_kind, project_kind, picked_kinds}
@@ -17,9 +17,9 @@ use Rattle.pig_typed.specs.Typed.{Typed, links_of, args_of}
 use Rattle.pig_typing.specs.declared.calls.Casting.{Casting}
 use Rattle.pig_typing.specs.declared.calls.Casting.TheVariants as c
 use Rattle.pig_typing.specs.Calls.{casting, cast_by, cast_maybe, kind_after, given}
-use Rattle.pig_typing.specs.Columns.{AreFields, IsPlace, Place, locals_of, row_of, latest_from, later_or, named_here}
+use Rattle.pig_typing.specs.Columns.{AreColumns, IsPlace, Place, locals_of, place_row, latest_from, later_or, named_here}
 use Rattle.pig_typing.specs.Joins.{Join, cast_if, chained}
-use Rattle.pig_typing.specs.Parts.{Typing, Picks, typed_of, column_of, kind_in, places, picked, projected, renamed, fields_in, value_in, Steps, projects, looks, Walks, ends, goes}
+use Rattle.pig_typing.specs.Parts.{Typing, Picks, typed_of, typed_column, kind_in, places, picked, projected, renamed, inner_columns, values_column, Steps, projects, looks, Walks, ends, goes}
 use Rattle.pig_typing.specs.Typing.{Types, Links, Args, Sofar, begun, after, chain_typing, call_kind, kinds_as_given, type_int, type_long, type_text, type_bool, type_null, type_local, type_named, type_numbered, type_chain, type_compare, type_is_null, type_not, type_minus, type_cast, type_post, type_call, type_choose, links_end, links_go, args_end, args_go}
 use Rattle.pig_typing.specs.Written.{of_fields}
 use Rattle.pig_typing.proofs.Inside.{all_inner, inner_all, inner_kinds, unnamed_field, written_field_is, meant_field, meant_kind, picked_fields, picked_kind}
@@ -27,15 +27,15 @@ use Rattle.pig_typing.proofs.Joined.{side, cast_kind_of, compare_holds, choose_h
 
 -- a typing has its kind, and inside what is of it
 pub record Holds (s : Place) (p : Typing) : Type 0 where
-  pub kind : expr_kind (typed_of p) (row_of s) (locals_of s) ≡ Some (kind_in p)
-  pub field : IsField (column_of p)
+  pub kind : expr_kind (typed_of p) (place_row s) (locals_of s) ≡ Some (kind_in p)
+  pub field : IsColumn (typed_column p)
 
 -- ---- nested aliases
 
 abbrev IsLatest : List (List ℕ × FieldTree) → ℕ → ℕ × FieldTree → Type 0
-IsLatest ls n found = (i : ℕ) × (found.0 ≡ n + i) × (slice_get (map (λ l. tree_kind l.1) ls) i ≡ Some (tree_kind found.1)) × IsField found.1
+IsLatest ls n found = (i : ℕ) × (found.0 ≡ n + i) × (slice_get (map (λ l. tree_kind l.1) ls) i ≡ Some (tree_kind found.1)) × IsColumn found.1
 
-latest_holds : (n : ℕ) (name : List ℕ) (ls : List (List ℕ × FieldTree)) (found : ℕ × FieldTree) → AreFields (map (λ l. l.1) ls) → latest_from n name ls ≡ Some found → IsLatest ls n found
+latest_holds : (n : ℕ) (name : List ℕ) (ls : List (List ℕ × FieldTree)) (found : ℕ × FieldTree) → AreColumns (map (λ l. l.1) ls) → latest_from n name ls ≡ Some found → IsLatest ls n found
 latest_holds n name [] found h e = absurd (cc)
 latest_holds n name (l ∷ ls) found h e = by (λ k. latest_holds (n + 1) name ls found h.1 k) (latest_from (n + 1) name ls) refl e
   where
@@ -54,27 +54,27 @@ latest_holds n name (l ∷ ls) found h e = by (λ k. latest_holds (n + 1) name l
 -- ---- chains
 
 abbrev HoldsSofar : Place → Sofar → Type 0
-HoldsSofar s c = (k : KindTree) × (expr_kind c.first (row_of s) (locals_of s) ≡ Some k) × (links_kind k (links_of c.links) (row_of s) (locals_of s) ≡ Some c.kind) × ((c.links ≡ []) ⊎ Settled c.kind)
+HoldsSofar s c = (k : KindTree) × (expr_kind c.first (place_row s) (locals_of s) ≡ Some k) × (links_kind k (links_of c.links) (place_row s) (locals_of s) ≡ Some c.kind) × ((c.links ≡ []) ⊎ Settled c.kind)
 
 -- behind the first link, where that gives a kind
 first_link : (s : Place) (x : ChainOp × Typed) (ls ms : List (ChainOp × Typed)) (k m n : KindTree)
-    → ((next : KindTree) → links_kind next (links_of ls) (row_of s) (locals_of s) ≡ Some m → links_kind next (links_of ms) (row_of s) (locals_of s) ≡ Some n)
-    → links_kind k (links_of (x ∷ ls)) (row_of s) (locals_of s) ≡ Some m → links_kind k (links_of (x ∷ ms)) (row_of s) (locals_of s) ≡ Some n
-first_link s x ls ms k m n more = by (expr_kind x.1 (row_of s) (locals_of s))
+    → ((next : KindTree) → links_kind next (links_of ls) (place_row s) (locals_of s) ≡ Some m → links_kind next (links_of ms) (place_row s) (locals_of s) ≡ Some n)
+    → links_kind k (links_of (x ∷ ls)) (place_row s) (locals_of s) ≡ Some m → links_kind k (links_of (x ∷ ms)) (place_row s) (locals_of s) ≡ Some n
+first_link s x ls ms k m n more = by (expr_kind x.1 (place_row s) (locals_of s))
   where
-    on : (r : Option KindTree) → option_and_then (λ next. links_kind next (links_of ls) (row_of s) (locals_of s)) r ≡ Some m
-        → option_and_then (λ next. links_kind next (links_of ms) (row_of s) (locals_of s)) r ≡ Some n
+    on : (r : Option KindTree) → option_and_then (λ next. links_kind next (links_of ls) (place_row s) (locals_of s)) r ≡ Some m
+        → option_and_then (λ next. links_kind next (links_of ms) (place_row s) (locals_of s)) r ≡ Some n
     on None e = absurd (cc)
     on (Some next) e = more next e
 
-    by : (r : Option KindTree) → option_and_then (λ j. option_and_then (λ next. links_kind next (links_of ls) (row_of s) (locals_of s)) (chain_kind x.0 k j)) r ≡ Some m
-        → option_and_then (λ j. option_and_then (λ next. links_kind next (links_of ms) (row_of s) (locals_of s)) (chain_kind x.0 k j)) r ≡ Some n
+    by : (r : Option KindTree) → option_and_then (λ j. option_and_then (λ next. links_kind next (links_of ls) (place_row s) (locals_of s)) (chain_kind x.0 k j)) r ≡ Some m
+        → option_and_then (λ j. option_and_then (λ next. links_kind next (links_of ms) (place_row s) (locals_of s)) (chain_kind x.0 k j)) r ≡ Some n
     by None e = absurd (cc)
     by (Some j) e = on (chain_kind x.0 k j) e
 
-links_append : (s : Place) (ls : List (ChainOp × Typed)) (o : ChainOp) (u : Typed) (k m l n : KindTree) → links_kind k (links_of ls) (row_of s) (locals_of s) ≡ Some m
-    → expr_kind u (row_of s) (locals_of s) ≡ Some l → chain_kind o m l ≡ Some n → links_kind k (links_of (ls ++ (o, u) ∷ [])) (row_of s) (locals_of s) ≡ Some n
-links_append s [] o u k m l n e h g = let same : k ≡ m = cc in subst (λ x. links_kind x (links_of ((o, u) ∷ [])) (row_of s) (locals_of s) ≡ Some n) (sym same) (rw (h, g) refl)
+links_append : (s : Place) (ls : List (ChainOp × Typed)) (o : ChainOp) (u : Typed) (k m l n : KindTree) → links_kind k (links_of ls) (place_row s) (locals_of s) ≡ Some m
+    → expr_kind u (place_row s) (locals_of s) ≡ Some l → chain_kind o m l ≡ Some n → links_kind k (links_of (ls ++ (o, u) ∷ [])) (place_row s) (locals_of s) ≡ Some n
+links_append s [] o u k m l n e h g = let same : k ≡ m = cc in subst (λ x. links_kind x (links_of ((o, u) ∷ [])) (place_row s) (locals_of s) ≡ Some n) (sym same) (rw (h, g) refl)
 links_append s (x ∷ ls) o u k m l n e h g = first_link s x ls (ls ++ (o, u) ∷ []) k m n (λ next e'. links_append s ls o u next m l n e' h g) e
 
 uncast_first : (b : Bool) (k : KindTree) (t : Typed) → b ≡ false → cast_if b k t ≡ t
@@ -91,19 +91,19 @@ after_holds s c o j p w h e = by w.3
     both : Chained o c.kind (kind_in p) j
     both = chained_holds o c.kind (kind_in p) j e
 
-    right : expr_kind (cast_if j.right j.kind (typed_of p)) (row_of s) (locals_of s) ≡ Some (side j.right j.kind (kind_in p))
-    right = cast_kind_of (row_of s) (locals_of s) j.right j.kind (kind_in p) (typed_of p) both.both.right h.kind
+    right : expr_kind (cast_if j.right j.kind (typed_of p)) (place_row s) (locals_of s) ≡ Some (side j.right j.kind (kind_in p))
+    right = cast_kind_of (place_row s) (locals_of s) j.right j.kind (kind_in p) (typed_of p) both.both.right h.kind
 
     by : (c.links ≡ []) ⊎ Settled c.kind → HoldsSofar s (after c o j (typed_of p))
     by (inl none) =
-        let alone : links_kind w.0 (links_of []) (row_of s) (locals_of s) ≡ Some c.kind = subst (λ ls. links_kind w.0 (links_of ls) (row_of s) (locals_of s) ≡ Some c.kind) none w.2 in
+        let alone : links_kind w.0 (links_of []) (place_row s) (locals_of s) ≡ Some c.kind = subst (λ ls. links_kind w.0 (links_of ls) (place_row s) (locals_of s) ≡ Some c.kind) none w.2 in
         let same : w.0 ≡ c.kind = cc in
-        let first : expr_kind c.first (row_of s) (locals_of s) ≡ Some c.kind = w.1 ∙ ap Some same in
-        let gives : links_kind (side j.left j.kind c.kind) (links_of ([] ++ (o, cast_if j.right j.kind (typed_of p)) ∷ [])) (row_of s) (locals_of s) ≡ Some j.kind =
+        let first : expr_kind c.first (place_row s) (locals_of s) ≡ Some c.kind = w.1 ∙ ap Some same in
+        let gives : links_kind (side j.left j.kind c.kind) (links_of ([] ++ (o, cast_if j.right j.kind (typed_of p)) ∷ [])) (place_row s) (locals_of s) ≡ Some j.kind =
         links_append s [] o (cast_if j.right j.kind (typed_of p)) (side j.left j.kind c.kind) (side j.left j.kind c.kind) (side j.right j.kind (kind_in p)) j.kind refl right both.gives in (
           side j.left j.kind c.kind,
-          cast_kind_of (row_of s) (locals_of s) j.left j.kind c.kind c.first both.both.left first,
-          subst (λ ls. links_kind (side j.left j.kind c.kind) (links_of (ls ++ (o, cast_if j.right j.kind (typed_of p)) ∷ [])) (row_of s) (locals_of s) ≡ Some j.kind) (sym none) gives,
+          cast_kind_of (place_row s) (locals_of s) j.left j.kind c.kind c.first both.both.left first,
+          subst (λ ls. links_kind (side j.left j.kind c.kind) (links_of (ls ++ (o, cast_if j.right j.kind (typed_of p)) ∷ [])) (place_row s) (locals_of s) ≡ Some j.kind) (sym none) gives,
           inr both.settled,
         )
     by (inr settled) =
@@ -120,7 +120,7 @@ chain_holds s whole w = record { kind = rw (w.1) w.2; field = unnamed_field whol
 
 -- ---- steps
 
-part_kind_holds : (ns : List ℕ) (single : Bool) (c d : FieldTree) (columns picks : List FieldTree) → IsField c → fields_in c ≡ Some columns
+part_kind_holds : (ns : List ℕ) (single : Bool) (c d : FieldTree) (columns picks : List FieldTree) → IsColumn c → inner_columns c ≡ Some columns
     → length ns ≡ length picks → picked_kinds ns (map tree_kind columns) ≡ Some (map tree_kind picks) → projected single (tree_kind c) picks ≡ Some d
     → project_kind ns single (tree_kind c) ≡ Some (tree_kind d)
 part_kind_holds ns single (a_field name k_boolean inner) d columns picks h e l is made = absurd (cc)
@@ -162,33 +162,33 @@ part_kind_holds ns single (a_field name (k_bag ks) inner) d columns picks h e l 
     by [] false (x ∷ picks) l kinds made = absurd (cc)
     by ns false [] l kinds made = absurd (cc)
 
-part_field : (single : Bool) (k : KindTree) (d : FieldTree) (picks : List FieldTree) → AreFields picks → projected single k picks ≡ Some d → IsField d
-part_field true (k_tuple ks) d (x ∷ []) h made = let same : x ≡ d = cc in subst IsField same h.0
-part_field true (k_bag ks) d (x ∷ []) h made = let same : renamed (tree_name x) (of_fields k_bag (x ∷ [])) ≡ d = cc in subst IsField same (all_inner (x ∷ []) h)
-part_field false (k_tuple ks) d (x ∷ picks) h made = let same : of_fields k_tuple (x ∷ picks) ≡ d = cc in subst IsField same (all_inner (x ∷ picks) h)
-part_field false (k_bag ks) d (x ∷ picks) h made = let same : of_fields k_bag (x ∷ picks) ≡ d = cc in subst IsField same (all_inner (x ∷ picks) h)
+part_field : (single : Bool) (k : KindTree) (d : FieldTree) (picks : List FieldTree) → AreColumns picks → projected single k picks ≡ Some d → IsColumn d
+part_field true (k_tuple ks) d (x ∷ []) h made = let same : x ≡ d = cc in subst IsColumn same h.0
+part_field true (k_bag ks) d (x ∷ []) h made = let same : renamed (tree_name x) (of_fields k_bag (x ∷ [])) ≡ d = cc in subst IsColumn same (all_inner (x ∷ []) h)
+part_field false (k_tuple ks) d (x ∷ picks) h made = let same : of_fields k_tuple (x ∷ picks) ≡ d = cc in subst IsColumn same (all_inner (x ∷ picks) h)
+part_field false (k_bag ks) d (x ∷ picks) h made = let same : of_fields k_bag (x ∷ picks) ≡ d = cc in subst IsColumn same (all_inner (x ∷ picks) h)
 part_field single k d picks h made = absurd (cc)
 
-columns_of : (c : FieldTree) (columns : List FieldTree) → IsField c → fields_in c ≡ Some columns → AreFields columns
-columns_of (a_field name (k_tuple ks) inner) columns h e = let same : inner_list inner ≡ columns = cc in subst AreFields same (inner_all ks inner h)
-columns_of (a_field name (k_bag ks) inner) columns h e = let same : inner_list inner ≡ columns = cc in subst AreFields same (inner_all ks inner h)
+columns_of : (c : FieldTree) (columns : List FieldTree) → IsColumn c → inner_columns c ≡ Some columns → AreColumns columns
+columns_of (a_field name (k_tuple ks) inner) columns h e = let same : inner_list inner ≡ columns = cc in subst AreColumns same (inner_all ks inner h)
+columns_of (a_field name (k_bag ks) inner) columns h e = let same : inner_list inner ≡ columns = cc in subst AreColumns same (inner_all ks inner h)
 columns_of (a_field name k inner) columns h e = absurd (cc)
 
 same_length : (picks : Picks) → length (places picks) ≡ length (picked picks)
 same_length [] = refl
 same_length (p ∷ picks) = ap suc (same_length picks)
 
-value_kind : (c d : FieldTree) → IsField c → value_in c ≡ Some d → (look_kind (tree_kind c) ≡ Some (tree_kind d)) × IsField d
-value_kind (a_field name (k_map k) inner) d h e = let same : a_field None k inner ≡ d = cc in (ap (λ x. Some (tree_kind x)) same, subst IsField same h)
+value_kind : (c d : FieldTree) → IsColumn c → values_column c ≡ Some d → (look_kind (tree_kind c) ≡ Some (tree_kind d)) × IsColumn d
+value_kind (a_field name (k_map k) inner) d h e = let same : a_field None k inner ≡ d = cc in (ap (λ x. Some (tree_kind x)) same, subst IsColumn same h)
 value_kind (a_field name k inner) d h e = absurd (cc)
 
 step_holds : (s : Place) (p q : Typing) (step : PostStep) → Holds s p → Steps p step q → Holds s q
 step_holds s p q step h (projects {columns = columns} {ps = picks} {single = single} {d = d} e g made within) =
     record {
-      kind = rw (h.kind) (part_kind_holds (places picks) single (column_of p) d columns (picked picks) h.field e (same_length picks) (picked_kind g) made);
-      field = part_field single (kind_in p) d (picked picks) (picked_fields (columns_of (column_of p) columns h.field e) g) made;
+      kind = rw (h.kind) (part_kind_holds (places picks) single (typed_column p) d columns (picked picks) h.field e (same_length picks) (picked_kind g) made);
+      field = part_field single (kind_in p) d (picked picks) (picked_fields (columns_of (typed_column p) columns h.field e) g) made;
     }
-step_holds s p q step h (looks {d = d} e) = let v = value_kind (column_of p) d h.field e in record { kind = rw (h.kind) v.0; field = v.1 }
+step_holds s p q step h (looks {d = d} e) = let v = value_kind (typed_column p) d h.field e in record { kind = rw (h.kind) v.0; field = v.1 }
 
 walk_holds : (s : Place) (p q : Typing) (steps : List PostStep) → Holds s p → Walks p steps q → Holds s q
 walk_holds s p q steps h ends = h
@@ -205,23 +205,23 @@ casts_may c.AsText k_bytes to e = refl
 casts_may c.AsLong k_int to e = let same : k_long ≡ to = cc in subst (λ x. may_cast k_int x ≡ true) same refl
 casts_may how k to e = absurd (cc)
 
-arg_kind : (s : Place) (how : Casting) (p : Typing) → Holds s p → expr_kind (cast_maybe (cast_by how (kind_in p)) (typed_of p)) (row_of s) (locals_of s) ≡ Some (kind_after (cast_by how (kind_in p)) (kind_in p))
+arg_kind : (s : Place) (how : Casting) (p : Typing) → Holds s p → expr_kind (cast_maybe (cast_by how (kind_in p)) (typed_of p)) (place_row s) (locals_of s) ≡ Some (kind_after (cast_by how (kind_in p)) (kind_in p))
 arg_kind s how p h = by (cast_by how (kind_in p)) refl
   where
-    by : (o : Option KindTree) → cast_by how (kind_in p) ≡ o → expr_kind (cast_maybe o (typed_of p)) (row_of s) (locals_of s) ≡ Some (kind_after o (kind_in p))
+    by : (o : Option KindTree) → cast_by how (kind_in p) ≡ o → expr_kind (cast_maybe o (typed_of p)) (place_row s) (locals_of s) ≡ Some (kind_after o (kind_in p))
     by None e = h.kind
     by (Some to) e = rw (h.kind, casts_may how (kind_in p) to e) refl
 
 args_hold : (s : Place) (how : Casting) (ps : List Typing) → AllHold s ps
-    → args_kinds (args_of (map (λ p. cast_maybe (cast_by how (kind_in p)) (typed_of p)) ps)) (row_of s) (locals_of s) ≡ Some (map (λ p. kind_after (cast_by how (kind_in p)) (kind_in p)) ps)
+    → args_kinds (args_of (map (λ p. cast_maybe (cast_by how (kind_in p)) (typed_of p)) ps)) (place_row s) (locals_of s) ≡ Some (map (λ p. kind_after (cast_by how (kind_in p)) (kind_in p)) ps)
 args_hold s how [] h = refl
 args_hold s how (p ∷ ps) h = rw (arg_kind s how p h.0, args_hold s how ps h.1) refl
 
-as_it_is : (ps : List Typing) → map (λ p. kind_after (cast_by c.AsItIs (kind_in p)) (kind_in p)) ps ≡ map tree_kind (map column_of ps)
+as_it_is : (ps : List Typing) → map (λ p. kind_after (cast_by c.AsItIs (kind_in p)) (kind_in p)) ps ≡ map tree_kind (map typed_column ps)
 as_it_is [] = refl
 as_it_is (p ∷ ps) = ap (λ ks. kind_in p ∷ ks) (as_it_is ps)
 
-columns_hold : (s : Place) (ps : List Typing) → AllHold s ps → AreFields (map column_of ps)
+columns_hold : (s : Place) (ps : List Typing) → AllHold s ps → AreColumns (map typed_column ps)
 columns_hold s [] h = tt
 columns_hold s (p ∷ ps) h = (h.0.field, columns_hold s ps h.1)
 
@@ -238,12 +238,12 @@ given_kind f.ToTuple k columns = refl
 given_kind f.Tokenize k columns = refl
 given_kind g k columns = refl
 
-given_field : (s : Place) (g : Function) (ps : List Typing) (k : KindTree) → AllHold s ps → call_kind g ps ≡ Some k → IsField (given g k (map column_of ps))
+given_field : (s : Place) (g : Function) (ps : List Typing) (k : KindTree) → AllHold s ps → call_kind g ps ≡ Some k → IsColumn (given g k (map typed_column ps))
 given_field s f.ToTuple ps k h e =
     let kinds = as_it_is ps in
-    let is : k ≡ k_tuple (kinds_of (map tree_kind (map column_of ps))) = tuple_given _ k e ∙ ap (λ ks. k_tuple (kinds_of ks)) kinds in
-    subst (λ x. HasInner x (inner_of (map column_of ps))) (sym is) (all_inner (map column_of ps) (columns_hold s ps h))
-given_field s f.Tokenize ps k h e = subst (λ x. IsField (given f.Tokenize x (map column_of ps))) (sym (tokens_given _ k e)) (refl, refl, refl)
+    let is : k ≡ k_tuple (kinds_of (map tree_kind (map typed_column ps))) = tuple_given _ k e ∙ ap (λ ks. k_tuple (kinds_of ks)) kinds in
+    subst (λ x. HasInner x (inner_of (map typed_column ps))) (sym is) (all_inner (map typed_column ps) (columns_hold s ps h))
+given_field s f.Tokenize ps k h e = subst (λ x. IsColumn (given f.Tokenize x (map typed_column ps))) (sym (tokens_given _ k e)) (refl, refl, refl)
 given_field s g ps k h e = unnamed_field k
 
 -- ---- expressions
@@ -268,26 +268,26 @@ mutual
       let hx = holds s w b x h in let hy = holds s w c y g in
       let k = compare_holds r (kind_in x) (kind_in y) j e in
       record {
-        kind = rw (cast_kind_of (row_of s) (locals_of s) j.left j.kind (kind_in x) (typed_of x) k.0.left hx.kind, cast_kind_of (row_of s) (locals_of s) j.right j.kind (kind_in y) (typed_of y) k.0.right hy.kind) k.1;
+        kind = rw (cast_kind_of (place_row s) (locals_of s) j.left j.kind (kind_in x) (typed_of x) k.0.left hx.kind, cast_kind_of (place_row s) (locals_of s) j.right j.kind (kind_in y) (typed_of y) k.0.right hy.kind) k.1;
         field = refl;
       }
   holds s w a p (type_is_null {a = b} {p = x} h) = let hx = holds s w b x h in record { kind = rw (hx.kind) refl; field = refl }
   holds s w a p (type_not {a = b} {p = x} {is_cast = cast_so} h e) =
       let hx = holds s w b x h in
       let k = condition_holds (kind_in x) cast_so e in
-      record { kind = rw (cast_kind_of (row_of s) (locals_of s) cast_so k_boolean (kind_in x) (typed_of x) k.0 hx.kind, k.1) refl; field = refl }
+      record { kind = rw (cast_kind_of (place_row s) (locals_of s) cast_so k_boolean (kind_in x) (typed_of x) k.0 hx.kind, k.1) refl; field = refl }
   holds s w a p (type_minus {a = b} {p = x} {k = k} h e) = let hx = holds s w b x h in record { kind = rw (hx.kind) e; field = unnamed_field k }
   holds s w a p (type_cast {to = to} {a = b} {p = x} {d = d} is within h may) = let hx = holds s w b x h in record { kind = rw (hx.kind, may) refl; field = written_field_is (type_form to) d is }
   holds s w a p (type_post {a = b} {steps = steps} {p = x} h g) = walk_holds s x p steps (holds s w b x h) g
   holds s w a p (type_call {args = args} {f = g} {ps = ps} {k = k} e t h made within) =
       let hs = all_hold s w args ps h in
-      record { kind = rw (args_hold s (casting g (kinds_as_given ps)) ps hs, given_kind g k (map column_of ps)) made; field = given_field s g ps k hs made }
+      record { kind = rw (args_hold s (casting g (kinds_as_given ps)) ps hs, given_kind g k (map typed_column ps)) made; field = given_field s g ps k hs made }
   holds s w a p (type_choose {a = b} {b = c} {c = d} {p = x} {q = y} {r = z} {is_cast = cast_so} {j = j} h e g k e') =
       let hx = holds s w b x h in let hy = holds s w c y g in let hz = holds s w d z k in
       let t = condition_holds (kind_in x) cast_so e in
       let v = choose_holds (kind_in y) (kind_in z) j e' in
       record {
-        kind = rw (cast_kind_of (row_of s) (locals_of s) cast_so k_boolean (kind_in x) (typed_of x) t.0 hx.kind, t.1, cast_kind_of (row_of s) (locals_of s) j.left j.kind (kind_in y) (typed_of y) v.0.left hy.kind, cast_kind_of (row_of s) (locals_of s) j.right j.kind (kind_in z) (typed_of z) v.0.right hz.kind) v.1;
+        kind = rw (cast_kind_of (place_row s) (locals_of s) cast_so k_boolean (kind_in x) (typed_of x) t.0 hx.kind, t.1, cast_kind_of (place_row s) (locals_of s) j.left j.kind (kind_in y) (typed_of y) v.0.left hy.kind, cast_kind_of (place_row s) (locals_of s) j.right j.kind (kind_in z) (typed_of z) v.0.right hz.kind) v.1;
         field = unnamed_field j.kind;
       }
 

@@ -18,17 +18,17 @@ use Rattle.pig_syntax.specs.declared.trees.PostStep.{PostStep}
 use Rattle.pig_syntax.specs.declared.trees.PostStep.TheVariants as step
 use Rattle.pig_typing.specs.declared.faults.CheckKind.{CheckKind}
 use Rattle.pig_typing.specs.declared.faults.CheckKind.TheVariants as kind
-use Rattle.pig_typing.specs.Columns.{Means, MeansNone, by_name, by_position, unknown, ambiguous, outside, name_place, column_at, refer}
+use Rattle.pig_typing.specs.Columns.{RefersTo, RefersToNone, by_name, by_position, unknown, ambiguous, outside, name_place, column_at, refer}
 use Rattle.pig_typing.specs.Limits.{limited}
-use Rattle.pig_typing.specs.Parts.{Typing, Picks, Selects, SelectsNot, none_selected, one_selected, here, later, fields_in, projected, value_in, picked, column_of, kind_in, Steps, StepsNot, projects, looks, of_no_fields, of_no_field, of_no_grammar, past_limits, of_no_map, Walks, WalksNot, ends, goes, stops, goes_on, select, chosen_of, given_of, step_of, steps_of}
+use Rattle.pig_typing.specs.Parts.{Typing, Picks, Selects, SelectsNot, none_selected, one_selected, here, later, inner_columns, projected, values_column, picked, typed_column, kind_in, Steps, StepsNot, projects, looks, of_no_fields, of_no_field, of_no_grammar, past_limits, of_no_map, Walks, WalksNot, ends, goes, stops, goes_on, select, chosen_of, given_of, step_of, steps_of}
 use Rattle.pig_typing.specs.Results.{Checked, ◌>>=◌}
 use Rattle.pig_typing.proofs.Chains.{then_told, passes, then_is, due_is}
 
 -- ---- references
 
 abbrev pub IsReferred : List FieldTree → FieldRef → Checked (ℕ × FieldTree) → Type 0
-IsReferred columns r (Ok p) = Means columns r p.0 p.1
-IsReferred columns r (Err f) = MeansNone columns r f
+IsReferred columns r (Ok p) = RefersTo columns r p.0 p.1
+IsReferred columns r (Err f) = RefersToNone columns r f
 
 pub referred : (columns : List FieldTree) (r : FieldRef) → IsReferred columns r (refer columns r)
 unfolding refer column_at
@@ -55,12 +55,12 @@ referred columns (ref.Position n) = by (slice_get_cases columns n).1
     by (inl (x, w, k, m)) = rw (k) (by_position k)
     by (inr (past, k)) = rw (k) (outside past)
 
-pub refer_is : {columns : List FieldTree} {r : FieldRef} {n : ℕ} {c : FieldTree} → Means columns r n c → refer columns r ≡ Ok (n, c)
+pub refer_is : {columns : List FieldTree} {r : FieldRef} {n : ℕ} {c : FieldTree} → RefersTo columns r n c → refer columns r ≡ Ok (n, c)
 unfolding refer column_at
 refer_is {columns = columns} (by_name {name = name} {n = n} meant e) = rw (meant_is (map tree_name columns) name n meant, e) refl
 refer_is (by_position e) = rw (e) refl
 
-pub refer_fails : {columns : List FieldTree} {r : FieldRef} {f : CheckKind} → MeansNone columns r f → refer columns r ≡ Err f
+pub refer_fails : {columns : List FieldTree} {r : FieldRef} {f : CheckKind} → RefersToNone columns r f → refer columns r ≡ Err f
 unfolding refer column_at
 refer_fails {columns = columns} (unknown {name = name} h) = rw (unknown_is (map tree_name columns) name h) refl
 refer_fails {columns = columns} (ambiguous {name = name} h) = rw (ambiguous_is (map tree_name columns) name h) refl
@@ -114,13 +114,13 @@ IsStep p s (Ok q) = Steps p s q
 IsStep p s (Err f) = StepsNot p s f
 
 abbrev IsChosen : Typing → List FieldRef → Bool → Checked Picks → Type 0
-IsChosen p refs single (Ok picks) = (columns : List FieldTree) × (fields_in (column_of p) ≡ Some columns) × Selects columns refs picks
+IsChosen p refs single (Ok picks) = (columns : List FieldTree) × (inner_columns (typed_column p) ≡ Some columns) × Selects columns refs picks
 IsChosen p refs single (Err f) = StepsNot p (step.Project refs single) f
 
-chosen : (p : Typing) (refs : List FieldRef) (single : Bool) → IsChosen p refs single (chosen_of (column_of p) refs)
+chosen : (p : Typing) (refs : List FieldRef) (single : Bool) → IsChosen p refs single (chosen_of (typed_column p) refs)
 unfolding chosen_of
 chosen p refs single =
-    due_is (IsChosen p refs single) _ kind.TypeMismatch (fields_in (column_of p))
+    due_is (IsChosen p refs single) _ kind.TypeMismatch (inner_columns (typed_column p))
     (λ columns e. passes (IsSelected columns refs) (IsChosen p refs single) (select columns refs) (selected columns refs) (λ picks g. (columns, e, g)) (λ f g. of_no_field e g))
     (λ e. of_no_fields e)
 
@@ -138,11 +138,11 @@ given_is p refs single picks w =
 pub stepped : (p : Typing) (s : PostStep) → IsStep p s (step_of p s)
 unfolding step_of
 stepped p (step.Project refs single) =
-    then_told (IsChosen p refs single) (IsStep p (step.Project refs single)) _ (chosen_of (column_of p) refs) (chosen p refs single)
+    then_told (IsChosen p refs single) (IsStep p (step.Project refs single)) _ (chosen_of (typed_column p) refs) (chosen p refs single)
     (λ picks w. then_told (IsGiven p refs single picks) (IsStep p (step.Project refs single)) _ (given_of single (kind_in p) picks) (given_is p refs single picks w)
     (λ d v. projects w.1 w.2 v.0 v.1.1) (λ f v. v))
     (λ f w. w)
-stepped p (step.Look key) = due_is (IsStep p (step.Look key)) _ kind.TypeMismatch (value_in (column_of p)) (λ d e. looks e) (λ e. of_no_map e)
+stepped p (step.Look key) = due_is (IsStep p (step.Look key)) _ kind.TypeMismatch (values_column (typed_column p)) (λ d e. looks e) (λ e. of_no_map e)
 
 pub step_is : {p q : Typing} {s : PostStep} → Steps p s q → step_of p s ≡ Ok q
 unfolding step_of chosen_of given_of

@@ -14,7 +14,7 @@ use Rattle.pig_typing.specs.declared.faults.CheckKind.TheVariants as kind
 use Rattle.pig_typing.specs.Columns.{Place, column_at, refer, unnamed}
 use Rattle.pig_typing.specs.Limits.{limited}
 use Rattle.pig_typing.specs.Parts.{chosen_of, given_of, select, step_of, steps_of, typing}
-use Rattle.pig_typing.specs.Reader.{args_on, call_of, choose_of, compare_of, condition_of, counted, field_of, function_of, link_of, links_on, name_of, type_of}
+use Rattle.pig_typing.specs.Reader.{args_on, call_of, choose_of, compare_of, condition_of, with_count, field_of, function_of, typed_link, links_on, name_of, type_of}
 use Rattle.pig_value.specs.Functions.{function_named}
 
 -- the columns `a` and `m`, and a grouped bag of ranks, before which a nested alias of the name `a` may stand
@@ -34,7 +34,7 @@ named name = e_field (ref.Name name)
 -- `a + 1`
 adds : type_of plain (e_chain (named (codes "a")) (more_links op.Add (e_int (pos 1)) no_links))
     ≡ Ok (typing (x_chain (x_field 0) (links_of ((op.Add, x_int (pos 1)) ∷ []))) (unnamed k_int))
-unfolding type_of links_on link_of name_of field_of refer column_at
+unfolding type_of links_on typed_link name_of field_of refer column_at
 adds = refl
 
 -- `(m#'b' == 'x' ? 'yes' : 'no')`
@@ -46,7 +46,7 @@ looks_up = refl
 -- `SUM(good.rank_of)`
 sums : type_of plain (e_call (codes "SUM") (more_exprs (e_post (named (codes "good")) (step.Project (ref.Name (codes "rank_of") ∷ []) true ∷ [])) no_exprs))
     ≡ Ok (typing (x_call function.Sum (args_of (x_project (x_field 2) (0 ∷ []) true ∷ []))) (unnamed k_long))
-unfolding type_of args_on function_of function_named counted call_of limited name_of field_of refer column_at steps_of step_of chosen_of select given_of
+unfolding type_of args_on function_of function_named with_count call_of limited name_of field_of refer column_at steps_of step_of chosen_of select given_of
 sums = refl
 
 -- a nested alias hides the field, and has no name

@@ -20,13 +20,13 @@ use Rattle.pig_typed.specs.ExprKinds.{minus_kind}
 use Rattle.pig_typed.specs.Typed.{x_cast}
 use Rattle.pig_typing.specs.declared.faults.CheckKind.{CheckKind}
 use Rattle.pig_typing.specs.declared.faults.CheckKind.TheVariants as kind
-use Rattle.pig_typing.specs.Calls.{average, takes}
+use Rattle.pig_typing.specs.Calls.{average, allows}
 use Rattle.pig_typing.specs.Columns.{Place, latest, refer}
 use Rattle.pig_typing.specs.Faults.{LinksWrong, Wrong, InLinks, InArgs, Faults, here, later, own, inside, wrong_float, wrong_type, wrong_average, wrong_name, wrong_position, wrong_chain, wrong_compare, wrong_not, wrong_minus, wrong_condition, wrong_choice, wrong_cast, wrong_size, wrong_step, wrong_function, wrong_count, wrong_args, wrong_given, in_link, in_later, in_arg, in_others, of_first, of_link, of_left, of_right, of_is_null, of_not, of_minus, of_cast, of_post, of_arg, of_condition, of_yes, of_no}
 use Rattle.pig_typing.specs.Joins.{Join, alike, chained, compared, condition}
 use Rattle.pig_typing.specs.Limits.{limited}
 use Rattle.pig_typing.specs.Parts.{Typing, typing, typed_of, kind_in, steps_of}
-use Rattle.pig_typing.specs.Reader.{field_of, local_or, name_of, compare_of, condition_of, minus_of, choose_of, type_of_cast, cast_of, link_of, counted, function_of, call_of, type_of, links_on, args_on}
+use Rattle.pig_typing.specs.Reader.{field_of, local_or, name_of, compare_of, condition_of, minus_of, choose_of, type_of_cast, typed_cast, typed_link, with_count, function_of, call_of, type_of, links_on, args_on}
 use Rattle.pig_typing.specs.Results.{Checked, due}
 use Rattle.pig_typing.specs.Typing.{Types, Links, Args, Sofar, begun, after, call_kind, count, type_int, type_long, type_text, type_bool, type_null, type_local, type_named, type_numbered, type_chain, type_compare, type_is_null, type_not, type_minus, type_cast, type_post, type_call, type_choose, links_end, links_go, args_end, args_go}
 use Rattle.pig_typing.specs.Written.{written}
@@ -99,27 +99,27 @@ function_told s name args = by (function_named name) refl (bytes_eq name average
     by None e false d = wrong_function e (λ k. false≢true (d.1 k))
 
 abbrev CountTold : Place → List ℕ → ExprForms → Function → Checked Function → Type 0
-CountTold s name args g (Ok h) = (g ≡ h) × (takes g (count args) ≡ true)
+CountTold s name args g (Ok h) = (g ≡ h) × (allows g (count args) ≡ true)
 CountTold s name args g (Err f) = Wrong s (e_call name args) f
 
-count_told : (s : Place) (name : List ℕ) (args : ExprForms) (g : Function) → function_named name ≡ Some g → CountTold s name args g (counted (count args) g)
-unfolding counted
-count_told s name args g e = by (takes g (count args)) refl
+count_told : (s : Place) (name : List ℕ) (args : ExprForms) (g : Function) → function_named name ≡ Some g → CountTold s name args g (with_count (count args) g)
+unfolding with_count
+count_told s name args g e = by (allows g (count args)) refl
   where
-    by : (b : Bool) → takes g (count args) ≡ b → CountTold s name args g (if b then Ok g else Err kind.WrongArguments)
+    by : (b : Bool) → allows g (count args) ≡ b → CountTold s name args g (if b then Ok g else Err kind.WrongArguments)
     by true t = (refl, t)
     by false t = wrong_count e t
 
 call_told : (s : Place) (name : List ℕ) (args : ExprForms) (g : Function) (ps : List Typing)
-    → function_named name ≡ Some g → takes g (count args) ≡ true → Args s args ps → IsTold s (e_call name args) (call_of g ps)
+    → function_named name ≡ Some g → allows g (count args) ≡ true → Args s args ps → IsTold s (e_call name args) (call_of g ps)
 unfolding call_of
 call_told s name args g ps e t h =
     due_is (IsTold s (e_call name args)) _ kind.TypeMismatch (call_kind g ps)
     (λ k made. then_is (IsTold s (e_call name args)) _ (limited k) (λ l within. type_call e t h made within) (λ f past. own (wrong_given e h made past)))
     (λ made. own (wrong_args e t h made))
 
-converted_told : (s : Place) (to : TypeTree) (a : ExprForm) (d : FieldTree) (p : Typing) → CastTold s to a (Ok d) → Types s a p → IsTold s (e_cast to a) (cast_of d p)
-unfolding cast_of
+converted_told : (s : Place) (to : TypeTree) (a : ExprForm) (d : FieldTree) (p : Typing) → CastTold s to a (Ok d) → Types s a p → IsTold s (e_cast to a) (typed_cast d p)
+unfolding typed_cast
 converted_told s to a d p w h = by (may_cast (kind_in p) (tree_kind d)) refl
   where
     by : (b : Bool) → may_cast (kind_in p) (tree_kind d) ≡ b → IsTold s (e_cast to a) (if b then Ok (typing (x_cast (tree_kind d) (typed_of p)) d) else Err kind.TypeMismatch)
@@ -129,7 +129,7 @@ converted_told s to a d p w h = by (may_cast (kind_in p) (tree_kind d)) refl
 -- ---- expressions
 
 mutual
-  unfolding type_of links_on args_on link_of compare_of condition_of minus_of choose_of
+  unfolding type_of links_on args_on typed_link compare_of condition_of minus_of choose_of
 
   pub told : (s : Place) (a : ExprForm) → IsTold s a (type_of s a)
   told s (e_int z) = type_int
@@ -169,7 +169,7 @@ mutual
       (λ f h. inside of_post h)
   told s (e_call name args) =
       then_told (FunctionTold s name args) (IsTold s (e_call name args)) _ (function_of name) (function_told s name args)
-      (λ g e. then_told (CountTold s name args g) (IsTold s (e_call name args)) _ (counted (count args) g) (count_told s name args g e)
+      (λ g e. then_told (CountTold s name args g) (IsTold s (e_call name args)) _ (with_count (count args) g) (count_told s name args g e)
       (λ g' t. then_told (ArgsTold s args) (IsTold s (e_call name args)) _ (args_on s args) (args_told s args)
       (λ ps h. subst (λ x. IsTold s (e_call name args) (call_of x ps)) t.0 (call_told s name args g ps e t.1 h))
       (λ f h. inside (of_arg h.1) h.2))

@@ -16,15 +16,15 @@ abbrev pub average : List ℕ
 average = codes "AVG"
 
 -- whether a function takes so many arguments
-abbrev pub takes : Function → ℕ → Bool
-takes f.Concat n = nat_lt 1 n
-takes f.Substring n = n == 3
-takes f.StartsWith n = n == 2
-takes f.EndsWith n = n == 2
-takes f.IndexOf n = n == 2
-takes f.ToTuple n = nat_lt 0 n
-takes (f.ToBag width) n = nat_lt 0 n
-takes f n = n == 1
+abbrev pub allows : Function → ℕ → Bool
+allows f.Concat n = nat_lt 1 n
+allows f.Substring n = n == 3
+allows f.StartsWith n = n == 2
+allows f.EndsWith n = n == 2
+allows f.IndexOf n = n == 2
+allows f.ToTuple n = nat_lt 0 n
+allows (f.ToBag width) n = nat_lt 0 n
+allows f n = n == 1
 
 -- ---- casts of arguments
 

@@ -7,7 +7,7 @@ use Rattle.std.specs.Str.{bytes_eq}
 use Rattle.std.specs.declared.result.Result.{Result}
 use Rattle.std.specs.declared.result.Result.TheVariants.{Ok, Err}
 use Rattle.pig_value.specs.Trees.{KindTree, KindTrees, k_tuple, k_bag, k_map, no_kinds, more_kinds}
-use Rattle.pig_schema.specs.FieldTrees.{FieldTree, a_field, inner_of, tree_name, tree_kind, tree_inner, field_tree, schema_tree, IsField}
+use Rattle.pig_schema.specs.FieldTrees.{FieldTree, a_field, inner_of, tree_name, tree_kind, tree_inner, named_tree, schema_tree, IsColumn}
 use Rattle.pig_schema.specs.Names.{IsMeant, IsUnknown, IsAmbiguous, meaning}
 use Rattle.pig_schema.specs.declared.naming.NameFault.{NameFault}
 use Rattle.pig_schema.specs.declared.naming.NameFault.TheVariants as fault
@@ -41,15 +41,15 @@ nameless c = a_field None (tree_kind c) (tree_inner c)
 -- ---- references
 
 -- the reference means the column at the place
-pub data Means (columns : List FieldTree) : FieldRef → ℕ → FieldTree → Type 0 where
-  by_name : {name : List ℕ} {n : ℕ} {c : FieldTree} → IsMeant (map tree_name columns) name n → slice_get columns n ≡ Some c → Means columns (ref.Name name) n c
-  by_position : {n : ℕ} {c : FieldTree} → slice_get columns n ≡ Some c → Means columns (ref.Position n) n c
+pub data RefersTo (columns : List FieldTree) : FieldRef → ℕ → FieldTree → Type 0 where
+  by_name : {name : List ℕ} {n : ℕ} {c : FieldTree} → IsMeant (map tree_name columns) name n → slice_get columns n ≡ Some c → RefersTo columns (ref.Name name) n c
+  by_position : {n : ℕ} {c : FieldTree} → slice_get columns n ≡ Some c → RefersTo columns (ref.Position n) n c
 
 -- the reference means no column, for this reason
-pub data MeansNone (columns : List FieldTree) : FieldRef → CheckKind → Type 0 where
-  unknown : {name : List ℕ} → IsUnknown (map tree_name columns) name → MeansNone columns (ref.Name name) kind.UnknownField
-  ambiguous : {name : List ℕ} → IsAmbiguous (map tree_name columns) name → MeansNone columns (ref.Name name) kind.AmbiguousField
-  outside : {n : ℕ} → length columns ≤ n → MeansNone columns (ref.Position n) kind.PositionOut
+pub data RefersToNone (columns : List FieldTree) : FieldRef → CheckKind → Type 0 where
+  unknown : {name : List ℕ} → IsUnknown (map tree_name columns) name → RefersToNone columns (ref.Name name) kind.UnknownField
+  ambiguous : {name : List ℕ} → IsAmbiguous (map tree_name columns) name → RefersToNone columns (ref.Name name) kind.AmbiguousField
+  outside : {n : ℕ} → length columns ≤ n → RefersToNone columns (ref.Position n) kind.PositionOut
 
 -- ---- what an expression may refer to
 
@@ -59,7 +59,7 @@ pub record Place : Type 0 where
   pub locals : List (List ℕ × FieldTree)
 
 abbrev pub local_of : Local → List ℕ × FieldTree
-local_of l = (l.alias, field_tree l.column)
+local_of l = (l.alias, named_tree l.column)
 
 abbrev pub place_of : Scope → Place
 place_of s = record { columns = schema_tree s.columns.now; locals = map local_of s.locals.now }
@@ -81,19 +81,19 @@ abbrev pub latest : List ℕ → List (List ℕ × FieldTree) → Option (ℕ ×
 latest = latest_from 0
 
 -- the kinds of the row and of the nested aliases
-abbrev pub row_of : Place → List KindTree
-row_of s = map tree_kind s.columns
+abbrev pub place_row : Place → List KindTree
+place_row s = map tree_kind s.columns
 
 abbrev pub locals_of : Place → List KindTree
 locals_of s = map (λ l. tree_kind l.1) s.locals
 
 -- each of the columns has inside it what is of its kind
-abbrev pub AreFields : List FieldTree → Type 0
-AreFields [] = ⊤
-AreFields (c ∷ cs) = IsField c × AreFields cs
+abbrev pub AreColumns : List FieldTree → Type 0
+AreColumns [] = ⊤
+AreColumns (c ∷ cs) = IsColumn c × AreColumns cs
 
 abbrev pub IsPlace : Place → Type 0
-IsPlace s = AreFields s.columns × AreFields (map (λ l. l.1) s.locals)
+IsPlace s = AreColumns s.columns × AreColumns (map (λ l. l.1) s.locals)
 
 -- ---- the same as functions
 

@@ -16,8 +16,8 @@ use Rattle.pig_syntax.specs.declared.trees.TypeTree.{TypeTree}
 use Rattle.pig_typed.specs.ExprKinds.{minus_kind}
 use Rattle.pig_typing.specs.declared.faults.CheckKind.{CheckKind}
 use Rattle.pig_typing.specs.declared.faults.CheckKind.TheVariants as kind
-use Rattle.pig_typing.specs.Calls.{average, takes}
-use Rattle.pig_typing.specs.Columns.{MeansNone, Place, latest}
+use Rattle.pig_typing.specs.Calls.{average, allows}
+use Rattle.pig_typing.specs.Columns.{RefersToNone, Place, latest}
 use Rattle.pig_typing.specs.Joins.{Join, alike, chained, compared, condition}
 use Rattle.pig_typing.specs.Limits.{limited}
 use Rattle.pig_typing.specs.Parts.{Typing, typed_of, kind_in, WalksNot}
@@ -38,8 +38,8 @@ pub data Wrong (s : Place) : ExprForm → CheckKind → Type 0 where
   wrong_type : {to : TypeTree} {a : ExprForm} → written (type_form to) ≡ None → Wrong s (e_cast to a) kind.FloatType
   wrong_average : {name : List ℕ} {args : ExprForms} → name ≡ average → Wrong s (e_call name args) kind.FloatType
   -- a name that fits no field or is ambiguous, a position that is too great
-  wrong_name : {name : List ℕ} {f : CheckKind} → latest name s.locals ≡ None → MeansNone s.columns (ref.Name name) f → Wrong s (e_field (ref.Name name)) f
-  wrong_position : {n : ℕ} {f : CheckKind} → MeansNone s.columns (ref.Position n) f → Wrong s (e_field (ref.Position n)) f
+  wrong_name : {name : List ℕ} {f : CheckKind} → latest name s.locals ≡ None → RefersToNone s.columns (ref.Name name) f → Wrong s (e_field (ref.Name name)) f
+  wrong_position : {n : ℕ} {f : CheckKind} → RefersToNone s.columns (ref.Position n) f → Wrong s (e_field (ref.Position n)) f
   -- an operator on other kinds
   wrong_chain : {a : ExprForm} {ls : LinkForms} {p : Typing} → Types s a p → LinksWrong s (begun p) ls → Wrong s (e_chain a ls) kind.TypeMismatch
   wrong_compare : {r : Rel} {a b : ExprForm} {p q : Typing}
@@ -57,9 +57,9 @@ pub data Wrong (s : Place) : ExprForm → CheckKind → Type 0 where
   wrong_step : {a : ExprForm} {steps : List PostStep} {p : Typing} {f : CheckKind} → Types s a p → WalksNot p steps f → Wrong s (e_post a steps) f
   -- a function that there is not, another number of arguments, arguments of other kinds, and what is given past the limits
   wrong_function : {name : List ℕ} {args : ExprForms} → function_named name ≡ None → (name ≡ average → ⊥) → Wrong s (e_call name args) kind.UnknownFunction
-  wrong_count : {name : List ℕ} {args : ExprForms} {g : Function} → function_named name ≡ Some g → takes g (count args) ≡ false → Wrong s (e_call name args) kind.WrongArguments
+  wrong_count : {name : List ℕ} {args : ExprForms} {g : Function} → function_named name ≡ Some g → allows g (count args) ≡ false → Wrong s (e_call name args) kind.WrongArguments
   wrong_args : {name : List ℕ} {args : ExprForms} {g : Function} {ps : List Typing}
-      → function_named name ≡ Some g → takes g (count args) ≡ true → Args s args ps → call_kind g ps ≡ None → Wrong s (e_call name args) kind.TypeMismatch
+      → function_named name ≡ Some g → allows g (count args) ≡ true → Args s args ps → call_kind g ps ≡ None → Wrong s (e_call name args) kind.TypeMismatch
   wrong_given : {name : List ℕ} {args : ExprForms} {g : Function} {ps : List Typing} {k : KindTree} {f : CheckKind}
       → function_named name ≡ Some g → Args s args ps → call_kind g ps ≡ Some k → limited k ≡ Err f → Wrong s (e_call name args) f
 

@@ -10,7 +10,7 @@ use Rattle.pig_syntax.specs.declared.trees.PostStep.TheVariants as step
 use Rattle.pig_typed.specs.Typed.{Typed, x_project, x_look}
 use Rattle.pig_typing.specs.declared.faults.CheckKind.{CheckKind}
 use Rattle.pig_typing.specs.declared.faults.CheckKind.TheVariants as kind
-use Rattle.pig_typing.specs.Columns.{Means, MeansNone, refer}
+use Rattle.pig_typing.specs.Columns.{RefersTo, RefersToNone, refer}
 use Rattle.pig_typing.specs.Limits.{limited}
 use Rattle.pig_typing.specs.Results.{Checked, due, ◌>>=◌}
 use Rattle.pig_typing.specs.Written.{of_fields}
@@ -22,11 +22,11 @@ pub data Typing : Type 0 where
 abbrev pub typed_of : Typing → Typed
 typed_of (typing t c) = t
 
-abbrev pub column_of : Typing → FieldTree
-column_of (typing t c) = c
+abbrev pub typed_column : Typing → FieldTree
+typed_column (typing t c) = c
 
 abbrev pub kind_in : Typing → KindTree
-kind_in p = tree_kind (column_of p)
+kind_in p = tree_kind (typed_column p)
 
 -- ---- selections of columns, each with its place
 
@@ -42,11 +42,11 @@ picked = map (λ p. p.1)
 pub data Selects (columns : List FieldTree) : List FieldRef → Picks → Type 0 where
   none_selected : Selects columns [] []
   one_selected : {r : FieldRef} {rs : List FieldRef} {pick : ℕ × FieldTree} {picks : Picks}
-      → Means columns r pick.0 pick.1 → Selects columns rs picks → Selects columns (r ∷ rs) (pick ∷ picks)
+      → RefersTo columns r pick.0 pick.1 → Selects columns rs picks → Selects columns (r ∷ rs) (pick ∷ picks)
 
 -- one of the references means no column
 pub data SelectsNot (columns : List FieldTree) : List FieldRef → CheckKind → Type 0 where
-  here : {r : FieldRef} {rs : List FieldRef} {f : CheckKind} → MeansNone columns r f → SelectsNot columns (r ∷ rs) f
+  here : {r : FieldRef} {rs : List FieldRef} {f : CheckKind} → RefersToNone columns r f → SelectsNot columns (r ∷ rs) f
   later : {r : FieldRef} {rs : List FieldRef} {f : CheckKind} → SelectsNot columns rs f → SelectsNot columns (r ∷ rs) f
 
 -- ---- one step
@@ -57,8 +57,8 @@ held_fields (k_tuple ks) inner = Some inner
 held_fields (k_bag ks) inner = Some inner
 held_fields k inner = None
 
-abbrev pub fields_in : FieldTree → Option (List FieldTree)
-fields_in c = held_fields (tree_kind c) (inner_list (tree_inner c))
+abbrev pub inner_columns : FieldTree → Option (List FieldTree)
+inner_columns c = held_fields (tree_kind c) (inner_list (tree_inner c))
 
 abbrev pub renamed : Option (List ℕ) → FieldTree → FieldTree
 renamed name c = a_field name (tree_kind c) (tree_inner c)
@@ -77,26 +77,26 @@ abbrev pub held_value : KindTree → FieldTrees → Option FieldTree
 held_value (k_map k) inner = Some (a_field None k inner)
 held_value k inner = None
 
-abbrev pub value_in : FieldTree → Option FieldTree
-value_in c = held_value (tree_kind c) (tree_inner c)
+abbrev pub values_column : FieldTree → Option FieldTree
+values_column c = held_value (tree_kind c) (tree_inner c)
 
 pub data Steps : Typing → PostStep → Typing → Type 0 where
   projects : {p : Typing} {columns : List FieldTree} {refs : List FieldRef} {ps : Picks} {single : Bool} {d : FieldTree} {k : KindTree}
-      → fields_in (column_of p) ≡ Some columns → Selects columns refs ps → projected single (kind_in p) (picked ps) ≡ Some d → limited (tree_kind d) ≡ Ok k
+      → inner_columns (typed_column p) ≡ Some columns → Selects columns refs ps → projected single (kind_in p) (picked ps) ≡ Some d → limited (tree_kind d) ≡ Ok k
       → Steps p (step.Project refs single) (typing (x_project (typed_of p) (places ps) single) d)
-  looks : {p : Typing} {key : List ℕ} {d : FieldTree} → value_in (column_of p) ≡ Some d → Steps p (step.Look key) (typing (x_look (typed_of p) key) d)
+  looks : {p : Typing} {key : List ℕ} {d : FieldTree} → values_column (typed_column p) ≡ Some d → Steps p (step.Look key) (typing (x_look (typed_of p) key) d)
 
 -- why there is no such step
 pub data StepsNot : Typing → PostStep → CheckKind → Type 0 where
-  of_no_fields : {p : Typing} {refs : List FieldRef} {single : Bool} → fields_in (column_of p) ≡ None → StepsNot p (step.Project refs single) kind.TypeMismatch
+  of_no_fields : {p : Typing} {refs : List FieldRef} {single : Bool} → inner_columns (typed_column p) ≡ None → StepsNot p (step.Project refs single) kind.TypeMismatch
   of_no_field : {p : Typing} {columns : List FieldTree} {refs : List FieldRef} {single : Bool} {f : CheckKind}
-      → fields_in (column_of p) ≡ Some columns → SelectsNot columns refs f → StepsNot p (step.Project refs single) f
+      → inner_columns (typed_column p) ≡ Some columns → SelectsNot columns refs f → StepsNot p (step.Project refs single) f
   of_no_grammar : {p : Typing} {columns : List FieldTree} {refs : List FieldRef} {ps : Picks} {single : Bool}
-      → fields_in (column_of p) ≡ Some columns → Selects columns refs ps → projected single (kind_in p) (picked ps) ≡ None → StepsNot p (step.Project refs single) kind.TypeMismatch
+      → inner_columns (typed_column p) ≡ Some columns → Selects columns refs ps → projected single (kind_in p) (picked ps) ≡ None → StepsNot p (step.Project refs single) kind.TypeMismatch
   past_limits : {p : Typing} {columns : List FieldTree} {refs : List FieldRef} {ps : Picks} {single : Bool} {d : FieldTree} {f : CheckKind}
-      → fields_in (column_of p) ≡ Some columns → Selects columns refs ps → projected single (kind_in p) (picked ps) ≡ Some d → limited (tree_kind d) ≡ Err f
+      → inner_columns (typed_column p) ≡ Some columns → Selects columns refs ps → projected single (kind_in p) (picked ps) ≡ Some d → limited (tree_kind d) ≡ Err f
       → StepsNot p (step.Project refs single) f
-  of_no_map : {p : Typing} {key : List ℕ} → value_in (column_of p) ≡ None → StepsNot p (step.Look key) kind.TypeMismatch
+  of_no_map : {p : Typing} {key : List ℕ} → values_column (typed_column p) ≡ None → StepsNot p (step.Look key) kind.TypeMismatch
 
 -- ---- steps in turn
 
@@ -120,7 +120,7 @@ select columns (r ∷ rs) = do
 -- the fields that a projection takes
 unfoldable pub chosen_of : FieldTree → List FieldRef → Checked Picks
 chosen_of c refs = do
-  columns ← due kind.TypeMismatch (fields_in c)
+  columns ← due kind.TypeMismatch (inner_columns c)
   select columns refs
 
 -- the column that it gives of them, within the limits
@@ -132,11 +132,11 @@ given_of single k picks = do
 
 unfoldable pub step_of : Typing → PostStep → Checked Typing
 step_of p (step.Project refs single) = do
-  picks ← chosen_of (column_of p) refs
+  picks ← chosen_of (typed_column p) refs
   d ← given_of single (kind_in p) picks
   Ok (typing (x_project (typed_of p) (places picks) single) d)
 step_of p (step.Look key) = do
-  d ← due kind.TypeMismatch (value_in (column_of p))
+  d ← due kind.TypeMismatch (values_column (typed_column p))
   Ok (typing (x_look (typed_of p) key) d)
 
 unfoldable pub steps_of : Typing → List PostStep → Checked Typing

@@ -16,11 +16,11 @@ use Rattle.pig_syntax.specs.declared.trees.TypeTree.{TypeTree}
 use Rattle.pig_typed.specs.ExprKinds.{minus_kind}
 use Rattle.pig_typed.specs.Typed.{Typed, x_null, x_bool, x_int, x_long, x_chars, x_field, x_local, x_compare, x_is_null, x_not, x_minus, x_choose, x_cast, x_call, args_of}
 use Rattle.pig_typing.specs.declared.faults.CheckKind.TheVariants as kind
-use Rattle.pig_typing.specs.Calls.{average, takes, given}
+use Rattle.pig_typing.specs.Calls.{average, allows, given}
 use Rattle.pig_typing.specs.Columns.{Place, latest, nameless, refer, unnamed}
 use Rattle.pig_typing.specs.Joins.{alike, cast_if, chained, compared, condition}
 use Rattle.pig_typing.specs.Limits.{limited}
-use Rattle.pig_typing.specs.Parts.{Typing, typing, typed_of, column_of, kind_in, steps_of}
+use Rattle.pig_typing.specs.Parts.{Typing, typing, typed_of, typed_column, kind_in, steps_of}
 use Rattle.pig_typing.specs.Results.{Checked, due, ◌>>=◌}
 use Rattle.pig_typing.specs.Typing.{Sofar, begun, after, chain_typing, called, call_kind, cast_args, count}
 use Rattle.pig_typing.specs.Written.{written}
@@ -77,17 +77,17 @@ type_of_cast to = do
   k ← limited (tree_kind d)
   Ok d
 
-unfoldable pub cast_of : FieldTree → Typing → Checked Typing
-cast_of d p = if may_cast (kind_in p) (tree_kind d) then Ok (typing (x_cast (tree_kind d) (typed_of p)) d) else Err kind.TypeMismatch
+unfoldable pub typed_cast : FieldTree → Typing → Checked Typing
+typed_cast d p = if may_cast (kind_in p) (tree_kind d) then Ok (typing (x_cast (tree_kind d) (typed_of p)) d) else Err kind.TypeMismatch
 
-unfoldable pub link_of : Sofar → ChainOp → Typing → Checked Sofar
-link_of so_far o p = do
+unfoldable pub typed_link : Sofar → ChainOp → Typing → Checked Sofar
+typed_link so_far o p = do
   j ← due kind.TypeMismatch (chained o so_far.kind (kind_in p))
   Ok (after so_far o j (typed_of p))
 
 -- the function of a name that takes so many arguments
-unfoldable pub counted : ℕ → Function → Checked Function
-counted n f = if takes f n then Ok f else Err kind.WrongArguments
+unfoldable pub with_count : ℕ → Function → Checked Function
+with_count n f = if allows f n then Ok f else Err kind.WrongArguments
 
 unfoldable pub function_of : List ℕ → Checked Function
 function_of name = due (if bytes_eq name average then kind.FloatType else kind.UnknownFunction) (function_named name)
@@ -96,7 +96,7 @@ unfoldable pub call_of : Function → List Typing → Checked Typing
 call_of f ps = do
   k ← due kind.TypeMismatch (call_kind f ps)
   l ← limited k
-  Ok (typing (x_call (called f ps) (args_of (cast_args f ps))) (given f k (map column_of ps)))
+  Ok (typing (x_call (called f ps) (args_of (cast_args f ps))) (given f k (map typed_column ps)))
 
 -- ---- expressions
 
@@ -130,13 +130,13 @@ unfoldable mutual
   type_of s (e_cast to a) = do
     d ← type_of_cast to
     p ← type_of s a
-    cast_of d p
+    typed_cast d p
   type_of s (e_post a steps) = do
     p ← type_of s a
     steps_of p steps
   type_of s (e_call name args) = do
     f ← function_of name
-    g ← counted (count args) f
+    g ← with_count (count args) f
     ps ← args_on s args
     call_of g ps
   type_of s (e_choose a b c) = do
@@ -150,7 +150,7 @@ unfoldable mutual
   links_on s so_far no_links = Ok so_far
   links_on s so_far (more_links o a ls) = do
     p ← type_of s a
-    next ← link_of so_far o p
+    next ← typed_link so_far o p
     links_on s next ls
 
   pub args_on : Place → ExprForms → Checked (List Typing)

@@ -17,11 +17,11 @@ use Rattle.pig_syntax.specs.declared.trees.PostStep.{PostStep}
 use Rattle.pig_syntax.specs.declared.trees.TypeTree.{TypeTree}
 use Rattle.pig_typed.specs.ExprKinds.{minus_kind}
 use Rattle.pig_typed.specs.Typed.{Typed, x_null, x_bool, x_int, x_long, x_chars, x_field, x_local, x_chain, x_compare, x_is_null, x_not, x_minus, x_choose, x_cast, x_call, links_of, args_of}
-use Rattle.pig_typing.specs.Calls.{takes, casting, cast_by, cast_maybe, kind_after, sized, given}
-use Rattle.pig_typing.specs.Columns.{Means, Place, latest, nameless, unnamed}
+use Rattle.pig_typing.specs.Calls.{allows, casting, cast_by, cast_maybe, kind_after, sized, given}
+use Rattle.pig_typing.specs.Columns.{RefersTo, Place, latest, nameless, unnamed}
 use Rattle.pig_typing.specs.Joins.{Join, alike, cast_if, chained, compared, condition}
 use Rattle.pig_typing.specs.Limits.{limited}
-use Rattle.pig_typing.specs.Parts.{Typing, typing, typed_of, column_of, kind_in, Walks}
+use Rattle.pig_typing.specs.Parts.{Typing, typing, typed_of, typed_column, kind_in, Walks}
 use Rattle.pig_typing.specs.Written.{written}
 
 -- ---- chains
@@ -76,8 +76,8 @@ mutual
     type_null : Types s e_null (typing x_null (unnamed k_bytes))
     -- a nested alias hides a field of the same name, and has no name as an item
     type_local : {name : List ℕ} {found : ℕ × FieldTree} → latest name s.locals ≡ Some found → Types s (e_field (ref.Name name)) (typing (x_local found.0) (nameless found.1))
-    type_named : {name : List ℕ} {n : ℕ} {c : FieldTree} → latest name s.locals ≡ None → Means s.columns (ref.Name name) n c → Types s (e_field (ref.Name name)) (typing (x_field n) c)
-    type_numbered : {at n : ℕ} {c : FieldTree} → Means s.columns (ref.Position at) n c → Types s (e_field (ref.Position at)) (typing (x_field n) c)
+    type_named : {name : List ℕ} {n : ℕ} {c : FieldTree} → latest name s.locals ≡ None → RefersTo s.columns (ref.Name name) n c → Types s (e_field (ref.Name name)) (typing (x_field n) c)
+    type_numbered : {at n : ℕ} {c : FieldTree} → RefersTo s.columns (ref.Position at) n c → Types s (e_field (ref.Position at)) (typing (x_field n) c)
     type_chain : {a : ExprForm} {ls : LinkForms} {p : Typing} {whole : Sofar} → Types s a p → Links s (begun p) ls whole → Types s (e_chain a ls) (chain_typing whole)
     type_compare : {r : Rel} {a b : ExprForm} {p q : Typing} {j : Join}
         → Types s a p → Types s b q → compared r (kind_in p) (kind_in q) ≡ Some j
@@ -91,8 +91,8 @@ mutual
         → Types s (e_cast to a) (typing (x_cast (tree_kind d) (typed_of p)) d)
     type_post : {a : ExprForm} {steps : List PostStep} {p q : Typing} → Types s a p → Walks p steps q → Types s (e_post a steps) q
     type_call : {name : List ℕ} {args : ExprForms} {f : Function} {ps : List Typing} {k l : KindTree}
-        → function_named name ≡ Some f → takes f (count args) ≡ true → Args s args ps → call_kind f ps ≡ Some k → limited k ≡ Ok l
-        → Types s (e_call name args) (typing (x_call (called f ps) (args_of (cast_args f ps))) (given f k (map column_of ps)))
+        → function_named name ≡ Some f → allows f (count args) ≡ true → Args s args ps → call_kind f ps ≡ Some k → limited k ≡ Ok l
+        → Types s (e_call name args) (typing (x_call (called f ps) (args_of (cast_args f ps))) (given f k (map typed_column ps)))
     type_choose : {a b c : ExprForm} {p q r : Typing} {is_cast : Bool} {j : Join}
         → Types s a p → condition (kind_in p) ≡ Some is_cast → Types s b q → Types s c r → alike (kind_in q) (kind_in r) ≡ Some j
         → Types s (e_choose a b c)

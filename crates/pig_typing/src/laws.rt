@@ -1,11 +1,11 @@
 ghost use Rattle.std.specs.Prelude.{◌≡◌, ◌⊎◌, Some, map};
-ghost use Rattle.pig_schema.specs.FieldTrees.{IsField, tree_kind};
+ghost use Rattle.pig_schema.specs.FieldTrees.{IsColumn, tree_kind};
 ghost use Rattle.pig_syntax.specs.ExprTrees.{ExprForm};
 ghost use Rattle.pig_typed.specs.ExprKinds.{expr_kind};
 ghost use Rattle.pig_typing.specs.declared.faults.CheckKind.{CheckKind};
-ghost use Rattle.pig_typing.specs.Columns.{IsPlace, Place, locals_of, row_of};
+ghost use Rattle.pig_typing.specs.Columns.{IsPlace, Place, locals_of, place_row};
 ghost use Rattle.pig_typing.specs.Faults.{Faults};
-ghost use Rattle.pig_typing.specs.Parts.{Typing, column_of, kind_in, typed_of};
+ghost use Rattle.pig_typing.specs.Parts.{Typing, typed_column, kind_in, typed_of};
 ghost use Rattle.pig_typing.specs.Typing.{Types};
 
 /// Over the columns and nested aliases of any place an expression has one typing, or the condition of some kind of
@@ -20,6 +20,6 @@ pub fn expressions_have_one_typing()
 /// that kind, where these have theirs.
 pub fn typings_have_their_kinds()
     ensures kind { (s : Place) (a : ExprForm) (p : Typing) → IsPlace s → Types s a p
-        → expr_kind (typed_of p) (row_of s) (locals_of s) ≡ Some (kind_in p) }
-    ensures inside { (s : Place) (a : ExprForm) (p : Typing) → IsPlace s → Types s a p → IsField (column_of p) }
+        → expr_kind (typed_of p) (place_row s) (locals_of s) ≡ Some (kind_in p) }
+    ensures inside { (s : Place) (a : ExprForm) (p : Typing) → IsPlace s → Types s a p → IsColumn (typed_column p) }
 {}

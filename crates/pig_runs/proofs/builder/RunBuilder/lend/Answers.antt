@@ -1,6 +1,6 @@
 use Rattle.std.proofs.Common.{◌≡◌, ◌∙◌, ap, subst}
 use Rattle.std.specs.Prelude.{Some, option_map, slice_get}
-use Rattle.pig_runs.specs.Entries.{AreEntries}
+use Rattle.pig_runs.specs.Entries.{AreKeyed}
 use Rattle.pig_runs.specs.Packed.{found_at, packed, packed_lent}
 use Rattle.pig_runs.proofs.Reading.{lent_read}
 use Rattle.pig_runs.proofs.builder.RunBuilder.lend.Goals as goal
@@ -12,4 +12,4 @@ returns-clause-is c =
     (subst (λ l. slice_get l c.args.at ≡ Some c.slot_at-slot.result) c.as_slice.ensures.value c.slot_at-slot.ensures) (c.lend.ensures ∙ ap (λ b. found_at b c.slot_at-slot.result) c.as_slice-2.ensures.value))
 
 pub returns-clause-good : goal.returns-clause-good
-returns-clause-good c = subst (λ b. ∥ AreEntries b.dirs b.entries ∥₁) c.self.view_is c.self.inside.held.1.0
+returns-clause-good c = subst (λ b. ∥ AreKeyed b.dirs b.entries ∥₁) c.self.view_is c.self.inside.held.1.0
