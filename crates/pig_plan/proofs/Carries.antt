@@ -1,5 +1,5 @@
 -- What expressions keep of values, and what holds of what a LOAD reads, holds of the rows of every operator.
-use Rattle.std.specs.Prelude.{◌≡◌, ◌+◌, ◌==◌, ℕ, ℤ, pos, Bool, true, false, not, ◌&&◌, List, [], ◌∷◌, ◌++◌, length, map, codes, refl, if◌then◌else◌, ⊤}
+use Rattle.std.specs.Prelude.{◌≡◌, ◌+◌, ◌==◌, ℕ, ℤ, Bool, true, false, not, ◌&&◌, List, [], ◌∷◌, ◌++◌, length, map, codes, refl, if◌then◌else◌, ⊤}
 use Rattle.std.proofs.Common.{subst, cond, zero, suc}
 use Rattle.std.specs.List.{AllByRecursion, filter, flat_map, range_with_len}
 use Rattle.std.proofs.lemmas.Bool.{eqb-true}

@@ -9,7 +9,7 @@ use Rattle.pig_value.proofs.list_laws.Bags.{bag_from_permutation}
 use Rattle.pig_value.proofs.list_laws.Partitions.{by_key_permuted, by_key_tasks}
 use Rattle.pig_value.proofs.list_laws.Permutations.{IsPermutation-filter}
 use Rattle.pig_value.specs.Gathering.{in_part}
-use Rattle.pig_value.specs.Orders.{tree_cmp, row_cmp, bag_of}
+use Rattle.pig_value.specs.Orders.{tree_cmp, row_cmp}
 use Rattle.pig_value.specs.Trees.{Tree}
 use Rattle.pig_plan.specs.ByKey.{Entry, gathered, rows_of}
 

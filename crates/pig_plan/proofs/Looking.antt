@@ -1,5 +1,5 @@
 -- An operator looks at the rows of its inputs alone, and sees all but a list as a bag.
-use Rattle.std.specs.Prelude.{◌≡◌, ◌<◌, ◌+◌, ℕ, Bool, List, [], ◌∷◌, ◌++◌, length, map, Some, slice_get, refl}
+use Rattle.std.specs.Prelude.{◌≡◌, ◌<◌, ◌+◌, ℕ, List, [], ◌∷◌, ◌++◌, length, map, Some, slice_get, refl}
 use Rattle.std.proofs.Common.{ap}
 use Rattle.std.specs.List.{flat_map, AllByRecursion}
 use Rattle.pig_value.proofs.list_laws.Listing.{each_weaker}

@@ -1,8 +1,8 @@
 -- A node of a plan names lower ones, since it is valid behind those before it alone.
 use Rattle.std.specs.Prelude.{◌≡◌, ◌<◌, ◌≤◌, ℕ, Bool, true, false, not, List, [], ◌∷◌, length, map, take, Option, Some, None, slice_get, refl}
-use Rattle.std.proofs.Common.{ap, sym, ◌∙◌, arith, suc, zero, true≢false, ◌&&◌}
+use Rattle.std.proofs.Common.{ap, sym, arith, suc, zero, true≢false, ◌&&◌}
 use Rattle.std.specs.List.{AllByRecursion, list_any}
-use Rattle.std.specs.Option.{is_some, option_and_then, option_map, unwrap_or}
+use Rattle.std.specs.Option.{is_some, option_and_then, option_map}
 use Rattle.std.proofs.lemmas.Option.{none-some}
 use Rattle.pig_value.proofs.list_laws.Listing.{each_weaker, each-map}
 use Rattle.pig_value.specs.FieldReader.{all_of}
@@ -10,7 +10,7 @@ use Rattle.pig_value.specs.declared.inputs.Input.{Input}
 use Rattle.pig_value.specs.declared.outcomes.Kept.{Kept}
 use Rattle.pig_plan.proofs.Looking.{NamesLower, meaning_is}
 use Rattle.pig_plan.proofs.Unfolds.{length-results}
-use Rattle.pig_plan.specs.NodeKinds.{Before, Gives, KeyedKinds, RowKinds, all_keyed, key_kinds, keyed_kinds, kinds_at, kinds_step, kinds_table, node_gives}
+use Rattle.pig_plan.specs.NodeKinds.{Before, KeyedKinds, RowKinds, all_keyed, key_kinds, keyed_kinds, kinds_at, kinds_step, kinds_table, node_gives}
 use Rattle.pig_plan.specs.Meaning.{meaning, setting}
 use Rattle.pig_plan.specs.Nodes.{inputs_of}
 use Rattle.pig_plan.specs.Operators.{operator_rows}

@@ -21,7 +21,7 @@ use Rattle.pig_value.proofs.list_laws.Listing.{each-filter, each_at, each_filter
 use Rattle.pig_typed.proofs.Carried.{IsCarried}
 use Rattle.pig_plan.proofs.Carries.{OwnAre, operator_held}
 use Rattle.pig_plan.proofs.Lower.{meaning_of_node, names_lower}
-use Rattle.pig_plan.specs.Meaning.{AreKept, EachIsKept, kept_at, meaning, setting}
+use Rattle.pig_plan.specs.Meaning.{EachIsKept, kept_at, meaning, setting}
 use Rattle.pig_plan.specs.Laws.{OpLiteralsAre, PlanLiteralsAre}
 use Rattle.pig_plan.specs.Nodes.{inputs_of, is_live, is_store, is_used, names}
 use Rattle.pig_plan.specs.Operators.{load_rows}

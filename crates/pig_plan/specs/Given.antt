@@ -1,6 +1,6 @@
 -- What nodes give, kept beside them, as the kinds that it is.
-use Rattle.std.specs.Prelude.{ℕ, List, map, Option, Some, None}
-use Rattle.pig_value.specs.Trees.{KindTree, kind_tree}
+use Rattle.std.specs.Prelude.{List, map, Option, Some, None}
+use Rattle.pig_value.specs.Trees.{kind_tree}
 use Rattle.pig_plan.specs.NodeKinds.{Before, KeyedKinds, RowKinds}
 use Rattle.pig_plan.specs.Results.{at_place}
 use Rattle.pig_plan.specs.declared.given.Given.{Given}

@@ -1,5 +1,5 @@
 -- What a plan means over inputs: the rows of each node, and which rows a bare LIMIT may have kept.
-use Rattle.std.specs.Prelude.{◌≡◌, ◌≤◌, IsTrue, false, ℕ, ◌==◌, Bool, List, [], ◌∷◌, map, length, min, Option, Some, slice_get}
+use Rattle.std.specs.Prelude.{◌≡◌, ◌≤◌, IsTrue, false, ℕ, ◌==◌, List, [], map, length, min, Some, slice_get}
 use Rattle.std.specs.List.{find}
 use Rattle.std.specs.List.Sorted.{IsPermutation}
 use Rattle.std.specs.Option.{option_map_or}
@@ -9,9 +9,9 @@ use Rattle.pig_value.specs.Orders.{row_cmp}
 use Rattle.pig_value.specs.Sorts.{times}
 use Rattle.pig_value.specs.Trees.{Tree, rows_tree}
 use Rattle.pig_plan.specs.NodeKinds.{kinds_at}
-use Rattle.pig_plan.specs.Nodes.{bare_limits, is_bare, is_list, is_live, is_sorted}
+use Rattle.pig_plan.specs.Nodes.{bare_limits, is_live, is_sorted}
 use Rattle.pig_plan.specs.Operators.{Setting, operator_rows}
-use Rattle.pig_plan.specs.Plans.{Keyed, Plan, PlanNode, PlanOp, p_load, p_filter, p_foreach, p_group_all, p_group, p_join, p_union, p_distinct, p_order, p_limit, p_store, p_assert, p_rank}
+use Rattle.pig_plan.specs.Plans.{Plan, p_limit}
 use Rattle.pig_plan.specs.Results.{result_at}
 
 -- the rows that were kept at a statement

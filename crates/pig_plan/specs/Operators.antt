@@ -2,8 +2,8 @@
 -- sorted one.
 -- (Pig Latin Basics: "Relational Operators". That an empty GROUP ALL gives no row, that null keys of several inputs group apart also
 -- where a part of the key is null, and how ties of ORDER go are choices of this profile.)
-use Rattle.std.specs.Prelude.{ℕ, pos, ◌+◌, ◌==◌, Bool, true, false, List, [], ◌∷◌, ◌++◌, map, length, take, codes, bytes_eq, if◌then◌else◌}
-use Rattle.std.specs.List.{filter, find, flat_map, range_with_len, zip}
+use Rattle.std.specs.Prelude.{ℕ, pos, ◌+◌, Bool, List, [], ◌∷◌, ◌++◌, map, length, take, codes, bytes_eq, if◌then◌else◌}
+use Rattle.std.specs.List.{filter, find, flat_map}
 use Rattle.std.specs.Option.{option_map_or}
 use Rattle.std.specs.Ordering.{is_lt, ordering_then}
 use Rattle.std.specs.declared.cmp.Ordering.{Ordering}
@@ -12,19 +12,18 @@ use Rattle.pig_value.specs.declared.inputs.Column.{Column}
 use Rattle.pig_value.specs.declared.inputs.Input.{Input}
 use Rattle.pig_value.specs.declared.operators.Side.{Side}
 use Rattle.pig_value.specs.declared.operators.Side.TheVariants as side
-use Rattle.pig_value.specs.declared.outcomes.Kept.{Kept}
 use Rattle.pig_value.specs.FieldRows.{row_of}
-use Rattle.pig_value.specs.Functions.{length_of, long_of}
+use Rattle.pig_value.specs.Functions.{long_of}
 use Rattle.pig_value.specs.Lines.{lines}
 use Rattle.pig_value.specs.Orders.{dir_cmp, row_cmp, bag_of}
 use Rattle.pig_value.specs.Sorts.{sort, distinct}
-use Rattle.pig_value.specs.Trees.{Tree, v_chars, rows_tree}
+use Rattle.pig_value.specs.Trees.{Tree, v_chars}
 use Rattle.pig_typed.specs.declared.blocks.SortKey.{SortKey}
 use Rattle.pig_typed.specs.Blocks.{foreach_all, keys_cmp}
 use Rattle.pig_typed.specs.Evaluation.{ev, passes}
 use Rattle.pig_value.specs.Trees.{at}
 use Rattle.pig_typed.specs.Typed.{Typed}
-use Rattle.pig_plan.specs.Plans.{Keyed, Plan, PlanNode, PlanOp, p_load, p_filter, p_foreach, p_group_all, p_group, p_join, p_union, p_distinct, p_order, p_limit, p_store, p_assert, p_rank}
+use Rattle.pig_plan.specs.Plans.{Keyed, PlanOp, p_load, p_filter, p_foreach, p_group_all, p_group, p_join, p_union, p_distinct, p_order, p_limit, p_store, p_assert, p_rank}
 use Rattle.pig_plan.specs.ByKey.{Entry, cogroup_of, entries_of_input, gathered, group_of, join_of, key_of, outer_of}
 
 -- ---- rows by rows

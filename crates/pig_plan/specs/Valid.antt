@@ -1,10 +1,10 @@
 -- Which lists of nodes are plans: each node is valid behind those before it.
-use Rattle.std.specs.Prelude.{◌≡◌, ℕ, ◌==◌, Bool, true, false, not, ◌&&◌, ◌||◌, List, map, take, Some, slice_get}
+use Rattle.std.specs.Prelude.{◌≡◌, ℕ, ◌==◌, Bool, true, false, not, ◌&&◌, List, take, Some, slice_get}
 use Rattle.std.specs.List.{list_any}
 use Rattle.std.specs.Option.{is_some}
 use Rattle.pig_plan.specs.Written.{block_writes_lf, writes_lf}
 use Rattle.pig_plan.specs.NodeKinds.{kinds_at, node_gives}
-use Rattle.pig_plan.specs.Plans.{Keyed, Plan, PlanNode, PlanOp, p_load, p_filter, p_foreach, p_group_all, p_group, p_join, p_union, p_distinct, p_order, p_limit, p_store, p_assert, p_rank}
+use Rattle.pig_plan.specs.Plans.{Keyed, Plan, PlanNode, PlanOp, p_filter, p_foreach, p_group, p_join, p_limit, p_assert}
 
 -- a text that is written out in the node's expressions holds a line end
 abbrev pub keys_write_lf : List Keyed → Bool

@@ -8,6 +8,7 @@ mod laws;
 mod literals;
 mod nodes;
 mod plan;
+mod valued;
 mod written;
 
 pub use laws::{

@@ -6,11 +6,14 @@ ghost use Rattle.pig_plan.specs.Given.{before_of, given_kinds};
 ghost use Rattle.pig_plan.specs.NodeKinds.{kinds_at, node_gives};
 ghost use Rattle.pig_plan.specs.declared.given.Given.{Given};
 ghost use Rattle.pig_plan.specs.Plans.{node_of, op_of, plan_of};
-ghost use Rattle.pig_plan.specs.Valid.{are_twins, fits, is_twin};
+ghost use Rattle.pig_plan.specs.Laws.{PlanLiteralsAre};
+ghost use Rattle.pig_plan.specs.Valid.{IsPlan, are_twins, fits, is_twin};
+ghost use Rattle.pig_value.specs.Valid.{IsValue};
 
 use crate::checking::given;
 use crate::given::{Given, rows_before};
 use crate::literals::op_writes_line_end;
+use crate::valued::know_literals;
 use crate::{Node, NodeOp, Nodes};
 use pig_value::Kinds;
 use std::alloc::{AllocError, Global};
@@ -33,7 +36,9 @@ impl Model for Plan {
     ghost use Rattle.pig_value.specs.contracts.values.Kind as kind;
     ghost use Rattle.pig_typed.specs.contracts.exprs.TExpr as expr;
     ghost use Rattle.pig_plan.specs.Given.{given_kinds};
+    ghost use Rattle.pig_plan.specs.Laws.{PlanLiteralsAre};
     ghost use Rattle.pig_plan.specs.NodeKinds.{kinds_table};
+    ghost use Rattle.pig_value.specs.Valid.{IsValue};
     ghost use Rattle.pig_plan.specs.Plans.{plan_of};
     ghost use Rattle.pig_plan.specs.Valid.{IsPlan};
     ghost use Rattle.pig_plan.specs.declared.nodes.Node.{Node};
@@ -44,7 +49,8 @@ impl Model for Plan {
 
     ghost view = { λ p. p.nodes };
 
-    ghost invariant = { λ p. IsPlan (plan_of p.nodes) × (map given_kinds p.given.items ≡ kinds_table (plan_of p.nodes)) };
+    ghost invariant = { λ p. IsPlan (plan_of p.nodes) × (map given_kinds p.given.items ≡ kinds_table (plan_of p.nodes))
+        × PlanLiteralsAre IsValue (plan_of p.nodes) };
 }
 
 impl Plan {
@@ -59,9 +65,11 @@ impl Plan {
         }
     }
 
-    /// The nodes, each numbered by its place.
+    /// The nodes, each numbered by its place. What they write out are values.
     pub fn nodes(&self) -> &Nodes
-        ensures { result.now ≡ self.now }
+        ensures nodes { result.now ≡ self.now }
+        ensures valid { IsPlan (plan_of self.now) }
+        ensures literals { PlanLiteralsAre IsValue (plan_of self.now) }
     {
         &self.nodes
     }
@@ -99,6 +107,7 @@ impl Plan {
         ensures number { IfOk result (λ n. n ≡ length self.old) }
         ensures err { OnErr result (self.new ≡ self.old) }
     {
+        know_literals(&node.op);
         let number = give(self.alloc, self.nodes.len(), &mut self.given, &node.op)?;
         push_or_take_back(&mut self.nodes, &mut self.given, node)?;
         Ok(number)

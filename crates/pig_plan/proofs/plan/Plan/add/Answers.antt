@@ -1,6 +1,10 @@
-use Rattle.std.proofs.Common.{◌≡◌, ◌∙◌, ap, map, subst, sym, true}
+use Rattle.std.proofs.Common.{◌≡◌, ◌∙◌, [], ◌∷◌, ap, map, subst, sym, true}
+use Rattle.std.proofs.lemmas.List.{map-append}
 use Rattle.pig_plan.proofs.Grows.{grown_plan, grown_table}
+use Rattle.pig_value.proofs.list_laws.Listing.{each-append}
+use Rattle.pig_value.specs.Valid.{IsValue}
 use Rattle.pig_plan.specs.Given.{given_kinds}
+use Rattle.pig_plan.specs.Laws.{OpLiteralsAre, PlanLiteralsAre}
 use Rattle.pig_plan.specs.NodeKinds.{kinds_table}
 use Rattle.pig_plan.specs.Plans.{node_of, plan_of}
 use Rattle.pig_plan.specs.Valid.{IsPlan, fits}
@@ -14,4 +18,7 @@ invariant_of-self-2 c =
     let table = ap (map given_kinds) pushed.1 ∙ c.in_ok-number.ensures.ok
     ∙ grown_table c.self.inside.nodes c.args.node (map given_kinds c.self.inside.given.items) c.self.invariant.1
     ∙ ap (λ ns. kinds_table (plan_of ns)) (sym pushed.0) in
-    (whole, table)
+    let literals = subst (λ ns. PlanLiteralsAre IsValue (plan_of ns)) (sym pushed.0)
+    (rw (map-append node_of c.self.inside.nodes (c.args.node ∷ []))
+    (each-append (λ node. OpLiteralsAre IsValue node.op) (plan_of c.self.inside.nodes) (node_of c.args.node ∷ []) c.self.invariant.2 (c.know_literals.ensures, tt))) in
+    (whole, table, literals)
