@@ -1,7 +1,7 @@
 ghost use Rattle.std.specs.Prelude.{◌≡◌, [], ◌∷◌, IfOk, IfSome, length, map, option_map};
-ghost use Rattle.pig_exprs.specs.Grammar.{Forms, chain_op, rel_of, literal_of};
+ghost use Rattle.pig_exprs.specs.Grammar.{Forms, chain_op, rel_of, token_literal};
 ghost use Rattle.pig_exprs.specs.Nests.{Nests};
-ghost use Rattle.pig_exprs.specs.Reader.{forms, Gives, Leaves};
+ghost use Rattle.pig_exprs.specs.Reader.{forms, Gives, GivesRest};
 ghost use Rattle.pig_exprs.specs.ExprReader.{both_at, level_of, chain_of, link_turn, chain_at, post_turn, post_of, colon, paren_after, call_at, simple_at, prim_at, post_at, begins_type, is_type_word, cast_at, casted_at, unary_at, term_at, sum_at, null_test, rel_ahead, comp_after, comp_at, neg_at, conj_at, expr_with, expr_at};
 
 use crate::names::{field_ref, selection};
@@ -140,7 +140,7 @@ fn comparison_ahead(tokens: &[Token]) -> Option<(Rel, &[Token])>
 
 // The literal that a token is.
 fn literal(alloc: Global, token: &Token) -> Result<Option<Expr>, AllocError>
-    ensures { IfOk result (λ found. found ≡ literal_of token.now.form) }
+    ensures { IfOk result (λ found. found ≡ token_literal token.now.form) }
 {
     match &token.form {
         TokenForm::Int(number) => Ok(Some(Expr::Int(*number))),
@@ -272,7 +272,7 @@ impl Turning for Stepping {
 // The tokens behind a `:`.
 #[tactic(auto, unfolding(crate::specs::ExprReader::colon))]
 fn colon(tokens: &[Token]) -> Result<&[Token], ParseFault>
-    ensures { Leaves (colon (forms tokens.now)) result }
+    ensures { GivesRest (colon (forms tokens.now)) result }
 {
     match tokens {
         [

@@ -1,6 +1,6 @@
 ghost use Rattle.std.specs.Prelude.{◌≡◌, [], ◌∷◌, ◌++◌, ℕ, Option, IfOk, length};
 ghost use Rattle.pig_exprs.specs.Grammar.{Forms};
-ghost use Rattle.pig_exprs.specs.Reader.{Found, Turn, forms, Gives, Turns, Leaves, repeat, comma_turn, listed, close_paren, close_brace, close_bracket};
+ghost use Rattle.pig_exprs.specs.Reader.{FoundPart, Turn, forms, Gives, Turns, GivesRest, repeat, comma_turn, listed, close_paren, close_brace, close_bracket};
 
 use pig_syntax::{Symbol, Token, TokenForm};
 use pig_value::Seq;
@@ -33,7 +33,7 @@ pub trait Rule {
     ghost ready: { Self → Type 0 };
 
     /// What it finds.
-    ghost finds: { Self → Forms → Found Self.Tree };
+    ghost finds: { Self → Forms → FoundPart Self.Tree };
 
     /// Reads a tree from the front of the tokens.
     fn read<'a>(&self, tokens: &'a [Token]) -> Result<(Self::Tree, &'a [Token]), ParseFault>
@@ -149,7 +149,7 @@ pub fn listed<'a, R: Rule>(
 /// The tokens behind a `)`.
 #[tactic(auto, unfolding(crate::specs::Reader::close_paren))]
 pub fn close_paren(tokens: &[Token]) -> Result<&[Token], ParseFault>
-    ensures { Leaves (close_paren (forms tokens.now)) result }
+    ensures { GivesRest (close_paren (forms tokens.now)) result }
 {
     match tokens {
         [
@@ -166,7 +166,7 @@ pub fn close_paren(tokens: &[Token]) -> Result<&[Token], ParseFault>
 /// The tokens behind a `}`.
 #[tactic(auto, unfolding(crate::specs::Reader::close_brace))]
 pub fn close_brace(tokens: &[Token]) -> Result<&[Token], ParseFault>
-    ensures { Leaves (close_brace (forms tokens.now)) result }
+    ensures { GivesRest (close_brace (forms tokens.now)) result }
 {
     match tokens {
         [
@@ -183,7 +183,7 @@ pub fn close_brace(tokens: &[Token]) -> Result<&[Token], ParseFault>
 /// The tokens behind a `]`.
 #[tactic(auto, unfolding(crate::specs::Reader::close_bracket))]
 pub fn close_bracket(tokens: &[Token]) -> Result<&[Token], ParseFault>
-    ensures { Leaves (close_bracket (forms tokens.now)) result }
+    ensures { GivesRest (close_bracket (forms tokens.now)) result }
 {
     match tokens {
         [

@@ -1,9 +1,9 @@
 ghost use Rattle.std.specs.Prelude.{◌≡◌, [], ◌∷◌, Some, IfOk, length, map, option_map};
 ghost use Rattle.pig_exprs.specs.Grammar.{Forms};
 ghost use Rattle.pig_parser.specs.Statements.{count_of};
-ghost use Rattle.pig_exprs.specs.Reader.{forms, Gives, Leaves};
+ghost use Rattle.pig_exprs.specs.Reader.{forms, Gives, GivesRest};
 ghost use Rattle.pig_exprs.specs.ExprReader.{expr_at};
-ghost use Rattle.pig_parser.specs.StatementReader.{Tells, comma, semicolon, as_word, by_word, several, key_list_at, keys_at, dir_at, order_field_at, order_keys_at, text_at, ident_at, func_at, using_func_at, using_text_at, after_parallel, count_at};
+ghost use Rattle.pig_parser.specs.StatementReader.{GivesFound, comma, semicolon, as_word, by_word, several, key_list_at, keys_at, dir_at, order_field_at, order_keys_at, text_at, ident_at, func_at, using_func_at, using_text_at, after_parallel, count_at};
 
 use pig_exprs::{ParseFault, Rule, close_paren, expression, field_ref, listed, one};
 use pig_syntax::{
@@ -15,7 +15,7 @@ use std::alloc::Global;
 /// The tokens behind a `,`.
 #[tactic(auto, unfolding(crate::specs::StatementReader::comma))]
 pub fn comma(tokens: &[Token]) -> Result<&[Token], ParseFault>
-    ensures { Leaves (comma (forms tokens.now)) result }
+    ensures { GivesRest (comma (forms tokens.now)) result }
 {
     match tokens {
         [
@@ -32,7 +32,7 @@ pub fn comma(tokens: &[Token]) -> Result<&[Token], ParseFault>
 /// The tokens behind a `;`.
 #[tactic(auto, unfolding(crate::specs::StatementReader::semicolon))]
 pub fn semicolon(tokens: &[Token]) -> Result<&[Token], ParseFault>
-    ensures { Leaves (semicolon (forms tokens.now)) result }
+    ensures { GivesRest (semicolon (forms tokens.now)) result }
 {
     match tokens {
         [
@@ -49,7 +49,7 @@ pub fn semicolon(tokens: &[Token]) -> Result<&[Token], ParseFault>
 /// The tokens behind AS.
 #[tactic(auto, unfolding(crate::specs::StatementReader::as_word))]
 pub fn as_word(tokens: &[Token]) -> Result<&[Token], ParseFault>
-    ensures { Leaves (as_word (forms tokens.now)) result }
+    ensures { GivesRest (as_word (forms tokens.now)) result }
 {
     match tokens {
         [
@@ -66,7 +66,7 @@ pub fn as_word(tokens: &[Token]) -> Result<&[Token], ParseFault>
 /// The tokens behind BY.
 #[tactic(auto, unfolding(crate::specs::StatementReader::by_word))]
 pub fn by_word(tokens: &[Token]) -> Result<&[Token], ParseFault>
-    ensures { Leaves (by_word (forms tokens.now)) result }
+    ensures { GivesRest (by_word (forms tokens.now)) result }
 {
     match tokens {
         [
@@ -83,7 +83,7 @@ pub fn by_word(tokens: &[Token]) -> Result<&[Token], ParseFault>
 /// The members, where they are two at least.
 #[tactic(auto, unfolding(crate::specs::StatementReader::several))]
 pub fn several<T: Drop>(members: Seq<T>) -> Result<Seq<T>, ParseFault>
-    ensures { Tells (several members) result }
+    ensures { GivesFound (several members) result }
 {
     match members.as_slice() {
         [_first, _second, _others @ ..] => Ok(members),
