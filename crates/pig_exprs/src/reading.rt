@@ -1,6 +1,6 @@
 ghost use Rattle.std.specs.Prelude.{◌≡◌, [], ◌∷◌, ◌++◌, ℕ, Option, IfOk, length};
 ghost use Rattle.pig_exprs.specs.Grammar.{Forms};
-ghost use Rattle.pig_exprs.specs.Reader.{FoundPart, Turn, forms, Gives, Turns, GivesRest, repeat, comma_turn, listed, close_paren, close_brace, close_bracket};
+ghost use Rattle.pig_exprs.specs.Reader.{FoundPart, Turn, forms, Gives, GivesBeside, GivesKept, Turns, GivesRest, repeat, comma_turn, listed, close_paren, close_brace, close_bracket};
 
 use pig_syntax::{Symbol, Token, TokenForm};
 use pig_value::Seq;
@@ -161,6 +161,47 @@ pub fn close_paren(tokens: &[Token]) -> Result<&[Token], ParseFault>
         ] => Ok(rest),
         _ => Err(ParseFault::Off),
     }
+}
+
+/// Drops what is not wanted.
+pub fn discard<T: Drop>(_unwanted: T) {}
+
+/// What is kept, where a `)` stands there.
+///
+/// A reader of several parts hands on here what has to wait, so that it drops no tree itself: dropping one of
+/// any type is cheap to prove, and dropping a tree is not.
+pub fn closed<T: Drop>(kept: T, tokens: &[Token]) -> Result<(T, &[Token]), ParseFault>
+    ensures { GivesKept kept (close_paren (forms tokens.now)) result }
+{
+    let rest = close_paren(tokens)?;
+    Ok((kept, rest))
+}
+
+/// What is kept, and what a rule reads.
+pub fn beside<'a, T: Drop, R: Rule>(
+    kept: T,
+    rule: &R,
+    tokens: &'a [Token],
+) -> Result<((T, R::Tree), &'a [Token]), ParseFault>
+    requires { R.ready rule.now }
+    ensures { GivesBeside kept (R.finds rule.now (forms tokens.now)) result }
+{
+    let (next, rest) = rule.read(tokens)?;
+    Ok(((kept, next), rest))
+}
+
+/// What is kept, and the elements of a list.
+pub fn before<'a, K: Drop, T: Turning>(
+    kept: K,
+    turning: &T,
+    found: Seq<T::Tree>,
+    tokens: &'a [Token],
+) -> Result<((K, Seq<T::Tree>), &'a [Token]), ParseFault>
+    requires { T.ready turning.now }
+    ensures { GivesBeside kept (repeat (T.finds turning.now) (length tokens.now) found (forms tokens.now)) result }
+{
+    let (elements, rest) = repeat(turning, found, tokens)?;
+    Ok(((kept, elements), rest))
 }
 
 /// The tokens behind a `}`.

@@ -418,7 +418,7 @@ fn order(alloc: Global, tokens: &[Token]) -> Result<(Op, &[Token]), ParseFault>
             rest @ ..,
         ] => {
             let from = name.copy(alloc)?;
-            let (keys, rest) = order_keys(alloc, rest)?;
+            let ((from, keys), rest) = order_keys(alloc, from, rest)?;
             Ok((Op::Order { from, keys }, after_parallel(rest)))
         }
         _ => Err(ParseFault::Off),
@@ -439,7 +439,7 @@ fn limit(alloc: Global, tokens: &[Token]) -> Result<(Op, &[Token]), ParseFault>
             rest @ ..,
         ] => {
             let from = name.copy(alloc)?;
-            let (count, rest) = count(rest)?;
+            let ((from, count), rest) = count(from, rest)?;
             Ok((Op::Limit { from, count }, rest))
         }
         _ => Err(ParseFault::Off),

@@ -1,11 +1,11 @@
 ghost use Rattle.std.specs.Prelude.{◌≡◌, [], ◌∷◌, Some, IfOk, length, map, option_map};
 ghost use Rattle.pig_exprs.specs.Grammar.{Forms};
 ghost use Rattle.pig_parser.specs.Statements.{count_of};
-ghost use Rattle.pig_exprs.specs.Reader.{forms, Gives, GivesRest};
+ghost use Rattle.pig_exprs.specs.Reader.{forms, Gives, GivesBeside, GivesRest};
 ghost use Rattle.pig_exprs.specs.ExprReader.{expr_at};
 ghost use Rattle.pig_parser.specs.StatementReader.{GivesFound, comma, semicolon, as_word, by_word, several, key_list_at, keys_at, dir_at, order_field_at, order_keys_at, text_at, ident_at, func_at, using_func_at, using_text_at, after_parallel, count_at};
 
-use pig_exprs::{ParseFault, Rule, close_paren, expression, field_ref, listed, one};
+use pig_exprs::{ParseFault, Rule, close_paren, closed, expression, field_ref, listed, one};
 use pig_syntax::{
     Expr, Exprs, Func, Keyword, OrderField, OrderKeys, Symbol, Texts, Token, TokenForm,
 };
@@ -91,10 +91,10 @@ pub fn several<T: Drop>(members: Seq<T>) -> Result<Seq<T>, ParseFault>
     }
 }
 
-// Expressions as members of a list.
+/// Expressions as members of a list.
 #[derive(Drop)]
-struct ExpressionRule {
-    alloc: Global,
+pub struct ExpressionRule {
+    pub alloc: Global,
 }
 
 impl Rule for ExpressionRule {
@@ -124,7 +124,7 @@ fn key_list(alloc: Global, tokens: &[Token]) -> Result<(Exprs, &[Token]), ParseF
         ] => {
             let (keys, rest) = listed(alloc, &ExpressionRule { alloc }, rest)?;
             let keys = several(keys)?;
-            let rest = close_paren(rest)?;
+            let (keys, rest) = closed(keys, rest)?;
             Ok((keys, rest))
         }
         _ => Err(ParseFault::Off),
@@ -192,10 +192,14 @@ impl Rule for OrderFieldRule {
     }
 }
 
-/// The keys of an ORDER.
+/// What is kept, and the keys of an ORDER.
 #[tactic(auto, unfolding(crate::specs::StatementReader::order_keys_at))]
-pub fn order_keys(alloc: Global, tokens: &[Token]) -> Result<(OrderKeys, &[Token]), ParseFault>
-    ensures { Gives (order_keys_at (forms tokens.now)) result }
+pub fn order_keys<K: Drop>(
+    alloc: Global,
+    kept: K,
+    tokens: &[Token],
+) -> Result<((K, OrderKeys), &[Token]), ParseFault>
+    ensures { GivesBeside kept (order_keys_at (forms tokens.now)) result }
 {
     match tokens {
         [
@@ -206,11 +210,11 @@ pub fn order_keys(alloc: Global, tokens: &[Token]) -> Result<(OrderKeys, &[Token
             rest @ ..,
         ] => {
             let (dir, rest) = dir(rest);
-            Ok((OrderKeys::All(dir), rest))
+            Ok(((kept, OrderKeys::All(dir)), rest))
         }
         _ => {
             let (fields, rest) = listed(alloc, &OrderFieldRule { alloc }, tokens)?;
-            Ok((OrderKeys::Fields(fields), rest))
+            Ok(((kept, OrderKeys::Fields(fields)), rest))
         }
     }
 }
@@ -398,14 +402,14 @@ fn count_of(token: &Token) -> Option<u64>
     }
 }
 
-/// A count of tuples.
+/// What is kept, and a count of tuples.
 #[tactic(auto, unfolding(crate::specs::StatementReader::count_at))]
-pub fn count(tokens: &[Token]) -> Result<(u64, &[Token]), ParseFault>
-    ensures { Gives (count_at (forms tokens.now)) result }
+pub fn count<K: Drop>(kept: K, tokens: &[Token]) -> Result<((K, u64), &[Token]), ParseFault>
+    ensures { GivesBeside kept (count_at (forms tokens.now)) result }
 {
     match tokens {
         [first, rest @ ..] => match count_of(first) {
-            Some(count) => Ok((count, rest)),
+            Some(count) => Ok(((kept, count), rest)),
             None => Err(ParseFault::Off),
         },
         _ => Err(ParseFault::Off),

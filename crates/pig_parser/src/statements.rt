@@ -6,7 +6,7 @@ ghost use Rattle.pig_parser.specs.StatementReader.{GivesFound, branch_with, bran
 
 use crate::operators::operator;
 use crate::parts::using_func;
-use pig_exprs::{ParseFault, Turning, expression, one, repeat};
+use pig_exprs::{ParseFault, Turning, discard, expression, one, repeat};
 use pig_syntax::{Branch, Branches, Keyword, Stmt, Symbol, Token, TokenForm};
 use pig_value::Text;
 use std::alloc::Global;
@@ -288,7 +288,10 @@ fn ended(tree: Stmt, rest: &[Token]) -> Result<Stmt, ParseFault>
 {
     match rest {
         [] => Ok(tree),
-        _ => Err(ParseFault::Off),
+        _ => {
+            discard(tree);
+            Err(ParseFault::Off)
+        }
     }
 }
 
