@@ -1,11 +1,13 @@
 ghost use Rattle.std.specs.Prelude.{◌≡◌, [], ◌∷◌, IfOk, IfSome, length, map, option_map};
 ghost use Rattle.pig_exprs.specs.Grammar.{Forms, chain_op, rel_of, token_literal};
 ghost use Rattle.pig_exprs.specs.Nests.{Nests};
-ghost use Rattle.pig_exprs.specs.Reader.{forms, Gives, GivesBeside, GivesKept, GivesRest};
+ghost use Rattle.pig_exprs.specs.Reader.{forms, Gives, GivesBeside, GivesBehind, GivesRest};
 ghost use Rattle.pig_exprs.specs.ExprReader.{both_at, level_of, chain_of, link_turn, chain_at, post_turn, post_of, colon, paren_after, call_at, simple_at, prim_at, post_at, begins_type, is_type_word, cast_at, casted_at, unary_at, term_at, sum_at, null_test, rel_ahead, comp_after, comp_at, neg_at, conj_at, expr_with, expr_at};
 
 use crate::names::{field_ref, selection};
-use crate::reading::{ParseFault, Rule, Turning, before, beside, closed, discard, listed, repeat};
+use crate::reading::{
+    ParseFault, Rule, Turning, before, beside, close_paren, closed, discard, listed, repeat,
+};
 use crate::types::cast_type;
 use pig_syntax::{
     Expr, Exprs, Keyword, Link, Links, PostStep, PostSteps, Symbol, Token, TokenForm,
@@ -289,7 +291,8 @@ fn colon(tokens: &[Token]) -> Result<&[Token], ParseFault>
 
 // What is kept, where a `:` stands there.
 fn behind_colon<T: Drop>(kept: T, tokens: &[Token]) -> Result<(T, &[Token]), ParseFault>
-    ensures { GivesKept kept (colon (forms tokens.now)) result }
+    ensures kept { IfOk result (λ r. r.0 ≡ kept) }
+    ensures rest { GivesBehind (colon (forms tokens.now)) result }
 {
     let rest = colon(tokens)?;
     Ok((kept, rest))
@@ -483,7 +486,8 @@ impl<R: Rule<Tree = Expr>> Grammar<R> {
         tokens: &'a [Token],
     ) -> Result<((K, (Expr, Expr)), &'a [Token]), ParseFault>
         requires { R.ready self.now.inner }
-        ensures { GivesBeside kept (both_at (R.finds self.now.inner) (forms tokens.now)) result }
+        ensures kept { IfOk result (λ r. r.0.0 ≡ kept) }
+        ensures found { GivesBeside (both_at (R.finds self.now.inner) (forms tokens.now)) result }
     {
         let (left, rest) = self.inner.read(tokens)?;
         let (left, rest) = behind_colon(left, rest)?;
@@ -544,7 +548,7 @@ impl<R: Rule<Tree = Expr>> Grammar<R> {
             }
             _ => {
                 let (args, rest) = listed(self.alloc, &self.inner, tokens)?;
-                let (args, rest) = closed(args, rest)?;
+                let rest = close_paren(rest)?;
                 let name = name.copy(self.alloc)?;
                 Ok((Expr::Call { name, args }, rest))
             }
@@ -604,7 +608,8 @@ impl<R: Rule<Tree = Expr>> Grammar<R> {
         rest: &'a [Token],
     ) -> Result<((K, Boxed<Expr>), &'a [Token]), ParseFault>
         requires { R.ready self.now.inner }
-        ensures { GivesBeside kept (post_at (R.finds self.now.inner) (forms rest.now)) result }
+        ensures kept { IfOk result (λ r. r.0.0 ≡ kept) }
+        ensures found { GivesBeside (post_at (R.finds self.now.inner) (forms rest.now)) result }
     {
         let (a, rest) = self.post(rest)?;
         let a = Boxed::new(self.alloc, a)?;
@@ -699,7 +704,8 @@ impl<R: Rule<Tree = Expr>> Grammar<R> {
         tokens: &'a [Token],
     ) -> Result<((K, Expr), &'a [Token]), ParseFault>
         requires { R.ready self.now.inner }
-        ensures { GivesBeside kept (sum_at 65 (R.finds self.now.inner) (forms tokens.now)) result }
+        ensures kept { IfOk result (λ r. r.0.0 ≡ kept) }
+        ensures found { GivesBeside (sum_at 65 (R.finds self.now.inner) (forms tokens.now)) result }
     {
         let (sum, rest) = self.sum(tokens)?;
         Ok(((kept, sum), rest))

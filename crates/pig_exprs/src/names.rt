@@ -2,7 +2,7 @@ ghost use Rattle.std.specs.Prelude.{◌≡◌, [], ◌∷◌, ◌++◌, true, co
 ghost use Rattle.pig_exprs.specs.Grammar.{Forms, part_of};
 ghost use Rattle.pig_exprs.specs.Reader.{forms, Gives, joined_name, part_turn, name_at, field_ref_at, selection_at, close_paren};
 
-use crate::reading::{ParseFault, Rule, Turning, closed, listed, one, repeat};
+use crate::reading::{ParseFault, Rule, Turning, close_paren, listed, one, repeat};
 use pig_syntax::{FieldRef, Keyword, PostStep, Symbol, Token, TokenForm};
 use pig_value::{Seq, Text};
 use std::alloc::{AllocError, Global};
@@ -20,7 +20,8 @@ fn part(token: &Token) -> Option<&str>
 
 // The name with one more part.
 fn with_part(name: String, part: &str) -> Result<String, AllocError>
-    ensures { IfOk result (λ longer. string_bytes longer ≡ string_bytes name ++ codes "::" ++ part.now) }
+    ensures { IfOk result (λ longer.
+        string_bytes longer ≡ string_bytes name ++ codes "::" ++ part.now) }
 {
     let mut name = name;
     name.push_str("::")?;
@@ -147,7 +148,7 @@ pub fn selection(alloc: Global, tokens: &[Token]) -> Result<(PostStep, &[Token])
             rest @ ..,
         ] => {
             let (fields, rest) = listed(alloc, &FieldRefRule { alloc }, rest)?;
-            let (fields, rest) = closed(fields, rest)?;
+            let rest = close_paren(rest)?;
             let single = false;
             Ok((PostStep::Project { fields, single }, rest))
         }

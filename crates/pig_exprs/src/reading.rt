@@ -1,6 +1,6 @@
 ghost use Rattle.std.specs.Prelude.{◌≡◌, [], ◌∷◌, ◌++◌, ℕ, Option, IfOk, length};
 ghost use Rattle.pig_exprs.specs.Grammar.{Forms};
-ghost use Rattle.pig_exprs.specs.Reader.{FoundPart, Turn, forms, Gives, GivesBeside, GivesKept, Turns, GivesRest, repeat, comma_turn, listed, close_paren, close_brace, close_bracket};
+ghost use Rattle.pig_exprs.specs.Reader.{FoundPart, Turn, forms, Gives, GivesBeside, GivesBehind, Turns, GivesRest, repeat, comma_turn, listed, close_paren, close_brace, close_bracket};
 
 use pig_syntax::{Symbol, Token, TokenForm};
 use pig_value::Seq;
@@ -113,7 +113,8 @@ pub fn repeat<'a, T: Turning>(
     tokens: &'a [Token],
 ) -> Result<(Seq<T::Tree>, &'a [Token]), ParseFault>
     requires { T.ready turning.now }
-    ensures { Gives (repeat (T.finds turning.now) (length tokens.now) found (forms tokens.now)) result }
+    ensures { Gives
+        (repeat (T.finds turning.now) (length tokens.now) found (forms tokens.now)) result }
 {
     let mut found = found;
     let mut rest = tokens;
@@ -171,7 +172,8 @@ pub fn discard<T: Drop>(_unwanted: T) {}
 /// A reader of several parts hands on here what has to wait, so that it drops no tree itself: dropping one of
 /// any type is cheap to prove, and dropping a tree is not.
 pub fn closed<T: Drop>(kept: T, tokens: &[Token]) -> Result<(T, &[Token]), ParseFault>
-    ensures { GivesKept kept (close_paren (forms tokens.now)) result }
+    ensures kept { IfOk result (λ r. r.0 ≡ kept) }
+    ensures rest { GivesBehind (close_paren (forms tokens.now)) result }
 {
     let rest = close_paren(tokens)?;
     Ok((kept, rest))
@@ -184,7 +186,8 @@ pub fn beside<'a, T: Drop, R: Rule>(
     tokens: &'a [Token],
 ) -> Result<((T, R::Tree), &'a [Token]), ParseFault>
     requires { R.ready rule.now }
-    ensures { GivesBeside kept (R.finds rule.now (forms tokens.now)) result }
+    ensures kept { IfOk result (λ r. r.0.0 ≡ kept) }
+    ensures found { GivesBeside (R.finds rule.now (forms tokens.now)) result }
 {
     let (next, rest) = rule.read(tokens)?;
     Ok(((kept, next), rest))
@@ -198,7 +201,9 @@ pub fn before<'a, K: Drop, T: Turning>(
     tokens: &'a [Token],
 ) -> Result<((K, Seq<T::Tree>), &'a [Token]), ParseFault>
     requires { T.ready turning.now }
-    ensures { GivesBeside kept (repeat (T.finds turning.now) (length tokens.now) found (forms tokens.now)) result }
+    ensures kept { IfOk result (λ r. r.0.0 ≡ kept) }
+    ensures found { GivesBeside
+        (repeat (T.finds turning.now) (length tokens.now) found (forms tokens.now)) result }
 {
     let (elements, rest) = repeat(turning, found, tokens)?;
     Ok(((kept, elements), rest))

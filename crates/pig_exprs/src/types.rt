@@ -1,9 +1,9 @@
 ghost use Rattle.std.specs.Prelude.{◌≡◌, [], ◌∷◌, IfOk, length, map, option_map};
 ghost use Rattle.pig_exprs.specs.Grammar.{Forms, scalar_of};
 ghost use Rattle.pig_exprs.specs.Nests.{Nests};
-ghost use Rattle.pig_exprs.specs.Reader.{forms, Gives, GivesKept, close_bracket, field_at, schema_at, tuple_at, bag_rows_at, bag_at, map_at, cast_type_with, type_with, type_at};
+ghost use Rattle.pig_exprs.specs.Reader.{forms, Gives, field_at, schema_at, tuple_at, bag_rows_at, bag_at, map_at, cast_type_with, type_with, type_at};
 
-use crate::reading::{ParseFault, Rule, close_brace, close_bracket, closed, listed};
+use crate::reading::{ParseFault, Rule, close_brace, close_bracket, close_paren, listed};
 use pig_syntax::{FieldTree, Fields, Keyword, Symbol, Token, TokenForm, TypeTree};
 use pig_value::Boxed;
 use std::alloc::Global;
@@ -34,14 +34,6 @@ impl<F: Fn(Global, &[Token], u32) -> Result<(TypeTree, &[Token]), ParseFault>> R
 pub struct TypeRules<R> {
     alloc: Global,
     inner: R,
-}
-
-// What is kept, where a `]` stands there.
-fn behind_bracket<K: Drop>(kept: K, tokens: &[Token]) -> Result<(K, &[Token]), ParseFault>
-    ensures { GivesKept kept (close_bracket (forms tokens.now)) result }
-{
-    let rest = close_bracket(tokens)?;
-    Ok((kept, rest))
 }
 
 // The type that a word names by itself.
@@ -84,8 +76,8 @@ impl<R: Rule<Tree = TypeTree>> Rule for TypeRules<R> {
                 },
                 rest @ ..,
             ] => {
-                let name = name.copy(self.alloc)?;
                 let (kind, rest) = self.inner.read(rest)?;
+                let name = name.copy(self.alloc)?;
                 let kind = Some(kind);
                 Ok((FieldTree { name, kind }, rest))
             }
@@ -120,7 +112,7 @@ impl<R: Rule<Tree = TypeTree>> TypeRules<R> {
                 rest @ ..,
             ] => {
                 let (fields, rest) = listed(self.alloc, self, rest)?;
-                let (fields, rest) = closed(fields, rest)?;
+                let rest = close_paren(rest)?;
                 Ok((fields, rest))
             }
             _ => Err(ParseFault::Off),
@@ -215,7 +207,7 @@ impl<R: Rule<Tree = TypeTree>> TypeRules<R> {
                 rest @ ..,
             ] => {
                 let (values, rest) = self.inner.read(rest)?;
-                let (values, rest) = behind_bracket(values, rest)?;
+                let rest = close_bracket(rest)?;
                 Ok((Some(values), rest))
             }
             _ => Err(ParseFault::Off),
@@ -225,7 +217,8 @@ impl<R: Rule<Tree = TypeTree>> TypeRules<R> {
     // The type of a map.
     fn map_type<'a>(&self, tokens: &'a [Token]) -> Result<(TypeTree, &'a [Token]), ParseFault>
         requires { R.ready self.now.inner }
-        ensures { Gives (option_map (λ p. (TypeTree.Map p.0, p.1)) (map_at (R.finds self.now.inner) (forms tokens.now))) result }
+        ensures { Gives (option_map (λ p. (TypeTree.Map p.0, p.1))
+            (map_at (R.finds self.now.inner) (forms tokens.now))) result }
     {
         let (values, rest) = self.map(tokens)?;
         match values {

@@ -1,6 +1,6 @@
-ghost use Rattle.std.specs.Prelude.{◌≡◌, [], ◌∷◌, length, map};
+ghost use Rattle.std.specs.Prelude.{◌≡◌, [], ◌∷◌, IfOk, length, map};
 ghost use Rattle.pig_exprs.specs.Grammar.{Forms};
-ghost use Rattle.pig_exprs.specs.Reader.{forms, Gives, GivesBeside, GivesKept};
+ghost use Rattle.pig_exprs.specs.Reader.{forms, Gives, GivesBeside, GivesBehind};
 ghost use Rattle.pig_parser.specs.StatementReader.{semicolon, by_word, names_at, naming_at, flattened_at, value_at, item_at, bag_selection_at, bag_ref_at, nested_filter_at, nested_order_at, nested_limit_at, nested_at, step_turn, steps_at};
 
 use crate::parts::{ExpressionRule, by_word, count, order_keys, semicolon};
@@ -62,7 +62,8 @@ fn and_naming<K: Drop>(
     kept: K,
     tokens: &[Token],
 ) -> Result<((K, Option<AsNames>), &[Token]), ParseFault>
-    ensures { GivesBeside kept (naming_at 65 (forms tokens.now)) result }
+    ensures kept { IfOk result (λ r. r.0.0 ≡ kept) }
+    ensures found { GivesBeside (naming_at 65 (forms tokens.now)) result }
 {
     let (names, rest) = naming(alloc, tokens)?;
     Ok(((kept, names), rest))
@@ -151,7 +152,8 @@ fn bag_selection<K: Drop>(
     kept: K,
     tokens: &[Token],
 ) -> Result<((K, Option<PostStep>), &[Token]), ParseFault>
-    ensures { GivesBeside kept (bag_selection_at (forms tokens.now)) result }
+    ensures kept { IfOk result (λ r. r.0.0 ≡ kept) }
+    ensures found { GivesBeside (bag_selection_at (forms tokens.now)) result }
 {
     match tokens {
         [
@@ -170,7 +172,8 @@ fn bag_selection<K: Drop>(
 
 // What is kept, where BY stands there.
 fn behind_by<K: Drop>(kept: K, tokens: &[Token]) -> Result<(K, &[Token]), ParseFault>
-    ensures { GivesKept kept (by_word (forms tokens.now)) result }
+    ensures kept { IfOk result (λ r. r.0 ≡ kept) }
+    ensures rest { GivesBehind (by_word (forms tokens.now)) result }
 {
     let rest = by_word(tokens)?;
     Ok((kept, rest))
@@ -178,7 +181,8 @@ fn behind_by<K: Drop>(kept: K, tokens: &[Token]) -> Result<(K, &[Token]), ParseF
 
 // What is kept, where a `;` stands there.
 fn behind_semicolon<K: Drop>(kept: K, tokens: &[Token]) -> Result<(K, &[Token]), ParseFault>
-    ensures { GivesKept kept (semicolon (forms tokens.now)) result }
+    ensures kept { IfOk result (λ r. r.0 ≡ kept) }
+    ensures rest { GivesBehind (semicolon (forms tokens.now)) result }
 {
     let rest = semicolon(tokens)?;
     Ok((kept, rest))

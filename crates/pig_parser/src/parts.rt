@@ -199,7 +199,8 @@ pub fn order_keys<K: Drop>(
     kept: K,
     tokens: &[Token],
 ) -> Result<((K, OrderKeys), &[Token]), ParseFault>
-    ensures { GivesBeside kept (order_keys_at (forms tokens.now)) result }
+    ensures kept { IfOk result (λ r. r.0.0 ≡ kept) }
+    ensures found { GivesBeside (order_keys_at (forms tokens.now)) result }
 {
     match tokens {
         [
@@ -405,7 +406,8 @@ fn count_of(token: &Token) -> Option<u64>
 /// What is kept, and a count of tuples.
 #[tactic(auto, unfolding(crate::specs::StatementReader::count_at))]
 pub fn count<K: Drop>(kept: K, tokens: &[Token]) -> Result<((K, u64), &[Token]), ParseFault>
-    ensures { GivesBeside kept (count_at (forms tokens.now)) result }
+    ensures kept { IfOk result (λ r. r.0.0 ≡ kept) }
+    ensures found { GivesBeside (count_at (forms tokens.now)) result }
 {
     match tokens {
         [first, rest @ ..] => match count_of(first) {
