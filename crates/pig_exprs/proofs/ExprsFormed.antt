@@ -24,7 +24,7 @@ use Rattle.pig_syntax.specs.Formed.{AtLeast, FieldRefFormed, PostStepFormed, Sel
 use Rattle.pig_syntax.specs.Tokens.{HoldsNoLf, is_in_line}
 use Rattle.pig_syntax.proofs.LineFree.{no_lf}
 use Rattle.pig_syntax.proofs.ExprTreeLaws.{form-Int, form-Long, form-Float, form-Text, form-Bool, form-Null, form-Field, form-Chain, form-Compare, form-IsNull, form-Not, form-Minus, form-Cast, form-Post, form-Call, form-Choose, link_is, form-TypeInt, form-TypeLong, form-Chararray, form-Bytearray, form-Boolean, form-TypeFloat, form-Tuple, form-Bag, form-Map, form-MapBare, field_typed as typed_is, field_bare as bare_is}
-use Rattle.pig_exprs.specs.Grammar.{Forms, Listed, part_of, IsName, IsFieldRef, IsSelection, scalar_of, IsType, IsTuple, IsBag, IsMap, IsSchema, AreFields, IsField, IsCastType, Level, expr, conj, sum, term, chain_op, literal_of, ArePostSteps, Reads, Links, AreExprs}
+use Rattle.pig_exprs.specs.Grammar.{Forms, Listed, part_of, IsName, IsFieldRef, IsSelection, scalar_of, IsType, IsTuple, IsBag, IsMap, IsSchema, AreSchemaFields, IsSchemaField, IsCastType, Level, expr, conj, sum, term, chain_op, token_literal, ArePostSteps, ReadsExpr, Links, AreExprs}
 
 -- no token holds an LF
 abbrev pub Free : Forms → Type 0
@@ -134,16 +134,16 @@ mutual
   pub schema_formed : {ts rest : Forms} {fields : List FieldTree} → IsSchema ts fields rest → Free ts → Formed (SchemaFormed fields) rest
   schema_formed (IsSchema.schema h) free = let inner = fields_formed h free.1 in record { tree = inner.tree; free = inner.free.1 }
 
-  fields_formed : {ts rest : Forms} {fields : List FieldTree} → AreFields ts fields rest → Free ts → Formed (SchemaFormed fields) rest
-  fields_formed (AreFields.fields_last h) free = field_formed h free
-  fields_formed (AreFields.fields_more {field = field} {fields = fields} h later) free =
+  fields_formed : {ts rest : Forms} {fields : List FieldTree} → AreSchemaFields ts fields rest → Free ts → Formed (SchemaFormed fields) rest
+  fields_formed (AreSchemaFields.fields_last h) free = field_formed h free
+  fields_formed (AreSchemaFields.fields_more {field = field} {fields = fields} h later) free =
       let first = field_formed h free in
       let others = fields_formed later first.free.1 in
       record { tree = cons_formed (field_form field) _ first.tree others.tree (map field_form fields) refl; free = others.free }
 
-  pub field_formed : {ts rest : Forms} {field : FieldTree} → IsField ts field rest → Free ts → Formed (SchemaFormed (field ∷ [])) rest
-  field_formed (IsField.field_bare {text = text}) free = record { tree = subst (λ p. FieldsFormed (field_forms (p ∷ []))) (sym (bare_is text)) (free.0, tt); free = free.1 }
-  field_formed (IsField.field_typed {text = text} {type = t} h) free =
+  pub field_formed : {ts rest : Forms} {field : FieldTree} → IsSchemaField ts field rest → Free ts → Formed (SchemaFormed (field ∷ [])) rest
+  field_formed (IsSchemaField.field_bare {text = text}) free = record { tree = subst (λ p. FieldsFormed (field_forms (p ∷ []))) (sym (bare_is text)) (free.0, tt); free = free.1 }
+  field_formed (IsSchemaField.field_typed {text = text} {type = t} h) free =
       let inner = type_formed h free.1.1 in
       record { tree = subst (λ p. FieldsFormed (field_forms (p ∷ []))) (sym (typed_is text t)) (free.0, inner.tree, tt); free = inner.free }
 
@@ -155,7 +155,7 @@ cast_type_formed (IsCastType.cast_map {values = values} h) free = let inner = va
 
 -- ---- expressions
 
-literal_formed : (t : TokenForm) (a : Expr) → literal_of t ≡ Some a → HoldsNoLf t → IsExprFormed a
+literal_formed : (t : TokenForm) (a : Expr) → token_literal t ≡ Some a → HoldsNoLf t → IsExprFormed a
 literal_formed (f.Int n) a is h = let same : e.Int n ≡ a = cc in subst IsExprFormed same (subst ExprFormed (sym (form-Int n)) tt)
 literal_formed (f.Long n) a is h = let same : e.Long n ≡ a = cc in subst IsExprFormed same (subst ExprFormed (sym (form-Long n)) tt)
 literal_formed f.Float a is h = let same : e.Float ≡ a = cc in subst IsExprFormed same (subst ExprFormed (sym form-Float) tt)
@@ -207,56 +207,56 @@ chain_formed : (a : Expr) (l : Link) (ls : List Link) (rule : ChainRule) → IsE
 chain_formed a l ls rule h g = subst ExprFormed (sym (form-Chain a (l ∷ ls))) (h, g.1, subst (λ r. LinksFormed r (link_forms (map link_form ls))) (sym g.0) g.2)
 
 mutual
-  pub expr_formed : {level : Level} {ts rest : Forms} {a : Expr} → Reads level ts a rest → Free ts → Formed (IsExprFormed a) rest
-  expr_formed (Reads.expr_one h) free = expr_formed h free
-  expr_formed (Reads.expr_more {a = a} {l = l} {ls = ls} h links) free =
+  pub expr_formed : {level : Level} {ts rest : Forms} {a : Expr} → ReadsExpr level ts a rest → Free ts → Formed (IsExprFormed a) rest
+  expr_formed (ReadsExpr.expr_one h) free = expr_formed h free
+  expr_formed (ReadsExpr.expr_more {a = a} {l = l} {ls = ls} h links) free =
       let first = expr_formed h free in
       let others = links_formed links disjunction of_or first.free in
       record { tree = chain_formed a l ls disjunction first.tree others.tree; free = others.free }
-  expr_formed (Reads.conj_one h) free = expr_formed h free
-  expr_formed (Reads.conj_more {a = a} {l = l} {ls = ls} h links) free =
+  expr_formed (ReadsExpr.conj_one h) free = expr_formed h free
+  expr_formed (ReadsExpr.conj_more {a = a} {l = l} {ls = ls} h links) free =
       let first = expr_formed h free in
       let others = links_formed links conjunction of_and first.free in
       record { tree = chain_formed a l ls conjunction first.tree others.tree; free = others.free }
-  expr_formed (Reads.neg_none h) free = expr_formed h free
-  expr_formed (Reads.neg_not {a = a} h) free = let inner = expr_formed h free.1 in record { tree = subst ExprFormed (sym (form-Not a)) inner.tree; free = inner.free }
-  expr_formed (Reads.comp_one h) free = expr_formed h free
-  expr_formed (Reads.comp_rel {r = r} {a = a} {b = b} h is g) free =
+  expr_formed (ReadsExpr.neg_none h) free = expr_formed h free
+  expr_formed (ReadsExpr.neg_not {a = a} h) free = let inner = expr_formed h free.1 in record { tree = subst ExprFormed (sym (form-Not a)) inner.tree; free = inner.free }
+  expr_formed (ReadsExpr.comp_one h) free = expr_formed h free
+  expr_formed (ReadsExpr.comp_rel {r = r} {a = a} {b = b} h is g) free =
       let first = expr_formed h free in
       let second = expr_formed g first.free.1 in
       record { tree = subst ExprFormed (sym (form-Compare r a b)) (first.tree, second.tree); free = second.free }
-  expr_formed (Reads.comp_null {a = a} h) free = let inner = expr_formed h free in record { tree = subst ExprFormed (sym (form-IsNull a false)) inner.tree; free = inner.free.1.1 }
-  expr_formed (Reads.comp_not_null {a = a} h) free = let inner = expr_formed h free in record { tree = subst ExprFormed (sym (form-IsNull a true)) inner.tree; free = inner.free.1.1.1 }
-  expr_formed (Reads.sum_one h) free = expr_formed h free
-  expr_formed (Reads.sum_more {a = a} {l = l} {ls = ls} h links) free =
+  expr_formed (ReadsExpr.comp_null {a = a} h) free = let inner = expr_formed h free in record { tree = subst ExprFormed (sym (form-IsNull a false)) inner.tree; free = inner.free.1.1 }
+  expr_formed (ReadsExpr.comp_not_null {a = a} h) free = let inner = expr_formed h free in record { tree = subst ExprFormed (sym (form-IsNull a true)) inner.tree; free = inner.free.1.1.1 }
+  expr_formed (ReadsExpr.sum_one h) free = expr_formed h free
+  expr_formed (ReadsExpr.sum_more {a = a} {l = l} {ls = ls} h links) free =
       let first = expr_formed h free in
       let others = links_formed links sums of_sum first.free in
       record { tree = chain_formed a l ls sums first.tree others.tree; free = others.free }
-  expr_formed (Reads.term_one h) free = expr_formed h free
-  expr_formed (Reads.term_more {a = a} {l = l} {ls = ls} h links) free =
+  expr_formed (ReadsExpr.term_one h) free = expr_formed h free
+  expr_formed (ReadsExpr.term_more {a = a} {l = l} {ls = ls} h links) free =
       let first = expr_formed h free in
       let others = links_formed links product of_term first.free in
       record { tree = chain_formed a l ls product first.tree others.tree; free = others.free }
-  expr_formed (Reads.unary_none h) free = expr_formed h free
-  expr_formed (Reads.unary_minus {a = a} h) free = let inner = expr_formed h free.1 in record { tree = subst ExprFormed (sym (form-Minus a)) inner.tree; free = inner.free }
-  expr_formed (Reads.casted_none h) free = expr_formed h free
-  expr_formed (Reads.casted_cast {type = t} {a = a} is h) free =
+  expr_formed (ReadsExpr.unary_none h) free = expr_formed h free
+  expr_formed (ReadsExpr.unary_minus {a = a} h) free = let inner = expr_formed h free.1 in record { tree = subst ExprFormed (sym (form-Minus a)) inner.tree; free = inner.free }
+  expr_formed (ReadsExpr.casted_none h) free = expr_formed h free
+  expr_formed (ReadsExpr.casted_cast {type = t} {a = a} is h) free =
       let to = cast_type_formed is free.1 in
       let inner = expr_formed h to.free.1 in
       record { tree = subst ExprFormed (sym (form-Cast t a)) (to.tree, inner.tree); free = inner.free }
-  expr_formed (Reads.post_one h) free = expr_formed h free
-  expr_formed (Reads.post_more {a = a} {p = p} {ps = ps} h steps) free =
+  expr_formed (ReadsExpr.post_one h) free = expr_formed h free
+  expr_formed (ReadsExpr.post_more {a = a} {p = p} {ps = ps} h steps) free =
       let first = expr_formed h free in
       let others = steps_formed steps first.free in
       record { tree = subst ExprFormed (sym (form-Post a (p ∷ ps))) (first.tree, record { many = omega arith; each = others.tree }); free = others.free }
-  expr_formed (Reads.prim_literal {t = t} {a = a} is) free = record { tree = literal_formed t a is free.0; free = free.1 }
-  expr_formed (Reads.prim_field {r = r} h) free = let field = field_ref_formed h free in record { tree = subst ExprFormed (sym (form-Field r)) field.tree; free = field.free }
-  expr_formed (Reads.prim_call_none {name = name}) free = record { tree = subst ExprFormed (sym (form-Call name [])) (free.0, tt); free = free.1.1.1 }
-  expr_formed (Reads.prim_call {name = name} {args = args} h) free =
+  expr_formed (ReadsExpr.prim_literal {t = t} {a = a} is) free = record { tree = literal_formed t a is free.0; free = free.1 }
+  expr_formed (ReadsExpr.prim_field {r = r} h) free = let field = field_ref_formed h free in record { tree = subst ExprFormed (sym (form-Field r)) field.tree; free = field.free }
+  expr_formed (ReadsExpr.prim_call_none {name = name}) free = record { tree = subst ExprFormed (sym (form-Call name [])) (free.0, tt); free = free.1.1.1 }
+  expr_formed (ReadsExpr.prim_call {name = name} {args = args} h) free =
       let inner = exprs_formed h free.1.1 in
       record { tree = subst ExprFormed (sym (form-Call name args)) (free.0, inner.tree); free = inner.free.1 }
-  expr_formed (Reads.prim_paren h) free = let inner = expr_formed h free.1 in record { tree = inner.tree; free = inner.free.1 }
-  expr_formed (Reads.prim_choose {a = a} {b = b} {c = c} h g i) free =
+  expr_formed (ReadsExpr.prim_paren h) free = let inner = expr_formed h free.1 in record { tree = inner.tree; free = inner.free.1 }
+  expr_formed (ReadsExpr.prim_choose {a = a} {b = b} {c = c} h g i) free =
       let first = expr_formed h free.1 in
       let second = expr_formed g first.free.1 in
       let third = expr_formed i second.free.1 in

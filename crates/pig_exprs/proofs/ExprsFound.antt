@@ -7,8 +7,8 @@ use Rattle.pig_syntax.specs.declared.trees.Expr.{Expr}
 use Rattle.pig_syntax.specs.declared.trees.Expr.TheVariants as ex
 use Rattle.pig_syntax.specs.declared.trees.Link.{Link}
 use Rattle.pig_syntax.specs.declared.trees.PostStep.{PostStep}
-use Rattle.pig_exprs.specs.Grammar.{Forms, Level, expr, conj, neg, comp, sum, term, unary, casted, post, prim, rel_of, ArePostSteps, none, project, look, Reads, expr_one, expr_more, conj_one, conj_more, neg_none, neg_not, comp_one, comp_rel, comp_null, comp_not_null, sum_one, sum_more, term_one, term_more, unary_none, unary_minus, casted_none, casted_cast, post_one, post_more, prim_literal, prim_field, prim_call_none, prim_call, prim_paren, prim_choose, Links, links_none, links_link, AreExprs, exprs_last, exprs_more}
-use Rattle.pig_exprs.specs.Reader.{Found, comma_turn, close_paren}
+use Rattle.pig_exprs.specs.Grammar.{Forms, Level, expr, conj, neg, comp, sum, term, unary, casted, post, prim, rel_of, ArePostSteps, none, project, look, ReadsExpr, expr_one, expr_more, conj_one, conj_more, neg_none, neg_not, comp_one, comp_rel, comp_null, comp_not_null, sum_one, sum_more, term_one, term_more, unary_none, unary_minus, casted_none, casted_cast, post_one, post_more, prim_literal, prim_field, prim_call_none, prim_call, prim_paren, prim_choose, Links, links_none, links_link, AreExprs, exprs_last, exprs_more}
+use Rattle.pig_exprs.specs.Reader.{FoundPart, comma_turn, close_paren}
 use Rattle.pig_exprs.specs.ExprReader.{link_turn, chain_of, chain_at, post_turn, post_of, colon, both_at, paren_after, call_at, prim_at, post_at, cast_at, casted_at, unary_at, term_at, sum_at, null_test, rel_ahead, comp_after, comp_at, neg_at, conj_at, expr_with, expr_at}
 use Rattle.pig_exprs.proofs.Fits.{Fits}
 use Rattle.pig_exprs.proofs.Finds.{Finds, stops, goes, repeat_run, FindsRun, FindsAll, finds_map, finds_last, finds_more, finds_listed}
@@ -17,7 +17,7 @@ use Rattle.pig_exprs.proofs.TypesFound.{cast_type_found}
 use Rattle.pig_exprs.proofs.Follow.{rank, rank_some, rank_few, binds, binds_ahead, binder_fits, op_binds, chain_stops, links_ahead, rel_binds, rel_no_null, no_null, no_rel, post_stops, name_stops, steps_ahead, literal_fits, reads_begin, neg_plain, unary_plain, casted_plain, casted_cast_at, prim_of_literal, prim_of_field, call_args}
 
 -- the reader of a rule
-abbrev pub read_at : Level → ℕ → (Forms → Found Expr) → Forms → Found Expr
+abbrev pub read_at : Level → ℕ → (Forms → FoundPart Expr) → Forms → FoundPart Expr
 read_at expr most inner = expr_with most inner
 read_at conj most inner = conj_at most inner
 read_at neg most inner = neg_at most inner
@@ -32,13 +32,13 @@ read_at prim most inner = prim_at inner
 -- ---- parts
 
 -- a chain
-chain_found : (level : Level) (member : Forms → Found Expr) {ts mid rest : Forms} {a : Expr} {ls : List Link} {d : ℕ} → Finds member ts a mid d → FindsRun (link_turn level member) mid ls rest d
+chain_found : (level : Level) (member : Forms → FoundPart Expr) {ts mid rest : Forms} {a : Expr} {ls : List Link} {d : ℕ} → Finds member ts a mid d → FindsRun (link_turn level member) mid ls rest d
     → Finds (chain_at level member) ts (chain_of a ls) rest d
 unfolding chain_at
 chain_found level member {mid = mid} first links = record { finds = rw (first.finds, repeat_run links.run (length mid) [] (omega arith)) refl; fits = links.fits; shorter = omega (arith, first.shorter, links.shorter) }
 
 -- a chain of one member
-chain_alone : (level : Level) (member : Forms → Found Expr) {ts rest : Forms} {a : Expr} {d : ℕ} → Finds member ts a rest d → binds_ahead rest < rank level → Finds (chain_at level member) ts a rest d
+chain_alone : (level : Level) (member : Forms → FoundPart Expr) {ts rest : Forms} {a : Expr} {d : ℕ} → Finds member ts a rest d → binds_ahead rest < rank level → Finds (chain_at level member) ts a rest d
 unfolding chain_of
 chain_alone level member {rest = rest} first ends =
     let found = chain_found level member {ls = []} first (record { run = stops (chain_stops level member rest ends); fits = first.fits; shorter = omega arith }) in
@@ -55,18 +55,18 @@ steps_found (look later) d fits ends =
     let next = steps_found later d fits ends in
     record { run = goes refl (omega arith) next.run; fits = next.fits; shorter = omega (arith, next.shorter) }
 
-post_found : (inner : Forms → Found Expr) {ts mid rest : Forms} {a : Expr} {ps : List PostStep} {d : ℕ} → Finds (prim_at inner) ts a mid d → FindsRun post_turn mid ps rest d
+post_found : (inner : Forms → FoundPart Expr) {ts mid rest : Forms} {a : Expr} {ps : List PostStep} {d : ℕ} → Finds (prim_at inner) ts a mid d → FindsRun post_turn mid ps rest d
     → Finds (post_at inner) ts (post_of a ps) rest d
 unfolding post_at
 post_found inner {mid = mid} first steps = record { finds = rw (first.finds, repeat_run steps.run (length mid) [] (omega arith)) refl; fits = steps.fits; shorter = omega (arith, first.shorter, steps.shorter) }
 
 -- nothing of a comparison follows
-comp_alone : (most : ℕ) (inner : Forms → Found Expr) (ts rest : Forms) (a : Expr) → sum_at most inner ts ≡ Some (a, rest) → binds_ahead rest < 4 → comp_at most inner ts ≡ Some (a, rest)
+comp_alone : (most : ℕ) (inner : Forms → FoundPart Expr) (ts rest : Forms) (a : Expr) → sum_at most inner ts ≡ Some (a, rest) → binds_ahead rest < 4 → comp_at most inner ts ≡ Some (a, rest)
 unfolding comp_at comp_after
 comp_alone most inner ts rest a h ends = rw (h, no_null rest ends, no_rel rest ends) refl
 
 -- a sign and a second operand follow
-comp_both : (most : ℕ) (inner : Forms → Found Expr) (ts mid rest : Forms) (t : TokenForm) (r : Rel) (a b : Expr) → sum_at most inner ts ≡ Some (a, t ∷ mid) → rel_of t ≡ Some r
+comp_both : (most : ℕ) (inner : Forms → FoundPart Expr) (ts mid rest : Forms) (t : TokenForm) (r : Rel) (a b : Expr) → sum_at most inner ts ≡ Some (a, t ∷ mid) → rel_of t ≡ Some r
     → sum_at most inner mid ≡ Some (b, rest) → comp_at most inner ts ≡ Some (ex.Compare r a b, rest)
 unfolding comp_at comp_after rel_ahead
 comp_both most inner ts mid rest t r a b h is g = rw (h, rel_no_null t mid r is, is, g) refl
@@ -84,7 +84,7 @@ inside most (suc m) d low given =
 mutual
   unfolding Fits comma_turn close_paren colon link_turn chain_of post_of both_at paren_after call_at prim_at cast_at unary_at term_at sum_at null_test comp_after comp_at neg_at conj_at expr_with
 
-  pub reads_found : {l : Level} {ts rest : Forms} {a : Expr} → Reads l ts a rest → (d most depth : ℕ) → Fits ts d → d < most → d ≤ depth → binds_ahead rest < rank l
+  pub reads_found : {l : Level} {ts rest : Forms} {a : Expr} → ReadsExpr l ts a rest → (d most depth : ℕ) → Fits ts d → d < most → d ≤ depth → binds_ahead rest < rank l
       → Finds (read_at l most (expr_at most depth)) ts a rest d
   reads_found (expr_one h) d most depth fits low below ends =
       let found = chain_alone expr (read_at conj most (expr_at most depth)) (reads_found h d most depth fits low below (omega (arith, ends))) ends in
@@ -196,5 +196,5 @@ mutual
       finds_more first (exprs_found later d most depth first.fits low below ends last)
 
 -- an expression in front of what does not go on with it
-pub expr_found : {ts rest : Forms} {a : Expr} → Reads expr ts a rest → (d most depth : ℕ) → Fits ts d → d < most → d < depth → binds_ahead rest < 1 → Finds (expr_at most depth) ts a rest d
+pub expr_found : {ts rest : Forms} {a : Expr} → ReadsExpr expr ts a rest → (d most depth : ℕ) → Fits ts d → d < most → d < depth → binds_ahead rest < 1 → Finds (expr_at most depth) ts a rest d
 expr_found h d most depth fits low below ends = inside most depth d below (λ m less. reads_found h d most m fits low less ends)

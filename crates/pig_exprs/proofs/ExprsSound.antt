@@ -7,8 +7,8 @@ use Rattle.pig_syntax.specs.declared.trees.Expr.{Expr}
 use Rattle.pig_syntax.specs.declared.trees.Expr.TheVariants as e
 use Rattle.pig_syntax.specs.declared.trees.Link.{Link}
 use Rattle.pig_syntax.specs.declared.trees.PostStep.{PostStep}
-use Rattle.pig_exprs.specs.Grammar.{Forms, Listed, Level, expr, conj, neg, comp, sum, term, unary, casted, post, prim, chain_op, rel_of, literal_of, IsCastType, ArePostSteps, Reads, Links, AreExprs}
-use Rattle.pig_exprs.specs.Reader.{Found, type_at}
+use Rattle.pig_exprs.specs.Grammar.{Forms, Listed, Level, expr, conj, neg, comp, sum, term, unary, casted, post, prim, chain_op, rel_of, token_literal, IsCastType, ArePostSteps, ReadsExpr, Links, AreExprs}
+use Rattle.pig_exprs.specs.Reader.{FoundPart, type_at}
 use Rattle.pig_exprs.specs.ExprReader.{link_turn, chain_of, chain_at, post_turn, post_of, colon, both_at, paren_after, call_at, simple_at, prim_at, post_at, begins_type, cast_at, casted_at, unary_at, term_at, sum_at, null_test, rel_ahead, comp_after, comp_at, neg_at, conj_at, expr_with, expr_at}
 use Rattle.pig_exprs.proofs.Options.{Holds, itself, holds_then, holds_map, holds_map_or, holds_weaken, holds_if}
 use Rattle.pig_exprs.proofs.ListSound.{Upholds, TurnsLead, repeat_runs, listed_upholds, closes}
@@ -16,7 +16,7 @@ use Rattle.pig_exprs.proofs.NamesSound.{field_ref_upholds, selection_upholds}
 use Rattle.pig_exprs.proofs.TypesSound.{cast_type_upholds, type_upholds}
 
 -- a list of expressions
-pub are_exprs : {ts rest : Forms} {xs : List Expr} → Listed (Reads expr) ts xs rest → AreExprs ts xs rest
+pub are_exprs : {ts rest : Forms} {xs : List Expr} → Listed (ReadsExpr expr) ts xs rest → AreExprs ts xs rest
 are_exprs (Listed.last a) = AreExprs.exprs_last a
 are_exprs (Listed.more a others) = AreExprs.exprs_more a (are_exprs others)
 
@@ -24,10 +24,10 @@ are_exprs (Listed.more a others) = AreExprs.exprs_more a (are_exprs others)
 
 -- a chain's rules: one member, and a member with links
 pub record Chains (chain member : Level) : Type 0 where
-  pub one : (ts : Forms) (a : Expr) (rest : Forms) → Reads member ts a rest → Reads chain ts a rest
-  pub more : (ts mid : Forms) (a : Expr) (l : Link) (ls : List Link) (rest : Forms) → Reads member ts a mid → Links chain member mid (l ∷ ls) rest → Reads chain ts (e.Chain a (l ∷ ls)) rest
+  pub one : (ts : Forms) (a : Expr) (rest : Forms) → ReadsExpr member ts a rest → ReadsExpr chain ts a rest
+  pub more : (ts mid : Forms) (a : Expr) (l : Link) (ls : List Link) (rest : Forms) → ReadsExpr member ts a mid → Links chain member mid (l ∷ ls) rest → ReadsExpr chain ts (e.Chain a (l ∷ ls)) rest
 
-links_lead : (chain member : Level) (reader : Forms → Found Expr) → Upholds reader (Reads member) → TurnsLead (link_turn chain reader) (Links chain member)
+links_lead : (chain member : Level) (reader : Forms → FoundPart Expr) → Upholds reader (ReadsExpr member) → TurnsLead (link_turn chain reader) (Links chain member)
 unfolding link_turn
 links_lead chain member reader upholds [] = Holds.just Holds.nothing
 links_lead chain member reader upholds (t ∷ ts) =
@@ -35,12 +35,12 @@ links_lead chain member reader upholds (t ∷ ts) =
     (λ o is_op. holds_map _ (upholds ts) (λ p a. Holds.just (λ others rest more. Links.links_link is_op a more)))
     (Holds.just Holds.nothing)
 
-chain_of_links : {chain member : Level} → Chains chain member → {ts mid rest : Forms} {a : Expr} (links : List Link) → Reads member ts a mid → Links chain member mid links rest → Reads chain ts (chain_of a links) rest
+chain_of_links : {chain member : Level} → Chains chain member → {ts mid rest : Forms} {a : Expr} (links : List Link) → ReadsExpr member ts a mid → Links chain member mid links rest → ReadsExpr chain ts (chain_of a links) rest
 unfolding chain_of
 chain_of_links rules {ts} {a = a} [] first Links.links_none = rules.one ts a _ first
 chain_of_links rules {ts} {mid} {rest} {a} (l ∷ ls) first links = rules.more ts mid a l ls rest first links
 
-chain_upholds : (chain member : Level) (reader : Forms → Found Expr) → Chains chain member → Upholds reader (Reads member) → Upholds (chain_at chain reader) (Reads chain)
+chain_upholds : (chain member : Level) (reader : Forms → FoundPart Expr) → Chains chain member → Upholds reader (ReadsExpr member) → Upholds (chain_at chain reader) (ReadsExpr chain)
 unfolding chain_at
 chain_upholds chain member reader rules upholds ts =
     holds_then _ (upholds ts) (λ first a.
@@ -55,19 +55,19 @@ steps_lead (f.Symbol s.Dot ∷ ts) = holds_map _ (selection_upholds ts) (λ p is
 steps_lead (f.Symbol s.Hash ∷ f.Text key ∷ ts) = Holds.just (Holds.just (λ others rest more. ArePostSteps.look more))
 steps_lead ts = Holds.just Holds.nothing
 
-post_of_steps : {ts mid rest : Forms} {a : Expr} (steps : List PostStep) → Reads prim ts a mid → ArePostSteps mid steps rest → Reads post ts (post_of a steps) rest
+post_of_steps : {ts mid rest : Forms} {a : Expr} (steps : List PostStep) → ReadsExpr prim ts a mid → ArePostSteps mid steps rest → ReadsExpr post ts (post_of a steps) rest
 unfolding post_of
-post_of_steps [] first ArePostSteps.none = Reads.post_one first
-post_of_steps (p ∷ ps) first steps = Reads.post_more first steps
+post_of_steps [] first ArePostSteps.none = ReadsExpr.post_one first
+post_of_steps (p ∷ ps) first steps = ReadsExpr.post_more first steps
 
 -- ---- simple operands
 
-simple_upholds : Upholds simple_at (Reads prim)
+simple_upholds : Upholds simple_at (ReadsExpr prim)
 unfolding simple_at
 simple_upholds [] = Holds.nothing
 simple_upholds (t ∷ ts) =
-    holds_map_or _ (itself (literal_of t)) (λ a is_literal. Holds.just (Reads.prim_literal is_literal))
-    (holds_map _ (field_ref_upholds (t ∷ ts)) (λ p field. Reads.prim_field field))
+    holds_map_or _ (itself (token_literal t)) (λ a is_literal. Holds.just (ReadsExpr.prim_literal is_literal))
+    (holds_map _ (field_ref_upholds (t ∷ ts)) (λ p field. ReadsExpr.prim_field field))
 
 -- what stands in front of a `:`
 colon_stands : (P : Forms → Type 0) (ts : Forms) → P ts → Holds (λ rest. P (f.Symbol s.Colon ∷ rest)) (colon ts)
@@ -76,120 +76,120 @@ colon_stands P (f.Symbol s.Colon ∷ ts) p = Holds.just p
 colon_stands P _ p = Holds.nothing
 
 -- what stands in front of IS NULL or IS NOT NULL
-null_stands : {start : Forms} {a : Expr} (ts : Forms) → Reads sum start a ts → Holds (λ n. Reads comp start (e.IsNull a n.0) n.1) (null_test ts)
+null_stands : {start : Forms} {a : Expr} (ts : Forms) → ReadsExpr sum start a ts → Holds (λ n. ReadsExpr comp start (e.IsNull a n.0) n.1) (null_test ts)
 unfolding null_test
-null_stands (f.Keyword k.Is ∷ f.Keyword k.Null ∷ ts) first = Holds.just (Reads.comp_null first)
-null_stands (f.Keyword k.Is ∷ f.Keyword k.Not ∷ f.Keyword k.Null ∷ ts) first = Holds.just (Reads.comp_not_null first)
+null_stands (f.Keyword k.Is ∷ f.Keyword k.Null ∷ ts) first = Holds.just (ReadsExpr.comp_null first)
+null_stands (f.Keyword k.Is ∷ f.Keyword k.Not ∷ f.Keyword k.Null ∷ ts) first = Holds.just (ReadsExpr.comp_not_null first)
 null_stands ts first = Holds.nothing
 
 -- what stands in front of a comparison's sign
-rel_stands : {start : Forms} {a : Expr} (ts : Forms) → Reads sum start a ts
-    → Holds (λ r. (b : Expr) (rest : Forms) → Reads sum r.1 b rest → Reads comp start (e.Compare r.0 a b) rest) (rel_ahead ts)
+rel_stands : {start : Forms} {a : Expr} (ts : Forms) → ReadsExpr sum start a ts
+    → Holds (λ r. (b : Expr) (rest : Forms) → ReadsExpr sum r.1 b rest → ReadsExpr comp start (e.Compare r.0 a b) rest) (rel_ahead ts)
 unfolding rel_ahead
 rel_stands [] first = Holds.nothing
-rel_stands (t ∷ ts) first = holds_map _ (itself (rel_of t)) (λ r is_rel b rest second. Reads.comp_rel first is_rel second)
+rel_stands (t ∷ ts) first = holds_map _ (itself (rel_of t)) (λ r is_rel b rest second. ReadsExpr.comp_rel first is_rel second)
 
 -- by the expressions inside brackets
-module _ (most : ℕ) (inner : Forms → Found Expr) (inside : Upholds inner (Reads expr)) where
+module _ (most : ℕ) (inner : Forms → FoundPart Expr) (inside : Upholds inner (ReadsExpr expr)) where
   both_stand : (ts : Forms)
-      → Holds (λ q. (start : Forms) (a : Expr) → Reads expr start a (f.Symbol s.Question ∷ ts) → Reads prim (f.Symbol s.OpenParen ∷ start) (e.Choose a q.0.0 q.0.1) q.1) (both_at inner ts)
+      → Holds (λ q. (start : Forms) (a : Expr) → ReadsExpr expr start a (f.Symbol s.Question ∷ ts) → ReadsExpr prim (f.Symbol s.OpenParen ∷ start) (e.Choose a q.0.0 q.0.1) q.1) (both_at inner ts)
   unfolding both_at
   both_stand ts =
       holds_then _ (inside ts) (λ left b.
-      holds_then _ (colon_stands (Reads expr ts left.0) left.1 b) (λ behind b.
+      holds_then _ (colon_stands (ReadsExpr expr ts left.0) left.1 b) (λ behind b.
       holds_then _ (inside behind) (λ right c.
-      holds_then _ (closes (Reads expr behind right.0) right.1 c) (λ rest c.
-      Holds.just (λ start a first. Reads.prim_choose first b c)))))
+      holds_then _ (closes (ReadsExpr expr behind right.0) right.1 c) (λ rest c.
+      Holds.just (λ start a first. ReadsExpr.prim_choose first b c)))))
 
-  paren_stands : (start : Forms) (a : Expr) (ts : Forms) → Reads expr start a ts → Holds (λ p. Reads prim (f.Symbol s.OpenParen ∷ start) p.0 p.1) (paren_after inner a ts)
+  paren_stands : (start : Forms) (a : Expr) (ts : Forms) → ReadsExpr expr start a ts → Holds (λ p. ReadsExpr prim (f.Symbol s.OpenParen ∷ start) p.0 p.1) (paren_after inner a ts)
   unfolding paren_after
-  paren_stands start a (f.Symbol s.CloseParen ∷ ts) first = Holds.just (Reads.prim_paren first)
+  paren_stands start a (f.Symbol s.CloseParen ∷ ts) first = Holds.just (ReadsExpr.prim_paren first)
   paren_stands start a (f.Symbol s.Question ∷ ts) first = holds_then _ (both_stand ts) (λ both choose. Holds.just (choose start a first))
   paren_stands start a _ first = Holds.nothing
 
-  call_stands : (name : List ℕ) (ts : Forms) → Holds (λ p. Reads prim (f.Ident name ∷ f.Symbol s.OpenParen ∷ ts) p.0 p.1) (call_at inner name ts)
+  call_stands : (name : List ℕ) (ts : Forms) → Holds (λ p. ReadsExpr prim (f.Ident name ∷ f.Symbol s.OpenParen ∷ ts) p.0 p.1) (call_at inner name ts)
   unfolding call_at
-  call_stands name (f.Symbol s.CloseParen ∷ ts) = Holds.just Reads.prim_call_none
+  call_stands name (f.Symbol s.CloseParen ∷ ts) = Holds.just ReadsExpr.prim_call_none
   call_stands name ts =
-      holds_then _ (listed_upholds inner (Reads expr) inside ts) (λ args l.
-      holds_then _ (closes (Listed (Reads expr) ts args.0) args.1 l) (λ rest l. Holds.just (Reads.prim_call (are_exprs l))))
+      holds_then _ (listed_upholds inner (ReadsExpr expr) inside ts) (λ args l.
+      holds_then _ (closes (Listed (ReadsExpr expr) ts args.0) args.1 l) (λ rest l. Holds.just (ReadsExpr.prim_call (are_exprs l))))
 
-  prim_upholds : Upholds (prim_at inner) (Reads prim)
+  prim_upholds : Upholds (prim_at inner) (ReadsExpr prim)
   unfolding prim_at
   prim_upholds (f.Ident name ∷ f.Symbol s.OpenParen ∷ ts) = call_stands name ts
   prim_upholds (f.Symbol s.OpenParen ∷ ts) = holds_then _ (inside ts) (λ p a. paren_stands ts p.0 p.1 a)
   prim_upholds ts = simple_upholds ts
 
-  post_upholds : Upholds (post_at inner) (Reads post)
+  post_upholds : Upholds (post_at inner) (ReadsExpr post)
   unfolding post_at
   post_upholds ts =
       holds_then _ (prim_upholds ts) (λ first a.
       holds_then _ (repeat_runs post_turn ArePostSteps (λ mid. ArePostSteps.none) steps_lead (length first.1) first.1) (λ steps more.
       Holds.just (post_of_steps steps.0 a more)))
 
-  cast_stands : (ts : Forms) → Holds (λ p. Reads casted (f.Symbol s.OpenParen ∷ ts) p.0 p.1) (cast_at most inner ts)
+  cast_stands : (ts : Forms) → Holds (λ p. ReadsExpr casted (f.Symbol s.OpenParen ∷ ts) p.0 p.1) (cast_at most inner ts)
   unfolding cast_at
   cast_stands ts =
       holds_then _ (cast_type_upholds (type_at most) (type_upholds most) ts) (λ type is_type.
       holds_then _ (closes (IsCastType ts type.0) type.1 is_type) (λ rest is_type.
       holds_then _ (post_upholds rest) (λ a is_post.
-      Holds.just (Reads.casted_cast is_type is_post))))
+      Holds.just (ReadsExpr.casted_cast is_type is_post))))
 
-  casted_upholds : Upholds (casted_at most inner) (Reads casted)
+  casted_upholds : Upholds (casted_at most inner) (ReadsExpr casted)
   unfolding casted_at
   casted_upholds (f.Symbol s.OpenParen ∷ ts) =
-      holds_if (begins_type ts) (λ begins. cast_stands ts) (λ begins. holds_weaken (post_upholds (f.Symbol s.OpenParen ∷ ts)) (λ p a. Reads.casted_none a))
-  casted_upholds ts = holds_weaken (post_upholds ts) (λ p a. Reads.casted_none a)
+      holds_if (begins_type ts) (λ begins. cast_stands ts) (λ begins. holds_weaken (post_upholds (f.Symbol s.OpenParen ∷ ts)) (λ p a. ReadsExpr.casted_none a))
+  casted_upholds ts = holds_weaken (post_upholds ts) (λ p a. ReadsExpr.casted_none a)
 
-  unary_upholds : Upholds (unary_at most inner) (Reads unary)
+  unary_upholds : Upholds (unary_at most inner) (ReadsExpr unary)
   unfolding unary_at
-  unary_upholds (f.Symbol s.Minus ∷ ts) = holds_map _ (casted_upholds ts) (λ p a. Reads.unary_minus a)
-  unary_upholds ts = holds_weaken (casted_upholds ts) (λ p a. Reads.unary_none a)
+  unary_upholds (f.Symbol s.Minus ∷ ts) = holds_map _ (casted_upholds ts) (λ p a. ReadsExpr.unary_minus a)
+  unary_upholds ts = holds_weaken (casted_upholds ts) (λ p a. ReadsExpr.unary_none a)
 
-  term_upholds : Upholds (term_at most inner) (Reads term)
+  term_upholds : Upholds (term_at most inner) (ReadsExpr term)
   unfolding term_at
   term_upholds ts =
       chain_upholds term unary (unary_at most inner)
-      (record { one = λ ts a rest first. Reads.term_one first; more = λ ts mid a l ls rest first links. Reads.term_more first links })
+      (record { one = λ ts a rest first. ReadsExpr.term_one first; more = λ ts mid a l ls rest first links. ReadsExpr.term_more first links })
       unary_upholds ts
 
-  sum_upholds : Upholds (sum_at most inner) (Reads sum)
+  sum_upholds : Upholds (sum_at most inner) (ReadsExpr sum)
   unfolding sum_at
   sum_upholds ts =
       chain_upholds sum term (term_at most inner)
-      (record { one = λ ts a rest first. Reads.sum_one first; more = λ ts mid a l ls rest first links. Reads.sum_more first links })
+      (record { one = λ ts a rest first. ReadsExpr.sum_one first; more = λ ts mid a l ls rest first links. ReadsExpr.sum_more first links })
       term_upholds ts
 
-  comp_stands : (start : Forms) (a : Expr) (ts : Forms) → Reads sum start a ts → Holds (λ p. Reads comp start p.0 p.1) (comp_after most inner a ts)
+  comp_stands : (start : Forms) (a : Expr) (ts : Forms) → ReadsExpr sum start a ts → Holds (λ p. ReadsExpr comp start p.0 p.1) (comp_after most inner a ts)
   unfolding comp_after
   comp_stands start a ts first =
       holds_map_or _ (null_stands ts first) (λ n test. Holds.just test)
-      (holds_map_or _ (rel_stands ts first) (λ r compare. holds_map _ (sum_upholds r.1) (λ p b. compare p.0 p.1 b)) (Holds.just (Reads.comp_one first)))
+      (holds_map_or _ (rel_stands ts first) (λ r compare. holds_map _ (sum_upholds r.1) (λ p b. compare p.0 p.1 b)) (Holds.just (ReadsExpr.comp_one first)))
 
-  comp_upholds : Upholds (comp_at most inner) (Reads comp)
+  comp_upholds : Upholds (comp_at most inner) (ReadsExpr comp)
   unfolding comp_at
   comp_upholds ts = holds_then _ (sum_upholds ts) (λ p a. comp_stands ts p.0 p.1 a)
 
-  neg_upholds : Upholds (neg_at most inner) (Reads neg)
+  neg_upholds : Upholds (neg_at most inner) (ReadsExpr neg)
   unfolding neg_at
-  neg_upholds (f.Keyword k.Not ∷ ts) = holds_map _ (comp_upholds ts) (λ p a. Reads.neg_not a)
-  neg_upholds ts = holds_weaken (comp_upholds ts) (λ p a. Reads.neg_none a)
+  neg_upholds (f.Keyword k.Not ∷ ts) = holds_map _ (comp_upholds ts) (λ p a. ReadsExpr.neg_not a)
+  neg_upholds ts = holds_weaken (comp_upholds ts) (λ p a. ReadsExpr.neg_none a)
 
-  conj_upholds : Upholds (conj_at most inner) (Reads conj)
+  conj_upholds : Upholds (conj_at most inner) (ReadsExpr conj)
   unfolding conj_at
   conj_upholds ts =
       chain_upholds conj neg (neg_at most inner)
-      (record { one = λ ts a rest first. Reads.conj_one first; more = λ ts mid a l ls rest first links. Reads.conj_more first links })
+      (record { one = λ ts a rest first. ReadsExpr.conj_one first; more = λ ts mid a l ls rest first links. ReadsExpr.conj_more first links })
       neg_upholds ts
 
-  expr_with_upholds : Upholds (expr_with most inner) (Reads expr)
+  expr_with_upholds : Upholds (expr_with most inner) (ReadsExpr expr)
   unfolding expr_with
   expr_with_upholds ts =
       chain_upholds expr conj (conj_at most inner)
-      (record { one = λ ts a rest first. Reads.expr_one first; more = λ ts mid a l ls rest first links. Reads.expr_more first links })
+      (record { one = λ ts a rest first. ReadsExpr.expr_one first; more = λ ts mid a l ls rest first links. ReadsExpr.expr_more first links })
       conj_upholds ts
 
-pub expr_upholds : (most depth : ℕ) → Upholds (expr_at most depth) (Reads expr)
+pub expr_upholds : (most depth : ℕ) → Upholds (expr_at most depth) (ReadsExpr expr)
 unfolding expr_at
 expr_upholds most zero ts = Holds.nothing
 expr_upholds most (suc depth) ts = expr_with_upholds most (expr_at most depth) (expr_upholds most depth) ts

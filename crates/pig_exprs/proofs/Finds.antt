@@ -5,17 +5,17 @@ use Rattle.std.specs.Option.{option_map}
 use Rattle.pig_syntax.specs.declared.tokens.Symbol.TheVariants as s
 use Rattle.pig_syntax.specs.declared.tokens.TokenForm.TheVariants as f
 use Rattle.pig_exprs.specs.Grammar.{Forms, Listed, last, more}
-use Rattle.pig_exprs.specs.Reader.{Found, Turn, repeat, comma_turn, listed}
+use Rattle.pig_exprs.specs.Reader.{FoundPart, Turn, repeat, comma_turn, listed}
 use Rattle.pig_exprs.proofs.Fits.{Fits}
 
 -- the reader finds this at the front of the tokens, and what it leaves is less and fits the same budget
-pub record Finds {A : Type 0} (reader : Forms → Found A) (ts : Forms) (found : A) (rest : Forms) (d : ℕ) : Type 0 where
+pub record Finds {A : Type 0} (reader : Forms → FoundPart A) (ts : Forms) (found : A) (rest : Forms) (d : ℕ) : Type 0 where
   pub finds : reader ts ≡ Some (found, rest)
   pub fits : Fits rest d
   pub shorter : length rest < length ts
 
 -- a reader that finds what another finds, as another tree
-pub finds_map : {A B : Type 0} {reader : Forms → Found A} {ts rest : Forms} {x : A} {d : ℕ} → Finds reader ts x rest d → (other : Forms → Found B) (front : Forms) (tree : A → B)
+pub finds_map : {A B : Type 0} {reader : Forms → FoundPart A} {ts rest : Forms} {x : A} {d : ℕ} → Finds reader ts x rest d → (other : Forms → FoundPart B) (front : Forms) (tree : A → B)
     → other front ≡ option_map (λ p. (tree p.0, p.1)) (reader ts) → length ts ≤ length front → Finds other front (tree x) rest d
 finds_map found other front tree same longer = record { finds = same ∙ rw found.finds refl; fits = found.fits; shorter = omega (arith, found.shorter, longer) }
 
@@ -41,7 +41,7 @@ pub record FindsRun {A : Type 0} (turn : Forms → Turn A) (ts : Forms) (found :
   pub shorter : length rest ≤ length ts
 
 -- the same where the reader may find that nothing stands there
-pub record FindsMaybe {A : Type 0} (reader : Forms → Found A) (ts : Forms) (found : A) (rest : Forms) (d : ℕ) : Type 0 where
+pub record FindsMaybe {A : Type 0} (reader : Forms → FoundPart A) (ts : Forms) (found : A) (rest : Forms) (d : ℕ) : Type 0 where
   pub finds : reader ts ≡ Some (found, rest)
   pub fits : Fits rest d
   pub shorter : length rest ≤ length ts
@@ -57,18 +57,18 @@ no_end None h = cc
 no_end (Some y) h = cc
 
 -- the members of a list, each found by the reader
-pub record FindsAll {A : Type 0} (member : Forms → Found A) (ts : Forms) (found : List A) (rest : Forms) (d : ℕ) : Type 0 where
+pub record FindsAll {A : Type 0} (member : Forms → FoundPart A) (ts : Forms) (found : List A) (rest : Forms) (d : ℕ) : Type 0 where
   pub run : Run (comma_turn member) (f.Symbol s.Comma ∷ ts) found rest
   pub fits : Fits rest d
   pub shorter : length rest < length ts
 
 -- the last member, behind which no comma stands
-pub finds_last : {A : Type 0} {member : Forms → Found A} {ts rest : Forms} {x : A} {d : ℕ} → Finds member ts x rest d → comma_turn member rest ≡ Some None → FindsAll member ts (x ∷ []) rest d
+pub finds_last : {A : Type 0} {member : Forms → FoundPart A} {ts rest : Forms} {x : A} {d : ℕ} → Finds member ts x rest d → comma_turn member rest ≡ Some None → FindsAll member ts (x ∷ []) rest d
 unfolding comma_turn
 finds_last x ends = record { run = goes (rw x.finds refl) (omega (arith, x.shorter)) (stops ends); fits = x.fits; shorter = x.shorter }
 
 -- one more member in front
-pub finds_more : {A : Type 0} {member : Forms → Found A} {ts mid rest : Forms} {x : A} {xs : List A} {d : ℕ}
+pub finds_more : {A : Type 0} {member : Forms → FoundPart A} {ts mid rest : Forms} {x : A} {xs : List A} {d : ℕ}
     → Finds member ts x (f.Symbol s.Comma ∷ mid) d → FindsAll member mid xs rest d → FindsAll member ts (x ∷ xs) rest d
 unfolding comma_turn
 finds_more {mid = mid} x xs = record {
@@ -77,17 +77,17 @@ finds_more {mid = mid} x xs = record {
   shorter = let less : suc (length mid) < _ = x.shorter in omega (arith, less, xs.shorter);
 }
 
-listed_run : {A : Type 0} (member : Forms → Found A) (ts rest : Forms) (xs : List A) → Run (comma_turn member) (f.Symbol s.Comma ∷ ts) xs rest → listed member ts ≡ Some (xs, rest)
+listed_run : {A : Type 0} (member : Forms → FoundPart A) (ts rest : Forms) (xs : List A) → Run (comma_turn member) (f.Symbol s.Comma ∷ ts) xs rest → listed member ts ≡ Some (xs, rest)
 unfolding listed comma_turn
 listed_run member ts rest [] (stops h) = absurd (no_end (member ts) h)
 listed_run member ts rest (x ∷ xs) (goes {mid = mid} h less later) = rw (unmapped (member ts) (x, mid) h) (repeat_run later (length mid) (x ∷ []) (omega arith))
 
 -- the list of the members
-pub finds_listed : {A : Type 0} {member : Forms → Found A} {ts rest : Forms} {xs : List A} {d : ℕ} → FindsAll member ts xs rest d → Finds (listed member) ts xs rest d
+pub finds_listed : {A : Type 0} {member : Forms → FoundPart A} {ts rest : Forms} {xs : List A} {d : ℕ} → FindsAll member ts xs rest d → Finds (listed member) ts xs rest d
 finds_listed {member = member} {ts = ts} {rest = rest} {xs = xs} all = record { finds = listed_run member ts rest xs all.run; fits = all.fits; shorter = all.shorter }
 
 -- a list whose members are found wherever such may follow as may follow a member
-pub listed_finds : {A : Type 0} {rule : Forms → A → Forms → Type 0} {ts rest : Forms} {xs : List A} → Listed rule ts xs rest → (member : Forms → Found A) (d : ℕ) (May : Forms → Type 0)
+pub listed_finds : {A : Type 0} {rule : Forms → A → Forms → Type 0} {ts rest : Forms} {xs : List A} → Listed rule ts xs rest → (member : Forms → FoundPart A) (d : ℕ) (May : Forms → Type 0)
     → ((ts rest : Forms) (x : A) → rule ts x rest → Fits ts d → May rest → Finds member ts x rest d) → ((mid : Forms) → May (f.Symbol s.Comma ∷ mid))
     → Fits ts d → May rest → comma_turn member rest ≡ Some None → FindsAll member ts xs rest d
 listed_finds {ts = ts} {rest = rest} (last {x = x} r) member d May each comma fits may ends = finds_last (each ts rest x r fits may) ends

@@ -15,8 +15,8 @@ use Rattle.pig_syntax.specs.declared.trees.FieldRef.{FieldRef}
 use Rattle.pig_syntax.specs.declared.trees.Link.{Link}
 use Rattle.pig_syntax.specs.declared.trees.PostStep.{PostStep}
 use Rattle.pig_syntax.specs.declared.trees.TypeTree.{TypeTree}
-use Rattle.pig_exprs.specs.Grammar.{Forms, part_of, scalar_of, part, parts, IsFieldRef, name as by_name, position as by_position, IsCastType, cast_scalar, cast_tuple, cast_bag, cast_map, Level, expr, conj, neg, comp, sum, term, unary, casted, post, prim, rel_of, chain_op, literal_of, ArePostSteps, none, project, look, Reads, expr_one, expr_more, conj_one, conj_more, neg_none, neg_not, comp_one, comp_rel, comp_null, comp_not_null, sum_one, sum_more, term_one, term_more, unary_none, unary_minus, casted_none, casted_cast, post_one, post_more, prim_literal, prim_field, prim_call_none, prim_call, prim_paren, prim_choose, Links, links_none, links_link, AreExprs, exprs_last, exprs_more}
-use Rattle.pig_exprs.specs.Reader.{Found, part_turn, listed, close_paren, field_ref_at}
+use Rattle.pig_exprs.specs.Grammar.{Forms, part_of, scalar_of, part, parts, IsFieldRef, name as by_name, position as by_position, IsCastType, cast_scalar, cast_tuple, cast_bag, cast_map, Level, expr, conj, neg, comp, sum, term, unary, casted, post, prim, rel_of, chain_op, token_literal, ArePostSteps, none, project, look, ReadsExpr, expr_one, expr_more, conj_one, conj_more, neg_none, neg_not, comp_one, comp_rel, comp_null, comp_not_null, sum_one, sum_more, term_one, term_more, unary_none, unary_minus, casted_none, casted_cast, post_one, post_more, prim_literal, prim_field, prim_call_none, prim_call, prim_paren, prim_choose, Links, links_none, links_link, AreExprs, exprs_last, exprs_more}
+use Rattle.pig_exprs.specs.Reader.{FoundPart, part_turn, listed, close_paren, field_ref_at}
 use Rattle.pig_exprs.specs.ExprReader.{link_turn, post_turn, call_at, simple_at, prim_at, post_at, is_type_word, begins_type, cast_at, casted_at, unary_at, null_test, rel_ahead, comp_at, neg_at}
 use Rattle.pig_exprs.proofs.Fits.{Fits}
 
@@ -103,7 +103,7 @@ no_op term (f.Symbol s.Percent) h = absurd (omega (arith, h))
 no_op l t h = refl
 
 -- a chain goes no further
-pub chain_stops : (l : Level) (member : Forms → Found Expr) (ts : Forms) → binds_ahead ts < rank l → link_turn l member ts ≡ Some None
+pub chain_stops : (l : Level) (member : Forms → FoundPart Expr) (ts : Forms) → binds_ahead ts < rank l → link_turn l member ts ≡ Some None
 unfolding link_turn
 chain_stops l member [] h = refl
 chain_stops l member (t ∷ ts) h = rw (no_op l t h) refl
@@ -188,7 +188,7 @@ part_begins (f.Ident name) text h = refl
 part_begins (f.Keyword k.Group) text h = refl
 part_begins t text h = absurd (cc)
 
-literal_begins : (t : TokenForm) (a : Expr) → literal_of t ≡ Some a → begins t ≡ 11
+literal_begins : (t : TokenForm) (a : Expr) → token_literal t ≡ Some a → begins t ≡ 11
 literal_begins (f.Int n) a h = refl
 literal_begins (f.Long n) a h = refl
 literal_begins f.Float a h = refl
@@ -198,7 +198,7 @@ literal_begins (f.Keyword k.False) a h = refl
 literal_begins (f.Keyword k.Null) a h = refl
 literal_begins t a h = absurd (cc)
 
-pub literal_fits : (t : TokenForm) (ts : Forms) (a : Expr) (d : ℕ) → literal_of t ≡ Some a → Fits (t ∷ ts) d → Fits ts d
+pub literal_fits : (t : TokenForm) (ts : Forms) (a : Expr) (d : ℕ) → token_literal t ≡ Some a → Fits (t ∷ ts) d → Fits ts d
 unfolding Fits
 literal_fits (f.Int n) ts a d h fits = fits
 literal_fits (f.Long n) ts a d h fits = fits
@@ -214,7 +214,7 @@ field_begins (by_name (part {t = t} {text = text} is)) = part_begins t text is
 field_begins (by_name (parts {t = t} {text = text} is later)) = part_begins t text is
 field_begins by_position = refl
 
-pub reads_begin : {l : Level} {ts rest : Forms} {a : Expr} → Reads l ts a rest → rank l ≤ begins_ahead ts
+pub reads_begin : {l : Level} {ts rest : Forms} {a : Expr} → ReadsExpr l ts a rest → rank l ≤ begins_ahead ts
 reads_begin (expr_one h) = omega (arith, reads_begin h)
 reads_begin (expr_more h links) = omega (arith, reads_begin h)
 reads_begin (conj_one h) = omega (arith, reads_begin h)
@@ -248,12 +248,12 @@ exprs_begin (exprs_more h later) = reads_begin h
 
 -- ---- which rule a reader takes
 
-pub neg_plain : (most : ℕ) (inner : Forms → Found Expr) (ts : Forms) → 4 ≤ begins_ahead ts → neg_at most inner ts ≡ comp_at most inner ts
+pub neg_plain : (most : ℕ) (inner : Forms → FoundPart Expr) (ts : Forms) → 4 ≤ begins_ahead ts → neg_at most inner ts ≡ comp_at most inner ts
 unfolding neg_at
 neg_plain most inner (f.Keyword k.Not ∷ ts) h = absurd (omega (arith, h))
 neg_plain most inner ts h = refl
 
-pub unary_plain : (most : ℕ) (inner : Forms → Found Expr) (ts : Forms) → 8 ≤ begins_ahead ts → unary_at most inner ts ≡ casted_at most inner ts
+pub unary_plain : (most : ℕ) (inner : Forms → FoundPart Expr) (ts : Forms) → 8 ≤ begins_ahead ts → unary_at most inner ts ≡ casted_at most inner ts
 unfolding unary_at
 unary_plain most inner (f.Symbol s.Minus ∷ ts) h = absurd (omega (arith, h))
 unary_plain most inner ts h = refl
@@ -269,23 +269,23 @@ no_type (f.Keyword k.Null ∷ ts) h = refl
 no_type (f.Keyword word ∷ ts) h = absurd (omega (arith, h))
 no_type (t ∷ ts) h = refl
 
-prim_inside : {ts rest : Forms} {a : Expr} → Reads prim (f.Symbol s.OpenParen ∷ ts) a rest → 1 ≤ begins_ahead ts
+prim_inside : {ts rest : Forms} {a : Expr} → ReadsExpr prim (f.Symbol s.OpenParen ∷ ts) a rest → 1 ≤ begins_ahead ts
 prim_inside (prim_literal h) = absurd (cc)
 prim_inside (prim_field h) = absurd (omega (arith, field_begins h))
 prim_inside (prim_paren h) = reads_begin h
 prim_inside (prim_choose a b c) = reads_begin a
 
-post_inside : {ts rest : Forms} {a : Expr} → Reads post (f.Symbol s.OpenParen ∷ ts) a rest → begins_type ts ≡ false
+post_inside : {ts rest : Forms} {a : Expr} → ReadsExpr post (f.Symbol s.OpenParen ∷ ts) a rest → begins_type ts ≡ false
 post_inside {ts = ts} (post_one h) = no_type ts (prim_inside h)
 post_inside {ts = ts} (post_more h steps) = no_type ts (prim_inside h)
 
-casted_of_post : (most : ℕ) (inner : Forms → Found Expr) (ts : Forms) → ((behind : Forms) → ts ≡ f.Symbol s.OpenParen ∷ behind → begins_type behind ≡ false) → casted_at most inner ts ≡ post_at inner ts
+casted_of_post : (most : ℕ) (inner : Forms → FoundPart Expr) (ts : Forms) → ((behind : Forms) → ts ≡ f.Symbol s.OpenParen ∷ behind → begins_type behind ≡ false) → casted_at most inner ts ≡ post_at inner ts
 unfolding casted_at
 casted_of_post most inner (f.Symbol s.OpenParen ∷ ts) h = rw (h ts refl) refl
 casted_of_post most inner ts h = refl
 
-pub casted_plain : (most : ℕ) (inner : Forms → Found Expr) {ts rest : Forms} {a : Expr} → Reads post ts a rest → casted_at most inner ts ≡ post_at inner ts
-casted_plain most inner {ts = ts} {rest = rest} {a = a} h = casted_of_post most inner ts (λ behind opens. post_inside (subst (λ v. Reads post v a rest) opens h))
+pub casted_plain : (most : ℕ) (inner : Forms → FoundPart Expr) {ts rest : Forms} {a : Expr} → ReadsExpr post ts a rest → casted_at most inner ts ≡ post_at inner ts
+casted_plain most inner {ts = ts} {rest = rest} {a = a} h = casted_of_post most inner ts (λ behind opens. post_inside (subst (λ v. ReadsExpr post v a rest) opens h))
 
 scalar_word : (word : Keyword) (type : TypeTree) → scalar_of word ≡ Some type → is_type_word word ≡ true
 scalar_word k.Tuple type h = refl
@@ -299,17 +299,17 @@ cast_word (cast_tuple h) = refl
 cast_word (cast_bag h) = refl
 cast_word (cast_map h) = refl
 
-pub casted_cast_at : (most : ℕ) (inner : Forms → Found Expr) {ts rest : Forms} {type : TypeTree} → IsCastType ts type rest → casted_at most inner (f.Symbol s.OpenParen ∷ ts) ≡ cast_at most inner ts
+pub casted_cast_at : (most : ℕ) (inner : Forms → FoundPart Expr) {ts rest : Forms} {type : TypeTree} → IsCastType ts type rest → casted_at most inner (f.Symbol s.OpenParen ∷ ts) ≡ cast_at most inner ts
 unfolding casted_at
 casted_cast_at most inner h = rw (cast_word h) refl
 
-pub prim_of_literal : (inner : Forms → Found Expr) (t : TokenForm) (ts : Forms) (a : Expr) → literal_of t ≡ Some a → prim_at inner (t ∷ ts) ≡ Some (a, ts)
+pub prim_of_literal : (inner : Forms → FoundPart Expr) (t : TokenForm) (ts : Forms) (a : Expr) → token_literal t ≡ Some a → prim_at inner (t ∷ ts) ≡ Some (a, ts)
 unfolding prim_at simple_at
 prim_of_literal inner (f.Ident text) ts a h = absurd (cc)
 prim_of_literal inner (f.Symbol s.OpenParen) ts a h = absurd (cc)
 prim_of_literal inner t ts a h = ap (λ o. option_map_or (λ a. Some (a, ts)) o (option_map (λ p. (ex.Field p.0, p.1)) (field_ref_at (t ∷ ts)))) h
 
-no_literal : (t : TokenForm) → begins t ≡ 12 → literal_of t ≡ None
+no_literal : (t : TokenForm) → begins t ≡ 12 → token_literal t ≡ None
 no_literal (f.Int n) h = absurd (omega (arith, h))
 no_literal (f.Long n) h = absurd (omega (arith, h))
 no_literal f.Float h = absurd (omega (arith, h))
@@ -323,26 +323,26 @@ simple_field : (t : TokenForm) (ts : Forms) → begins t ≡ 12 → simple_at (t
 unfolding simple_at
 simple_field t ts h = rw (no_literal t h) refl
 
-prim_simple : (inner : Forms → Found Expr) (t : TokenForm) (ts : Forms) → begins t ≡ 12 → binds_ahead ts < 11 → prim_at inner (t ∷ ts) ≡ simple_at (t ∷ ts)
+prim_simple : (inner : Forms → FoundPart Expr) (t : TokenForm) (ts : Forms) → begins t ≡ 12 → binds_ahead ts < 11 → prim_at inner (t ∷ ts) ≡ simple_at (t ∷ ts)
 unfolding prim_at
 prim_simple inner (f.Ident text) (f.Symbol s.OpenParen ∷ ts) h ends = absurd (omega (arith, ends))
 prim_simple inner (f.Symbol s.OpenParen) ts h ends = absurd (omega (arith, h))
 prim_simple inner t ts h ends = refl
 
 -- a field is no call
-pub prim_of_field : (inner : Forms → Found Expr) {ts rest : Forms} {r : FieldRef} → IsFieldRef ts r rest → binds_ahead rest < 11 → prim_at inner ts ≡ option_map (λ p. (ex.Field p.0, p.1)) (field_ref_at ts)
+pub prim_of_field : (inner : Forms → FoundPart Expr) {ts rest : Forms} {r : FieldRef} → IsFieldRef ts r rest → binds_ahead rest < 11 → prim_at inner ts ≡ option_map (λ p. (ex.Field p.0, p.1)) (field_ref_at ts)
 prim_of_field inner {rest = rest} (by_name (part {t = t} {text = text} is)) ends = prim_simple inner t rest (part_begins t text is) ends ∙ simple_field t rest (part_begins t text is)
 prim_of_field inner (by_name (parts {t = t} {ts = ts} {text = text} is later)) ends =
     prim_simple inner t (f.Symbol s.DoubleColon ∷ ts) (part_begins t text is) (omega arith) ∙ simple_field t (f.Symbol s.DoubleColon ∷ ts) (part_begins t text is)
 prim_of_field inner {rest = rest} (by_position {n = n}) ends = prim_simple inner (f.Position n) rest refl ends ∙ simple_field (f.Position n) rest refl
 
-call_plain : (inner : Forms → Found Expr) (text : List ℕ) (ts : Forms) → 1 ≤ begins_ahead ts
+call_plain : (inner : Forms → FoundPart Expr) (text : List ℕ) (ts : Forms) → 1 ≤ begins_ahead ts
     → call_at inner text ts ≡ option_and_then (λ args. option_and_then (λ rest. Some (ex.Call text args.0, rest)) (close_paren args.1)) (listed inner ts)
 unfolding call_at
 call_plain inner text (f.Symbol s.CloseParen ∷ ts) h = absurd (omega (arith, h))
 call_plain inner text ts h = refl
 
 -- a call with arguments
-pub call_args : (inner : Forms → Found Expr) (text : List ℕ) {ts rest : Forms} {args : List Expr} → AreExprs ts args rest
+pub call_args : (inner : Forms → FoundPart Expr) (text : List ℕ) {ts rest : Forms} {args : List Expr} → AreExprs ts args rest
     → call_at inner text ts ≡ option_and_then (λ args. option_and_then (λ rest. Some (ex.Call text args.0, rest)) (close_paren args.1)) (listed inner ts)
 call_args inner text {ts = ts} h = call_plain inner text ts (exprs_begin h)

@@ -5,11 +5,11 @@ use Rattle.std.specs.Option.{option_and_then, option_map_or}
 use Rattle.pig_syntax.specs.declared.tokens.Symbol.TheVariants as s
 use Rattle.pig_syntax.specs.declared.tokens.TokenForm.TheVariants as f
 use Rattle.pig_exprs.specs.Grammar.{Forms, Listed}
-use Rattle.pig_exprs.specs.Reader.{Found, Turn, repeat, comma_turn, listed, close_paren}
+use Rattle.pig_exprs.specs.Reader.{FoundPart, Turn, repeat, comma_turn, listed, close_paren}
 use Rattle.pig_exprs.proofs.Options.{Holds, holds_then, holds_map, holds_weaken}
 
 -- whatever the reader finds stands by the rule
-abbrev pub Upholds : {A : Type 0} → (Forms → Found A) → (Forms → A → Forms → Type 0) → Type 0
+abbrev pub Upholds : {A : Type 0} → (Forms → FoundPart A) → (Forms → A → Forms → Type 0) → Type 0
 Upholds reader rule = (ts : Forms) → Holds (λ p. rule ts p.0 p.1) (reader ts)
 
 -- ---- turn by turn
@@ -28,7 +28,7 @@ pub record Adds {A : Type 0} (run : Forms → List A → Forms → Type 0) (done
   pub whole : found.0 ≡ done ++ others
   pub behind : run ts others found.1
 
-by_turn : {A : Type 0} (run : Forms → List A → Forms → Type 0) (again : List A → Forms → Found (List A)) → ((done : List A) (ts : Forms) → Holds (Adds run done ts) (again done ts))
+by_turn : {A : Type 0} (run : Forms → List A → Forms → Type 0) (again : List A → Forms → FoundPart (List A)) → ((done : List A) (ts : Forms) → Holds (Adds run done ts) (again done ts))
     → (done : List A) (ts : Forms) → run ts [] ts → (turn : Turn A) → Holds (Holds (Leads run ts)) turn
     → Holds (Adds run done ts) (option_and_then (λ next. option_map_or (λ p. again (done ++ p.0 ∷ []) p.1) next (Some (done, ts))) turn)
 by_turn run again later done ts none None h = Holds.nothing
@@ -56,7 +56,7 @@ repeat_runs turn run none leads most ts =
 abbrev pub GoesOn : {A : Type 0} → (Forms → A → Forms → Type 0) → Forms → List A → Forms → Type 0
 GoesOn {A = A} rule ts others rest = (before : Forms) (a : A) → rule before a ts → Listed rule before (a ∷ others) rest
 
-comma_leads : {A : Type 0} (member : Forms → Found A) (rule : Forms → A → Forms → Type 0) → Upholds member rule → TurnsLead (comma_turn member) (GoesOn rule)
+comma_leads : {A : Type 0} (member : Forms → FoundPart A) (rule : Forms → A → Forms → Type 0) → Upholds member rule → TurnsLead (comma_turn member) (GoesOn rule)
 unfolding comma_turn
 comma_leads member rule upholds (f.Symbol s.Comma ∷ ts) =
     holds_map Some (upholds ts) (λ p r. Holds.just (λ others rest after before a first. Listed.more first (after ts p.0 r)))
@@ -69,7 +69,7 @@ members_listed turn rule leads most ts p first =
     holds_weaken (repeat_adds turn (GoesOn rule) (λ mid before a r. Listed.last r) leads most (p.0 ∷ []) p.1)
     (λ found adds. subst (λ xs. Listed rule ts xs found.1) (sym adds.whole) (adds.behind ts p.0 first))
 
-pub listed_upholds : {A : Type 0} (member : Forms → Found A) (rule : Forms → A → Forms → Type 0) → Upholds member rule → Upholds (listed member) (Listed rule)
+pub listed_upholds : {A : Type 0} (member : Forms → FoundPart A) (rule : Forms → A → Forms → Type 0) → Upholds member rule → Upholds (listed member) (Listed rule)
 unfolding listed
 listed_upholds member rule upholds ts =
     holds_then _ (upholds ts) (λ p first. members_listed (comma_turn member) rule (comma_leads member rule upholds) (length p.1) ts p first)

@@ -11,7 +11,7 @@ use Rattle.pig_syntax.specs.declared.trees.FieldRef.TheVariants as ref
 use Rattle.pig_syntax.specs.declared.trees.PostStep.{PostStep}
 use Rattle.pig_syntax.specs.declared.trees.PostStep.TheVariants as step
 use Rattle.pig_exprs.specs.Grammar.{Forms, part_of, IsName, part, parts, IsFieldRef, name as by_name, position as by_position, IsSelection, one, several}
-use Rattle.pig_exprs.specs.Reader.{comma_turn, close_paren, part_turn, joined, name_at, field_ref_at, selection_at}
+use Rattle.pig_exprs.specs.Reader.{comma_turn, close_paren, part_turn, joined_name, name_at, field_ref_at, selection_at}
 use Rattle.pig_exprs.proofs.Fits.{Fits}
 use Rattle.pig_exprs.proofs.Finds.{Finds, Run, stops, goes, repeat_run, finds_listed, listed_finds}
 
@@ -28,11 +28,11 @@ part_fits (f.Ident name) ts text d h fits = fits
 part_fits (f.Keyword k.Group) ts text d h fits = fits
 part_fits t ts text d h fits = absurd (cc)
 
-joined_front : (front name : List ℕ) (others : List (List ℕ)) → joined (front ++ name) others ≡ front ++ joined name others
-unfolding joined
+joined_front : (front name : List ℕ) (others : List (List ℕ)) → joined_name (front ++ name) others ≡ front ++ joined_name name others
+unfolding joined_name
 joined_front front name [] = refl
 joined_front front name (p ∷ ps) =
-    ap (λ v. joined (v ++ p) ps) (append_assoc front name (codes "::")) ∙ ap (λ v. joined v ps) (append_assoc front (name ++ codes "::") p) ∙ joined_front front (name ++ codes "::" ++ p) ps
+    ap (λ v. joined_name (v ++ p) ps) (append_assoc front name (codes "::")) ∙ ap (λ v. joined_name v ps) (append_assoc front (name ++ codes "::") p) ∙ joined_front front (name ++ codes "::" ++ p) ps
 
 -- the parts of a name
 record Parts (ts : Forms) (whole : List ℕ) (rest : Forms) (d : ℕ) : Type 0 where
@@ -43,7 +43,7 @@ record Parts (ts : Forms) (whole : List ℕ) (rest : Forms) (d : ℕ) : Type 0 w
   begins : ts ≡ token ∷ behind
   is : part_of token ≡ Some first
   run : Run part_turn behind others rest
-  joins : joined first others ≡ whole
+  joins : joined_name first others ≡ whole
   fits : Fits rest d
   shorter : length rest ≤ length behind
 
@@ -52,7 +52,7 @@ unfolding part_turn
 parts_turn ts behind token text begins is = rw (begins, is) refl
 
 parts_found : {ts rest : Forms} {text : List ℕ} → IsName ts text rest → (d : ℕ) → Fits ts d → NameEnds rest → Parts ts text rest d
-unfolding Fits joined
+unfolding Fits joined_name
 parts_found {rest = rest} (part {t = t} {text = text} is) d fits ends = record {
   first = text;
   others = [];
@@ -82,7 +82,7 @@ parts_found {rest = rest} (parts {t = t} {ts = ts} {text = text} {name = name} i
     }
 
 name_of : (ts rest behind : Forms) (text first : List ℕ) (others : List (List ℕ)) (token : TokenForm) → ts ≡ token ∷ behind → part_of token ≡ Some first → Run part_turn behind others rest
-    → joined first others ≡ text → name_at ts ≡ Some (text, rest)
+    → joined_name first others ≡ text → name_at ts ≡ Some (text, rest)
 unfolding name_at
 name_of ts rest behind text first others token begins is run joins = rw (begins, is, repeat_run run (length behind) [] (omega arith), joins) refl
 

@@ -5,31 +5,31 @@ use Rattle.pig_syntax.specs.declared.tokens.Symbol.TheVariants as s
 use Rattle.pig_syntax.specs.declared.tokens.TokenForm.{TokenForm}
 use Rattle.pig_syntax.specs.declared.tokens.TokenForm.TheVariants as f
 use Rattle.pig_exprs.specs.Grammar.{Forms, Listed, part_of, IsName, IsFieldRef, IsSelection}
-use Rattle.pig_exprs.specs.Reader.{part_turn, joined, name_at, field_ref_at, selection_at}
+use Rattle.pig_exprs.specs.Reader.{part_turn, joined_name, name_at, field_ref_at, selection_at}
 use Rattle.pig_exprs.proofs.Options.{Holds, itself, holds_then, holds_map}
 use Rattle.pig_exprs.proofs.ListSound.{Upholds, TurnsLead, repeat_runs, listed_upholds, closes}
 
 -- parts behind a text go on what stands behind it
-joined_behind : (text name : List ℕ) (parts : List (List ℕ)) → joined (text ++ name) parts ≡ text ++ joined name parts
-unfolding joined
+joined_behind : (text name : List ℕ) (parts : List (List ℕ)) → joined_name (text ++ name) parts ≡ text ++ joined_name name parts
+unfolding joined_name
 joined_behind text name [] = refl
 joined_behind text name (part ∷ parts) =
-    ap (λ n. joined (n ++ part) parts) (append_assoc text name (codes "::")) ∙ ap (λ n. joined n parts) (append_assoc text (name ++ codes "::") part)
+    ap (λ n. joined_name (n ++ part) parts) (append_assoc text name (codes "::")) ∙ ap (λ n. joined_name n parts) (append_assoc text (name ++ codes "::") part)
     ∙ joined_behind text (name ++ codes "::" ++ part) parts
 
 -- further parts, which go on any part before them
 abbrev MoreParts : Forms → List (List ℕ) → Forms → Type 0
-MoreParts ts parts rest = (t : TokenForm) (text : List ℕ) → part_of t ≡ Some text → IsName (t ∷ ts) (joined text parts) rest
+MoreParts ts parts rest = (t : TokenForm) (text : List ℕ) → part_of t ≡ Some text → IsName (t ∷ ts) (joined_name text parts) rest
 
 parts_lead : TurnsLead part_turn MoreParts
-unfolding part_turn joined
+unfolding part_turn joined_name
 parts_lead (f.Symbol s.DoubleColon ∷ t ∷ ts) =
     holds_map _ (itself (part_of t)) (λ part is_part. Holds.just (λ parts rest more before text is_text.
     subst (λ name. IsName (before ∷ f.Symbol s.DoubleColon ∷ t ∷ ts) name rest) (sym (joined_behind (text ++ codes "::") part parts)) (IsName.parts is_text (more t part is_part))))
 parts_lead ts = Holds.just Holds.nothing
 
 no_more_parts : (ts : Forms) → MoreParts ts [] ts
-unfolding joined
+unfolding joined_name
 no_more_parts ts t text is_text = IsName.part is_text
 
 pub name_upholds : Upholds name_at IsName

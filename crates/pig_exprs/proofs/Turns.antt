@@ -2,7 +2,7 @@
 use Rattle.std.proofs.Common.{◌≡◌, ℕ, suc, ◌+◌, ◌-◌, ◌<◌, ◌≤◌, refl, ap, ◌∙◌, arith, List, [], ◌∷◌, ◌++◌}
 use Rattle.std.specs.Prelude.{Some, None, Err}
 use Rattle.pig_exprs.specs.Grammar.{Forms}
-use Rattle.pig_exprs.specs.Reader.{Found, Turn, Gives, Turns, repeat}
+use Rattle.pig_exprs.specs.Reader.{FoundPart, Turn, Gives, Turns, repeat}
 use Rattle.pig_exprs.specs.declared.reading.ParseFault.{ParseFault}
 use Rattle.pig_exprs.specs.declared.reading.ParseFault.TheVariants as at
 
@@ -36,7 +36,7 @@ turn_end turn most done found ts behind =
     ap (λ n. repeat turn n found ts) e
 
 -- a fault of a turn is one of the list
-pub fault_of_turn : {A : Type 0} (turn : Turn A) (found : Found (List A)) (fault : ParseFault) → Turns {A = A} turn (Err fault) → (turn ≡ None → found ≡ None) → Gives found (Err fault)
+pub fault_of_turn : {A : Type 0} (turn : Turn A) (found : FoundPart (List A)) (fault : ParseFault) → Turns {A = A} turn (Err fault) → (turn ≡ None → found ≡ None) → Gives found (Err fault)
 fault_of_turn turn found at.Off given none = none given
 fault_of_turn turn found at.OutOfMemory given none = tt
 

@@ -9,8 +9,8 @@ use Rattle.pig_syntax.specs.declared.tokens.TokenForm.TheVariants as f
 use Rattle.pig_syntax.specs.declared.trees.FieldTree.{FieldTree}
 use Rattle.pig_syntax.specs.declared.trees.TypeTree.{TypeTree}
 use Rattle.pig_syntax.specs.declared.trees.TypeTree.TheVariants as type
-use Rattle.pig_exprs.specs.Grammar.{Forms, scalar_of, IsType, type_scalar, type_tuple, type_bag, type_bag_word, type_map, type_map_word, IsTuple, tuple_bare, tuple_word, IsBag, bag_bare, bag_named, IsMap, map_bare, map_typed, IsSchema, schema, AreFields, fields_last, fields_more, IsField, field_bare, field_typed, IsCastType, cast_scalar, cast_tuple, cast_bag, cast_map}
-use Rattle.pig_exprs.specs.Reader.{Found, comma_turn, close_paren, close_brace, close_bracket, field_at, schema_at, tuple_at, bag_rows_at, bag_at, map_at, cast_type_with, type_with, type_at}
+use Rattle.pig_exprs.specs.Grammar.{Forms, scalar_of, IsType, type_scalar, type_tuple, type_bag, type_bag_word, type_map, type_map_word, IsTuple, tuple_bare, tuple_word, IsBag, bag_bare, bag_named, IsMap, map_bare, map_typed, IsSchema, schema, AreSchemaFields, fields_last, fields_more, IsSchemaField, field_bare, field_typed, IsCastType, cast_scalar, cast_tuple, cast_bag, cast_map}
+use Rattle.pig_exprs.specs.Reader.{FoundPart, comma_turn, close_paren, close_brace, close_bracket, field_at, schema_at, tuple_at, bag_rows_at, bag_at, map_at, cast_type_with, type_with, type_at}
 use Rattle.pig_exprs.specs.ExprReader.{colon}
 use Rattle.pig_exprs.proofs.Fits.{Fits}
 use Rattle.pig_exprs.proofs.Finds.{Finds, FindsAll, finds_map, finds_last, finds_more, finds_listed}
@@ -18,7 +18,7 @@ use Rattle.pig_exprs.proofs.Finds.{Finds, FindsAll, finds_map, finds_last, finds
 -- ---- which rule a reader takes
 
 -- a word alone
-scalar_found : (inner : Forms → Found TypeTree) (word : Keyword) (type : TypeTree) (ts : Forms) → scalar_of word ≡ Some type → cast_type_with inner (f.Keyword word ∷ ts) ≡ Some (type, ts)
+scalar_found : (inner : Forms → FoundPart TypeTree) (word : Keyword) (type : TypeTree) (ts : Forms) → scalar_of word ≡ Some type → cast_type_with inner (f.Keyword word ∷ ts) ≡ Some (type, ts)
 unfolding cast_type_with
 scalar_found inner k.Tuple type ts h = absurd (cc)
 scalar_found inner k.Bag type ts h = absurd (cc)
@@ -31,39 +31,39 @@ scalar_fits k.Case type ts d h fits = absurd (cc)
 scalar_fits k.End type ts d h fits = absurd (cc)
 scalar_fits word type ts d h fits = fits
 
-bare_field : (inner : Forms → Found TypeTree) (text : List ℕ) (rest : Forms) → colon rest ≡ None → field_at inner (f.Ident text ∷ rest) ≡ Some (record { name = text; kind = None }, rest)
+bare_field : (inner : Forms → FoundPart TypeTree) (text : List ℕ) (rest : Forms) → colon rest ≡ None → field_at inner (f.Ident text ∷ rest) ≡ Some (record { name = text; kind = None }, rest)
 unfolding colon field_at
 bare_field inner text (f.Symbol s.Colon ∷ ts) h = absurd (cc)
 bare_field inner text rest h = refl
 
 -- the tuple's fields, with no word in front
-tuple_of_schema : (inner : Forms → Found TypeTree) {ts rest : Forms} {fields : List FieldTree} → IsSchema ts fields rest → tuple_at inner ts ≡ schema_at inner ts
+tuple_of_schema : (inner : Forms → FoundPart TypeTree) {ts rest : Forms} {fields : List FieldTree} → IsSchema ts fields rest → tuple_at inner ts ≡ schema_at inner ts
 unfolding tuple_at
 tuple_of_schema inner (schema h) = refl
 
-type_of_tuple : (inner : Forms → Found TypeTree) {ts rest : Forms} {fields : List FieldTree} → IsTuple ts fields rest → type_with inner ts ≡ option_map (λ p. (type.Tuple p.0, p.1)) (tuple_at inner ts)
+type_of_tuple : (inner : Forms → FoundPart TypeTree) {ts rest : Forms} {fields : List FieldTree} → IsTuple ts fields rest → type_with inner ts ≡ option_map (λ p. (type.Tuple p.0, p.1)) (tuple_at inner ts)
 unfolding tuple_at type_with cast_type_with
 type_of_tuple inner (tuple_bare (schema h)) = refl
 type_of_tuple inner (tuple_word h) = refl
 
-type_of_bag : (inner : Forms → Found TypeTree) {ts rest : Forms} {fields : List FieldTree} → IsBag ts fields rest → type_with inner ts ≡ option_map (λ p. (type.Bag p.0, p.1)) (bag_at inner ts)
+type_of_bag : (inner : Forms → FoundPart TypeTree) {ts rest : Forms} {fields : List FieldTree} → IsBag ts fields rest → type_with inner ts ≡ option_map (λ p. (type.Bag p.0, p.1)) (bag_at inner ts)
 unfolding type_with
 type_of_bag inner (bag_bare h) = refl
 type_of_bag inner (bag_named h) = refl
 
-type_of_map : (inner : Forms → Found TypeTree) {ts rest : Forms} {values : Option TypeTree} → IsMap ts values rest → type_with inner ts ≡ option_map (λ p. (type.Map p.0, p.1)) (map_at inner ts)
+type_of_map : (inner : Forms → FoundPart TypeTree) {ts rest : Forms} {values : Option TypeTree} → IsMap ts values rest → type_with inner ts ≡ option_map (λ p. (type.Map p.0, p.1)) (map_at inner ts)
 unfolding type_with
 type_of_map inner map_bare = refl
 type_of_map inner (map_typed h) = refl
 
 -- no name stands before the rows of a bag
-bag_of_tuple : (inner : Forms → Found TypeTree) {ts rest : Forms} {fields : List FieldTree} → IsTuple ts fields rest → bag_at inner (f.Symbol s.OpenBrace ∷ ts) ≡ bag_rows_at inner ts
+bag_of_tuple : (inner : Forms → FoundPart TypeTree) {ts rest : Forms} {fields : List FieldTree} → IsTuple ts fields rest → bag_at inner (f.Symbol s.OpenBrace ∷ ts) ≡ bag_rows_at inner ts
 unfolding bag_at
 bag_of_tuple inner (tuple_bare (schema h)) = refl
 bag_of_tuple inner (tuple_word h) = refl
 
 -- a map with a type of its values
-map_of_type : (inner : Forms → Found TypeTree) {ts rest : Forms} {type : TypeTree} → IsType ts type rest
+map_of_type : (inner : Forms → FoundPart TypeTree) {ts rest : Forms} {type : TypeTree} → IsType ts type rest
     → map_at inner (f.Symbol s.OpenBracket ∷ ts) ≡ option_and_then (λ values. option_and_then (λ rest. Some (Some values.0, rest)) (close_bracket values.1)) (inner ts)
 unfolding map_at
 map_of_type inner (type_scalar h) = refl
@@ -130,14 +130,14 @@ mutual
       let found = finds_listed (fields_found h d n fits (omega (arith, low)) refl refl) in
       record { finds = rw found.finds refl; fits = found.fits; shorter = omega (arith, found.shorter) }
 
-  fields_found : {ts rest : Forms} {fields : List FieldTree} → AreFields ts fields rest → (d n : ℕ) → Fits ts d → d < n → colon rest ≡ None → comma_turn (field_at (type_at n)) rest ≡ Some None
+  fields_found : {ts rest : Forms} {fields : List FieldTree} → AreSchemaFields ts fields rest → (d n : ℕ) → Fits ts d → d < n → colon rest ≡ None → comma_turn (field_at (type_at n)) rest ≡ Some None
       → FindsAll (field_at (type_at n)) ts fields rest d
   fields_found (fields_last h) d n fits low bare ends = finds_last (field_found h d n fits low bare) ends
   fields_found (fields_more h later) d n fits low bare ends =
       let first = field_found h d n fits low refl in
       finds_more first (fields_found later d n first.fits low bare ends)
 
-  pub field_found : {ts rest : Forms} {field : FieldTree} → IsField ts field rest → (d n : ℕ) → Fits ts d → d < n → colon rest ≡ None → Finds (field_at (type_at n)) ts field rest d
+  pub field_found : {ts rest : Forms} {field : FieldTree} → IsSchemaField ts field rest → (d n : ℕ) → Fits ts d → d < n → colon rest ≡ None → Finds (field_at (type_at n)) ts field rest d
   field_found (field_bare {ts = ts} {text = text}) d n fits low bare = record { finds = bare_field (type_at n) text ts bare; fits = fits; shorter = omega arith }
   field_found (field_typed h) d n fits low bare =
       let found = type_found h d n fits low in

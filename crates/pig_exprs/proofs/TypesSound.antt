@@ -5,15 +5,15 @@ use Rattle.pig_syntax.specs.declared.tokens.Symbol.TheVariants as s
 use Rattle.pig_syntax.specs.declared.tokens.TokenForm.TheVariants as f
 use Rattle.pig_syntax.specs.declared.trees.FieldTree.{FieldTree}
 use Rattle.pig_syntax.specs.declared.trees.TypeTree.{TypeTree}
-use Rattle.pig_exprs.specs.Grammar.{Forms, Listed, scalar_of, IsType, IsTuple, IsBag, IsMap, IsSchema, AreFields, IsField, IsCastType}
-use Rattle.pig_exprs.specs.Reader.{Found, close_brace, close_bracket, field_at, schema_at, tuple_at, bag_rows_at, bag_at, map_at, cast_type_with, type_with, type_at}
+use Rattle.pig_exprs.specs.Grammar.{Forms, Listed, scalar_of, IsType, IsTuple, IsBag, IsMap, IsSchema, AreSchemaFields, IsSchemaField, IsCastType}
+use Rattle.pig_exprs.specs.Reader.{FoundPart, close_brace, close_bracket, field_at, schema_at, tuple_at, bag_rows_at, bag_at, map_at, cast_type_with, type_with, type_at}
 use Rattle.pig_exprs.proofs.Options.{Holds, itself, holds_then, holds_map, holds_weaken}
 use Rattle.pig_exprs.proofs.ListSound.{Upholds, listed_upholds, closes}
 
 -- a list of fields
-pub are_fields : {ts rest : Forms} {fields : List FieldTree} → Listed IsField ts fields rest → AreFields ts fields rest
-are_fields (Listed.last field) = AreFields.fields_last field
-are_fields (Listed.more field fields) = AreFields.fields_more field (are_fields fields)
+pub are_fields : {ts rest : Forms} {fields : List FieldTree} → Listed IsSchemaField ts fields rest → AreSchemaFields ts fields rest
+are_fields (Listed.last field) = AreSchemaFields.fields_last field
+are_fields (Listed.more field fields) = AreSchemaFields.fields_more field (are_fields fields)
 
 -- each type of a cast is a type
 pub cast_is_type : {ts rest : Forms} {type : TypeTree} → IsCastType ts type rest → IsType ts type rest
@@ -35,18 +35,18 @@ bracket_closes P (f.Symbol s.CloseBracket ∷ ts) p = Holds.just p
 bracket_closes P _ p = Holds.nothing
 
 -- by the types inside
-module _ (inner : Forms → Found TypeTree) (inside : Upholds inner IsType) where
-  pub field_upholds : Upholds (field_at inner) IsField
+module _ (inner : Forms → FoundPart TypeTree) (inside : Upholds inner IsType) where
+  pub field_upholds : Upholds (field_at inner) IsSchemaField
   unfolding field_at
-  field_upholds (f.Ident name ∷ f.Symbol s.Colon ∷ ts) = holds_map _ (inside ts) (λ p type. IsField.field_typed type)
-  field_upholds (f.Ident name ∷ ts) = Holds.just IsField.field_bare
+  field_upholds (f.Ident name ∷ f.Symbol s.Colon ∷ ts) = holds_map _ (inside ts) (λ p type. IsSchemaField.field_typed type)
+  field_upholds (f.Ident name ∷ ts) = Holds.just IsSchemaField.field_bare
   field_upholds _ = Holds.nothing
 
   pub schema_upholds : Upholds (schema_at inner) IsSchema
   unfolding schema_at
   schema_upholds (f.Symbol s.OpenParen ∷ ts) =
-      holds_then _ (listed_upholds (field_at inner) IsField field_upholds ts) (λ fields l.
-      holds_then _ (closes (Listed IsField ts fields.0) fields.1 l) (λ rest l. Holds.just (IsSchema.schema (are_fields l))))
+      holds_then _ (listed_upholds (field_at inner) IsSchemaField field_upholds ts) (λ fields l.
+      holds_then _ (closes (Listed IsSchemaField ts fields.0) fields.1 l) (λ rest l. Holds.just (IsSchema.schema (are_fields l))))
   schema_upholds _ = Holds.nothing
 
   pub tuple_upholds : Upholds (tuple_at inner) IsTuple

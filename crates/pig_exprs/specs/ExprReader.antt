@@ -13,8 +13,8 @@ use Rattle.pig_syntax.specs.declared.trees.PostStep.TheVariants as step
 use Rattle.pig_value.specs.declared.operators.Rel.{Rel}
 use Rattle.pig_exprs.specs.declared.exprs.Chain.{Chain}
 use Rattle.pig_exprs.specs.declared.exprs.Chain.TheVariants as chain
-use Rattle.pig_exprs.specs.Grammar.{Forms, scalar_of, Level, expr, conj, sum, term, chain_op, rel_of, literal_of}
-use Rattle.pig_exprs.specs.Reader.{Found, Turn, ◌>>=◌, repeat, listed, close_paren, field_ref_at, selection_at, cast_type_with, type_at}
+use Rattle.pig_exprs.specs.Grammar.{Forms, scalar_of, Level, expr, conj, sum, term, chain_op, rel_of, token_literal}
+use Rattle.pig_exprs.specs.Reader.{FoundPart, Turn, ◌>>=◌, repeat, listed, close_paren, field_ref_at, selection_at, cast_type_with, type_at}
 
 -- ---- expressions, by the reader of the expressions inside brackets, with types in casts whose brackets nest less deep than `most`
 
@@ -26,7 +26,7 @@ level_of chain.Sum = sum
 level_of chain.Product = term
 
 -- an operator of a chain and what follows it
-unfoldable pub link_turn : Level → (Forms → Found Expr) → Forms → Turn Link
+unfoldable pub link_turn : Level → (Forms → FoundPart Expr) → Forms → Turn Link
 link_turn level member [] = Some None
 link_turn level member (t ∷ ts) = option_map_or (λ o. option_map (λ p. Some (record { op = o; a = p.0 }, p.1)) (member ts)) (chain_op level t) (Some None)
 
@@ -34,7 +34,7 @@ unfoldable pub chain_of : Expr → List Link → Expr
 chain_of a [] = a
 chain_of a (l ∷ ls) = e.Chain a (l ∷ ls)
 
-unfoldable pub chain_at : Level → (Forms → Found Expr) → Forms → Found Expr
+unfoldable pub chain_at : Level → (Forms → FoundPart Expr) → Forms → FoundPart Expr
 chain_at level member ts = do
   first ← member ts
   links ← repeat (link_turn level member) (length first.1) [] first.1
@@ -54,7 +54,7 @@ colon (f.Symbol s.Colon ∷ ts) = Some ts
 colon _ = None
 
 -- what stands behind the `?` of a choice
-unfoldable pub both_at : (Forms → Found Expr) → Forms → Found (Expr × Expr)
+unfoldable pub both_at : (Forms → FoundPart Expr) → Forms → FoundPart (Expr × Expr)
 both_at inner ts = do
   left ← inner ts
   behind ← colon left.1
@@ -63,7 +63,7 @@ both_at inner ts = do
   Some ((left.0, right.0), rest)
 
 -- what may follow an expression behind `(`: `)`, or `? b : c)`
-unfoldable pub paren_after : (Forms → Found Expr) → Expr → Forms → Found Expr
+unfoldable pub paren_after : (Forms → FoundPart Expr) → Expr → Forms → FoundPart Expr
 paren_after inner a (f.Symbol s.CloseParen ∷ ts) = Some (a, ts)
 paren_after inner a (f.Symbol s.Question ∷ ts) = do
   both ← both_at inner ts
@@ -71,23 +71,23 @@ paren_after inner a (f.Symbol s.Question ∷ ts) = do
 paren_after inner a _ = None
 
 -- what may follow a name and `(`
-unfoldable pub call_at : (Forms → Found Expr) → List ℕ → Forms → Found Expr
+unfoldable pub call_at : (Forms → FoundPart Expr) → List ℕ → Forms → FoundPart Expr
 call_at inner name (f.Symbol s.CloseParen ∷ ts) = Some (e.Call name [], ts)
 call_at inner name ts = do
   args ← listed inner ts
   rest ← close_paren args.1
   Some (e.Call name args.0, rest)
 
-unfoldable pub simple_at : Forms → Found Expr
+unfoldable pub simple_at : Forms → FoundPart Expr
 simple_at [] = None
-simple_at (t ∷ ts) = option_map_or (λ a. Some (a, ts)) (literal_of t) (option_map (λ p. (e.Field p.0, p.1)) (field_ref_at (t ∷ ts)))
+simple_at (t ∷ ts) = option_map_or (λ a. Some (a, ts)) (token_literal t) (option_map (λ p. (e.Field p.0, p.1)) (field_ref_at (t ∷ ts)))
 
-unfoldable pub prim_at : (Forms → Found Expr) → Forms → Found Expr
+unfoldable pub prim_at : (Forms → FoundPart Expr) → Forms → FoundPart Expr
 prim_at inner (f.Ident name ∷ f.Symbol s.OpenParen ∷ ts) = call_at inner name ts
 prim_at inner (f.Symbol s.OpenParen ∷ ts) = option_and_then (λ p. paren_after inner p.0 p.1) (inner ts)
 prim_at inner ts = simple_at ts
 
-unfoldable pub post_at : (Forms → Found Expr) → Forms → Found Expr
+unfoldable pub post_at : (Forms → FoundPart Expr) → Forms → FoundPart Expr
 post_at inner ts = do
   first ← prim_at inner ts
   steps ← repeat post_turn (length first.1) [] first.1
@@ -105,25 +105,25 @@ abbrev pub begins_type : Forms → Bool
 begins_type (f.Keyword word ∷ ts) = is_type_word word
 begins_type _ = false
 
-unfoldable pub cast_at : ℕ → (Forms → Found Expr) → Forms → Found Expr
+unfoldable pub cast_at : ℕ → (Forms → FoundPart Expr) → Forms → FoundPart Expr
 cast_at most inner ts = do
   type ← cast_type_with (type_at most) ts
   rest ← close_paren type.1
   a ← post_at inner rest
   Some (e.Cast type.0 a.0, a.1)
 
-unfoldable pub casted_at : ℕ → (Forms → Found Expr) → Forms → Found Expr
+unfoldable pub casted_at : ℕ → (Forms → FoundPart Expr) → Forms → FoundPart Expr
 casted_at most inner (f.Symbol s.OpenParen ∷ ts) = if begins_type ts then cast_at most inner ts else post_at inner (f.Symbol s.OpenParen ∷ ts)
 casted_at most inner ts = post_at inner ts
 
-unfoldable pub unary_at : ℕ → (Forms → Found Expr) → Forms → Found Expr
+unfoldable pub unary_at : ℕ → (Forms → FoundPart Expr) → Forms → FoundPart Expr
 unary_at most inner (f.Symbol s.Minus ∷ ts) = option_map (λ p. (e.Minus p.0, p.1)) (casted_at most inner ts)
 unary_at most inner ts = casted_at most inner ts
 
-unfoldable pub term_at : ℕ → (Forms → Found Expr) → Forms → Found Expr
+unfoldable pub term_at : ℕ → (Forms → FoundPart Expr) → Forms → FoundPart Expr
 term_at most inner ts = chain_at term (unary_at most inner) ts
 
-unfoldable pub sum_at : ℕ → (Forms → Found Expr) → Forms → Found Expr
+unfoldable pub sum_at : ℕ → (Forms → FoundPart Expr) → Forms → FoundPart Expr
 sum_at most inner ts = chain_at sum (term_at most inner) ts
 
 -- IS NULL or IS NOT NULL, and whether NOT stands in it
@@ -138,25 +138,25 @@ rel_ahead [] = None
 rel_ahead (t ∷ ts) = option_map (λ r. (r, ts)) (rel_of t)
 
 -- what may follow the first operand of a comparison
-unfoldable pub comp_after : ℕ → (Forms → Found Expr) → Expr → Forms → Found Expr
+unfoldable pub comp_after : ℕ → (Forms → FoundPart Expr) → Expr → Forms → FoundPart Expr
 comp_after most inner a ts =
     option_map_or (λ n. Some (e.IsNull a n.0, n.1)) (null_test ts)
     (option_map_or (λ r. option_map (λ p. (e.Compare r.0 a p.0, p.1)) (sum_at most inner r.1)) (rel_ahead ts) (Some (a, ts)))
 
-unfoldable pub comp_at : ℕ → (Forms → Found Expr) → Forms → Found Expr
+unfoldable pub comp_at : ℕ → (Forms → FoundPart Expr) → Forms → FoundPart Expr
 comp_at most inner ts = option_and_then (λ p. comp_after most inner p.0 p.1) (sum_at most inner ts)
 
-unfoldable pub neg_at : ℕ → (Forms → Found Expr) → Forms → Found Expr
+unfoldable pub neg_at : ℕ → (Forms → FoundPart Expr) → Forms → FoundPart Expr
 neg_at most inner (f.Keyword k.Not ∷ ts) = option_map (λ p. (e.Not p.0, p.1)) (comp_at most inner ts)
 neg_at most inner ts = comp_at most inner ts
 
-unfoldable pub conj_at : ℕ → (Forms → Found Expr) → Forms → Found Expr
+unfoldable pub conj_at : ℕ → (Forms → FoundPart Expr) → Forms → FoundPart Expr
 conj_at most inner ts = chain_at conj (neg_at most inner) ts
 
-unfoldable pub expr_with : ℕ → (Forms → Found Expr) → Forms → Found Expr
+unfoldable pub expr_with : ℕ → (Forms → FoundPart Expr) → Forms → FoundPart Expr
 expr_with most inner ts = chain_at expr (conj_at most inner) ts
 
 -- an expression whose brackets nest less deep than this
-unfoldable pub expr_at : ℕ → ℕ → Forms → Found Expr
+unfoldable pub expr_at : ℕ → ℕ → Forms → FoundPart Expr
 expr_at most zero ts = None
 expr_at most (suc depth) ts = expr_with most (expr_at most depth) ts

@@ -99,17 +99,17 @@ mutual
 
   -- schema = '(' field { ',' field } ')'
   pub data IsSchema : Forms → List FieldTree → Forms → Type 0 where
-    schema : {ts rest : Forms} {fields : List FieldTree} → AreFields ts fields (f.Symbol s.CloseParen ∷ rest) → IsSchema (f.Symbol s.OpenParen ∷ ts) fields rest
+    schema : {ts rest : Forms} {fields : List FieldTree} → AreSchemaFields ts fields (f.Symbol s.CloseParen ∷ rest) → IsSchema (f.Symbol s.OpenParen ∷ ts) fields rest
 
   -- field { ',' field }
-  pub data AreFields : Forms → List FieldTree → Forms → Type 0 where
-    fields_last : {ts rest : Forms} {field : FieldTree} → IsField ts field rest → AreFields ts (field ∷ []) rest
-    fields_more : {ts mid rest : Forms} {field : FieldTree} {fields : List FieldTree} → IsField ts field (f.Symbol s.Comma ∷ mid) → AreFields mid fields rest → AreFields ts (field ∷ fields) rest
+  pub data AreSchemaFields : Forms → List FieldTree → Forms → Type 0 where
+    fields_last : {ts rest : Forms} {field : FieldTree} → IsSchemaField ts field rest → AreSchemaFields ts (field ∷ []) rest
+    fields_more : {ts mid rest : Forms} {field : FieldTree} {fields : List FieldTree} → IsSchemaField ts field (f.Symbol s.Comma ∷ mid) → AreSchemaFields mid fields rest → AreSchemaFields ts (field ∷ fields) rest
 
   -- field = Ident [ ':' type ]
-  pub data IsField : Forms → FieldTree → Forms → Type 0 where
-    field_bare : {ts : Forms} {text : List ℕ} → IsField (f.Ident text ∷ ts) (record { name = text; kind = None }) ts
-    field_typed : {ts rest : Forms} {text : List ℕ} {type : TypeTree} → IsType ts type rest → IsField (f.Ident text ∷ f.Symbol s.Colon ∷ ts) (record { name = text; kind = Some type }) rest
+  pub data IsSchemaField : Forms → FieldTree → Forms → Type 0 where
+    field_bare : {ts : Forms} {text : List ℕ} → IsSchemaField (f.Ident text ∷ ts) (record { name = text; kind = None }) ts
+    field_typed : {ts rest : Forms} {text : List ℕ} {type : TypeTree} → IsType ts type rest → IsSchemaField (f.Ident text ∷ f.Symbol s.Colon ∷ ts) (record { name = text; kind = Some type }) rest
 
 -- ctype = scalar | TUPLE schema | BAG '{' [ Ident ':' ] [ TUPLE ] schema '}' | MAP '[' [ type ] ']'
 pub data IsCastType : Forms → TypeTree → Forms → Type 0 where
@@ -146,15 +146,15 @@ chain_op term (f.Symbol s.Percent) = Some op.Rem
 chain_op _ _ = None
 
 -- Int | Long | Float | Text | TRUE | FALSE | NULL
-abbrev pub literal_of : TokenForm → Option Expr
-literal_of (f.Int n) = Some (e.Int n)
-literal_of (f.Long n) = Some (e.Long n)
-literal_of f.Float = Some e.Float
-literal_of (f.Text text) = Some (e.Text text)
-literal_of (f.Keyword k.True) = Some (e.Bool true)
-literal_of (f.Keyword k.False) = Some (e.Bool false)
-literal_of (f.Keyword k.Null) = Some e.Null
-literal_of _ = None
+abbrev pub token_literal : TokenForm → Option Expr
+token_literal (f.Int n) = Some (e.Int n)
+token_literal (f.Long n) = Some (e.Long n)
+token_literal f.Float = Some e.Float
+token_literal (f.Text text) = Some (e.Text text)
+token_literal (f.Keyword k.True) = Some (e.Bool true)
+token_literal (f.Keyword k.False) = Some (e.Bool false)
+token_literal (f.Keyword k.Null) = Some e.Null
+token_literal _ = None
 
 -- { '.' sel | '#' Text }
 pub data ArePostSteps : Forms → List PostStep → Forms → Type 0 where
@@ -163,54 +163,54 @@ pub data ArePostSteps : Forms → List PostStep → Forms → Type 0 where
   look : {ts rest : Forms} {key : List ℕ} {ps : List PostStep} → ArePostSteps ts ps rest → ArePostSteps (f.Symbol s.Hash ∷ f.Text key ∷ ts) (step.Look key ∷ ps) rest
 
 mutual
-  pub data Reads : Level → Forms → Expr → Forms → Type 0 where
+  pub data ReadsExpr : Level → Forms → Expr → Forms → Type 0 where
     -- expr = conj { OR conj }
-    expr_one : {ts rest : Forms} {a : Expr} → Reads conj ts a rest → Reads expr ts a rest
-    expr_more : {ts mid rest : Forms} {a : Expr} {l : Link} {ls : List Link} → Reads conj ts a mid → Links expr conj mid (l ∷ ls) rest → Reads expr ts (e.Chain a (l ∷ ls)) rest
+    expr_one : {ts rest : Forms} {a : Expr} → ReadsExpr conj ts a rest → ReadsExpr expr ts a rest
+    expr_more : {ts mid rest : Forms} {a : Expr} {l : Link} {ls : List Link} → ReadsExpr conj ts a mid → Links expr conj mid (l ∷ ls) rest → ReadsExpr expr ts (e.Chain a (l ∷ ls)) rest
     -- conj = neg { AND neg }
-    conj_one : {ts rest : Forms} {a : Expr} → Reads neg ts a rest → Reads conj ts a rest
-    conj_more : {ts mid rest : Forms} {a : Expr} {l : Link} {ls : List Link} → Reads neg ts a mid → Links conj neg mid (l ∷ ls) rest → Reads conj ts (e.Chain a (l ∷ ls)) rest
+    conj_one : {ts rest : Forms} {a : Expr} → ReadsExpr neg ts a rest → ReadsExpr conj ts a rest
+    conj_more : {ts mid rest : Forms} {a : Expr} {l : Link} {ls : List Link} → ReadsExpr neg ts a mid → Links conj neg mid (l ∷ ls) rest → ReadsExpr conj ts (e.Chain a (l ∷ ls)) rest
     -- neg = [ NOT ] comp
-    neg_none : {ts rest : Forms} {a : Expr} → Reads comp ts a rest → Reads neg ts a rest
-    neg_not : {ts rest : Forms} {a : Expr} → Reads comp ts a rest → Reads neg (f.Keyword k.Not ∷ ts) (e.Not a) rest
+    neg_none : {ts rest : Forms} {a : Expr} → ReadsExpr comp ts a rest → ReadsExpr neg ts a rest
+    neg_not : {ts rest : Forms} {a : Expr} → ReadsExpr comp ts a rest → ReadsExpr neg (f.Keyword k.Not ∷ ts) (e.Not a) rest
     -- comp = sum [ relop sum ] | sum IS [ NOT ] NULL
-    comp_one : {ts rest : Forms} {a : Expr} → Reads sum ts a rest → Reads comp ts a rest
-    comp_rel : {ts mid rest : Forms} {t : TokenForm} {r : Rel} {a b : Expr} → Reads sum ts a (t ∷ mid) → rel_of t ≡ Some r → Reads sum mid b rest → Reads comp ts (e.Compare r a b) rest
-    comp_null : {ts rest : Forms} {a : Expr} → Reads sum ts a (f.Keyword k.Is ∷ f.Keyword k.Null ∷ rest) → Reads comp ts (e.IsNull a false) rest
-    comp_not_null : {ts rest : Forms} {a : Expr} → Reads sum ts a (f.Keyword k.Is ∷ f.Keyword k.Not ∷ f.Keyword k.Null ∷ rest) → Reads comp ts (e.IsNull a true) rest
+    comp_one : {ts rest : Forms} {a : Expr} → ReadsExpr sum ts a rest → ReadsExpr comp ts a rest
+    comp_rel : {ts mid rest : Forms} {t : TokenForm} {r : Rel} {a b : Expr} → ReadsExpr sum ts a (t ∷ mid) → rel_of t ≡ Some r → ReadsExpr sum mid b rest → ReadsExpr comp ts (e.Compare r a b) rest
+    comp_null : {ts rest : Forms} {a : Expr} → ReadsExpr sum ts a (f.Keyword k.Is ∷ f.Keyword k.Null ∷ rest) → ReadsExpr comp ts (e.IsNull a false) rest
+    comp_not_null : {ts rest : Forms} {a : Expr} → ReadsExpr sum ts a (f.Keyword k.Is ∷ f.Keyword k.Not ∷ f.Keyword k.Null ∷ rest) → ReadsExpr comp ts (e.IsNull a true) rest
     -- sum = term { ( '+' | '-' ) term }
-    sum_one : {ts rest : Forms} {a : Expr} → Reads term ts a rest → Reads sum ts a rest
-    sum_more : {ts mid rest : Forms} {a : Expr} {l : Link} {ls : List Link} → Reads term ts a mid → Links sum term mid (l ∷ ls) rest → Reads sum ts (e.Chain a (l ∷ ls)) rest
+    sum_one : {ts rest : Forms} {a : Expr} → ReadsExpr term ts a rest → ReadsExpr sum ts a rest
+    sum_more : {ts mid rest : Forms} {a : Expr} {l : Link} {ls : List Link} → ReadsExpr term ts a mid → Links sum term mid (l ∷ ls) rest → ReadsExpr sum ts (e.Chain a (l ∷ ls)) rest
     -- term = unary { ( '*' | '/' | '%' ) unary }
-    term_one : {ts rest : Forms} {a : Expr} → Reads unary ts a rest → Reads term ts a rest
-    term_more : {ts mid rest : Forms} {a : Expr} {l : Link} {ls : List Link} → Reads unary ts a mid → Links term unary mid (l ∷ ls) rest → Reads term ts (e.Chain a (l ∷ ls)) rest
+    term_one : {ts rest : Forms} {a : Expr} → ReadsExpr unary ts a rest → ReadsExpr term ts a rest
+    term_more : {ts mid rest : Forms} {a : Expr} {l : Link} {ls : List Link} → ReadsExpr unary ts a mid → Links term unary mid (l ∷ ls) rest → ReadsExpr term ts (e.Chain a (l ∷ ls)) rest
     -- unary = [ '-' ] casted
-    unary_none : {ts rest : Forms} {a : Expr} → Reads casted ts a rest → Reads unary ts a rest
-    unary_minus : {ts rest : Forms} {a : Expr} → Reads casted ts a rest → Reads unary (f.Symbol s.Minus ∷ ts) (e.Minus a) rest
+    unary_none : {ts rest : Forms} {a : Expr} → ReadsExpr casted ts a rest → ReadsExpr unary ts a rest
+    unary_minus : {ts rest : Forms} {a : Expr} → ReadsExpr casted ts a rest → ReadsExpr unary (f.Symbol s.Minus ∷ ts) (e.Minus a) rest
     -- casted = [ '(' ctype ')' ] post
-    casted_none : {ts rest : Forms} {a : Expr} → Reads post ts a rest → Reads casted ts a rest
-    casted_cast : {ts mid rest : Forms} {type : TypeTree} {a : Expr} → IsCastType ts type (f.Symbol s.CloseParen ∷ mid) → Reads post mid a rest → Reads casted (f.Symbol s.OpenParen ∷ ts) (e.Cast type a) rest
+    casted_none : {ts rest : Forms} {a : Expr} → ReadsExpr post ts a rest → ReadsExpr casted ts a rest
+    casted_cast : {ts mid rest : Forms} {type : TypeTree} {a : Expr} → IsCastType ts type (f.Symbol s.CloseParen ∷ mid) → ReadsExpr post mid a rest → ReadsExpr casted (f.Symbol s.OpenParen ∷ ts) (e.Cast type a) rest
     -- post = prim { '.' sel | '#' Text }
-    post_one : {ts rest : Forms} {a : Expr} → Reads prim ts a rest → Reads post ts a rest
-    post_more : {ts mid rest : Forms} {a : Expr} {p : PostStep} {ps : List PostStep} → Reads prim ts a mid → ArePostSteps mid (p ∷ ps) rest → Reads post ts (e.Post a (p ∷ ps)) rest
+    post_one : {ts rest : Forms} {a : Expr} → ReadsExpr prim ts a rest → ReadsExpr post ts a rest
+    post_more : {ts mid rest : Forms} {a : Expr} {p : PostStep} {ps : List PostStep} → ReadsExpr prim ts a mid → ArePostSteps mid (p ∷ ps) rest → ReadsExpr post ts (e.Post a (p ∷ ps)) rest
     -- prim = Int | Long | Float | Text | TRUE | FALSE | NULL | fref
     --      | Ident '(' [ expr { ',' expr } ] ')'
     --      | '(' expr ')' | '(' expr '?' expr ':' expr ')'
-    prim_literal : {ts : Forms} {t : TokenForm} {a : Expr} → literal_of t ≡ Some a → Reads prim (t ∷ ts) a ts
-    prim_field : {ts rest : Forms} {r : FieldRef} → IsFieldRef ts r rest → Reads prim ts (e.Field r) rest
-    prim_call_none : {ts : Forms} {name : List ℕ} → Reads prim (f.Ident name ∷ f.Symbol s.OpenParen ∷ f.Symbol s.CloseParen ∷ ts) (e.Call name []) ts
-    prim_call : {ts rest : Forms} {name : List ℕ} {args : List Expr} → AreExprs ts args (f.Symbol s.CloseParen ∷ rest) → Reads prim (f.Ident name ∷ f.Symbol s.OpenParen ∷ ts) (e.Call name args) rest
-    prim_paren : {ts rest : Forms} {a : Expr} → Reads expr ts a (f.Symbol s.CloseParen ∷ rest) → Reads prim (f.Symbol s.OpenParen ∷ ts) a rest
-    prim_choose : {ts left right rest : Forms} {a b c : Expr} → Reads expr ts a (f.Symbol s.Question ∷ left) → Reads expr left b (f.Symbol s.Colon ∷ right)
-        → Reads expr right c (f.Symbol s.CloseParen ∷ rest) → Reads prim (f.Symbol s.OpenParen ∷ ts) (e.Choose a b c) rest
+    prim_literal : {ts : Forms} {t : TokenForm} {a : Expr} → token_literal t ≡ Some a → ReadsExpr prim (t ∷ ts) a ts
+    prim_field : {ts rest : Forms} {r : FieldRef} → IsFieldRef ts r rest → ReadsExpr prim ts (e.Field r) rest
+    prim_call_none : {ts : Forms} {name : List ℕ} → ReadsExpr prim (f.Ident name ∷ f.Symbol s.OpenParen ∷ f.Symbol s.CloseParen ∷ ts) (e.Call name []) ts
+    prim_call : {ts rest : Forms} {name : List ℕ} {args : List Expr} → AreExprs ts args (f.Symbol s.CloseParen ∷ rest) → ReadsExpr prim (f.Ident name ∷ f.Symbol s.OpenParen ∷ ts) (e.Call name args) rest
+    prim_paren : {ts rest : Forms} {a : Expr} → ReadsExpr expr ts a (f.Symbol s.CloseParen ∷ rest) → ReadsExpr prim (f.Symbol s.OpenParen ∷ ts) a rest
+    prim_choose : {ts left right rest : Forms} {a b c : Expr} → ReadsExpr expr ts a (f.Symbol s.Question ∷ left) → ReadsExpr expr left b (f.Symbol s.Colon ∷ right)
+        → ReadsExpr expr right c (f.Symbol s.CloseParen ∷ rest) → ReadsExpr prim (f.Symbol s.OpenParen ∷ ts) (e.Choose a b c) rest
 
   -- { operator operand }, of one chain
   pub data Links : Level → Level → Forms → List Link → Forms → Type 0 where
     links_none : {chain member : Level} {ts : Forms} → Links chain member ts [] ts
-    links_link : {chain member : Level} {t : TokenForm} {ts mid rest : Forms} {o : ChainOp} {a : Expr} {ls : List Link} → chain_op chain t ≡ Some o → Reads member ts a mid
+    links_link : {chain member : Level} {t : TokenForm} {ts mid rest : Forms} {o : ChainOp} {a : Expr} {ls : List Link} → chain_op chain t ≡ Some o → ReadsExpr member ts a mid
         → Links chain member mid ls rest → Links chain member (t ∷ ts) (record { op = o; a = a } ∷ ls) rest
 
   -- expr { ',' expr }
   pub data AreExprs : Forms → List Expr → Forms → Type 0 where
-    exprs_last : {ts rest : Forms} {a : Expr} → Reads expr ts a rest → AreExprs ts (a ∷ []) rest
-    exprs_more : {ts mid rest : Forms} {a : Expr} {others : List Expr} → Reads expr ts a (f.Symbol s.Comma ∷ mid) → AreExprs mid others rest → AreExprs ts (a ∷ others) rest
+    exprs_last : {ts rest : Forms} {a : Expr} → ReadsExpr expr ts a rest → AreExprs ts (a ∷ []) rest
+    exprs_more : {ts mid rest : Forms} {a : Expr} {others : List Expr} → ReadsExpr expr ts a (f.Symbol s.Comma ∷ mid) → AreExprs mid others rest → AreExprs ts (a ∷ others) rest

@@ -5,10 +5,10 @@ use Rattle.std.specs.declared.alloc.Global.{Global}
 use Rattle.pig_syntax.specs.declared.tokens.Token.{Token}
 use Rattle.pig_exprs.specs.declared.reading.ParseFault.{ParseFault}
 use Rattle.pig_exprs.specs.Grammar.{Forms}
-use Rattle.pig_exprs.specs.Reader.{Found, Gives, forms}
+use Rattle.pig_exprs.specs.Reader.{FoundPart, Gives, forms}
 
 -- a function value that reads, to any depth, what the reader of that depth finds
-pub record Nests {A : Type 0} (reader : ℕ → Forms → Found A) (depth : ℕ) (pre : Global → Bor (List Token) → ℕ → Type 0)
+pub record Nests {A : Type 0} (reader : ℕ → Forms → FoundPart A) (depth : ℕ) (pre : Global → Bor (List Token) → ℕ → Type 0)
     (post : Global → Bor (List Token) → ℕ → Result (A × Bor (List Token)) ParseFault → Type 0) : Type 0 where
   pub callable : (alloc : Global) (ts : Bor (List Token)) → pre alloc ts depth
   pub reads : (alloc : Global) (ts : Bor (List Token)) (r : Result (A × Bor (List Token)) ParseFault) → post alloc ts depth r → Gives (reader depth (forms ts.now)) r

@@ -19,8 +19,8 @@ use Rattle.pig_syntax.specs.declared.trees.TypeTree.TheVariants as type
 use Rattle.pig_exprs.specs.Grammar.{Forms, part_of, scalar_of}
 
 -- what is read, and the tokens that are left
-abbrev pub Found : Type 0 → Type 0
-Found A = Option (A × Forms)
+abbrev pub FoundPart : Type 0 → Type 0
+FoundPart A = Option (A × Forms)
 
 -- what a turn of a list finds: nothing off the grammar, none where the list ends, and otherwise its next element
 abbrev pub Turn : Type 0 → Type 0
@@ -31,10 +31,24 @@ abbrev pub forms : List Token → Forms
 forms ts = map (λ t. t.form) ts
 
 -- the code gives what the reader finds
-abbrev pub Gives : {A : Type 0} → Found A → Result (A × Bor (List Token)) ParseFault → Type 0
+abbrev pub Gives : {A : Type 0} → FoundPart A → Result (A × Bor (List Token)) ParseFault → Type 0
 Gives found (Ok r) = found ≡ Some (r.0, forms r.1.now)
 Gives found (Err fault.Off) = found ≡ None
 Gives found (Err fault.OutOfMemory) = Unit {0}
+
+-- the code gives what the reader finds, beside what is kept
+abbrev pub GivesBeside : {A B : Type 0} → FoundPart B
+    → Result ((A × B) × Bor (List Token)) ParseFault → Type 0
+GivesBeside found (Ok r) = found ≡ Some (r.0.1, forms r.1.now)
+GivesBeside found (Err fault.Off) = found ≡ None
+GivesBeside found (Err fault.OutOfMemory) = Unit {0}
+
+-- the code gives the tokens that are left, behind what is kept
+abbrev pub GivesBehind : {A : Type 0} → Option Forms
+    → Result (A × Bor (List Token)) ParseFault → Type 0
+GivesBehind left (Ok r) = left ≡ Some (forms r.1.now)
+GivesBehind left (Err fault.Off) = left ≡ None
+GivesBehind left (Err fault.OutOfMemory) = ⊥
 
 -- the code gives what the turn finds
 abbrev pub Turns : {A : Type 0} → Turn A → Result (Option (A × Bor (List Token))) ParseFault → Type 0
@@ -47,16 +61,16 @@ abbrev pub ◌>>=◌ : {A B : Type 0} → Option A → (A → Option B) → Opti
 o >>= f = option_and_then f o
 
 -- the elements that a turn finds one after the other, behind those that are read, at most so many
-unfoldable pub repeat : {A : Type 0} → (Forms → Turn A) → ℕ → List A → Forms → Found (List A)
+unfoldable pub repeat : {A : Type 0} → (Forms → Turn A) → ℕ → List A → Forms → FoundPart (List A)
 repeat turn zero found ts = Some (found, ts)
 repeat turn (suc most) found ts = option_and_then (λ next. option_map_or (λ p. repeat turn most (found ++ p.0 ∷ []) p.1) next (Some (found, ts))) (turn ts)
 
 -- X { ',' X }
-unfoldable pub comma_turn : {A : Type 0} → (Forms → Found A) → Forms → Turn A
+unfoldable pub comma_turn : {A : Type 0} → (Forms → FoundPart A) → Forms → Turn A
 comma_turn member (f.Symbol s.Comma ∷ ts) = option_map Some (member ts)
 comma_turn member ts = Some None
 
-unfoldable pub listed : {A : Type 0} → (Forms → Found A) → Forms → Found (List A)
+unfoldable pub listed : {A : Type 0} → (Forms → FoundPart A) → Forms → FoundPart (List A)
 listed member ts = option_and_then (λ p. repeat (comma_turn member) (length p.1) (p.0 ∷ []) p.1) (member ts)
 
 -- the tokens behind a `)`
@@ -75,10 +89,10 @@ close_bracket (f.Symbol s.CloseBracket ∷ ts) = Some ts
 close_bracket _ = None
 
 -- the code gives the tokens that are left
-abbrev pub Leaves : Option Forms → Result (Bor (List Token)) ParseFault → Type 0
-Leaves left (Ok r) = left ≡ Some (forms r.now)
-Leaves left (Err fault.Off) = left ≡ None
-Leaves left (Err fault.OutOfMemory) = ⊥
+abbrev pub GivesRest : Option Forms → Result (Bor (List Token)) ParseFault → Type 0
+GivesRest left (Ok r) = left ≡ Some (forms r.now)
+GivesRest left (Err fault.Off) = left ≡ None
+GivesRest left (Err fault.OutOfMemory) = ⊥
 
 -- ---- names
 
@@ -88,22 +102,22 @@ part_turn (f.Symbol s.DoubleColon ∷ t ∷ ts) = option_map (λ part. Some (par
 part_turn ts = Some None
 
 -- the name of the parts
-unfoldable pub joined : List ℕ → List (List ℕ) → List ℕ
-joined name [] = name
-joined name (part ∷ parts) = joined (name ++ codes "::" ++ part) parts
+unfoldable pub joined_name : List ℕ → List (List ℕ) → List ℕ
+joined_name name [] = name
+joined_name name (part ∷ parts) = joined_name (name ++ codes "::" ++ part) parts
 
-unfoldable pub name_at : Forms → Found (List ℕ)
+unfoldable pub name_at : Forms → FoundPart (List ℕ)
 name_at [] = None
 name_at (t ∷ ts) = do
   part ← part_of t
   parts ← repeat part_turn (length ts) [] ts
-  Some (joined part parts.0, parts.1)
+  Some (joined_name part parts.0, parts.1)
 
-unfoldable pub field_ref_at : Forms → Found FieldRef
+unfoldable pub field_ref_at : Forms → FoundPart FieldRef
 field_ref_at (f.Position n ∷ ts) = Some (ref.Position n, ts)
 field_ref_at ts = option_map (λ p. (ref.Name p.0, p.1)) (name_at ts)
 
-unfoldable pub selection_at : Forms → Found PostStep
+unfoldable pub selection_at : Forms → FoundPart PostStep
 selection_at (f.Symbol s.OpenParen ∷ ts) = do
   fields ← listed field_ref_at ts
   rest ← close_paren fields.1
@@ -112,34 +126,34 @@ selection_at ts = option_map (λ p. (step.Project (p.0 ∷ []) true, p.1)) (fiel
 
 -- ---- types, by the reader of the types inside them
 
-unfoldable pub field_at : (Forms → Found TypeTree) → Forms → Found FieldTree
+unfoldable pub field_at : (Forms → FoundPart TypeTree) → Forms → FoundPart FieldTree
 field_at inner (f.Ident name ∷ f.Symbol s.Colon ∷ ts) = option_map (λ p. (record { name = name; kind = Some p.0 }, p.1)) (inner ts)
 field_at inner (f.Ident name ∷ ts) = Some (record { name = name; kind = None }, ts)
 field_at inner _ = None
 
-unfoldable pub schema_at : (Forms → Found TypeTree) → Forms → Found (List FieldTree)
+unfoldable pub schema_at : (Forms → FoundPart TypeTree) → Forms → FoundPart (List FieldTree)
 schema_at inner (f.Symbol s.OpenParen ∷ ts) = do
   fields ← listed (field_at inner) ts
   rest ← close_paren fields.1
   Some (fields.0, rest)
 schema_at inner _ = None
 
-unfoldable pub tuple_at : (Forms → Found TypeTree) → Forms → Found (List FieldTree)
+unfoldable pub tuple_at : (Forms → FoundPart TypeTree) → Forms → FoundPart (List FieldTree)
 tuple_at inner (f.Keyword k.Tuple ∷ ts) = schema_at inner ts
 tuple_at inner ts = schema_at inner ts
 
-unfoldable pub bag_rows_at : (Forms → Found TypeTree) → Forms → Found (List FieldTree)
+unfoldable pub bag_rows_at : (Forms → FoundPart TypeTree) → Forms → FoundPart (List FieldTree)
 bag_rows_at inner ts = do
   fields ← tuple_at inner ts
   rest ← close_brace fields.1
   Some (fields.0, rest)
 
-unfoldable pub bag_at : (Forms → Found TypeTree) → Forms → Found (List FieldTree)
+unfoldable pub bag_at : (Forms → FoundPart TypeTree) → Forms → FoundPart (List FieldTree)
 bag_at inner (f.Symbol s.OpenBrace ∷ f.Ident name ∷ f.Symbol s.Colon ∷ ts) = bag_rows_at inner ts
 bag_at inner (f.Symbol s.OpenBrace ∷ ts) = bag_rows_at inner ts
 bag_at inner _ = None
 
-unfoldable pub map_at : (Forms → Found TypeTree) → Forms → Found (Option TypeTree)
+unfoldable pub map_at : (Forms → FoundPart TypeTree) → Forms → FoundPart (Option TypeTree)
 map_at inner (f.Symbol s.OpenBracket ∷ f.Symbol s.CloseBracket ∷ ts) = Some (None, ts)
 map_at inner (f.Symbol s.OpenBracket ∷ ts) = do
   values ← inner ts
@@ -147,20 +161,20 @@ map_at inner (f.Symbol s.OpenBracket ∷ ts) = do
   Some (Some values.0, rest)
 map_at inner _ = None
 
-unfoldable pub cast_type_with : (Forms → Found TypeTree) → Forms → Found TypeTree
+unfoldable pub cast_type_with : (Forms → FoundPart TypeTree) → Forms → FoundPart TypeTree
 cast_type_with inner (f.Keyword k.Tuple ∷ ts) = option_map (λ p. (type.Tuple p.0, p.1)) (schema_at inner ts)
 cast_type_with inner (f.Keyword k.Bag ∷ ts) = option_map (λ p. (type.Bag p.0, p.1)) (bag_at inner ts)
 cast_type_with inner (f.Keyword k.Map ∷ ts) = option_map (λ p. (type.Map p.0, p.1)) (map_at inner ts)
 cast_type_with inner (f.Keyword word ∷ ts) = option_map (λ scalar. (scalar, ts)) (scalar_of word)
 cast_type_with inner _ = None
 
-unfoldable pub type_with : (Forms → Found TypeTree) → Forms → Found TypeTree
+unfoldable pub type_with : (Forms → FoundPart TypeTree) → Forms → FoundPart TypeTree
 type_with inner (f.Symbol s.OpenParen ∷ ts) = option_map (λ p. (type.Tuple p.0, p.1)) (schema_at inner (f.Symbol s.OpenParen ∷ ts))
 type_with inner (f.Symbol s.OpenBrace ∷ ts) = option_map (λ p. (type.Bag p.0, p.1)) (bag_at inner (f.Symbol s.OpenBrace ∷ ts))
 type_with inner (f.Symbol s.OpenBracket ∷ ts) = option_map (λ p. (type.Map p.0, p.1)) (map_at inner (f.Symbol s.OpenBracket ∷ ts))
 type_with inner ts = cast_type_with inner ts
 
 -- a type whose brackets nest less deep than this
-unfoldable pub type_at : ℕ → Forms → Found TypeTree
+unfoldable pub type_at : ℕ → Forms → FoundPart TypeTree
 type_at zero ts = None
 type_at (suc depth) ts = type_with (type_at depth) ts

@@ -1,11 +1,13 @@
 ghost use Rattle.std.specs.Prelude.{◌≡◌, [], ◌∷◌, IfOk, IfSome, length, map, option_map};
-ghost use Rattle.pig_exprs.specs.Grammar.{Forms, chain_op, rel_of, literal_of};
+ghost use Rattle.pig_exprs.specs.Grammar.{Forms, chain_op, rel_of, token_literal};
 ghost use Rattle.pig_exprs.specs.Nests.{Nests};
-ghost use Rattle.pig_exprs.specs.Reader.{forms, Gives, Leaves};
+ghost use Rattle.pig_exprs.specs.Reader.{forms, Gives, GivesBeside, GivesBehind, GivesRest};
 ghost use Rattle.pig_exprs.specs.ExprReader.{both_at, level_of, chain_of, link_turn, chain_at, post_turn, post_of, colon, paren_after, call_at, simple_at, prim_at, post_at, begins_type, is_type_word, cast_at, casted_at, unary_at, term_at, sum_at, null_test, rel_ahead, comp_after, comp_at, neg_at, conj_at, expr_with, expr_at};
 
 use crate::names::{field_ref, selection};
-use crate::reading::{ParseFault, Rule, Turning, close_paren, listed, repeat};
+use crate::reading::{
+    ParseFault, Rule, Turning, before, beside, close_paren, closed, discard, listed, repeat,
+};
 use crate::types::cast_type;
 use pig_syntax::{
     Expr, Exprs, Keyword, Link, Links, PostStep, PostSteps, Symbol, Token, TokenForm,
@@ -140,7 +142,7 @@ fn comparison_ahead(tokens: &[Token]) -> Option<(Rel, &[Token])>
 
 // The literal that a token is.
 fn literal(alloc: Global, token: &Token) -> Result<Option<Expr>, AllocError>
-    ensures { IfOk result (λ found. found ≡ literal_of token.now.form) }
+    ensures { IfOk result (λ found. found ≡ token_literal token.now.form) }
 {
     match &token.form {
         TokenForm::Int(number) => Ok(Some(Expr::Int(*number))),
@@ -219,7 +221,8 @@ fn chained<'a, R: Rule<Tree = Expr>>(
     ensures { Gives (chain_at (level_of chain) (R.finds rule.now) (forms tokens.now)) result }
 {
     let (first, rest) = rule.read(tokens)?;
-    let (links, rest) = repeat(&Linking { chain, rule }, Links::new(alloc), rest)?;
+    let linking = Linking { chain, rule };
+    let ((first, links), rest) = before(first, &linking, Links::new(alloc), rest)?;
     let whole = chain_of(alloc, first, links)?;
     Ok((whole, rest))
 }
@@ -272,7 +275,7 @@ impl Turning for Stepping {
 // The tokens behind a `:`.
 #[tactic(auto, unfolding(crate::specs::ExprReader::colon))]
 fn colon(tokens: &[Token]) -> Result<&[Token], ParseFault>
-    ensures { Leaves (colon (forms tokens.now)) result }
+    ensures { GivesRest (colon (forms tokens.now)) result }
 {
     match tokens {
         [
@@ -284,6 +287,15 @@ fn colon(tokens: &[Token]) -> Result<&[Token], ParseFault>
         ] => Ok(rest),
         _ => Err(ParseFault::Off),
     }
+}
+
+// What is kept, where a `:` stands there.
+fn behind_colon<T: Drop>(kept: T, tokens: &[Token]) -> Result<(T, &[Token]), ParseFault>
+    ensures kept { IfOk result (λ r. r.0 ≡ kept) }
+    ensures rest { GivesBehind (colon (forms tokens.now)) result }
+{
+    let rest = colon(tokens)?;
+    Ok((kept, rest))
 }
 
 // A literal or a field.
@@ -341,12 +353,39 @@ fn is_type_word(word: Keyword) -> bool
     )
 }
 
+// Two trees, boxed.
+fn both_boxed<A: Drop, B: Drop>(
+    alloc: Global,
+    a: A,
+    b: B,
+) -> Result<(Boxed<A>, Boxed<B>), AllocError>
+    ensures { IfOk result (λ r. r ≡ (a, b)) }
+{
+    let a = Boxed::new(alloc, a)?;
+    let b = Boxed::new(alloc, b)?;
+    Ok((a, b))
+}
+
+// Three trees, boxed.
+fn all_boxed<T: Drop>(
+    alloc: Global,
+    a: T,
+    b: T,
+    c: T,
+) -> Result<(Boxed<T>, Boxed<T>, Boxed<T>), AllocError>
+    ensures { IfOk result (λ r. r ≡ (a, b, c)) }
+{
+    let a = Boxed::new(alloc, a)?;
+    let b = Boxed::new(alloc, b)?;
+    let c = Boxed::new(alloc, c)?;
+    Ok((a, b, c))
+}
+
 // A comparison of two expressions.
 fn compare(alloc: Global, op: Rel, a: Expr, b: Expr) -> Result<Expr, AllocError>
     ensures { IfOk result (λ e. e ≡ Expr.Compare op a b) }
 {
-    let a = Boxed::new(alloc, a)?;
-    let b = Boxed::new(alloc, b)?;
+    let (a, b) = both_boxed(alloc, a, b)?;
     Ok(Expr::Compare { op, a, b })
 }
 
@@ -362,9 +401,7 @@ fn is_null(alloc: Global, a: Expr, not: bool) -> Result<Expr, AllocError>
 fn choose(alloc: Global, cond: Expr, yes: Expr, no: Expr) -> Result<Expr, AllocError>
     ensures { IfOk result (λ e. e ≡ Expr.Choose cond yes no) }
 {
-    let cond = Boxed::new(alloc, cond)?;
-    let yes = Boxed::new(alloc, yes)?;
-    let no = Boxed::new(alloc, no)?;
+    let (cond, yes, no) = all_boxed(alloc, cond, yes, no)?;
     Ok(Expr::Choose { cond, yes, no })
 }
 
@@ -443,15 +480,20 @@ impl<R: Rule<Tree = Expr>> Rule for Signed<'_, R> {
 impl<R: Rule<Tree = Expr>> Grammar<R> {
     // What stands behind the `?` of a choice.
     #[tactic(auto, unfolding(crate::specs::ExprReader::both_at))]
-    fn both<'a>(&self, tokens: &'a [Token]) -> Result<((Expr, Expr), &'a [Token]), ParseFault>
+    fn both<'a, K: Drop>(
+        &self,
+        kept: K,
+        tokens: &'a [Token],
+    ) -> Result<((K, (Expr, Expr)), &'a [Token]), ParseFault>
         requires { R.ready self.now.inner }
-        ensures { Gives (both_at (R.finds self.now.inner) (forms tokens.now)) result }
+        ensures kept { IfOk result (λ r. r.0.0 ≡ kept) }
+        ensures found { GivesBeside (both_at (R.finds self.now.inner) (forms tokens.now)) result }
     {
         let (left, rest) = self.inner.read(tokens)?;
-        let rest = colon(rest)?;
-        let (right, rest) = self.inner.read(rest)?;
-        let rest = close_paren(rest)?;
-        Ok(((left, right), rest))
+        let (left, rest) = behind_colon(left, rest)?;
+        let (both, rest) = beside(left, &self.inner, rest)?;
+        let (both, rest) = closed(both, rest)?;
+        Ok(((kept, both), rest))
     }
 
     // What follows an expression behind `(`: a `)`, or a choice.
@@ -475,11 +517,14 @@ impl<R: Rule<Tree = Expr>> Grammar<R> {
                 },
                 rest @ ..,
             ] => {
-                let ((yes, no), rest) = self.both(rest)?;
+                let ((first, (yes, no)), rest) = self.both(first, rest)?;
                 let choice = choose(self.alloc, first, yes, no)?;
                 Ok((choice, rest))
             }
-            _ => Err(ParseFault::Off),
+            _ => {
+                discard(first);
+                Err(ParseFault::Off)
+            }
         }
     }
 
@@ -550,9 +595,25 @@ impl<R: Rule<Tree = Expr>> Grammar<R> {
     {
         let (first, rest) = self.prim(tokens)?;
         let stepping = Stepping { alloc: self.alloc };
-        let (steps, rest) = repeat(&stepping, PostSteps::new(self.alloc), rest)?;
+        let steps = PostSteps::new(self.alloc);
+        let ((first, steps), rest) = before(first, &stepping, steps, rest)?;
         let whole = post_of(self.alloc, first, steps)?;
         Ok((whole, rest))
+    }
+
+    // What is kept, and an expression with projections and look-ups behind it.
+    fn and_post<'a, K: Drop>(
+        &self,
+        kept: K,
+        rest: &'a [Token],
+    ) -> Result<((K, Boxed<Expr>), &'a [Token]), ParseFault>
+        requires { R.ready self.now.inner }
+        ensures kept { IfOk result (λ r. r.0.0 ≡ kept) }
+        ensures found { GivesBeside (post_at (R.finds self.now.inner) (forms rest.now)) result }
+    {
+        let (a, rest) = self.post(rest)?;
+        let a = Boxed::new(self.alloc, a)?;
+        Ok(((kept, a), rest))
     }
 
     // A cast, behind its `(`.
@@ -562,9 +623,8 @@ impl<R: Rule<Tree = Expr>> Grammar<R> {
         ensures { Gives (cast_at 65 (R.finds self.now.inner) (forms tokens.now)) result }
     {
         let (to, rest) = cast_type(self.alloc, tokens, MOST_NESTED)?;
-        let rest = close_paren(rest)?;
-        let (a, rest) = self.post(rest)?;
-        let a = Boxed::new(self.alloc, a)?;
+        let (to, rest) = closed(to, rest)?;
+        let ((to, a), rest) = self.and_post(to, rest)?;
         Ok((Expr::Cast { to, a }, rest))
     }
 
@@ -637,6 +697,20 @@ impl<R: Rule<Tree = Expr>> Grammar<R> {
         chained(self.alloc, Chain::Sum, &Products { grammar: self }, tokens)
     }
 
+    // What is kept, and operands of `+` and `-`.
+    fn and_sum<'a, K: Drop>(
+        &self,
+        kept: K,
+        tokens: &'a [Token],
+    ) -> Result<((K, Expr), &'a [Token]), ParseFault>
+        requires { R.ready self.now.inner }
+        ensures kept { IfOk result (λ r. r.0.0 ≡ kept) }
+        ensures found { GivesBeside (sum_at 65 (R.finds self.now.inner) (forms tokens.now)) result }
+    {
+        let (sum, rest) = self.sum(tokens)?;
+        Ok(((kept, sum), rest))
+    }
+
     // A comparison or a test for null behind its first operand, or neither.
     #[tactic(auto, unfolding(crate::specs::ExprReader::comp_after))]
     fn comp_after<'a>(
@@ -654,7 +728,7 @@ impl<R: Rule<Tree = Expr>> Grammar<R> {
             }
             None => match comparison_ahead(tokens) {
                 Some((op, rest)) => {
-                    let (b, rest) = self.sum(rest)?;
+                    let ((a, b), rest) = self.and_sum(a, rest)?;
                     let whole = compare(self.alloc, op, a, b)?;
                     Ok((whole, rest))
                 }

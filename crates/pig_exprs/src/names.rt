@@ -1,6 +1,6 @@
 ghost use Rattle.std.specs.Prelude.{◌≡◌, [], ◌∷◌, ◌++◌, true, codes, IfOk, length, map, option_map, string_bytes};
 ghost use Rattle.pig_exprs.specs.Grammar.{Forms, part_of};
-ghost use Rattle.pig_exprs.specs.Reader.{forms, Gives, joined, part_turn, name_at, field_ref_at, selection_at, close_paren};
+ghost use Rattle.pig_exprs.specs.Reader.{forms, Gives, joined_name, part_turn, name_at, field_ref_at, selection_at, close_paren};
 
 use crate::reading::{ParseFault, Rule, Turning, close_paren, listed, one, repeat};
 use pig_syntax::{FieldRef, Keyword, PostStep, Symbol, Token, TokenForm};
@@ -20,7 +20,8 @@ fn part(token: &Token) -> Option<&str>
 
 // The name with one more part.
 fn with_part(name: String, part: &str) -> Result<String, AllocError>
-    ensures { IfOk result (λ longer. string_bytes longer ≡ string_bytes name ++ codes "::" ++ part.now) }
+    ensures { IfOk result (λ longer.
+        string_bytes longer ≡ string_bytes name ++ codes "::" ++ part.now) }
 {
     let mut name = name;
     name.push_str("::")?;
@@ -29,9 +30,9 @@ fn with_part(name: String, part: &str) -> Result<String, AllocError>
 }
 
 // The name of the parts.
-#[tactic(auto, unfolding(crate::specs::Reader::joined))]
-fn joined(name: String, parts: &[Text]) -> Result<Text, AllocError>
-    ensures { IfOk result (λ whole. whole ≡ joined (string_bytes name) parts.now) }
+#[tactic(auto, unfolding(crate::specs::Reader::joined_name))]
+fn joined_name(name: String, parts: &[Text]) -> Result<Text, AllocError>
+    ensures { IfOk result (λ whole. whole ≡ joined_name (string_bytes name) parts.now) }
 {
     let mut name = name;
     let mut rest = parts;
@@ -86,7 +87,7 @@ pub fn name(alloc: Global, tokens: &[Token]) -> Result<(Text, &[Token]), ParseFa
         [first, rest @ ..] => match part(first) {
             Some(text) => {
                 let (parts, rest) = repeat(&Parting { alloc }, Seq::new(alloc), rest)?;
-                let name = joined(String::from_str(alloc, text)?, parts.as_slice())?;
+                let name = joined_name(String::from_str(alloc, text)?, parts.as_slice())?;
                 Ok((name, rest))
             }
             None => Err(ParseFault::Off),

@@ -1,6 +1,6 @@
 ghost use Rattle.std.specs.Prelude.{◌≡◌, [], ◌∷◌, ◌++◌, ℕ, Option, IfOk, length};
 ghost use Rattle.pig_exprs.specs.Grammar.{Forms};
-ghost use Rattle.pig_exprs.specs.Reader.{Found, Turn, forms, Gives, Turns, Leaves, repeat, comma_turn, listed, close_paren, close_brace, close_bracket};
+ghost use Rattle.pig_exprs.specs.Reader.{FoundPart, Turn, forms, Gives, GivesBeside, GivesBehind, Turns, GivesRest, repeat, comma_turn, listed, close_paren, close_brace, close_bracket};
 
 use pig_syntax::{Symbol, Token, TokenForm};
 use pig_value::Seq;
@@ -33,7 +33,7 @@ pub trait Rule {
     ghost ready: { Self → Type 0 };
 
     /// What it finds.
-    ghost finds: { Self → Forms → Found Self.Tree };
+    ghost finds: { Self → Forms → FoundPart Self.Tree };
 
     /// Reads a tree from the front of the tokens.
     fn read<'a>(&self, tokens: &'a [Token]) -> Result<(Self::Tree, &'a [Token]), ParseFault>
@@ -113,7 +113,8 @@ pub fn repeat<'a, T: Turning>(
     tokens: &'a [Token],
 ) -> Result<(Seq<T::Tree>, &'a [Token]), ParseFault>
     requires { T.ready turning.now }
-    ensures { Gives (repeat (T.finds turning.now) (length tokens.now) found (forms tokens.now)) result }
+    ensures { Gives
+        (repeat (T.finds turning.now) (length tokens.now) found (forms tokens.now)) result }
 {
     let mut found = found;
     let mut rest = tokens;
@@ -149,7 +150,7 @@ pub fn listed<'a, R: Rule>(
 /// The tokens behind a `)`.
 #[tactic(auto, unfolding(crate::specs::Reader::close_paren))]
 pub fn close_paren(tokens: &[Token]) -> Result<&[Token], ParseFault>
-    ensures { Leaves (close_paren (forms tokens.now)) result }
+    ensures { GivesRest (close_paren (forms tokens.now)) result }
 {
     match tokens {
         [
@@ -163,10 +164,55 @@ pub fn close_paren(tokens: &[Token]) -> Result<&[Token], ParseFault>
     }
 }
 
+/// Drops what is not wanted.
+pub fn discard<T: Drop>(_unwanted: T) {}
+
+/// What is kept, where a `)` stands there.
+///
+/// A reader of several parts hands on here what has to wait, so that it drops no tree itself: dropping one of
+/// any type is cheap to prove, and dropping a tree is not.
+pub fn closed<T: Drop>(kept: T, tokens: &[Token]) -> Result<(T, &[Token]), ParseFault>
+    ensures kept { IfOk result (λ r. r.0 ≡ kept) }
+    ensures rest { GivesBehind (close_paren (forms tokens.now)) result }
+{
+    let rest = close_paren(tokens)?;
+    Ok((kept, rest))
+}
+
+/// What is kept, and what a rule reads.
+pub fn beside<'a, T: Drop, R: Rule>(
+    kept: T,
+    rule: &R,
+    tokens: &'a [Token],
+) -> Result<((T, R::Tree), &'a [Token]), ParseFault>
+    requires { R.ready rule.now }
+    ensures kept { IfOk result (λ r. r.0.0 ≡ kept) }
+    ensures found { GivesBeside (R.finds rule.now (forms tokens.now)) result }
+{
+    let (next, rest) = rule.read(tokens)?;
+    Ok(((kept, next), rest))
+}
+
+/// What is kept, and the elements of a list.
+pub fn before<'a, K: Drop, T: Turning>(
+    kept: K,
+    turning: &T,
+    found: Seq<T::Tree>,
+    tokens: &'a [Token],
+) -> Result<((K, Seq<T::Tree>), &'a [Token]), ParseFault>
+    requires { T.ready turning.now }
+    ensures kept { IfOk result (λ r. r.0.0 ≡ kept) }
+    ensures found { GivesBeside
+        (repeat (T.finds turning.now) (length tokens.now) found (forms tokens.now)) result }
+{
+    let (elements, rest) = repeat(turning, found, tokens)?;
+    Ok(((kept, elements), rest))
+}
+
 /// The tokens behind a `}`.
 #[tactic(auto, unfolding(crate::specs::Reader::close_brace))]
 pub fn close_brace(tokens: &[Token]) -> Result<&[Token], ParseFault>
-    ensures { Leaves (close_brace (forms tokens.now)) result }
+    ensures { GivesRest (close_brace (forms tokens.now)) result }
 {
     match tokens {
         [
@@ -183,7 +229,7 @@ pub fn close_brace(tokens: &[Token]) -> Result<&[Token], ParseFault>
 /// The tokens behind a `]`.
 #[tactic(auto, unfolding(crate::specs::Reader::close_bracket))]
 pub fn close_bracket(tokens: &[Token]) -> Result<&[Token], ParseFault>
-    ensures { Leaves (close_bracket (forms tokens.now)) result }
+    ensures { GivesRest (close_bracket (forms tokens.now)) result }
 {
     match tokens {
         [

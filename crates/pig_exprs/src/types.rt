@@ -217,7 +217,8 @@ impl<R: Rule<Tree = TypeTree>> TypeRules<R> {
     // The type of a map.
     fn map_type<'a>(&self, tokens: &'a [Token]) -> Result<(TypeTree, &'a [Token]), ParseFault>
         requires { R.ready self.now.inner }
-        ensures { Gives (option_map (λ p. (TypeTree.Map p.0, p.1)) (map_at (R.finds self.now.inner) (forms tokens.now))) result }
+        ensures { Gives (option_map (λ p. (TypeTree.Map p.0, p.1))
+            (map_at (R.finds self.now.inner) (forms tokens.now))) result }
     {
         let (values, rest) = self.map(tokens)?;
         match values {

@@ -25,9 +25,9 @@ use Rattle.pig_syntax.specs.declared.trees.OrderField.{OrderField}
 use Rattle.pig_syntax.specs.declared.trees.OrderKeys.{OrderKeys}
 use Rattle.pig_syntax.specs.declared.trees.OrderKeys.TheVariants as keys
 use Rattle.pig_syntax.specs.declared.trees.Step.{Step}
-use Rattle.pig_exprs.specs.Grammar.{Forms, Listed, last, more, IsSchema, schema, field_bare, field_typed, expr, Reads}
-use Rattle.pig_parser.specs.Statements.{AreKeys, one_key, several_keys, IsDir, no_dir, asc, desc, IsOrderField, order_field, AreOrderKeys, all_fields, order_fields, IsText, text, IsIdent, ident, IsFunc, func_bare, func_args, IsUsingFunc, no_func, using_func, IsUsingText, no_text, using_text, count_of, AreNames, one_name, typed_name, several_names, IsNaming, no_naming, naming, IsItem, all_items, flattened, value, IsBagRef, bag_field, bag_selection, IsNested, nested_filter, nested_distinct, nested_order, nested_limit, nested_take, AreSteps, no_step, step, IsGroupInput, input_bare, input_inner, input_outer, IsJoinInput, join_input, side_of, IsSide, no_side, side_bare, side_outer}
-use Rattle.pig_exprs.specs.Reader.{Found, comma_turn, listed, close_paren, part_turn, schema_at, type_at}
+use Rattle.pig_exprs.specs.Grammar.{Forms, Listed, last, more, IsSchema, schema, field_bare, field_typed, expr, ReadsExpr}
+use Rattle.pig_parser.specs.Statements.{AreKeys, one_key, several_keys, IsDir, no_dir, asc, desc, IsOrderField, order_field, AreOrderKeys, all_fields, order_fields, IsTextToken, text, IsIdent, ident, IsFunc, func_bare, func_args, IsUsingFunc, no_func, using_func, IsUsingText, no_text, using_text, count_of, AreNames, one_name, typed_name, several_names, IsNaming, no_naming, naming, IsItem, all_items, flattened, value, IsBagRef, bag_field, bag_selection, IsNested, nested_filter, nested_distinct, nested_order, nested_limit, nested_take, AreSteps, no_step, step, IsGroupInput, input_bare, input_inner, input_outer, IsJoinInput, join_input, side_of, IsSide, no_side, side_bare, side_outer}
+use Rattle.pig_exprs.specs.Reader.{FoundPart, comma_turn, listed, close_paren, part_turn, schema_at, type_at}
 use Rattle.pig_exprs.specs.ExprReader.{colon, chain_at, paren_after, prim_at, post_at, begins_type, casted_at, unary_at, term_at, sum_at, comp_at, neg_at, conj_at, expr_with, expr_at}
 use Rattle.pig_parser.specs.StatementReader.{comma, semicolon, by_word, several, key_list_at, keys_at, dir_at, order_field_at, order_keys_at, text_at, ident_at, func_at, using_func_at, using_text_at, count_at, names_at, naming_at, flattened_at, value_at, item_at, bag_selection_at, bag_ref_at, nested_filter_at, nested_order_at, nested_limit_at, nested_at, step_turn, inner_at, group_input_at, join_input_at, after_outer, side_at}
 use Rattle.pig_exprs.proofs.Fits.{Fits}
@@ -38,7 +38,7 @@ use Rattle.pig_exprs.proofs.Follow.{binds, binds_ahead, name_stops, begins_ahead
 use Rattle.pig_exprs.proofs.ExprsFound.{expr_found}
 
 -- no further member of a list stands behind what is no comma
-pub no_comma : {A : Type 0} (member : Forms → Found A) (ts : Forms) → comma ts ≡ None → comma_turn member ts ≡ Some None
+pub no_comma : {A : Type 0} (member : Forms → FoundPart A) (ts : Forms) → comma ts ≡ None → comma_turn member ts ≡ Some None
 unfolding comma comma_turn
 no_comma member (f.Symbol s.Comma ∷ ts) h = absurd (cc)
 no_comma member ts h = refl
@@ -46,12 +46,12 @@ no_comma member ts h = refl
 -- ---- keys
 
 -- expressions with commas between them are no expression in parentheses
-not_one : (most : ℕ) (inner : Forms → Found Expr) (ts mid : Forms) (a : Expr) → inner ts ≡ Some (a, f.Symbol s.Comma ∷ mid) → begins_type ts ≡ false
+not_one : (most : ℕ) (inner : Forms → FoundPart Expr) (ts mid : Forms) (a : Expr) → inner ts ≡ Some (a, f.Symbol s.Comma ∷ mid) → begins_type ts ≡ false
     → expr_with most inner (f.Symbol s.OpenParen ∷ ts) ≡ None
 unfolding chain_at paren_after prim_at post_at casted_at unary_at term_at sum_at comp_at neg_at conj_at expr_with
 not_one most inner ts mid a h plain = rw (plain, h) refl
 
-several_not_one : {ts mid : Forms} {a : Expr} → Reads expr ts a (f.Symbol s.Comma ∷ mid) → (d most : ℕ) → Fits ts d → suc d < most → expr_at most most (f.Symbol s.OpenParen ∷ ts) ≡ None
+several_not_one : {ts mid : Forms} {a : Expr} → ReadsExpr expr ts a (f.Symbol s.Comma ∷ mid) → (d most : ℕ) → Fits ts d → suc d < most → expr_at most most (f.Symbol s.OpenParen ∷ ts) ≡ None
 unfolding expr_at
 several_not_one h d zero fits low = absurd (omega (arith, low))
 several_not_one {ts = ts} {mid = mid} {a = a} h d (suc m) fits low =
@@ -116,7 +116,7 @@ order_keys_found {ts = ts} {rest = rest} (order_fields list) d fits may ends =
 
 -- ---- functions
 
-text_found : {ts rest : Forms} {content : List ℕ} → IsText ts content rest → (d : ℕ) → Fits ts d → Finds text_at ts content rest d
+text_found : {ts rest : Forms} {content : List ℕ} → IsTextToken ts content rest → (d : ℕ) → Fits ts d → Finds text_at ts content rest d
 unfolding Fits text_at
 text_found text d fits = record { finds = refl; fits = fits; shorter = omega arith }
 
@@ -124,7 +124,7 @@ pub ident_found : {ts rest : Forms} {name : List ℕ} → IsIdent ts name rest �
 unfolding Fits ident_at
 ident_found ident d fits = record { finds = refl; fits = fits; shorter = omega arith }
 
-func_of_args : {ts rest : Forms} {args : List (List ℕ)} (name : List ℕ) → Listed IsText ts args rest → func_at (f.Ident name ∷ f.Symbol s.OpenParen ∷ ts)
+func_of_args : {ts rest : Forms} {args : List (List ℕ)} (name : List ℕ) → Listed IsTextToken ts args rest → func_at (f.Ident name ∷ f.Symbol s.OpenParen ∷ ts)
     ≡ option_and_then (λ args. option_and_then (λ rest. Some (record { name = name; args = args.0 }, rest)) (close_paren args.1)) (listed text_at ts)
 unfolding func_at
 func_of_args name (last text) = refl

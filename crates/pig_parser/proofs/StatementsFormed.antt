@@ -27,11 +27,11 @@ use Rattle.pig_syntax.specs.declared.trees.Stmt.{Stmt}
 use Rattle.pig_syntax.specs.Cutting.{piece_of}
 use Rattle.pig_syntax.specs.Tokens.{HoldsNoLf}
 use Rattle.pig_syntax.specs.Formed.{AtLeast, SelectionFormed, FuncFormed, AsNamesFormed, ItemFormed, OrderFieldFormed, OrderKeysFormed, BagRefFormed, NestedFormed, StepFormed, GroupInputFormed, JoinInputFormed, BranchFormed, IsExprFormed, OpFormed, StmtFormed}
-use Rattle.pig_exprs.specs.Grammar.{Forms, Listed, IsField}
+use Rattle.pig_exprs.specs.Grammar.{Forms, Listed, IsSchemaField}
 use Rattle.pig_exprs.specs.Reader.{forms}
 use Rattle.pig_exprs.proofs.ExprsFormed.{Free, Formed, listed_formed, field_ref_formed, selection_formed, type_formed, schema_formed, field_formed, expr_formed}
 use Rattle.pig_parser.specs.Parsing.{AreTrees, no_trees, trees}
-use Rattle.pig_parser.specs.Statements.{AreKeys, IsDir, IsOrderField, AreOrderKeys, IsText, IsIdent, IsFunc, IsUsingFunc, IsUsingText, IsParallel, AreNames, IsNaming, IsItem, IsBagRef, IsNested, AreSteps, IsGroupInput, IsJoinInput, IsSide, IsOnSchema, IsOp, IsBranch, IsOtherwise, IsStatement}
+use Rattle.pig_parser.specs.Statements.{AreKeys, IsDir, IsOrderField, AreOrderKeys, IsTextToken, IsIdent, IsFunc, IsUsingFunc, IsUsingText, IsParallel, AreNames, IsNaming, IsItem, IsBagRef, IsNested, AreSteps, IsGroupInput, IsJoinInput, IsSide, IsOnSchema, IsOp, IsBranch, IsOtherwise, IsStatement}
 
 -- ---- parts
 
@@ -58,8 +58,8 @@ order_keys_formed (AreOrderKeys.order_fields h) free =
     let fields = listed_formed OrderFieldFormed (λ ts x rest is from. order_field_formed is from) h free in
     record { tree = fields.tree; free = fields.free }
 
-text_formed : {ts rest : Forms} {content : List ℕ} → IsText ts content rest → Free ts → Formed (HasNoLf content) rest
-text_formed IsText.text free = record { tree = free.0; free = free.1 }
+text_formed : {ts rest : Forms} {content : List ℕ} → IsTextToken ts content rest → Free ts → Formed (HasNoLf content) rest
+text_formed IsTextToken.text free = record { tree = free.0; free = free.1 }
 
 ident_formed : {ts rest : Forms} {name : List ℕ} → IsIdent ts name rest → Free ts → Formed (HasNoLf name) rest
 ident_formed IsIdent.ident free = record { tree = free.0; free = free.1 }
@@ -85,8 +85,8 @@ parallel_free IsParallel.par free = free.1.1
 -- ---- items and blocks
 
 names_formed : {ts rest : Forms} {names : AsNames} → AreNames ts names rest → Free ts → Formed (AsNamesFormed names) rest
-names_formed AreNames.one_name free = let field = field_formed IsField.field_bare free in record { tree = field.tree; free = field.free }
-names_formed (AreNames.typed_name h) free = let field = field_formed (IsField.field_typed h) free in record { tree = field.tree; free = field.free }
+names_formed AreNames.one_name free = let field = field_formed IsSchemaField.field_bare free in record { tree = field.tree; free = field.free }
+names_formed (AreNames.typed_name h) free = let field = field_formed (IsSchemaField.field_typed h) free in record { tree = field.tree; free = field.free }
 names_formed (AreNames.several_names h) free = let fields = schema_formed h free in record { tree = fields.tree; free = fields.free }
 
 naming_formed : {ts rest : Forms} {names : Option AsNames} → IsNaming ts names rest → Free ts → Formed (IfSome names AsNamesFormed) rest

@@ -16,8 +16,8 @@ use Rattle.pig_syntax.specs.declared.trees.Nested.TheVariants as nested
 use Rattle.pig_syntax.specs.declared.trees.Op.TheVariants as op
 use Rattle.pig_syntax.specs.declared.trees.Stmt.{Stmt}
 use Rattle.pig_syntax.specs.declared.trees.Stmt.TheVariants as stmt
-use Rattle.pig_exprs.specs.Grammar.{Forms, Listed, IsFieldRef, IsField}
-use Rattle.pig_parser.specs.Statements.{IsExpr, AreKeys, IsDir, IsOrderField, AreOrderKeys, IsText, IsIdent, IsFunc, IsUsingFunc, IsUsingText, IsParallel, count_of, AreNames, IsNaming, IsItem, IsBagRef, IsNested, AreSteps, IsGroupInput, IsJoinInput, side_of, IsSide, IsOnSchema, is_group_word, IsOp, IsBranch, IsOtherwise, is_unsupported_word, IsStatement}
+use Rattle.pig_exprs.specs.Grammar.{Forms, Listed, IsFieldRef, IsSchemaField}
+use Rattle.pig_parser.specs.Statements.{IsExpr, AreKeys, IsDir, IsOrderField, AreOrderKeys, IsTextToken, IsIdent, IsFunc, IsUsingFunc, IsUsingText, IsParallel, count_of, AreNames, IsNaming, IsItem, IsBagRef, IsNested, AreSteps, IsGroupInput, IsJoinInput, side_of, IsSide, IsOnSchema, is_group_word, IsOp, IsBranch, IsOtherwise, is_unsupported_word, IsStatement}
 use Rattle.pig_exprs.specs.Reader.{type_at}
 use Rattle.pig_exprs.specs.ExprReader.{expr_at}
 use Rattle.pig_parser.specs.StatementReader.{comma, semicolon, as_word, by_word, generate_word, block_end, several, key_list_at, keys_at, dir_at, order_field_at, order_keys_at, text_at, ident_at, func_at, using_func_at, using_text_at, after_parallel, count_at, names_at, naming_at, flattened_at, value_at, item_at, bag_selection_at, bag_ref_at, nested_filter_at, nested_order_at, nested_limit_at, nested_at, step_turn, steps_at, inner_at, group_input_at, join_input_at, after_outer, side_at, on_schema_at, load_at, filter_at, block_at, foreach_at, groups_at, group_at, join_at, union_at, distinct_at, order_at, limit_at, op_at, branch_with, branch_at, branch_turn, branches_at, otherwise_at, split_at, store_at, is_unsupported, assign_at, front_at, ended, statement_at}
@@ -106,9 +106,9 @@ unfolding order_keys_at
 order_keys_upholds (f.Symbol s.Star ∷ ts) = holds_map _ (dir_upholds ts) (λ p d. AreOrderKeys.all_fields d)
 order_keys_upholds ts = holds_map _ (listed_upholds order_field_at IsOrderField order_field_upholds ts) (λ p fields. AreOrderKeys.order_fields fields)
 
-text_upholds : Upholds text_at IsText
+text_upholds : Upholds text_at IsTextToken
 unfolding text_at
-text_upholds (f.Text content ∷ ts) = Holds.just IsText.text
+text_upholds (f.Text content ∷ ts) = Holds.just IsTextToken.text
 text_upholds _ = Holds.nothing
 
 ident_upholds : Upholds ident_at IsIdent
@@ -120,8 +120,8 @@ func_upholds : Upholds func_at IsFunc
 unfolding func_at
 func_upholds (f.Ident name ∷ f.Symbol s.OpenParen ∷ f.Symbol s.CloseParen ∷ ts) = Holds.just IsFunc.func_bare
 func_upholds (f.Ident name ∷ f.Symbol s.OpenParen ∷ ts) =
-    holds_then _ (listed_upholds text_at IsText text_upholds ts) (λ args l.
-    holds_then _ (closes (Listed IsText ts args.0) args.1 l) (λ rest l. Holds.just (IsFunc.func_args l)))
+    holds_then _ (listed_upholds text_at IsTextToken text_upholds ts) (λ args l.
+    holds_then _ (closes (Listed IsTextToken ts args.0) args.1 l) (λ rest l. Holds.just (IsFunc.func_args l)))
 func_upholds _ = Holds.nothing
 
 using_func_upholds : Upholds using_func_at IsUsingFunc
@@ -150,9 +150,9 @@ count_upholds (t ∷ ts) = holds_map _ (itself (count_of t)) (λ n e. IsCount.co
 
 -- ---- the items of GENERATE
 
-field_names : {ts rest : Forms} {field : FieldTree} → IsField ts field rest → AreNames ts (named.One field) rest
-field_names IsField.field_bare = AreNames.one_name
-field_names (IsField.field_typed type) = AreNames.typed_name type
+field_names : {ts rest : Forms} {field : FieldTree} → IsSchemaField ts field rest → AreNames ts (named.One field) rest
+field_names IsSchemaField.field_bare = AreNames.one_name
+field_names (IsSchemaField.field_typed type) = AreNames.typed_name type
 
 names_upholds : (most : ℕ) → Upholds (names_at most) AreNames
 unfolding names_at

@@ -10,13 +10,13 @@ use Rattle.pig_exprs.specs.declared.reading.ParseFault.{ParseFault}
 use Rattle.pig_exprs.specs.declared.reading.ParseFault.TheVariants as fault
 use Rattle.pig_parser.specs.Parsing.{IsShallow, GivesTree}
 use Rattle.pig_exprs.specs.Reader.{forms}
-use Rattle.pig_parser.specs.StatementReader.{Tells, statement_at}
+use Rattle.pig_parser.specs.StatementReader.{GivesFound, statement_at}
 use Rattle.pig_parser.proofs.Depths.{fits_depth}
 use Rattle.pig_parser.proofs.StatementsSound.{statement_sound}
 use Rattle.pig_parser.proofs.StatementsFound.{statement_complete}
 
 pub gives_tree : (ts : List Token) (p : Piece) (result : Result Stmt ParseFault) → option_map (λ t. is_semicolon t.form) (slice_get ts p.to) ≡ Some true → IsShallow ts p
-    → Tells (statement_at 65 (forms (piece_of ts p))) result → GivesTree ts p result
+    → GivesFound (statement_at 65 (forms (piece_of ts p))) result → GivesTree ts p result
 gives_tree ts p (Ok s) ended shallow h = record { ended = ended; stands = statement_sound 65 (forms (piece_of ts p)) s h }
 gives_tree ts p (Err fault.Off) ended shallow h = λ s tree.
     let fits = fits_depth (piece_of ts p) shallow.depth 64 shallow.deep shallow.most in

@@ -34,14 +34,14 @@ use Rattle.pig_exprs.specs.declared.reading.ParseFault.{ParseFault}
 use Rattle.pig_exprs.specs.declared.reading.ParseFault.TheVariants as fault
 use Rattle.pig_exprs.specs.Grammar.{Forms}
 use Rattle.pig_parser.specs.Statements.{count_of, side_of, is_unsupported_word}
-use Rattle.pig_exprs.specs.Reader.{Found, Turn, ◌>>=◌, repeat, listed, close_paren, field_ref_at, selection_at, field_at, schema_at, type_at}
+use Rattle.pig_exprs.specs.Reader.{FoundPart, Turn, ◌>>=◌, repeat, listed, close_paren, field_ref_at, selection_at, field_at, schema_at, type_at}
 use Rattle.pig_exprs.specs.ExprReader.{expr_at}
 
 -- the code gives what is found
-abbrev pub Tells : {A : Type 0} → Option A → Result A ParseFault → Type 0
-Tells found (Ok a) = found ≡ Some a
-Tells found (Err fault.Off) = found ≡ None
-Tells found (Err fault.OutOfMemory) = Unit {0}
+abbrev pub GivesFound : {A : Type 0} → Option A → Result A ParseFault → Type 0
+GivesFound found (Ok a) = found ≡ Some a
+GivesFound found (Err fault.Off) = found ≡ None
+GivesFound found (Err fault.OutOfMemory) = Unit {0}
 
 -- ---- marks and words
 
@@ -83,7 +83,7 @@ several (a ∷ b ∷ others) = Some (a ∷ b ∷ others)
 several _ = None
 
 -- keys in parentheses
-unfoldable pub key_list_at : ℕ → Forms → Found (List Expr)
+unfoldable pub key_list_at : ℕ → Forms → FoundPart (List Expr)
 key_list_at most (f.Symbol s.OpenParen ∷ ts) = do
   read ← listed (expr_at most most) ts
   keys ← several read.0
@@ -92,33 +92,33 @@ key_list_at most (f.Symbol s.OpenParen ∷ ts) = do
 key_list_at most _ = None
 
 -- one key where an expression stands there, and otherwise keys in parentheses
-unfoldable pub keys_at : ℕ → Forms → Found (List Expr)
+unfoldable pub keys_at : ℕ → Forms → FoundPart (List Expr)
 keys_at most ts = option_map_or (λ p. Some (p.0 ∷ [], p.1)) (expr_at most most ts) (key_list_at most ts)
 
-unfoldable pub dir_at : Forms → Found Dir
+unfoldable pub dir_at : Forms → FoundPart Dir
 dir_at (f.Keyword k.Asc ∷ ts) = Some (dir.Asc, ts)
 dir_at (f.Keyword k.Desc ∷ ts) = Some (dir.Desc, ts)
 dir_at ts = Some (dir.Asc, ts)
 
-unfoldable pub order_field_at : Forms → Found OrderField
+unfoldable pub order_field_at : Forms → FoundPart OrderField
 order_field_at ts = do
   field ← field_ref_at ts
   way ← dir_at field.1
   Some (record { field = field.0; dir = way.0 }, way.1)
 
-unfoldable pub order_keys_at : Forms → Found OrderKeys
+unfoldable pub order_keys_at : Forms → FoundPart OrderKeys
 order_keys_at (f.Symbol s.Star ∷ ts) = option_map (λ p. (keys.All p.0, p.1)) (dir_at ts)
 order_keys_at ts = option_map (λ p. (keys.Fields p.0, p.1)) (listed order_field_at ts)
 
-unfoldable pub text_at : Forms → Found (List ℕ)
+unfoldable pub text_at : Forms → FoundPart (List ℕ)
 text_at (f.Text content ∷ ts) = Some (content, ts)
 text_at _ = None
 
-unfoldable pub ident_at : Forms → Found (List ℕ)
+unfoldable pub ident_at : Forms → FoundPart (List ℕ)
 ident_at (f.Ident name ∷ ts) = Some (name, ts)
 ident_at _ = None
 
-unfoldable pub func_at : Forms → Found Func
+unfoldable pub func_at : Forms → FoundPart Func
 func_at (f.Ident name ∷ f.Symbol s.OpenParen ∷ f.Symbol s.CloseParen ∷ ts) = Some (record { name = name; args = [] }, ts)
 func_at (f.Ident name ∷ f.Symbol s.OpenParen ∷ ts) = do
   args ← listed text_at ts
@@ -126,11 +126,11 @@ func_at (f.Ident name ∷ f.Symbol s.OpenParen ∷ ts) = do
   Some (record { name = name; args = args.0 }, rest)
 func_at _ = None
 
-unfoldable pub using_func_at : Forms → Found (Option Func)
+unfoldable pub using_func_at : Forms → FoundPart (Option Func)
 using_func_at (f.Keyword k.Using ∷ ts) = option_map (λ p. (Some p.0, p.1)) (func_at ts)
 using_func_at ts = Some (None, ts)
 
-unfoldable pub using_text_at : Forms → Found (Option (List ℕ))
+unfoldable pub using_text_at : Forms → FoundPart (Option (List ℕ))
 using_text_at (f.Keyword k.Using ∷ f.Text content ∷ ts) = Some (Some content, ts)
 using_text_at ts = Some (None, ts)
 
@@ -139,35 +139,35 @@ unfoldable pub after_parallel : Forms → Forms
 after_parallel (f.Keyword k.Parallel ∷ f.Int n ∷ ts) = ts
 after_parallel ts = ts
 
-unfoldable pub count_at : Forms → Found ℕ
+unfoldable pub count_at : Forms → FoundPart ℕ
 count_at [] = None
 count_at (t ∷ ts) = option_map (λ n. (n, ts)) (count_of t)
 
 -- ---- the items of GENERATE
 
-unfoldable pub names_at : ℕ → Forms → Found AsNames
+unfoldable pub names_at : ℕ → Forms → FoundPart AsNames
 names_at most (f.Ident name ∷ ts) = option_map (λ p. (named.One p.0, p.1)) (field_at (type_at most) (f.Ident name ∷ ts))
 names_at most ts = option_map (λ p. (named.Several p.0, p.1)) (schema_at (type_at most) ts)
 
-unfoldable pub naming_at : ℕ → Forms → Found (Option AsNames)
+unfoldable pub naming_at : ℕ → Forms → FoundPart (Option AsNames)
 naming_at most (f.Keyword k.As ∷ ts) = option_map (λ p. (Some p.0, p.1)) (names_at most ts)
 naming_at most ts = Some (None, ts)
 
 -- an item behind FLATTEN and `(`
-unfoldable pub flattened_at : ℕ → Forms → Found Item
+unfoldable pub flattened_at : ℕ → Forms → FoundPart Item
 flattened_at most ts = do
   a ← expr_at most most ts
   behind ← close_paren a.1
   names ← naming_at most behind
   Some (item.Value a.0 true names.0, names.1)
 
-unfoldable pub value_at : ℕ → Forms → Found Item
+unfoldable pub value_at : ℕ → Forms → FoundPart Item
 value_at most ts = do
   a ← expr_at most most ts
   names ← naming_at most a.1
   Some (item.Value a.0 false names.0, names.1)
 
-unfoldable pub item_at : ℕ → Forms → Found Item
+unfoldable pub item_at : ℕ → Forms → FoundPart Item
 item_at most (f.Symbol s.Star ∷ ts) = Some (item.All, ts)
 item_at most (f.Keyword k.Flatten ∷ f.Symbol s.OpenParen ∷ ts) = flattened_at most ts
 item_at most ts = value_at most ts
@@ -175,38 +175,38 @@ item_at most ts = value_at most ts
 -- ---- nested blocks
 
 -- [ '.' sel ]
-unfoldable pub bag_selection_at : Forms → Found (Option PostStep)
+unfoldable pub bag_selection_at : Forms → FoundPart (Option PostStep)
 bag_selection_at (f.Symbol s.Dot ∷ ts) = option_map (λ p. (Some p.0, p.1)) (selection_at ts)
 bag_selection_at ts = Some (None, ts)
 
-unfoldable pub bag_ref_at : Forms → Found BagRef
+unfoldable pub bag_ref_at : Forms → FoundPart BagRef
 bag_ref_at ts = do
   field ← field_ref_at ts
   sel ← bag_selection_at field.1
   Some (record { field = field.0; sel = sel.0 }, sel.1)
 
 -- what stands behind FILTER, ORDER and LIMIT in a block
-unfoldable pub nested_filter_at : ℕ → Forms → Found Nested
+unfoldable pub nested_filter_at : ℕ → Forms → FoundPart Nested
 nested_filter_at most ts = do
   bag ← bag_ref_at ts
   behind ← by_word bag.1
   cond ← expr_at most most behind
   Some (nested.Filter bag.0 cond.0, cond.1)
 
-unfoldable pub nested_order_at : Forms → Found Nested
+unfoldable pub nested_order_at : Forms → FoundPart Nested
 nested_order_at ts = do
   bag ← bag_ref_at ts
   behind ← by_word bag.1
   by_ ← order_keys_at behind
   Some (nested.Order bag.0 by_.0, by_.1)
 
-unfoldable pub nested_limit_at : Forms → Found Nested
+unfoldable pub nested_limit_at : Forms → FoundPart Nested
 nested_limit_at ts = do
   bag ← bag_ref_at ts
   count ← count_at bag.1
   Some (nested.Limit bag.0 count.0, count.1)
 
-unfoldable pub nested_at : ℕ → Forms → Found Nested
+unfoldable pub nested_at : ℕ → Forms → FoundPart Nested
 nested_at most (f.Keyword k.Filter ∷ ts) = nested_filter_at most ts
 nested_at most (f.Keyword k.Distinct ∷ ts) = option_map (λ p. (nested.Distinct p.0, p.1)) (bag_ref_at ts)
 nested_at most (f.Keyword k.Order ∷ ts) = nested_order_at ts
@@ -221,25 +221,25 @@ step_turn most (f.Ident name ∷ f.Symbol s.Assign ∷ ts) = do
   Some (Some (record { alias = name; nested = made.0 }, behind))
 step_turn most ts = Some None
 
-unfoldable pub steps_at : ℕ → Forms → Found (List Step)
+unfoldable pub steps_at : ℕ → Forms → FoundPart (List Step)
 steps_at most ts = repeat (step_turn most) (length ts) [] ts
 
 -- ---- the inputs of GROUP and JOIN
 
 -- [ INNER | OUTER ], and whether INNER stands there
-unfoldable pub inner_at : Forms → Found Bool
+unfoldable pub inner_at : Forms → FoundPart Bool
 inner_at (f.Keyword k.Inner ∷ ts) = Some (true, ts)
 inner_at (f.Keyword k.Outer ∷ ts) = Some (false, ts)
 inner_at ts = Some (false, ts)
 
-unfoldable pub group_input_at : ℕ → Forms → Found GroupInput
+unfoldable pub group_input_at : ℕ → Forms → FoundPart GroupInput
 group_input_at most (f.Ident name ∷ f.Keyword k.By ∷ ts) = do
   by_ ← keys_at most ts
   inner ← inner_at by_.1
   Some (record { «from» = name; keys = by_.0; inner = inner.0 }, inner.1)
 group_input_at most _ = None
 
-unfoldable pub join_input_at : ℕ → Forms → Found JoinInput
+unfoldable pub join_input_at : ℕ → Forms → FoundPart JoinInput
 join_input_at most (f.Ident name ∷ f.Keyword k.By ∷ ts) = option_map (λ p. (record { «from» = name; keys = p.0 }, p.1)) (keys_at most ts)
 join_input_at most _ = None
 
@@ -248,17 +248,17 @@ unfoldable pub after_outer : Forms → Forms
 after_outer (f.Keyword k.Outer ∷ ts) = ts
 after_outer ts = ts
 
-unfoldable pub side_at : Forms → Found Side
+unfoldable pub side_at : Forms → FoundPart Side
 side_at [] = Some (side.Inner, [])
 side_at (t ∷ ts) = option_map_or (λ x. Some (x, after_outer ts)) (side_of t) (Some (side.Inner, t ∷ ts))
 
-unfoldable pub on_schema_at : Forms → Found Bool
+unfoldable pub on_schema_at : Forms → FoundPart Bool
 on_schema_at (f.Keyword k.OnSchema ∷ ts) = Some (true, ts)
 on_schema_at ts = Some (false, ts)
 
 -- ---- operators, behind their first word
 
-unfoldable pub load_at : ℕ → Forms → Found Op
+unfoldable pub load_at : ℕ → Forms → FoundPart Op
 load_at most (f.Text path ∷ ts) = do
   func ← using_func_at ts
   behind ← as_word func.1
@@ -266,12 +266,12 @@ load_at most (f.Text path ∷ ts) = do
   Some (op.Load path func.0 fields.0, fields.1)
 load_at most _ = None
 
-unfoldable pub filter_at : ℕ → Forms → Found Op
+unfoldable pub filter_at : ℕ → Forms → FoundPart Op
 filter_at most (f.Ident name ∷ f.Keyword k.By ∷ ts) = option_map (λ p. (op.Filter name p.0, p.1)) (expr_at most most ts)
 filter_at most _ = None
 
 -- a block behind its `{`
-unfoldable pub block_at : ℕ → List ℕ → Forms → Found Op
+unfoldable pub block_at : ℕ → List ℕ → Forms → FoundPart Op
 block_at most name ts = do
   steps ← steps_at most ts
   behind ← generate_word steps.1
@@ -279,22 +279,22 @@ block_at most name ts = do
   rest ← block_end items.1
   Some (op.Foreach name steps.0 items.0, rest)
 
-unfoldable pub foreach_at : ℕ → Forms → Found Op
+unfoldable pub foreach_at : ℕ → Forms → FoundPart Op
 foreach_at most (f.Ident name ∷ f.Keyword k.Generate ∷ ts) = option_map (λ p. (op.Foreach name [] p.0, p.1)) (listed (item_at most) ts)
 foreach_at most (f.Ident name ∷ f.Symbol s.OpenBrace ∷ ts) = block_at most name ts
 foreach_at most _ = None
 
-unfoldable pub groups_at : ℕ → Forms → Found Op
+unfoldable pub groups_at : ℕ → Forms → FoundPart Op
 groups_at most ts = do
   inputs ← listed (group_input_at most) ts
   how ← using_text_at inputs.1
   Some (op.Group inputs.0 how.0, after_parallel how.1)
 
-unfoldable pub group_at : ℕ → Forms → Found Op
+unfoldable pub group_at : ℕ → Forms → FoundPart Op
 group_at most (f.Ident name ∷ f.Keyword k.All ∷ ts) = option_map (λ how. (op.GroupAll name how.0, after_parallel how.1)) (using_text_at ts)
 group_at most ts = groups_at most ts
 
-unfoldable pub join_at : ℕ → Forms → Found Op
+unfoldable pub join_at : ℕ → Forms → FoundPart Op
 join_at most ts = do
   first ← join_input_at most ts
   which ← side_at first.1
@@ -303,26 +303,26 @@ join_at most ts = do
   how ← using_text_at others.1
   Some (op.Join (first.0 ∷ others.0) which.0 how.0, after_parallel how.1)
 
-unfoldable pub union_at : Forms → Found Op
+unfoldable pub union_at : Forms → FoundPart Op
 union_at ts = do
   way ← on_schema_at ts
   read ← listed ident_at way.1
   names ← several read.0
   Some (op.Union way.0 names, read.1)
 
-unfoldable pub distinct_at : Forms → Found Op
+unfoldable pub distinct_at : Forms → FoundPart Op
 distinct_at (f.Ident name ∷ ts) = Some (op.Distinct name, after_parallel ts)
 distinct_at _ = None
 
-unfoldable pub order_at : Forms → Found Op
+unfoldable pub order_at : Forms → FoundPart Op
 order_at (f.Ident name ∷ f.Keyword k.By ∷ ts) = option_map (λ p. (op.Order name p.0, after_parallel p.1)) (order_keys_at ts)
 order_at _ = None
 
-unfoldable pub limit_at : Forms → Found Op
+unfoldable pub limit_at : Forms → FoundPart Op
 limit_at (f.Ident name ∷ ts) = option_map (λ p. (op.Limit name p.0, p.1)) (count_at ts)
 limit_at _ = None
 
-unfoldable pub op_at : ℕ → Forms → Found Op
+unfoldable pub op_at : ℕ → Forms → FoundPart Op
 op_at most (f.Keyword k.Load ∷ ts) = load_at most ts
 op_at most (f.Keyword k.Filter ∷ ts) = filter_at most ts
 op_at most (f.Keyword k.Foreach ∷ ts) = foreach_at most ts
@@ -338,10 +338,10 @@ op_at most _ = None
 -- ---- statements
 
 -- a branch behind its name and IF
-unfoldable pub branch_with : ℕ → List ℕ → Forms → Found Branch
+unfoldable pub branch_with : ℕ → List ℕ → Forms → FoundPart Branch
 branch_with most name ts = option_map (λ p. (record { alias = name; cond = p.0 }, p.1)) (expr_at most most ts)
 
-unfoldable pub branch_at : ℕ → Forms → Found Branch
+unfoldable pub branch_at : ℕ → Forms → FoundPart Branch
 branch_at most (f.Ident name ∷ f.Keyword k.If ∷ ts) = branch_with most name ts
 branch_at most _ = None
 
@@ -350,17 +350,17 @@ unfoldable pub branch_turn : ℕ → Forms → Turn Branch
 branch_turn most (f.Symbol s.Comma ∷ f.Ident name ∷ f.Keyword k.If ∷ ts) = option_map Some (branch_with most name ts)
 branch_turn most ts = Some None
 
-unfoldable pub branches_at : ℕ → Forms → Found (List Branch)
+unfoldable pub branches_at : ℕ → Forms → FoundPart (List Branch)
 branches_at most ts = do
   first ← branch_at most ts
   repeat (branch_turn most) (length first.1) (first.0 ∷ []) first.1
 
-unfoldable pub otherwise_at : Forms → Found (Option (List ℕ))
+unfoldable pub otherwise_at : Forms → FoundPart (Option (List ℕ))
 otherwise_at (f.Symbol s.Comma ∷ f.Ident name ∷ f.Keyword k.Otherwise ∷ ts) = Some (Some name, ts)
 otherwise_at ts = Some (None, ts)
 
 -- a SPLIT behind its first word
-unfoldable pub split_at : ℕ → Forms → Found Stmt
+unfoldable pub split_at : ℕ → Forms → FoundPart Stmt
 split_at most (f.Ident name ∷ f.Keyword k.Into ∷ ts) = do
   branches ← branches_at most ts
   otherwise ← otherwise_at branches.1
@@ -368,7 +368,7 @@ split_at most (f.Ident name ∷ f.Keyword k.Into ∷ ts) = do
 split_at most _ = None
 
 -- a STORE behind its first word
-unfoldable pub store_at : Forms → Found Stmt
+unfoldable pub store_at : Forms → FoundPart Stmt
 store_at (f.Ident name ∷ f.Keyword k.Into ∷ f.Text path ∷ ts) = option_map (λ p. (stmt.Store name path p.0, p.1)) (using_func_at ts)
 store_at _ = None
 
@@ -378,11 +378,11 @@ is_unsupported (f.Keyword word ∷ ts) = is_unsupported_word word
 is_unsupported _ = false
 
 -- what stands behind a name and `=`
-unfoldable pub assign_at : ℕ → List ℕ → Forms → Found Stmt
+unfoldable pub assign_at : ℕ → List ℕ → Forms → FoundPart Stmt
 assign_at most name ts = if is_unsupported ts then Some (stmt.Unsupported, []) else option_map (λ p. (stmt.Assign name p.0, p.1)) (op_at most ts)
 
 -- a statement that isn't empty
-unfoldable pub front_at : ℕ → Forms → Found Stmt
+unfoldable pub front_at : ℕ → Forms → FoundPart Stmt
 front_at most (f.Ident name ∷ f.Symbol s.Assign ∷ ts) = assign_at most name ts
 front_at most (f.Keyword k.Split ∷ ts) = split_at most ts
 front_at most (f.Keyword k.Store ∷ ts) = store_at ts

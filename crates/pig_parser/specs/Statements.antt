@@ -33,13 +33,13 @@ use Rattle.pig_syntax.specs.declared.trees.PostStep.{PostStep}
 use Rattle.pig_syntax.specs.declared.trees.Step.{Step}
 use Rattle.pig_syntax.specs.declared.trees.Stmt.{Stmt}
 use Rattle.pig_syntax.specs.declared.trees.Stmt.TheVariants as stmt
-use Rattle.pig_exprs.specs.Grammar.{Forms, Listed, IsFieldRef, IsSelection, IsType, IsSchema, expr, Reads}
+use Rattle.pig_exprs.specs.Grammar.{Forms, Listed, IsFieldRef, IsSelection, IsType, IsSchema, expr, ReadsExpr}
 
 -- ---- parts
 
 -- an expression
 abbrev pub IsExpr : Forms → Expr → Forms → Type 0
-IsExpr ts a rest = Reads expr ts a rest
+IsExpr ts a rest = ReadsExpr expr ts a rest
 
 -- keys = expr | '(' expr ',' expr { ',' expr } ')'
 pub data AreKeys : Forms → List Expr → Forms → Type 0 where
@@ -63,8 +63,8 @@ pub data AreOrderKeys : Forms → OrderKeys → Forms → Type 0 where
   order_fields : {ts rest : Forms} {os : List OrderField} → Listed IsOrderField ts os rest → AreOrderKeys ts (keys.Fields os) rest
 
 -- Text
-pub data IsText : Forms → List ℕ → Forms → Type 0 where
-  text : {ts : Forms} {content : List ℕ} → IsText (f.Text content ∷ ts) content ts
+pub data IsTextToken : Forms → List ℕ → Forms → Type 0 where
+  text : {ts : Forms} {content : List ℕ} → IsTextToken (f.Text content ∷ ts) content ts
 
 -- Ident
 pub data IsIdent : Forms → List ℕ → Forms → Type 0 where
@@ -73,7 +73,7 @@ pub data IsIdent : Forms → List ℕ → Forms → Type 0 where
 -- func = Ident '(' [ Text { ',' Text } ] ')'
 pub data IsFunc : Forms → Func → Forms → Type 0 where
   func_bare : {ts : Forms} {name : List ℕ} → IsFunc (f.Ident name ∷ f.Symbol s.OpenParen ∷ f.Symbol s.CloseParen ∷ ts) (record { name = name; args = [] }) ts
-  func_args : {ts rest : Forms} {name : List ℕ} {args : List (List ℕ)} → Listed IsText ts args (f.Symbol s.CloseParen ∷ rest)
+  func_args : {ts rest : Forms} {name : List ℕ} {args : List (List ℕ)} → Listed IsTextToken ts args (f.Symbol s.CloseParen ∷ rest)
       → IsFunc (f.Ident name ∷ f.Symbol s.OpenParen ∷ ts) (record { name = name; args = args }) rest
 
 -- [ USING func ]

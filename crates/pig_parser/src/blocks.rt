@@ -1,11 +1,11 @@
-ghost use Rattle.std.specs.Prelude.{◌≡◌, [], ◌∷◌, length, map};
+ghost use Rattle.std.specs.Prelude.{◌≡◌, [], ◌∷◌, IfOk, length, map};
 ghost use Rattle.pig_exprs.specs.Grammar.{Forms};
-ghost use Rattle.pig_exprs.specs.Reader.{forms, Gives};
-ghost use Rattle.pig_parser.specs.StatementReader.{names_at, naming_at, flattened_at, value_at, item_at, bag_selection_at, bag_ref_at, nested_filter_at, nested_order_at, nested_limit_at, nested_at, step_turn, steps_at};
+ghost use Rattle.pig_exprs.specs.Reader.{forms, Gives, GivesBeside, GivesBehind};
+ghost use Rattle.pig_parser.specs.StatementReader.{semicolon, by_word, names_at, naming_at, flattened_at, value_at, item_at, bag_selection_at, bag_ref_at, nested_filter_at, nested_order_at, nested_limit_at, nested_at, step_turn, steps_at};
 
-use crate::parts::{by_word, count, order_keys, semicolon};
+use crate::parts::{ExpressionRule, by_word, count, order_keys, semicolon};
 use pig_exprs::{
-    MOST_NESTED, ParseFault, Rule, Turning, close_paren, expression, field, field_ref, repeat,
+    MOST_NESTED, ParseFault, Rule, Turning, beside, closed, expression, field, field_ref, repeat,
     schema, selection,
 };
 use pig_syntax::{
@@ -56,14 +56,27 @@ fn naming(alloc: Global, tokens: &[Token]) -> Result<(Option<AsNames>, &[Token])
     }
 }
 
+// What is kept, and AS and its names behind it, where they stand.
+fn and_naming<K: Drop>(
+    alloc: Global,
+    kept: K,
+    tokens: &[Token],
+) -> Result<((K, Option<AsNames>), &[Token]), ParseFault>
+    ensures kept { IfOk result (λ r. r.0.0 ≡ kept) }
+    ensures found { GivesBeside (naming_at 65 (forms tokens.now)) result }
+{
+    let (names, rest) = naming(alloc, tokens)?;
+    Ok(((kept, names), rest))
+}
+
 // An item behind FLATTEN and `(`.
 #[tactic(auto, unfolding(crate::specs::StatementReader::flattened_at))]
 fn flattened(alloc: Global, tokens: &[Token]) -> Result<(Item, &[Token]), ParseFault>
     ensures { Gives (flattened_at 65 (forms tokens.now)) result }
 {
     let (value, rest) = expression(alloc, tokens)?;
-    let rest = close_paren(rest)?;
-    let (names, rest) = naming(alloc, rest)?;
+    let (value, rest) = closed(value, rest)?;
+    let ((value, names), rest) = and_naming(alloc, value, rest)?;
     let flatten = true;
     Ok((
         Item::Value {
@@ -81,7 +94,7 @@ fn value(alloc: Global, tokens: &[Token]) -> Result<(Item, &[Token]), ParseFault
     ensures { Gives (value_at 65 (forms tokens.now)) result }
 {
     let (value, rest) = expression(alloc, tokens)?;
-    let (names, rest) = naming(alloc, rest)?;
+    let ((value, names), rest) = and_naming(alloc, value, rest)?;
     let flatten = false;
     Ok((
         Item::Value {
@@ -132,13 +145,15 @@ impl Rule for ItemRule {
     }
 }
 
-// The projection behind a bag, where one stands.
+// What is kept, and the projection behind a bag, where one stands.
 #[tactic(auto, unfolding(crate::specs::StatementReader::bag_selection_at))]
-fn bag_selection(
+fn bag_selection<K: Drop>(
     alloc: Global,
+    kept: K,
     tokens: &[Token],
-) -> Result<(Option<PostStep>, &[Token]), ParseFault>
-    ensures { Gives (bag_selection_at (forms tokens.now)) result }
+) -> Result<((K, Option<PostStep>), &[Token]), ParseFault>
+    ensures kept { IfOk result (λ r. r.0.0 ≡ kept) }
+    ensures found { GivesBeside (bag_selection_at (forms tokens.now)) result }
 {
     match tokens {
         [
@@ -149,10 +164,28 @@ fn bag_selection(
             rest @ ..,
         ] => {
             let (step, rest) = selection(alloc, rest)?;
-            Ok((Some(step), rest))
+            Ok(((kept, Some(step)), rest))
         }
-        _ => Ok((None, tokens)),
+        _ => Ok(((kept, None), tokens)),
     }
+}
+
+// What is kept, where BY stands there.
+fn behind_by<K: Drop>(kept: K, tokens: &[Token]) -> Result<(K, &[Token]), ParseFault>
+    ensures kept { IfOk result (λ r. r.0 ≡ kept) }
+    ensures rest { GivesBehind (by_word (forms tokens.now)) result }
+{
+    let rest = by_word(tokens)?;
+    Ok((kept, rest))
+}
+
+// What is kept, where a `;` stands there.
+fn behind_semicolon<K: Drop>(kept: K, tokens: &[Token]) -> Result<(K, &[Token]), ParseFault>
+    ensures kept { IfOk result (λ r. r.0 ≡ kept) }
+    ensures rest { GivesBehind (semicolon (forms tokens.now)) result }
+{
+    let rest = semicolon(tokens)?;
+    Ok((kept, rest))
 }
 
 // A bag in a block.
@@ -161,7 +194,7 @@ fn bag_ref(alloc: Global, tokens: &[Token]) -> Result<(BagRef, &[Token]), ParseF
     ensures { Gives (bag_ref_at (forms tokens.now)) result }
 {
     let (field, rest) = field_ref(alloc, tokens)?;
-    let (sel, rest) = bag_selection(alloc, rest)?;
+    let ((field, sel), rest) = bag_selection(alloc, field, rest)?;
     Ok((BagRef { field, sel }, rest))
 }
 
@@ -171,8 +204,8 @@ fn nested_filter(alloc: Global, tokens: &[Token]) -> Result<(Nested, &[Token]), 
     ensures { Gives (nested_filter_at 65 (forms tokens.now)) result }
 {
     let (from, rest) = bag_ref(alloc, tokens)?;
-    let rest = by_word(rest)?;
-    let (cond, rest) = expression(alloc, rest)?;
+    let (from, rest) = behind_by(from, rest)?;
+    let ((from, cond), rest) = beside(from, &ExpressionRule { alloc }, rest)?;
     Ok((Nested::Filter { from, cond }, rest))
 }
 
@@ -182,8 +215,8 @@ fn nested_order(alloc: Global, tokens: &[Token]) -> Result<(Nested, &[Token]), P
     ensures { Gives (nested_order_at (forms tokens.now)) result }
 {
     let (from, rest) = bag_ref(alloc, tokens)?;
-    let rest = by_word(rest)?;
-    let (keys, rest) = order_keys(alloc, rest)?;
+    let (from, rest) = behind_by(from, rest)?;
+    let ((from, keys), rest) = order_keys(alloc, from, rest)?;
     Ok((Nested::Order { from, keys }, rest))
 }
 
@@ -193,7 +226,7 @@ fn nested_limit(alloc: Global, tokens: &[Token]) -> Result<(Nested, &[Token]), P
     ensures { Gives (nested_limit_at (forms tokens.now)) result }
 {
     let (from, rest) = bag_ref(alloc, tokens)?;
-    let (count, rest) = count(rest)?;
+    let ((from, count), rest) = count(from, rest)?;
     Ok((Nested::Limit { from, count }, rest))
 }
 
@@ -270,7 +303,7 @@ impl Turning for StepTurns {
             ] => {
                 let alias = name.copy(self.alloc)?;
                 let (nested, rest) = nested(self.alloc, rest)?;
-                let rest = semicolon(rest)?;
+                let (nested, rest) = behind_semicolon(nested, rest)?;
                 Ok(Some((Step { alias, nested }, rest)))
             }
             _ => Ok(None),

@@ -2,7 +2,7 @@ ghost use Rattle.std.specs.Prelude.{◌≡◌, [], ◌∷◌, Some, IfOk, length
 ghost use Rattle.pig_syntax.specs.declared.tokens.TokenForm.TheVariants as f;
 ghost use Rattle.pig_exprs.specs.Grammar.{Forms};
 ghost use Rattle.pig_parser.specs.Statements.{side_of};
-ghost use Rattle.pig_exprs.specs.Reader.{forms, Gives, Leaves};
+ghost use Rattle.pig_exprs.specs.Reader.{forms, Gives, GivesRest};
 ghost use Rattle.pig_parser.specs.StatementReader.{generate_word, block_end, inner_at, group_input_at, join_input_at, after_outer, side_at, on_schema_at, load_at, filter_at, block_at, foreach_at, groups_at, group_at, join_at, union_at, distinct_at, order_at, limit_at, op_at};
 
 use crate::blocks::{ItemRule, steps};
@@ -18,7 +18,7 @@ use std::alloc::Global;
 // The tokens behind GENERATE.
 #[tactic(auto, unfolding(crate::specs::StatementReader::generate_word))]
 fn generate_word(tokens: &[Token]) -> Result<&[Token], ParseFault>
-    ensures { Leaves (generate_word (forms tokens.now)) result }
+    ensures { GivesRest (generate_word (forms tokens.now)) result }
 {
     match tokens {
         [
@@ -35,7 +35,7 @@ fn generate_word(tokens: &[Token]) -> Result<&[Token], ParseFault>
 // The tokens behind `;` and `}`.
 #[tactic(auto, unfolding(crate::specs::StatementReader::block_end))]
 fn block_end(tokens: &[Token]) -> Result<&[Token], ParseFault>
-    ensures { Leaves (block_end (forms tokens.now)) result }
+    ensures { GivesRest (block_end (forms tokens.now)) result }
 {
     match tokens {
         [
@@ -418,7 +418,7 @@ fn order(alloc: Global, tokens: &[Token]) -> Result<(Op, &[Token]), ParseFault>
             rest @ ..,
         ] => {
             let from = name.copy(alloc)?;
-            let (keys, rest) = order_keys(alloc, rest)?;
+            let ((from, keys), rest) = order_keys(alloc, from, rest)?;
             Ok((Op::Order { from, keys }, after_parallel(rest)))
         }
         _ => Err(ParseFault::Off),
@@ -439,7 +439,7 @@ fn limit(alloc: Global, tokens: &[Token]) -> Result<(Op, &[Token]), ParseFault>
             rest @ ..,
         ] => {
             let from = name.copy(alloc)?;
-            let (count, rest) = count(rest)?;
+            let ((from, count), rest) = count(from, rest)?;
             Ok((Op::Limit { from, count }, rest))
         }
         _ => Err(ParseFault::Off),

@@ -55,7 +55,8 @@ pub fn parse(alloc: Global, tokens: &Tokens, pieces: &Pieces) -> Result<Stmts, S
     requires few_statements { length pieces.now < 2 ^ 32 }
     requires shallow { All (IsShallow tokens.now) pieces.now }
     ensures trees { IfOk result (AreTrees tokens.now pieces.now) }
-    ensures formed { All (λ token. HoldsNoLf token.form) tokens.now → IfOk result (All StmtFormed) }
+    ensures formed { All (λ token. HoldsNoLf token.form) tokens.now
+        → IfOk result (All StmtFormed) }
     ensures fault { IfErr result (IsSyntaxFault tokens.now pieces.now) }
 {
     statements_lie_within();
@@ -95,7 +96,8 @@ fn tree(alloc: Global, tokens: &[Token], piece: &Piece) -> Result<Stmt, ParseFau
 
 // Whether a `;` stands behind the statement.
 fn is_ended(tokens: &[Token], piece: &Piece) -> bool
-    ensures { IsTrue result ↔ (option_map (λ t. is_semicolon t.form) (slice_get tokens.now piece.now.to) ≡ Some true) }
+    ensures { IsTrue result
+        ↔ (option_map (λ t. is_semicolon t.form) (slice_get tokens.now piece.now.to) ≡ Some true) }
 {
     match tokens.get(piece.to) {
         Some(token) => matches!(token.form, TokenForm::Symbol(Symbol::Semicolon)),
@@ -111,8 +113,12 @@ pub fn a_statement_has_one_tree()
 /// A script has one list of trees, or one first statement that is off the grammar, and not both, however
 /// deep its brackets nest.
 pub fn a_script_has_one_answer()
-    ensures some { (ts : List Token) (ps : List Piece) → ((ss : List Stmt) × AreTrees ts ps ss) ⊎ ((n : ℕ) × IsFirstOff ts ps n) }
-    ensures trees { (ts : List Token) (ps : List Piece) (ss us : List Stmt) → AreTrees ts ps ss → AreTrees ts ps us → ss ≡ us }
-    ensures first { (ts : List Token) (ps : List Piece) (m n : ℕ) → IsFirstOff ts ps m → IsFirstOff ts ps n → m ≡ n }
-    ensures not_both { (ts : List Token) (ps : List Piece) (ss : List Stmt) (n : ℕ) → AreTrees ts ps ss → IsFirstOff ts ps n → ⊥ }
+    ensures some { (ts : List Token) (ps : List Piece)
+        → ((ss : List Stmt) × AreTrees ts ps ss) ⊎ ((n : ℕ) × IsFirstOff ts ps n) }
+    ensures trees { (ts : List Token) (ps : List Piece) (ss us : List Stmt)
+        → AreTrees ts ps ss → AreTrees ts ps us → ss ≡ us }
+    ensures first { (ts : List Token) (ps : List Piece) (m n : ℕ)
+        → IsFirstOff ts ps m → IsFirstOff ts ps n → m ≡ n }
+    ensures not_both { (ts : List Token) (ps : List Piece) (ss : List Stmt) (n : ℕ)
+        → AreTrees ts ps ss → IsFirstOff ts ps n → ⊥ }
 {}

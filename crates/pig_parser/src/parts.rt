@@ -1,11 +1,11 @@
 ghost use Rattle.std.specs.Prelude.{◌≡◌, [], ◌∷◌, Some, IfOk, length, map, option_map};
 ghost use Rattle.pig_exprs.specs.Grammar.{Forms};
 ghost use Rattle.pig_parser.specs.Statements.{count_of};
-ghost use Rattle.pig_exprs.specs.Reader.{forms, Gives, Leaves};
+ghost use Rattle.pig_exprs.specs.Reader.{forms, Gives, GivesBeside, GivesRest};
 ghost use Rattle.pig_exprs.specs.ExprReader.{expr_at};
-ghost use Rattle.pig_parser.specs.StatementReader.{Tells, comma, semicolon, as_word, by_word, several, key_list_at, keys_at, dir_at, order_field_at, order_keys_at, text_at, ident_at, func_at, using_func_at, using_text_at, after_parallel, count_at};
+ghost use Rattle.pig_parser.specs.StatementReader.{GivesFound, comma, semicolon, as_word, by_word, several, key_list_at, keys_at, dir_at, order_field_at, order_keys_at, text_at, ident_at, func_at, using_func_at, using_text_at, after_parallel, count_at};
 
-use pig_exprs::{ParseFault, Rule, close_paren, expression, field_ref, listed, one};
+use pig_exprs::{ParseFault, Rule, close_paren, closed, expression, field_ref, listed, one};
 use pig_syntax::{
     Expr, Exprs, Func, Keyword, OrderField, OrderKeys, Symbol, Texts, Token, TokenForm,
 };
@@ -15,7 +15,7 @@ use std::alloc::Global;
 /// The tokens behind a `,`.
 #[tactic(auto, unfolding(crate::specs::StatementReader::comma))]
 pub fn comma(tokens: &[Token]) -> Result<&[Token], ParseFault>
-    ensures { Leaves (comma (forms tokens.now)) result }
+    ensures { GivesRest (comma (forms tokens.now)) result }
 {
     match tokens {
         [
@@ -32,7 +32,7 @@ pub fn comma(tokens: &[Token]) -> Result<&[Token], ParseFault>
 /// The tokens behind a `;`.
 #[tactic(auto, unfolding(crate::specs::StatementReader::semicolon))]
 pub fn semicolon(tokens: &[Token]) -> Result<&[Token], ParseFault>
-    ensures { Leaves (semicolon (forms tokens.now)) result }
+    ensures { GivesRest (semicolon (forms tokens.now)) result }
 {
     match tokens {
         [
@@ -49,7 +49,7 @@ pub fn semicolon(tokens: &[Token]) -> Result<&[Token], ParseFault>
 /// The tokens behind AS.
 #[tactic(auto, unfolding(crate::specs::StatementReader::as_word))]
 pub fn as_word(tokens: &[Token]) -> Result<&[Token], ParseFault>
-    ensures { Leaves (as_word (forms tokens.now)) result }
+    ensures { GivesRest (as_word (forms tokens.now)) result }
 {
     match tokens {
         [
@@ -66,7 +66,7 @@ pub fn as_word(tokens: &[Token]) -> Result<&[Token], ParseFault>
 /// The tokens behind BY.
 #[tactic(auto, unfolding(crate::specs::StatementReader::by_word))]
 pub fn by_word(tokens: &[Token]) -> Result<&[Token], ParseFault>
-    ensures { Leaves (by_word (forms tokens.now)) result }
+    ensures { GivesRest (by_word (forms tokens.now)) result }
 {
     match tokens {
         [
@@ -83,7 +83,7 @@ pub fn by_word(tokens: &[Token]) -> Result<&[Token], ParseFault>
 /// The members, where they are two at least.
 #[tactic(auto, unfolding(crate::specs::StatementReader::several))]
 pub fn several<T: Drop>(members: Seq<T>) -> Result<Seq<T>, ParseFault>
-    ensures { Tells (several members) result }
+    ensures { GivesFound (several members) result }
 {
     match members.as_slice() {
         [_first, _second, _others @ ..] => Ok(members),
@@ -91,10 +91,10 @@ pub fn several<T: Drop>(members: Seq<T>) -> Result<Seq<T>, ParseFault>
     }
 }
 
-// Expressions as members of a list.
+/// Expressions as members of a list.
 #[derive(Drop)]
-struct ExpressionRule {
-    alloc: Global,
+pub struct ExpressionRule {
+    pub alloc: Global,
 }
 
 impl Rule for ExpressionRule {
@@ -124,7 +124,7 @@ fn key_list(alloc: Global, tokens: &[Token]) -> Result<(Exprs, &[Token]), ParseF
         ] => {
             let (keys, rest) = listed(alloc, &ExpressionRule { alloc }, rest)?;
             let keys = several(keys)?;
-            let rest = close_paren(rest)?;
+            let (keys, rest) = closed(keys, rest)?;
             Ok((keys, rest))
         }
         _ => Err(ParseFault::Off),
@@ -192,10 +192,15 @@ impl Rule for OrderFieldRule {
     }
 }
 
-/// The keys of an ORDER.
+/// What is kept, and the keys of an ORDER.
 #[tactic(auto, unfolding(crate::specs::StatementReader::order_keys_at))]
-pub fn order_keys(alloc: Global, tokens: &[Token]) -> Result<(OrderKeys, &[Token]), ParseFault>
-    ensures { Gives (order_keys_at (forms tokens.now)) result }
+pub fn order_keys<K: Drop>(
+    alloc: Global,
+    kept: K,
+    tokens: &[Token],
+) -> Result<((K, OrderKeys), &[Token]), ParseFault>
+    ensures kept { IfOk result (λ r. r.0.0 ≡ kept) }
+    ensures found { GivesBeside (order_keys_at (forms tokens.now)) result }
 {
     match tokens {
         [
@@ -206,11 +211,11 @@ pub fn order_keys(alloc: Global, tokens: &[Token]) -> Result<(OrderKeys, &[Token
             rest @ ..,
         ] => {
             let (dir, rest) = dir(rest);
-            Ok((OrderKeys::All(dir), rest))
+            Ok(((kept, OrderKeys::All(dir)), rest))
         }
         _ => {
             let (fields, rest) = listed(alloc, &OrderFieldRule { alloc }, tokens)?;
-            Ok((OrderKeys::Fields(fields), rest))
+            Ok(((kept, OrderKeys::Fields(fields)), rest))
         }
     }
 }
@@ -398,14 +403,15 @@ fn count_of(token: &Token) -> Option<u64>
     }
 }
 
-/// A count of tuples.
+/// What is kept, and a count of tuples.
 #[tactic(auto, unfolding(crate::specs::StatementReader::count_at))]
-pub fn count(tokens: &[Token]) -> Result<(u64, &[Token]), ParseFault>
-    ensures { Gives (count_at (forms tokens.now)) result }
+pub fn count<K: Drop>(kept: K, tokens: &[Token]) -> Result<((K, u64), &[Token]), ParseFault>
+    ensures kept { IfOk result (λ r. r.0.0 ≡ kept) }
+    ensures found { GivesBeside (count_at (forms tokens.now)) result }
 {
     match tokens {
         [first, rest @ ..] => match count_of(first) {
-            Some(count) => Ok((count, rest)),
+            Some(count) => Ok(((kept, count), rest)),
             None => Err(ParseFault::Off),
         },
         _ => Err(ParseFault::Off),

@@ -2,11 +2,11 @@ ghost use Rattle.std.specs.Prelude.{◌≡◌, [], ◌∷◌, Some, length, map}
 ghost use Rattle.pig_exprs.specs.Grammar.{Forms};
 ghost use Rattle.pig_parser.specs.Statements.{is_unsupported_word};
 ghost use Rattle.pig_exprs.specs.Reader.{forms, Gives};
-ghost use Rattle.pig_parser.specs.StatementReader.{Tells, branch_with, branch_at, branch_turn, branches_at, otherwise_at, split_at, store_at, is_unsupported, assign_at, front_at, ended, statement_at};
+ghost use Rattle.pig_parser.specs.StatementReader.{GivesFound, branch_with, branch_at, branch_turn, branches_at, otherwise_at, split_at, store_at, is_unsupported, assign_at, front_at, ended, statement_at};
 
 use crate::operators::operator;
 use crate::parts::using_func;
-use pig_exprs::{ParseFault, Turning, expression, one, repeat};
+use pig_exprs::{ParseFault, Turning, discard, expression, one, repeat};
 use pig_syntax::{Branch, Branches, Keyword, Stmt, Symbol, Token, TokenForm};
 use pig_value::Text;
 use std::alloc::Global;
@@ -284,18 +284,21 @@ fn front(alloc: Global, tokens: &[Token]) -> Result<(Stmt, &[Token]), ParseFault
 // The tree, where no token is left.
 #[tactic(auto, unfolding(crate::specs::StatementReader::ended))]
 fn ended(tree: Stmt, rest: &[Token]) -> Result<Stmt, ParseFault>
-    ensures { Tells (ended tree (forms rest.now)) result }
+    ensures { GivesFound (ended tree (forms rest.now)) result }
 {
     match rest {
         [] => Ok(tree),
-        _ => Err(ParseFault::Off),
+        _ => {
+            discard(tree);
+            Err(ParseFault::Off)
+        }
     }
 }
 
 /// The tree of a statement's tokens.
 #[tactic(auto, unfolding(crate::specs::StatementReader::statement_at))]
 pub fn statement(alloc: Global, tokens: &[Token]) -> Result<Stmt, ParseFault>
-    ensures { Tells (statement_at 65 (forms tokens.now)) result }
+    ensures { GivesFound (statement_at 65 (forms tokens.now)) result }
 {
     match tokens {
         [] => Ok(Stmt::Empty),
