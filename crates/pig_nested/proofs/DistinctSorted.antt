@@ -1,8 +1,8 @@
 -- A sorted list without what repeats is each of its elements once; and the steps of a loop that leaves repeats out.
-use Rattle.std.specs.Prelude.{◌≡◌, ◌<◌, ◌≤◌, ◌+◌, ◌-◌, ℕ, suc, Bool, true, false, not, List, [], ◌∷◌, ◌++◌, map, length, take, drop, refl, min, slice_index_or, slice_set, if◌then◌else◌}
+use Rattle.std.specs.Prelude.{◌≡◌, ◌<◌, ◌≤◌, ◌+◌, ◌-◌, ℕ, true, false, not, List, [], ◌∷◌, ◌++◌, map, length, take, drop, refl, slice_index_or, slice_set, if◌then◌else◌}
 use Rattle.std.proofs.Common.{ap, sym, ◌∙◌, subst, arith, cond, true≢false, inl, inr}
 use Rattle.std.specs.Cmp.{IsTotalOrder}
-use Rattle.std.specs.List.{filter, swap, AllByRecursion}
+use Rattle.std.specs.List.{swap, AllByRecursion}
 use Rattle.std.specs.Ordering.{is_eq, is_gt, ordering_reverse}
 use Rattle.std.specs.declared.cmp.Ordering.{Ordering}
 use Rattle.std.specs.declared.cmp.Ordering.TheVariants.{Less, Equal, Greater}

@@ -1,7 +1,6 @@
 -- Laws of joinings: they may be made from left to right, and lists of one in a row are one.
 use Rattle.std.specs.Prelude.{◌≡◌, Bool, true, false, not, List, [], ◌∷◌, ◌++◌, map, refl, if◌then◌else◌, ◌&&◌}
 use Rattle.std.proofs.Common.{ap, sym, ◌∙◌, true≢false}
-use Rattle.std.specs.List.{flat_map}
 use Rattle.std.proofs.lemmas.List.{append-nil, append_assoc, map-append}
 use Rattle.std.proofs.lemmas.List.Concat.{flat_map-append}
 use Rattle.pig_value.specs.Trees.{rows_tree, Tree}

@@ -38,8 +38,10 @@ fn last_of_each(rows: Vec<Tuple>) -> Vec<Tuple>
 fn keep(rows: &mut Vec<Tuple>, kept: usize, next: usize) -> usize
     requires before { kept ≤ next }
     requires within { next < length rows.old.items }
-    ensures same { rows_tree (take result rows.new.items) ++ apart row_cmp (rows_tree (drop (next + 1) rows.new.items))
-        ≡ rows_tree (take kept rows.old.items) ++ apart row_cmp (rows_tree (drop next rows.old.items)) }
+    ensures same { rows_tree (take result rows.new.items)
+        ++ apart row_cmp (rows_tree (drop (next + 1) rows.new.items))
+        ≡ rows_tree (take kept rows.old.items)
+        ++ apart row_cmp (rows_tree (drop next rows.old.items)) }
     ensures before { result ≤ next + 1 }
     ensures length { length rows.new.items ≡ length rows.old.items }
 {
@@ -78,7 +80,8 @@ fn refs<'a>(alloc: Global, rows: &'a [Tuple]) -> Result<Vec<&'a Tuple>, AllocErr
 }
 
 fn sorted_refs<'a>(rows: Vec<&'a Tuple>) -> Vec<&'a Tuple>
-    ensures { map (λ row. row_tree row.now) result.items ≡ bag_of (map (λ row. row_tree row.now) rows.entry.items) }
+    ensures { map (λ row. row_tree row.now) result.items
+        ≡ bag_of (map (λ row. row_tree row.now) rows.entry.items) }
 {
     let mut rows = rows;
     rows.sort_unstable_by(|a, b| order_rows(*a, *b));
@@ -87,7 +90,8 @@ fn sorted_refs<'a>(rows: Vec<&'a Tuple>) -> Vec<&'a Tuple>
 
 // Copies of the rows but for those that are the same as the next.
 fn copied_last(alloc: Global, rows: &[&Tuple]) -> Result<Rows, AllocError>
-    ensures { IfOk result (λ made. rows_tree made ≡ apart row_cmp (map (λ row. row_tree row.now) rows.now)) }
+    ensures { IfOk result (λ made. rows_tree made
+        ≡ apart row_cmp (map (λ row. row_tree row.now) rows.now)) }
 {
     let mut made = Seq::new(alloc);
     let mut left = rows;
@@ -104,8 +108,10 @@ fn keep_copy(
     first: &Tuple,
     rest: &[&Tuple],
 ) -> Result<(), AllocError>
-    ensures { OnOk result (rows_tree made.new ++ apart row_cmp (map (λ row. row_tree row.now) rest.now)
-        ≡ rows_tree made.old ++ apart row_cmp (row_tree first.now ∷ map (λ row. row_tree row.now) rest.now)) }
+    ensures { OnOk result (rows_tree made.new
+        ++ apart row_cmp (map (λ row. row_tree row.now) rest.now)
+        ≡ rows_tree made.old
+        ++ apart row_cmp (row_tree first.now ∷ map (λ row. row_tree row.now) rest.now)) }
 {
     if is_first(first, rest) {
         return Ok(());
@@ -115,7 +121,8 @@ fn keep_copy(
 
 // Whether a row is the same as the first of others.
 fn is_first(row: &Tuple, others: &[&Tuple]) -> bool
-    ensures { result ≡ repeats row_cmp (row_tree row.now ∷ map (λ other. row_tree other.now) others.now) }
+    ensures { result
+        ≡ repeats row_cmp (row_tree row.now ∷ map (λ other. row_tree other.now) others.now) }
 {
     match others {
         [next, ..] => order_rows(row, *next) == Ordering::Equal,

@@ -21,7 +21,8 @@ use std::alloc::{AllocError, Global};
 /// On a row of the kinds that the block was typed for, the rows are of its kinds. Out of values they are values, and
 /// where no text in the row and the literals has an LF, they are free of them too.
 pub fn foreach(alloc: Global, block: &Block, row: &Tuple) -> Result<Rows, AllocError>
-    ensures rows { IfOk result (λ rows. rows_tree rows ≡ foreach_rows (block_typed block.now) (row_tree row.now)) }
+    ensures rows { IfOk result (λ rows. rows_tree rows
+        ≡ foreach_rows (block_typed block.now) (row_tree row.now)) }
     ensures kinds { (kinds made : List KindTree)
         → IsRowOf (row_tree row.now) kinds → row_kinds (block_typed block.now) kinds ≡ Some made
         → IfOk result (λ rows. AreRowsOf (rows_tree rows) made) }
@@ -38,7 +39,8 @@ pub fn foreach(alloc: Global, block: &Block, row: &Tuple) -> Result<Rows, AllocE
 }
 
 fn made(alloc: Global, block: &Block, row: &Tuple) -> Result<Rows, AllocError>
-    ensures { IfOk result (λ rows. rows_tree rows ≡ foreach_rows (block_typed block.now) (row_tree row.now)) }
+    ensures { IfOk result (λ rows. rows_tree rows
+        ≡ foreach_rows (block_typed block.now) (row_tree row.now)) }
 {
     let locals = values_of_steps(alloc, &block.steps, row)?;
     rows_of_items(alloc, &block.items, row, &locals)

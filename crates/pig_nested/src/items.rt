@@ -4,7 +4,7 @@ ghost use Rattle.pig_typed.specs.Blocks.{flattened, item_lists};
 ghost use Rattle.pig_typed.specs.Products.{joined, product};
 ghost use Rattle.pig_typed.specs.Typed.{item_typed};
 ghost use Rattle.pig_eval.specs.SeenValues.{seen_tree};
-ghost use Rattle.pig_nested.specs.Joinings.{are_plain, joined_on, joining_rows, plain_fields};
+ghost use Rattle.pig_nested.specs.Joinings.{are_plain, joined_on, joining_rows, parts_of_items, plain_fields};
 
 use crate::joining::{Joining, finished, starting, with_flattened, with_value};
 use pig_eval::{Seen, eval, look, value};
@@ -20,7 +20,8 @@ pub fn rows_of_items(
     locals: &Tuple,
 ) -> Result<Rows, AllocError>
     ensures { IfOk result (λ rows. rows_tree rows
-        ≡ product (map (λ item. item_lists item (row_tree row.now) (row_tree locals.now)) (map item_typed items.now))) }
+        ≡ product
+        (parts_of_items (map item_typed items.now) (row_tree row.now) (row_tree locals.now))) }
 {
     if is_plain(items) {
         return one_row_of(alloc, items, row, locals);
@@ -46,7 +47,8 @@ fn one_row_of(
     row: &Tuple,
     locals: &Tuple,
 ) -> Result<Rows, AllocError>
-    ensures { IfOk result (λ rows. rows_tree rows ≡ plain_fields (map item_typed items.now) (row_tree row.now) (row_tree locals.now) ∷ []) }
+    ensures { IfOk result (λ rows. rows_tree rows
+        ≡ plain_fields (map item_typed items.now) (row_tree row.now) (row_tree locals.now) ∷ []) }
 {
     let mut rows = Seq::with_capacity(alloc, 1)?;
     rows.push(row_of_items(alloc, items, row, locals)?)?;
@@ -60,7 +62,8 @@ fn row_of_items(
     row: &Tuple,
     locals: &Tuple,
 ) -> Result<Tuple, AllocError>
-    ensures { IfOk result (λ made. row_tree made ≡ plain_fields (map item_typed items.now) (row_tree row.now) (row_tree locals.now)) }
+    ensures { IfOk result (λ made. row_tree made
+        ≡ plain_fields (map item_typed items.now) (row_tree row.now) (row_tree locals.now)) }
 {
     let items = items.as_slice();
     let mut made = Vec::with_capacity(alloc, items.len())?;
@@ -77,7 +80,8 @@ fn joined_items(
     locals: &Tuple,
 ) -> Result<Rows, AllocError>
     ensures { IfOk result (λ rows. rows_tree rows
-        ≡ product (map (λ item. item_lists item (row_tree row.now) (row_tree locals.now)) (map item_typed items.now))) }
+        ≡ product
+        (parts_of_items (map item_typed items.now) (row_tree row.now) (row_tree locals.now))) }
 {
     match items.as_slice() {
         [first, rest @ ..] => joined_from(alloc, first, rest, room_of(items), row, locals),
@@ -94,7 +98,9 @@ fn joined_from(
     locals: &Tuple,
 ) -> Result<Rows, AllocError>
     ensures { IfOk result (λ rows. rows_tree rows
-        ≡ product (map (λ item. item_lists item (row_tree row.now) (row_tree locals.now)) (item_typed first.now ∷ map item_typed rest.now))) }
+        ≡ product
+        (parts_of_items (item_typed first.now ∷ map item_typed rest.now)
+        (row_tree row.now) (row_tree locals.now))) }
 {
     let begun = begun(alloc, first, room, row, locals)?;
     let whole = with_items(alloc, begun, rest, row, locals)?;
@@ -182,7 +188,7 @@ fn with_items(
     locals: &Tuple,
 ) -> Result<Joining, AllocError>
     ensures { IfOk result (λ made. joining_rows made ≡ joined_on (joining_rows begun)
-        (map (λ item. item_lists item (row_tree row.now) (row_tree locals.now)) (map item_typed items.now))) }
+        (parts_of_items (map item_typed items.now) (row_tree row.now) (row_tree locals.now))) }
 {
     let mut so_far = begun;
     for item in items {
@@ -199,7 +205,8 @@ fn with_item(
     locals: &Tuple,
 ) -> Result<Joining, AllocError>
     ensures { IfOk result (λ made. joining_rows made
-        ≡ joined (joining_rows so_far) (item_lists (item_typed item.now) (row_tree row.now) (row_tree locals.now))) }
+        ≡ joined (joining_rows so_far)
+        (item_lists (item_typed item.now) (row_tree row.now) (row_tree locals.now))) }
 {
     if !item.flatten {
         let v = eval(alloc, &item.value, row, locals)?;

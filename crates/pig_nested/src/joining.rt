@@ -35,7 +35,8 @@ pub fn with_flattened(
     v: &Value,
     width: u32,
 ) -> Result<Joining, AllocError>
-    ensures { IfOk result (λ made. joining_rows made ≡ joined (joining_rows joining) (flattened width (tree v.now))) }
+    ensures { IfOk result (λ made. joining_rows made
+        ≡ joined (joining_rows joining) (flattened width (tree v.now))) }
 {
     match v {
         Value::Tuple(fields) => with_fields(alloc, joining, fields),
@@ -48,7 +49,8 @@ pub fn with_flattened(
 
 /// The rows with a value behind each.
 pub fn with_value(joining: Joining, v: Value) -> Result<Joining, AllocError>
-    ensures { IfOk result (λ made. joining_rows made ≡ joined (joining_rows joining) ((tree v ∷ []) ∷ [])) }
+    ensures { IfOk result (λ made. joining_rows made
+        ≡ joined (joining_rows joining) ((tree v ∷ []) ∷ [])) }
 {
     let Joining { rows, tail, room } = joining;
     let mut tail = tail;
@@ -57,7 +59,8 @@ pub fn with_value(joining: Joining, v: Value) -> Result<Joining, AllocError>
 }
 
 fn with_fields(alloc: Global, joining: Joining, fields: &Tuple) -> Result<Joining, AllocError>
-    ensures { IfOk result (λ made. joining_rows made ≡ joined (joining_rows joining) (row_tree fields.now ∷ [])) }
+    ensures { IfOk result (λ made. joining_rows made
+        ≡ joined (joining_rows joining) (row_tree fields.now ∷ [])) }
 {
     let Joining { rows, tail, room } = joining;
     let mut tail = tail;
@@ -66,7 +69,8 @@ fn with_fields(alloc: Global, joining: Joining, fields: &Tuple) -> Result<Joinin
 }
 
 fn with_nulls(joining: Joining, width: u32) -> Result<Joining, AllocError>
-    ensures { IfOk result (λ made. joining_rows made ≡ joined (joining_rows joining) (replicate width v_null ∷ [])) }
+    ensures { IfOk result (λ made. joining_rows made
+        ≡ joined (joining_rows joining) (replicate width v_null ∷ [])) }
 {
     let Joining { rows, tail, room } = joining;
     let mut tail = tail;
@@ -75,7 +79,8 @@ fn with_nulls(joining: Joining, width: u32) -> Result<Joining, AllocError>
 }
 
 fn with_rows(alloc: Global, joining: Joining, more: &Rows) -> Result<Joining, AllocError>
-    ensures { IfOk result (λ made. joining_rows made ≡ joined (joining_rows joining) (rows_tree more.now)) }
+    ensures { IfOk result (λ made. joining_rows made
+        ≡ joined (joining_rows joining) (rows_tree more.now)) }
 {
     match more.as_slice() {
         [fields] => with_fields(alloc, joining, fields),
@@ -84,7 +89,8 @@ fn with_rows(alloc: Global, joining: Joining, more: &Rows) -> Result<Joining, Al
 }
 
 fn with_each(alloc: Global, joining: Joining, more: &Rows) -> Result<Joining, AllocError>
-    ensures { IfOk result (λ made. joining_rows made ≡ joined (joining_rows joining) (rows_tree more.now)) }
+    ensures { IfOk result (λ made. joining_rows made
+        ≡ joined (joining_rows joining) (rows_tree more.now)) }
 {
     let Joining { rows, tail, room } = joining;
     let rows = each_before_each(alloc, &rows, &tail, more, room)?;
@@ -100,7 +106,8 @@ fn each_before_each(
     more: &Rows,
     room: usize,
 ) -> Result<Rows, AllocError>
-    ensures { IfOk result (λ made. rows_tree made ≡ joined (joined (rows_tree rows.now) (row_tree tail.now ∷ [])) (rows_tree more.now)) }
+    ensures { IfOk result (λ made. rows_tree made
+        ≡ joined (joined (rows_tree rows.now) (row_tree tail.now ∷ [])) (rows_tree more.now)) }
 {
     let mut made = Seq::with_capacity(alloc, rows.len().saturating_mul(more.len()))?;
     for part in rows.as_slice() {
@@ -134,7 +141,8 @@ fn one_row(
     fields: &Tuple,
     room: usize,
 ) -> Result<Tuple, AllocError>
-    ensures { IfOk result (λ made. row_tree made ≡ (row_tree row.now ++ row_tree tail.now) ++ row_tree fields.now) }
+    ensures { IfOk result (λ made. row_tree made
+        ≡ (row_tree row.now ++ row_tree tail.now) ++ row_tree fields.now) }
 {
     let mut made = Seq::with_capacity(alloc, room)?;
     add_copies(alloc, &mut made, row)?;
@@ -194,7 +202,8 @@ fn only(alloc: Global, row: Tuple) -> Result<Rows, AllocError>
 }
 
 fn each_before(alloc: Global, rows: Rows, tail: &Tuple) -> Result<Rows, AllocError>
-    ensures { IfOk result (λ made. rows_tree made ≡ joined (rows_tree rows) (row_tree tail.now ∷ [])) }
+    ensures { IfOk result (λ made. rows_tree made
+        ≡ joined (rows_tree rows) (row_tree tail.now ∷ [])) }
 {
     let mut made = Seq::with_capacity(alloc, rows.len())?;
     for row in rows.into_vec() {

@@ -1,7 +1,7 @@
 //! What FOREACH makes of a row: nested steps, and the rows that the items of GENERATE give together.
 //!
 //! [`foreach`] gives the rows that pig_typed's `specs/Blocks` defines, in their order. [`sort_by_keys`],
-//! [`compare_by_keys`] and [`distinct_rows`] are the order of keys and the rows without repetition, for whole relations.
+//! [`compare_by_keys`] and [`distinct_rows`] order the rows of whole relations and take their repeats out.
 #![tactic(auto)]
 
 mod distinct;

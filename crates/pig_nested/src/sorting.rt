@@ -50,7 +50,8 @@ pub fn compare_by_keys(keys: &SortKeys, a: &Tuple, b: &Tuple) -> Ordering
 }
 
 fn order_fields(key: SortKey, a: &Tuple, b: &Tuple) -> Ordering
-    ensures { result ≡ dir_cmp key.dir (at key.position (row_tree a.now)) (at key.position (row_tree b.now)) }
+    ensures { result
+        ≡ dir_cmp key.dir (at key.position (row_tree a.now)) (at key.position (row_tree b.now)) }
 {
     let a = field_at(a, key.position);
     let b = field_at(b, key.position);

@@ -17,7 +17,8 @@ use std::alloc::{AllocError, Global};
 
 /// The values of a block's steps on a row, each on the values of the steps before it.
 pub fn values_of_steps(alloc: Global, steps: &BlockSteps, row: &Tuple) -> Result<Tuple, AllocError>
-    ensures { IfOk result (λ made. row_tree made ≡ steps_values (map step_typed steps.now) (row_tree row.now) []) }
+    ensures { IfOk result (λ made. row_tree made
+        ≡ steps_values (map step_typed steps.now) (row_tree row.now) []) }
 {
     let mut locals = Seq::new(alloc);
     for step in steps.as_slice() {
@@ -33,7 +34,8 @@ fn value_of_step(
     row: &Tuple,
     locals: &Tuple,
 ) -> Result<Value, AllocError>
-    ensures { IfOk result (λ v. tree v ≡ step_value (step_typed step.now) (row_tree row.now) (row_tree locals.now)) }
+    ensures { IfOk result (λ v. tree v
+        ≡ step_value (step_typed step.now) (row_tree row.now) (row_tree locals.now)) }
 {
     match step {
         BlockStep::Filter { from, cond } => {
@@ -58,7 +60,8 @@ fn value_of_step(
 
 // FILTER, which keeps the form of its bag.
 fn filtered(alloc: Global, from: &Value, cond: &TExpr) -> Result<Value, AllocError>
-    ensures { IfOk result (λ v. tree v ≡ on_rows (filter (passes (typed cond.now))) (tree from.now)) }
+    ensures { IfOk result (λ v. tree v
+        ≡ on_rows (filter (passes (typed cond.now))) (tree from.now)) }
 {
     match from {
         Value::Bag(rows) => filtered_bag(alloc, rows, cond),
@@ -68,14 +71,16 @@ fn filtered(alloc: Global, from: &Value, cond: &TExpr) -> Result<Value, AllocErr
 }
 
 fn filtered_bag(alloc: Global, rows: &Rows, cond: &TExpr) -> Result<Value, AllocError>
-    ensures { IfOk result (λ v. tree v ≡ v_bag (tuples_of (filter (passes (typed cond.now)) (rows_tree rows.now)))) }
+    ensures { IfOk result (λ v. tree v
+        ≡ v_bag (tuples_of (filter (passes (typed cond.now)) (rows_tree rows.now)))) }
 {
     let kept = passing(alloc, rows, cond)?;
     Ok(sorted_bag(kept))
 }
 
 fn filtered_listed(alloc: Global, rows: &Rows, cond: &TExpr) -> Result<Value, AllocError>
-    ensures { IfOk result (λ v. tree v ≡ v_listed (tuples_of (filter (passes (typed cond.now)) (rows_tree rows.now)))) }
+    ensures { IfOk result (λ v. tree v
+        ≡ v_listed (tuples_of (filter (passes (typed cond.now)) (rows_tree rows.now)))) }
 {
     let kept = passing(alloc, rows, cond)?;
     Ok(listed_bag(kept))
@@ -98,7 +103,8 @@ fn listed_bag(rows: Rows) -> Value
 }
 
 fn passing(alloc: Global, rows: &Rows, cond: &TExpr) -> Result<Rows, AllocError>
-    ensures { IfOk result (λ kept. rows_tree kept ≡ filter (passes (typed cond.now)) (rows_tree rows.now)) }
+    ensures { IfOk result (λ kept. rows_tree kept
+        ≡ filter (passes (typed cond.now)) (rows_tree rows.now)) }
 {
     let mut kept = Seq::new(alloc);
     for row in rows.as_slice() {
@@ -109,7 +115,8 @@ fn passing(alloc: Global, rows: &Rows, cond: &TExpr) -> Result<Rows, AllocError>
 
 // Adds a copy of the row, where it meets the condition.
 fn keep_row(alloc: Global, kept: &mut Rows, row: &Tuple, cond: &TExpr) -> Result<(), AllocError>
-    ensures { OnOk result (rows_tree kept.new ≡ rows_tree kept.old ++ filter (passes (typed cond.now)) (row_tree row.now ∷ [])) }
+    ensures { OnOk result (rows_tree kept.new
+        ≡ rows_tree kept.old ++ filter (passes (typed cond.now)) (row_tree row.now ∷ [])) }
 {
     if !holds(alloc, cond, row)? {
         return Ok(());
@@ -119,7 +126,8 @@ fn keep_row(alloc: Global, kept: &mut Rows, row: &Tuple, cond: &TExpr) -> Result
 
 // ORDER, which gives a listed bag.
 fn ordered(from: Value, keys: &SortKeys) -> Value
-    ensures { tree result ≡ from_rows (λ rows. v_listed (tuples_of (sort (keys_cmp keys.now) rows))) (tree from) }
+    ensures { tree result
+        ≡ from_rows (λ rows. v_listed (tuples_of (sort (keys_cmp keys.now) rows))) (tree from) }
 {
     match from {
         Value::Bag(rows) => ordered_rows(rows, keys),
@@ -163,7 +171,8 @@ fn front(rows: &[Tuple], end: usize) -> &[Tuple]
 
 // DISTINCT, which gives a bag.
 fn reduced(alloc: Global, from: Seen) -> Result<Value, AllocError>
-    ensures { IfOk result (λ v. tree v ≡ from_rows (λ rows. v_bag (tuples_of (distinct row_cmp rows))) (seen_tree from.entry)) }
+    ensures { IfOk result (λ v. tree v
+        ≡ from_rows (λ rows. v_bag (tuples_of (distinct row_cmp rows))) (seen_tree from.entry)) }
 {
     match from {
         Seen::Lent(v) => reduced_lent(alloc, v),
@@ -172,7 +181,8 @@ fn reduced(alloc: Global, from: Seen) -> Result<Value, AllocError>
 }
 
 fn reduced_lent(alloc: Global, from: &Value) -> Result<Value, AllocError>
-    ensures { IfOk result (λ v. tree v ≡ from_rows (λ rows. v_bag (tuples_of (distinct row_cmp rows))) (tree from.now)) }
+    ensures { IfOk result (λ v. tree v
+        ≡ from_rows (λ rows. v_bag (tuples_of (distinct row_cmp rows))) (tree from.now)) }
 {
     match from {
         Value::Bag(rows) => Ok(Value::Bag(copied_once(alloc, rows)?)),
@@ -182,7 +192,8 @@ fn reduced_lent(alloc: Global, from: &Value) -> Result<Value, AllocError>
 }
 
 fn reduced_made(from: Value) -> Value
-    ensures { tree result ≡ from_rows (λ rows. v_bag (tuples_of (distinct row_cmp rows))) (tree from) }
+    ensures { tree result
+        ≡ from_rows (λ rows. v_bag (tuples_of (distinct row_cmp rows))) (tree from) }
 {
     match from {
         Value::Bag(rows) => Value::Bag(distinct_rows(rows)),

@@ -1,4 +1,4 @@
-use Rattle.std.proofs.Common.{◌≡◌, ◌∙◌, ap, sym}
+use Rattle.std.proofs.Common.{◌∙◌, ap, sym}
 use Rattle.pig_value.specs.Trees.{tree}
 use Rattle.pig_typed.specs.Blocks.{flattened}
 use Rattle.pig_nested.proofs.Forms.{flattened_bag, flattened_listed}

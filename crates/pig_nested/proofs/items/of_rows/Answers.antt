@@ -1,4 +1,4 @@
-use Rattle.std.proofs.Common.{◌≡◌, ◌∙◌, ap, [], ◌∷◌}
+use Rattle.std.proofs.Common.{◌∙◌, ap, [], ◌∷◌}
 use Rattle.pig_value.specs.Trees.{row_tree, rows_tree}
 use Rattle.pig_typed.specs.Products.{joined}
 use Rattle.pig_nested.proofs.JoinedLaws.{joined_none}

@@ -1,8 +1,5 @@
-use Rattle.std.proofs.Common.{◌≡◌, ◌∙◌, ap, sym, rules}
-use Rattle.std.specs.Ordering.{ordering_then}
-use Rattle.pig_value.specs.Orders.{row_cmp}
+use Rattle.std.proofs.Common.{rules}
 use Rattle.pig_value.specs.Trees.{row_tree}
-use Rattle.pig_nested.specs.SortedBy.{by_keys_cmp}
 use Rattle.pig_nested.proofs.SortedLaws.{keys_then_rows}
 use Rattle.pig_nested.proofs.sorting.order_by.Goals as goal
 

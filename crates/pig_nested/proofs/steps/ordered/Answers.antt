@@ -1,4 +1,4 @@
-use Rattle.std.proofs.Common.{◌≡◌, ◌∙◌, ap, sym, List}
+use Rattle.std.proofs.Common.{◌∙◌, ap, sym, List}
 use Rattle.pig_value.specs.Sorts.{sort}
 use Rattle.pig_value.specs.Trees.{Tree, tree, tuples_of, v_listed}
 use Rattle.pig_typed.specs.Blocks.{from_rows, keys_cmp}
