@@ -1,13 +1,15 @@
 -- What steps and FLATTEN make of each form of a value.
-use Rattle.std.specs.Prelude.{◌≡◌, ℕ, List, [], ◌∷◌, length, min, take}
+use Rattle.std.specs.Prelude.{◌≡◌, ◌<◌, ◌≤◌, ℕ, List, [], ◌∷◌, length, min, refl, slice_index_or, take}
+use Rattle.std.specs.Option.{option_map}
+use Rattle.std.proofs.lemmas.Option.{slice_get_past, slice_get_read}
 use Rattle.std.proofs.Common.{ap, sym, ◌∙◌, arith, inl, inr}
 use Rattle.std.proofs.lemmas.Bool.{cases_lt}
 use Rattle.std.specs.List.{take-map}
 use Rattle.std.proofs.lemmas.List.{take_all}
-use Rattle.pig_value.specs.Trees.{row_tree, rows_tree, Tree, tree, tuples_of, v_bag, v_listed}
+use Rattle.pig_value.specs.Trees.{at, or_null, row_tree, rows_tree, Tree, tree, tuples_of, v_bag, v_listed}
 use Rattle.pig_value.specs.declared.values.Value.{Value}
 use Rattle.pig_value.specs.declared.values.Value.TheVariants as value
-use Rattle.pig_value.proofs.TreeLaws.{fields_back, tree-Bag, tree-Listed, tree-Tuple, tuples_back}
+use Rattle.pig_value.proofs.TreeLaws.{at_map, fields_back, tree-Bag, tree-Listed, tree-Null, tree-Tuple, tuples_back}
 use Rattle.pig_typed.specs.Blocks.{flattened, from_rows, on_rows}
 
 pub bag_is : (rows : List (List Value)) → tree (value.Bag rows) ≡ v_bag (tuples_of (rows_tree rows))
@@ -71,3 +73,12 @@ first_taken rows n count is = ap rows_tree same ∙ sym (take-map row_tree count
       | inl fewer ↦ (let e : n ≡ count = omega arith in ap (λ k. take k rows) e)
       | inr all ↦ take_all n rows (omega arith) ∙ sym (take_all count rows all)
     ]
+
+-- ---- the field at a place
+
+pub past_is_null : (row : List Value) (place : ℕ) → length row ≤ place → tree value.Null ≡ at place (row_tree row)
+past_is_null row place past = tree-Null ∙ sym (at_map row place ∙ ap (λ found. or_null (option_map tree found)) (slice_get_past row place past))
+
+pub taken_is : (row : List Value) (place : ℕ) (v : Value) → place < length row → v ≡ slice_index_or row place v → tree v ≡ at place (row_tree row)
+taken_is row place v within is =
+    sym (at_map row place ∙ ap (λ found. or_null (option_map tree found)) (slice_get_read row (length row) place v refl within is))

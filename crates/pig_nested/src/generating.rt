@@ -43,5 +43,5 @@ fn made(alloc: Global, block: &Block, row: &Tuple) -> Result<Rows, AllocError>
         ≡ foreach_rows (block_typed block.now) (row_tree row.now)) }
 {
     let locals = values_of_steps(alloc, &block.steps, row)?;
-    rows_of_items(alloc, &block.items, row, &locals)
+    rows_of_items(alloc, &block.items, row, locals)
 }

@@ -1,14 +1,15 @@
 ghost use Rattle.std.specs.Prelude.{◌≡◌, [], ◌∷◌, map, IfOk, IsTrue};
-ghost use Rattle.pig_value.specs.Trees.{row_tree, rows_tree, tree};
+ghost use Rattle.pig_value.specs.Trees.{at, row_tree, rows_tree, tree};
 ghost use Rattle.pig_typed.specs.Blocks.{flattened, item_lists};
 ghost use Rattle.pig_typed.specs.Products.{joined, product};
-ghost use Rattle.pig_typed.specs.Typed.{item_typed};
+ghost use Rattle.pig_typed.specs.Evaluation.{ev};
+ghost use Rattle.pig_typed.specs.Typed.{item_typed, typed};
 ghost use Rattle.pig_eval.specs.SeenValues.{seen_tree};
 ghost use Rattle.pig_nested.specs.Joinings.{are_plain, joined_on, joining_rows, parts_of_items, plain_fields};
 
-use crate::joining::{Joining, finished, starting, with_flattened, with_value};
+use crate::joining::{Joining, finished, one_empty, starting, with_flattened, with_value};
 use pig_eval::{Seen, eval, look, value};
-use pig_typed::{BlockItem, BlockItems};
+use pig_typed::{BlockItem, BlockItems, TExpr};
 use pig_value::{Rows, Seq, Tuple, Value};
 use std::alloc::{AllocError, Global};
 
@@ -17,16 +18,16 @@ pub fn rows_of_items(
     alloc: Global,
     items: &BlockItems,
     row: &Tuple,
-    locals: &Tuple,
+    locals: Tuple,
 ) -> Result<Rows, AllocError>
     ensures { IfOk result (λ rows. rows_tree rows
         ≡ product
-        (parts_of_items (map item_typed items.now) (row_tree row.now) (row_tree locals.now))) }
+        (parts_of_items (map item_typed items.now) (row_tree row.now) (row_tree locals))) }
 {
     if is_plain(items) {
         return one_row_of(alloc, items, row, locals);
     }
-    joined_items(alloc, items, row, locals)
+    joined_items(alloc, items, row, &locals)
 }
 
 // Whether no item is flattened, so that the block makes one row.
@@ -45,32 +46,73 @@ fn one_row_of(
     alloc: Global,
     items: &BlockItems,
     row: &Tuple,
-    locals: &Tuple,
+    locals: Tuple,
 ) -> Result<Rows, AllocError>
     ensures { IfOk result (λ rows. rows_tree rows
-        ≡ plain_fields (map item_typed items.now) (row_tree row.now) (row_tree locals.now) ∷ []) }
+        ≡ plain_fields (map item_typed items.now) (row_tree row.now) (row_tree locals) ∷ []) }
 {
     let mut rows = Seq::with_capacity(alloc, 1)?;
     rows.push(row_of_items(alloc, items, row, locals)?)?;
     Ok(rows)
 }
 
-// The row of plain items, at its right size.
+// The row of plain items, at its right size. The last of them may take its value out of the locals.
 fn row_of_items(
     alloc: Global,
     items: &BlockItems,
+    row: &Tuple,
+    locals: Tuple,
+) -> Result<Tuple, AllocError>
+    ensures { IfOk result (λ made. row_tree made
+        ≡ plain_fields (map item_typed items.now) (row_tree row.now) (row_tree locals)) }
+{
+    match items.as_slice().split_last() {
+        Some((last, front)) => {
+            let mut made = front_of_row(alloc, front, row, &locals)?;
+            made.push(last_field(alloc, &last.value, row, locals)?)?;
+            Ok(made)
+        }
+        None => Ok(Seq::new(alloc)),
+    }
+}
+
+// The fields before the last, with room for it.
+fn front_of_row(
+    alloc: Global,
+    items: &[BlockItem],
     row: &Tuple,
     locals: &Tuple,
 ) -> Result<Tuple, AllocError>
     ensures { IfOk result (λ made. row_tree made
         ≡ plain_fields (map item_typed items.now) (row_tree row.now) (row_tree locals.now)) }
 {
-    let items = items.as_slice();
-    let mut made = Vec::with_capacity(alloc, items.len())?;
+    let mut made = Vec::with_capacity(alloc, items.len().saturating_add(1))?;
     for item in items {
         made.push(eval(alloc, &item.value, row, locals)?)?;
     }
     Ok(Seq::from_vec(made))
+}
+
+fn last_field(alloc: Global, e: &TExpr, row: &Tuple, locals: Tuple) -> Result<Value, AllocError>
+    ensures { IfOk result (λ v. tree v
+        ≡ ev (typed e.now) (row_tree row.now) (row_tree locals)) }
+{
+    match e {
+        TExpr::Local(n) => Ok(taken(locals, *n)),
+        _ => eval(alloc, e, row, &locals),
+    }
+}
+
+// The field at a place, taken out of its row, and null where there is none.
+fn taken(row: Tuple, place: u32) -> Value
+    ensures { tree result ≡ at place (row_tree row) }
+{
+    let mut fields = row.into_vec();
+    let place = place as usize;
+    if place >= fields.len() {
+        return Value::Null;
+    }
+    fields.swap_remove(place)
 }
 
 fn joined_items(
@@ -85,7 +127,7 @@ fn joined_items(
 {
     match items.as_slice() {
         [first, rest @ ..] => joined_from(alloc, first, rest, room_of(items), row, locals),
-        [] => one_row_of(alloc, items, row, locals),
+        [] => one_empty(alloc),
     }
 }
 

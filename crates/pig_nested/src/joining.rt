@@ -18,14 +18,20 @@ pub struct Joining {
     pub room: usize,
 }
 
-/// One row without fields.
+/// One row without fields, as a joining.
 pub fn starting(alloc: Global, room: usize) -> Result<Joining, AllocError>
     ensures { IfOk result (λ made. joining_rows made ≡ [] ∷ []) }
 {
-    let mut rows = Seq::with_capacity(alloc, 1)?;
-    rows.push(Seq::new(alloc))?;
+    let rows = one_empty(alloc)?;
     let tail = Seq::with_capacity(alloc, room)?;
     Ok(Joining { rows, tail, room })
+}
+
+/// One row without fields.
+pub fn one_empty(alloc: Global) -> Result<Rows, AllocError>
+    ensures { IfOk result (λ made. rows_tree made ≡ [] ∷ []) }
+{
+    only(alloc, Seq::new(alloc))
 }
 
 /// The rows before each list that FLATTEN of a value gives.

@@ -13,5 +13,5 @@ returns-then-is_plain c =
     let items = map item_typed c.args.items.now in
     let plain : are_plain (map item_typed c.args.items.now) ≡ true = sym c.is_plain.ensures ∙ c.if-is_plain.true in
     IfOk-weaker c.one_row_of.result _
-    (λ rows. rows_tree rows ≡ product (map (λ item. item_lists item (row_tree c.args.row.now) (row_tree c.args.locals.now)) (map item_typed c.args.items.now)))
-    (λ rows same. same ∙ sym (plain_product items (row_tree c.args.row.now) (row_tree c.args.locals.now) plain)) c.one_row_of.ensures
+    (λ rows. rows_tree rows ≡ product (map (λ item. item_lists item (row_tree c.args.row.now) (row_tree c.args.locals)) (map item_typed c.args.items.now)))
+    (λ rows same. same ∙ sym (plain_product items (row_tree c.args.row.now) (row_tree c.args.locals) plain)) c.one_row_of.ensures

@@ -10,7 +10,6 @@ use Rattle.pig_nested.proofs.sorting.sorted.Goals as goal
 
 pub returns : goal.returns
 returns c =
-    let keys = c.args.keys.now in
-    bag_key (keys_cmp keys) (keys_total keys) (keys_same keys) (map tree) c.args.rows.items c.sort_unstable_by.new.self.items c.sort_unstable_by.ensures.permutation
-    (c.sort_unstable_by.ensures.sorted (λ x y. is_lt (keys_cmp keys (map tree x) (map tree y))) (ranks_by (keys_total keys) (map tree))
+    bag_key (keys_cmp c.args.keys.now) (keys_total c.args.keys.now) (keys_same c.args.keys.now) (map tree) c.args.rows.items c.sort_unstable_by.new.self.items c.sort_unstable_by.ensures.permutation
+    (c.sort_unstable_by.ensures.sorted (λ x y. is_lt (keys_cmp c.args.keys.now (map tree x) (map tree y))) (ranks_by (keys_total c.args.keys.now) (map tree))
     (always_returns_same _ _ _ (λ a r f k. search rules)))
