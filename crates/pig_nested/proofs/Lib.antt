@@ -1,0 +1,4 @@
+pub mod SortedLaws
+pub mod DistinctSorted
+pub mod JoinedLaws
+pub mod Forms
