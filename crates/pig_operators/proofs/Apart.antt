@@ -1,6 +1,6 @@
 -- The rows of COGROUP, input by input.
-use Rattle.std.proofs.Common.{◌≡◌, zero, suc, ◌<◌, ◌≤◌, ◌+◌, ◌==◌, ℕ, Bool, true, false, List, [], ◌∷◌, ◌++◌, map, length, drop, get_or, refl, sym, ◌∙◌, ap, subst, arith, append-nil, rules}
-use Rattle.std.specs.Prelude.{Option, Some, None, not, ◌&&◌, if◌then◌else◌, slice_get}
+use Rattle.std.proofs.Common.{◌≡◌, zero, suc, ◌<◌, ◌≤◌, ◌+◌, ◌==◌, ℕ, Bool, true, false, List, [], ◌∷◌, ◌++◌, map, length, drop, get_or, refl, sym, ◌∙◌, ap, arith, append-nil, rules}
+use Rattle.std.specs.Prelude.{Some, not, ◌&&◌, if◌then◌else◌, slice_get}
 use Rattle.std.specs.List.{flat_map, range_with_len}
 use Rattle.std.proofs.lemmas.List.{map-id}
 use Rattle.std.proofs.lemmas.List.Concat.{flat_map-append}
@@ -10,7 +10,7 @@ use Rattle.pig_value.specs.declared.values.Value.{Value}
 use Rattle.pig_value.specs.Trees.{Tree, row_tree, rows_tree}
 use Rattle.pig_value.proofs.list_laws.Bags.{either_way}
 use Rattle.pig_value.proofs.list_laws.Indexing.{dropped}
-use Rattle.pig_plan.specs.ByKey.{all_there, alone, as_bag, bags_of, cogroup_of, holds_null, is_empty, kept_where}
+use Rattle.pig_plan.specs.ByKey.{all_there, alone, bags_of, cogroup_of, holds_null, is_empty, kept_where}
 use Rattle.pig_operators.specs.Groups.{apart_rows, between, lone_rows, no_other, only}
 
 -- numbers up to the next

@@ -1,12 +1,12 @@
 -- What stands from a place of a list up to another.
-use Rattle.std.proofs.Common.{◌≡◌, zero, suc, ◌<◌, ◌≤◌, ◌+◌, ℕ, List, [], ◌∷◌, ◌++◌, length, take, drop, refl, sym, ◌∙◌, ap, subst, arith}
+use Rattle.std.proofs.Common.{◌≡◌, zero, suc, ◌<◌, ◌≤◌, ◌+◌, ℕ, List, [], ◌∷◌, ◌++◌, length, take, drop, refl, ◌∙◌, ap, arith}
 use Rattle.std.specs.Prelude.{Some, slice_get}
 use Rattle.std.specs.List.{AllByRecursion}
 use Rattle.std.proofs.lemmas.List.{length-take, drop-append-le}
 use Rattle.pig_value.specs.Sorts.{Ascends}
 use Rattle.std.specs.declared.cmp.Ordering.{Ordering}
 use Rattle.pig_value.proofs.list_laws.Bags.{drop_ascends, take_ascends}
-use Rattle.pig_value.proofs.list_laws.Indexing.{some_at, more_taken}
+use Rattle.pig_value.proofs.list_laws.Indexing.{more_taken}
 use Rattle.pig_operators.specs.Groups.{between}
 
 module _ {X : Type 0} where

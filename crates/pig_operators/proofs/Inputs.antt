@@ -1,25 +1,22 @@
 -- The inputs of a group, one after another.
-use Rattle.std.proofs.Common.{◌≡◌, ◌<◌, ◌≤◌, ◌+◌, ◌==◌, ℕ, Bool, true, false, List, [], ◌∷◌, ◌++◌, map, length, refl, sym, ◌∙◌, ap, subst, arith, rules}
-use Rattle.std.specs.Prelude.{Option, Some, None, option_map, slice_get}
-use Rattle.std.specs.Cmp.{IsTotalOrder}
+use Rattle.std.proofs.Common.{◌≡◌, ◌<◌, ◌≤◌, ◌+◌, ◌==◌, ℕ, true, false, List, [], ◌∷◌, ◌++◌, map, refl, sym, ◌∙◌, ap, subst, arith, rules}
+use Rattle.std.specs.Prelude.{Some, option_map, slice_get}
 use Rattle.std.specs.List.{AllByRecursion, filter}
 use Rattle.std.specs.Ordering.{nat_cmp, is_gt}
-use Rattle.std.specs.declared.cmp.Ordering.TheVariants.{Less, Equal}
-use Rattle.std.proofs.lemmas.Cmp.{tied_itself, nat_cmp_total, ranked, on_total}
+use Rattle.std.specs.declared.cmp.Ordering.TheVariants.{Less}
+use Rattle.std.proofs.lemmas.Cmp.{tied_itself, nat_cmp_total}
 use Rattle.std.proofs.lemmas.List.{map-append, append-nil}
 use Rattle.std.proofs.lemmas.List.Elements.{filter-append}
 use Rattle.pig_value.specs.Orders.{row_cmp, bag_of}
 use Rattle.pig_value.specs.Sorts.{Ascends}
-use Rattle.pig_value.specs.Trees.{Tree}
-use Rattle.pig_value.proofs.list_laws.Bags.{sorted_is, drop_ascends, take_ascends}
-use Rattle.pig_value.proofs.list_laws.Indexing.{some_at, dropped, get-drop}
-use Rattle.pig_value.proofs.list_laws.Listing.{each_weaker, each-append, each-map, filter_all, filter_none}
-use Rattle.pig_plan.specs.ByKey.{Entry, rows_of}
+use Rattle.pig_value.proofs.list_laws.Bags.{sorted_is}
+use Rattle.pig_value.proofs.list_laws.Listing.{each_weaker, each-map, filter_all, filter_none}
+use Rattle.pig_plan.specs.ByKey.{rows_of}
 use Rattle.pig_runs.specs.Entries.{Keyed, InDirections}
 use Rattle.pig_operators.specs.Given.{plan_entry}
-use Rattle.pig_operators.specs.Groups.{between, input_at, IsInput}
+use Rattle.pig_operators.specs.Groups.{between, IsInput}
 use Rattle.pig_operators.proofs.Between.{ascends_before, ascends_behind, between_parts, each_behind, each_between, first_between}
-use Rattle.pig_operators.proofs.Sorted.{all_above, ascends_where, behind_key, by_input, first_not_greater, less_is, second_not_greater}
+use Rattle.pig_operators.proofs.Sorted.{ascends_where, behind_key, by_input, first_not_greater, second_not_greater}
 
 abbrev input_is : ℕ → Keyed → Type 0
 input_is i e = e.input ≡ i

@@ -1,7 +1,7 @@
 -- Joined rows, one part after another.
-use Rattle.std.proofs.Common.{◌≡◌, ℕ, Bool, true, false, List, [], ◌∷◌, ◌++◌, map, refl, sym, ◌∙◌, ap, append_assoc, append-nil}
+use Rattle.std.proofs.Common.{◌≡◌, ℕ, false, List, [], ◌∷◌, ◌++◌, map, refl, sym, ◌∙◌, ap, append_assoc}
 use Rattle.std.proofs.lemmas.List.{map-append, map-id}
-use Rattle.std.specs.List.{flat_map, range_with_len}
+use Rattle.std.specs.List.{range_with_len}
 use Rattle.std.specs.Prelude.{if◌then◌else◌}
 use Rattle.pig_value.specs.declared.values.Value.{Value}
 use Rattle.pig_value.specs.Trees.{Tree, tree, row_tree, rows_tree}

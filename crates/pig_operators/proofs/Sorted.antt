@@ -1,13 +1,13 @@
 -- Sorted entries: those of a key are sorted by input and row, and what stands behind them has a greater key.
-use Rattle.std.proofs.Common.{◌≡◌, ℕ, Bool, true, false, List, [], ◌∷◌, ◌++◌, map, refl, sym, ◌∙◌, ap, subst}
+use Rattle.std.proofs.Common.{◌≡◌, true, false, List, [], ◌∷◌, refl, sym, ◌∙◌, ap}
 use Rattle.std.specs.Cmp.{IsTotalOrder}
 use Rattle.std.specs.List.{AllByRecursion}
-use Rattle.std.specs.Ordering.{ordering_then, nat_cmp, is_gt, is_lt, is_eq}
+use Rattle.std.specs.Ordering.{ordering_then, nat_cmp, is_gt, is_lt}
 use Rattle.std.specs.declared.cmp.Ordering.{Ordering}
 use Rattle.std.specs.declared.cmp.Ordering.TheVariants.{Less, Equal, Greater}
-use Rattle.std.proofs.lemmas.Cmp.{tied_itself, upto}
+use Rattle.std.proofs.lemmas.Cmp.{tied_itself}
 use Rattle.pig_value.specs.Orders.{row_cmp}
-use Rattle.pig_value.specs.Sorts.{Ascends, Rises}
+use Rattle.pig_value.specs.Sorts.{Ascends}
 use Rattle.pig_value.proofs.list_laws.Bags.{either_way, gt_is_lt, rises_over}
 use Rattle.pig_value.specs.declared.operators.Dir.{Dir}
 use Rattle.pig_keycode.specs.Keys.{key_cmp}

@@ -1,8 +1,9 @@
 -- What the operators by key give of a run with a node's entries: the node's results over these entries.
-use Rattle.std.specs.Prelude.{◌≡◌, ◌<◌, ◌≤◌, ℕ, List, [], map, length, take, drop, Option, Some, option_map, slice_get}
-use Rattle.pig_value.specs.Trees.{Tree, or_null}
+use Rattle.std.specs.Prelude.{◌≡◌, ℕ, List, map, length}
+use Rattle.std.specs.List.{AllByRecursion}
+use Rattle.pig_value.specs.Trees.{Tree, v_tuple, fields_of}
 use Rattle.pig_plan.specs.ByKey.{Entry, cogroup_of, group_of, join_of, outer_of}
-use Rattle.pig_runs.specs.Entries.{InDirections, Keyed, key_at}
+use Rattle.pig_runs.specs.Entries.{InDirections, Keyed}
 use Rattle.pig_operators.specs.declared.by_key.Gathering.{Gathering}
 use Rattle.pig_operators.specs.declared.by_key.Gathering.TheVariants as how
 
@@ -22,3 +23,7 @@ entries_in run = map plan_entry run.entries
 
 abbrev pub rows_in : InDirections → List (List Tree)
 rows_in run = map (λ e. e.row) run.entries
+
+-- the key of each entry is its row, as that of DISTINCT is
+abbrev pub AreKeyedByRow : List Keyed → Type 0
+AreKeyedByRow es = AllByRecursion (λ e. e.key ≡ v_tuple (fields_of e.row)) es

@@ -1,4 +1,3 @@
-use Rattle.std.proofs.Common.{rules}
 use Rattle.std.proofs.lemmas.Result.{on_ok_weaker}
 use Rattle.pig_value.specs.Trees.{rows_tree, tree}
 use Rattle.pig_operators.proofs.Apart.{lone_added, lone_none}

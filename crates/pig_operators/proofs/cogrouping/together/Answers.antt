@@ -1,7 +1,7 @@
-use Rattle.std.proofs.Common.{◌++◌, sym, ◌∙◌, ap, length, map, arith, rules}
-use Rattle.pig_value.specs.Trees.{rows_tree, tree}
+use Rattle.std.proofs.Common.{sym, ◌∙◌, ap, length, arith}
+use Rattle.pig_value.specs.Trees.{tree}
 use Rattle.pig_plan.specs.ByKey.{bags_of, kept_where, rows_of}
-use Rattle.pig_operators.specs.Groups.{between, group_entries}
+use Rattle.pig_operators.specs.Groups.{group_entries}
 use Rattle.pig_operators.proofs.Adding.{fields_more}
 use Rattle.pig_operators.proofs.Apart.{flag_at, missing_is, there_next, there_not}
 use Rattle.pig_operators.proofs.Inputs.{input_behind, input_rows}

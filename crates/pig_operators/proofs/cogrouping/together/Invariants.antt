@@ -1,6 +1,5 @@
 -- The bags so far, the entries that remain, and whether none of an INNER input was empty.
-use Rattle.std.proofs.Common.{◌≡◌, ◌∷◌, map, drop}
-use Rattle.std.specs.List.{range_with_len}
+use Rattle.std.proofs.Common.{◌≡◌, drop}
 use Rattle.pig_value.specs.Trees.{row_tree, tree}
 use Rattle.pig_plan.specs.ByKey.{all_there, bags_of, rows_of}
 use Rattle.pig_operators.specs.Groups.{group_entries}

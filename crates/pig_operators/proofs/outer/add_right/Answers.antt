@@ -1,4 +1,4 @@
-use Rattle.std.proofs.Common.{◌++◌, ◌∙◌, ap, arith}
+use Rattle.std.proofs.Common.{◌++◌, arith}
 use Rattle.pig_value.specs.Trees.{row_tree}
 use Rattle.pig_plan.specs.ByKey.{nulls}
 use Rattle.pig_operators.proofs.Adding.{behind_nulls, made_more}
