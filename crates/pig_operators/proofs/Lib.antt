@@ -6,3 +6,4 @@ pub mod Products
 pub mod Apart
 pub mod Sides
 pub mod Adding
+pub mod Singles

@@ -34,6 +34,11 @@ pub record IsInput (run : InDirections) (from end input next : ℕ) : Type 0 whe
   pub same : (k : ℕ) → from ≤ k → k < next → input_at run k ≡ Some input
   pub other : next < end → input_at run next ≡ Some input → ⊥
 
+-- the entries are one of each input, in order
+pub record HasOneEach (run : InDirections) (from end inputs : ℕ) : Type 0 where
+  pub count : end ≡ from + inputs
+  pub each : (k : ℕ) → k < inputs → input_at run (from + k) ≡ Some k
+
 -- ---- COGROUP
 
 -- a row, where there is one

@@ -7,7 +7,7 @@ ghost use Rattle.pig_operators.specs.Given.{entries_in, made};
 ghost use Rattle.pig_operators.specs.Groups.{IsGroup, first_key, group_entries};
 
 use crate::cogrouping::add_cogrouped;
-use crate::groups::{bags, first_bag, group_end};
+use crate::groups::{bags, first_bag, group_end, has_one_each, one_row};
 use crate::joining::add_products;
 use crate::nulls::has_null;
 use crate::outer::add_outer;
@@ -104,6 +104,9 @@ fn add_joined(
 {
     if has_null(key) {
         return Ok(());
+    }
+    if has_one_each(run, from, end, inputs) {
+        return rows.push(one_row(alloc, run, from, end)?);
     }
     let parts = bags(alloc, run, from, end, inputs)?;
     add_products(alloc, Tuple::new(alloc), parts.as_slice(), rows)

@@ -1,13 +1,13 @@
-ghost use Rattle.std.specs.Prelude.{◌≡◌, ◌<◌, ◌≤◌, length, map, IfOk};
-ghost use Rattle.std.specs.List.{range_with_len};
+ghost use Rattle.std.specs.Prelude.{◌≡◌, ◌<◌, ◌≤◌, length, map, IfOk, IsTrue};
+ghost use Rattle.std.specs.List.{flat_map, range_with_len};
 ghost use Rattle.pig_value.specs.Sorts.{Ascends};
-ghost use Rattle.pig_value.specs.Trees.{rows_tree};
+ghost use Rattle.pig_value.specs.Trees.{row_tree, rows_tree};
 ghost use Rattle.pig_plan.specs.ByKey.{rows_of};
 ghost use Rattle.pig_runs.specs.Entries.{run_cmp};
-ghost use Rattle.pig_operators.specs.Groups.{IsGroup, IsInput, between, group_entries};
+ghost use Rattle.pig_operators.specs.Groups.{HasOneEach, IsGroup, IsInput, between, group_entries};
 
 use pig_runs::Run;
-use pig_value::{Rows, Seq};
+use pig_value::{Rows, Seq, Tuple};
 use std::alloc::{AllocError, Global};
 
 /// Lists of rows.
@@ -84,4 +84,34 @@ pub fn first_bag(alloc: Global, run: &Run, from: usize, end: usize) -> Result<Ro
 {
     let next = input_end(run, from, end, 0);
     rows_between(alloc, run, from, next)
+}
+
+/// Whether a group has one entry of each input, so that nothing repeats where its rows are joined.
+pub fn has_one_each(run: &Run, from: usize, end: usize, inputs: usize) -> bool
+    requires order { from ≤ end }
+    requires within { end ≤ length run.now.entries }
+    ensures { IsTrue result → HasOneEach run.now from end inputs }
+{
+    if end - from != inputs {
+        return false;
+    }
+    for input in 0..inputs {
+        if run.input(from + input) as usize != input {
+            return false;
+        }
+    }
+    true
+}
+
+/// The fields of the rows of the entries from a place up to another, in one row.
+pub fn one_row(alloc: Global, run: &Run, from: usize, end: usize) -> Result<Tuple, AllocError>
+    requires order { from ≤ end }
+    requires within { end ≤ length run.now.entries }
+    ensures { IfOk result (λ row. row_tree row ≡ flat_map (λ e. e.row) (between from end run.now.entries)) }
+{
+    let mut row = Tuple::new(alloc);
+    for at in from..end {
+        row.extend(run.row(alloc, at)?)?;
+    }
+    Ok(row)
 }

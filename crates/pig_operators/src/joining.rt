@@ -1,4 +1,4 @@
-ghost use Rattle.std.specs.Prelude.{◌≡◌, ◌++◌, map, OnOk, IfOk};
+ghost use Rattle.std.specs.Prelude.{◌≡◌, [], ◌∷◌, ◌++◌, map, MatchOption, OnOk, IfOk};
 ghost use Rattle.pig_value.specs.Trees.{row_tree, rows_tree};
 ghost use Rattle.pig_typed.specs.Products.{product};
 
@@ -14,15 +14,20 @@ pub fn add_products(
 ) -> Result<(), AllocError>
     ensures { OnOk result (rows_tree rows.new ≡ rows_tree rows.old ++ map (λ more. row_tree front ++ more) (product (map rows_tree parts.now))) }
 {
-    match parts {
-        [] => rows.push(front),
-        [part, rest @ ..] => {
-            for row in part.as_slice() {
-                add_products(alloc, joined(alloc, &front, row)?, rest, rows)?;
-            }
-            Ok(())
-        }
+    let Some((part, rest)) = slowest(parts) else {
+        return rows.push(front);
+    };
+    for row in part.as_slice() {
+        add_products(alloc, joined(alloc, &front, row)?, rest, rows)?;
     }
+    Ok(())
+}
+
+// The part that varies slowest, and the others.
+fn slowest<'p>(parts: &'p [Rows]) -> Option<(&'p Rows, &'p [Rows])>
+    ensures { MatchOption result (parts.now ≡ []) (λ found. parts.now ≡ found.0.now ∷ found.1.now) }
+{
+    parts.split_first()
 }
 
 // The fields of two rows, copied.

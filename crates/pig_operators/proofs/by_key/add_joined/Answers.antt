@@ -5,7 +5,15 @@ use Rattle.pig_value.specs.Trees.{rows_tree, tree}
 use Rattle.pig_plan.specs.ByKey.{rows_of}
 use Rattle.pig_operators.specs.Groups.{group_entries}
 use Rattle.pig_operators.proofs.Products.{join_is, products_added}
+use Rattle.pig_operators.proofs.Singles.{join_added}
 use Rattle.pig_operators.proofs.by_key.add_joined.Goals as goal
+
+pub returns-then-has_one_each : goal.returns-then-has_one_each
+returns-then-has_one_each c =
+    on_ok_weaker c.push.result
+    (join_added c.args.run.now c.args.from c.args.end c.args.inputs c.requires.group.within (c.has_one_each.ensures c.if-has_one_each.true) (tree c.args.key.now) (sym c.has_null.ensures ∙ c.if-has_null.false) c.args.rows.now
+    c.push.new.self c.in_ok-one_row.field-0 c.in_ok-one_row.ensures)
+    c.push.ensures.ok
 
 pub returns : goal.returns
 returns c =
