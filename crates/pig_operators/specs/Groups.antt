@@ -14,6 +14,13 @@ between from end xs = drop from (take end xs)
 abbrev pub group_entries : InDirections → ℕ → ℕ → List Entry
 group_entries run from end = map plan_entry (between from end run.entries)
 
+-- the rows of these entries, and the bags of each input's
+abbrev pub rows_at : InDirections → ℕ → ℕ → List (List Tree)
+rows_at run from end = map (λ e. e.row) (between from end run.entries)
+
+abbrev pub bags_at : InDirections → ℕ → ℕ → ℕ → List (List Tree)
+bags_at run from end = rows_of (group_entries run from end)
+
 abbrev pub first_key : InDirections → ℕ → Tree
 first_key run from = or_null (key_at run from)
 
@@ -70,5 +77,5 @@ pub record AreSides (run : InDirections) (from end middle last : ℕ) : Type 0 w
   pub left_order : from ≤ middle
   pub right_order : middle ≤ last
   pub within : last ≤ length run.entries
-  pub left : rows_of (group_entries run from end) 0 ≡ map (λ e. e.row) (between from middle run.entries)
-  pub right : rows_of (group_entries run from end) 1 ≡ map (λ e. e.row) (between middle last run.entries)
+  pub left : bags_at run from end 0 ≡ rows_at run from middle
+  pub right : bags_at run from end 1 ≡ rows_at run middle last

@@ -1,10 +1,10 @@
 ghost use Rattle.std.specs.Prelude.{◌≡◌, [], ◌∷◌, ◌++◌, IfOk, OnOk};
 ghost use Rattle.pig_value.specs.Sorts.{Ascends};
 ghost use Rattle.pig_value.specs.Trees.{row_tree, rows_tree, tree};
-ghost use Rattle.pig_plan.specs.ByKey.{as_bag, gathered, group_of, join_of, rows_of};
+ghost use Rattle.pig_plan.specs.ByKey.{as_bag, gathered, join_of};
 ghost use Rattle.pig_runs.specs.Entries.{run_cmp};
 ghost use Rattle.pig_operators.specs.Given.{entries_in, made};
-ghost use Rattle.pig_operators.specs.Groups.{IsGroup, first_key, group_entries};
+ghost use Rattle.pig_operators.specs.Groups.{IsGroup, bags_at, first_key};
 
 use crate::cogrouping::add_cogrouped;
 use crate::groups::{bags, first_bag, group_end, has_one_each, one_row};
@@ -28,7 +28,7 @@ pub enum Gathering {
     Join {
         inputs: usize,
     },
-    /// JOIN of two inputs, whose rows are so many fields wide and some of which stand without a partner.
+    /// JOIN of two inputs so many fields wide, where rows of a side may stand without a partner.
     Outer {
         side: Side,
         left: usize,
@@ -63,7 +63,9 @@ fn add_group(
     requires ascending { run.now.dirs ≡ [] }
     requires group { IsGroup run.now from end }
     requires sorted { ∥ Ascends (run_cmp run.now.dirs) run.now.entries ∥₁ }
-    ensures { OnOk result (rows_tree rows.new ≡ rows_tree rows.old ++ made how.now (first_key run.now from) (rows_of (group_entries run.now from end))) }
+    ensures { OnOk result (rows_tree rows.new
+        ≡ rows_tree rows.old
+        ++ made how.now (first_key run.now from) (bags_at run.now from end)) }
 {
     let key = run.key(alloc, from)?;
     match how {
@@ -100,7 +102,8 @@ fn add_joined(
 ) -> Result<(), AllocError>
     requires group { IsGroup run.now from end }
     requires sorted { ∥ Ascends (run_cmp run.now.dirs) run.now.entries ∥₁ }
-    ensures { OnOk result (rows_tree rows.new ≡ rows_tree rows.old ++ join_of inputs (tree key.now) (rows_of (group_entries run.now from end))) }
+    ensures { OnOk result (rows_tree rows.new
+        ≡ rows_tree rows.old ++ join_of inputs (tree key.now) (bags_at run.now from end)) }
 {
     if has_null(key) {
         return Ok(());

@@ -1,9 +1,9 @@
 ghost use Rattle.std.specs.Prelude.{◌≡◌, ◌≤◌, ◌++◌, ◌∷◌, ◌==◌, ◌&&◌, not, [], Bool, length, map, IfOk, OnOk, if◌then◌else◌};
 ghost use Rattle.pig_value.specs.Sorts.{Ascends};
 ghost use Rattle.pig_value.specs.Trees.{row_tree, rows_tree, tree};
-ghost use Rattle.pig_plan.specs.ByKey.{all_there, bags_of, cogroup_of, kept_where, rows_of};
+ghost use Rattle.pig_plan.specs.ByKey.{all_there, bags_of, cogroup_of, kept_where};
 ghost use Rattle.pig_runs.specs.Entries.{run_cmp};
-ghost use Rattle.pig_operators.specs.Groups.{IsGroup, between, group_entries, lone_rows, no_other, only, perhaps, apart_rows};
+ghost use Rattle.pig_operators.specs.Groups.{IsGroup, apart_rows, bags_at, lone_rows, no_other, only, perhaps, rows_at};
 
 use crate::groups::{input_end, rows_between};
 use crate::nulls::has_null;
@@ -23,7 +23,9 @@ pub fn add_cogrouped(
 ) -> Result<(), AllocError>
     requires group { IsGroup run.now from end }
     requires sorted { ∥ Ascends (run_cmp run.now.dirs) run.now.entries ∥₁ }
-    ensures { OnOk result (rows_tree rows.new ≡ rows_tree rows.old ++ cogroup_of inner.now (length inner.now) (tree key) (rows_of (group_entries run.now from end))) }
+    ensures { OnOk result (rows_tree rows.new
+        ≡ rows_tree rows.old ++ cogroup_of inner.now (length inner.now) (tree key)
+        (bags_at run.now from end)) }
 {
     if has_null(&key) {
         return add_apart(alloc, &key, run, from, end, inner, rows);
@@ -45,7 +47,9 @@ fn together(
 ) -> Result<Option<Tuple>, AllocError>
     requires group { IsGroup run.now from end }
     requires sorted { ∥ Ascends (run_cmp run.now.dirs) run.now.entries ∥₁ }
-    ensures { IfOk result (λ row. perhaps row ≡ kept_where (all_there inner.now 0 (rows_of (group_entries run.now from end))) (bags_of (length inner.now) (tree key) (rows_of (group_entries run.now from end)))) }
+    ensures { IfOk result (λ row. perhaps row
+        ≡ kept_where (all_there inner.now 0 (bags_at run.now from end))
+        (bags_of (length inner.now) (tree key) (bags_at run.now from end))) }
 {
     let mut row = Seq::with_capacity(alloc, inner.len().saturating_add(1))?;
     row.push(key)?;
@@ -80,7 +84,9 @@ fn add_apart(
 ) -> Result<(), AllocError>
     requires group { IsGroup run.now from end }
     requires sorted { ∥ Ascends (run_cmp run.now.dirs) run.now.entries ∥₁ }
-    ensures { OnOk result (rows_tree rows.new ≡ rows_tree rows.old ++ apart_rows inner.now (tree key.now) (rows_of (group_entries run.now from end)) (length inner.now)) }
+    ensures { OnOk result (rows_tree rows.new
+        ≡ rows_tree rows.old
+        ++ apart_rows inner.now (tree key.now) (bags_at run.now from end) (length inner.now)) }
 {
     let mut at = from;
     for input in 0..inner.len() {
@@ -104,7 +110,9 @@ fn add_lone(
 ) -> Result<(), AllocError>
     requires order { from ≤ end }
     requires within { end ≤ length run.now.entries }
-    ensures { OnOk result (rows_tree rows.new ≡ rows_tree rows.old ++ lone_rows inner.now (tree key.now) input (map (λ e. e.row) (between from end run.now.entries))) }
+    ensures { OnOk result (rows_tree rows.new
+        ≡ rows_tree rows.old
+        ++ lone_rows inner.now (tree key.now) input (rows_at run.now from end)) }
 {
     if has_own_row(inner, input, from, end) {
         return rows.push(lone_row(alloc, key, run, from, end, input, inner.len())?);
@@ -143,7 +151,8 @@ fn lone_row(
 ) -> Result<Tuple, AllocError>
     requires order { from ≤ end }
     requires within { end ≤ length run.now.entries }
-    ensures { IfOk result (λ row. row_tree row ≡ bags_of inputs (tree key.now) (only input (map (λ e. e.row) (between from end run.now.entries)))) }
+    ensures { IfOk result (λ row. row_tree row
+        ≡ bags_of inputs (tree key.now) (only input (rows_at run.now from end))) }
 {
     let mut row = Seq::with_capacity(alloc, inputs.saturating_add(1))?;
     row.push(copy(alloc, key)?)?;
@@ -163,7 +172,8 @@ fn rows_where(
 ) -> Result<Rows, AllocError>
     requires order { from ≤ end }
     requires within { end ≤ length run.now.entries }
-    ensures { IfOk result (λ rows. rows_tree rows ≡ (if here then map (λ e. e.row) (between from end run.now.entries) else [])) }
+    ensures { IfOk result (λ rows. rows_tree rows
+        ≡ (if here then rows_at run.now from end else [])) }
 {
     if !here {
         return Ok(Rows::new(alloc));

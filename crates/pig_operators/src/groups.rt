@@ -2,9 +2,8 @@ ghost use Rattle.std.specs.Prelude.{◌≡◌, ◌<◌, ◌≤◌, length, map, 
 ghost use Rattle.std.specs.List.{flat_map, range_with_len};
 ghost use Rattle.pig_value.specs.Sorts.{Ascends};
 ghost use Rattle.pig_value.specs.Trees.{row_tree, rows_tree};
-ghost use Rattle.pig_plan.specs.ByKey.{rows_of};
 ghost use Rattle.pig_runs.specs.Entries.{run_cmp};
-ghost use Rattle.pig_operators.specs.Groups.{HasOneEach, IsGroup, IsInput, between, group_entries};
+ghost use Rattle.pig_operators.specs.Groups.{HasOneEach, IsGroup, IsInput, bags_at, between, rows_at};
 
 use pig_runs::Run;
 use pig_value::{Rows, Seq, Tuple};
@@ -45,7 +44,7 @@ pub fn input_end(run: &Run, from: usize, end: usize, input: usize) -> usize
 pub fn rows_between(alloc: Global, run: &Run, from: usize, end: usize) -> Result<Rows, AllocError>
     requires order { from ≤ end }
     requires within { end ≤ length run.now.entries }
-    ensures { IfOk result (λ rows. rows_tree rows ≡ map (λ e. e.row) (between from end run.now.entries)) }
+    ensures { IfOk result (λ rows. rows_tree rows ≡ rows_at run.now from end) }
 {
     let mut rows = Rows::with_capacity(alloc, end - from)?;
     for at in from..end {
@@ -64,7 +63,8 @@ pub fn bags(
 ) -> Result<Bags, AllocError>
     requires group { IsGroup run.now from end }
     requires sorted { ∥ Ascends (run_cmp run.now.dirs) run.now.entries ∥₁ }
-    ensures { IfOk result (λ bags. map rows_tree bags ≡ map (rows_of (group_entries run.now from end)) (range_with_len 0 inputs)) }
+    ensures { IfOk result (λ bags. map rows_tree bags
+        ≡ map (bags_at run.now from end) (range_with_len 0 inputs)) }
 {
     let mut bags = Bags::with_capacity(alloc, inputs)?;
     let mut at = from;
@@ -80,7 +80,7 @@ pub fn bags(
 pub fn first_bag(alloc: Global, run: &Run, from: usize, end: usize) -> Result<Rows, AllocError>
     requires group { IsGroup run.now from end }
     requires sorted { ∥ Ascends (run_cmp run.now.dirs) run.now.entries ∥₁ }
-    ensures { IfOk result (λ rows. rows_tree rows ≡ rows_of (group_entries run.now from end) 0) }
+    ensures { IfOk result (λ rows. rows_tree rows ≡ bags_at run.now from end 0) }
 {
     let next = input_end(run, from, end, 0);
     rows_between(alloc, run, from, next)
@@ -107,7 +107,8 @@ pub fn has_one_each(run: &Run, from: usize, end: usize, inputs: usize) -> bool
 pub fn one_row(alloc: Global, run: &Run, from: usize, end: usize) -> Result<Tuple, AllocError>
     requires order { from ≤ end }
     requires within { end ≤ length run.now.entries }
-    ensures { IfOk result (λ row. row_tree row ≡ flat_map (λ e. e.row) (between from end run.now.entries)) }
+    ensures { IfOk result (λ row. row_tree row
+        ≡ flat_map (λ e. e.row) (between from end run.now.entries)) }
 {
     let mut row = Tuple::new(alloc);
     for at in from..end {

@@ -5,14 +5,17 @@ ghost use Rattle.pig_typed.specs.Products.{product};
 use pig_value::{Rows, Seq, Tuple, Value, copy};
 use std::alloc::{AllocError, Global};
 
-/// Adds a row for each joining of the parts' rows behind these fields, the first part varying slowest.
+/// Adds a row for each joining of the parts' rows behind these fields, the first part varying
+/// slowest.
 pub fn add_products(
     alloc: Global,
     front: Tuple,
     parts: &[Rows],
     rows: &mut Rows,
 ) -> Result<(), AllocError>
-    ensures { OnOk result (rows_tree rows.new ≡ rows_tree rows.old ++ map (λ more. row_tree front ++ more) (product (map rows_tree parts.now))) }
+    ensures { OnOk result (rows_tree rows.new
+        ≡ rows_tree rows.old ++ map (λ more. row_tree front ++ more)
+        (product (map rows_tree parts.now))) }
 {
     let Some((part, rest)) = slowest(parts) else {
         return rows.push(front);
@@ -25,7 +28,8 @@ pub fn add_products(
 
 // The part that varies slowest, and the others.
 fn slowest<'p>(parts: &'p [Rows]) -> Option<(&'p Rows, &'p [Rows])>
-    ensures { MatchOption result (parts.now ≡ []) (λ found. parts.now ≡ found.0.now ∷ found.1.now) }
+    ensures { MatchOption result (parts.now ≡ []) (λ found.
+        parts.now ≡ found.0.now ∷ found.1.now) }
 {
     parts.split_first()
 }

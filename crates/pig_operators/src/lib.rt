@@ -1,4 +1,4 @@
-//! The operators by key over sorted runs: of a boundary node's entries, the rows that the node gives.
+//! The operators by key over sorted runs: of a node's entries, the rows that the node gives.
 #![tactic(auto)]
 
 mod by_key;

@@ -1,9 +1,9 @@
 ghost use Rattle.std.specs.Prelude.{◌≡◌, ◌≤◌, ◌++◌, ◌==◌, ◌||◌, not, [], Bool, length, map, replicate, IfOk, OnOk, if◌then◌else◌};
 ghost use Rattle.pig_value.specs.Sorts.{Ascends};
 ghost use Rattle.pig_value.specs.Trees.{row_tree, rows_tree, tree, v_null};
-ghost use Rattle.pig_plan.specs.ByKey.{holds_null, keeps_left, keeps_right, nulls, outer_of, rows_of};
+ghost use Rattle.pig_plan.specs.ByKey.{holds_null, keeps_left, keeps_right, nulls, outer_of};
 ghost use Rattle.pig_runs.specs.Entries.{run_cmp};
-ghost use Rattle.pig_operators.specs.Groups.{AreSides, IsGroup, between, group_entries};
+ghost use Rattle.pig_operators.specs.Groups.{AreSides, IsGroup, bags_at, rows_at};
 
 use crate::groups::{bags, input_end};
 use crate::joining::add_products;
@@ -26,7 +26,9 @@ pub fn add_outer(
 ) -> Result<(), AllocError>
     requires group { IsGroup run.now from end }
     requires sorted { ∥ Ascends (run_cmp run.now.dirs) run.now.entries ∥₁ }
-    ensures { OnOk result (rows_tree rows.new ≡ rows_tree rows.old ++ outer_of side left right (tree key.now) (rows_of (group_entries run.now from end))) }
+    ensures { OnOk result (rows_tree rows.new
+        ≡ rows_tree rows.old
+        ++ outer_of side left right (tree key.now) (bags_at run.now from end)) }
 {
     let (middle, last) = sides(run, from, end);
     if have_partners(key, from, middle, last) {
@@ -84,7 +86,9 @@ fn add_left(
 ) -> Result<(), AllocError>
     requires order { from ≤ end }
     requires within { end ≤ length run.now.entries }
-    ensures { OnOk result (rows_tree rows.new ≡ rows_tree rows.old ++ (if kept then map (λ row. row ++ nulls width) (map (λ e. e.row) (between from end run.now.entries)) else [])) }
+    ensures { OnOk result (rows_tree rows.new
+        ≡ rows_tree rows.old
+        ++ (if kept then map (λ row. row ++ nulls width) (rows_at run.now from end) else [])) }
 {
     if !kept {
         return Ok(());
@@ -109,7 +113,9 @@ fn add_right(
 ) -> Result<(), AllocError>
     requires order { from ≤ end }
     requires within { end ≤ length run.now.entries }
-    ensures { OnOk result (rows_tree rows.new ≡ rows_tree rows.old ++ (if kept then map (λ row. nulls width ++ row) (map (λ e. e.row) (between from end run.now.entries)) else [])) }
+    ensures { OnOk result (rows_tree rows.new
+        ≡ rows_tree rows.old
+        ++ (if kept then map (λ row. nulls width ++ row) (rows_at run.now from end) else [])) }
 {
     if !kept {
         return Ok(());

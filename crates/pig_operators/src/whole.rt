@@ -9,8 +9,9 @@ use pig_runs::Run;
 use pig_value::Rows;
 use std::alloc::{AllocError, Global};
 
-/// The rows of ORDER: those of the entries in their order, whose keys are the fields to sort by. A refusal gives up the
-/// run.
+/// The rows of ORDER, whose keys are the fields to sort by: those of the entries in their order.
+///
+/// A refusal gives up the run.
 pub fn ungrouped(alloc: Global, run: Run) -> Result<Rows, AllocError>
     ensures { IfOk result (λ rows. rows_tree rows ≡ rows_in run) }
 {
@@ -21,7 +22,9 @@ pub fn ungrouped(alloc: Global, run: Run) -> Result<Rows, AllocError>
     Ok(rows)
 }
 
-/// The rows of DISTINCT, each once and in ascending order: the key of an entry is its row. A refusal gives up the run.
+/// The rows of DISTINCT, each once and in ascending order: the key of an entry is its row.
+///
+/// A refusal gives up the run.
 pub fn distinct_keys(alloc: Global, run: Run) -> Result<Rows, AllocError>
     requires ascending { run.dirs ≡ [] }
     requires keys { AreKeyedByRow run.entries }
