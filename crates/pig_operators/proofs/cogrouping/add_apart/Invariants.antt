@@ -1,0 +1,12 @@
+-- The rows so far, and the entries that remain.
+use Rattle.std.proofs.Common.{◌≡◌, ◌++◌}
+use Rattle.pig_value.specs.Trees.{rows_tree, tree}
+use Rattle.pig_plan.specs.ByKey.{rows_of}
+use Rattle.pig_operators.specs.Groups.{apart_rows, group_entries}
+use Rattle.pig_operators.proofs.Inputs.{Remains}
+use Rattle.pig_operators.proofs.cogrouping.add_apart.Given as goal
+
+abbrev pub invariant-loop-input : goal.invariant-loop-input
+invariant-loop-input l =
+    Remains l.run.entries l.from l.at l.end l.input
+    × (rows_tree l.rows ≡ rows_tree l.fn.rows ++ apart_rows l.inner (tree l.key) (rows_of (group_entries l.run l.from l.end)) l.input)

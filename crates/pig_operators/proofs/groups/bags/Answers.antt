@@ -1,0 +1,16 @@
+use Rattle.std.proofs.Common.{sym, ◌∙◌}
+use Rattle.pig_plan.specs.ByKey.{rows_of}
+use Rattle.pig_operators.specs.Groups.{group_entries}
+use Rattle.pig_operators.proofs.Adding.{bags_more}
+use Rattle.pig_operators.proofs.Inputs.{input_behind, input_rows}
+use Rattle.pig_operators.proofs.Stretches.{group_sorted}
+use Rattle.pig_operators.proofs.groups.bags.Goals as goal
+
+pub loop-input-preserved : goal.loop-input-preserved
+loop-input-preserved c =
+    let up = group_sorted c.args.run.now c.args.from c.args.end c.requires.group c.requires.sorted in (
+      input_behind c.args.run.now c.args.from c.loop-input.at c.args.end c.loop-input.input c.input_end-next.result c.loop-input.invariant.0 c.input_end-next.ensures up,
+      bags_more (rows_of (group_entries c.args.run.now c.args.from c.args.end)) c.loop-input.input c.loop-input.bags c.push.new.self c.in_ok-rows_between.field-0
+          (c.in_ok-rows_between.ensures ∙ sym (input_rows c.args.run.now c.args.from c.loop-input.at c.args.end c.loop-input.input c.input_end-next.result c.loop-input.invariant.0 c.input_end-next.ensures up)) c.loop-input.invariant.1
+          c.in_ok-push.ensures.ok,
+    )

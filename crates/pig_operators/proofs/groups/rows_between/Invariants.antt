@@ -1,0 +1,8 @@
+-- The rows so far.
+use Rattle.std.proofs.Common.{◌≡◌, map}
+use Rattle.pig_value.specs.Trees.{rows_tree}
+use Rattle.pig_operators.specs.Groups.{between}
+use Rattle.pig_operators.proofs.groups.rows_between.Given as goal
+
+abbrev pub invariant-loop-at : goal.invariant-loop-at
+invariant-loop-at l = rows_tree l.rows ≡ map (λ e. e.row) (between l.from l.at l.run.entries)

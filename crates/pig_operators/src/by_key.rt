@@ -1,0 +1,116 @@
+ghost use Rattle.std.specs.Prelude.{◌≡◌, [], ◌∷◌, ◌++◌, IfOk, OnOk};
+ghost use Rattle.pig_value.specs.Sorts.{Ascends};
+ghost use Rattle.pig_value.specs.Trees.{row_tree, rows_tree, tree};
+ghost use Rattle.pig_plan.specs.ByKey.{as_bag, gathered, join_of};
+ghost use Rattle.pig_runs.specs.Entries.{run_cmp};
+ghost use Rattle.pig_operators.specs.Given.{entries_in, made};
+ghost use Rattle.pig_operators.specs.Groups.{IsGroup, bags_at, first_key};
+
+use crate::cogrouping::add_cogrouped;
+use crate::groups::{bags, first_bag, group_end, has_one_each, one_row};
+use crate::joining::add_products;
+use crate::nulls::has_null;
+use crate::outer::add_outer;
+use pig_runs::Run;
+use pig_value::{Rows, Seq, Side, Tuple, Value};
+use std::alloc::{AllocError, Global};
+
+/// An operator by key.
+#[derive(Debug, Drop)]
+pub enum Gathering {
+    /// GROUP ALL, and GROUP by one input.
+    Group,
+    /// COGROUP, with a flag for each input: whether keys that it has no row of are left out.
+    Cogroup {
+        inner: Seq<bool>,
+    },
+    /// JOIN of so many inputs.
+    Join {
+        inputs: usize,
+    },
+    /// JOIN of two inputs so many fields wide, where rows of a side may stand without a partner.
+    Outer {
+        side: Side,
+        left: usize,
+        right: usize,
+    },
+}
+
+/// The rows of an operator by key over the entries of a run. A refusal gives up the run.
+pub fn gather(alloc: Global, how: &Gathering, run: Run) -> Result<Rows, AllocError>
+    requires ascending { run.dirs ≡ [] }
+    ensures { IfOk result (λ rows. rows_tree rows ≡ gathered (made how.now) (entries_in run)) }
+{
+    let mut rows = Rows::new(alloc);
+    let mut from = 0;
+    'groups: while from < run.len() {
+        let end = group_end(&run, from);
+        add_group(alloc, how, &run, from, end, &mut rows)?;
+        from = end;
+    }
+    Ok(rows)
+}
+
+// Adds the rows of a group.
+fn add_group(
+    alloc: Global,
+    how: &Gathering,
+    run: &Run,
+    from: usize,
+    end: usize,
+    rows: &mut Rows,
+) -> Result<(), AllocError>
+    requires ascending { run.now.dirs ≡ [] }
+    requires group { IsGroup run.now from end }
+    requires sorted { ∥ Ascends (run_cmp run.now.dirs) run.now.entries ∥₁ }
+    ensures { OnOk result (rows_tree rows.new
+        ≡ rows_tree rows.old
+        ++ made how.now (first_key run.now from) (bags_at run.now from end)) }
+{
+    let key = run.key(alloc, from)?;
+    match how {
+        Gathering::Group => rows.push(group_row(alloc, key, first_bag(alloc, run, from, end)?)?),
+        Gathering::Join { inputs } => add_joined(alloc, &key, run, from, end, *inputs, rows),
+        Gathering::Cogroup { inner } => {
+            add_cogrouped(alloc, key, run, from, end, inner.as_slice(), rows)
+        }
+        Gathering::Outer { side, left, right } => {
+            add_outer(alloc, &key, run, from, end, *side, *left, *right, rows)
+        }
+    }
+}
+
+// The key and the bag of its rows.
+fn group_row(alloc: Global, key: Value, bag: Rows) -> Result<Tuple, AllocError>
+    ensures { IfOk result (λ row. row_tree row ≡ tree key ∷ as_bag (rows_tree bag) ∷ []) }
+{
+    let mut row = Seq::with_capacity(alloc, 2)?;
+    row.push(key)?;
+    row.push(Value::Bag(bag))?;
+    Ok(row)
+}
+
+// Adds the joined rows of a group.
+fn add_joined(
+    alloc: Global,
+    key: &Value,
+    run: &Run,
+    from: usize,
+    end: usize,
+    inputs: usize,
+    rows: &mut Rows,
+) -> Result<(), AllocError>
+    requires group { IsGroup run.now from end }
+    requires sorted { ∥ Ascends (run_cmp run.now.dirs) run.now.entries ∥₁ }
+    ensures { OnOk result (rows_tree rows.new
+        ≡ rows_tree rows.old ++ join_of inputs (tree key.now) (bags_at run.now from end)) }
+{
+    if has_null(key) {
+        return Ok(());
+    }
+    if has_one_each(run, from, end, inputs) {
+        return rows.push(one_row(alloc, run, from, end)?);
+    }
+    let parts = bags(alloc, run, from, end, inputs)?;
+    add_products(alloc, Tuple::new(alloc), parts.as_slice(), rows)
+}

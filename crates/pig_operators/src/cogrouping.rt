@@ -1,0 +1,182 @@
+ghost use Rattle.std.specs.Prelude.{◌≡◌, ◌≤◌, ◌++◌, ◌∷◌, ◌==◌, ◌&&◌, not, [], Bool, length, map, IfOk, OnOk, if◌then◌else◌};
+ghost use Rattle.pig_value.specs.Sorts.{Ascends};
+ghost use Rattle.pig_value.specs.Trees.{row_tree, rows_tree, tree};
+ghost use Rattle.pig_plan.specs.ByKey.{all_there, bags_of, cogroup_of, kept_where};
+ghost use Rattle.pig_runs.specs.Entries.{run_cmp};
+ghost use Rattle.pig_operators.specs.Groups.{IsGroup, apart_rows, bags_at, lone_rows, no_other, only, perhaps, rows_at};
+
+use crate::groups::{input_end, rows_between};
+use crate::nulls::has_null;
+use pig_runs::Run;
+use pig_value::{Rows, Seq, Tuple, Value, copy};
+use std::alloc::{AllocError, Global};
+
+/// Adds the rows of COGROUP of a group: a key that holds a null groups apart for each input.
+pub fn add_cogrouped(
+    alloc: Global,
+    key: Value,
+    run: &Run,
+    from: usize,
+    end: usize,
+    inner: &[bool],
+    rows: &mut Rows,
+) -> Result<(), AllocError>
+    requires group { IsGroup run.now from end }
+    requires sorted { ∥ Ascends (run_cmp run.now.dirs) run.now.entries ∥₁ }
+    ensures { OnOk result (rows_tree rows.new
+        ≡ rows_tree rows.old ++ cogroup_of inner.now (length inner.now) (tree key)
+        (bags_at run.now from end)) }
+{
+    if has_null(&key) {
+        return add_apart(alloc, &key, run, from, end, inner, rows);
+    }
+    match together(alloc, key, run, from, end, inner)? {
+        Some(row) => rows.push(row),
+        None => Ok(()),
+    }
+}
+
+// The key and the bag of each input, where none of an INNER input is empty.
+fn together(
+    alloc: Global,
+    key: Value,
+    run: &Run,
+    from: usize,
+    end: usize,
+    inner: &[bool],
+) -> Result<Option<Tuple>, AllocError>
+    requires group { IsGroup run.now from end }
+    requires sorted { ∥ Ascends (run_cmp run.now.dirs) run.now.entries ∥₁ }
+    ensures { IfOk result (λ row. perhaps row
+        ≡ kept_where (all_there inner.now 0 (bags_at run.now from end))
+        (bags_of (length inner.now) (tree key) (bags_at run.now from end))) }
+{
+    let mut row = Seq::with_capacity(alloc, inner.len().saturating_add(1))?;
+    row.push(key)?;
+    let mut at = from;
+    for input in 0..inner.len() {
+        let next = input_end(run, at, end, input);
+        if is_missing(inner[input], at, next) {
+            return Ok(None);
+        }
+        row.push(Value::Bag(rows_between(alloc, run, at, next)?))?;
+        at = next;
+    }
+    Ok(Some(row))
+}
+
+// Whether an INNER input has no row.
+fn is_missing(inner: bool, from: usize, end: usize) -> bool
+    ensures { result ≡ (inner && (from == end)) }
+{
+    inner && from == end
+}
+
+// Adds a row for each input that has rows, with empty bags for the others.
+fn add_apart(
+    alloc: Global,
+    key: &Value,
+    run: &Run,
+    from: usize,
+    end: usize,
+    inner: &[bool],
+    rows: &mut Rows,
+) -> Result<(), AllocError>
+    requires group { IsGroup run.now from end }
+    requires sorted { ∥ Ascends (run_cmp run.now.dirs) run.now.entries ∥₁ }
+    ensures { OnOk result (rows_tree rows.new
+        ≡ rows_tree rows.old
+        ++ apart_rows inner.now (tree key.now) (bags_at run.now from end) (length inner.now)) }
+{
+    let mut at = from;
+    for input in 0..inner.len() {
+        let next = input_end(run, at, end, input);
+        add_lone(alloc, key, run, at, next, input, inner, rows)?;
+        at = next;
+    }
+    Ok(())
+}
+
+// Adds the row of one input alone, where it has rows and no other input is INNER.
+fn add_lone(
+    alloc: Global,
+    key: &Value,
+    run: &Run,
+    from: usize,
+    end: usize,
+    input: usize,
+    inner: &[bool],
+    rows: &mut Rows,
+) -> Result<(), AllocError>
+    requires order { from ≤ end }
+    requires within { end ≤ length run.now.entries }
+    ensures { OnOk result (rows_tree rows.new
+        ≡ rows_tree rows.old
+        ++ lone_rows inner.now (tree key.now) input (rows_at run.now from end)) }
+{
+    if has_own_row(inner, input, from, end) {
+        return rows.push(lone_row(alloc, key, run, from, end, input, inner.len())?);
+    }
+    Ok(())
+}
+
+// Whether an input has rows, and no other one is INNER.
+fn has_own_row(inner: &[bool], input: usize, from: usize, end: usize) -> bool
+    ensures { result ≡ (not (from == end) && no_other inner.now 0 input) }
+{
+    from != end && stands_alone(inner, input)
+}
+
+// Whether no input but this one is INNER.
+fn stands_alone(inner: &[bool], input: usize) -> bool
+    ensures { result ≡ no_other inner.now 0 input }
+{
+    for i in 0..inner.len() {
+        if inner[i] && i != input {
+            return false;
+        }
+    }
+    true
+}
+
+// The key, the bag of an input, and empty bags for the others.
+fn lone_row(
+    alloc: Global,
+    key: &Value,
+    run: &Run,
+    from: usize,
+    end: usize,
+    input: usize,
+    inputs: usize,
+) -> Result<Tuple, AllocError>
+    requires order { from ≤ end }
+    requires within { end ≤ length run.now.entries }
+    ensures { IfOk result (λ row. row_tree row
+        ≡ bags_of inputs (tree key.now) (only input (rows_at run.now from end))) }
+{
+    let mut row = Seq::with_capacity(alloc, inputs.saturating_add(1))?;
+    row.push(copy(alloc, key)?)?;
+    for i in 0..inputs {
+        row.push(Value::Bag(rows_where(alloc, i == input, run, from, end)?))?;
+    }
+    Ok(row)
+}
+
+// The rows of the entries from a place up to another, or none.
+fn rows_where(
+    alloc: Global,
+    here: bool,
+    run: &Run,
+    from: usize,
+    end: usize,
+) -> Result<Rows, AllocError>
+    requires order { from ≤ end }
+    requires within { end ≤ length run.now.entries }
+    ensures { IfOk result (λ rows. rows_tree rows
+        ≡ (if here then rows_at run.now from end else [])) }
+{
+    if !here {
+        return Ok(Rows::new(alloc));
+    }
+    rows_between(alloc, run, from, end)
+}

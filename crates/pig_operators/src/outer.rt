@@ -1,0 +1,139 @@
+ghost use Rattle.std.specs.Prelude.{◌≡◌, ◌≤◌, ◌++◌, ◌==◌, ◌||◌, not, [], Bool, length, map, replicate, IfOk, OnOk, if◌then◌else◌};
+ghost use Rattle.pig_value.specs.Sorts.{Ascends};
+ghost use Rattle.pig_value.specs.Trees.{row_tree, rows_tree, tree, v_null};
+ghost use Rattle.pig_plan.specs.ByKey.{holds_null, keeps_left, keeps_right, nulls, outer_of};
+ghost use Rattle.pig_runs.specs.Entries.{run_cmp};
+ghost use Rattle.pig_operators.specs.Groups.{AreSides, IsGroup, bags_at, rows_at};
+
+use crate::groups::{bags, input_end};
+use crate::joining::add_products;
+use crate::nulls::has_null;
+use pig_runs::Run;
+use pig_value::{Rows, Side, Tuple, Value};
+use std::alloc::{AllocError, Global};
+
+/// Adds the rows of an outer JOIN of a group.
+pub fn add_outer(
+    alloc: Global,
+    key: &Value,
+    run: &Run,
+    from: usize,
+    end: usize,
+    side: Side,
+    left: usize,
+    right: usize,
+    rows: &mut Rows,
+) -> Result<(), AllocError>
+    requires group { IsGroup run.now from end }
+    requires sorted { ∥ Ascends (run_cmp run.now.dirs) run.now.entries ∥₁ }
+    ensures { OnOk result (rows_tree rows.new
+        ≡ rows_tree rows.old
+        ++ outer_of side left right (tree key.now) (bags_at run.now from end)) }
+{
+    let (middle, last) = sides(run, from, end);
+    if have_partners(key, from, middle, last) {
+        let parts = bags(alloc, run, from, end, 2)?;
+        return add_products(alloc, Tuple::new(alloc), parts.as_slice(), rows);
+    }
+    add_left(alloc, left_stays(side), run, from, middle, right, rows)?;
+    add_right(alloc, right_stays(side), run, middle, last, left, rows)
+}
+
+// Where the left side's entries of a group end, and where the right side's do.
+fn sides(run: &Run, from: usize, end: usize) -> (usize, usize)
+    requires group { IsGroup run.now from end }
+    requires sorted { ∥ Ascends (run_cmp run.now.dirs) run.now.entries ∥₁ }
+    ensures { AreSides run.now from end result.0 result.1 }
+{
+    let middle = input_end(run, from, end, 0);
+    (middle, input_end(run, middle, end, 1))
+}
+
+// Whether the rows of a group have partners.
+fn have_partners(key: &Value, from: usize, middle: usize, last: usize) -> bool
+    ensures { result ≡ not (holds_null (tree key.now) || (from == middle) || (middle == last)) }
+{
+    !has_null(key) && from != middle && middle != last
+}
+
+fn left_stays(side: Side) -> bool
+    ensures { result ≡ keeps_left side }
+{
+    match side {
+        Side::Left | Side::Full => true,
+        Side::Inner | Side::Right => false,
+    }
+}
+
+fn right_stays(side: Side) -> bool
+    ensures { result ≡ keeps_right side }
+{
+    match side {
+        Side::Right | Side::Full => true,
+        Side::Inner | Side::Left => false,
+    }
+}
+
+// Adds the rows of the left side with nulls for the right one, where they are kept.
+fn add_left(
+    alloc: Global,
+    kept: bool,
+    run: &Run,
+    from: usize,
+    end: usize,
+    width: usize,
+    rows: &mut Rows,
+) -> Result<(), AllocError>
+    requires order { from ≤ end }
+    requires within { end ≤ length run.now.entries }
+    ensures { OnOk result (rows_tree rows.new
+        ≡ rows_tree rows.old
+        ++ (if kept then map (λ row. row ++ nulls width) (rows_at run.now from end) else [])) }
+{
+    if !kept {
+        return Ok(());
+    }
+    for at in from..end {
+        let mut row = run.row(alloc, at)?;
+        add_nulls(&mut row, width)?;
+        rows.push(row)?;
+    }
+    Ok(())
+}
+
+// Adds the rows of the right side with nulls for the left one, where they are kept.
+fn add_right(
+    alloc: Global,
+    kept: bool,
+    run: &Run,
+    from: usize,
+    end: usize,
+    width: usize,
+    rows: &mut Rows,
+) -> Result<(), AllocError>
+    requires order { from ≤ end }
+    requires within { end ≤ length run.now.entries }
+    ensures { OnOk result (rows_tree rows.new
+        ≡ rows_tree rows.old
+        ++ (if kept then map (λ row. nulls width ++ row) (rows_at run.now from end) else [])) }
+{
+    if !kept {
+        return Ok(());
+    }
+    for at in from..end {
+        let mut row = Tuple::new(alloc);
+        add_nulls(&mut row, width)?;
+        row.extend(run.row(alloc, at)?)?;
+        rows.push(row)?;
+    }
+    Ok(())
+}
+
+fn add_nulls(row: &mut Tuple, count: usize) -> Result<(), AllocError>
+    ensures { OnOk result (row_tree row.new ≡ row_tree row.old ++ nulls count) }
+{
+    for _i in 0..count {
+        row.push(Value::Null)?;
+    }
+    Ok(())
+}

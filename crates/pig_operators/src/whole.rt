@@ -1,0 +1,40 @@
+ghost use Rattle.std.specs.Prelude.{◌≡◌, [], IfOk};
+ghost use Rattle.pig_value.specs.Orders.{row_cmp};
+ghost use Rattle.pig_value.specs.Sorts.{distinct};
+ghost use Rattle.pig_value.specs.Trees.{rows_tree};
+ghost use Rattle.pig_operators.specs.Given.{AreKeyedByRow, rows_in};
+
+use crate::groups::group_end;
+use pig_runs::Run;
+use pig_value::Rows;
+use std::alloc::{AllocError, Global};
+
+/// The rows of ORDER, whose keys are the fields to sort by: those of the entries in their order.
+///
+/// A refusal gives up the run.
+pub fn ungrouped(alloc: Global, run: Run) -> Result<Rows, AllocError>
+    ensures { IfOk result (λ rows. rows_tree rows ≡ rows_in run) }
+{
+    let mut rows = Rows::with_capacity(alloc, run.len())?;
+    for at in 0..run.len() {
+        rows.push(run.row(alloc, at)?)?;
+    }
+    Ok(rows)
+}
+
+/// The rows of DISTINCT, each once and in ascending order: the key of an entry is its row.
+///
+/// A refusal gives up the run.
+pub fn distinct_keys(alloc: Global, run: Run) -> Result<Rows, AllocError>
+    requires ascending { run.dirs ≡ [] }
+    requires keys { AreKeyedByRow run.entries }
+    ensures { IfOk result (λ rows. rows_tree rows ≡ distinct row_cmp (rows_in run)) }
+{
+    let mut rows = Rows::new(alloc);
+    let mut from = 0;
+    'groups: while from < run.len() {
+        rows.push(run.row(alloc, from)?)?;
+        from = group_end(&run, from);
+    }
+    Ok(rows)
+}

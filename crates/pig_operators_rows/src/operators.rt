@@ -1,0 +1,141 @@
+//! What each operator gives of lines.
+ghost use Rattle.std.specs.Prelude.{◌≡◌, []};
+
+use crate::given::{by_field, by_row, lines_of};
+use pig_operators::{Gathering, distinct_keys, gather, ungrouped};
+use pig_runs::Run;
+use pig_value::{Seq, Side};
+use std::alloc::{AllocError, Global};
+use std::test::Fail;
+
+// An operator by a letter: `g` GROUP, `c` COGROUP of two inputs, `i` of three of which the second is INNER, `j` JOIN of
+// two inputs, `k` of three, `l`, `r` and `f` the outer joins.
+fn operator(alloc: Global, letter: u8) -> Result<Gathering, AllocError> {
+    match letter {
+        b'c' => cogroup(alloc, &[false, false]),
+        b'i' => cogroup(alloc, &[false, true, false]),
+        b'j' => Ok(Gathering::Join { inputs: 2 }),
+        b'k' => Ok(Gathering::Join { inputs: 3 }),
+        b'l' => Ok(outer(Side::Left)),
+        b'r' => Ok(outer(Side::Right)),
+        b'f' => Ok(outer(Side::Full)),
+        _ => Ok(Gathering::Group),
+    }
+}
+
+fn cogroup(alloc: Global, flags: &[bool]) -> Result<Gathering, AllocError> {
+    let mut inner = Seq::new(alloc);
+    for flag in flags {
+        inner.push(*flag)?;
+    }
+    Ok(Gathering::Cogroup { inner })
+}
+
+fn outer(side: Side) -> Gathering {
+    Gathering::Outer {
+        side,
+        left: 2,
+        right: 2,
+    }
+}
+
+fn gathered(alloc: Global, letter: u8, run: Run) -> Result<Vec<u8>, AllocError>
+    requires { run.dirs ≡ [] }
+{
+    let rows = gather(alloc, &operator(alloc, letter)?, run)?;
+    lines_of(alloc, &rows)
+}
+
+const A: &[u8] = b"1\tx\n\ty\n\tz\n";
+
+const B: &[u8] = b"1\tp\n\tq\n";
+
+#[test]
+fn null_keys_stand_apart(rt: HostRuntime) -> Result<(), Fail> {
+    let one: &[&[u8]] = &[A];
+    let two: &[&[u8]] = &[A, B];
+    let cases: [(u8, &[&[u8]], &[u8]); 6] = [
+        (b'g', one, b"\t{(,y),(,z)}\n1\t{(1,x)}\n"),
+        (
+            b'c',
+            two,
+            b"\t{(,y),(,z)}\t{}\n\t{}\t{(,q)}\n1\t{(1,x)}\t{(1,p)}\n",
+        ),
+        (b'j', two, b"1\tx\t1\tp\n"),
+        (b'l', two, b"\ty\t\t\n\tz\t\t\n1\tx\t1\tp\n"),
+        (b'r', two, b"\t\t\tq\n1\tx\t1\tp\n"),
+        (b'f', two, b"\ty\t\t\n\tz\t\t\n\t\t\tq\n1\tx\t1\tp\n"),
+    ];
+    for (letter, inputs, expected) in cases {
+        let out = gathered(rt.alloc(), letter, by_field(rt.alloc(), inputs)?)?;
+        assert_eq!(rt; out.as_slice(), expected, "operator {letter}");
+    }
+    Ok(())
+}
+
+// The key is the whole row, and one of the keys holds a null.
+#[test]
+fn a_null_within_a_key(rt: HostRuntime) -> Result<(), Fail> {
+    let inputs: &[&[u8]] = &[b"1\tx\n1\t\n", b"1\t\n1\tx\n1\tx\n"];
+    let cases: [(u8, &[u8]); 3] = [
+        (b'j', b"1\tx\t1\tx\n1\tx\t1\tx\n"),
+        (
+            b'c',
+            b"(1,)\t{(1,)}\t{}\n(1,)\t{}\t{(1,)}\n(1,x)\t{(1,x)}\t{(1,x),(1,x)}\n",
+        ),
+        (b'f', b"1\t\t\t\n\t\t1\t\n1\tx\t1\tx\n1\tx\t1\tx\n"),
+    ];
+    for (letter, expected) in cases {
+        let out = gathered(rt.alloc(), letter, by_row(rt.alloc(), inputs)?)?;
+        assert_eq!(rt; out.as_slice(), expected, "operator {letter}");
+    }
+    Ok(())
+}
+
+#[test]
+fn inputs_without_partners(rt: HostRuntime) -> Result<(), Fail> {
+    let three: &[&[u8]] = &[b"1\tx\n2\ty\n\tn\n", b"1\tp\n3\tq\n\tm\n", b"1\tu\n2\tv\n"];
+    let many: &[&[u8]] = &[
+        b"1\ty\n2\tz\n1\tx\n",
+        b"1\tp\n2\tr\n1\tp\n",
+        b"1\tv\n1\tu\n",
+    ];
+    let apart: &[&[u8]] = &[b"1\tx\n", b"2\tp\n"];
+    let none: &[&[u8]] = &[b"", b"", b""];
+    let cases: [(u8, &[&[u8]], &[u8]); 9] = [
+        (
+            b'i',
+            three,
+            b"\t{}\t{(,m)}\t{}\n1\t{(1,x)}\t{(1,p)}\t{(1,u)}\n3\t{}\t{(3,q)}\t{}\n",
+        ),
+        (
+            b'k',
+            many,
+            b"1\tx\t1\tp\t1\tu\n1\tx\t1\tp\t1\tv\n1\tx\t1\tp\t1\tu\n1\tx\t1\tp\t1\tv\n1\ty\t1\tp\t1\tu\n1\ty\t1\tp\t1\tv\n1\ty\t1\tp\t1\tu\n1\ty\t1\tp\t1\tv\n",
+        ),
+        (b'f', apart, b"1\tx\t\t\n\t\t2\tp\n"),
+        (b'l', apart, b"1\tx\t\t\n"),
+        (b'j', apart, b""),
+        (b'g', none, b""),
+        (b'i', none, b""),
+        (b'k', none, b""),
+        (b'f', none, b""),
+    ];
+    for (letter, inputs, expected) in cases {
+        let out = gathered(rt.alloc(), letter, by_field(rt.alloc(), inputs)?)?;
+        assert_eq!(rt; out.as_slice(), expected, "operator {letter}");
+    }
+    Ok(())
+}
+
+#[test]
+fn rows_once_and_rows_in_order(rt: HostRuntime) -> Result<(), Fail> {
+    let inputs: &[&[u8]] = &[b"2\tx\n\ty\n2\tx\n", b"1\tz\n2\t\n\ty\n"];
+    let once: &[u8] = b"\ty\n1\tz\n2\t\n2\tx\n";
+    let rows = distinct_keys(rt.alloc(), by_row(rt.alloc(), inputs)?)?;
+    assert_eq!(rt; lines_of(rt.alloc(), &rows)?.as_slice(), once, "once");
+    let all: &[u8] = b"\ty\n\ty\n1\tz\n2\t\n2\tx\n2\tx\n";
+    let rows = ungrouped(rt.alloc(), by_row(rt.alloc(), inputs)?)?;
+    assert_eq!(rt; lines_of(rt.alloc(), &rows)?.as_slice(), all, "in order");
+    Ok(())
+}
