@@ -53,7 +53,7 @@ keyed_inputs_found before inputs found h =
     (each_weaker (λ k. is_some (keyed_kinds before k) ≡ true) (λ k. is_some (before k.input) ≡ true) (keyed_found before) inputs (each_found (keyed_kinds before) inputs all.0 all.1))
 
 -- a valid node names relations alone
-inputs_found : (before : Before) (o : PlanOp) (g : Option RowKinds) → node_gives before o ≡ Some g → AllByRecursion (λ i. is_some (before i) ≡ true) (inputs_of o)
+pub inputs_found : (before : Before) (o : PlanOp) (g : Option RowKinds) → node_gives before o ≡ Some g → AllByRecursion (λ i. is_some (before i) ≡ true) (inputs_of o)
 inputs_found before (p_load path delim columns) g h = tt
 inputs_found before (p_filter input cond) g h = (is_found (before input) _ g h, tt)
 inputs_found before (p_foreach input block) g h = (is_found (before input) _ g h, tt)
