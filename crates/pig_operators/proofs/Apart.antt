@@ -11,7 +11,7 @@ use Rattle.pig_value.specs.Trees.{Tree, row_tree, rows_tree}
 use Rattle.pig_value.proofs.list_laws.Bags.{either_way}
 use Rattle.pig_value.proofs.list_laws.Indexing.{dropped}
 use Rattle.pig_plan.specs.ByKey.{all_there, alone, bags_of, cogroup_of, holds_null, is_empty, kept_where}
-use Rattle.pig_operators.specs.Groups.{apart_rows, between, lone_rows, no_other, only}
+use Rattle.pig_operators.specs.Groups.{apart_rows, between, lone_rows, no_other, rows_alone}
 
 -- numbers up to the next
 pub numbers_more : (n : ℕ) → range_with_len 0 (n + 1) ≡ range_with_len 0 n ++ n ∷ []
@@ -75,26 +75,26 @@ module _ (rows : ℕ → List (List Tree)) where
 -- ---- each input alone
 
 module _ (i : ℕ) (bag : List (List Tree)) where
-  alone_at : (rows : ℕ → List (List Tree)) → rows i ≡ bag → (j : ℕ) → alone i rows j ≡ only i bag j
+  alone_at : (rows : ℕ → List (List Tree)) → rows i ≡ bag → (j : ℕ) → alone i rows j ≡ rows_alone i bag j
   alone_at rows is j = either_way (j == i)
       (λ e. (λ m. if e m then rows j else []) ∙ (ap rows (numbers_same j i e) ∙ is) ∙ sym (λ m. if e m then bag else []))
       (λ e. (λ m. if e m then rows j else []) ∙ sym (λ m. if e m then bag else []))
 
-  alone_is : (rows : ℕ → List (List Tree)) → rows i ≡ bag → alone i rows ≡ only i bag
+  alone_is : (rows : ℕ → List (List Tree)) → rows i ≡ bag → alone i rows ≡ rows_alone i bag
   alone_is rows is = λ m j. alone_at rows is j m
 
-  only_empty : is_empty bag ≡ false → (j : ℕ) → is_empty (only i bag j) ≡ not (j == i)
+  only_empty : is_empty bag ≡ false → (j : ℕ) → is_empty (rows_alone i bag j) ≡ not (j == i)
   only_empty some j = either_way (j == i)
       (λ e. (λ m. is_empty (if e m then bag else [])) ∙ some ∙ sym (ap not e))
       (λ e. (λ m. is_empty (if e m then bag else [])) ∙ sym (ap not e))
 
-  others_there : is_empty bag ≡ false → (inner : List Bool) (j : ℕ) → all_there inner j (only i bag) ≡ no_other inner j i
+  others_there : is_empty bag ≡ false → (inner : List Bool) (j : ℕ) → all_there inner j (rows_alone i bag) ≡ no_other inner j i
   others_there some [] j = refl
   others_there some (flag ∷ inner) j = λ m. not (flag && only_empty some j m) && others_there some inner (j + 1) m
 
-  kept_test : (inner : List Bool) → (not (is_empty bag) && all_there inner 0 (only i bag)) ≡ (not (is_empty bag) && no_other inner 0 i)
+  kept_test : (inner : List Bool) → (not (is_empty bag) && all_there inner 0 (rows_alone i bag)) ≡ (not (is_empty bag) && no_other inner 0 i)
   kept_test inner = either_way (is_empty bag)
-      (λ e. (λ m. not (e m) && all_there inner 0 (only i bag)) ∙ sym (λ m. not (e m) && no_other inner 0 i))
+      (λ e. (λ m. not (e m) && all_there inner 0 (rows_alone i bag)) ∙ sym (λ m. not (e m) && no_other inner 0 i))
       (λ e. ap (λ b. not (is_empty bag) && b) (others_there e inner 0))
 
   -- the rows of the inputs up to the next
@@ -103,7 +103,7 @@ module _ (i : ℕ) (bag : List (List Tree)) where
       each_more (λ j. kept_where (not (is_empty (rows j)) && all_there inner 0 (alone j rows)) (bags_of (length inner) k (alone j rows))) i
       ∙ ap (λ l. apart_rows inner k rows i ++ l)
       ((λ m. kept_where (not (is_empty (is m)) && all_there inner 0 (alone_is rows is m)) (bags_of (length inner) k (alone_is rows is m)))
-      ∙ ap (λ b. kept_where b (bags_of (length inner) k (only i bag))) (kept_test inner))
+      ∙ ap (λ b. kept_where b (bags_of (length inner) k (rows_alone i bag))) (kept_test inner))
 
 -- a key that holds a null, and one that doesn't
 pub cogroup_apart : (inner : List Bool) (k : Tree) (rows : ℕ → List (List Tree)) → holds_null k ≡ true → cogroup_of inner (length inner) k rows ≡ apart_rows inner k rows (length inner)
@@ -118,17 +118,17 @@ module _ {X : Type 0} (f : X → List Tree) (xs : List X) (inner : List Bool) (k
   abbrev bag : List (List Tree)
   bag = map f (between from end xs)
 
-  lone_is : lone_rows inner k i bag ≡ kept_where own (bags_of (length inner) k (only i bag))
-  lone_is = ap (λ b. kept_where b (bags_of (length inner) k (only i bag))) ((λ m. not (none_between f from end xs order within m) && no_other inner 0 i) ∙ sym told)
+  lone_is : lone_rows inner k i bag ≡ kept_where own (bags_of (length inner) k (rows_alone i bag))
+  lone_is = ap (λ b. kept_where b (bags_of (length inner) k (rows_alone i bag))) ((λ m. not (none_between f from end xs order within m) && no_other inner 0 i) ∙ sym told)
 
-  pub lone_added : own ≡ true → (old new : List (List Value)) (row : List Value) → row_tree row ≡ bags_of (length inner) k (only i bag) → new ≡ old ++ row ∷ [] → rows_tree new ≡ rows_tree old ++ lone_rows inner k i bag
+  pub lone_added : own ≡ true → (old new : List (List Value)) (row : List Value) → row_tree row ≡ bags_of (length inner) k (rows_alone i bag) → new ≡ old ++ row ∷ [] → rows_tree new ≡ rows_tree old ++ lone_rows inner k i bag
   lone_added has old new row is grown =
       ap rows_tree grown
       ∙ (map-append row_tree old (row ∷ [])
-      ∙ ap (λ l. rows_tree old ++ l) (ap (λ r. r ∷ []) is ∙ sym (lone_is ∙ ap (λ b. kept_where b (bags_of (length inner) k (only i bag))) has)))
+      ∙ ap (λ l. rows_tree old ++ l) (ap (λ r. r ∷ []) is ∙ sym (lone_is ∙ ap (λ b. kept_where b (bags_of (length inner) k (rows_alone i bag))) has)))
 
   pub lone_none : own ≡ false → (old : List (List Tree)) → old ≡ old ++ lone_rows inner k i bag
-  lone_none none old = sym (append-nil old) ∙ ap (λ l. old ++ l) (sym (lone_is ∙ ap (λ b. kept_where b (bags_of (length inner) k (only i bag))) none))
+  lone_none none old = sym (append-nil old) ∙ ap (λ l. old ++ l) (sym (lone_is ∙ ap (λ b. kept_where b (bags_of (length inner) k (rows_alone i bag))) none))
 
 -- an input that is INNER and has no row
 pub missing_is : {X : Type 0} (f : X → List Tree) (xs : List X) (flag missing : Bool) (from end : ℕ) (rows : List (List Tree)) → from ≤ end → end ≤ length xs → missing ≡ (flag && (from == end))

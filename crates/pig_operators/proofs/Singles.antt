@@ -1,21 +1,20 @@
 -- Groups with one entry of each input: their rows, joined, are one row.
-use Rattle.std.proofs.Common.{◌≡◌, zero, suc, ◌<◌, ◌≤◌, ◌+◌, ℕ, false, List, [], ◌∷◌, ◌++◌, map, length, take, refl, sym, ◌∙◌, ap, arith, append-nil}
+use Rattle.std.proofs.Common.{◌≡◌, zero, suc, ◌<◌, ◌≤◌, ◌+◌, ℕ, List, [], ◌∷◌, ◌++◌, map, length, take, refl, sym, ◌∙◌, ap, arith, append-nil}
 use Rattle.std.specs.Prelude.{⊤, Some, option_map, slice_get}
 use Rattle.std.specs.List.{AllByRecursion, flat_map, range_with_len}
 use Rattle.std.proofs.lemmas.List.{length-drop, length-take, map-append}
 use Rattle.std.proofs.lemmas.List.Concat.{flat_map-append}
 use Rattle.pig_value.specs.declared.values.Value.{Value}
-use Rattle.pig_value.specs.Trees.{Tree, tree, row_tree, rows_tree}
+use Rattle.pig_value.specs.Trees.{tree, row_tree, rows_tree}
 use Rattle.pig_value.proofs.list_laws.Indexing.{get-drop, some_at}
 use Rattle.pig_value.proofs.list_laws.Listing.{each_weaker, map_each}
-use Rattle.pig_plan.specs.ByKey.{holds_null, join_of, rows_of}
+use Rattle.pig_plan.specs.ByKey.{rows_of}
 use Rattle.pig_typed.specs.Products.{product}
 use Rattle.pig_runs.specs.Entries.{InDirections, Keyed}
 use Rattle.pig_operators.specs.Given.{plan_entry}
 use Rattle.pig_operators.specs.Groups.{HasOneEach, between, group_entries}
 use Rattle.pig_operators.proofs.Between.{between_more}
 use Rattle.pig_operators.proofs.Inputs.{rows_first, rows_left}
-use Rattle.pig_operators.proofs.Products.{join_is}
 
 some_same : {X : Type 0} {x y : X} → Some x ≡ Some y → x ≡ y
 some_same h = cc
@@ -86,12 +85,11 @@ module _ (run : InDirections) (from end inputs : ℕ) (within : end ≤ length r
       ap (option_map (λ e. e.input)) (get-drop (take (from + inputs) run.entries) from k ∙ get_taken (from + inputs) (from + k) run.entries (omega (arith, high)))
       ∙ (one.each k high ∙ (let same : k ≡ 0 + k = omega arith in ap Some same)))
 
-  pub join_alone : (k : Tree) → holds_null k ≡ false → join_of inputs k (rows_of (group_entries run from end)) ≡ flat_map (λ e. e.row) (between from end run.entries) ∷ []
-  join_alone k none =
+  pub partners_alone : product (map (rows_of (group_entries run from end)) (range_with_len 0 inputs)) ≡ flat_map (λ e. e.row) (between from end run.entries) ∷ []
+  partners_alone =
       let count = one.count in
       let size : length (between from (from + inputs) run.entries) ≡ inputs = between_length from inputs run.entries (omega (arith, within, count)) in
-      join_is inputs k (rows_of (group_entries run from end)) none
-      ∙ ((λ i. product (map (rows_of (group_entries run from (count i))) (range_with_len 0 (sym size i))))
+      ((λ i. product (map (rows_of (group_entries run from (count i))) (range_with_len 0 (sym size i))))
       ∙ (ap product (bags_alone 0 (between from (from + inputs) run.entries) in_order)
       ∙ (product_alone (between from (from + inputs) run.entries) ∙ (λ i. flat_map (λ e. e.row) (between from (sym count i) run.entries) ∷ []))))
 
@@ -107,7 +105,7 @@ fields_joined es from at fields new more low high here so_far is =
     ∙ (sym (flat_map-append (λ e. e.row) (between from at es) (found.0 ∷ [])) ∙ ap (flat_map (λ e. e.row)) (sym (between_more from at es found.0 low high found.1)))))
 
 -- what is added is the one joined row
-pub join_added : (run : InDirections) (from end inputs : ℕ) (within : end ≤ length run.entries) → HasOneEach run from end inputs → (k : Tree) → holds_null k ≡ false → (old new : List (List Value)) (row : List Value)
-    → row_tree row ≡ flat_map (λ e. e.row) (between from end run.entries) → new ≡ old ++ row ∷ [] → rows_tree new ≡ rows_tree old ++ join_of inputs k (rows_of (group_entries run from end))
-join_added run from end inputs within one k none old new row is grown =
-    ap rows_tree grown ∙ (map-append row_tree old (row ∷ []) ∙ ap (λ l. rows_tree old ++ l) (ap (λ r. r ∷ []) is ∙ sym (join_alone run from end inputs within one k none)))
+pub alone_added : (run : InDirections) (from end inputs : ℕ) → end ≤ length run.entries → HasOneEach run from end inputs → (old new : List (List Value)) (row : List Value)
+    → row_tree row ≡ flat_map (λ e. e.row) (between from end run.entries) → new ≡ old ++ row ∷ [] → rows_tree new ≡ rows_tree old ++ product (map (rows_of (group_entries run from end)) (range_with_len 0 inputs))
+alone_added run from end inputs within one old new row is grown =
+    ap rows_tree grown ∙ (map-append row_tree old (row ∷ []) ∙ ap (λ l. rows_tree old ++ l) (ap (λ r. r ∷ []) is ∙ sym (partners_alone run from end inputs within one)))

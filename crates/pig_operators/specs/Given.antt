@@ -21,8 +21,8 @@ plan_entry e = record { key = e.key; input = e.input; row = e.row }
 abbrev pub entries_in : InDirections → List Entry
 entries_in run = map plan_entry run.entries
 
-abbrev pub rows_in : InDirections → List (List Tree)
-rows_in run = map (λ e. e.row) run.entries
+abbrev pub run_rows : InDirections → List (List Tree)
+run_rows run = map (λ e. e.row) run.entries
 
 -- the key of each entry is its row, as that of DISTINCT is
 abbrev pub AreKeyedByRow : List Keyed → Type 0

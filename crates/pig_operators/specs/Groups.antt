@@ -54,8 +54,8 @@ perhaps None = []
 perhaps (Some row) = row_tree row ∷ []
 
 -- the rows of one input, and none of another
-abbrev pub only : ℕ → List (List Tree) → ℕ → List (List Tree)
-only i rows j = if j == i then rows else []
+abbrev pub rows_alone : ℕ → List (List Tree) → ℕ → List (List Tree)
+rows_alone i rows j = if j == i then rows else []
 
 -- no input is INNER but the one with the number k; the first flag is that of the input i
 abbrev pub no_other : List Bool → ℕ → ℕ → Bool
@@ -64,7 +64,7 @@ no_other (inner ∷ more) i k = not (inner && not (i == k)) && no_other more (i 
 
 -- the row of one input's rows alone
 abbrev pub lone_rows : List Bool → Tree → ℕ → List (List Tree) → List (List Tree)
-lone_rows inner k i rows = kept_where (not (is_empty rows) && no_other inner 0 i) (bags_of (length inner) k (only i rows))
+lone_rows inner k i rows = kept_where (not (is_empty rows) && no_other inner 0 i) (bags_of (length inner) k (rows_alone i rows))
 
 -- the rows of a key that groups apart, for the first n inputs
 abbrev pub apart_rows : List Bool → Tree → (ℕ → List (List Tree)) → ℕ → List (List Tree)

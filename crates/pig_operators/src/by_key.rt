@@ -7,8 +7,8 @@ ghost use Rattle.pig_operators.specs.Given.{entries_in, made};
 ghost use Rattle.pig_operators.specs.Groups.{IsGroup, bags_at, first_key};
 
 use crate::cogrouping::add_cogrouped;
-use crate::groups::{bags, first_bag, group_end, has_one_each, one_row};
-use crate::joining::add_products;
+use crate::groups::{first_bag, group_end};
+use crate::joining::add_partners;
 use crate::nulls::has_null;
 use crate::outer::add_outer;
 use pig_runs::Run;
@@ -108,9 +108,5 @@ fn add_joined(
     if has_null(key) {
         return Ok(());
     }
-    if has_one_each(run, from, end, inputs) {
-        return rows.push(one_row(alloc, run, from, end)?);
-    }
-    let parts = bags(alloc, run, from, end, inputs)?;
-    add_products(alloc, Tuple::new(alloc), parts.as_slice(), rows)
+    add_partners(alloc, run, from, end, inputs, rows)
 }

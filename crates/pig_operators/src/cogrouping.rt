@@ -1,9 +1,9 @@
-ghost use Rattle.std.specs.Prelude.{◌≡◌, ◌≤◌, ◌++◌, ◌∷◌, ◌==◌, ◌&&◌, not, [], Bool, length, map, IfOk, OnOk, if◌then◌else◌};
+ghost use Rattle.std.specs.Prelude.{◌≡◌, ◌≤◌, ◌++◌, ◌==◌, ◌&&◌, not, [], length, IfOk, OnOk, if◌then◌else◌};
 ghost use Rattle.pig_value.specs.Sorts.{Ascends};
 ghost use Rattle.pig_value.specs.Trees.{row_tree, rows_tree, tree};
 ghost use Rattle.pig_plan.specs.ByKey.{all_there, bags_of, cogroup_of, kept_where};
 ghost use Rattle.pig_runs.specs.Entries.{run_cmp};
-ghost use Rattle.pig_operators.specs.Groups.{IsGroup, apart_rows, bags_at, lone_rows, no_other, only, perhaps, rows_at};
+ghost use Rattle.pig_operators.specs.Groups.{IsGroup, apart_rows, bags_at, lone_rows, no_other, rows_alone, perhaps, rows_at};
 
 use crate::groups::{input_end, rows_between};
 use crate::nulls::has_null;
@@ -152,7 +152,7 @@ fn lone_row(
     requires order { from ≤ end }
     requires within { end ≤ length run.now.entries }
     ensures { IfOk result (λ row. row_tree row
-        ≡ bags_of inputs (tree key.now) (only input (rows_at run.now from end))) }
+        ≡ bags_of inputs (tree key.now) (rows_alone input (rows_at run.now from end))) }
 {
     let mut row = Seq::with_capacity(alloc, inputs.saturating_add(1))?;
     row.push(copy(alloc, key)?)?;

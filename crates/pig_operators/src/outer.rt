@@ -1,12 +1,12 @@
-ghost use Rattle.std.specs.Prelude.{◌≡◌, ◌≤◌, ◌++◌, ◌==◌, ◌||◌, not, [], Bool, length, map, replicate, IfOk, OnOk, if◌then◌else◌};
+ghost use Rattle.std.specs.Prelude.{◌≡◌, ◌≤◌, ◌++◌, ◌==◌, ◌||◌, not, [], length, map, OnOk, if◌then◌else◌};
 ghost use Rattle.pig_value.specs.Sorts.{Ascends};
-ghost use Rattle.pig_value.specs.Trees.{row_tree, rows_tree, tree, v_null};
+ghost use Rattle.pig_value.specs.Trees.{row_tree, rows_tree, tree};
 ghost use Rattle.pig_plan.specs.ByKey.{holds_null, keeps_left, keeps_right, nulls, outer_of};
 ghost use Rattle.pig_runs.specs.Entries.{run_cmp};
 ghost use Rattle.pig_operators.specs.Groups.{AreSides, IsGroup, bags_at, rows_at};
 
-use crate::groups::{bags, input_end};
-use crate::joining::add_products;
+use crate::groups::input_end;
+use crate::joining::add_partners;
 use crate::nulls::has_null;
 use pig_runs::Run;
 use pig_value::{Rows, Side, Tuple, Value};
@@ -32,8 +32,7 @@ pub fn add_outer(
 {
     let (middle, last) = sides(run, from, end);
     if have_partners(key, from, middle, last) {
-        let parts = bags(alloc, run, from, end, 2)?;
-        return add_products(alloc, Tuple::new(alloc), parts.as_slice(), rows);
+        return add_partners(alloc, run, from, end, 2, rows);
     }
     add_left(alloc, left_stays(side), run, from, middle, right, rows)?;
     add_right(alloc, right_stays(side), run, middle, last, left, rows)

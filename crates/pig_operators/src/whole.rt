@@ -2,7 +2,7 @@ ghost use Rattle.std.specs.Prelude.{◌≡◌, [], IfOk};
 ghost use Rattle.pig_value.specs.Orders.{row_cmp};
 ghost use Rattle.pig_value.specs.Sorts.{distinct};
 ghost use Rattle.pig_value.specs.Trees.{rows_tree};
-ghost use Rattle.pig_operators.specs.Given.{AreKeyedByRow, rows_in};
+ghost use Rattle.pig_operators.specs.Given.{AreKeyedByRow, run_rows};
 
 use crate::groups::group_end;
 use pig_runs::Run;
@@ -13,7 +13,7 @@ use std::alloc::{AllocError, Global};
 ///
 /// A refusal gives up the run.
 pub fn ungrouped(alloc: Global, run: Run) -> Result<Rows, AllocError>
-    ensures { IfOk result (λ rows. rows_tree rows ≡ rows_in run) }
+    ensures { IfOk result (λ rows. rows_tree rows ≡ run_rows run) }
 {
     let mut rows = Rows::with_capacity(alloc, run.len())?;
     for at in 0..run.len() {
@@ -28,7 +28,7 @@ pub fn ungrouped(alloc: Global, run: Run) -> Result<Rows, AllocError>
 pub fn distinct_keys(alloc: Global, run: Run) -> Result<Rows, AllocError>
     requires ascending { run.dirs ≡ [] }
     requires keys { AreKeyedByRow run.entries }
-    ensures { IfOk result (λ rows. rows_tree rows ≡ distinct row_cmp (rows_in run)) }
+    ensures { IfOk result (λ rows. rows_tree rows ≡ distinct row_cmp (run_rows run)) }
 {
     let mut rows = Rows::new(alloc);
     let mut from = 0;

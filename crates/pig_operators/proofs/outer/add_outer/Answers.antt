@@ -1,25 +1,21 @@
-use Rattle.std.proofs.Common.{◌++◌, sym, ◌∙◌, ap, map}
-use Rattle.std.specs.List.{range_with_len}
+use Rattle.std.proofs.Common.{◌++◌, sym, ◌∙◌, ap}
 use Rattle.std.proofs.lemmas.Result.{on_ok_weaker}
 use Rattle.pig_value.specs.Trees.{rows_tree, tree}
-use Rattle.pig_plan.specs.ByKey.{rows_of}
-use Rattle.pig_operators.specs.Groups.{group_entries}
-use Rattle.pig_operators.proofs.Products.{products_added}
 use Rattle.pig_operators.proofs.Sides.{outer_with, outer_without}
 use Rattle.pig_operators.proofs.outer.add_outer.Goals as goal
 
 pub returns-then-have_partners : goal.returns-then-have_partners
 returns-then-have_partners c =
-    let rows = rows_of (group_entries c.args.run.now c.args.from c.args.end) in
-    on_ok_weaker c.add_products.result
-    (λ is. products_added _ c.as_slice.result.now (map rows (range_with_len 0 2)) (rows_tree c.args.rows.now) (rows_tree c.add_products.new.rows) c.new.ensures
-    (ap (map rows_tree) c.as_slice.ensures ∙ c.in_ok-parts.ensures) is
-    ∙ ap (λ l. rows_tree c.args.rows.now ++ l) (sym (outer_with c.args.run.now c.args.from c.args.end c.sides-middle.result.0 c.sides-middle.result.1 c.sides-middle.ensures c.args.side c.args.left c.args.right (tree c.args.key.now) c.have_partners.result c.have_partners.ensures c.if-have_partners.true)))
-    c.add_products.ensures
+    on_ok_weaker c.add_partners.result
+    (λ is. is
+    ∙ ap (λ l. rows_tree c.args.rows.now ++ l)
+    (sym (outer_with c.args.run.now c.args.from c.args.end c.sides-middle.result.0 c.sides-middle.result.1 c.sides-middle.ensures c.args.side c.args.left c.args.right (tree c.args.key.now) c.have_partners.result c.have_partners.ensures
+    c.if-have_partners.true)))
+    c.add_partners.ensures
 
 pub returns : goal.returns
 returns c =
     on_ok_weaker c.add_right.result
-    (outer_without c.args.run.now c.args.from c.args.end c.sides-middle.result.0 c.sides-middle.result.1 c.sides-middle.ensures c.args.side c.args.left c.args.right (tree c.args.key.now) c.have_partners.result c.have_partners.ensures c.if-have_partners.false
-    c.left_stays.result c.right_stays.result c.left_stays.ensures c.right_stays.ensures (rows_tree c.args.rows.now) (rows_tree c.add_left.new.rows) (rows_tree c.add_right.new.rows) c.in_ok-add_left.ensures)
+    (outer_without c.args.run.now c.args.from c.args.end c.sides-middle.result.0 c.sides-middle.result.1 c.sides-middle.ensures c.args.side c.args.left c.args.right (tree c.args.key.now) c.have_partners.result c.have_partners.ensures
+    c.if-have_partners.false c.left_stays.result c.right_stays.result c.left_stays.ensures c.right_stays.ensures (rows_tree c.args.rows.now) (rows_tree c.add_left.new.rows) (rows_tree c.add_right.new.rows) c.in_ok-add_left.ensures)
     c.add_right.ensures
