@@ -8,7 +8,7 @@ use Rattle.pig_syntax.specs.ExprTrees.{TypeForm, FieldForms, t_int, t_long, t_ch
 use Rattle.pig_syntax.specs.declared.trees.FieldRef.{FieldRef}
 use Rattle.pig_typed.specs.ExprKinds.{picked_kinds}
 use Rattle.pig_typing.specs.Columns.{AreColumns, RefersTo, by_name, by_position, unnamed, inner_unnamed, each_unnamed}
-use Rattle.pig_typing.specs.Parts.{Picks, Selects, none_selected, one_selected, places, picked}
+use Rattle.pig_typing.specs.Parts.{Picks, Selects, none_selected, one_selected, pick_places, picked}
 use Rattle.pig_typing.specs.Written.{of_fields, of_values, scalar, with_name, written, written_fields}
 
 pub all_inner : (cs : List FieldTree) → AreColumns cs → AreInner (kinds_of (map tree_kind cs)) (inner_of cs)
@@ -109,6 +109,6 @@ pub picked_fields : {columns : List FieldTree} {rs : List FieldRef} {ps : Picks}
 picked_fields h none_selected = tt
 picked_fields h (one_selected m g) = (meant_field h m, picked_fields h g)
 
-pub picked_kind : {columns : List FieldTree} {rs : List FieldRef} {ps : Picks} → Selects columns rs ps → picked_kinds (places ps) (map tree_kind columns) ≡ Some (map tree_kind (picked ps))
+pub picked_kind : {columns : List FieldTree} {rs : List FieldRef} {ps : Picks} → Selects columns rs ps → picked_kinds (pick_places ps) (map tree_kind columns) ≡ Some (map tree_kind (picked ps))
 picked_kind none_selected = refl
 picked_kind (one_selected m g) = rw (meant_kind m, picked_kind g) refl

@@ -6,3 +6,4 @@ pub mod Found
 mod Joined
 mod Inside
 pub mod KindsHold
+mod CodeLaws

@@ -26,7 +26,7 @@ use Rattle.pig_typing.specs.Faults.{LinksWrong, Wrong, InLinks, InArgs, Faults, 
 use Rattle.pig_typing.specs.Joins.{Join, alike, chained, compared, condition}
 use Rattle.pig_typing.specs.Limits.{limited}
 use Rattle.pig_typing.specs.Parts.{Typing, typing, typed_of, kind_in, steps_of}
-use Rattle.pig_typing.specs.Reader.{field_of, local_or, name_of, compare_of, condition_of, minus_of, choose_of, type_of_cast, typed_cast, typed_link, with_count, function_of, call_of, type_of, links_on, args_on}
+use Rattle.pig_typing.specs.Reader.{field_of, local_or, reference_of, compare_of, condition_of, minus_of, choose_of, type_of_cast, typed_cast, typed_link, with_count, function_of, call_of, type_of, links_on, args_on}
 use Rattle.pig_typing.specs.Results.{Checked, due}
 use Rattle.pig_typing.specs.Typing.{Types, Links, Args, Sofar, begun, after, call_kind, count, type_int, type_long, type_text, type_bool, type_null, type_local, type_named, type_numbered, type_chain, type_compare, type_is_null, type_not, type_minus, type_cast, type_post, type_call, type_choose, links_end, links_go, args_end, args_go}
 use Rattle.pig_typing.specs.Written.{written}
@@ -61,8 +61,8 @@ chain_fault s a ls p f h (in_links b g) = inside (of_link b) g
 
 -- ---- names
 
-name_told : (s : Place) (r : FieldRef) → IsTold s (e_field r) (name_of s r)
-unfolding name_of field_of
+name_told : (s : Place) (r : FieldRef) → IsTold s (e_field r) (reference_of s r)
+unfolding reference_of field_of
 name_told s (ref.Name name) = by (latest name s.locals) refl
   where
     by : (o : Option (ℕ × FieldTree)) → latest name s.locals ≡ o → IsTold s (e_field (ref.Name name)) (local_or o (field_of s.columns (ref.Name name)))

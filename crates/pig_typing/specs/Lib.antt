@@ -8,3 +8,4 @@ pub mod Parts
 pub mod Typing
 pub mod Faults
 pub mod Reader
+pub mod Views

@@ -43,9 +43,9 @@ abbrev pub local_or : Option (ℕ × FieldTree) → Checked Typing → Checked T
 local_or (Some p) field = Ok (local_typing p)
 local_or None field = field
 
-unfoldable pub name_of : Place → FieldRef → Checked Typing
-name_of s (ref.Name name) = local_or (latest name s.locals) (field_of s.columns (ref.Name name))
-name_of s (ref.Position n) = field_of s.columns (ref.Position n)
+unfoldable pub reference_of : Place → FieldRef → Checked Typing
+reference_of s (ref.Name name) = local_or (latest name s.locals) (field_of s.columns (ref.Name name))
+reference_of s (ref.Position n) = field_of s.columns (ref.Position n)
 
 -- ---- what stands behind operands
 
@@ -108,7 +108,7 @@ unfoldable mutual
   type_of s (e_text text) = Ok (typing (x_chars text) (unnamed k_chars))
   type_of s (e_bool b) = Ok (typing (x_bool b) (unnamed k_boolean))
   type_of s e_null = Ok (typing x_null (unnamed k_bytes))
-  type_of s (e_field r) = name_of s r
+  type_of s (e_field r) = reference_of s r
   type_of s (e_chain a ls) = do
     p ← type_of s a
     whole ← links_on s (begun p) ls

@@ -1,17 +1,27 @@
-//! The typing of expressions, as definitions with their laws.
+//! The typing of expressions.
 //!
-//! `specs/Typing` has the typing of expressions as a relation, one case for each form: over the columns of a row and the nested
-//! aliases so far, an expression has a typed expression, with its fields by position and every cast written out, and the column that it
-//! gives. `specs/Faults` has the condition of each kind of refusal. [`expressions_have_one_typing`] says that there is one typing or a
-//! refusal and never both, [`typings_have_their_kinds`] that what is typed has its kind.
+//! [`type_expr`] takes an expression, over the columns of a row and the nested aliases so far, to its typed expression, with its fields
+//! by position and every cast written out, and to the column that it gives; or it answers a kind of refusal whose condition holds.
+//!
+//! `specs/Typing` has the typing of expressions as a relation, one case for each form, and `specs/Faults` the condition of each kind of
+//! refusal. [`expressions_have_one_typing`] says that there is one typing or a refusal and never both.
 #![tactic(auto)]
 
 mod calls;
+mod columns;
+mod exprs;
 mod faults;
+mod joins;
 mod laws;
+mod limits;
+mod names;
+mod parts;
 mod scope;
+mod written;
 
-pub use calls::Casting;
+pub use exprs::{TypedExpr, type_expr};
 pub use faults::{CheckKind, TypeFault};
 pub use laws::{expressions_have_one_typing, typings_have_their_kinds};
+pub use limits::within_limits;
 pub use scope::{Local, Locals, Scope};
+pub use written::{written_schema, written_type};
