@@ -1,5 +1,5 @@
 -- Lists that the code keeps, as the definitions see them.
-use Rattle.std.proofs.Common.{◌≡◌, ◌∙◌, ◌+◌, ℕ, zero, suc, List, [], ◌∷◌, ◌++◌, map, length, refl, sym, ap, subst, arith}
+use Rattle.std.proofs.Common.{◌≡◌, ◌∙◌, ◌+◌, ◌-◌, ◌<◌, ℕ, zero, suc, List, [], ◌∷◌, ◌++◌, map, length, refl, sym, ap, subst, arith}
 use Rattle.std.specs.Prelude.{Option, Some, None, slice_get}
 use Rattle.std.specs.Option.{option_and_then, option_map}
 use Rattle.std.proofs.lemmas.List.{append_assoc, length-append, length-map}
@@ -12,10 +12,14 @@ use Rattle.pig_value.specs.FunctionKinds.{function_kind}
 use Rattle.pig_value.specs.declared.functions.Function.{Function}
 use Rattle.pig_value.specs.declared.values.Kind.{Kind}
 use Rattle.pig_typed.specs.ExprKinds.{args_kinds, expr_kind}
-use Rattle.pig_typed.specs.Typed.{Typed, x_call, args_of}
+use Rattle.pig_typed.specs.Typed.{Typed, x_call, x_field, args_of}
 use Rattle.std.specs.declared.result.Result.TheVariants.{Ok}
 use Rattle.pig_typing.specs.Results.{Checked}
-use Rattle.pig_typing.specs.Calls.{fields_from}
+use Rattle.pig_typing.specs.declared.calls.Casting.{Casting}
+use Rattle.pig_typing.specs.Calls.{cast_by, cast_maybe, casting, fields_from, given, kind_after, sized}
+use Rattle.pig_typing.specs.Parts.{Typing, typing, typed_of, typed_column, kind_in}
+use Rattle.pig_typing.specs.Reader.{call_typing}
+use Rattle.pig_typing.specs.Typing.{call_kind, called, cast_args, cast_kinds, kinds_as_given}
 use Rattle.pig_typing.specs.Columns.{later_or}
 use Rattle.pig_typing.specs.Written.{with_name, written, written_field, written_fields}
 
@@ -79,12 +83,46 @@ pub fields_kinds : (kinds : List KindTree) → args_kinds (args_of (fields_from 
 fields_kinds kinds = fields_kinds_from [] kinds
 
 -- so a call on them has the kind that the function gives of the kinds
-pub row_call_kind : (f : Function) (ks : List Kind) (n : ℕ) (es : List Typed) (call : Typed) (found : Option KindTree)
-    → n ≡ length ks → ◌≡◌ {A = Checked (List Typed)} (Ok (fields_from 0 n)) (Ok es) → call ≡ x_call f (args_of es) → found ≡ expr_kind call (map kind_tree ks) []
+
+-- one field more
+pub fields_step : (before : List Typed) (n count : ℕ) (all : List Typed)
+    → n < count → before ++ fields_from n (count - n) ≡ all → (before ++ x_field n ∷ []) ++ fields_from (n + 1) (count - (n + 1)) ≡ all
+fields_step before n count all w e =
+    let one : count - n ≡ suc (count - (n + 1)) = omega arith in
+    let front : before ++ fields_from n (suc (count - (n + 1))) ≡ all = subst (λ m. before ++ fields_from n m ≡ all) one e in
+    append_assoc before (x_field n ∷ []) (fields_from (n + 1) (count - (n + 1))) ∙ front
+
+-- so a call on them has the kind that the function gives of the kinds
+pub row_call_kind : (f : Function) (ks locals : List Kind) (n : ℕ) (es : List Typed) (call : Typed) (found : Option KindTree)
+    → n ≡ length ks → locals ≡ [] → ◌≡◌ {A = Checked (List Typed)} (Ok (fields_from 0 n)) (Ok es) → call ≡ x_call f (args_of es)
+    → found ≡ expr_kind call (map kind_tree ks) (map kind_tree locals)
     → ◌≡◌ {A = Checked (Option KindTree)} (Ok (function_kind f (map kind_tree ks))) (Ok found)
-row_call_kind f ks n es call found counted e made e' =
+row_call_kind f ks locals n es call found counted empty e made e' =
     let l : length (map kind_tree ks) ≡ length ks = length-map ks kind_tree in
     let is : es ≡ fields_from 0 (length (map kind_tree ks)) = cc in
     let whole : expr_kind (x_call f (args_of es)) (map kind_tree ks) [] ≡ function_kind f (map kind_tree ks) = rw (is, fields_kinds (map kind_tree ks)) refl in
-    let last : found ≡ function_kind f (map kind_tree ks) = cc in
-    cc
+    let same : found ≡ expr_kind (x_call f (args_of es)) (map kind_tree ks) [] =
+    subst (λ c. found ≡ expr_kind c (map kind_tree ks) []) made (subst (λ ls. found ≡ expr_kind call (map kind_tree ks) (map kind_tree ls)) empty e') in
+    ap (λ k. Ok k) (sym (same ∙ whole))
+
+-- the kind of a call, by steps
+pub call_kind_is : (f g : Function) (by : Casting) (ps : List Typing) (kinds : List KindTree) (found : Option KindTree)
+    → by ≡ casting f (kinds_as_given ps) → ◌≡◌ {A = Checked Function} (Ok (sized f (kinds_as_given ps))) (Ok g)
+    → kinds ≡ map (λ p. kind_after (cast_by by (kind_in p)) (kind_in p)) ps → ◌≡◌ {A = Checked (Option KindTree)} (Ok (function_kind g kinds)) (Ok found)
+    → ◌≡◌ {A = Checked (Option KindTree)} (Ok (call_kind f ps)) (Ok found)
+call_kind_is f g by ps kinds found e1 e2 e3 e4 =
+    let as_cast : kinds ≡ cast_kinds f ps = e3 ∙ ap (λ b. map (λ p. kind_after (cast_by b (kind_in p)) (kind_in p)) ps) e1 in
+    let named : called f ps ≡ g = cc in
+    let is : function_kind (called f ps) (cast_kinds f ps) ≡ function_kind g kinds = cc in
+    ap (λ k. Ok k) is ∙ e4
+
+-- a call, by steps
+pub call_typing_is : (f g : Function) (by : Casting) (ps : List Typing) (k : KindTree) (args : List Typed) (e : Typed) (c : FieldTree) (p : Typing)
+    → by ≡ casting f (kinds_as_given ps) → ◌≡◌ {A = Checked Function} (Ok (sized f (kinds_as_given ps))) (Ok g)
+    → args ≡ map (λ p. cast_maybe (cast_by by (kind_in p)) (typed_of p)) ps → e ≡ x_call g (args_of args) → c ≡ given f k (map typed_column ps)
+    → p ≡ typing e c → ◌≡◌ {A = Checked Typing} (Ok (call_typing f ps k)) (Ok p)
+call_typing_is f g by ps k args e c p e1 e2 e3 e4 e5 e6 =
+    let as_cast : args ≡ cast_args f ps = e3 ∙ ap (λ b. map (λ p. cast_maybe (cast_by b (kind_in p)) (typed_of p)) ps) e1 in
+    let named : called f ps ≡ g = cc in
+    let whole : typing (x_call (called f ps) (args_of (cast_args f ps))) (given f k (map typed_column ps)) ≡ p = cc in
+    ap (λ q. Ok q) whole

@@ -14,7 +14,7 @@ use Rattle.pig_typing.specs.declared.faults.CheckKind.TheVariants as kind
 use Rattle.pig_typing.specs.Columns.{Place, column_at, refer, unnamed}
 use Rattle.pig_typing.specs.Limits.{limited}
 use Rattle.pig_typing.specs.Parts.{chosen_of, given_of, select, step_of, steps_of, typing}
-use Rattle.pig_typing.specs.Reader.{args_on, call_of, choose_of, compare_of, condition_of, with_count, field_of, function_of, typed_link, links_on, reference_of, type_of}
+use Rattle.pig_typing.specs.Reader.{args_on, call_of, kind_due, choose_of, compare_of, condition_of, with_count, field_of, function_of, typed_link, links_on, reference_of, type_of}
 use Rattle.pig_value.specs.Functions.{function_named}
 
 -- the columns `a` and `m`, and a grouped bag of ranks, before which a nested alias of the name `a` may stand
@@ -46,7 +46,7 @@ looks_up = refl
 -- `SUM(good.rank_of)`
 sums : type_of plain (e_call (codes "SUM") (more_exprs (e_post (named (codes "good")) (step.Project (ref.Name (codes "rank_of") ∷ []) true ∷ [])) no_exprs))
     ≡ Ok (typing (x_call function.Sum (args_of (x_project (x_field 2) (0 ∷ []) true ∷ []))) (unnamed k_long))
-unfolding type_of args_on function_of function_named with_count call_of limited reference_of field_of refer column_at steps_of step_of chosen_of select given_of
+unfolding type_of args_on function_of function_named with_count call_of kind_due limited reference_of field_of refer column_at steps_of step_of chosen_of select given_of
 sums = refl
 
 -- a nested alias hides the field, and has no name

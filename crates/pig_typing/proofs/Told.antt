@@ -26,7 +26,7 @@ use Rattle.pig_typing.specs.Faults.{LinksWrong, Wrong, InLinks, InArgs, Faults, 
 use Rattle.pig_typing.specs.Joins.{Join, alike, chained, compared, condition}
 use Rattle.pig_typing.specs.Limits.{limited}
 use Rattle.pig_typing.specs.Parts.{Typing, typing, typed_of, kind_in, steps_of}
-use Rattle.pig_typing.specs.Reader.{field_of, local_or, reference_of, compare_of, condition_of, minus_of, choose_of, type_of_cast, typed_cast, typed_link, with_count, function_of, call_of, type_of, links_on, args_on}
+use Rattle.pig_typing.specs.Reader.{field_of, local_or, reference_of, compare_of, condition_of, minus_of, choose_of, type_of_cast, typed_cast, typed_link, with_count, function_of, call_of, kind_due, type_of, links_on, args_on}
 use Rattle.pig_typing.specs.Results.{Checked, due}
 use Rattle.pig_typing.specs.Typing.{Types, Links, Args, Sofar, begun, after, call_kind, count, type_int, type_long, type_text, type_bool, type_null, type_local, type_named, type_numbered, type_chain, type_compare, type_is_null, type_not, type_minus, type_cast, type_post, type_call, type_choose, links_end, links_go, args_end, args_go}
 use Rattle.pig_typing.specs.Written.{written}
@@ -112,7 +112,7 @@ count_told s name args g e = by (allows g (count args)) refl
 
 call_told : (s : Place) (name : List ℕ) (args : ExprForms) (g : Function) (ps : List Typing)
     → function_named name ≡ Some g → allows g (count args) ≡ true → Args s args ps → IsTold s (e_call name args) (call_of g ps)
-unfolding call_of
+unfolding call_of kind_due
 call_told s name args g ps e t h =
     due_is (IsTold s (e_call name args)) _ kind.TypeMismatch (call_kind g ps)
     (λ k made. then_is (IsTold s (e_call name args)) _ (limited k) (λ l within. type_call e t h made within) (λ f past. own (wrong_given e h made past)))

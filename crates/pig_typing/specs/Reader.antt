@@ -4,7 +4,7 @@ use Rattle.std.specs.Str.{bytes_eq}
 use Rattle.std.specs.declared.result.Result.TheVariants.{Ok, Err}
 use Rattle.pig_value.specs.Casts.{may_cast}
 use Rattle.pig_value.specs.Functions.{function_named}
-use Rattle.pig_value.specs.Trees.{k_boolean, k_int, k_long, k_chars, k_bytes}
+use Rattle.pig_value.specs.Trees.{KindTree, k_boolean, k_int, k_long, k_chars, k_bytes}
 use Rattle.pig_value.specs.declared.functions.Function.{Function}
 use Rattle.pig_value.specs.declared.operators.ChainOp.{ChainOp}
 use Rattle.pig_value.specs.declared.operators.Rel.{Rel}
@@ -92,11 +92,20 @@ with_count n f = if allows f n then Ok f else Err kind.WrongArguments
 unfoldable pub function_of : List ℕ → Checked Function
 function_of name = due (if bytes_eq name average then kind.FloatType else kind.UnknownFunction) (function_named name)
 
-unfoldable pub call_of : Function → List Typing → Checked Typing
-call_of f ps = do
+-- the kind that a function gives, within the limits
+unfoldable pub kind_due : Function → List Typing → Checked KindTree
+kind_due f ps = do
   k ← due kind.TypeMismatch (call_kind f ps)
   l ← limited k
-  Ok (typing (x_call (called f ps) (args_of (cast_args f ps))) (given f k (map typed_column ps)))
+  Ok k
+
+abbrev pub call_typing : Function → List Typing → KindTree → Typing
+call_typing f ps k = typing (x_call (called f ps) (args_of (cast_args f ps))) (given f k (map typed_column ps))
+
+unfoldable pub call_of : Function → List Typing → Checked Typing
+call_of f ps = do
+  k ← kind_due f ps
+  Ok (call_typing f ps k)
 
 -- ---- expressions
 

@@ -1,15 +1,15 @@
-ghost use Rattle.std.specs.Prelude.{◌≡◌, [], ◌∷◌, IfOk, Ok, map};
+ghost use Rattle.std.specs.Prelude.{◌≡◌, [], ◌∷◌, ◌++◌, IfOk, Ok, OnOk, length, map};
 ghost use Rattle.std.specs.List.{list_all, list_any};
 ghost use Rattle.std.specs.Option.{option_map};
 ghost use Rattle.pig_value.specs.FunctionKinds.{function_kind};
-ghost use Rattle.pig_value.specs.Trees.{kind_tree};
+ghost use Rattle.pig_value.specs.Trees.{kind_tree, kinds_list, kinds_of};
 ghost use Rattle.pig_schema.specs.FieldTrees.{named_tree, schema_tree};
-ghost use Rattle.pig_typed.specs.Typed.{args_of, typed, x_call};
+ghost use Rattle.pig_typed.specs.Typed.{args_of, typed, x_call, x_field};
 ghost use Rattle.pig_typing.specs.Calls.{cast_by, cast_maybe, casting, fields_from, given, is_bytes, is_long, kind_after, sized, allows, tuple_width};
 ghost use Rattle.pig_typing.specs.Parts.{typed_column, kind_in, typed_of};
-ghost use Rattle.pig_typing.specs.Reader.{call_of, with_count, function_of};
+ghost use Rattle.pig_typing.specs.Reader.{call_of, call_typing, function_of, kind_due, with_count};
 ghost use Rattle.pig_typing.specs.Results.{Tells};
-ghost use Rattle.pig_typing.specs.Typing.{kinds_as_given};
+ghost use Rattle.pig_typing.specs.Typing.{call_kind, kinds_as_given};
 ghost use Rattle.pig_typing.specs.Views.{typing_tree};
 
 use crate::columns::{Typing, copied, holding, kind, made, unnamed};
@@ -95,23 +95,53 @@ pub fn call<'a>(
 ) -> Result<Typing<'a>, TypeFault>
     ensures { Tells typing_tree (call_of function (map typing_tree args.entry)) result }
 {
+    let kind = kind_due(alloc, function, args.as_slice())?;
+    applied(alloc, function, kind, args)
+}
+
+// The kind of what it gives, within the limits.
+#[tactic(auto, unfolding(crate::specs::Reader::kind_due))]
+fn kind_due(alloc: Global, function: Function, args: &[Typing]) -> Result<Kind, TypeFault>
+    ensures { Tells kind_tree (kind_due function (map typing_tree args.now)) result }
+{
+    match call_kind(alloc, function, args)? {
+        Some(kind) => {
+            within_limits(&kind)?;
+            Ok(kind)
+        }
+        None => Err(TypeFault::Refused(CheckKind::TypeMismatch)),
+    }
+}
+
+fn call_kind(
+    alloc: Global,
+    function: Function,
+    args: &[Typing],
+) -> Result<Option<Kind>, TypeFault>
+    ensures { Tells (option_map kind_tree) (Ok (call_kind function (map typing_tree args.now))) result }
+{
+    let casting = how_cast(function, args);
+    let called = sized(function, args)?;
+    let kinds = cast_kinds(alloc, casting, args)?;
+    let kind = given_kind(alloc, called, &kinds)?;
+    Ok(kind)
+}
+
+// The call, with its arguments as they are cast.
+fn applied<'a>(
+    alloc: Global,
+    function: Function,
+    kind: Kind,
+    args: Seq<Typing<'a>>,
+) -> Result<Typing<'a>, TypeFault>
+    ensures { Tells typing_tree (Ok (call_typing function (map typing_tree args.entry) (kind_tree kind))) result }
+{
+    let column = given(alloc, function, kind, args.as_slice())?;
     let casting = how_cast(function, args.as_slice());
     let called = sized(function, args.as_slice())?;
-    let kinds = cast_kinds(alloc, casting, args.as_slice())?;
-    let Some(kind) = given_kind(alloc, called, &kinds)? else {
-        return Err(TypeFault::Refused(CheckKind::TypeMismatch));
-    };
-    within_limits(&kind)?;
-    let column = given(alloc, function, kind, args.as_slice())?;
     let args = cast_args(alloc, casting, args)?;
-    Ok(made(
-        alloc,
-        TExpr::Call {
-            function: called,
-            args,
-        },
-        column,
-    )?)
+    let call = made(alloc, call_on(called, args), column)?;
+    Ok(call)
 }
 
 fn how_cast(function: Function, args: &[Typing]) -> Casting
@@ -202,11 +232,17 @@ fn tuple_width(args: &[Typing]) -> Result<Option<u32>, TypeFault>
     }
 }
 
+fn counted(kinds: &[Kind]) -> Result<u32, TypeFault>
+    ensures { Tells (λ n. n) (Ok (length (kinds_list (kinds_of (map kind_tree kinds.now))))) result }
+{
+    narrow(kinds.len())
+}
+
 fn width(kind: &Kind) -> Result<Option<u32>, TypeFault>
     ensures { Tells (λ w. w) (Ok (tuple_width (kind_tree kind.now ∷ []))) result }
 {
     match kind {
-        Kind::Tuple(fields) => Ok(Some(narrow(fields.len())?)),
+        Kind::Tuple(fields) => Ok(Some(counted(fields.as_slice())?)),
         _ => Ok(None),
     }
 }
@@ -289,10 +325,16 @@ fn fields(alloc: Global, count: usize) -> Result<TExprs, TypeFault>
 {
     let mut fields = Seq::with_capacity(alloc, count)?;
     for place in 0..count {
-        let place = narrow(place)?;
-        fields.push(TExpr::Field(place))?;
+        let field = narrow(place)?;
+        one_more(&mut fields, field)?;
     }
     Ok(fields)
+}
+
+fn one_more(fields: &mut TExprs, field: u32) -> Result<(), AllocError>
+    ensures { OnOk result (map typed fields.new ≡ map typed fields.old ++ x_field field ∷ []) }
+{
+    fields.push(TExpr::Field(field))
 }
 
 // The column of what a function gives.
