@@ -7,3 +7,4 @@ mod Joined
 mod Inside
 pub mod KindsHold
 mod CodeLaws
+mod LinkSteps

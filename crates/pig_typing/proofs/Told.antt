@@ -110,13 +110,26 @@ count_told s name args g e = by (allows g (count args)) refl
     by true t = (refl, t)
     by false t = wrong_count e t
 
+-- the kind that is due, within the limits
+abbrev IsDue : Place → List ℕ → ExprForms → Function → List Typing → Checked KindTree → Type 0
+IsDue s name args g ps (Ok k) = (call_kind g ps ≡ Some k) × ((l : KindTree) × (limited k ≡ Ok l))
+IsDue s name args g ps (Err f) = Faults s (e_call name args) f
+
+due_told : (s : Place) (name : List ℕ) (args : ExprForms) (g : Function) (ps : List Typing)
+    → function_named name ≡ Some g → allows g (count args) ≡ true → Args s args ps → IsDue s name args g ps (kind_due g ps)
+unfolding kind_due
+due_told s name args g ps e t h =
+    due_is (IsDue s name args g ps) _ kind.TypeMismatch (call_kind g ps)
+    (λ k made. then_is (IsDue s name args g ps) _ (limited k) (λ l within. (made, (l, within))) (λ f past. own (wrong_given e h made past)))
+    (λ made. own (wrong_args e t h made))
+
 call_told : (s : Place) (name : List ℕ) (args : ExprForms) (g : Function) (ps : List Typing)
     → function_named name ≡ Some g → allows g (count args) ≡ true → Args s args ps → IsTold s (e_call name args) (call_of g ps)
-unfolding call_of kind_due
+unfolding call_of
 call_told s name args g ps e t h =
-    due_is (IsTold s (e_call name args)) _ kind.TypeMismatch (call_kind g ps)
-    (λ k made. then_is (IsTold s (e_call name args)) _ (limited k) (λ l within. type_call e t h made within) (λ f past. own (wrong_given e h made past)))
-    (λ made. own (wrong_args e t h made))
+    then_told (IsDue s name args g ps) (IsTold s (e_call name args)) _ (kind_due g ps) (due_told s name args g ps e t h)
+    (λ k w. type_call e t h w.0 w.1.1)
+    (λ f w. w)
 
 converted_told : (s : Place) (to : TypeTree) (a : ExprForm) (d : FieldTree) (p : Typing) → CastTold s to a (Ok d) → Types s a p → IsTold s (e_cast to a) (typed_cast d p)
 unfolding typed_cast

@@ -6,10 +6,10 @@ ghost use Rattle.pig_typed.specs.Typed.{typed, x_cast, x_choose, x_compare, x_is
 ghost use Rattle.pig_typing.specs.Columns.{place_of, unnamed};
 ghost use Rattle.pig_typing.specs.Faults.{Faults};
 ghost use Rattle.pig_typing.specs.Parts.{typed_of, typing};
-ghost use Rattle.pig_typing.specs.Reader.{args_on, typed_cast, choose_of, compare_of, condition_of, typed_link, links_on, minus_of, type_of, type_of_cast};
+ghost use Rattle.pig_typing.specs.Reader.{args_on, typed_cast, choose_of, compare_of, condition_of, typed_link, links_on, minus_of, type_of, type_of_cast, with_count};
 ghost use Rattle.pig_typing.specs.Results.{checked_then, IfRefused, Tells};
 ghost use Rattle.pig_typing.specs.Joins.{cast_if};
-ghost use Rattle.pig_typing.specs.Typing.{Types, after, begun, chain_typing};
+ghost use Rattle.pig_typing.specs.Typing.{Types, after, begun, chain_typing, count};
 ghost use Rattle.pig_typing.specs.Views.{chain_so_far, join_tree, sofar_tree, typed_tree, typing_tree};
 
 use crate::calls::{call, with_count, function};
@@ -24,7 +24,7 @@ use crate::written::written_type;
 use pig_schema::Field;
 use pig_syntax::{Expr, Exprs, Links, TypeTree};
 use pig_typed::{TExpr, TLink, TLinks};
-use pig_value::{Boxed, ChainOp, Kind, Rel, Seq, casts_to, copy_kind};
+use pig_value::{Boxed, ChainOp, Function, Kind, Rel, Seq, casts_to, copy_kind};
 use std::alloc::{AllocError, Global};
 
 /// A typed expression, and the column that it gives: its kind, the name that it keeps as an item, and the columns
@@ -107,7 +107,7 @@ fn type_in<'a>(alloc: Global, e: &'a Expr, scope: &'a Scope<'a>) -> Result<Typin
         }
         Expr::Call { name, args } => {
             let function = function(name.as_str())?;
-            let function = with_count(args.len(), function)?;
+            let function = taking(args, function)?;
             let args = each(alloc, args, scope)?;
             call(alloc, function, args)
         }
@@ -224,6 +224,13 @@ fn each<'a>(
         typings.push(typing)?;
     }
     Ok(typings)
+}
+
+// The function, where it takes so many arguments.
+fn taking(args: &Exprs, function: Function) -> Result<Function, TypeFault>
+    ensures { Tells (λ f. f) (with_count (count (expr_forms (map expr_form args.now))) function) result }
+{
+    with_count(args.len(), function)
 }
 
 #[tactic(auto, unfolding(crate::specs::Reader::compare_of))]
