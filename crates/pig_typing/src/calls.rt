@@ -113,11 +113,7 @@ fn kind_due(alloc: Global, function: Function, args: &[Typing]) -> Result<Kind, 
     }
 }
 
-fn call_kind(
-    alloc: Global,
-    function: Function,
-    args: &[Typing],
-) -> Result<Option<Kind>, TypeFault>
+fn call_kind(alloc: Global, function: Function, args: &[Typing]) -> Result<Option<Kind>, TypeFault>
     ensures { Tells (option_map kind_tree) (Ok (call_kind function (map typing_tree args.now))) result }
 {
     let casting = how_cast(function, args);

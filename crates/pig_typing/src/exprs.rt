@@ -12,7 +12,7 @@ ghost use Rattle.pig_typing.specs.Joins.{cast_if};
 ghost use Rattle.pig_typing.specs.Typing.{Types, after, begun, chain_typing, count};
 ghost use Rattle.pig_typing.specs.Views.{chain_so_far, join_tree, sofar_tree, typed_tree, typing_tree};
 
-use crate::calls::{call, with_count, function};
+use crate::calls::{call, function, with_count};
 use crate::columns::{Typing, kind, made, owned, plain};
 use crate::faults::{CheckKind, TypeFault};
 use crate::joins::{Join, alike, cast_if, chained, compared, condition, minus};
