@@ -12,11 +12,12 @@ use Rattle.pig_value.specs.FunctionKinds.{function_kind}
 use Rattle.pig_value.specs.declared.functions.Function.{Function}
 use Rattle.pig_value.specs.declared.values.Kind.{Kind}
 use Rattle.pig_typed.specs.ExprKinds.{args_kinds, expr_kind}
-use Rattle.pig_typed.specs.Typed.{Typed, x_call, x_field, args_of}
+use Rattle.pig_typed.specs.Typed.{Typed, TypedItem, x_call, x_field, args_of}
 use Rattle.std.specs.declared.result.Result.TheVariants.{Ok}
 use Rattle.pig_typing.specs.Results.{Checked}
 use Rattle.pig_typing.specs.declared.calls.Casting.{Casting}
 use Rattle.pig_typing.specs.Calls.{cast_by, cast_maybe, casting, fields_from, given, kind_after, sized}
+use Rattle.pig_typing.specs.Items.{plain_item}
 use Rattle.pig_typing.specs.Parts.{Typing, typing, typed_of, typed_column, kind_in}
 use Rattle.pig_typing.specs.Reader.{call_typing}
 use Rattle.pig_typing.specs.Typing.{call_kind, called, cast_args, cast_kinds, kinds_as_given}
@@ -82,8 +83,6 @@ fields_kinds_from before (k ∷ kinds) =
 pub fields_kinds : (kinds : List KindTree) → args_kinds (args_of (fields_from 0 (length kinds))) kinds [] ≡ Some kinds
 fields_kinds kinds = fields_kinds_from [] kinds
 
--- so a call on them has the kind that the function gives of the kinds
-
 -- one field more
 pub fields_step : (before : List Typed) (n count : ℕ) (all : List Typed)
     → n < count → before ++ fields_from n (count - n) ≡ all → (before ++ x_field n ∷ []) ++ fields_from (n + 1) (count - (n + 1)) ≡ all
@@ -91,6 +90,15 @@ fields_step before n count all w e =
     let one : count - n ≡ suc (count - (n + 1)) = omega arith in
     let front : before ++ fields_from n (suc (count - (n + 1))) ≡ all = subst (λ m. before ++ fields_from n m ≡ all) one e in
     append_assoc before (x_field n ∷ []) (fields_from (n + 1) (count - (n + 1))) ∙ front
+
+-- one item of `*` more
+pub items_step : (before : List TypedItem) (n count : ℕ) (all : List TypedItem)
+    → n < count → before ++ map plain_item (fields_from n (count - n)) ≡ all
+    → (before ++ plain_item (x_field n) ∷ []) ++ map plain_item (fields_from (n + 1) (count - (n + 1))) ≡ all
+items_step before n count all w e =
+    let one : count - n ≡ suc (count - (n + 1)) = omega arith in
+    let front : before ++ map plain_item (fields_from n (suc (count - (n + 1)))) ≡ all = subst (λ m. before ++ map plain_item (fields_from n m) ≡ all) one e in
+    append_assoc before (plain_item (x_field n) ∷ []) (map plain_item (fields_from (n + 1) (count - (n + 1)))) ∙ front
 
 -- so a call on them has the kind that the function gives of the kinds
 pub row_call_kind : (f : Function) (ks locals : List Kind) (n : ℕ) (es : List Typed) (call : Typed) (found : Option KindTree)

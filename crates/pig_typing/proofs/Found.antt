@@ -4,7 +4,7 @@ use Rattle.std.specs.Prelude.{None, if◌then◌else◌}
 use Rattle.std.specs.declared.result.Result.TheVariants.{Ok, Err}
 use Rattle.pig_value.specs.Functions.{function_named}
 use Rattle.pig_schema.specs.FieldTrees.{tree_kind}
-use Rattle.pig_syntax.specs.ExprTrees.{ExprForm, LinkForms, ExprForms}
+use Rattle.pig_syntax.specs.ExprTrees.{ExprForm, LinkForms, ExprForms, type_form}
 use Rattle.pig_typing.specs.declared.faults.CheckKind.{CheckKind}
 use Rattle.pig_typing.specs.Calls.{average, allows}
 use Rattle.pig_typing.specs.Columns.{Place}
@@ -60,7 +60,7 @@ unfolding function_named
 average_is_none = refl
 
 -- what follows a result that is handed on, and one that is handed on by a test
-kept_fails : {A B C : Type 0} (d : A) (next : A → Checked B) (r : Checked C) → Fails (next d) → Fails ((r >>= λ k. Ok d) >>= next)
+pub kept_fails : {A B C : Type 0} (d : A) (next : A → Checked B) (r : Checked C) → Fails (next d) → Fails ((r >>= λ k. Ok d) >>= next)
 kept_fails d next (Ok k) h = h
 kept_fails d next (Err f) h = failed
 
@@ -110,7 +110,7 @@ operand_fails s (of_right {a = a}) h = fails_next _ (type_of s a) (λ p. fails_f
 operand_fails s of_is_null h = fails_first _ h
 operand_fails s of_not h = fails_first _ h
 operand_fails s of_minus h = fails_first _ h
-operand_fails s (of_cast {to = to}) h = fails_next _ (type_of_cast to) (λ d. fails_first _ h)
+operand_fails s (of_cast {to = to}) h = fails_next _ (type_of_cast (type_form to)) (λ d. fails_first _ h)
 operand_fails s of_post h = fails_first _ h
 operand_fails s (of_arg {name = name} {args = args} i) h = fails_next _ (function_of name) (λ f. fails_next _ (with_count (count args) f) (λ g. fails_first _ (args_operand s i h)))
 operand_fails s of_condition h = fails_first _ h

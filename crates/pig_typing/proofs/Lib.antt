@@ -8,3 +8,5 @@ mod Inside
 pub mod KindsHold
 mod CodeLaws
 mod LinkSteps
+mod ItemsTold
+mod ItemsFound

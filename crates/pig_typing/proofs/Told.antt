@@ -77,7 +77,7 @@ abbrev CastTold : Place → TypeTree → ExprForm → Checked FieldTree → Type
 CastTold s to a (Ok d) = (written (type_form to) ≡ Some d) × ((k : KindTree) × (limited (tree_kind d) ≡ Ok k))
 CastTold s to a (Err f) = Wrong s (e_cast to a) f
 
-cast_told : (s : Place) (to : TypeTree) (a : ExprForm) → CastTold s to a (type_of_cast to)
+cast_told : (s : Place) (to : TypeTree) (a : ExprForm) → CastTold s to a (type_of_cast (type_form to))
 unfolding type_of_cast
 cast_told s to a =
     due_is (CastTold s to a) _ kind.FloatType (written (type_form to))
@@ -173,7 +173,7 @@ mutual
       (λ p h. due_is (IsTold s (e_minus a)) _ kind.TypeMismatch (minus_kind (kind_in p)) (λ k e. type_minus h e) (λ e. own (wrong_minus h e)))
       (λ f h. inside of_minus h)
   told s (e_cast to a) =
-      then_told (CastTold s to a) (IsTold s (e_cast to a)) _ (type_of_cast to) (cast_told s to a)
+      then_told (CastTold s to a) (IsTold s (e_cast to a)) _ (type_of_cast (type_form to)) (cast_told s to a)
       (λ d w. then_told (IsTold s a) (IsTold s (e_cast to a)) _ (type_of s a) (told s a) (λ p h. converted_told s to a d p w h) (λ f h. inside of_cast h))
       (λ f h. own h)
   told s (e_post a steps) =

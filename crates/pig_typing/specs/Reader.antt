@@ -9,10 +9,9 @@ use Rattle.pig_value.specs.declared.functions.Function.{Function}
 use Rattle.pig_value.specs.declared.operators.ChainOp.{ChainOp}
 use Rattle.pig_value.specs.declared.operators.Rel.{Rel}
 use Rattle.pig_schema.specs.FieldTrees.{FieldTree, tree_kind}
-use Rattle.pig_syntax.specs.ExprTrees.{ExprForm, LinkForms, ExprForms, e_int, e_long, e_float, e_text, e_bool, e_null, e_field, e_chain, e_compare, e_is_null, e_not, e_minus, e_cast, e_post, e_call, e_choose, no_links, more_links, no_exprs, more_exprs, type_form}
+use Rattle.pig_syntax.specs.ExprTrees.{TypeForm, ExprForm, LinkForms, ExprForms, e_int, e_long, e_float, e_text, e_bool, e_null, e_field, e_chain, e_compare, e_is_null, e_not, e_minus, e_cast, e_post, e_call, e_choose, no_links, more_links, no_exprs, more_exprs, type_form}
 use Rattle.pig_syntax.specs.declared.trees.FieldRef.{FieldRef}
 use Rattle.pig_syntax.specs.declared.trees.FieldRef.TheVariants as ref
-use Rattle.pig_syntax.specs.declared.trees.TypeTree.{TypeTree}
 use Rattle.pig_typed.specs.ExprKinds.{minus_kind}
 use Rattle.pig_typed.specs.Typed.{Typed, x_null, x_bool, x_int, x_long, x_chars, x_field, x_local, x_compare, x_is_null, x_not, x_minus, x_choose, x_cast, x_call, args_of}
 use Rattle.pig_typing.specs.declared.faults.CheckKind.TheVariants as kind
@@ -71,9 +70,9 @@ choose_of t p q = do
   Ok (typing (x_choose t (cast_if j.left j.kind (typed_of p)) (cast_if j.right j.kind (typed_of q))) (unnamed j.kind))
 
 -- what a type says, within the limits
-unfoldable pub type_of_cast : TypeTree → Checked FieldTree
-type_of_cast to = do
-  d ← due kind.FloatType (written (type_form to))
+unfoldable pub type_of_cast : TypeForm → Checked FieldTree
+type_of_cast type = do
+  d ← due kind.FloatType (written type)
   k ← limited (tree_kind d)
   Ok d
 
@@ -137,7 +136,7 @@ unfoldable mutual
     p ← type_of s a
     minus_of p
   type_of s (e_cast to a) = do
-    d ← type_of_cast to
+    d ← type_of_cast (type_form to)
     p ← type_of s a
     typed_cast d p
   type_of s (e_post a steps) = do

@@ -5,9 +5,9 @@ use Rattle.pig_value.specs.Trees.{kind_tree}
 use Rattle.pig_value.specs.declared.values.Kind.{Kind}
 use Rattle.pig_typed.specs.declared.exprs.TExpr.{TExpr}
 use Rattle.pig_typed.specs.declared.exprs.TLink.{TLink}
-use Rattle.pig_schema.specs.FieldTrees.{FieldTree, named_tree}
+use Rattle.pig_schema.specs.FieldTrees.{FieldTree, named_tree, schema_tree}
 use Rattle.pig_schema.specs.declared.schema.Field.{Field}
-use Rattle.pig_typed.specs.Typed.{typed, link_of}
+use Rattle.pig_typed.specs.Typed.{typed, item_typed, link_of}
 use Rattle.pig_typing.specs.declared.columns.Column.{Column}
 use Rattle.pig_typing.specs.declared.columns.Column.TheVariants as column
 use Rattle.pig_typing.specs.declared.columns.Typing as code
@@ -15,7 +15,9 @@ use Rattle.pig_typing.specs.declared.exprs.Sofar as chain
 use Rattle.pig_typing.specs.declared.exprs.TypedExpr.{TypedExpr}
 use Rattle.pig_typing.specs.declared.joins.Join as both
 use Rattle.pig_typing.specs.declared.parts.Pick.{Pick}
+use Rattle.pig_typing.specs.declared.items.Generated as code_items
 use Rattle.pig_typing.specs.Columns.{nameless}
+use Rattle.pig_typing.specs.Items.{Generated}
 use Rattle.pig_typing.specs.Joins.{Join, join}
 use Rattle.pig_typing.specs.Parts.{Typing, typing}
 use Rattle.pig_typing.specs.Typing.{Sofar}
@@ -39,6 +41,9 @@ chain_so_far first links kind = record { first = typed first; links = map link_o
 
 abbrev pub join_tree : both.Join → Join
 join_tree j = join (kind_tree j.kind) j.left j.right
+
+abbrev pub generated_tree : code_items.Generated → Generated
+generated_tree g = record { items = map item_typed g.items; columns = schema_tree g.columns }
 
 abbrev pub pick_tree : Pick → ℕ × FieldTree
 pick_tree p = (p.place, named_tree p.column)

@@ -114,7 +114,8 @@ fn kind_due(alloc: Global, function: Function, args: &[Typing]) -> Result<Kind, 
 }
 
 fn call_kind(alloc: Global, function: Function, args: &[Typing]) -> Result<Option<Kind>, TypeFault>
-    ensures { Tells (option_map kind_tree) (Ok (call_kind function (map typing_tree args.now))) result }
+    ensures { Tells (option_map kind_tree)
+        (Ok (call_kind function (map typing_tree args.now))) result }
 {
     let casting = how_cast(function, args);
     let called = sized(function, args)?;
@@ -130,7 +131,8 @@ fn applied<'a>(
     kind: Kind,
     args: Seq<Typing<'a>>,
 ) -> Result<Typing<'a>, TypeFault>
-    ensures { Tells typing_tree (Ok (call_typing function (map typing_tree args.entry) (kind_tree kind))) result }
+    ensures { Tells typing_tree (Ok (call_typing function (map typing_tree args.entry)
+        (kind_tree kind))) result }
 {
     let column = given(alloc, function, kind, args.as_slice())?;
     let casting = how_cast(function, args.as_slice());
@@ -209,7 +211,8 @@ fn long(kind: &Kind) -> bool
 
 // The function as it is called: TOBAG knows how many fields its tuples have.
 fn sized(function: Function, args: &[Typing]) -> Result<Function, TypeFault>
-    ensures { Tells (λ f. f) (Ok (sized function (kinds_as_given (map typing_tree args.now)))) result }
+    ensures { Tells (λ f. f) (Ok (sized function (kinds_as_given (map typing_tree args.now))))
+        result }
 {
     match function {
         Function::ToBag { .. } => Ok(Function::ToBag {
@@ -229,7 +232,8 @@ fn tuple_width(args: &[Typing]) -> Result<Option<u32>, TypeFault>
 }
 
 fn counted(kinds: &[Kind]) -> Result<u32, TypeFault>
-    ensures { Tells (λ n. n) (Ok (length (kinds_list (kinds_of (map kind_tree kinds.now))))) result }
+    ensures { Tells (λ n. n) (Ok (length (kinds_list (kinds_of (map kind_tree kinds.now)))))
+        result }
 {
     narrow(kinds.len())
 }
@@ -256,7 +260,9 @@ fn cast_to(casting: Casting, kind: &Kind) -> Option<Kind>
 
 // The kinds of the arguments as they are cast.
 fn cast_kinds(alloc: Global, casting: Casting, args: &[Typing]) -> Result<Kinds, AllocError>
-    ensures { IfOk result (λ ks. map kind_tree ks ≡ map (λ p. kind_after (cast_by casting (kind_in p)) (kind_in p)) (map typing_tree args.now)) }
+    ensures { IfOk result (λ ks. map kind_tree ks
+        ≡ map (λ p. kind_after (cast_by casting (kind_in p)) (kind_in p))
+        (map typing_tree args.now)) }
 {
     let mut kinds = Vec::with_capacity(alloc, args.len())?;
     for arg in args {
@@ -266,7 +272,8 @@ fn cast_kinds(alloc: Global, casting: Casting, args: &[Typing]) -> Result<Kinds,
 }
 
 fn cast_kind(alloc: Global, casting: Casting, kind: &Kind) -> Result<Kind, AllocError>
-    ensures { IfOk result (λ k. kind_tree k ≡ kind_after (cast_by casting (kind_tree kind.now)) (kind_tree kind.now)) }
+    ensures { IfOk result (λ k. kind_tree k
+        ≡ kind_after (cast_by casting (kind_tree kind.now)) (kind_tree kind.now)) }
 {
     match cast_to(casting, kind) {
         Some(to) => Ok(to),
@@ -280,7 +287,9 @@ fn cast_args<'a>(
     casting: Casting,
     args: Seq<Typing<'a>>,
 ) -> Result<TExprs, AllocError>
-    ensures { IfOk result (λ es. map typed es ≡ map (λ p. cast_maybe (cast_by casting (kind_in p)) (typed_of p)) (map typing_tree args.entry)) }
+    ensures { IfOk result (λ es. map typed es
+        ≡ map (λ p. cast_maybe (cast_by casting (kind_in p)) (typed_of p))
+        (map typing_tree args.entry)) }
 {
     let mut exprs = Seq::with_capacity(alloc, args.len())?;
     for arg in args.into_vec() {
@@ -290,7 +299,8 @@ fn cast_args<'a>(
 }
 
 fn cast_arg<'a>(alloc: Global, casting: Casting, arg: Typing<'a>) -> Result<TExpr, AllocError>
-    ensures { IfOk result (λ e. typed e ≡ cast_maybe (cast_by casting (kind_in (typing_tree arg.entry))) (typed_of (typing_tree arg.entry))) }
+    ensures { IfOk result (λ e. typed e ≡ cast_maybe
+        (cast_by casting (kind_in (typing_tree arg.entry))) (typed_of (typing_tree arg.entry))) }
 {
     let Typing { expr, column } = arg;
     match cast_to(casting, kind(&column)) {
@@ -301,7 +311,8 @@ fn cast_arg<'a>(alloc: Global, casting: Casting, arg: Typing<'a>) -> Result<TExp
 
 // The kind that a function gives of arguments of these kinds: that of its call on a row of them.
 fn given_kind(alloc: Global, function: Function, kinds: &Kinds) -> Result<Option<Kind>, TypeFault>
-    ensures { Tells (option_map kind_tree) (Ok (function_kind function (map kind_tree kinds.now))) result }
+    ensures { Tells (option_map kind_tree)
+        (Ok (function_kind function (map kind_tree kinds.now))) result }
 {
     let args = fields(alloc, kinds.len())?;
     let call = call_on(function, args);
@@ -340,7 +351,8 @@ fn given(
     kind: Kind,
     args: &[Typing],
 ) -> Result<Field, AllocError>
-    ensures { IfOk result (λ f. named_tree f ≡ given function (kind_tree kind) (map typed_column (map typing_tree args.now))) }
+    ensures { IfOk result (λ f. named_tree f
+        ≡ given function (kind_tree kind) (map typed_column (map typing_tree args.now))) }
 {
     match function {
         Function::ToTuple => Ok(holding(kind, columns(alloc, args)?)),

@@ -147,7 +147,7 @@ pub fn bag(alloc: Global, columns: Schema) -> Result<Field, AllocError>
     Ok(holding(Kind::Bag(kinds), columns))
 }
 
-fn column_kinds(alloc: Global, columns: &Schema) -> Result<Kinds, AllocError>
+pub fn column_kinds(alloc: Global, columns: &Schema) -> Result<Kinds, AllocError>
     ensures { IfOk result (λ ks. map kind_tree ks ≡ map tree_kind (schema_tree columns.now)) }
 {
     kinds(alloc, columns)

@@ -1,7 +1,7 @@
 ghost use Rattle.std.specs.Prelude.{◌≡◌, IfOk, Ok, map};
 ghost use Rattle.pig_value.specs.Trees.{k_boolean, kind_tree};
 ghost use Rattle.pig_schema.specs.FieldTrees.{named_tree, tree_kind};
-ghost use Rattle.pig_syntax.specs.ExprTrees.{expr_form, expr_forms, link_form, link_forms};
+ghost use Rattle.pig_syntax.specs.ExprTrees.{expr_form, expr_forms, link_form, link_forms, type_form};
 ghost use Rattle.pig_typed.specs.Typed.{typed, x_cast, x_choose, x_compare, x_is_null};
 ghost use Rattle.pig_typing.specs.Columns.{place_of, unnamed};
 ghost use Rattle.pig_typing.specs.Faults.{Faults};
@@ -43,13 +43,14 @@ pub struct TypedExpr {
 /// inside it.
 pub fn type_expr(alloc: Global, e: &Expr, scope: &Scope) -> Result<TypedExpr, TypeFault>
     ensures typed { IfOk result (λ t. Types (place_of scope.now) (expr_form e.now) (typed_tree t)) }
-    ensures refused { IfRefused result (λ kind. Faults (place_of scope.now) (expr_form e.now) kind) }
+    ensures refused { IfRefused result (λ kind. Faults (place_of scope.now)
+        (expr_form e.now) kind) }
     ensures told { Tells typed_tree (type_of (place_of scope.now) (expr_form e.now)) result }
 {
     typed_expr(alloc, e, scope)
 }
 
-fn typed_expr(alloc: Global, e: &Expr, scope: &Scope) -> Result<TypedExpr, TypeFault>
+pub fn typed_expr(alloc: Global, e: &Expr, scope: &Scope) -> Result<TypedExpr, TypeFault>
     ensures { Tells typed_tree (type_of (place_of scope.now) (expr_form e.now)) result }
 {
     let Typing { expr, column } = type_in(alloc, e, scope)?;
@@ -60,7 +61,11 @@ fn typed_expr(alloc: Global, e: &Expr, scope: &Scope) -> Result<TypedExpr, TypeF
 
 #[cycle(typing)]
 #[tactic(auto, unfolding(crate::specs::Reader::type_of))]
-fn type_in<'a>(alloc: Global, e: &'a Expr, scope: &'a Scope<'a>) -> Result<Typing<'a>, TypeFault>
+pub fn type_in<'a>(
+    alloc: Global,
+    e: &'a Expr,
+    scope: &'a Scope<'a>,
+) -> Result<Typing<'a>, TypeFault>
     ensures { Tells typing_tree (type_of (place_of scope.now) (expr_form e.now)) result }
 {
     match e {
@@ -138,7 +143,8 @@ fn chain<'a>(
     scope: &'a Scope<'a>,
 ) -> Result<Typing<'a>, TypeFault>
     ensures { Tells typing_tree (checked_then (λ whole. Ok (chain_typing whole))
-        (links_on (place_of scope.now) (begun (typing_tree first.entry)) (link_forms (map link_form links.now)))) result }
+        (links_on (place_of scope.now) (begun (typing_tree first.entry))
+        (link_forms (map link_form links.now)))) result }
 {
     let mut so_far = begin(alloc, first)?;
     for link in links.as_slice() {
@@ -197,7 +203,8 @@ fn longer(
     join: Join,
     expr: Boxed<TExpr>,
 ) -> Result<Sofar, AllocError>
-    ensures { IfOk result (λ c. sofar_tree c ≡ after (chain_so_far first links left.now) op (join_tree join) (typed expr)) }
+    ensures { IfOk result (λ c. sofar_tree c
+        ≡ after (chain_so_far first links left.now) op (join_tree join) (typed expr)) }
 {
     let first = cast_if(alloc, join.left, &join.kind, first)?;
     let expr = cast_if(alloc, join.right, &join.kind, expr)?;
@@ -215,7 +222,8 @@ fn each<'a>(
     args: &'a Exprs,
     scope: &'a Scope<'a>,
 ) -> Result<Seq<Typing<'a>>, TypeFault>
-    ensures { Tells (map typing_tree) (args_on (place_of scope.now) (expr_forms (map expr_form args.now))) result }
+    ensures { Tells (map typing_tree) (args_on (place_of scope.now)
+        (expr_forms (map expr_form args.now))) result }
 {
     let args = args.as_slice();
     let mut typings = Seq::with_capacity(alloc, args.len())?;
@@ -228,7 +236,8 @@ fn each<'a>(
 
 // The function, where it takes so many arguments.
 fn taking(args: &Exprs, function: Function) -> Result<Function, TypeFault>
-    ensures { Tells (λ f. f) (with_count (count (expr_forms (map expr_form args.now))) function) result }
+    ensures { Tells (λ f. f) (with_count (count (expr_forms (map expr_form args.now))) function)
+        result }
 {
     with_count(args.len(), function)
 }
@@ -256,7 +265,8 @@ fn comparison<'a>(
     join: Join,
 ) -> Result<Typing<'a>, AllocError>
     ensures { IfOk result (λ p. typing_tree p ≡ typing (x_compare op
-        (cast_if join.left (kind_tree join.kind) (typed a)) (cast_if join.right (kind_tree join.kind) (typed b))) (unnamed k_boolean)) }
+        (cast_if join.left (kind_tree join.kind) (typed a))
+        (cast_if join.right (kind_tree join.kind) (typed b))) (unnamed k_boolean)) }
 {
     let a = cast_if(alloc, join.left, &join.kind, a)?;
     let b = cast_if(alloc, join.right, &join.kind, b)?;
@@ -264,14 +274,15 @@ fn comparison<'a>(
 }
 
 fn null_test<'a>(alloc: Global, a: Typing<'a>, not: bool) -> Result<Typing<'a>, AllocError>
-    ensures { IfOk result (λ p. typing_tree p ≡ typing (x_is_null (typed_of (typing_tree a.entry)) not) (unnamed k_boolean)) }
+    ensures { IfOk result (λ p. typing_tree p
+        ≡ typing (x_is_null (typed_of (typing_tree a.entry)) not) (unnamed k_boolean)) }
 {
     plain(alloc, TExpr::IsNull { a: a.expr, not }, Kind::Boolean)
 }
 
 // An operand as a condition.
 #[tactic(auto, unfolding(crate::specs::Reader::condition_of))]
-fn as_condition<'a>(alloc: Global, a: Typing<'a>) -> Result<Boxed<TExpr>, TypeFault>
+pub fn as_condition<'a>(alloc: Global, a: Typing<'a>) -> Result<Boxed<TExpr>, TypeFault>
     ensures { Tells typed (condition_of (typing_tree a.entry)) result }
 {
     match condition(kind(&a.column)) {
@@ -292,8 +303,8 @@ fn negative<'a>(alloc: Global, a: Typing<'a>) -> Result<Typing<'a>, TypeFault>
 
 // The column of a type, within the limits.
 #[tactic(auto, unfolding(crate::specs::Reader::type_of_cast))]
-fn cast_type(alloc: Global, to: &TypeTree) -> Result<Boxed<Field>, TypeFault>
-    ensures { Tells named_tree (type_of_cast to.now) result }
+pub fn cast_type(alloc: Global, to: &TypeTree) -> Result<Boxed<Field>, TypeFault>
+    ensures { Tells named_tree (type_of_cast (type_form to.now)) result }
 {
     match written_type(alloc, to)? {
         Some(column) => {
@@ -317,7 +328,8 @@ fn converted<'a>(alloc: Global, to: Boxed<Field>, a: Typing<'a>) -> Result<Typin
 }
 
 fn cast<'a>(alloc: Global, column: Field, a: Boxed<TExpr>) -> Result<Typing<'a>, AllocError>
-    ensures { IfOk result (λ p. typing_tree p ≡ typing (x_cast (tree_kind (named_tree column)) (typed a)) (named_tree column)) }
+    ensures { IfOk result (λ p. typing_tree p
+        ≡ typing (x_cast (tree_kind (named_tree column)) (typed a)) (named_tree column)) }
 {
     let to = copy_kind(alloc, &column.kind)?;
     made(alloc, TExpr::Cast { to, a }, column)
@@ -330,7 +342,8 @@ fn choose<'a>(
     yes: Typing<'a>,
     no: Typing<'a>,
 ) -> Result<Typing<'a>, TypeFault>
-    ensures { Tells typing_tree (choose_of (typed cond) (typing_tree yes.entry) (typing_tree no.entry)) result }
+    ensures { Tells typing_tree (choose_of (typed cond) (typing_tree yes.entry)
+        (typing_tree no.entry)) result }
 {
     match alike(alloc, kind(&yes.column), kind(&no.column))? {
         Some(join) => Ok(choice(alloc, cond, yes.expr, no.expr, join)?),
@@ -346,7 +359,8 @@ fn choice<'a>(
     join: Join,
 ) -> Result<Typing<'a>, AllocError>
     ensures { IfOk result (λ p. typing_tree p ≡ typing (x_choose (typed cond)
-        (cast_if join.left (kind_tree join.kind) (typed yes)) (cast_if join.right (kind_tree join.kind) (typed no))) (unnamed (kind_tree join.kind))) }
+        (cast_if join.left (kind_tree join.kind) (typed yes))
+        (cast_if join.right (kind_tree join.kind) (typed no))) (unnamed (kind_tree join.kind))) }
 {
     let yes = cast_if(alloc, join.left, &join.kind, yes)?;
     let no = cast_if(alloc, join.right, &join.kind, no)?;

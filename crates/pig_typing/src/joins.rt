@@ -26,7 +26,8 @@ fn together(kind: Kind, left: bool, right: bool) -> Join
 
 /// Kinds that are alike up to int with long, or one of them a bytearray.
 pub fn alike(alloc: Global, a: &Kind, b: &Kind) -> Result<Option<Join>, AllocError>
-    ensures { IfOk result (λ found. option_map join_tree found ≡ alike (kind_tree a.now) (kind_tree b.now)) }
+    ensures { IfOk result (λ found. option_map join_tree found
+        ≡ alike (kind_tree a.now) (kind_tree b.now)) }
 {
     match (a, b) {
         (Kind::Bytearray, Kind::Bytearray) => Ok(Some(together(Kind::Bytearray, false, false))),
@@ -46,7 +47,8 @@ pub fn alike(alloc: Global, a: &Kind, b: &Kind) -> Result<Option<Join>, AllocErr
 
 /// Kinds that a comparison takes.
 pub fn compared(alloc: Global, op: Rel, a: &Kind, b: &Kind) -> Result<Option<Join>, AllocError>
-    ensures { IfOk result (λ found. option_map join_tree found ≡ compared op (kind_tree a.now) (kind_tree b.now)) }
+    ensures { IfOk result (λ found. option_map join_tree found
+        ≡ compared op (kind_tree a.now) (kind_tree b.now)) }
 {
     match alike(alloc, a, b)? {
         Some(join) => Ok(taken(op, join)),
@@ -55,7 +57,9 @@ pub fn compared(alloc: Global, op: Rel, a: &Kind, b: &Kind) -> Result<Option<Joi
 }
 
 fn taken(op: Rel, join: Join) -> Option<Join>
-    ensures { option_map join_tree result ≡ option_and_then (λ j. if may_compare op j.kind then Some j else None) (Some (join_tree join)) }
+    ensures { option_map join_tree result
+        ≡ option_and_then (λ j. if may_compare op j.kind then Some j else None)
+        (Some (join_tree join)) }
 {
     if is_compared(op, &join.kind) {
         Some(join)

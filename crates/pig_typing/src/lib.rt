@@ -9,8 +9,10 @@
 
 mod calls;
 mod columns;
+mod conditions;
 mod exprs;
 mod faults;
+mod items;
 mod joins;
 mod laws;
 mod limits;
@@ -19,9 +21,14 @@ mod parts;
 mod scope;
 mod written;
 
+pub use conditions::{TypedExprs, type_condition, type_keys};
 pub use exprs::{TypedExpr, type_expr};
 pub use faults::{CheckKind, TypeFault};
-pub use laws::{expressions_have_one_typing, typings_have_their_kinds};
-pub use limits::within_limits;
+pub use items::{Generated, type_items};
+pub use laws::{
+    conditions_have_one_typing, expressions_have_one_typing, items_have_one_typing,
+    keys_have_one_typing, typings_have_their_kinds,
+};
+pub use limits::{row_within_limits, within_limits};
 pub use scope::{Local, Locals, Scope};
 pub use written::{written_schema, written_type};

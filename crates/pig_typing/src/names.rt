@@ -142,7 +142,8 @@ fn later_or<'a>(
     later: Option<(usize, &'a Field)>,
     here: Option<(usize, &'a Field)>,
 ) -> Option<(usize, &'a Field)>
-    ensures { option_map step_tree result ≡ later_or (option_map step_tree later.entry) (option_map step_tree here.entry) }
+    ensures { option_map step_tree result
+        ≡ later_or (option_map step_tree later.entry) (option_map step_tree here.entry) }
 {
     match later {
         Some(step) => Some(step),

@@ -67,7 +67,8 @@ fn projection<'a>(
     single: bool,
     column: Field,
 ) -> Result<Typing<'a>, AllocError>
-    ensures { IfOk result (λ p. typing_tree p ≡ typing (x_project (typed_of (typing_tree of.entry)) fields single) (named_tree column)) }
+    ensures { IfOk result (λ p. typing_tree p
+        ≡ typing (x_project (typed_of (typing_tree of.entry)) fields single) (named_tree column)) }
 {
     let Typing { expr, .. } = of;
     made(
@@ -87,7 +88,8 @@ fn look<'a>(
     key: &Text,
     column: Field,
 ) -> Result<Typing<'a>, AllocError>
-    ensures { IfOk result (λ p. typing_tree p ≡ typing (x_look (typed_of (typing_tree of.entry)) key.now) (named_tree column)) }
+    ensures { IfOk result (λ p. typing_tree p
+        ≡ typing (x_look (typed_of (typing_tree of.entry)) key.now) (named_tree column)) }
 {
     let Typing { expr, .. } = of;
     let key = key.copy(alloc)?;
@@ -130,7 +132,8 @@ fn taken(alloc: Global, columns: &Schema, field: &FieldRef) -> Result<Pick, Type
 // The column that a projection gives.
 #[tactic(auto, unfolding(crate::specs::Parts::given_of))]
 fn given(alloc: Global, single: bool, of: &Kind, picks: &Seq<Pick>) -> Result<Field, TypeFault>
-    ensures { Tells named_tree (given_of single (kind_tree of.now) (map pick_tree picks.now)) result }
+    ensures { Tells named_tree (given_of single (kind_tree of.now) (map pick_tree picks.now))
+        result }
 {
     match projected(alloc, single, of, picks.as_slice())? {
         Some(column) => {
@@ -147,7 +150,8 @@ fn projected(
     of: &Kind,
     picks: &[Pick],
 ) -> Result<Option<Field>, AllocError>
-    ensures { IfOk result (λ found. option_map named_tree found ≡ projected single (kind_tree of.now) (picked (map pick_tree picks.now))) }
+    ensures { IfOk result (λ found. option_map named_tree found
+        ≡ projected single (kind_tree of.now) (picked (map pick_tree picks.now))) }
 {
     match (single, of, picks) {
         (true, Kind::Tuple(_), [pick]) => Ok(Some(copy_field(alloc, &pick.column)?)),
@@ -160,7 +164,9 @@ fn projected(
 
 // A bag of one column, which has the column's name.
 fn bag_of_one(alloc: Global, column: &Field) -> Result<Field, AllocError>
-    ensures { IfOk result (λ f. named_tree f ≡ renamed (tree_name (named_tree column.now)) (of_fields k_bag (named_tree column.now ∷ []))) }
+    ensures { IfOk result (λ f. named_tree f
+        ≡ renamed (tree_name (named_tree column.now))
+        (of_fields k_bag (named_tree column.now ∷ []))) }
 {
     let mut columns = Seq::new(alloc);
     columns.push(copy_field(alloc, column)?)?;
@@ -201,7 +207,8 @@ fn places(alloc: Global, picks: &Seq<Pick>) -> Result<Positions, AllocError>
 
 // The column of a map's values.
 fn value(alloc: Global, of: &Column) -> Result<Option<Field>, AllocError>
-    ensures { IfOk result (λ found. option_map named_tree found ≡ values_column (column_seen of.now)) }
+    ensures { IfOk result (λ found. option_map named_tree found
+        ≡ values_column (column_seen of.now)) }
 {
     match kind(of) {
         Kind::Map(values) => {

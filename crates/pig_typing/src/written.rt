@@ -44,7 +44,8 @@ pub fn written_type(alloc: Global, form: &TypeTree) -> Result<Option<Field>, All
 /// A field without a type is a bytearray.
 #[cycle(written)]
 pub fn written_schema(alloc: Global, fields: &[FieldTree]) -> Result<Option<Schema>, AllocError>
-    ensures { IfOk result (λ found. option_map schema_tree found ≡ written_fields (field_forms (map field_form fields.now))) }
+    ensures { IfOk result (λ found. option_map schema_tree found
+        ≡ written_fields (field_forms (map field_form fields.now))) }
 {
     let mut made = Vec::with_capacity(alloc, fields.len())?;
     for field in fields {
@@ -58,7 +59,8 @@ pub fn written_schema(alloc: Global, fields: &[FieldTree]) -> Result<Option<Sche
 
 #[cycle(written)]
 fn written_field(alloc: Global, field: &FieldTree) -> Result<Option<Field>, AllocError>
-    ensures { IfOk result (λ found. option_map named_tree found ≡ written_field (field_form field.now)) }
+    ensures { IfOk result (λ found. option_map named_tree found
+        ≡ written_field (field_form field.now)) }
 {
     let name = field.name.copy(alloc)?;
     match &field.kind {
@@ -84,7 +86,7 @@ fn map_of(alloc: Global, values: Field) -> Result<Field, AllocError>
     Ok(holding(kind, inner))
 }
 
-fn with_name(name: Text, column: Field) -> Field
+pub fn with_name(name: Text, column: Field) -> Field
     ensures { named_tree result ≡ with_name name (named_tree column) }
 {
     let Field { kind, inner, .. } = column;
