@@ -1,21 +1,19 @@
 -- What holds of conditions, keys and items is found, so there is one typing of them, or a refusal, and never both.
-use Rattle.std.proofs.Common.{◌≡◌, ◌∙◌, List, [], ◌∷◌, refl, sym, Bool, true, false}
-use Rattle.std.specs.Prelude.{ℕ, Option, Some, None, if◌then◌else◌}
-use Rattle.std.specs.declared.result.Result.TheVariants.{Ok, Err}
-use Rattle.pig_value.specs.Kinds.{has_bag_or_map}
+use Rattle.std.proofs.Common.{◌≡◌, ◌∙◌, List, refl, sym}
+use Rattle.std.specs.Prelude.{Option}
+use Rattle.std.specs.declared.result.Result.TheVariants.{Ok}
 use Rattle.pig_schema.specs.FieldTrees.{FieldTree, tree_kind}
-use Rattle.pig_syntax.specs.ExprTrees.{ExprForm, ExprForms, expr_form}
+use Rattle.pig_syntax.specs.ExprTrees.{ExprForm, ExprForms}
 use Rattle.pig_syntax.specs.declared.trees.AsNames.{AsNames}
 use Rattle.pig_syntax.specs.declared.trees.Item.{Item}
 use Rattle.pig_typed.specs.Typed.{Typed}
 use Rattle.pig_typing.specs.declared.faults.CheckKind.{CheckKind}
 use Rattle.pig_typing.specs.Columns.{Place}
 use Rattle.pig_typing.specs.Conditions.{Conditions, ConditionsNot, a_condition, untyped, of_no_truth, condition_in, Keys, KeysNot, no_keys, more_keys, untyped_key, bad_key, later_key, as_key, key_on, keys_on}
-use Rattle.pig_typing.specs.Items.{Generated, NameForm, name_forms, Named, NamedNot, named_bare, named_cast, of_float, of_size, of_no_cast, Renamed, RenamedNot, renamed_bare, renamed_typed, of_float_field, of_field_size, of_other_field, AllRenamed, AllRenamedNot, none_renamed, one_renamed, too_few_names, too_many_names, here_renamed_not, later_renamed_not, Plain, PlainNot, plain_bare, plain_named, not_one_name, not_named, Flat, FlatNot, flat_bare, flat_named, of_a_map, not_renamed, Generates, GeneratesNot, generates_all, generates_value, generates_flat, untyped_item, no_plain, no_flat, AllGenerate, AllGenerateNot, none_generate, more_generate, here_not, later_not, cast_named, named_of, same_named, renamed_of, all_renamed, plain_of, names_for, flat_of, item_value, item_of, items_of}
+use Rattle.pig_typing.specs.Items.{Generated, NameForm, Named, NamedNot, named_bare, named_cast, of_float, of_size, of_no_cast, Renamed, RenamedNot, renamed_bare, renamed_typed, of_float_field, of_field_size, of_other_field, AllRenamed, AllRenamedNot, none_renamed, one_renamed, too_few_names, too_many_names, here_renamed_not, later_renamed_not, Plain, PlainNot, plain_bare, plain_named, not_one_name, not_named, Flat, FlatNot, flat_bare, flat_named, of_a_map, not_renamed, Generates, GeneratesNot, generates_all, generates_value, generates_flat, untyped_item, no_plain, no_flat, AllGenerate, AllGenerateNot, none_generate, more_generate, here_not, later_not, cast_named, named_of, same_named, renamed_of, all_renamed, plain_of, names_for, flat_of, item_of, items_of}
 use Rattle.pig_typing.specs.Limits.{limited}
 use Rattle.pig_typing.specs.Parts.{Typing}
-use Rattle.pig_typing.specs.Reader.{condition_of, type_of, type_of_cast}
-use Rattle.pig_typing.specs.Results.{Checked, ◌>>=◌}
+use Rattle.pig_typing.specs.Reader.{condition_of, type_of_cast}
 use Rattle.pig_typing.proofs.Found.{found, fails, kept_fails}
 use Rattle.pig_typing.proofs.References.{Fails, failed, fails_first, fails_next, not_both}
 

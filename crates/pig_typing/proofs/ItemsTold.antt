@@ -16,11 +16,11 @@ use Rattle.pig_typing.specs.declared.faults.CheckKind.TheVariants as kind
 use Rattle.pig_typing.specs.Columns.{Place}
 use Rattle.pig_typing.specs.Conditions.{Conditions, ConditionsNot, a_condition, untyped, of_no_truth, condition_in, Keys, KeysNot, no_keys, more_keys, untyped_key, bad_key, later_key, as_key, key_on, keys_on}
 use Rattle.pig_typing.specs.Items.{Generated, NameForm, one_column, name_forms, flattened_columns, Named, NamedNot, named_bare, named_cast, of_float, of_size, of_no_cast, Renamed, RenamedNot, renamed_bare, renamed_typed, of_float_field, of_field_size, of_other_field, AllRenamed, AllRenamedNot, none_renamed, one_renamed, too_few_names, too_many_names, here_renamed_not, later_renamed_not, only_name, Plain, PlainNot, plain_bare, plain_named, not_one_name, not_named, Flat, FlatNot, flat_bare, flat_named, of_a_map, not_renamed, Generates, GeneratesNot, generates_all, generates_value, generates_flat, untyped_item, no_plain, no_flat, AllGenerate, AllGenerateNot, none_generate, more_generate, here_not, later_not, cast_named, named_of, same_named, renamed_of, all_renamed, plain_of, names_for, flat_of, item_value, item_of, items_of}
-use Rattle.pig_typing.specs.Joins.{cast_if, condition}
+use Rattle.pig_typing.specs.Joins.{condition}
 use Rattle.pig_typing.specs.Limits.{limited}
 use Rattle.pig_typing.specs.Parts.{Typing, typed_of, typed_column, kind_in}
 use Rattle.pig_typing.specs.Reader.{condition_of, type_of, type_of_cast}
-use Rattle.pig_typing.specs.Results.{Checked, due}
+use Rattle.pig_typing.specs.Results.{Checked}
 use Rattle.pig_typing.specs.Typing.{Types}
 use Rattle.pig_typing.specs.Written.{with_name, written}
 use Rattle.pig_typing.proofs.Chains.{then_told, passes, then_is, due_is}

@@ -1,6 +1,5 @@
 -- Lists of expressions, as the code walks them.
 use Rattle.std.proofs.Common.{◌≡◌, ◌∙◌, ◌+◌, ◌<◌, ℕ, List, [], ◌∷◌, map, drop, get_or, length, refl, sym, ap, subst, suc}
-use Rattle.std.specs.declared.result.Result.{Result}
 use Rattle.std.specs.declared.result.Result.TheVariants.{Ok, Err}
 use Rattle.std.proofs.lemmas.List.{drop_more, length-map}
 use Rattle.pig_syntax.specs.ExprTrees.{ExprForm, more_links, expr_form, expr_forms, link_form, link_forms}

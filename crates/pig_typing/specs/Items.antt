@@ -1,12 +1,12 @@
 -- Items of GENERATE: the typed items that stand for them, and the columns that they give, with their names.
 -- (Pig Latin Basics: "FOREACH", "Flatten Operator", "Schemas". The names that FLATTEN and GENERATE give are choices of this profile.)
-use Rattle.std.specs.Prelude.{◌≡◌, ◌++◌, ◌==◌, ℕ, Bool, true, false, List, [], ◌∷◌, map, length, codes, Option, Some, None, if◌then◌else◌}
+use Rattle.std.specs.Prelude.{◌≡◌, ◌++◌, ℕ, Bool, true, false, List, [], ◌∷◌, map, length, codes, Option, Some, None, if◌then◌else◌}
 use Rattle.std.specs.declared.result.Result.TheVariants.{Ok, Err}
 use Rattle.pig_value.specs.Casts.{may_cast}
 use Rattle.pig_value.specs.Kinds.{kind_eq}
 use Rattle.pig_value.specs.Trees.{KindTree, k_tuple, k_bag, k_map}
 use Rattle.pig_schema.specs.FieldTrees.{FieldTree, inner_list, tree_name, tree_kind, tree_inner}
-use Rattle.pig_syntax.specs.ExprTrees.{ExprForm, TypeForm, expr_form, field_form}
+use Rattle.pig_syntax.specs.ExprTrees.{TypeForm, expr_form, field_form}
 use Rattle.pig_syntax.specs.declared.trees.Expr.{Expr}
 use Rattle.pig_syntax.specs.declared.trees.AsNames.{AsNames}
 use Rattle.pig_syntax.specs.declared.trees.AsNames.TheVariants as names

@@ -1,4 +1,4 @@
-use Rattle.std.proofs.Common.{◌≡◌, ◌++◌, ◌-◌, map, drop}
+use Rattle.std.proofs.Common.{◌≡◌, ◌++◌, ◌-◌, map}
 use Rattle.pig_typed.specs.Typed.{typed}
 use Rattle.pig_typing.specs.Calls.{fields_from}
 use Rattle.pig_typing.proofs.calls.fields.Given as goal

@@ -3,8 +3,8 @@ use Rattle.std.specs.declared.result.Result.TheVariants.{Ok, Err}
 use Rattle.pig_syntax.specs.ExprTrees.{link_form, link_forms}
 use Rattle.pig_typing.specs.Columns.{place_of}
 use Rattle.pig_typing.specs.Reader.{links_on, typed_link}
-use Rattle.pig_typing.specs.Results.{Checked, Tells, checked_then}
-use Rattle.pig_typing.specs.Typing.{Sofar, begun, chain_typing}
+use Rattle.pig_typing.specs.Results.{Tells, checked_then}
+use Rattle.pig_typing.specs.Typing.{begun, chain_typing}
 use Rattle.pig_typing.specs.Views.{sofar_tree, typing_tree}
 use Rattle.pig_typing.proofs.LinkSteps.{link_step, passes_fault}
 use Rattle.pig_typing.proofs.exprs.+typing.Goals as goal
