@@ -9,7 +9,7 @@ use Rattle.pig_syntax.specs.declared.trees.Item.{Item}
 use Rattle.pig_typed.specs.Typed.{Typed}
 use Rattle.pig_typing.specs.declared.faults.CheckKind.{CheckKind}
 use Rattle.pig_typing.specs.Columns.{Place}
-use Rattle.pig_typing.specs.Conditions.{Conditions, ConditionsNot, a_condition, untyped, of_no_truth, condition_in, Keys, KeysNot, no_keys, more_keys, untyped_key, bad_key, later_key, as_key, key_on, keys_on}
+use Rattle.pig_typing.specs.Conditions.{Conditions, ConditionsNot, a_condition, untyped, of_no_truth, condition_on, Keys, KeysNot, no_keys, more_keys, untyped_key, bad_key, later_key, as_key, key_on, keys_on}
 use Rattle.pig_typing.specs.Items.{Generated, NameForm, Named, NamedNot, named_bare, named_cast, of_float, of_size, of_no_cast, Renamed, RenamedNot, renamed_bare, renamed_typed, of_float_field, of_field_size, of_other_field, AllRenamed, AllRenamedNot, none_renamed, one_renamed, too_few_names, too_many_names, here_renamed_not, later_renamed_not, Plain, PlainNot, plain_bare, plain_named, not_one_name, not_named, Flat, FlatNot, flat_bare, flat_named, of_a_map, not_renamed, Generates, GeneratesNot, generates_all, generates_value, generates_flat, untyped_item, no_plain, no_flat, AllGenerate, AllGenerateNot, none_generate, more_generate, here_not, later_not, cast_named, named_of, same_named, renamed_of, all_renamed, plain_of, names_for, flat_of, item_of, items_of}
 use Rattle.pig_typing.specs.Limits.{limited}
 use Rattle.pig_typing.specs.Parts.{Typing}
@@ -19,12 +19,12 @@ use Rattle.pig_typing.proofs.References.{Fails, failed, fails_first, fails_next,
 
 -- ---- conditions and keys
 
-pub condition_found : {s : Place} {a : ExprForm} {t : Typed} → Conditions s a t → condition_in s a ≡ Ok t
-unfolding condition_in condition_of
+pub condition_found : {s : Place} {a : ExprForm} {t : Typed} → Conditions s a t → condition_on s a ≡ Ok t
+unfolding condition_on condition_of
 condition_found (a_condition h e) = rw (found h, e) refl
 
-pub condition_fails : {s : Place} {a : ExprForm} {f : CheckKind} → ConditionsNot s a f → Fails (condition_in s a)
-unfolding condition_in condition_of
+pub condition_fails : {s : Place} {a : ExprForm} {f : CheckKind} → ConditionsNot s a f → Fails (condition_on s a)
+unfolding condition_on condition_of
 condition_fails (untyped h) = fails_first _ (fails h)
 condition_fails (of_no_truth h e) = rw (found h, e) failed
 

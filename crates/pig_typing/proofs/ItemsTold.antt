@@ -14,7 +14,7 @@ use Rattle.pig_typed.specs.Typed.{Typed, x_cast}
 use Rattle.pig_typing.specs.declared.faults.CheckKind.{CheckKind}
 use Rattle.pig_typing.specs.declared.faults.CheckKind.TheVariants as kind
 use Rattle.pig_typing.specs.Columns.{Place}
-use Rattle.pig_typing.specs.Conditions.{Conditions, ConditionsNot, a_condition, untyped, of_no_truth, condition_in, Keys, KeysNot, no_keys, more_keys, untyped_key, bad_key, later_key, as_key, key_on, keys_on}
+use Rattle.pig_typing.specs.Conditions.{Conditions, ConditionsNot, a_condition, untyped, of_no_truth, condition_on, Keys, KeysNot, no_keys, more_keys, untyped_key, bad_key, later_key, as_key, key_on, keys_on}
 use Rattle.pig_typing.specs.Items.{Generated, NameForm, one_column, name_forms, flattened_columns, Named, NamedNot, named_bare, named_cast, of_float, of_size, of_no_cast, Renamed, RenamedNot, renamed_bare, renamed_typed, of_float_field, of_field_size, of_other_field, AllRenamed, AllRenamedNot, none_renamed, one_renamed, too_few_names, too_many_names, here_renamed_not, later_renamed_not, only_name, Plain, PlainNot, plain_bare, plain_named, not_one_name, not_named, Flat, FlatNot, flat_bare, flat_named, of_a_map, not_renamed, Generates, GeneratesNot, generates_all, generates_value, generates_flat, untyped_item, no_plain, no_flat, AllGenerate, AllGenerateNot, none_generate, more_generate, here_not, later_not, cast_named, named_of, same_named, renamed_of, all_renamed, plain_of, names_for, flat_of, item_value, item_of, items_of}
 use Rattle.pig_typing.specs.Joins.{condition}
 use Rattle.pig_typing.specs.Limits.{limited}
@@ -32,8 +32,8 @@ abbrev pub IsConditionTold : Place → ExprForm → Checked Typed → Type 0
 IsConditionTold s a (Ok t) = Conditions s a t
 IsConditionTold s a (Err f) = ConditionsNot s a f
 
-pub condition_told : (s : Place) (a : ExprForm) → IsConditionTold s a (condition_in s a)
-unfolding condition_in condition_of
+pub condition_told : (s : Place) (a : ExprForm) → IsConditionTold s a (condition_on s a)
+unfolding condition_on condition_of
 condition_told s a =
     then_told (IsTold s a) (IsConditionTold s a) _ (type_of s a) (told s a)
     (λ p h. due_is (IsConditionTold s a) _ kind.TypeMismatch (condition (kind_in p)) (λ is_cast e. a_condition h e) (λ e. of_no_truth h e))

@@ -27,8 +27,8 @@ pub data ConditionsNot (s : Place) : ExprForm → CheckKind → Type 0 where
   untyped : {a : ExprForm} {f : CheckKind} → Faults s a f → ConditionsNot s a f
   of_no_truth : {a : ExprForm} {p : Typing} → Types s a p → condition (kind_in p) ≡ None → ConditionsNot s a kind.TypeMismatch
 
-unfoldable pub condition_in : Place → ExprForm → Checked Typed
-condition_in s a = do
+unfoldable pub condition_on : Place → ExprForm → Checked Typed
+condition_on s a = do
   p ← type_of s a
   condition_of p
 

@@ -42,8 +42,8 @@ one_column t c = record { items = plain_item t ∷ []; columns = c ∷ [] }
 abbrev pub flat_columns : Typed → List FieldTree → Generated
 flat_columns t columns = record { items = flat_item t (length columns) ∷ []; columns = columns }
 
-abbrev pub together : Generated → Generated → Generated
-together g h = record { items = g.items ++ h.items; columns = g.columns ++ h.columns }
+abbrev pub both_items : Generated → Generated → Generated
+both_items g h = record { items = g.items ++ h.items; columns = g.columns ++ h.columns }
 
 -- `*`: all fields of the row
 abbrev pub whole_row : List FieldTree → Generated
@@ -162,7 +162,7 @@ nothing_generated = record { items = []; columns = [] }
 
 pub data AllGenerate (s : Place) : List Item → Generated → Type 0 where
   none_generate : AllGenerate s [] nothing_generated
-  more_generate : {i : Item} {is : List Item} {g h : Generated} → Generates s i g → AllGenerate s is h → AllGenerate s (i ∷ is) (together g h)
+  more_generate : {i : Item} {is : List Item} {g h : Generated} → Generates s i g → AllGenerate s is h → AllGenerate s (i ∷ is) (both_items g h)
 
 pub data AllGenerateNot (s : Place) : List Item → CheckKind → Type 0 where
   here_not : {i : Item} {is : List Item} {r : CheckKind} → GeneratesNot s i r → AllGenerateNot s (i ∷ is) r
@@ -228,4 +228,4 @@ items_of s [] = Ok nothing_generated
 items_of s (i ∷ is) = do
   g ← item_of s i
   h ← items_of s is
-  Ok (together g h)
+  Ok (both_items g h)

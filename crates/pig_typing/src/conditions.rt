@@ -2,7 +2,7 @@ ghost use Rattle.std.specs.Prelude.{IfOk, map};
 ghost use Rattle.pig_syntax.specs.ExprTrees.{expr_form, expr_forms};
 ghost use Rattle.pig_typed.specs.Typed.{typed};
 ghost use Rattle.pig_typing.specs.Columns.{place_of};
-ghost use Rattle.pig_typing.specs.Conditions.{Conditions, ConditionsNot, Keys, KeysNot, as_key, condition_in, key_on, keys_on};
+ghost use Rattle.pig_typing.specs.Conditions.{Conditions, ConditionsNot, Keys, KeysNot, as_key, condition_on, key_on, keys_on};
 ghost use Rattle.pig_typing.specs.Results.{IfRefused, Tells};
 ghost use Rattle.pig_typing.specs.Views.{typed_tree};
 
@@ -26,14 +26,14 @@ pub fn type_condition(alloc: Global, e: &Expr, scope: &Scope) -> Result<TExpr, T
     ensures typed { IfOk result (λ t. Conditions (place_of scope.now) (expr_form e.now) (typed t)) }
     ensures refused { IfRefused result (λ kind. ConditionsNot (place_of scope.now)
         (expr_form e.now) kind) }
-    ensures told { Tells typed (condition_in (place_of scope.now) (expr_form e.now)) result }
+    ensures told { Tells typed (condition_on (place_of scope.now) (expr_form e.now)) result }
 {
     condition_told(alloc, e, scope)
 }
 
-#[tactic(auto, unfolding(crate::specs::Conditions::condition_in))]
+#[tactic(auto, unfolding(crate::specs::Conditions::condition_on))]
 fn condition_told(alloc: Global, e: &Expr, scope: &Scope) -> Result<TExpr, TypeFault>
-    ensures { Tells typed (condition_in (place_of scope.now) (expr_form e.now)) result }
+    ensures { Tells typed (condition_on (place_of scope.now) (expr_form e.now)) result }
 {
     let typed = type_in(alloc, e, scope)?;
     let cond = as_condition(alloc, typed)?;

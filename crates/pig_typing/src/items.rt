@@ -6,7 +6,7 @@ ghost use Rattle.pig_syntax.specs.ExprTrees.{field_form};
 ghost use Rattle.pig_typed.specs.Typed.{item_typed, typed, x_cast, x_field};
 ghost use Rattle.pig_typing.specs.Columns.{place_of};
 ghost use Rattle.pig_typing.specs.Calls.{fields_from};
-ghost use Rattle.pig_typing.specs.Items.{AllGenerate, AllGenerateNot, all_renamed, cast_named, flat_columns, flat_of, flattened_columns, item_of, item_value, items_of, name_forms, name_under, named_of, names_for, nothing_generated, one_column, only_name, plain_item, plain_of, renamed_of, same_named, together, under_name, whole_row};
+ghost use Rattle.pig_typing.specs.Items.{AllGenerate, AllGenerateNot, all_renamed, cast_named, flat_columns, flat_of, flattened_columns, item_of, item_value, items_of, name_forms, name_under, named_of, names_for, nothing_generated, one_column, only_name, plain_item, plain_of, renamed_of, same_named, both_items, under_name, whole_row};
 ghost use Rattle.pig_typing.specs.Results.{IfRefused, Tells};
 ghost use Rattle.pig_typing.specs.Views.{generated_tree, typed_tree};
 
@@ -67,7 +67,7 @@ fn nothing(alloc: Global) -> Generated
 
 fn joined(first: Generated, second: Generated) -> Result<Generated, AllocError>
     ensures { IfOk result (λ g. generated_tree g
-        ≡ together (generated_tree first) (generated_tree second)) }
+        ≡ both_items (generated_tree first) (generated_tree second)) }
 {
     let Generated { items, columns } = first;
     let mut items = items;

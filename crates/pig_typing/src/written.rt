@@ -3,7 +3,7 @@ ghost use Rattle.std.specs.Option.{option_map};
 ghost use Rattle.pig_value.specs.Trees.{kind_tree, k_bag, k_tuple};
 ghost use Rattle.pig_schema.specs.FieldTrees.{named_tree, schema_tree};
 ghost use Rattle.pig_syntax.specs.ExprTrees.{field_form, field_forms, type_form};
-ghost use Rattle.pig_typing.specs.Written.{of_fields, of_values, scalar, with_name, written, written_field, written_fields};
+ghost use Rattle.pig_typing.specs.Written.{of_fields, of_values, scalar_column, with_name, written, written_field, written_fields};
 
 use crate::columns::{bag, holding, tuple};
 use pig_schema::{Field, Schema};
@@ -73,7 +73,7 @@ fn written_field(alloc: Global, field: &FieldTree) -> Result<Option<Field>, Allo
 }
 
 fn scalar(alloc: Global, kind: Kind) -> Field
-    ensures { named_tree result ≡ scalar (kind_tree kind) }
+    ensures { named_tree result ≡ scalar_column (kind_tree kind) }
 {
     holding(kind, Seq::new(alloc))
 }
