@@ -4,14 +4,14 @@ use Rattle.std.specs.Prelude.{None, if◌then◌else◌}
 use Rattle.std.specs.declared.result.Result.TheVariants.{Ok, Err}
 use Rattle.pig_value.specs.Functions.{function_named}
 use Rattle.pig_schema.specs.FieldTrees.{tree_kind}
-use Rattle.pig_syntax.specs.ExprTrees.{ExprForm, LinkForms, ExprForms}
+use Rattle.pig_syntax.specs.ExprTrees.{ExprForm, LinkForms, ExprForms, type_form}
 use Rattle.pig_typing.specs.declared.faults.CheckKind.{CheckKind}
 use Rattle.pig_typing.specs.Calls.{average, allows}
 use Rattle.pig_typing.specs.Columns.{Place}
 use Rattle.pig_typing.specs.Faults.{LinksWrong, Wrong, InLinks, InArgs, Operand, Faults, here, later, own, inside, wrong_float, wrong_type, wrong_average, wrong_name, wrong_position, wrong_chain, wrong_compare, wrong_not, wrong_minus, wrong_condition, wrong_choice, wrong_cast, wrong_size, wrong_step, wrong_function, wrong_count, wrong_args, wrong_given, in_link, in_later, in_arg, in_others, of_first, of_link, of_left, of_right, of_is_null, of_not, of_minus, of_cast, of_post, of_arg, of_condition, of_yes, of_no}
 use Rattle.pig_typing.specs.Limits.{limited}
 use Rattle.pig_typing.specs.Parts.{Typing}
-use Rattle.pig_typing.specs.Reader.{field_of, name_of, compare_of, condition_of, minus_of, choose_of, type_of_cast, typed_cast, typed_link, with_count, function_of, call_of, type_of, links_on, args_on}
+use Rattle.pig_typing.specs.Reader.{field_of, reference_of, compare_of, condition_of, minus_of, choose_of, type_of_cast, typed_cast, typed_link, with_count, function_of, call_of, kind_due, type_of, links_on, args_on}
 use Rattle.pig_typing.specs.Results.{Checked, ◌>>=◌}
 use Rattle.pig_typing.specs.Typing.{Types, Links, Args, Sofar, begun, count, type_int, type_long, type_text, type_bool, type_null, type_local, type_named, type_numbered, type_chain, type_compare, type_is_null, type_not, type_minus, type_cast, type_post, type_call, type_choose, links_end, links_go, args_end, args_go}
 use Rattle.pig_typing.proofs.References.{Fails, failed, fails_first, fails_next, not_both, refer_is, refer_fails, walk_is, walk_fails}
@@ -19,7 +19,7 @@ use Rattle.pig_typing.proofs.References.{Fails, failed, fails_first, fails_next,
 -- ---- a typing is told
 
 mutual
-  unfolding type_of links_on args_on typed_link name_of field_of compare_of condition_of minus_of choose_of type_of_cast typed_cast with_count function_of call_of
+  unfolding type_of links_on args_on typed_link reference_of field_of compare_of condition_of minus_of choose_of type_of_cast typed_cast with_count function_of call_of kind_due
 
   pub found : {s : Place} {a : ExprForm} {p : Typing} → Types s a p → type_of s a ≡ Ok p
   found type_int = refl
@@ -60,7 +60,7 @@ unfolding function_named
 average_is_none = refl
 
 -- what follows a result that is handed on, and one that is handed on by a test
-kept_fails : {A B C : Type 0} (d : A) (next : A → Checked B) (r : Checked C) → Fails (next d) → Fails ((r >>= λ k. Ok d) >>= next)
+pub kept_fails : {A B C : Type 0} (d : A) (next : A → Checked B) (r : Checked C) → Fails (next d) → Fails ((r >>= λ k. Ok d) >>= next)
 kept_fails d next (Ok k) h = h
 kept_fails d next (Err f) h = failed
 
@@ -69,7 +69,7 @@ tested_fails f true g next h = h
 tested_fails f false g next h = failed
 
 wrong_fails : {s : Place} {a : ExprForm} {f : CheckKind} → Wrong s a f → Fails (type_of s a)
-unfolding type_of name_of field_of compare_of condition_of minus_of choose_of type_of_cast typed_cast with_count function_of call_of
+unfolding type_of reference_of field_of compare_of condition_of minus_of choose_of type_of_cast typed_cast with_count function_of call_of kind_due
 wrong_fails wrong_float = failed
 wrong_fails (wrong_type e) = rw (e) failed
 wrong_fails (wrong_average e) = rw (e, average_is_none) failed
@@ -110,7 +110,7 @@ operand_fails s (of_right {a = a}) h = fails_next _ (type_of s a) (λ p. fails_f
 operand_fails s of_is_null h = fails_first _ h
 operand_fails s of_not h = fails_first _ h
 operand_fails s of_minus h = fails_first _ h
-operand_fails s (of_cast {to = to}) h = fails_next _ (type_of_cast to) (λ d. fails_first _ h)
+operand_fails s (of_cast {to = to}) h = fails_next _ (type_of_cast (type_form to)) (λ d. fails_first _ h)
 operand_fails s of_post h = fails_first _ h
 operand_fails s (of_arg {name = name} {args = args} i) h = fails_next _ (function_of name) (λ f. fails_next _ (with_count (count args) f) (λ g. fails_first _ (args_operand s i h)))
 operand_fails s of_condition h = fails_first _ h

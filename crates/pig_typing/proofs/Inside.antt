@@ -8,8 +8,8 @@ use Rattle.pig_syntax.specs.ExprTrees.{TypeForm, FieldForms, t_int, t_long, t_ch
 use Rattle.pig_syntax.specs.declared.trees.FieldRef.{FieldRef}
 use Rattle.pig_typed.specs.ExprKinds.{picked_kinds}
 use Rattle.pig_typing.specs.Columns.{AreColumns, RefersTo, by_name, by_position, unnamed, inner_unnamed, each_unnamed}
-use Rattle.pig_typing.specs.Parts.{Picks, Selects, none_selected, one_selected, places, picked}
-use Rattle.pig_typing.specs.Written.{of_fields, of_values, scalar, with_name, written, written_fields}
+use Rattle.pig_typing.specs.Parts.{Picks, Selects, none_selected, one_selected, pick_places, picked}
+use Rattle.pig_typing.specs.Written.{of_fields, of_values, scalar_column, with_name, written, written_fields}
 
 pub all_inner : (cs : List FieldTree) → AreColumns cs → AreInner (kinds_of (map tree_kind cs)) (inner_of cs)
 all_inner [] h = refl
@@ -78,7 +78,7 @@ mutual
       both None h p g = tt
       both (Some c) h None g = tt
       both (Some c) h (Some inner) g = (h, g)
-  fields_each (bare_field name fields) = each_map AreColumns AreColumns (λ inner. with_name name (scalar k_bytes) ∷ inner) (λ inner h. (refl, h)) (written_fields fields) (fields_each fields)
+  fields_each (bare_field name fields) = each_map AreColumns AreColumns (λ inner. with_name name (scalar_column k_bytes) ∷ inner) (λ inner h. (refl, h)) (written_fields fields) (fields_each fields)
 
 pub written_field_is : (type : TypeForm) (c : FieldTree) → written type ≡ Some c → IsColumn c
 written_field_is type c e = subst (Each IsColumn) e (written_each type)
@@ -109,6 +109,6 @@ pub picked_fields : {columns : List FieldTree} {rs : List FieldRef} {ps : Picks}
 picked_fields h none_selected = tt
 picked_fields h (one_selected m g) = (meant_field h m, picked_fields h g)
 
-pub picked_kind : {columns : List FieldTree} {rs : List FieldRef} {ps : Picks} → Selects columns rs ps → picked_kinds (places ps) (map tree_kind columns) ≡ Some (map tree_kind (picked ps))
+pub picked_kind : {columns : List FieldTree} {rs : List FieldRef} {ps : Picks} → Selects columns rs ps → picked_kinds (pick_places ps) (map tree_kind columns) ≡ Some (map tree_kind (picked ps))
 picked_kind none_selected = refl
 picked_kind (one_selected m g) = rw (meant_kind m, picked_kind g) refl

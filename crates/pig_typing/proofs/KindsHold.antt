@@ -19,7 +19,7 @@ use Rattle.pig_typing.specs.declared.calls.Casting.TheVariants as c
 use Rattle.pig_typing.specs.Calls.{casting, cast_by, cast_maybe, kind_after, given}
 use Rattle.pig_typing.specs.Columns.{AreColumns, IsPlace, Place, locals_of, place_row, latest_from, later_or, named_here}
 use Rattle.pig_typing.specs.Joins.{Join, cast_if, chained}
-use Rattle.pig_typing.specs.Parts.{Typing, Picks, typed_of, typed_column, kind_in, places, picked, projected, renamed, inner_columns, values_column, Steps, projects, looks, Walks, ends, goes}
+use Rattle.pig_typing.specs.Parts.{Typing, Picks, typed_of, typed_column, kind_in, pick_places, picked, projected, renamed, inner_columns, values_column, Steps, projects, looks, Walks, ends, goes}
 use Rattle.pig_typing.specs.Typing.{Types, Links, Args, Sofar, begun, after, chain_typing, call_kind, kinds_as_given, type_int, type_long, type_text, type_bool, type_null, type_local, type_named, type_numbered, type_chain, type_compare, type_is_null, type_not, type_minus, type_cast, type_post, type_call, type_choose, links_end, links_go, args_end, args_go}
 use Rattle.pig_typing.specs.Written.{of_fields}
 use Rattle.pig_typing.proofs.Inside.{all_inner, inner_all, inner_kinds, unnamed_field, written_field_is, meant_field, meant_kind, picked_fields, picked_kind}
@@ -174,7 +174,7 @@ columns_of (a_field name (k_tuple ks) inner) columns h e = let same : inner_list
 columns_of (a_field name (k_bag ks) inner) columns h e = let same : inner_list inner ≡ columns = cc in subst AreColumns same (inner_all ks inner h)
 columns_of (a_field name k inner) columns h e = absurd (cc)
 
-same_length : (picks : Picks) → length (places picks) ≡ length (picked picks)
+same_length : (picks : Picks) → length (pick_places picks) ≡ length (picked picks)
 same_length [] = refl
 same_length (p ∷ picks) = ap suc (same_length picks)
 
@@ -185,7 +185,7 @@ value_kind (a_field name k inner) d h e = absurd (cc)
 step_holds : (s : Place) (p q : Typing) (step : PostStep) → Holds s p → Steps p step q → Holds s q
 step_holds s p q step h (projects {columns = columns} {ps = picks} {single = single} {d = d} e g made within) =
     record {
-      kind = rw (h.kind) (part_kind_holds (places picks) single (typed_column p) d columns (picked picks) h.field e (same_length picks) (picked_kind g) made);
+      kind = rw (h.kind) (part_kind_holds (pick_places picks) single (typed_column p) d columns (picked picks) h.field e (same_length picks) (picked_kind g) made);
       field = part_field single (kind_in p) d (picked picks) (picked_fields (columns_of (typed_column p) columns h.field e) g) made;
     }
 step_holds s p q step h (looks {d = d} e) = let v = value_kind (typed_column p) d h.field e in record { kind = rw (h.kind) v.0; field = v.1 }

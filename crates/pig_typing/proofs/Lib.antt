@@ -6,3 +6,7 @@ pub mod Found
 mod Joined
 mod Inside
 pub mod KindsHold
+mod CodeLaws
+mod LinkSteps
+mod ItemsTold
+mod ItemsFound

@@ -14,7 +14,7 @@ use Rattle.pig_typing.specs.declared.faults.CheckKind.TheVariants as kind
 use Rattle.pig_typing.specs.Columns.{Place, column_at, refer, unnamed}
 use Rattle.pig_typing.specs.Limits.{limited}
 use Rattle.pig_typing.specs.Parts.{chosen_of, given_of, select, step_of, steps_of, typing}
-use Rattle.pig_typing.specs.Reader.{args_on, call_of, choose_of, compare_of, condition_of, with_count, field_of, function_of, typed_link, links_on, name_of, type_of}
+use Rattle.pig_typing.specs.Reader.{args_on, call_of, kind_due, choose_of, compare_of, condition_of, with_count, field_of, function_of, typed_link, links_on, reference_of, type_of}
 use Rattle.pig_value.specs.Functions.{function_named}
 
 -- the columns `a` and `m`, and a grouped bag of ranks, before which a nested alias of the name `a` may stand
@@ -34,31 +34,31 @@ named name = e_field (ref.Name name)
 -- `a + 1`
 adds : type_of plain (e_chain (named (codes "a")) (more_links op.Add (e_int (pos 1)) no_links))
     ≡ Ok (typing (x_chain (x_field 0) (links_of ((op.Add, x_int (pos 1)) ∷ []))) (unnamed k_int))
-unfolding type_of links_on typed_link name_of field_of refer column_at
+unfolding type_of links_on typed_link reference_of field_of refer column_at
 adds = refl
 
 -- `(m#'b' == 'x' ? 'yes' : 'no')`
 looks_up : type_of plain (e_choose (e_compare rel.Eq (e_post (named (codes "m")) (step.Look (codes "b") ∷ [])) (e_text (codes "x"))) (e_text (codes "yes")) (e_text (codes "no")))
     ≡ Ok (typing (x_choose (x_compare rel.Eq (x_cast k_chars (x_look (x_field 1) (codes "b"))) (x_chars (codes "x"))) (x_chars (codes "yes")) (x_chars (codes "no"))) (unnamed k_chars))
-unfolding type_of compare_of condition_of choose_of name_of field_of refer column_at steps_of step_of
+unfolding type_of compare_of condition_of choose_of reference_of field_of refer column_at steps_of step_of
 looks_up = refl
 
 -- `SUM(good.rank_of)`
 sums : type_of plain (e_call (codes "SUM") (more_exprs (e_post (named (codes "good")) (step.Project (ref.Name (codes "rank_of") ∷ []) true ∷ [])) no_exprs))
     ≡ Ok (typing (x_call function.Sum (args_of (x_project (x_field 2) (0 ∷ []) true ∷ []))) (unnamed k_long))
-unfolding type_of args_on function_of function_named with_count call_of limited name_of field_of refer column_at steps_of step_of chosen_of select given_of
+unfolding type_of args_on function_of function_named with_count call_of kind_due limited reference_of field_of refer column_at steps_of step_of chosen_of select given_of
 sums = refl
 
 -- a nested alias hides the field, and has no name
 hides : type_of nested (named (codes "a")) ≡ Ok (typing (x_local 0) (a_field None (k_bag (kinds_of (k_int ∷ []))) no_inner))
-unfolding type_of name_of
+unfolding type_of reference_of
 hides = refl
 
 -- `a == 'x'`, and a name that fits nothing
 mismatched : type_of plain (e_compare rel.Eq (named (codes "a")) (e_text (codes "x"))) ≡ Err kind.TypeMismatch
-unfolding type_of compare_of name_of field_of refer column_at
+unfolding type_of compare_of reference_of field_of refer column_at
 mismatched = refl
 
 unknown : type_of plain (named (codes "b")) ≡ Err kind.UnknownField
-unfolding type_of name_of field_of refer column_at
+unfolding type_of reference_of field_of refer column_at
 unknown = refl

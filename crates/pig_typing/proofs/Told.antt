@@ -26,7 +26,7 @@ use Rattle.pig_typing.specs.Faults.{LinksWrong, Wrong, InLinks, InArgs, Faults, 
 use Rattle.pig_typing.specs.Joins.{Join, alike, chained, compared, condition}
 use Rattle.pig_typing.specs.Limits.{limited}
 use Rattle.pig_typing.specs.Parts.{Typing, typing, typed_of, kind_in, steps_of}
-use Rattle.pig_typing.specs.Reader.{field_of, local_or, name_of, compare_of, condition_of, minus_of, choose_of, type_of_cast, typed_cast, typed_link, with_count, function_of, call_of, type_of, links_on, args_on}
+use Rattle.pig_typing.specs.Reader.{field_of, local_or, reference_of, compare_of, condition_of, minus_of, choose_of, type_of_cast, typed_cast, typed_link, with_count, function_of, call_of, kind_due, type_of, links_on, args_on}
 use Rattle.pig_typing.specs.Results.{Checked, due}
 use Rattle.pig_typing.specs.Typing.{Types, Links, Args, Sofar, begun, after, call_kind, count, type_int, type_long, type_text, type_bool, type_null, type_local, type_named, type_numbered, type_chain, type_compare, type_is_null, type_not, type_minus, type_cast, type_post, type_call, type_choose, links_end, links_go, args_end, args_go}
 use Rattle.pig_typing.specs.Written.{written}
@@ -61,8 +61,8 @@ chain_fault s a ls p f h (in_links b g) = inside (of_link b) g
 
 -- ---- names
 
-name_told : (s : Place) (r : FieldRef) → IsTold s (e_field r) (name_of s r)
-unfolding name_of field_of
+name_told : (s : Place) (r : FieldRef) → IsTold s (e_field r) (reference_of s r)
+unfolding reference_of field_of
 name_told s (ref.Name name) = by (latest name s.locals) refl
   where
     by : (o : Option (ℕ × FieldTree)) → latest name s.locals ≡ o → IsTold s (e_field (ref.Name name)) (local_or o (field_of s.columns (ref.Name name)))
@@ -77,7 +77,7 @@ abbrev CastTold : Place → TypeTree → ExprForm → Checked FieldTree → Type
 CastTold s to a (Ok d) = (written (type_form to) ≡ Some d) × ((k : KindTree) × (limited (tree_kind d) ≡ Ok k))
 CastTold s to a (Err f) = Wrong s (e_cast to a) f
 
-cast_told : (s : Place) (to : TypeTree) (a : ExprForm) → CastTold s to a (type_of_cast to)
+cast_told : (s : Place) (to : TypeTree) (a : ExprForm) → CastTold s to a (type_of_cast (type_form to))
 unfolding type_of_cast
 cast_told s to a =
     due_is (CastTold s to a) _ kind.FloatType (written (type_form to))
@@ -110,13 +110,26 @@ count_told s name args g e = by (allows g (count args)) refl
     by true t = (refl, t)
     by false t = wrong_count e t
 
+-- the kind that is due, within the limits
+abbrev IsDue : Place → List ℕ → ExprForms → Function → List Typing → Checked KindTree → Type 0
+IsDue s name args g ps (Ok k) = (call_kind g ps ≡ Some k) × ((l : KindTree) × (limited k ≡ Ok l))
+IsDue s name args g ps (Err f) = Faults s (e_call name args) f
+
+due_told : (s : Place) (name : List ℕ) (args : ExprForms) (g : Function) (ps : List Typing)
+    → function_named name ≡ Some g → allows g (count args) ≡ true → Args s args ps → IsDue s name args g ps (kind_due g ps)
+unfolding kind_due
+due_told s name args g ps e t h =
+    due_is (IsDue s name args g ps) _ kind.TypeMismatch (call_kind g ps)
+    (λ k made. then_is (IsDue s name args g ps) _ (limited k) (λ l within. (made, (l, within))) (λ f past. own (wrong_given e h made past)))
+    (λ made. own (wrong_args e t h made))
+
 call_told : (s : Place) (name : List ℕ) (args : ExprForms) (g : Function) (ps : List Typing)
     → function_named name ≡ Some g → allows g (count args) ≡ true → Args s args ps → IsTold s (e_call name args) (call_of g ps)
 unfolding call_of
 call_told s name args g ps e t h =
-    due_is (IsTold s (e_call name args)) _ kind.TypeMismatch (call_kind g ps)
-    (λ k made. then_is (IsTold s (e_call name args)) _ (limited k) (λ l within. type_call e t h made within) (λ f past. own (wrong_given e h made past)))
-    (λ made. own (wrong_args e t h made))
+    then_told (IsDue s name args g ps) (IsTold s (e_call name args)) _ (kind_due g ps) (due_told s name args g ps e t h)
+    (λ k w. type_call e t h w.0 w.1.1)
+    (λ f w. w)
 
 converted_told : (s : Place) (to : TypeTree) (a : ExprForm) (d : FieldTree) (p : Typing) → CastTold s to a (Ok d) → Types s a p → IsTold s (e_cast to a) (typed_cast d p)
 unfolding typed_cast
@@ -160,7 +173,7 @@ mutual
       (λ p h. due_is (IsTold s (e_minus a)) _ kind.TypeMismatch (minus_kind (kind_in p)) (λ k e. type_minus h e) (λ e. own (wrong_minus h e)))
       (λ f h. inside of_minus h)
   told s (e_cast to a) =
-      then_told (CastTold s to a) (IsTold s (e_cast to a)) _ (type_of_cast to) (cast_told s to a)
+      then_told (CastTold s to a) (IsTold s (e_cast to a)) _ (type_of_cast (type_form to)) (cast_told s to a)
       (λ d w. then_told (IsTold s a) (IsTold s (e_cast to a)) _ (type_of s a) (told s a) (λ p h. converted_told s to a d p w h) (λ f h. inside of_cast h))
       (λ f h. own h)
   told s (e_post a steps) =

@@ -8,3 +8,6 @@ pub mod Parts
 pub mod Typing
 pub mod Faults
 pub mod Reader
+pub mod Conditions
+pub mod Items
+pub mod Views

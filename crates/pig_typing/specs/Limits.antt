@@ -1,8 +1,9 @@
 -- How wide and how deep a kind may be. (The limits are choices of this profile.)
-use Rattle.std.specs.Prelude.{Bool, false, ◌||◌, length, nat_lt, if◌then◌else◌}
+use Rattle.std.specs.Prelude.{Bool, false, ◌||◌, List, length, map, nat_lt, if◌then◌else◌}
 use Rattle.std.specs.declared.result.Result.TheVariants.{Ok, Err}
 use Rattle.pig_value.specs.Kinds.{depth_of, width_of}
-use Rattle.pig_value.specs.Trees.{KindTree, KindTrees, k_tuple, k_bag, k_map, no_kinds, more_kinds, kinds_list}
+use Rattle.pig_value.specs.Trees.{KindTree, KindTrees, k_tuple, k_bag, k_map, no_kinds, more_kinds, kinds_list, kinds_of}
+use Rattle.pig_schema.specs.FieldTrees.{FieldTree, tree_kind}
 use Rattle.pig_typing.specs.declared.faults.CheckKind.TheVariants as kind
 use Rattle.pig_typing.specs.Results.{Checked}
 
@@ -31,3 +32,18 @@ is_too_deep k = nat_lt 64 (depth_of k)
 -- the kind, where it is within the limits
 unfoldable pub limited : KindTree → Checked KindTree
 limited k = if is_too_wide k then Err kind.TooWide else if is_too_deep k then Err kind.TooDeep else Ok k
+
+-- ---- the rows of a relation, whose fields stand in no kind: the row itself doesn't count
+
+abbrev pub row_kind : List FieldTree → KindTree
+row_kind columns = k_tuple (kinds_of (map tree_kind columns))
+
+abbrev pub is_wide_row : KindTree → Bool
+is_wide_row row = is_crowded row || nat_lt 4097 (width_of row)
+
+abbrev pub is_deep_row : KindTree → Bool
+is_deep_row row = nat_lt 65 (depth_of row)
+
+-- the columns of a relation, where they are within the limits
+unfoldable pub limited_row : List FieldTree → Checked (List FieldTree)
+limited_row columns = if is_wide_row (row_kind columns) then Err kind.TooWide else if is_deep_row (row_kind columns) then Err kind.TooDeep else Ok columns

@@ -33,8 +33,8 @@ kind_in p = tree_kind (typed_column p)
 abbrev pub Picks : Type 0
 Picks = List (ℕ × FieldTree)
 
-abbrev pub places : Picks → List ℕ
-places = map (λ p. p.0)
+abbrev pub pick_places : Picks → List ℕ
+pick_places = map (λ p. p.0)
 
 abbrev pub picked : Picks → List FieldTree
 picked = map (λ p. p.1)
@@ -83,7 +83,7 @@ values_column c = held_value (tree_kind c) (tree_inner c)
 pub data Steps : Typing → PostStep → Typing → Type 0 where
   projects : {p : Typing} {columns : List FieldTree} {refs : List FieldRef} {ps : Picks} {single : Bool} {d : FieldTree} {k : KindTree}
       → inner_columns (typed_column p) ≡ Some columns → Selects columns refs ps → projected single (kind_in p) (picked ps) ≡ Some d → limited (tree_kind d) ≡ Ok k
-      → Steps p (step.Project refs single) (typing (x_project (typed_of p) (places ps) single) d)
+      → Steps p (step.Project refs single) (typing (x_project (typed_of p) (pick_places ps) single) d)
   looks : {p : Typing} {key : List ℕ} {d : FieldTree} → values_column (typed_column p) ≡ Some d → Steps p (step.Look key) (typing (x_look (typed_of p) key) d)
 
 -- why there is no such step
@@ -134,7 +134,7 @@ unfoldable pub step_of : Typing → PostStep → Checked Typing
 step_of p (step.Project refs single) = do
   picks ← chosen_of (typed_column p) refs
   d ← given_of single (kind_in p) picks
-  Ok (typing (x_project (typed_of p) (places picks) single) d)
+  Ok (typing (x_project (typed_of p) (pick_places picks) single) d)
 step_of p (step.Look key) = do
   d ← due kind.TypeMismatch (values_column (typed_column p))
   Ok (typing (x_look (typed_of p) key) d)

@@ -4,15 +4,14 @@ use Rattle.std.specs.Str.{bytes_eq}
 use Rattle.std.specs.declared.result.Result.TheVariants.{Ok, Err}
 use Rattle.pig_value.specs.Casts.{may_cast}
 use Rattle.pig_value.specs.Functions.{function_named}
-use Rattle.pig_value.specs.Trees.{k_boolean, k_int, k_long, k_chars, k_bytes}
+use Rattle.pig_value.specs.Trees.{KindTree, k_boolean, k_int, k_long, k_chars, k_bytes}
 use Rattle.pig_value.specs.declared.functions.Function.{Function}
 use Rattle.pig_value.specs.declared.operators.ChainOp.{ChainOp}
 use Rattle.pig_value.specs.declared.operators.Rel.{Rel}
 use Rattle.pig_schema.specs.FieldTrees.{FieldTree, tree_kind}
-use Rattle.pig_syntax.specs.ExprTrees.{ExprForm, LinkForms, ExprForms, e_int, e_long, e_float, e_text, e_bool, e_null, e_field, e_chain, e_compare, e_is_null, e_not, e_minus, e_cast, e_post, e_call, e_choose, no_links, more_links, no_exprs, more_exprs, type_form}
+use Rattle.pig_syntax.specs.ExprTrees.{TypeForm, ExprForm, LinkForms, ExprForms, e_int, e_long, e_float, e_text, e_bool, e_null, e_field, e_chain, e_compare, e_is_null, e_not, e_minus, e_cast, e_post, e_call, e_choose, no_links, more_links, no_exprs, more_exprs, type_form}
 use Rattle.pig_syntax.specs.declared.trees.FieldRef.{FieldRef}
 use Rattle.pig_syntax.specs.declared.trees.FieldRef.TheVariants as ref
-use Rattle.pig_syntax.specs.declared.trees.TypeTree.{TypeTree}
 use Rattle.pig_typed.specs.ExprKinds.{minus_kind}
 use Rattle.pig_typed.specs.Typed.{Typed, x_null, x_bool, x_int, x_long, x_chars, x_field, x_local, x_compare, x_is_null, x_not, x_minus, x_choose, x_cast, x_call, args_of}
 use Rattle.pig_typing.specs.declared.faults.CheckKind.TheVariants as kind
@@ -43,9 +42,9 @@ abbrev pub local_or : Option (ℕ × FieldTree) → Checked Typing → Checked T
 local_or (Some p) field = Ok (local_typing p)
 local_or None field = field
 
-unfoldable pub name_of : Place → FieldRef → Checked Typing
-name_of s (ref.Name name) = local_or (latest name s.locals) (field_of s.columns (ref.Name name))
-name_of s (ref.Position n) = field_of s.columns (ref.Position n)
+unfoldable pub reference_of : Place → FieldRef → Checked Typing
+reference_of s (ref.Name name) = local_or (latest name s.locals) (field_of s.columns (ref.Name name))
+reference_of s (ref.Position n) = field_of s.columns (ref.Position n)
 
 -- ---- what stands behind operands
 
@@ -71,9 +70,9 @@ choose_of t p q = do
   Ok (typing (x_choose t (cast_if j.left j.kind (typed_of p)) (cast_if j.right j.kind (typed_of q))) (unnamed j.kind))
 
 -- what a type says, within the limits
-unfoldable pub type_of_cast : TypeTree → Checked FieldTree
-type_of_cast to = do
-  d ← due kind.FloatType (written (type_form to))
+unfoldable pub type_of_cast : TypeForm → Checked FieldTree
+type_of_cast type = do
+  d ← due kind.FloatType (written type)
   k ← limited (tree_kind d)
   Ok d
 
@@ -92,11 +91,20 @@ with_count n f = if allows f n then Ok f else Err kind.WrongArguments
 unfoldable pub function_of : List ℕ → Checked Function
 function_of name = due (if bytes_eq name average then kind.FloatType else kind.UnknownFunction) (function_named name)
 
-unfoldable pub call_of : Function → List Typing → Checked Typing
-call_of f ps = do
+-- the kind that a function gives, within the limits
+unfoldable pub kind_due : Function → List Typing → Checked KindTree
+kind_due f ps = do
   k ← due kind.TypeMismatch (call_kind f ps)
   l ← limited k
-  Ok (typing (x_call (called f ps) (args_of (cast_args f ps))) (given f k (map typed_column ps)))
+  Ok k
+
+abbrev pub call_typing : Function → List Typing → KindTree → Typing
+call_typing f ps k = typing (x_call (called f ps) (args_of (cast_args f ps))) (given f k (map typed_column ps))
+
+unfoldable pub call_of : Function → List Typing → Checked Typing
+call_of f ps = do
+  k ← kind_due f ps
+  Ok (call_typing f ps k)
 
 -- ---- expressions
 
@@ -108,7 +116,7 @@ unfoldable mutual
   type_of s (e_text text) = Ok (typing (x_chars text) (unnamed k_chars))
   type_of s (e_bool b) = Ok (typing (x_bool b) (unnamed k_boolean))
   type_of s e_null = Ok (typing x_null (unnamed k_bytes))
-  type_of s (e_field r) = name_of s r
+  type_of s (e_field r) = reference_of s r
   type_of s (e_chain a ls) = do
     p ← type_of s a
     whole ← links_on s (begun p) ls
@@ -128,7 +136,7 @@ unfoldable mutual
     p ← type_of s a
     minus_of p
   type_of s (e_cast to a) = do
-    d ← type_of_cast to
+    d ← type_of_cast (type_form to)
     p ← type_of s a
     typed_cast d p
   type_of s (e_post a steps) = do

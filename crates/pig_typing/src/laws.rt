@@ -1,10 +1,14 @@
-ghost use Rattle.std.specs.Prelude.{◌≡◌, ◌⊎◌, Some, map};
+ghost use Rattle.std.specs.Prelude.{◌≡◌, ◌⊎◌, List, Some, map};
 ghost use Rattle.pig_schema.specs.FieldTrees.{IsColumn, tree_kind};
-ghost use Rattle.pig_syntax.specs.ExprTrees.{ExprForm};
+ghost use Rattle.pig_syntax.specs.ExprTrees.{ExprForm, ExprForms};
+ghost use Rattle.pig_syntax.specs.declared.trees.Item.{Item};
 ghost use Rattle.pig_typed.specs.ExprKinds.{expr_kind};
+ghost use Rattle.pig_typed.specs.Typed.{Typed};
 ghost use Rattle.pig_typing.specs.declared.faults.CheckKind.{CheckKind};
 ghost use Rattle.pig_typing.specs.Columns.{IsPlace, Place, locals_of, place_row};
+ghost use Rattle.pig_typing.specs.Conditions.{Conditions, ConditionsNot, Keys, KeysNot};
 ghost use Rattle.pig_typing.specs.Faults.{Faults};
+ghost use Rattle.pig_typing.specs.Items.{AllGenerate, AllGenerateNot, Generated};
 ghost use Rattle.pig_typing.specs.Parts.{Typing, typed_column, kind_in, typed_of};
 ghost use Rattle.pig_typing.specs.Typing.{Types};
 
@@ -12,8 +16,10 @@ ghost use Rattle.pig_typing.specs.Typing.{Types};
 /// refusal holds of it, and never both.
 pub fn expressions_have_one_typing()
     ensures one { (s : Place) (a : ExprForm) (p q : Typing) → Types s a p → Types s a q → p ≡ q }
-    ensures some { (s : Place) (a : ExprForm) → ((p : Typing) × Types s a p) ⊎ ((kind : CheckKind) × Faults s a kind) }
-    ensures never_both { (s : Place) (a : ExprForm) (p : Typing) (kind : CheckKind) → Types s a p → Faults s a kind → ⊥ }
+    ensures some { (s : Place) (a : ExprForm) → ((p : Typing) × Types s a p)
+        ⊎ ((kind : CheckKind) × Faults s a kind) }
+    ensures never_both { (s : Place) (a : ExprForm) (p : Typing) (kind : CheckKind) → Types s a p
+        → Faults s a kind → ⊥ }
 {}
 
 /// What is typed has its kind on the kinds of the columns and of the nested aliases, and inside it the columns of
@@ -21,5 +27,36 @@ pub fn expressions_have_one_typing()
 pub fn typings_have_their_kinds()
     ensures kind { (s : Place) (a : ExprForm) (p : Typing) → IsPlace s → Types s a p
         → expr_kind (typed_of p) (place_row s) (locals_of s) ≡ Some (kind_in p) }
-    ensures inside { (s : Place) (a : ExprForm) (p : Typing) → IsPlace s → Types s a p → IsColumn (typed_column p) }
+    ensures inside { (s : Place) (a : ExprForm) (p : Typing) → IsPlace s → Types s a p
+        → IsColumn (typed_column p) }
+{}
+
+/// Of a condition there is likewise one typing, or the condition of some kind of refusal holds, and never both.
+pub fn conditions_have_one_typing()
+    ensures one { (s : Place) (a : ExprForm) (t u : Typed) → Conditions s a t → Conditions s a u → t
+        ≡ u }
+    ensures some { (s : Place) (a : ExprForm)
+        → ((t : Typed) × Conditions s a t) ⊎ ((kind : CheckKind) × ConditionsNot s a kind) }
+    ensures never_both { (s : Place) (a : ExprForm) (t : Typed) (kind : CheckKind)
+        → Conditions s a t → ConditionsNot s a kind → ⊥ }
+{}
+
+/// Of the keys of an input there is likewise one typing, or the condition of some kind of refusal holds, and never both.
+pub fn keys_have_one_typing()
+    ensures one { (s : Place) (es : ExprForms) (ps qs : List Typing) → Keys s es ps → Keys s es qs
+        → ps ≡ qs }
+    ensures some { (s : Place) (es : ExprForms)
+        → ((ps : List Typing) × Keys s es ps) ⊎ ((kind : CheckKind) × KeysNot s es kind) }
+    ensures never_both { (s : Place) (es : ExprForms) (ps : List Typing) (kind : CheckKind)
+        → Keys s es ps → KeysNot s es kind → ⊥ }
+{}
+
+/// Of the items of a GENERATE there is likewise one typing, or the condition of some kind of refusal holds, and never both.
+pub fn items_have_one_typing()
+    ensures one { (s : Place) (is : List Item) (g h : Generated) → AllGenerate s is g
+        → AllGenerate s is h → g ≡ h }
+    ensures some { (s : Place) (is : List Item)
+        → ((g : Generated) × AllGenerate s is g) ⊎ ((kind : CheckKind) × AllGenerateNot s is kind) }
+    ensures never_both { (s : Place) (is : List Item) (g : Generated) (kind : CheckKind)
+        → AllGenerate s is g → AllGenerateNot s is kind → ⊥ }
 {}

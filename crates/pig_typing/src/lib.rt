@@ -1,17 +1,34 @@
-//! The typing of expressions, as definitions with their laws.
+//! The typing of expressions.
 //!
-//! `specs/Typing` has the typing of expressions as a relation, one case for each form: over the columns of a row and the nested
-//! aliases so far, an expression has a typed expression, with its fields by position and every cast written out, and the column that it
-//! gives. `specs/Faults` has the condition of each kind of refusal. [`expressions_have_one_typing`] says that there is one typing or a
-//! refusal and never both, [`typings_have_their_kinds`] that what is typed has its kind.
+//! [`type_expr`] takes an expression, over the columns of a row and the nested aliases so far, to its typed expression, with its fields
+//! by position and every cast written out, and to the column that it gives; or it answers a kind of refusal whose condition holds.
+//!
+//! `specs/Typing` has the typing of expressions as a relation, one case for each form, and `specs/Faults` the condition of each kind of
+//! refusal. [`expressions_have_one_typing`] says that there is one typing or a refusal and never both.
 #![tactic(auto)]
 
 mod calls;
+mod columns;
+mod conditions;
+mod exprs;
 mod faults;
+mod items;
+mod joins;
 mod laws;
+mod limits;
+mod names;
+mod parts;
 mod scope;
+mod written;
 
-pub use calls::Casting;
+pub use conditions::{TypedExprs, type_condition, type_keys};
+pub use exprs::{TypedExpr, type_expr};
 pub use faults::{CheckKind, TypeFault};
-pub use laws::{expressions_have_one_typing, typings_have_their_kinds};
+pub use items::{Generated, type_items};
+pub use laws::{
+    conditions_have_one_typing, expressions_have_one_typing, items_have_one_typing,
+    keys_have_one_typing, typings_have_their_kinds,
+};
+pub use limits::{row_within_limits, within_limits};
 pub use scope::{Local, Locals, Scope};
+pub use written::{written_schema, written_type};

@@ -1,0 +1,53 @@
+-- What the code holds, as the definitions see it.
+use Rattle.std.specs.Borrow.{Bor}
+use Rattle.std.specs.Prelude.{ℕ, List, map}
+use Rattle.pig_value.specs.Trees.{kind_tree}
+use Rattle.pig_value.specs.declared.values.Kind.{Kind}
+use Rattle.pig_typed.specs.declared.exprs.TExpr.{TExpr}
+use Rattle.pig_typed.specs.declared.exprs.TLink.{TLink}
+use Rattle.pig_schema.specs.FieldTrees.{FieldTree, named_tree, schema_tree}
+use Rattle.pig_schema.specs.declared.schema.Field.{Field}
+use Rattle.pig_typed.specs.Typed.{typed, item_typed, link_of}
+use Rattle.pig_typing.specs.declared.columns.Column.{Column}
+use Rattle.pig_typing.specs.declared.columns.Column.TheVariants as column
+use Rattle.pig_typing.specs.declared.columns.Typing as code
+use Rattle.pig_typing.specs.declared.exprs.Sofar as chain
+use Rattle.pig_typing.specs.declared.exprs.TypedExpr.{TypedExpr}
+use Rattle.pig_typing.specs.declared.joins.Join as both
+use Rattle.pig_typing.specs.declared.parts.Pick.{Pick}
+use Rattle.pig_typing.specs.declared.items.Generated as code_items
+use Rattle.pig_typing.specs.Columns.{nameless}
+use Rattle.pig_typing.specs.Items.{Generated}
+use Rattle.pig_typing.specs.Joins.{Join, join}
+use Rattle.pig_typing.specs.Parts.{Typing, typing}
+use Rattle.pig_typing.specs.Typing.{Sofar}
+
+abbrev pub column_seen : Column → FieldTree
+column_seen (column.Lent f) = named_tree f.now
+column_seen (column.Nameless f) = nameless (named_tree f.now)
+column_seen (column.Made f) = named_tree f
+
+abbrev pub typing_tree : code.Typing → Typing
+typing_tree p = typing (typed p.expr) (column_seen p.column)
+
+abbrev pub typed_tree : TypedExpr → Typing
+typed_tree t = typing (typed t.expr) (named_tree t.column)
+
+abbrev pub sofar_tree : chain.Sofar → Sofar
+sofar_tree c = record { first = typed c.first; links = map link_of c.links; kind = kind_tree c.kind }
+
+abbrev pub chain_so_far : TExpr → List TLink → Kind → Sofar
+chain_so_far first links kind = record { first = typed first; links = map link_of links; kind = kind_tree kind }
+
+abbrev pub join_tree : both.Join → Join
+join_tree j = join (kind_tree j.kind) j.left j.right
+
+abbrev pub generated_tree : code_items.Generated → Generated
+generated_tree g = record { items = map item_typed g.items; columns = schema_tree g.columns }
+
+abbrev pub pick_tree : Pick → ℕ × FieldTree
+pick_tree p = (p.place, named_tree p.column)
+
+-- a place, and the column that stands there
+abbrev pub step_tree : ℕ × Bor Field → ℕ × FieldTree
+step_tree p = (p.0, named_tree p.1.now)

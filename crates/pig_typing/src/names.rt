@@ -1,0 +1,168 @@
+ghost use Rattle.std.specs.Prelude.{◌≡◌, map, Ok};
+ghost use Rattle.std.specs.Option.{option_map};
+ghost use Rattle.std.specs.Str.{bytes_eq};
+ghost use Rattle.pig_schema.specs.FieldTrees.{named_tree, schema_tree, tree_name};
+ghost use Rattle.pig_schema.specs.Names.{meaning};
+ghost use Rattle.pig_typing.specs.Columns.{column_at, later_or, latest, local_of, name_place, name_refusal, named_here, place_of, refer};
+ghost use Rattle.pig_typing.specs.Reader.{field_of, field_typing, local_typing, reference_of};
+ghost use Rattle.pig_typing.specs.Results.{checked_then, Tells};
+ghost use Rattle.pig_typing.specs.Views.{step_tree, typing_tree};
+
+use crate::columns::{Column, Typing};
+use crate::faults::{CheckKind, TypeFault};
+use crate::scope::{Local, Scope};
+use pig_schema::{Field, NameFault, Schema, find};
+use pig_syntax::FieldRef;
+use pig_typed::TExpr;
+use pig_value::Boxed;
+use std::alloc::Global;
+
+/// A name or a position: the latest nested alias of the name, or else the field that is meant.
+#[tactic(auto, unfolding(crate::specs::Reader::reference_of))]
+pub fn named<'a>(
+    alloc: Global,
+    scope: &'a Scope<'a>,
+    field: &FieldRef,
+) -> Result<Typing<'a>, TypeFault>
+    ensures { Tells typing_tree (reference_of (place_of scope.now) field.now) result }
+{
+    match field {
+        FieldRef::Name(text) => match latest(scope.locals.as_slice(), text.as_bytes()) {
+            Some((number, column)) => local(alloc, number, column),
+            None => of_columns(alloc, scope.columns, field),
+        },
+        FieldRef::Position(_) => of_columns(alloc, scope.columns, field),
+    }
+}
+
+fn local<'a>(alloc: Global, number: usize, column: &'a Field) -> Result<Typing<'a>, TypeFault>
+    ensures { Tells typing_tree (Ok (local_typing (number, named_tree column.now))) result }
+{
+    let number = narrow(number)?;
+    let expr = Boxed::new(alloc, TExpr::Local(number))?;
+    let column = Column::Nameless(column);
+    Ok(Typing { expr, column })
+}
+
+fn lent<'a>(alloc: Global, place: usize, column: &'a Field) -> Result<Typing<'a>, TypeFault>
+    ensures { Tells typing_tree (Ok (field_typing (place, named_tree column.now))) result }
+{
+    let place = narrow(place)?;
+    let expr = Boxed::new(alloc, TExpr::Field(place))?;
+    let column = Column::Lent(column);
+    Ok(Typing { expr, column })
+}
+
+// No list in memory has more places than a u32 counts.
+pub fn narrow(place: usize) -> Result<u32, TypeFault>
+    ensures { Tells (λ n. n) (Ok place) result }
+{
+    match u32::try_from(place) {
+        Ok(place) => Ok(place),
+        Err(_) => Err(TypeFault::OutOfMemory),
+    }
+}
+
+#[tactic(auto, unfolding(crate::specs::Reader::field_of))]
+fn of_columns<'a>(
+    alloc: Global,
+    columns: &'a Schema,
+    field: &FieldRef,
+) -> Result<Typing<'a>, TypeFault>
+    ensures { Tells typing_tree (field_of (schema_tree columns.now) field.now) result }
+{
+    let (place, column) = refer(columns, field)?;
+    lent(alloc, place, column)
+}
+
+/// The column that a name or a position means, with its place.
+///
+/// # Errors
+///
+/// UnknownField where the name fits no column, AmbiguousField where it fits some and means none, PositionOut where
+/// the position is at least the number of columns.
+#[tactic(auto, unfolding(crate::specs::Columns::refer))]
+pub fn refer<'a>(columns: &'a Schema, field: &FieldRef) -> Result<(usize, &'a Field), TypeFault>
+    ensures { Tells step_tree (refer (schema_tree columns.now) field.now) result }
+{
+    match field {
+        FieldRef::Name(text) => by_name(columns, text.as_str()),
+        FieldRef::Position(place) => column_at(columns, *place as usize),
+    }
+}
+
+fn by_name<'a>(columns: &'a Schema, name: &str) -> Result<(usize, &'a Field), TypeFault>
+    ensures { Tells step_tree (checked_then (column_at (schema_tree columns.now))
+        (name_place (meaning (map tree_name (schema_tree columns.now)) name.now))) result }
+{
+    match place(columns, name) {
+        Ok(place) => column_at(columns, place),
+        Err(fault) => Err(TypeFault::Refused(refusal(fault))),
+    }
+}
+
+fn place(columns: &Schema, name: &str) -> Result<usize, NameFault>
+    ensures { result ≡ meaning (map tree_name (schema_tree columns.now)) name.now }
+{
+    find(columns, name)
+}
+
+fn refusal(fault: NameFault) -> CheckKind
+    ensures { result ≡ name_refusal fault }
+{
+    match fault {
+        NameFault::Unknown => CheckKind::UnknownField,
+        NameFault::Ambiguous => CheckKind::AmbiguousField,
+        NameFault::PositionOut => CheckKind::PositionOut,
+    }
+}
+
+#[tactic(auto, unfolding(crate::specs::Columns::column_at))]
+fn column_at<'a>(columns: &'a Schema, place: usize) -> Result<(usize, &'a Field), TypeFault>
+    ensures { Tells step_tree (column_at (schema_tree columns.now) place) result }
+{
+    match columns.get(place) {
+        Some(column) => Ok((place, column)),
+        None => Err(TypeFault::Refused(CheckKind::PositionOut)),
+    }
+}
+
+// The last step of an alias, with its number.
+fn latest<'a>(locals: &'a [Local], alias: &[u8]) -> Option<(usize, &'a Field)>
+    ensures { option_map step_tree result ≡ latest alias.now (map local_of locals.now) }
+{
+    let mut found = None;
+    for number in 0..locals.len() {
+        found = later_or(here(&locals[number], number, alias), found);
+    }
+    found
+}
+
+fn later_or<'a>(
+    later: Option<(usize, &'a Field)>,
+    here: Option<(usize, &'a Field)>,
+) -> Option<(usize, &'a Field)>
+    ensures { option_map step_tree result
+        ≡ later_or (option_map step_tree later.entry) (option_map step_tree here.entry) }
+{
+    match later {
+        Some(step) => Some(step),
+        None => here,
+    }
+}
+
+fn here<'a>(step: &'a Local, number: usize, alias: &[u8]) -> Option<(usize, &'a Field)>
+    ensures { option_map step_tree result ≡ named_here alias.now number (local_of step.now) }
+{
+    if is_same(step.alias.as_bytes(), alias) {
+        Some((number, &step.column))
+    } else {
+        None
+    }
+}
+
+fn is_same(a: &[u8], b: &[u8]) -> bool
+    ensures { result ≡ bytes_eq a.now b.now }
+{
+    a == b
+}

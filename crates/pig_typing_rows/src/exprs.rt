@@ -1,0 +1,104 @@
+//! What no clause says of `type_expr`: that expressions of each form are typed with ample memory, or refused with the
+//! kind that is due.
+use crate::shared::{
+    add, call, call_two, cast, choose, columns, equal, field, locals, look, part, plain, text,
+};
+use pig_syntax::{Expr, FieldRef, TypeTree};
+use pig_typing::{Scope, TypeFault, TypedExpr, type_expr};
+use pig_value::Boxed;
+use std::alloc::{AllocError, Global};
+use std::test::Fail;
+
+// Each expression, and what it is typed as: the typed expression, the name that it keeps, its kind. The columns are
+// a:int, b:bytearray, s:chararray, n:long, m:map[], t:(x:int, y:chararray), g:{(r:long)}, p::k:int, q::k:int; the
+// nested alias n is a bag {(z:int)}.
+const ROWS: &str = "\
+a + 1 => Chain { first: Field(0), rest: [TLink { op: Add, a: Int(1) }] } None Int\n\
+b + a => Chain { first: Cast { to: Int, a: Field(1) }, rest: [TLink { op: Add, a: Field(0) }] } None Int\n\
+a + 5L => Chain { first: Field(0), rest: [TLink { op: Add, a: Long(5) }] } None Long\n\
+a == 5L => Compare { op: Eq, a: Cast { to: Long, a: Field(0) }, b: Long(5) } None Boolean\n\
+s == a => Refused(TypeMismatch)\n\
+k => Refused(AmbiguousField)\n\
+p::k => Field(7) Some('p::k') Int\n\
+zz => Refused(UnknownField)\n\
+$9 => Refused(PositionOut)\n\
+n => Local(0) None Bag([Int])\n\
+$3 => Field(3) Some('n') Long\n\
+m#'c' == 'x' => Compare { op: Eq, a: Cast { to: Chararray, a: Look { a: Field(4), key: 'c' } }, b: Chars('x') } None Boolean\n\
+t.y => Project { a: Field(5), fields: [1], single: true } Some('y') Chararray\n\
+SUM(g.r) => Call { function: Sum, args: [Project { a: Field(6), fields: [0], single: true }] } None Long\n\
+AVG(a) => Refused(FloatType)\n\
+NOPE(a, s) => Refused(UnknownFunction)\n\
+COUNT(a, b) => Refused(WrongArguments)\n\
+COUNT(a) => Refused(TypeMismatch)\n\
+CONCAT(s, b) => Call { function: Concat, args: [Field(2), Cast { to: Chararray, a: Field(1) }] } None Chararray\n\
+TOBAG(t, t) => Call { function: ToBag { width: Some(2) }, args: [Field(5), Field(5)] } None Bag([Int, Chararray])\n\
+TOBAG(a, 5L) => Call { function: ToBag { width: None }, args: [Cast { to: Long, a: Field(0) }, Long(5)] } None Bag([Long])\n\
+NOT b => Not(Cast { to: Boolean, a: Field(1) }) None Boolean\n\
+(int) m#'c' => Cast { to: Int, a: Look { a: Field(4), key: 'c' } } None Int\n\
+(float) a => Refused(FloatType)\n\
+(b ? a : 5L) => Choose { cond: Cast { to: Boolean, a: Field(1) }, yes: Cast { to: Long, a: Field(0) }, no: Long(5) } None Long";
+
+fn expression(alloc: Global, row: usize) -> Result<Expr, AllocError> {
+    match row {
+        0 => add(alloc, field(alloc, "a")?, Expr::Int(1)),
+        1 => add(alloc, field(alloc, "b")?, field(alloc, "a")?),
+        2 => add(alloc, field(alloc, "a")?, Expr::Long(5)),
+        3 => equal(alloc, field(alloc, "a")?, Expr::Long(5)),
+        4 => equal(alloc, field(alloc, "s")?, field(alloc, "a")?),
+        5 => field(alloc, "k"),
+        6 => field(alloc, "p::k"),
+        7 => field(alloc, "zz"),
+        8 => Ok(Expr::Field(FieldRef::Position(9))),
+        9 => field(alloc, "n"),
+        10 => Ok(Expr::Field(FieldRef::Position(3))),
+        11 => equal(alloc, look(alloc)?, text(alloc, "x")?),
+        12 => part(alloc, "t", "y"),
+        13 => call(alloc, "SUM", part(alloc, "g", "r")?),
+        14 => call(alloc, "AVG", field(alloc, "a")?),
+        15 => call_two(alloc, "NOPE", field(alloc, "a")?, field(alloc, "s")?),
+        16 => call_two(alloc, "COUNT", field(alloc, "a")?, field(alloc, "b")?),
+        17 => call(alloc, "COUNT", field(alloc, "a")?),
+        18 => call_two(alloc, "CONCAT", field(alloc, "s")?, field(alloc, "b")?),
+        19 => call_two(alloc, "TOBAG", field(alloc, "t")?, field(alloc, "t")?),
+        20 => call_two(alloc, "TOBAG", field(alloc, "a")?, Expr::Long(5)),
+        21 => Ok(Expr::Not(Boxed::new(alloc, field(alloc, "b")?)?)),
+        22 => cast(alloc, TypeTree::Int, look(alloc)?),
+        23 => cast(alloc, TypeTree::Float, field(alloc, "a")?),
+        _ => choose(alloc),
+    }
+}
+
+fn shown_typing(alloc: Global, typed: &TypedExpr) -> Result<String, AllocError> {
+    let expr = &typed.expr;
+    let name = &typed.column.name;
+    let kind = &typed.column.kind;
+    let shown = format!(in alloc; "{expr:?} {name:?} {kind:?}")?;
+    plain(alloc, shown.as_str())
+}
+
+fn shown(alloc: Global, row: usize, scope: &Scope) -> Result<String, AllocError> {
+    let expr = expression(alloc, row)?;
+    match type_expr(alloc, &expr, scope) {
+        Ok(typed) => shown_typing(alloc, &typed),
+        Err(TypeFault::Refused(kind)) => format!(in alloc; "Refused({kind:?})"),
+        Err(TypeFault::OutOfMemory) => String::from_str(alloc, "no memory"),
+    }
+}
+
+#[test]
+fn types_each_form(rt: HostRuntime) -> Result<(), Fail> {
+    let alloc = rt.alloc();
+    let columns = columns(alloc)?;
+    let locals = locals(alloc)?;
+    let scope = Scope {
+        columns: &columns,
+        locals: &locals,
+    };
+    for (number, row) in ROWS.lines().enumerate() {
+        let (expr, wanted) = row.split_once(" => ").unwrap_or(("", "none"));
+        let found = shown(alloc, number, &scope)?;
+        assert_eq!(rt; found.as_str(), wanted, "{expr}");
+    }
+    Ok(())
+}
