@@ -1,0 +1,5 @@
+pub mod Answering
+pub mod Kinds
+pub mod Operating
+pub mod SoFar
+pub mod Uses

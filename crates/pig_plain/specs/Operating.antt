@@ -1,0 +1,77 @@
+-- What the plain answer makes of one node: its operator's rows in the order in which they come, before a bag is sorted.
+use Rattle.std.specs.Prelude.{◌≡◌, ◌≢◌, get_or, ℕ, ◌+◌, Bool, false, List, [], ◌∷◌, ◌++◌, map, take, Option, Some, None, codes}
+use Rattle.std.specs.List.{flat_map}
+use Rattle.pig_value.specs.declared.inputs.Input.{Input}
+use Rattle.pig_value.specs.Orders.{row_cmp}
+use Rattle.pig_value.specs.Sorts.{distinct}
+use Rattle.pig_value.specs.declared.values.Value.{Value}
+use Rattle.pig_value.specs.declared.operators.Side.{Side}
+use Rattle.pig_value.specs.Valid.{AreRows}
+use Rattle.pig_value.specs.Trees.{Tree, rows_tree, v_chars}
+use Rattle.pig_typed.specs.Blocks.{foreach_all}
+use Rattle.pig_plan.specs.ByKey.{gathered, key_of, outer_of}
+use Rattle.pig_plan.specs.Nodes.{sorts}
+use Rattle.pig_plan.specs.Operators.{filter_rows, group_all, group_rows, join_rows, keyed_entries, keys_of, load_rows, order_rows, rank_rows}
+use Rattle.pig_plan.specs.Plans.{Keyed, Plan, PlanOp, p_load, p_filter, p_foreach, p_group_all, p_group, p_join, p_union, p_distinct, p_order, p_limit, p_store, p_assert, p_rank}
+use Rattle.pig_runs.specs.Entries.{Keyed as RunEntry}
+use Rattle.pig_typed.specs.Typed.{Typed}
+use Rattle.pig_operators.specs.declared.by_key.Gathering.{Gathering}
+use Rattle.pig_operators.specs.Given.{made}
+use Rattle.pig_plan.specs.Results.{at_place, results}
+
+-- the rows as they come, on inputs, on nodes that are so wide, and on the rows of the nodes before
+abbrev pub found_rows : List Input → (ℕ → ℕ) → PlanOp → (ℕ → List (List Tree)) → List (List Tree)
+found_rows inputs width (p_load path delim columns) rows = load_rows inputs path delim columns
+found_rows inputs width (p_filter input cond) rows = filter_rows cond (rows input)
+found_rows inputs width (p_foreach input block) rows = foreach_all block (rows input)
+found_rows inputs width (p_group_all input) rows = group_all (rows input)
+found_rows inputs width (p_group keyed) rows = group_rows keyed rows
+found_rows inputs width (p_join keyed side replicated) rows = join_rows side width keyed rows
+found_rows inputs width (p_union numbers) rows = flat_map rows numbers
+found_rows inputs width (p_distinct input) rows = distinct row_cmp (rows input)
+found_rows inputs width (p_order input keys) rows = order_rows keys (rows input)
+found_rows inputs width (p_limit input count) rows = take count (rows input)
+found_rows inputs width (p_store input path delim) rows = rows input
+found_rows inputs width (p_assert input cond message) rows = rows input
+found_rows inputs width (p_rank input keys dense) rows = rank_rows keys dense (rows input)
+
+-- which nodes are sorted, by their numbers
+abbrev pub sorted_list : Plan → List Bool
+sorted_list plan = results (λ k node. sorts node.op) false plan
+
+-- the rows of each node before, and none of another
+abbrev pub table_rows : List (List (List Value)) → ℕ → List (List Tree)
+table_rows table = at_place [] (map rows_tree table)
+
+-- rows of the input numbered i under their keys, and those of all inputs from that number on
+abbrev pub keyed_rows : List Typed → ℕ → List (List Tree) → List RunEntry
+keyed_rows keys i rows = map (λ row. record { key = key_of (keys_of keys row); input = i; row = row }) rows
+
+abbrev pub all_keyed : ℕ → List Keyed → (ℕ → List (List Tree)) → List RunEntry
+all_keyed i [] rows = []
+all_keyed i (input ∷ inputs) rows = keyed_rows input.keys i (rows input.input) ++ all_keyed (i + 1) inputs rows
+
+-- the rows of inputs that are brought together in this way, and no rows where there is none
+abbrev pub brought_together : Option Gathering → List Keyed → (ℕ → List (List Tree)) → List (List Tree)
+brought_together None inputs rows = []
+brought_together (Some how) inputs rows = gathered (made how) (keyed_entries 0 inputs rows)
+
+-- rows under the one key of GROUP ALL
+abbrev pub all_rows_keyed : List (List Tree) → List RunEntry
+all_rows_keyed rows = map (λ row. record { key = v_chars (codes "all"); input = 0; row = row }) rows
+
+-- a JOIN that keeps a side, of two inputs
+abbrev pub outer_rows : Side → (ℕ → ℕ) → List Keyed → (ℕ → List (List Tree)) → List (List Tree)
+outer_rows s width (a ∷ b ∷ inputs) rows = gathered (outer_of s (width a.input) (width b.input)) (keyed_entries 0 (a ∷ b ∷ inputs) rows)
+outer_rows s width inputs rows = []
+
+-- all rows of nodes are of values
+abbrev pub AreValues : List (List (List Value)) → Type 0
+AreValues table = (i : ℕ) → AreRows (table_rows table i)
+
+-- the rows of other nodes stand as before, and those of nodes that are looked at later
+abbrev pub OthersStand : ℕ → List (List (List Value)) → List (List (List Value)) → Type 0
+OthersStand node old new = (k : ℕ) → k ≢ node → table_rows new k ≡ table_rows old k
+
+abbrev pub LaterStand : List ℕ → ℕ → List (List (List Value)) → List (List (List Value)) → Type 0
+LaterStand ends number old new = (k : ℕ) → get_or ends k 0 ≢ number + 1 → table_rows new k ≡ table_rows old k

@@ -1,0 +1,225 @@
+ghost use Rattle.std.specs.Prelude.{◌≡◌, ◌+◌, [], ◌∷◌, ◌++◌, true, false, map, Some, slice_get, IfOk, OnOk};
+ghost use Rattle.std.specs.List.{AllByRecursion};
+ghost use Rattle.pig_value.specs.Leaves.{AreBytes};
+ghost use Rattle.pig_value.specs.Trees.{rows_tree};
+ghost use Rattle.pig_value.specs.Valid.{IsValue};
+ghost use Rattle.pig_plan.specs.Laws.{AreOfBytes, PlanLiteralsAre};
+ghost use Rattle.pig_plan.specs.Nodes.{is_live};
+ghost use Rattle.pig_plan.specs.Plans.{node_of, op_of, plan_of};
+ghost use Rattle.pig_plan.specs.Results.{at_place};
+ghost use Rattle.pig_plan.specs.Valid.{IsPlan};
+ghost use Rattle.pig_plain.specs.Answering.{IsAnswer};
+ghost use Rattle.pig_plain.specs.Operating.{sorted_list};
+ghost use Rattle.pig_plain.specs.SoFar.{IsSoFar};
+ghost use Rattle.pig_plain.specs.Kinds.{kind_in, limit_kind};
+ghost use Rattle.pig_plain.specs.Uses.{AreUses};
+
+use crate::operating::{found, release_inputs};
+use crate::sorted::{is_marked, sorted_nodes};
+use crate::table::copied;
+use crate::uses::{Uses, uses_of};
+use pig_plan::{Node, NodeOp, Plan};
+use pig_value::{Blob, Input, Inputs, Kept, KeptList, Rows, Seq};
+use std::alloc::{AllocError, Global};
+
+/// Rows of several relations.
+pub type Relations = Seq<Rows>;
+
+/// What a plan means over inputs: the rows that each live bare LIMIT kept, and those of each STORE, in the order of the
+/// plan's nodes.
+#[derive(Debug, Drop)]
+pub struct Answers {
+    pub kept: KeptList,
+    pub stores: Relations,
+}
+
+/// Runs a plan over inputs, one node after another; a LOAD of a path without an input has no rows.
+///
+/// Only live nodes are computed, each once, and rows are let go after their last use. A bare LIMIT keeps the first rows
+/// as they come.
+pub fn answer(alloc: Global, plan: &Plan, inputs: &Inputs) -> Result<Answers, AllocError>
+    ensures { IfOk result (λ found. IsAnswer (plan_of plan.now) inputs.now
+        found.kept (map rows_tree found.stores)) }
+{
+    let all = plan.nodes();
+    let given = inputs.as_slice();
+    know_bytes(given);
+    let uses = uses_of(alloc, all)?;
+    let sorted = sorted_nodes(alloc, all)?;
+    let mut so_far = Running {
+        table: Vec::new(alloc),
+        kept: KeptList::new(alloc),
+        stores: Relations::new(alloc),
+    };
+    let nodes = all.as_slice();
+    let mut number = 0;
+    'nodes: while number < nodes.len() {
+        so_far.take_on(
+            alloc,
+            plan,
+            given,
+            &uses,
+            sorted.as_slice(),
+            number,
+            &nodes[number],
+        )?;
+        number += 1;
+    }
+    let Running { kept, stores, .. } = so_far;
+    Ok(Answers { kept, stores })
+}
+
+/// That the pieces of inputs are of bytes, as their type says.
+fn know_bytes(inputs: &[Input])
+    ensures { AreOfBytes inputs.now }
+{
+    for input in inputs {
+        know_pieces(input.pieces.as_slice());
+    }
+}
+
+fn know_pieces(pieces: &[Blob])
+    ensures { AllByRecursion AreBytes pieces.now }
+{
+    for piece in pieces {
+        piece.as_slice();
+    }
+}
+
+/// What stands after the nodes before one: their rows, what was kept, and what is stored.
+#[derive(Drop)]
+struct Running {
+    table: Vec<Rows>,
+    kept: KeptList,
+    stores: Relations,
+}
+
+impl Running {
+    /// Goes on by one node.
+    fn take_on(
+        &mut self,
+        alloc: Global,
+        plan: &Plan,
+        inputs: &[Input],
+        uses: &Uses,
+        sorted: &[bool],
+        number: usize,
+        node: &Node,
+    ) -> Result<(), AllocError>
+        requires bytes { AreOfBytes inputs.now }
+        requires valid { IsPlan (plan_of plan.now) }
+        requires literals { PlanLiteralsAre IsValue (plan_of plan.now) }
+        requires uses { AreUses (plan_of plan.now) 0 uses.now.live.items uses.now.ends.items }
+        requires sorted { sorted.now ≡ sorted_list (plan_of plan.now) }
+        requires node { slice_get (plan_of plan.now) number ≡ Some (node_of node.now) }
+        requires so_far { IsSoFar (plan_of plan.now) inputs.now number
+            self.old.table.items self.old.kept (map rows_tree self.old.stores) }
+        ensures { OnOk result (IsSoFar (plan_of plan.now) inputs.now (number + 1)
+            self.new.table.items self.new.kept (map rows_tree self.new.stores)) }
+    {
+        let live = uses.is_live(number);
+        if live {
+            return self.take_live(alloc, plan, inputs, uses, sorted, number, node);
+        }
+        self.put(Rows::new(alloc))
+    }
+
+    /// Goes on by a live node.
+    fn take_live(
+        &mut self,
+        alloc: Global,
+        plan: &Plan,
+        inputs: &[Input],
+        uses: &Uses,
+        sorted: &[bool],
+        number: usize,
+        node: &Node,
+    ) -> Result<(), AllocError>
+        requires bytes { AreOfBytes inputs.now }
+        requires valid { IsPlan (plan_of plan.now) }
+        requires literals { PlanLiteralsAre IsValue (plan_of plan.now) }
+        requires uses { AreUses (plan_of plan.now) 0 uses.now.live.items uses.now.ends.items }
+        requires sorted { sorted.now ≡ sorted_list (plan_of plan.now) }
+        requires node { slice_get (plan_of plan.now) number ≡ Some (node_of node.now) }
+        requires live { is_live (plan_of plan.now) number ≡ true }
+        requires so_far { IsSoFar (plan_of plan.now) inputs.now number
+            self.old.table.items self.old.kept (map rows_tree self.old.stores) }
+        ensures { OnOk result (IsSoFar (plan_of plan.now) inputs.now (number + 1)
+            self.new.table.items self.new.kept (map rows_tree self.new.stores)) }
+    {
+        let ends = uses.ends.as_slice();
+        let rows = found(alloc, plan, inputs, &node.op, &mut self.table, ends, number)?;
+        release_inputs(alloc, &mut self.table, ends, number, &node.op);
+        match kind_of(&node.op, sorted) {
+            Kind::Stored => self.put_stored(alloc, rows),
+            Kind::Kept => self.put_kept(alloc, node.statement, rows),
+            Kind::Standing => self.put(rows),
+        }
+    }
+
+    /// The rows stand for later nodes.
+    fn put(&mut self, rows: Rows) -> Result<(), AllocError>
+        ensures table { OnOk result (self.new.table.items ≡ self.old.table.items ++ rows ∷ []) }
+        ensures kept { self.new.kept ≡ self.old.kept }
+        ensures stores { self.new.stores ≡ self.old.stores }
+    {
+        self.table.push(rows)?;
+        Ok(())
+    }
+
+    /// The rows of a STORE are looked at by no node.
+    fn put_stored(&mut self, alloc: Global, rows: Rows) -> Result<(), AllocError>
+        ensures table { OnOk result (self.new.table.items ≡ self.old.table.items ++ [] ∷ []) }
+        ensures kept { self.new.kept ≡ self.old.kept }
+        ensures stores { OnOk result (self.new.stores ≡ self.old.stores ++ rows ∷ []) }
+    {
+        self.stores.push(rows)?;
+        self.put(Rows::new(alloc))
+    }
+
+    /// The rows of a bare LIMIT stand, and copies are kept.
+    fn put_kept(&mut self, alloc: Global, statement: u32, rows: Rows) -> Result<(), AllocError>
+        ensures table { OnOk result (self.new.table.items ≡ self.old.table.items ++ rows ∷ []) }
+        ensures kept { OnOk result ((k : Kept) × (k.statement ≡ statement)
+            × (rows_tree k.rows ≡ rows_tree rows) × (self.new.kept ≡ self.old.kept ++ k ∷ [])) }
+        ensures stores { self.new.stores ≡ self.old.stores }
+    {
+        let copies = copied(alloc, rows.as_slice())?;
+        self.kept.push(Kept {
+            statement,
+            rows: copies,
+        })?;
+        self.put(rows)
+    }
+}
+
+/// What becomes of the rows of a live node.
+enum Kind {
+    /// A STORE's are stored.
+    Stored,
+    /// A bare LIMIT's are kept, and stand for later nodes.
+    Kept,
+    /// Others stand for later nodes.
+    Standing,
+}
+
+fn kind_of(op: &NodeOp, sorted: &[bool]) -> Kind
+    ensures { result ≡ kind_in (at_place false sorted.now) (op_of op.now) }
+{
+    match op {
+        NodeOp::Store { .. } => Kind::Stored,
+        NodeOp::Limit { input, .. } => kind_of_limit(sorted, *input),
+        _ => Kind::Standing,
+    }
+}
+
+/// A LIMIT on no sorted node is bare.
+fn kind_of_limit(sorted: &[bool], input: u32) -> Kind
+    ensures { result ≡ limit_kind (at_place false sorted.now input) }
+{
+    if is_marked(sorted, input) {
+        Kind::Standing
+    } else {
+        Kind::Kept
+    }
+}

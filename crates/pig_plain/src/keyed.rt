@@ -1,0 +1,328 @@
+ghost use Rattle.std.specs.Prelude.{◌≡◌, ◌≢◌, ◌+◌, [], ◌∷◌, ℕ, List, codes, length, map, IfOk, OnOk};
+ghost use Rattle.std.specs.List.{AllByRecursion};
+ghost use Rattle.pig_value.specs.Trees.{Tree, fields_of, row_tree, rows_tree, tree, v_chars, v_tuple};
+ghost use Rattle.pig_value.specs.Valid.{AreRows, IsRow, IsValue};
+ghost use Rattle.pig_typed.specs.Literals.{LiteralsAre};
+ghost use Rattle.pig_typed.specs.Typed.{typed};
+ghost use Rattle.pig_plan.specs.ByKey.{gathered};
+ghost use Rattle.pig_plan.specs.Laws.{KeyLiteralsAre};
+ghost use Rattle.pig_plan.specs.Meaning.{width_at};
+ghost use Rattle.pig_plan.specs.Operators.{group_all, group_rows, join_rows, keyed_entries, keys_of};
+ghost use Rattle.pig_plan.specs.Plans.{keyed_of, plan_of};
+ghost use Rattle.pig_runs.specs.Entries.{and_entries, no_entries_in};
+ghost use Rattle.pig_operators.specs.Given.{made};
+ghost use Rattle.pig_plain.specs.Operating.{AreValues, all_keyed, all_rows_keyed, brought_together, keyed_rows, outer_rows, table_rows};
+
+use crate::table::rows_at;
+use pig_eval::{eval, look, value};
+use pig_operators::{Gathering, gather};
+use pig_plan::{KeyedInput, Plan};
+use pig_runs::RunBuilder;
+use pig_typed::TExpr;
+use pig_value::{Dirs, Rows, Seq, Side, Text, Tuple, Value};
+use std::alloc::{AllocError, Global};
+
+/// GROUP ALL: one row with the bag of all rows, or none.
+pub fn all_grouped(alloc: Global, rows: &[Tuple]) -> Result<Rows, AllocError>
+    requires { AreRows (rows_tree rows.now) }
+    ensures { IfOk result (λ made. rows_tree made ≡ group_all (rows_tree rows.now)) }
+{
+    let builder = all_entries(alloc, rows)?;
+    gather(alloc, &Gathering::Group, builder.finish())
+}
+
+/// Rows under one key.
+fn all_entries(alloc: Global, rows: &[Tuple]) -> Result<RunBuilder, AllocError>
+    requires { AreRows (rows_tree rows.now) }
+    ensures { IfOk result (λ builder. builder
+        ≡ and_entries (all_rows_keyed (rows_tree rows.now)) (no_entries_in [])) }
+{
+    let key = all_key(alloc)?;
+    let mut builder = RunBuilder::new(alloc, Dirs::new(alloc));
+    let mut left = rows;
+    'rows: while let [row, rest @ ..] = left {
+        add_under(&key, 0, row, &mut builder)?;
+        left = rest;
+    }
+    Ok(builder)
+}
+
+fn all_key(alloc: Global) -> Result<Value, AllocError>
+    ensures key { IfOk result (λ key. tree key ≡ v_chars (codes "all")) }
+    ensures valid { IfOk result (λ key. IsValue (tree key)) }
+{
+    Ok(Value::Chars(Text::from_str(alloc, "all")?))
+}
+
+/// Adds a row under its key.
+fn add_under(
+    key: &Value,
+    number: u32,
+    row: &Tuple,
+    builder: &mut RunBuilder,
+) -> Result<(), AllocError>
+    requires ascending { builder.old.dirs ≡ [] }
+    requires key { IsValue (tree key.now) }
+    requires row { IsRow (row_tree row.now) }
+    ensures { OnOk result (builder.new ≡ and_entries
+        (record { key = tree key.now; input = number; row = row_tree row.now } ∷ []) builder.old) }
+{
+    builder.add(key, number, row)
+}
+
+/// GROUP and COGROUP.
+pub fn grouped(alloc: Global, inputs: &[KeyedInput], table: &[Rows]) -> Result<Rows, AllocError>
+    requires rows { AreValues table.now }
+    requires literals { KeyLiteralsAre IsValue (map keyed_of inputs.now) }
+    ensures { IfOk result (λ made. rows_tree made
+        ≡ group_rows (map keyed_of inputs.now) (table_rows table.now)) }
+{
+    let how = grouping(alloc, inputs)?;
+    brought(alloc, &how, inputs, table)
+}
+
+fn grouping(alloc: Global, inputs: &[KeyedInput]) -> Result<Gathering, AllocError>
+    ensures { IfOk result (λ how. (rows : ℕ → List (List Tree))
+        → gathered (made how) (keyed_entries 0 (map keyed_of inputs.now) rows) ≡ group_rows (map keyed_of inputs.now) rows) }
+{
+    if let [_one] = inputs {
+        return Ok(Gathering::Group);
+    }
+    cogrouping(alloc, inputs)
+}
+
+fn cogrouping(alloc: Global, inputs: &[KeyedInput]) -> Result<Gathering, AllocError>
+    requires { length inputs.now ≢ 1 }
+    ensures { IfOk result (λ how. (rows : ℕ → List (List Tree))
+        → gathered (made how) (keyed_entries 0 (map keyed_of inputs.now) rows) ≡ group_rows (map keyed_of inputs.now) rows) }
+{
+    let inner = flags(alloc, inputs)?;
+    Ok(Gathering::Cogroup { inner })
+}
+
+fn flags(alloc: Global, inputs: &[KeyedInput]) -> Result<Seq<bool>, AllocError>
+    ensures { IfOk result (λ inner. inner ≡ map (λ i. i.inner) (map keyed_of inputs.now)) }
+{
+    let mut inner = Seq::with_capacity(alloc, inputs.len())?;
+    for input in inputs {
+        inner.push(input.inner)?;
+    }
+    Ok(inner)
+}
+
+/// JOIN.
+pub fn joined(
+    alloc: Global,
+    plan: &Plan,
+    inputs: &[KeyedInput],
+    side: Side,
+    table: &[Rows],
+) -> Result<Rows, AllocError>
+    requires rows { AreValues table.now }
+    requires literals { KeyLiteralsAre IsValue (map keyed_of inputs.now) }
+    ensures { IfOk result (λ made. rows_tree made
+        ≡ join_rows side (width_at (plan_of plan.now)) (map keyed_of inputs.now) (table_rows table.now)) }
+{
+    match joining(plan, inputs, side) {
+        Some(how) => brought(alloc, &how, inputs, table),
+        None => Ok(Rows::new(alloc)),
+    }
+}
+
+/// How the inputs of a JOIN are brought together; one that keeps a side has two inputs.
+fn joining(plan: &Plan, inputs: &[KeyedInput], side: Side) -> Option<Gathering>
+    ensures { (rows : ℕ → List (List Tree))
+        → brought_together result (map keyed_of inputs.now) rows
+        ≡ join_rows side (width_at (plan_of plan.now)) (map keyed_of inputs.now) rows }
+{
+    match side {
+        Side::Inner => Some(Gathering::Join {
+            inputs: inputs.len(),
+        }),
+        Side::Left => outer(plan, inputs, Side::Left),
+        Side::Right => outer(plan, inputs, Side::Right),
+        Side::Full => outer(plan, inputs, Side::Full),
+    }
+}
+
+fn outer(plan: &Plan, inputs: &[KeyedInput], side: Side) -> Option<Gathering>
+    ensures { (rows : ℕ → List (List Tree))
+        → brought_together result (map keyed_of inputs.now) rows
+        ≡ outer_rows side (width_at (plan_of plan.now)) (map keyed_of inputs.now) rows }
+{
+    match inputs {
+        [left, right, ..] => Some(Gathering::Outer {
+            side,
+            left: width(plan, left.input),
+            right: width(plan, right.input),
+        }),
+        _ => None,
+    }
+}
+
+fn width(plan: &Plan, node: u32) -> usize
+    ensures { result ≡ width_at (plan_of plan.now) node }
+{
+    match plan.kinds(node) {
+        Some(kinds) => kinds.len(),
+        None => 0,
+    }
+}
+
+/// The rows of the inputs' entries, brought together.
+fn brought(
+    alloc: Global,
+    how: &Gathering,
+    inputs: &[KeyedInput],
+    table: &[Rows],
+) -> Result<Rows, AllocError>
+    requires rows { AreValues table.now }
+    requires literals { KeyLiteralsAre IsValue (map keyed_of inputs.now) }
+    ensures { IfOk result (λ rows. rows_tree rows
+        ≡ gathered (made how.now) (keyed_entries 0 (map keyed_of inputs.now) (table_rows table.now))) }
+{
+    let builder = entries(alloc, inputs, table)?;
+    gather(alloc, how, builder.finish())
+}
+
+/// The entries of all inputs, each row under its key.
+fn entries(alloc: Global, inputs: &[KeyedInput], table: &[Rows]) -> Result<RunBuilder, AllocError>
+    requires rows { AreValues table.now }
+    requires literals { KeyLiteralsAre IsValue (map keyed_of inputs.now) }
+    ensures { IfOk result (λ builder. builder
+        ≡ and_entries (all_keyed 0 (map keyed_of inputs.now) (table_rows table.now)) (no_entries_in [])) }
+{
+    let mut builder = RunBuilder::new(alloc, Dirs::new(alloc));
+    let mut number = 0;
+    let mut left = inputs;
+    'inputs: while let [input, rest @ ..] = left {
+        add_input(alloc, input, number, table, &mut builder)?;
+        number = next_number(number)?;
+        left = rest;
+    }
+    Ok(builder)
+}
+
+/// The number of the next input, which an entry has room for.
+fn next_number(number: u32) -> Result<u32, AllocError>
+    ensures { IfOk result (λ next. next ≡ number + 1) }
+{
+    number.checked_add(1).ok_or(AllocError)
+}
+
+fn add_input(
+    alloc: Global,
+    input: &KeyedInput,
+    number: u32,
+    table: &[Rows],
+    builder: &mut RunBuilder,
+) -> Result<(), AllocError>
+    requires ascending { builder.old.dirs ≡ [] }
+    requires rows { AreValues table.now }
+    requires literals { AllByRecursion (LiteralsAre IsValue) (map typed input.now.keys) }
+    ensures { OnOk result (builder.new
+        ≡ and_entries (keyed_rows (map typed input.now.keys) number (table_rows table.now input.now.input)) builder.old) }
+{
+    let rows = rows_at(table, input.input);
+    add_rows(alloc, input.keys.as_slice(), number, rows, builder)
+}
+
+fn add_rows(
+    alloc: Global,
+    keys: &[TExpr],
+    number: u32,
+    rows: &[Tuple],
+    builder: &mut RunBuilder,
+) -> Result<(), AllocError>
+    requires ascending { builder.old.dirs ≡ [] }
+    requires rows { AreRows (rows_tree rows.now) }
+    requires literals { AllByRecursion (LiteralsAre IsValue) (map typed keys.now) }
+    ensures { OnOk result (builder.new
+        ≡ and_entries (keyed_rows (map typed keys.now) number (rows_tree rows.now)) builder.old) }
+{
+    let mut left = rows;
+    'rows: while let [row, rest @ ..] = left {
+        add_row(alloc, keys, number, row, builder)?;
+        left = rest;
+    }
+    Ok(())
+}
+
+fn add_row(
+    alloc: Global,
+    keys: &[TExpr],
+    number: u32,
+    row: &Tuple,
+    builder: &mut RunBuilder,
+) -> Result<(), AllocError>
+    requires ascending { builder.old.dirs ≡ [] }
+    requires row { IsRow (row_tree row.now) }
+    requires literals { AllByRecursion (LiteralsAre IsValue) (map typed keys.now) }
+    ensures { OnOk result (builder.new
+        ≡ and_entries (keyed_rows (map typed keys.now) number (row_tree row.now ∷ [])) builder.old) }
+{
+    if let [key] = keys {
+        return add_by_one(alloc, key, number, row, builder);
+    }
+    add_by_several(alloc, keys, number, row, builder)
+}
+
+// One key is looked at where it stands.
+fn add_by_one(
+    alloc: Global,
+    key: &TExpr,
+    number: u32,
+    row: &Tuple,
+    builder: &mut RunBuilder,
+) -> Result<(), AllocError>
+    requires ascending { builder.old.dirs ≡ [] }
+    requires row { IsRow (row_tree row.now) }
+    requires literals { LiteralsAre IsValue (typed key.now) }
+    ensures { OnOk result (builder.new
+        ≡ and_entries (keyed_rows (typed key.now ∷ []) number (row_tree row.now ∷ [])) builder.old) }
+{
+    let none = Tuple::new(alloc);
+    let seen = look(alloc, key, row, &none)?;
+    add_under(value(&seen), number, row, builder)
+}
+
+// Several keys, or none, are a tuple.
+fn add_by_several(
+    alloc: Global,
+    keys: &[TExpr],
+    number: u32,
+    row: &Tuple,
+    builder: &mut RunBuilder,
+) -> Result<(), AllocError>
+    requires ascending { builder.old.dirs ≡ [] }
+    requires row { IsRow (row_tree row.now) }
+    requires literals { AllByRecursion (LiteralsAre IsValue) (map typed keys.now) }
+    requires several { length keys.now ≢ 1 }
+    ensures { OnOk result (builder.new
+        ≡ and_entries (keyed_rows (map typed keys.now) number (row_tree row.now ∷ [])) builder.old) }
+{
+    let key = tuple_of(alloc, keys, row)?;
+    add_under(&key, number, row, builder)
+}
+
+fn tuple_of(alloc: Global, keys: &[TExpr], row: &Tuple) -> Result<Value, AllocError>
+    requires row { IsRow (row_tree row.now) }
+    requires literals { AllByRecursion (LiteralsAre IsValue) (map typed keys.now) }
+    ensures key { IfOk result (λ key. tree key
+        ≡ v_tuple (fields_of (keys_of (map typed keys.now) (row_tree row.now)))) }
+    ensures valid { IfOk result (λ key. IsValue (tree key)) }
+{
+    Ok(Value::Tuple(values(alloc, keys, row)?))
+}
+
+/// The values of keys on a row.
+fn values(alloc: Global, keys: &[TExpr], row: &Tuple) -> Result<Tuple, AllocError>
+    ensures { IfOk result (λ vs. row_tree vs ≡ keys_of (map typed keys.now) (row_tree row.now)) }
+{
+    let none = Tuple::new(alloc);
+    let mut found = Tuple::with_capacity(alloc, keys.len())?;
+    for key in keys {
+        found.push(eval(alloc, key, row, &none)?)?;
+    }
+    Ok(found)
+}

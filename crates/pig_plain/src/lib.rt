@@ -1,0 +1,16 @@
+//! The plain answer: what a plan means over inputs, node by node, on one thread.
+//!
+//! [`answer`] gives the rows of each STORE, and what each bare LIMIT kept.
+#![tactic(auto)]
+
+mod answering;
+mod keyed;
+mod loading;
+mod operating;
+mod ranking;
+mod rowwise;
+mod sorted;
+mod table;
+mod uses;
+
+pub use answering::{Answers, Relations, answer};
