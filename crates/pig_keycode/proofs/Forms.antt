@@ -15,7 +15,7 @@ use Rattle.pig_value.specs.Valid.{AreTuples, AreEntries, TextsAscend}
 use Rattle.pig_keycode.specs.Codes.{bool_code, biased, text_code, code, fields_code, tuples_code, entries_code}
 use Rattle.pig_value.specs.Valid.{IsValue}
 use Rattle.pig_value.specs.Leaves.{AreBytes}
-use Rattle.pig_keycode.specs.Reading.{StandsFirst, NoneFirst, mark_code, AnyMark, row_code, fields_part, rows_part, pair_code, IsCodedPair, pairs_part, AreCodedPairs, keys_of}
+use Rattle.pig_keycode.specs.Reading.{StandsFirst, NoneFirst, mark_code, AnyMark, row_code, fields_part, rows_part, pair_code, IsCodedPair, pairs_part, AreCodedPairs, pair_keys}
 use Rattle.pig_value.specs.Valid.{IsRow, AreRows}
 use Rattle.pig_keycode.proofs.CodeOrder.{entries_order}
 use Rattle.pig_keycode.proofs.Sequences.{list_code, ListGoes, list_ends, list_off, item_off, heads, tails}
@@ -257,10 +257,10 @@ pairs_off = part_off pair_code IsCodedPair pairs_part AreCodedPairs pairs_writte
 pub pairs_item_off : (bytes rest left : List ℕ) (done : List (List ℕ × Tree)) → ListGoes pair_code IsCodedPair bytes rest done → StandsFirst mark_code AnyMark rest true left → NoneFirst pair_code IsCodedPair left → NoneFirst pairs_part AreCodedPairs bytes
 pairs_item_off = part_item_off pair_code IsCodedPair pairs_part AreCodedPairs pairs_written pairs_good pairs_back_good
 
-pub stands_map : (content : List ℕ) (ps : List (List ℕ × Tree)) (rest : List ℕ) → TextsAscend (keys_of ps) → StandsFirst pairs_part AreCodedPairs content ps rest → StandsFirst code IsValue (9 ∷ content) (v_map (entries_of ps)) rest
+pub stands_map : (content : List ℕ) (ps : List (List ℕ × Tree)) (rest : List ℕ) → TextsAscend (pair_keys ps) → StandsFirst pairs_part AreCodedPairs content ps rest → StandsFirst code IsValue (9 ∷ content) (v_map (entries_of ps)) rest
 stands_map content ps rest rises h = record {
   is = ap (λ l. 9 ∷ l) h.is;
-  good = (subst (λ l. TextsAscend (keys_of l)) (sym (entries_back ps)) rises, h.good);
+  good = (subst (λ l. TextsAscend (pair_keys l)) (sym (entries_back ps)) rises, h.good);
 }
 
 pub none_map : (content : List ℕ) → NoneFirst pairs_part AreCodedPairs content → NoneFirst code IsValue (9 ∷ content)
@@ -279,7 +279,7 @@ entries_in (v_map ps) = ps
 entries_in v = no_entries
 
 -- pairs whose keys don't ascend
-pub off_map : (content : List ℕ) (ps : List (List ℕ × Tree)) (left : List ℕ) → ¬ (TextsAscend (keys_of ps)) → StandsFirst pairs_part AreCodedPairs content ps left → NoneFirst code IsValue (9 ∷ content)
+pub off_map : (content : List ℕ) (ps : List (List ℕ × Tree)) (left : List ℕ) → ¬ (TextsAscend (pair_keys ps)) → StandsFirst pairs_part AreCodedPairs content ps left → NoneFirst code IsValue (9 ∷ content)
 off_map content ps left mixed h = none_by_tag 9 content by
   where
     by : (v : Tree) (rest : List ℕ) → rank v ≡ 9 → IsValue v → content ≡ content_of v ++ rest → ⊥
@@ -288,7 +288,7 @@ off_map content ps left mixed h = none_by_tag 9 content by
         let both = parts_equal (entries_code (entries_of ps) ++ left) (entries_code qs ++ rest) left rest (entries_cmp (entries_of ps) qs) law (sym h.is ∙ is) in
         let one : v_map (entries_of ps) ≡ v_map qs = tree_same (v_map (entries_of ps)) (v_map qs) both.0 in
         let same : entries_list qs ≡ ps = sym (ap (λ v. entries_list (entries_in v)) one) ∙ entries_back ps in
-        mixed (subst (λ l. TextsAscend (keys_of l)) same good.0)
+        mixed (subst (λ l. TextsAscend (pair_keys l)) same good.0)
     by v rest e good is = omega (arith, e)
 
 -- ---- a key and a value

@@ -14,7 +14,7 @@ use Rattle.pig_value.specs.declared.operators.Dir.{Dir}
 use Rattle.pig_value.specs.declared.operators.Dir.TheVariants as dir
 use Rattle.pig_value.proofs.OrderLaws.{tree_total, tree_same, dirs_total, dirs_same}
 use Rattle.pig_keycode.specs.Codes.{code_in}
-use Rattle.pig_keycode.specs.Keys.{IsKey, fields_in, key_cmp, codes_in, key_code}
+use Rattle.pig_keycode.specs.Keys.{IsKey, fields_of_key, key_cmp, codes_in, key_code}
 use Rattle.pig_keycode.proofs.CodeOrder.{chained, code_order}
 use Rattle.pig_keycode.proofs.Turned.{turned_followed, then_nothing}
 use Rattle.pig_keycode.proofs.Unique.{both_equal, parts_equal}
@@ -36,8 +36,8 @@ fields_order (d ∷ ds) (x ∷ xs) (y ∷ ys) m n h k s t =
     (fields_order ds xs ys (omega (arith, m)) (omega (arith, n)) h.1 k.1 s t)
 
 -- keys that are the same by their fields are the same
-same_key : (ds : List Dir) (a b : Tree) → a ≡ v_tuple (fields_of (fields_in a)) → b ≡ v_tuple (fields_of (fields_in b)) → dirs_cmp ds (fields_in a) (fields_in b) ≡ Equal → a ≡ b
-same_key ds a b h k e = h ∙ (ap (λ vs. v_tuple (fields_of vs)) (dirs_same ds (fields_in a) (fields_in b) e) ∙ sym k)
+same_key : (ds : List Dir) (a b : Tree) → a ≡ v_tuple (fields_of (fields_of_key a)) → b ≡ v_tuple (fields_of (fields_of_key b)) → dirs_cmp ds (fields_of_key a) (fields_of_key b) ≡ Equal → a ≡ b
+same_key ds a b h k e = h ∙ (ap (λ vs. v_tuple (fields_of vs)) (dirs_same ds (fields_of_key a) (fields_of_key b) e) ∙ sym k)
 
 then_itself : (r : Ordering) (a b : Tree) → (r ≡ Equal → a ≡ b) → ordering_then r (tree_cmp a b) ≡ r
 then_itself Less a b h = refl
@@ -45,13 +45,13 @@ then_itself Equal a b h = ap (tree_cmp a) (sym (h refl)) ∙ tied_itself tree_to
 then_itself Greater a b h = refl
 
 -- the order of keys of the form that the directions ask is that of their fields alone
-pub key_cmp_is : (d : Dir) (ds : List Dir) (a b : Tree) → IsKey (d ∷ ds) a → IsKey (d ∷ ds) b → key_cmp (d ∷ ds) a b ≡ dirs_cmp (d ∷ ds) (fields_in a) (fields_in b)
-key_cmp_is d ds a b h k = then_itself (dirs_cmp (d ∷ ds) (fields_in a) (fields_in b)) a b (same_key (d ∷ ds) a b h.1 k.1)
+pub key_cmp_is : (d : Dir) (ds : List Dir) (a b : Tree) → IsKey (d ∷ ds) a → IsKey (d ∷ ds) b → key_cmp (d ∷ ds) a b ≡ dirs_cmp (d ∷ ds) (fields_of_key a) (fields_of_key b)
+key_cmp_is d ds a b h k = then_itself (dirs_cmp (d ∷ ds) (fields_of_key a) (fields_of_key b)) a b (same_key (d ∷ ds) a b h.1 k.1)
 
 pub key_order : (ds : List Dir) (a b : Tree) → IsKey ds a → IsKey ds b → (s t : List ℕ) → slice_cmp nat_cmp (key_code ds a ++ s) (key_code ds b ++ t) ≡ ordering_then (key_cmp ds a b) (slice_cmp nat_cmp s t)
 key_order [] a b h k s t = code_order a b h k s t
 key_order (d ∷ ds) a b h k s t =
-    fields_order (d ∷ ds) (fields_in a) (fields_in b) h.2 k.2 (subst IsValue h.1 h.0) (subst IsValue k.1 k.0) s t
+    fields_order (d ∷ ds) (fields_of_key a) (fields_of_key b) h.2 k.2 (subst IsValue h.1 h.0) (subst IsValue k.1 k.0) s t
     ∙ ap (λ r. ordering_then r (slice_cmp nat_cmp s t)) (sym (key_cmp_is d ds a b h k))
 
 pub whole_key_order : (ds : List Dir) (a b : Tree) → IsKey ds a → IsKey ds b → slice_cmp nat_cmp (key_code ds a) (key_code ds b) ≡ key_cmp ds a b
@@ -63,11 +63,11 @@ whole_key_order ds a b h k =
 -- the order of keys is total, and tells keys apart
 pub key_total : (ds : List Dir) → IsTotalOrder (key_cmp ds)
 key_total [] = tree_total
-key_total (d ∷ ds) = then_total (on_total fields_in (dirs_total (d ∷ ds))) tree_total
+key_total (d ∷ ds) = then_total (on_total fields_of_key (dirs_total (d ∷ ds))) tree_total
 
 pub key_same : (ds : List Dir) (a b : Tree) → key_cmp ds a b ≡ Equal → a ≡ b
 key_same [] a b e = tree_same a b e
-key_same (d ∷ ds) a b e = tree_same a b (both_equal (dirs_cmp (d ∷ ds) (fields_in a) (fields_in b)) (tree_cmp a b) e).1
+key_same (d ∷ ds) a b e = tree_same a b (both_equal (dirs_cmp (d ∷ ds) (fields_of_key a) (fields_of_key b)) (tree_cmp a b) e).1
 
 -- the code of a key tells it, whatever follows
 pub key_told : (ds : List Dir) (a b : Tree) (s t : List ℕ) → IsKey ds a → IsKey ds b → key_code ds a ++ s ≡ key_code ds b ++ t → (a ≡ b) × (s ≡ t)

@@ -9,19 +9,19 @@ use Rattle.pig_value.specs.declared.operators.Dir.{Dir}
 use Rattle.pig_keycode.specs.Codes.{code, code_in}
 
 -- the fields of a key that is a tuple
-abbrev pub fields_in : Tree → List Tree
-fields_in (v_tuple vs) = fields_list vs
-fields_in _ = []
+abbrev pub fields_of_key : Tree → List Tree
+fields_of_key (v_tuple vs) = fields_list vs
+fields_of_key _ = []
 
 -- A key of the form that directions ask for: any value where there are none, and else a tuple of as many fields.
 abbrev pub IsKey : List Dir → Tree → Type 0
 IsKey [] key = IsValue key
-IsKey (d ∷ ds) key = IsValue key × (key ≡ v_tuple (fields_of (fields_in key))) × (length (fields_in key) ≡ length (d ∷ ds))
+IsKey (d ∷ ds) key = IsValue key × (key ≡ v_tuple (fields_of (fields_of_key key))) × (length (fields_of_key key) ≡ length (d ∷ ds))
 
 -- The order of keys: by each field in its own direction, and where there are no directions the order of values.
 abbrev pub key_cmp : List Dir → Tree → Tree → Ordering
 key_cmp [] a b = tree_cmp a b
-key_cmp (d ∷ ds) a b = ordering_then (dirs_cmp (d ∷ ds) (fields_in a) (fields_in b)) (tree_cmp a b)
+key_cmp (d ∷ ds) a b = ordering_then (dirs_cmp (d ∷ ds) (fields_of_key a) (fields_of_key b)) (tree_cmp a b)
 
 -- the codes of fields, one behind the other, each in its own direction
 abbrev pub codes_in : List Dir → List Tree → List ℕ
@@ -31,4 +31,4 @@ codes_in _ _ = []
 -- the code of a key: ascending, or that of its fields in their directions
 abbrev pub key_code : List Dir → Tree → List ℕ
 key_code [] key = code key
-key_code (d ∷ ds) key = codes_in (d ∷ ds) (fields_in key)
+key_code (d ∷ ds) key = codes_in (d ∷ ds) (fields_of_key key)

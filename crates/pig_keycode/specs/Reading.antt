@@ -74,8 +74,8 @@ abbrev pub AreCodedPairs : List (List ℕ × Tree) → Type 0
 AreCodedPairs pairs = AreEntries (entries_of pairs)
 
 -- the keys of a map's pairs
-abbrev pub keys_of : List (List ℕ × Tree) → List (List ℕ)
-keys_of = map (λ p. p.0)
+abbrev pub pair_keys : List (List ℕ × Tree) → List (List ℕ)
+pair_keys = map (λ p. p.0)
 
 -- a key stands before the first of those behind it
 abbrev pub KeyRises : List ℕ → List (List ℕ) → Type 0

@@ -9,7 +9,7 @@ ghost use Rattle.pig_value.specs.Valid.{TextsAscend, IsValue, IsRow, AreRows};
 ghost use Rattle.pig_keycode.specs.declared.decoding.ReadFault.TheVariants.{OutOfMemory};
 ghost use Rattle.pig_keycode.specs.Codes.{biased, text_code, code};
 ghost use Rattle.pig_keycode.specs.Codable.{IsCodeOf, IsCodeOfRow};
-ghost use Rattle.pig_keycode.specs.Reading.{Reads, StandsFirst, NoneFirst, mark_code, AnyMark, byte_code, IsByteOrEnd, row_code, fields_part, rows_part, pair_code, IsCodedPair, pairs_part, AreCodedPairs, keys_of, KeyRises};
+ghost use Rattle.pig_keycode.specs.Reading.{Reads, StandsFirst, NoneFirst, mark_code, AnyMark, byte_code, IsByteOrEnd, row_code, fields_part, rows_part, pair_code, IsCodedPair, pairs_part, AreCodedPairs, pair_keys, KeyRises};
 
 use crate::tags::{
     BAG, BOOL, BYTES, CHARS, END, ESCAPED, INT, ITEM, LISTED, LONG, MAP, NULL, TUPLE,
@@ -377,7 +377,7 @@ fn rises(row: &Tuple, others: &[Tuple]) -> bool
 
 // Whether the keys of a map ascend and differ.
 fn keys_ascend(pairs: &[Pair]) -> bool
-    ensures { IsTrue result ↔ TextsAscend (keys_of (map entry_of pairs.now)) }
+    ensures { IsTrue result ↔ TextsAscend (pair_keys (map entry_of pairs.now)) }
 {
     let mut rest = pairs;
     while let [pair, others @ ..] = rest {
@@ -391,7 +391,7 @@ fn keys_ascend(pairs: &[Pair]) -> bool
 
 // Whether a key stands before the first of those behind it.
 fn key_rises(pair: &Pair, others: &[Pair]) -> bool
-    ensures { IsTrue result ↔ KeyRises pair.now.key (keys_of (map entry_of others.now)) }
+    ensures { IsTrue result ↔ KeyRises pair.now.key (pair_keys (map entry_of others.now)) }
 {
     match others {
         [next, ..] => pair.key.as_bytes().cmp(next.key.as_bytes()) == Ordering::Less,

@@ -4,7 +4,7 @@ ghost use Rattle.pig_value.specs.Extended.{IsExtended};
 ghost use Rattle.pig_value.specs.Trees.{tree, row_tree, rows_tree, entry_of, fields_of, tuples_of, entries_of};
 ghost use Rattle.pig_value.specs.declared.operators.Dir.{Dir};
 ghost use Rattle.pig_keycode.specs.Codes.{bool_code, biased, escaped, text_code, code, fields_code, tuples_code, entries_code, turned, in_direction, code_in};
-ghost use Rattle.pig_keycode.specs.Keys.{fields_in, key_code, codes_in};
+ghost use Rattle.pig_keycode.specs.Keys.{fields_of_key, key_code, codes_in};
 ghost use Rattle.pig_keycode.specs.Reading.{row_code};
 
 use crate::tags::{
@@ -71,13 +71,13 @@ fn write_key(key: &Value, dirs: &[Dir], out: &mut Vec<u8>) -> Result<(), AllocEr
 {
     match dirs {
         [] => write_value(key, out),
-        [_, ..] => write_directed(fields_in(key), dirs, out),
+        [_, ..] => write_directed(fields_of_key(key), dirs, out),
     }
 }
 
 // The fields of a key that is a tuple.
-fn fields_in(key: &Value) -> &[Value]
-    ensures { row_tree result.now ≡ fields_in (tree key.now) }
+fn fields_of_key(key: &Value) -> &[Value]
+    ensures { row_tree result.now ≡ fields_of_key (tree key.now) }
 {
     match key {
         Value::Tuple(fields) => fields.as_slice(),

@@ -20,7 +20,7 @@ use Rattle.pig_value.proofs.list_laws.Bags.{ascends_prop, drop_ascends, rises_al
 use Rattle.pig_value.proofs.list_laws.Indexing.{some_at}
 use Rattle.pig_value.proofs.list_laws.Listing.{each-drop, each-map, each_at, each_of_all, each_weaker}
 use Rattle.pig_value.proofs.list_laws.Runs.{front}
-use Rattle.pig_keycode.specs.Keys.{fields_in, key_cmp}
+use Rattle.pig_keycode.specs.Keys.{fields_of_key, key_cmp}
 use Rattle.pig_keycode.proofs.KeyOrder.{key_total, key_same}
 use Rattle.pig_plan.specs.ByKey.{gathered, rows_of}
 use Rattle.pig_runs.specs.Entries.{InDirections, Keyed, key_at, run_cmp}
@@ -121,8 +121,8 @@ module _ (run : InDirections) (from end : ℕ) (group : IsGroup run from end) (u
   abbrev keyed_by_row : Keyed → Type 0
   keyed_by_row e = e.key ≡ v_tuple (fields_of e.row)
 
-  row_is : (e : Keyed) → keyed_by_row e → e.row ≡ fields_in e.key
-  row_is e h = sym (ap fields_in h ∙ fields_back e.row)
+  row_is : (e : Keyed) → keyed_by_row e → e.row ≡ fields_of_key e.key
+  row_is e h = sym (ap fields_of_key h ∙ fields_back e.row)
 
   -- the row of the group, and then those of the rest
   pub distinct_group : run.dirs ≡ [] → AreKeyedByRow run.entries → distinct row_cmp (map (λ e. e.row) (drop from run.entries)) ≡ first.0.row ∷ distinct row_cmp (map (λ e. e.row) (drop end run.entries))
@@ -135,7 +135,7 @@ module _ (run : InDirections) (from end : ℕ) (group : IsGroup run from end) (u
       each_between (λ e. e.row ≡ first.0.row) from end run.entries
       (λ k x low high is.
       let key : x.key ≡ first.0.key = some_same (sym (ap (option_map (λ e. e.key)) is) ∙ (group.same k low high ∙ key_is)) in
-      row_is x (each_at keyed_by_row run.entries k x is keyed) ∙ (ap fields_in key ∙ sym (row_is first.0 here)))
+      row_is x (each_at keyed_by_row run.entries k x is keyed) ∙ (ap fields_of_key key ∙ sym (row_is first.0 here)))
       in
       let above : HaveGreater row_cmp (λ e. e.row) first.0.row rest =
       each_weaker (λ e. above_key e × keyed_by_row e) (λ e. row_cmp first.0.row e.row ≡ Less)

@@ -8,7 +8,7 @@ use Rattle.pig_value.specs.Sorts.{Ascends}
 use Rattle.pig_value.specs.Valid.{TextsAscend}
 use Rattle.pig_keycode.specs.Codes.{code}
 use Rattle.pig_value.specs.Valid.{IsValue}
-use Rattle.pig_keycode.specs.Reading.{StandsFirst, mark_code, AnyMark, row_code, fields_part, rows_part, pair_code, IsCodedPair, pairs_part, AreCodedPairs, keys_of}
+use Rattle.pig_keycode.specs.Reading.{StandsFirst, mark_code, AnyMark, row_code, fields_part, rows_part, pair_code, IsCodedPair, pairs_part, AreCodedPairs, pair_keys}
 use Rattle.pig_value.specs.Valid.{IsRow, AreRows}
 use Rattle.pig_keycode.proofs.Forms.{not_longer, one_shorter, fields_end, fields_off, fields_item_off, none_tuple, row_told, rows_end, rows_off, rows_item_off, stands_bag, none_bag, none_listed, off_bag, pairs_end, pairs_off, pairs_item_off, stands_map, none_map, off_map, stands_pair, none_after, pair_told}
 use Rattle.pig_keycode.proofs.Unique.{code_told}
@@ -117,12 +117,12 @@ read_bag_value-returns t c =
 
 pub read_map_value-returns-then-keys_ascend : goal.read_map_value-returns-then-keys_ascend
 read_map_value-returns-then-keys_ascend t c =
-    let rises : TextsAscend (keys_of (map entry_of c.in_ok-pairs.pairs)) = search rules in
+    let rises : TextsAscend (pair_keys (map entry_of c.in_ok-pairs.pairs)) = search rules in
     subst (λ v. StandsFirst code IsValue (9 ∷ c.args.content.now) v c.in_ok-pairs.rest.now) (sym (tree-Map c.in_ok-pairs.pairs)) (stands_map c.args.content.now (map entry_of c.in_ok-pairs.pairs) c.in_ok-pairs.rest.now rises c.in_ok-pairs.ensures)
 
 pub read_map_value-returns : goal.read_map_value-returns
 read_map_value-returns t c =
-    let mixed : ¬ (TextsAscend (keys_of (map entry_of c.in_ok-pairs.pairs))) = search rules in
+    let mixed : ¬ (TextsAscend (pair_keys (map entry_of c.in_ok-pairs.pairs))) = search rules in
     off_map c.args.content.now (map entry_of c.in_ok-pairs.pairs) c.in_ok-pairs.rest.now mixed c.in_ok-pairs.ensures
 
 pub read_pair-returns-in_err-value : goal.read_pair-returns-in_err-value
