@@ -1,11 +1,11 @@
 //! What no clause says of `type_expr`: that expressions of each form are typed with ample memory, or refused with the
 //! kind that is due.
 use crate::shared::{
-    add, call, call_two, cast, choose, columns, equal, field, locals, look, part, plain, text,
+    add, add_fields, call, call_long, call_part, call_two, cast_look, choose, columns,
+    equal_fields, equal_long, field, locals, looked_equal, not, part, plain, to_float,
 };
-use pig_syntax::{Expr, FieldRef, TypeTree};
+use pig_syntax::{Expr, FieldRef};
 use pig_typing::{Scope, TypeFault, TypedExpr, type_expr};
-use pig_value::Boxed;
 use std::alloc::{AllocError, Global};
 use std::test::Fail;
 
@@ -41,30 +41,36 @@ NOT b => Not(Cast { to: Boolean, a: Field(1) }) None Boolean\n\
 
 fn expression(alloc: Global, row: usize) -> Result<Expr, AllocError> {
     match row {
-        0 => add(alloc, field(alloc, "a")?, Expr::Int(1)),
-        1 => add(alloc, field(alloc, "b")?, field(alloc, "a")?),
-        2 => add(alloc, field(alloc, "a")?, Expr::Long(5)),
-        3 => equal(alloc, field(alloc, "a")?, Expr::Long(5)),
-        4 => equal(alloc, field(alloc, "s")?, field(alloc, "a")?),
+        0 => add(alloc, "a", Expr::Int(1)),
+        1 => add_fields(alloc, "b", "a"),
+        2 => add(alloc, "a", Expr::Long(5)),
+        3 => equal_long(alloc, "a", 5),
+        4 => equal_fields(alloc, "s", "a"),
         5 => field(alloc, "k"),
         6 => field(alloc, "p::k"),
         7 => field(alloc, "zz"),
         8 => Ok(Expr::Field(FieldRef::Position(9))),
         9 => field(alloc, "n"),
         10 => Ok(Expr::Field(FieldRef::Position(3))),
-        11 => equal(alloc, look(alloc)?, text(alloc, "x")?),
+        11 => looked_equal(alloc, "x"),
         12 => part(alloc, "t", "y"),
-        13 => call(alloc, "SUM", part(alloc, "g", "r")?),
-        14 => call(alloc, "AVG", field(alloc, "a")?),
-        15 => call_two(alloc, "NOPE", field(alloc, "a")?, field(alloc, "s")?),
-        16 => call_two(alloc, "COUNT", field(alloc, "a")?, field(alloc, "b")?),
-        17 => call(alloc, "COUNT", field(alloc, "a")?),
-        18 => call_two(alloc, "CONCAT", field(alloc, "s")?, field(alloc, "b")?),
-        19 => call_two(alloc, "TOBAG", field(alloc, "t")?, field(alloc, "t")?),
-        20 => call_two(alloc, "TOBAG", field(alloc, "a")?, Expr::Long(5)),
-        21 => Ok(Expr::Not(Boxed::new(alloc, field(alloc, "b")?)?)),
-        22 => cast(alloc, TypeTree::Int, look(alloc)?),
-        23 => cast(alloc, TypeTree::Float, field(alloc, "a")?),
+        _ => call_or_cast(alloc, row),
+    }
+}
+
+fn call_or_cast(alloc: Global, row: usize) -> Result<Expr, AllocError> {
+    match row {
+        13 => call_part(alloc, "SUM", "g", "r"),
+        14 => call(alloc, "AVG", "a"),
+        15 => call_two(alloc, "NOPE", "a", "s"),
+        16 => call_two(alloc, "COUNT", "a", "b"),
+        17 => call(alloc, "COUNT", "a"),
+        18 => call_two(alloc, "CONCAT", "s", "b"),
+        19 => call_two(alloc, "TOBAG", "t", "t"),
+        20 => call_long(alloc, "TOBAG", "a", 5),
+        21 => not(alloc, "b"),
+        22 => cast_look(alloc),
+        23 => to_float(alloc, "a"),
         _ => choose(alloc),
     }
 }

@@ -31,35 +31,66 @@ FLATTEN(t) AS p => Refused(SchemaMismatch)\n\
 FLATTEN(g) AS p => Field(6) true 1: Some('p') Long\n\
 zz AS x => Refused(UnknownField)";
 
+// A written type, or none.
+#[derive(Clone, Copy, Drop)]
+enum Written {
+    Bare,
+    Int,
+    Long,
+    Chararray,
+    Float,
+}
+
+fn kind_of(word: Written) -> Option<TypeTree> {
+    match word {
+        Written::Bare => None,
+        Written::Int => Some(TypeTree::Int),
+        Written::Long => Some(TypeTree::Long),
+        Written::Chararray => Some(TypeTree::Chararray),
+        Written::Float => Some(TypeTree::Float),
+    }
+}
+
 fn item(alloc: Global, row: usize) -> Result<Item, AllocError> {
     match row {
-        0 => single(alloc, "a", None),
-        1 => single(alloc, "n", None),
-        2 => single(alloc, "a", Some(one(alloc, "x", None)?)),
-        3 => single(alloc, "a", Some(one(alloc, "x", Some(TypeTree::Long))?)),
-        4 => single(alloc, "a", Some(one(alloc, "x", Some(TypeTree::Int))?)),
-        5 => single(alloc, "a", Some(listed(alloc, "x")?)),
-        6 => single(alloc, "a", Some(two(alloc, "x", None, "y", None)?)),
-        7 => single(alloc, "a", Some(one(alloc, "x", Some(TypeTree::Float))?)),
-        8 => single(alloc, "m", Some(one(alloc, "x", Some(TypeTree::Int))?)),
-        9 => Ok(value(text(alloc, "k")?, false, None)),
-        10 => flat(alloc, "t", None),
-        11 => flat(alloc, "g", None),
-        12 => flat(alloc, "n", None),
-        13 => flat(alloc, "a", None),
-        14 => flat(alloc, "m", None),
-        15 => {
-            let names = two(alloc, "p", None, "q", Some(TypeTree::Chararray))?;
-            flat(alloc, "t", Some(names))
-        }
-        16 => flat(
+        0 => bare(alloc, "a", false),
+        1 => bare(alloc, "n", false),
+        2 => named(alloc, "a", false, "x", Written::Bare),
+        3 => named(alloc, "a", false, "x", Written::Long),
+        4 => named(alloc, "a", false, "x", Written::Int),
+        5 => listed(alloc, "a", "x"),
+        6 => pair(
+            alloc,
+            "a",
+            false,
+            ("x", Written::Bare),
+            ("y", Written::Bare),
+        ),
+        7 => named(alloc, "a", false, "x", Written::Float),
+        8 => named(alloc, "m", false, "x", Written::Int),
+        9 => literal(alloc, "k"),
+        10 => bare(alloc, "t", true),
+        11 => bare(alloc, "g", true),
+        12 => bare(alloc, "n", true),
+        _ => flattened(alloc, row),
+    }
+}
+
+fn flattened(alloc: Global, row: usize) -> Result<Item, AllocError> {
+    match row {
+        13 => bare(alloc, "a", true),
+        14 => bare(alloc, "m", true),
+        15 => pair(
             alloc,
             "t",
-            Some(two(alloc, "p", Some(TypeTree::Long), "q", None)?),
+            true,
+            ("p", Written::Bare),
+            ("q", Written::Chararray),
         ),
-        17 => flat(alloc, "t", Some(one(alloc, "p", None)?)),
-        18 => flat(alloc, "g", Some(one(alloc, "p", None)?)),
-        _ => single(alloc, "zz", Some(one(alloc, "x", None)?)),
+        16 => pair(alloc, "t", true, ("p", Written::Long), ("q", Written::Bare)),
+        17 => named(alloc, "t", true, "p", Written::Bare),
+        18 => named(alloc, "g", true, "p", Written::Bare),
+        _ => named(alloc, "zz", false, "x", Written::Bare),
     }
 }
 
@@ -71,40 +102,50 @@ fn value(value: Expr, flatten: bool, names: Option<AsNames>) -> Item {
     }
 }
 
-fn single(alloc: Global, of: &str, names: Option<AsNames>) -> Result<Item, AllocError> {
-    Ok(value(field(alloc, of)?, false, names))
+fn literal(alloc: Global, of: &str) -> Result<Item, AllocError> {
+    Ok(value(text(alloc, of)?, false, None))
 }
 
-fn flat(alloc: Global, of: &str, names: Option<AsNames>) -> Result<Item, AllocError> {
-    Ok(value(field(alloc, of)?, true, names))
+fn bare(alloc: Global, of: &str, flatten: bool) -> Result<Item, AllocError> {
+    Ok(value(field(alloc, of)?, flatten, None))
 }
 
-fn name(alloc: Global, name: &str, kind: Option<TypeTree>) -> Result<FieldTree, AllocError> {
-    let name = Text::from_str(alloc, name)?;
-    Ok(FieldTree { name, kind })
-}
-
-fn one(alloc: Global, of: &str, kind: Option<TypeTree>) -> Result<AsNames, AllocError> {
-    Ok(AsNames::One(name(alloc, of, kind)?))
-}
-
-fn listed(alloc: Global, of: &str) -> Result<AsNames, AllocError> {
-    let mut fields = Seq::new(alloc);
-    fields.push(name(alloc, of, None)?)?;
-    Ok(AsNames::Several(fields))
-}
-
-fn two(
+fn named(
     alloc: Global,
-    first: &str,
-    first_kind: Option<TypeTree>,
-    second: &str,
-    second_kind: Option<TypeTree>,
-) -> Result<AsNames, AllocError> {
+    of: &str,
+    flatten: bool,
+    name: &str,
+    kind: Written,
+) -> Result<Item, AllocError> {
+    let names = AsNames::One(name_of(alloc, name, kind)?);
+    Ok(value(field(alloc, of)?, flatten, Some(names)))
+}
+
+fn listed(alloc: Global, of: &str, name: &str) -> Result<Item, AllocError> {
     let mut fields = Seq::new(alloc);
-    fields.push(name(alloc, first, first_kind)?)?;
-    fields.push(name(alloc, second, second_kind)?)?;
-    Ok(AsNames::Several(fields))
+    fields.push(name_of(alloc, name, Written::Bare)?)?;
+    let value_of = field(alloc, of)?;
+    Ok(value(value_of, false, Some(AsNames::Several(fields))))
+}
+
+fn pair(
+    alloc: Global,
+    of: &str,
+    flatten: bool,
+    first: (&str, Written),
+    second: (&str, Written),
+) -> Result<Item, AllocError> {
+    let mut fields = Seq::new(alloc);
+    fields.push(name_of(alloc, first.0, first.1)?)?;
+    fields.push(name_of(alloc, second.0, second.1)?)?;
+    let value_of = field(alloc, of)?;
+    Ok(value(value_of, flatten, Some(AsNames::Several(fields))))
+}
+
+fn name_of(alloc: Global, name: &str, kind: Written) -> Result<FieldTree, AllocError> {
+    let name = Text::from_str(alloc, name)?;
+    let kind = kind_of(kind);
+    Ok(FieldTree { name, kind })
 }
 
 fn shown_columns(alloc: Global, found: &Generated) -> Result<String, AllocError> {
@@ -163,7 +204,7 @@ fn gives_all_fields(rt: HostRuntime) -> Result<(), Fail> {
     };
     let mut items: Items = Seq::new(alloc);
     items.push(Item::All)?;
-    items.push(single(alloc, "s", None)?)?;
+    items.push(bare(alloc, "s", false)?)?;
     let found = type_items(alloc, items.as_slice(), &scope);
     let mut widths: usize = 0;
     let mut names = String::new(alloc);

@@ -1,6 +1,6 @@
 //! Expressions, columns and nested aliases that the tests use, and trees as they are shown.
 use pig_schema::{Field, Schema};
-use pig_syntax::{Expr, Exprs, FieldRef, Link, PostStep, TypeTree};
+use pig_syntax::{Expr, Exprs, FieldRef, Link, Links, PostStep, PostSteps, TypeTree};
 use pig_typing::{Local, Locals};
 use pig_value::{Boxed, ChainOp, Kind, Kinds, Rel, Seq, Text};
 use std::alloc::{AllocError, Global};
@@ -13,48 +13,90 @@ pub fn field(alloc: Global, of: &str) -> Result<Expr, AllocError> {
     Ok(Expr::Field(name(alloc, of)?))
 }
 
+pub fn boxed(alloc: Global, of: &str) -> Result<Boxed<Expr>, AllocError> {
+    Boxed::new(alloc, field(alloc, of)?)
+}
+
 pub fn text(alloc: Global, text: &str) -> Result<Expr, AllocError> {
     Ok(Expr::Text(Text::from_str(alloc, text)?))
 }
 
-pub fn add(alloc: Global, a: Expr, b: Expr) -> Result<Expr, AllocError> {
-    let first = Boxed::new(alloc, a)?;
-    let mut rest = Seq::new(alloc);
-    rest.push(Link {
-        op: ChainOp::Add,
-        a: b,
-    })?;
+pub fn add(alloc: Global, a: &str, b: Expr) -> Result<Expr, AllocError> {
+    let rest = added(alloc, b)?;
+    let first = boxed(alloc, a)?;
     Ok(Expr::Chain { first, rest })
 }
 
-pub fn equal(alloc: Global, a: Expr, b: Expr) -> Result<Expr, AllocError> {
-    let a = Boxed::new(alloc, a)?;
+fn added(alloc: Global, a: Expr) -> Result<Links, AllocError> {
+    let mut links = Seq::new(alloc);
+    links.push(Link {
+        op: ChainOp::Add,
+        a,
+    })?;
+    Ok(links)
+}
+
+pub fn add_fields(alloc: Global, a: &str, b: &str) -> Result<Expr, AllocError> {
+    add(alloc, a, field(alloc, b)?)
+}
+
+pub fn equal(alloc: Global, a: Boxed<Expr>, b: Expr) -> Result<Expr, AllocError> {
     let b = Boxed::new(alloc, b)?;
     Ok(Expr::Compare { op: Rel::Eq, a, b })
 }
 
-pub fn cast(alloc: Global, to: TypeTree, a: Expr) -> Result<Expr, AllocError> {
-    let a = Boxed::new(alloc, a)?;
+pub fn equal_long(alloc: Global, a: &str, b: i64) -> Result<Expr, AllocError> {
+    equal(alloc, boxed(alloc, a)?, Expr::Long(b))
+}
+
+pub fn equal_fields(alloc: Global, a: &str, b: &str) -> Result<Expr, AllocError> {
+    let a = boxed(alloc, a)?;
+    equal(alloc, a, field(alloc, b)?)
+}
+
+pub fn looked_equal(alloc: Global, b: &str) -> Result<Expr, AllocError> {
+    let a = Boxed::new(alloc, look(alloc)?)?;
+    equal(alloc, a, text(alloc, b)?)
+}
+
+pub fn not(alloc: Global, a: &str) -> Result<Expr, AllocError> {
+    Ok(Expr::Not(boxed(alloc, a)?))
+}
+
+pub fn cast_look(alloc: Global) -> Result<Expr, AllocError> {
+    let a = Boxed::new(alloc, look(alloc)?)?;
+    let to = TypeTree::Int;
+    Ok(Expr::Cast { to, a })
+}
+
+pub fn to_float(alloc: Global, a: &str) -> Result<Expr, AllocError> {
+    let a = boxed(alloc, a)?;
+    let to = TypeTree::Float;
     Ok(Expr::Cast { to, a })
 }
 
 pub fn choose(alloc: Global) -> Result<Expr, AllocError> {
-    let cond = Boxed::new(alloc, field(alloc, "b")?)?;
-    let yes = Boxed::new(alloc, field(alloc, "a")?)?;
+    let cond = boxed(alloc, "b")?;
+    let yes = boxed(alloc, "a")?;
     let no = Boxed::new(alloc, Expr::Long(5))?;
     Ok(Expr::Choose { cond, yes, no })
 }
 
-pub fn behind(alloc: Global, a: Expr, step: PostStep) -> Result<Expr, AllocError> {
-    let a = Boxed::new(alloc, a)?;
+fn behind(alloc: Global, a: &str, step: PostStep) -> Result<Expr, AllocError> {
+    let steps = only_step(alloc, step)?;
+    let a = boxed(alloc, a)?;
+    Ok(Expr::Post { a, steps })
+}
+
+fn only_step(alloc: Global, step: PostStep) -> Result<PostSteps, AllocError> {
     let mut steps = Seq::new(alloc);
     steps.push(step)?;
-    Ok(Expr::Post { a, steps })
+    Ok(steps)
 }
 
 pub fn look(alloc: Global) -> Result<Expr, AllocError> {
     let key = Text::from_str(alloc, "c")?;
-    behind(alloc, field(alloc, "m")?, PostStep::Look(key))
+    behind(alloc, "m", PostStep::Look(key))
 }
 
 pub fn part(alloc: Global, of: &str, part: &str) -> Result<Expr, AllocError> {
@@ -64,23 +106,38 @@ pub fn part(alloc: Global, of: &str, part: &str) -> Result<Expr, AllocError> {
         fields,
         single: true,
     };
-    behind(alloc, field(alloc, of)?, step)
+    behind(alloc, of, step)
 }
 
-pub fn call(alloc: Global, function: &str, a: Expr) -> Result<Expr, AllocError> {
+pub fn call(alloc: Global, function: &str, a: &str) -> Result<Expr, AllocError> {
+    call_on(alloc, function, field(alloc, a)?)
+}
+
+pub fn call_part(alloc: Global, function: &str, of: &str, inner: &str) -> Result<Expr, AllocError> {
+    call_on(alloc, function, part(alloc, of, inner)?)
+}
+
+fn call_on(alloc: Global, function: &str, a: Expr) -> Result<Expr, AllocError> {
     let mut args = Seq::new(alloc);
     args.push(a)?;
     called(alloc, function, args)
 }
 
-pub fn call_two(alloc: Global, function: &str, a: Expr, b: Expr) -> Result<Expr, AllocError> {
+pub fn call_two(alloc: Global, function: &str, a: &str, b: &str) -> Result<Expr, AllocError> {
     let mut args = Seq::new(alloc);
-    args.push(a)?;
-    args.push(b)?;
+    args.push(field(alloc, a)?)?;
+    args.push(field(alloc, b)?)?;
     called(alloc, function, args)
 }
 
-pub fn called(alloc: Global, function: &str, args: Exprs) -> Result<Expr, AllocError> {
+pub fn call_long(alloc: Global, function: &str, a: &str, b: i64) -> Result<Expr, AllocError> {
+    let mut args = Seq::new(alloc);
+    args.push(field(alloc, a)?)?;
+    args.push(Expr::Long(b))?;
+    called(alloc, function, args)
+}
+
+fn called(alloc: Global, function: &str, args: Exprs) -> Result<Expr, AllocError> {
     let name = Text::from_str(alloc, function)?;
     Ok(Expr::Call { name, args })
 }
