@@ -93,7 +93,8 @@ impl Board {
         requires board { OnBoard self.now pass.old }
         requires under_way { has_open t a (view_of pass.old) ≡ true }
         ensures board { OnBoard self.now pass.new }
-        ensures view { MatchBool result (view_of pass.new ≡ won t a (view_of pass.old)) (IsLate t a (view_of pass.old) (view_of pass.new)) }
+        ensures view { MatchBool result (view_of pass.new
+            ≡ won t a (view_of pass.old)) (IsLate t a (view_of pass.old) (view_of pass.new)) }
     {
         let word = 3 * t as usize + 3;
         let mark = a as u64 + 1;
@@ -132,7 +133,8 @@ impl Board {
         ensures board { OnBoard self.now pass.new }
         ensures view { view_of pass.new ≡ saw_winner t result (view_of pass.old) }
         ensures none { IfNone result (knows_winner t (view_of pass.old) ≡ false) }
-        ensures alone { IsAlone (view_of pass.old) → knows_winner t (view_of pass.old) ≡ false → result ≡ None }
+        ensures alone { IsAlone (view_of pass.old) → knows_winner t (view_of pass.old) ≡ false
+            → result ≡ None }
     {
         let word = 3 * t as usize + 3;
         let found = self.table.shared.load::<WinnerLook>(&mut pass.seat, word);

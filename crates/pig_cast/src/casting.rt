@@ -34,7 +34,8 @@ pub fn cast(alloc: Global, v: &Value, k: &Kind) -> Result<Value, AllocError>
 
 // A value of the kind stays as it is, and any other gives null.
 fn stays(alloc: Global, v: &Value, k: &Kind) -> Result<Value, AllocError>
-    ensures { IfOk result (λ w. tree w ≡ cond (is_of_kind (tree v.now) (kind_tree k.now)) (tree v.now) v_null) }
+    ensures { IfOk result (λ w. tree w ≡ cond (is_of_kind (tree v.now) (kind_tree k.now))
+        (tree v.now) v_null) }
 {
     if is_of(v, k) {
         copy(alloc, v)

@@ -62,8 +62,10 @@ fn items<'a>(alloc: Global, body: &'a [u8]) -> Result<Option<Vec<&'a [u8]>>, All
 
 // What stands between two brackets, whatever it is.
 fn between(bytes: &[u8], opening: u8, closing: u8) -> Option<&[u8]>
-    ensures { option_copied result ≡ (if nat_le 2 (length bytes.now) && slice_index bytes.now 0 == opening
-        && slice_index bytes.now (length bytes.now - 1) == closing then Some (inside_of bytes.now) else None) }
+    ensures { option_copied result ≡ (if nat_le 2 (length bytes.now)
+        && slice_index bytes.now 0 == opening
+        && slice_index bytes.now (length bytes.now - 1) == closing then Some
+        (inside_of bytes.now) else None) }
 {
     if bytes.len() < 2 {
         return None;

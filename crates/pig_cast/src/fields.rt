@@ -103,7 +103,8 @@ fn long_value(read: Option<i64>) -> Option<Value>
 }
 
 fn tuple_value(row: Option<Tuple>) -> Option<Value>
-    ensures { option_map tree result ≡ option_map (λ r. v_tuple (fields_of r)) (option_map row_tree row) }
+    ensures { option_map tree result ≡ option_map
+        (λ r. v_tuple (fields_of r)) (option_map row_tree row) }
 {
     match row {
         Some(row) => Some(Value::Tuple(row)),
@@ -112,7 +113,8 @@ fn tuple_value(row: Option<Tuple>) -> Option<Value>
 }
 
 fn bag_value(rows: Option<Rows>) -> Option<Value>
-    ensures { option_map tree result ≡ option_map (λ rs. v_bag (tuples_of (bag_of rs))) (option_map rows_tree rows) }
+    ensures { option_map tree result ≡ option_map
+        (λ rs. v_bag (tuples_of (bag_of rs))) (option_map rows_tree rows) }
 {
     match rows {
         Some(rows) => Some(Value::Bag(bag(rows))),
@@ -121,7 +123,8 @@ fn bag_value(rows: Option<Rows>) -> Option<Value>
 }
 
 fn map_value(pairs: Option<Pairs>) -> Option<Value>
-    ensures { option_map tree result ≡ option_map (λ ps. v_map (entries_of ps)) (option_map (map entry_of) pairs) }
+    ensures { option_map tree result ≡ option_map
+        (λ ps. v_map (entries_of ps)) (option_map (map entry_of) pairs) }
 {
     match pairs {
         Some(pairs) => Some(Value::Map(pairs)),
@@ -132,7 +135,8 @@ fn map_value(pairs: Option<Pairs>) -> Option<Value>
 // The fields of a tuple text.
 #[cycle(read)]
 fn read_row(alloc: Global, bytes: &[u8], kinds: &[Kind]) -> Result<Option<Tuple>, AllocError>
-    ensures { IfOk result (λ row. option_map row_tree row ≡ row_in (fields_in (kinds_of (map kind_tree kinds.now))) bytes.now) }
+    ensures { IfOk result (λ row. option_map row_tree row
+        ≡ row_in (fields_in (kinds_of (map kind_tree kinds.now))) bytes.now) }
 {
     match items_between(alloc, bytes, b'(', b')')? {
         Some(texts) => {
@@ -146,7 +150,8 @@ fn read_row(alloc: Global, bytes: &[u8], kinds: &[Kind]) -> Result<Option<Tuple>
 // The items in turn, each by its kind.
 #[cycle(read)]
 fn read_fields(alloc: Global, texts: &[&[u8]], kinds: &[Kind]) -> Result<Tuple, AllocError>
-    ensures { IfOk result (λ row. row_tree row ≡ fields_in (kinds_of (map kind_tree kinds.now)) (map (λ text. text.now) texts.now)) }
+    ensures { IfOk result (λ row. row_tree row
+        ≡ fields_in (kinds_of (map kind_tree kinds.now)) (map (λ text. text.now) texts.now)) }
 {
     let mut row = Vec::with_capacity(alloc, kinds.len())?;
     for i in 0..kinds.len() {
@@ -159,7 +164,8 @@ fn read_fields(alloc: Global, texts: &[&[u8]], kinds: &[Kind]) -> Result<Tuple, 
 // The rows of a bag text, before they are sorted.
 #[cycle(read)]
 fn read_rows(alloc: Global, bytes: &[u8], kinds: &[Kind]) -> Result<Option<Rows>, AllocError>
-    ensures { IfOk result (λ rows. option_map rows_tree rows ≡ rows_in (row_in (fields_in (kinds_of (map kind_tree kinds.now)))) bytes.now) }
+    ensures { IfOk result (λ rows. option_map rows_tree rows
+        ≡ rows_in (row_in (fields_in (kinds_of (map kind_tree kinds.now)))) bytes.now) }
 {
     match any_items_between(alloc, bytes, b'{', b'}')? {
         Some(texts) => read_each_row(alloc, texts, kinds),
@@ -173,7 +179,9 @@ fn read_each_row(
     texts: Vec<&[u8]>,
     kinds: &[Kind],
 ) -> Result<Option<Rows>, AllocError>
-    ensures { IfOk result (λ rows. option_map rows_tree rows ≡ all_of (row_in (fields_in (kinds_of (map kind_tree kinds.now)))) (map (λ text. text.now) texts.entry.items)) }
+    ensures { IfOk result (λ rows. option_map rows_tree rows
+        ≡ all_of (row_in (fields_in (kinds_of (map kind_tree kinds.now))))
+        (map (λ text. text.now) texts.entry.items)) }
 {
     let mut rows = Vec::with_capacity(alloc, texts.len())?;
     for i in 0..texts.len() {
@@ -188,7 +196,8 @@ fn read_each_row(
 // The pairs of a map text by ascending keys, of equal keys the last.
 #[cycle(read)]
 fn read_pairs(alloc: Global, bytes: &[u8], kind: &Kind) -> Result<Option<Pairs>, AllocError>
-    ensures { IfOk result (λ pairs. option_map (map entry_of) pairs ≡ option_map entries_by_key (pairs_in (pair_in (value_in (case_of (kind_tree kind.now)))) bytes.now)) }
+    ensures { IfOk result (λ pairs. option_map (map entry_of) pairs ≡ option_map entries_by_key
+        (pairs_in (pair_in (value_in (case_of (kind_tree kind.now)))) bytes.now)) }
 {
     match any_items_between(alloc, bytes, b'[', b']')? {
         Some(texts) => read_each_pair(alloc, texts, kind),
@@ -202,7 +211,9 @@ fn read_each_pair(
     texts: Vec<&[u8]>,
     kind: &Kind,
 ) -> Result<Option<Pairs>, AllocError>
-    ensures { IfOk result (λ pairs. option_map (map entry_of) pairs ≡ option_map entries_by_key (all_of (pair_in (value_in (case_of (kind_tree kind.now)))) (map (λ text. text.now) texts.entry.items))) }
+    ensures { IfOk result (λ pairs. option_map (map entry_of) pairs
+        ≡ option_map entries_by_key (all_of (pair_in (value_in (case_of (kind_tree kind.now))))
+        (map (λ text. text.now) texts.entry.items))) }
 {
     let mut entries = BTreeMap::new(alloc);
     for i in 0..texts.len() {
@@ -218,7 +229,8 @@ fn read_each_pair(
 // The pair of a key, `#` and a value.
 #[cycle(read)]
 fn read_pair(alloc: Global, item: &[u8], kind: &Kind) -> Result<Option<(String, Value)>, AllocError>
-    ensures { IfOk result (λ pair. option_map keyed pair ≡ pair_in (value_in (case_of (kind_tree kind.now))) item.now) }
+    ensures { IfOk result (λ pair. option_map keyed pair
+        ≡ pair_in (value_in (case_of (kind_tree kind.now))) item.now) }
 {
     match key_and_value(item) {
         Some((key, text)) => {

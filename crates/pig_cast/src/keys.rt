@@ -14,7 +14,8 @@ pub(crate) fn put(
     key: String,
     value: Value,
 ) -> Result<(), AllocError>
-    ensures { OnOk result (map keyed entries.new.entries ≡ insert_entry text_cmp (map keyed entries.old.entries) (string_bytes key) (tree value)) }
+    ensures { OnOk result (map keyed entries.new.entries
+        ≡ insert_entry text_cmp (map keyed entries.old.entries) (string_bytes key) (tree value)) }
 {
     entries.insert(key, value)?;
     Ok(())

@@ -62,7 +62,8 @@ impl Wanted {
     /// Takes the bracket off that is wanted next, and tells whether it is this one.
     pub(crate) fn close(&mut self, closing: u8) -> bool
         ensures closed { IsTrue result → self.old ≡ closing ∷ self.new }
-        ensures other { IsFalse result → (rest : List ℕ → Bool) → takes closing rest self.old ≡ false }
+        ensures other { IsFalse result → (rest : List ℕ → Bool)
+            → takes closing rest self.old ≡ false }
     {
         match self.pop() {
             Some(next) => next == closing,

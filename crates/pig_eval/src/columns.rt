@@ -20,7 +20,8 @@ pub fn apply_projected(
     single: bool,
 ) -> Result<Value, AllocError>
     requires { is_variadic_function function ≡ false }
-    ensures { IfOk result (λ w. tree w ≡ apply_tree function (project_tree fields.now single (tree v.now) ∷ [])) }
+    ensures { IfOk result (λ w. tree w ≡ apply_tree function
+        (project_tree fields.now single (tree v.now) ∷ [])) }
 {
     let Some(rows) = rows_of(v) else {
         return apply_made(alloc, function, v, fields, single);
@@ -43,7 +44,8 @@ fn apply_made(
     single: bool,
 ) -> Result<Value, AllocError>
     requires { is_variadic_function function ≡ false }
-    ensures { IfOk result (λ w. tree w ≡ apply_tree function (project_tree fields.now single (tree v.now) ∷ [])) }
+    ensures { IfOk result (λ w. tree w ≡ apply_tree function
+        (project_tree fields.now single (tree v.now) ∷ [])) }
 {
     let made = projected(alloc, v, fields, single)?;
     apply_one(alloc, function, &made)
@@ -88,7 +90,8 @@ fn column(function: Function, fields: &Positions) -> Option<u32>
 
 // The position of the first field.
 fn first(fields: &Positions) -> Option<u32>
-    ensures { MatchOption result ⊤ (λ n. (row : List Tree) → at 0 (pick fields.now row) ≡ at n row) }
+    ensures { MatchOption result ⊤ (λ n. (row : List Tree)
+        → at 0 (pick fields.now row) ≡ at n row) }
 {
     match fields.as_slice() {
         [n, ..] => Some(*n),
@@ -98,7 +101,8 @@ fn first(fields: &Positions) -> Option<u32>
 
 // The position of the one field.
 fn only(fields: &Positions) -> Option<u32>
-    ensures { MatchOption result ⊤ (λ n. (row : List Tree) → one_field (pick fields.now row) ≡ at n row) }
+    ensures { MatchOption result ⊤ (λ n. (row : List Tree)
+        → one_field (pick fields.now row) ≡ at n row) }
 {
     match fields.as_slice() {
         [n] => Some(*n),

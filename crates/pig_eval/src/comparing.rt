@@ -32,7 +32,8 @@ pub fn compare_peeked(
     locals: &Tuple,
 ) -> Option<Option<bool>>
     ensures { MatchOption result ⊤ (λ t. t ≡ compare_truth op
-        (ev (typed a.now) (row_tree row.now) (row_tree locals.now)) (ev (typed b.now) (row_tree row.now) (row_tree locals.now))) }
+        (ev (typed a.now) (row_tree row.now) (row_tree locals.now))
+        (ev (typed b.now) (row_tree row.now) (row_tree locals.now))) }
 {
     match peek(a, row, locals) {
         Some(v) => compare_beside(op, v, b, row, locals),
@@ -51,7 +52,8 @@ pub fn compare_beside(
     row: &Tuple,
     locals: &Tuple,
 ) -> Option<Option<bool>>
-    ensures { MatchOption result ⊤ (λ t. t ≡ compare_truth op (tree v.now) (ev (typed e.now) (row_tree row.now) (row_tree locals.now))) }
+    ensures { MatchOption result ⊤ (λ t. t ≡ compare_truth op (tree v.now)
+        (ev (typed e.now) (row_tree row.now) (row_tree locals.now))) }
 {
     match e {
         TExpr::Bool(b) => Some(with_bool(op, v, *b)),
@@ -74,7 +76,8 @@ fn compare_before(
     row: &Tuple,
     locals: &Tuple,
 ) -> Option<Option<bool>>
-    ensures { MatchOption result ⊤ (λ t. t ≡ compare_truth op (ev (typed e.now) (row_tree row.now) (row_tree locals.now)) (tree w.now)) }
+    ensures { MatchOption result ⊤ (λ t. t ≡ compare_truth op
+        (ev (typed e.now) (row_tree row.now) (row_tree locals.now)) (tree w.now)) }
 {
     match compare_beside(mirrored(op), w, e, row, locals) {
         Some(truth) => Some(truth),

@@ -22,20 +22,26 @@ use std::alloc::{AllocError, Global};
 /// Where the expression has a kind on rows and locals of these kinds, the value is of that kind. Out of values it is a
 /// value, and where no text in the row, the locals and the literals has an LF, it is free of them too.
 pub fn eval(alloc: Global, e: &TExpr, row: &Tuple, locals: &Tuple) -> Result<Value, AllocError>
-    ensures value { IfOk result (λ v. tree v ≡ ev (typed e.now) (row_tree row.now) (row_tree locals.now)) }
+    ensures value { IfOk result (λ v. tree v ≡ ev (typed e.now) (row_tree row.now)
+        (row_tree locals.now)) }
     ensures kind { (kinds more : List KindTree) (k : KindTree)
-        → IsRowOf (row_tree row.now) kinds → IsRowOf (row_tree locals.now) more → expr_kind (typed e.now) kinds more ≡ Some k
+        → IsRowOf (row_tree row.now) kinds → IsRowOf (row_tree locals.now) more
+        → expr_kind (typed e.now) kinds more ≡ Some k
         → IfOk result (λ v. IsOf (tree v) k) }
-    ensures valid { LiteralsAre IsValue (typed e.now) → IsRow (row_tree row.now) → IsRow (row_tree locals.now)
+    ensures valid { LiteralsAre IsValue (typed e.now) → IsRow (row_tree row.now)
+        → IsRow (row_tree locals.now)
         → IfOk result (λ v. IsValue (tree v)) }
-    ensures line_free { LiteralsAre IsLineFreeValue (typed e.now) → IsRow (row_tree row.now) → IsLineFreeRow (row_tree row.now)
-        → IsRow (row_tree locals.now) → IsLineFreeRow (row_tree locals.now) → IfOk result (λ v. IsLineFree (tree v)) }
+    ensures line_free { LiteralsAre IsLineFreeValue (typed e.now) → IsRow (row_tree row.now)
+        → IsLineFreeRow (row_tree row.now)
+        → IsRow (row_tree locals.now) → IsLineFreeRow (row_tree locals.now)
+        → IfOk result (λ v. IsLineFree (tree v)) }
 {
     made(alloc, e, row, locals)
 }
 
 fn made(alloc: Global, e: &TExpr, row: &Tuple, locals: &Tuple) -> Result<Value, AllocError>
-    ensures { IfOk result (λ v. tree v ≡ ev (typed e.now) (row_tree row.now) (row_tree locals.now)) }
+    ensures { IfOk result (λ v. tree v ≡ ev (typed e.now) (row_tree row.now)
+        (row_tree locals.now)) }
 {
     let seen = look(alloc, e, row, locals)?;
     owned(alloc, seen)

@@ -14,10 +14,13 @@ ghost use Rattle.pig_typed.specs.Typed.{Typed, TypedBlock};
 /// What has a kind is never evaluated at a wrong one: on a row and locals of the kinds that it was typed for,
 /// an expression gives a value of its kind, and a block rows of its kinds.
 pub fn evaluation_keeps_kinds()
-    ensures expression { (e : Typed) (row locals : List Tree) (kinds more : List KindTree) (k : KindTree)
-        → IsRowOf row kinds → IsRowOf locals more → expr_kind e kinds more ≡ Some k → IsOf (ev e row locals) k }
+    ensures expression { (e : Typed) (row locals : List Tree) (kinds more : List KindTree)
+        (k : KindTree)
+        → IsRowOf row kinds → IsRowOf locals more → expr_kind e kinds more ≡ Some k
+        → IsOf (ev e row locals) k }
     ensures block { (block : TypedBlock) (row : List Tree) (kinds made : List KindTree)
-        → IsRowOf row kinds → row_kinds block kinds ≡ Some made → AreRowsOf (foreach_rows block row) made }
+        → IsRowOf row kinds → row_kinds block kinds ≡ Some made
+        → AreRowsOf (foreach_rows block row) made }
 {}
 
 /// Of values an expression gives a value, and a block rows of values: bags are sorted, keys of maps ascend and
@@ -33,7 +36,8 @@ pub fn evaluation_keeps_values()
 /// values.
 pub fn evaluation_keeps_lines()
     ensures expression { (e : Typed) (row locals : List Tree)
-        → LiteralsAre IsLineFreeValue e → IsRow row → IsLineFreeRow row → IsRow locals → IsLineFreeRow locals
+        → LiteralsAre IsLineFreeValue e → IsRow row → IsLineFreeRow row → IsRow locals
+        → IsLineFreeRow locals
         → IsLineFree (ev e row locals) }
     ensures block { (block : TypedBlock) (row : List Tree)
         → BlockLiteralsAre IsLineFreeValue block → IsRow row → IsLineFreeRow row

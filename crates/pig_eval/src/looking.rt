@@ -31,7 +31,8 @@ pub fn look<'a>(
     row: &'a Tuple,
     locals: &'a Tuple,
 ) -> Result<Seen<'a>, AllocError>
-    ensures { IfOk result (λ seen. seen_tree seen ≡ ev (typed e.now) (row_tree row.now) (row_tree locals.now)) }
+    ensures { IfOk result (λ seen. seen_tree seen
+        ≡ ev (typed e.now) (row_tree row.now) (row_tree locals.now)) }
 {
     match e {
         TExpr::Null => Ok(Seen::Made(Value::Null)),
@@ -97,7 +98,8 @@ pub fn truth<'a>(
     row: &'a Tuple,
     locals: &'a Tuple,
 ) -> Result<Option<bool>, AllocError>
-    ensures { IfOk result (λ t. t ≡ truth_of (ev (typed e.now) (row_tree row.now) (row_tree locals.now))) }
+    ensures { IfOk result (λ t. t ≡ truth_of (ev (typed e.now) (row_tree row.now)
+        (row_tree locals.now))) }
 {
     match e {
         TExpr::Chain { first, rest } => {
@@ -151,7 +153,8 @@ fn presence<'a>(
     row: &'a Tuple,
     locals: &'a Tuple,
 ) -> Result<bool, AllocError>
-    ensures { IfOk result (λ present. present ≡ is_present_of (ev (typed e.now) (row_tree row.now) (row_tree locals.now))) }
+    ensures { IfOk result (λ present. present
+        ≡ is_present_of (ev (typed e.now) (row_tree row.now) (row_tree locals.now))) }
 {
     match peek(e, row, locals) {
         Some(v) => Ok(is_present(v)),
@@ -172,7 +175,8 @@ fn compare_right<'a>(
     row: &'a Tuple,
     locals: &'a Tuple,
 ) -> Result<Option<bool>, AllocError>
-    ensures { IfOk result (λ t. t ≡ compare_truth op (seen_tree a.entry) (ev (typed b.now) (row_tree row.now) (row_tree locals.now))) }
+    ensures { IfOk result (λ t. t ≡ compare_truth op (seen_tree a.entry)
+        (ev (typed b.now) (row_tree row.now) (row_tree locals.now))) }
 {
     match compare_beside(op, value(&a), b, row, locals) {
         Some(truth) => Ok(truth),
@@ -201,7 +205,8 @@ fn chain_truth<'a>(
     row: &'a Tuple,
     locals: &'a Tuple,
 ) -> Result<Option<bool>, AllocError>
-    ensures { IfOk result (λ t. t ≡ links_truth first (links_of (map link_of rest.now)) (row_tree row.now) (row_tree locals.now)) }
+    ensures { IfOk result (λ t. t ≡ links_truth first (links_of (map link_of rest.now))
+        (row_tree row.now) (row_tree locals.now)) }
 {
     let mut so_far = first;
     for link in rest.as_slice() {
@@ -220,7 +225,8 @@ fn next_truth<'a>(
     row: &'a Tuple,
     locals: &'a Tuple,
 ) -> Result<Option<bool>, AllocError>
-    ensures { IfOk result (λ t. t ≡ chain_truth_of op so_far (truth_of (ev (typed a.now) (row_tree row.now) (row_tree locals.now)))) }
+    ensures { IfOk result (λ t. t ≡ chain_truth_of op so_far
+        (truth_of (ev (typed a.now) (row_tree row.now) (row_tree locals.now)))) }
 {
     match (op, so_far) {
         (ChainOp::Or, Some(true)) => Ok(so_far),
@@ -240,7 +246,8 @@ fn chain_value<'a>(
     row: &'a Tuple,
     locals: &'a Tuple,
 ) -> Result<Seen<'a>, AllocError>
-    ensures { IfOk result (λ seen. seen_tree seen ≡ ev_links (seen_tree first.entry) (links_of (map link_of rest.now)) (row_tree row.now) (row_tree locals.now)) }
+    ensures { IfOk result (λ seen. seen_tree seen ≡ ev_links (seen_tree first.entry)
+        (links_of (map link_of rest.now)) (row_tree row.now) (row_tree locals.now)) }
 {
     let mut so_far = first;
     for link in rest.as_slice() {
@@ -258,7 +265,8 @@ fn next_value<'a>(
     row: &'a Tuple,
     locals: &'a Tuple,
 ) -> Result<Seen<'a>, AllocError>
-    ensures { IfOk result (λ seen. seen_tree seen ≡ chain_tree op (seen_tree so_far.entry) (ev (typed a.now) (row_tree row.now) (row_tree locals.now))) }
+    ensures { IfOk result (λ seen. seen_tree seen ≡ chain_tree op (seen_tree so_far.entry)
+        (ev (typed a.now) (row_tree row.now) (row_tree locals.now))) }
 {
     let next = look(alloc, a, row, locals)?;
     Ok(Seen::Made(step(op, value(&so_far), value(&next))))
@@ -271,7 +279,8 @@ fn negative<'a>(
     row: &'a Tuple,
     locals: &'a Tuple,
 ) -> Result<Seen<'a>, AllocError>
-    ensures { IfOk result (λ seen. seen_tree seen ≡ minus_tree (ev (typed e.now) (row_tree row.now) (row_tree locals.now))) }
+    ensures { IfOk result (λ seen. seen_tree seen
+        ≡ minus_tree (ev (typed e.now) (row_tree row.now) (row_tree locals.now))) }
 {
     let seen = look(alloc, e, row, locals)?;
     Ok(Seen::Made(minus(value(&seen))))
@@ -285,7 +294,8 @@ fn cast_to<'a>(
     row: &'a Tuple,
     locals: &'a Tuple,
 ) -> Result<Seen<'a>, AllocError>
-    ensures { IfOk result (λ seen. seen_tree seen ≡ cast_of (kind_tree to.now) (ev (typed e.now) (row_tree row.now) (row_tree locals.now))) }
+    ensures { IfOk result (λ seen. seen_tree seen
+        ≡ cast_of (kind_tree to.now) (ev (typed e.now) (row_tree row.now) (row_tree locals.now))) }
 {
     let seen = look(alloc, e, row, locals)?;
     Ok(Seen::Made(cast(alloc, value(&seen), to)?))
@@ -299,7 +309,8 @@ fn otherwise<'a>(
     row: &'a Tuple,
     locals: &'a Tuple,
 ) -> Result<Seen<'a>, AllocError>
-    ensures { IfOk result (λ seen. seen_tree seen ≡ ev (typed e.now) (row_tree row.now) (row_tree locals.now)) }
+    ensures { IfOk result (λ seen. seen_tree seen
+        ≡ ev (typed e.now) (row_tree row.now) (row_tree locals.now)) }
 {
     let mut rest = e;
     while let TExpr::Choose { cond, yes, no } = rest {
@@ -356,7 +367,8 @@ fn eval_all<'a>(
     row: &'a Tuple,
     locals: &'a Tuple,
 ) -> Result<Tuple, AllocError>
-    ensures { IfOk result (λ made. row_tree made ≡ ev_args (args_of (map typed args.now)) (row_tree row.now) (row_tree locals.now)) }
+    ensures { IfOk result (λ made. row_tree made
+        ≡ ev_args (args_of (map typed args.now)) (row_tree row.now) (row_tree locals.now)) }
 {
     let args = args.as_slice();
     let mut made = Vec::with_capacity(alloc, args.len())?;
@@ -376,7 +388,8 @@ fn call_one<'a>(
     locals: &'a Tuple,
 ) -> Result<Seen<'a>, AllocError>
     requires { is_variadic_function function ≡ false }
-    ensures { IfOk result (λ seen. seen_tree seen ≡ apply_tree function (ev (typed a.now) (row_tree row.now) (row_tree locals.now) ∷ [])) }
+    ensures { IfOk result (λ seen. seen_tree seen
+        ≡ apply_tree function (ev (typed a.now) (row_tree row.now) (row_tree locals.now) ∷ [])) }
 {
     match a {
         TExpr::Project { a, fields, single } => {
@@ -401,7 +414,8 @@ fn call_part<'a>(
 ) -> Result<Seen<'a>, AllocError>
     requires { is_variadic_function function ≡ false }
     ensures { IfOk result (λ seen. seen_tree seen ≡ apply_tree function
-        (project_tree fields.now single (ev (typed a.now) (row_tree row.now) (row_tree locals.now)) ∷ [])) }
+        (project_tree fields.now single (ev (typed a.now) (row_tree row.now) (row_tree locals.now))
+        ∷ [])) }
 {
     let a = look(alloc, a, row, locals)?;
     Ok(Seen::Made(apply_projected(alloc, function, value(&a), fields, single)?))

@@ -17,7 +17,8 @@ pub fn project<'a>(
     fields: &Positions,
     single: bool,
 ) -> Result<Seen<'a>, AllocError>
-    ensures { IfOk result (λ s. seen_tree s ≡ project_tree fields.now single (seen_tree seen.entry)) }
+    ensures { IfOk result (λ s. seen_tree s ≡ project_tree fields.now single
+        (seen_tree seen.entry)) }
 {
     match seen {
         Seen::Lent(v) => project_lent(alloc, v, fields, single),
@@ -42,7 +43,8 @@ fn project_lent<'a>(
 // The one field of a tuple.
 #[tactic(auto, using(crate::proofs::Projections::of_tuple))]
 fn lent_field<'a>(v: &'a Value, fields: &Positions, single: bool) -> Option<Seen<'a>>
-    ensures { MatchOption result ⊤ (λ s. seen_tree s ≡ project_tree fields.now single (tree v.now)) }
+    ensures { MatchOption result ⊤ (λ s. seen_tree s
+        ≡ project_tree fields.now single (tree v.now)) }
 {
     if !single {
         return None;
@@ -78,7 +80,8 @@ fn part_of_tuple(
     fields: &Positions,
     single: bool,
 ) -> Result<Value, AllocError>
-    ensures { IfOk result (λ w. tree w ≡ (if single then at 0 (pick fields.now (row_tree row.now)) else v_tuple (fields_of (pick fields.now (row_tree row.now))))) }
+    ensures { IfOk result (λ w. tree w ≡ (if single then at 0 (pick fields.now
+        (row_tree row.now)) else v_tuple (fields_of (pick fields.now (row_tree row.now))))) }
 {
     if single {
         copied(alloc, first_picked(row, fields))
@@ -97,7 +100,8 @@ fn part_of_bag(alloc: Global, rows: &Rows, fields: &Positions) -> Result<Value, 
 
 #[tactic(auto, using(crate::proofs::Projections::listed_is))]
 fn part_of_listed(alloc: Global, rows: &Rows, fields: &Positions) -> Result<Value, AllocError>
-    ensures { IfOk result (λ w. tree w ≡ v_listed (tuples_of (map (pick fields.now) (rows_tree rows.now)))) }
+    ensures { IfOk result (λ w. tree w ≡ v_listed
+        (tuples_of (map (pick fields.now) (rows_tree rows.now)))) }
 {
     let picked = pick_rows(alloc, rows, fields)?;
     Ok(Value::Listed(picked))
@@ -158,7 +162,8 @@ fn found<'a>(v: &'a Value, key: &Text) -> Option<&'a Value>
 
 #[tactic(auto, using(pig_value::proofs::TreeLaws::entry_is))]
 fn value_under<'a>(pairs: &'a Pairs, key: &Text) -> Option<&'a Value>
-    ensures { option_map tree (option_copied result) ≡ option_map (λ p. p.1) (find (λ p. bytes_eq p.0 key.now) (map entry_of pairs.now)) }
+    ensures { option_map tree (option_copied result)
+        ≡ option_map (λ p. p.1) (find (λ p. bytes_eq p.0 key.now) (map entry_of pairs.now)) }
 {
     for pair in pairs.as_slice() {
         if pair.key.as_str() == key.as_str() {

@@ -57,7 +57,8 @@ pub fn copied(alloc: Global, found: Option<&Value>) -> Result<Value, AllocError>
 
 /// The value of an expression that is a field or a local which is there.
 pub fn peek<'a>(e: &TExpr, row: &'a Tuple, locals: &'a Tuple) -> Option<&'a Value>
-    ensures { MatchOption result ⊤ (λ v. tree v.now ≡ ev (typed e.now) (row_tree row.now) (row_tree locals.now)) }
+    ensures { MatchOption result ⊤ (λ v. tree v.now
+        ≡ ev (typed e.now) (row_tree row.now) (row_tree locals.now)) }
 {
     match e {
         TExpr::Field(n) => lent_at(row, *n),

@@ -9,7 +9,8 @@ use std::io::{self, ErrorKind};
 pub fn answer(faults: &mut FaultCounts, error: io::Error) -> OutsideError
     ensures later { all_faults faults.old ≤ all_faults faults.new }
     ensures failed { result ≡ OutsideError.Failed → all_faults faults.old < all_faults faults.new }
-    ensures memory { result ≡ OutsideError.OutOfMemory → all_faults faults.new ≡ all_faults faults.old }
+    ensures memory { result ≡ OutsideError.OutOfMemory
+        → all_faults faults.new ≡ all_faults faults.old }
     ensures stores { stores_failed faults.new ≡ stores_failed faults.old }
 {
     if error.kind() == ErrorKind::OutOfMemory {
@@ -23,7 +24,8 @@ pub fn answer_store(faults: &mut FaultCounts, error: io::Error) -> OutsideError
     ensures later { all_faults faults.old ≤ all_faults faults.new }
     ensures failed { result ≡ OutsideError.Failed → all_faults faults.old < all_faults faults.new }
     ensures stores_later { stores_failed faults.old ≤ stores_failed faults.new }
-    ensures stores { result ≡ OutsideError.Failed → stores_failed faults.old < stores_failed faults.new }
+    ensures stores { result ≡ OutsideError.Failed
+        → stores_failed faults.old < stores_failed faults.new }
 {
     if error.kind() == ErrorKind::OutOfMemory {
         return OutsideError::OutOfMemory;

@@ -159,7 +159,8 @@ impl Core {
     }
 
     fn draw(&mut self, worker: u32) -> Result<(), JobFault>
-        ensures refused { IsErrOf result JobFault.NotNow ↔ (allows self.old (Event.Draw worker) ≡ false) }
+        ensures refused { IsErrOf result JobFault.NotNow
+            ↔ (allows self.old (Event.Draw worker) ≡ false) }
         ensures taken { OnOk result (self.new ≡ after self.old (Event.Draw worker)) }
         ensures unchanged { OnErr result (self.new ≡ self.old) }
     {
@@ -176,7 +177,8 @@ impl Core {
     }
 
     fn begin(&mut self, worker: u32, task: u32) -> Result<(), JobFault>
-        ensures refused { IsErrOf result JobFault.NotNow ↔ (allows self.old (Event.Begin worker task) ≡ false) }
+        ensures refused { IsErrOf result JobFault.NotNow
+            ↔ (allows self.old (Event.Begin worker task) ≡ false) }
         ensures taken { OnOk result (self.new ≡ after self.old (Event.Begin worker task)) }
         ensures unchanged { OnErr result (self.new ≡ self.old) }
     {
@@ -198,7 +200,8 @@ impl Core {
     }
 
     fn commit(&mut self, worker: u32, task: u32, attempt: u32) -> Result<(), JobFault>
-        ensures refused { IsErrOf result JobFault.NotNow ↔ (allows self.old (Event.Commit worker task attempt) ≡ false) }
+        ensures refused { IsErrOf result JobFault.NotNow
+            ↔ (allows self.old (Event.Commit worker task attempt) ≡ false) }
         ensures taken { OnOk result (self.new ≡ after self.old (Event.Commit worker task attempt)) }
         ensures unchanged { OnErr result (self.new ≡ self.old) }
     {
@@ -213,7 +216,8 @@ impl Core {
     }
 
     fn late(&mut self, worker: u32, task: u32, attempt: u32) -> Result<(), JobFault>
-        ensures refused { IsErrOf result JobFault.NotNow ↔ (allows self.old (Event.Late worker task attempt) ≡ false) }
+        ensures refused { IsErrOf result JobFault.NotNow
+            ↔ (allows self.old (Event.Late worker task attempt) ≡ false) }
         ensures taken { OnOk result (self.new ≡ after self.old (Event.Late worker task attempt)) }
         ensures unchanged { OnErr result (self.new ≡ self.old) }
     {
@@ -225,7 +229,8 @@ impl Core {
     }
 
     fn fail(&mut self, worker: u32, task: u32, attempt: u32) -> Result<(), JobFault>
-        ensures refused { IsErrOf result JobFault.NotNow ↔ (allows self.old (Event.Fail worker task attempt) ≡ false) }
+        ensures refused { IsErrOf result JobFault.NotNow
+            ↔ (allows self.old (Event.Fail worker task attempt) ≡ false) }
         ensures taken { OnOk result (self.new ≡ after self.old (Event.Fail worker task attempt)) }
         ensures unchanged { OnErr result (self.new ≡ self.old) }
     {
@@ -241,7 +246,8 @@ impl Core {
     }
 
     fn leave(&mut self, worker: u32) -> Result<(), JobFault>
-        ensures refused { IsErrOf result JobFault.NotNow ↔ (allows self.old (Event.Leave worker) ≡ false) }
+        ensures refused { IsErrOf result JobFault.NotNow
+            ↔ (allows self.old (Event.Leave worker) ≡ false) }
         ensures taken { OnOk result (self.new ≡ after self.old (Event.Leave worker)) }
         ensures unchanged { OnErr result (self.new ≡ self.old) }
     {
@@ -253,7 +259,8 @@ impl Core {
     }
 
     fn abort(&mut self, worker: u32) -> Result<(), JobFault>
-        ensures refused { IsErrOf result JobFault.NotNow ↔ (allows self.old (Event.Abort worker) ≡ false) }
+        ensures refused { IsErrOf result JobFault.NotNow
+            ↔ (allows self.old (Event.Abort worker) ≡ false) }
         ensures taken { OnOk result (self.new ≡ after self.old (Event.Abort worker)) }
         ensures unchanged { OnErr result (self.new ≡ self.old) }
     {

@@ -55,7 +55,10 @@ impl Worker {
     }
 
     pub fn draw(&mut self, number: u32) -> Result<(), AllocError>
-        ensures ok { OnOk result (self.new ≡ record self.old { drawn = self.old.drawn ++ number ∷ [] }) }
+        ensures ok { OnOk result (self.new ≡ record self.old {
+          drawn = self.old.drawn
+              ++ number ∷ [];
+        }) }
         ensures err { OnErr result (self.new ≡ self.old) }
     {
         self.drawn.push(number)?;
@@ -63,7 +66,10 @@ impl Worker {
     }
 
     pub fn begin(&mut self, attempt: Attempt) -> Result<(), AllocError>
-        ensures ok { OnOk result (self.new ≡ record self.old { tried = self.old.tried ++ attempt ∷ [] }) }
+        ensures ok { OnOk result (self.new ≡ record self.old {
+          tried = self.old.tried
+              ++ attempt ∷ [];
+        }) }
         ensures err { OnErr result (self.new ≡ self.old) }
     {
         self.tried.push(attempt)?;

@@ -88,7 +88,8 @@ fn push_byte(byte: u8, text: &mut Vec<u8>) -> Result<(), AllocError>
 }
 
 fn read_int(bytes: &[u8]) -> Result<(i32, &[u8]), ReadFault>
-    ensures { Reads (λ z. z) (λ z. to_be_bytes w32 (biased (2 ^ 31) z)) (FitsSigned w32) bytes.now result }
+    ensures { Reads (λ z. z) (λ z. to_be_bytes w32 (biased (2 ^ 31) z))
+        (FitsSigned w32) bytes.now result }
 {
     match bytes.split_first_chunk::<4>() {
         Some((number, rest)) => Ok((unbiased_int(u32::from_be_bytes(*number)), rest)),
@@ -97,7 +98,8 @@ fn read_int(bytes: &[u8]) -> Result<(i32, &[u8]), ReadFault>
 }
 
 fn read_long(bytes: &[u8]) -> Result<(i64, &[u8]), ReadFault>
-    ensures { Reads (λ z. z) (λ z. to_be_bytes w64 (biased (2 ^ 63) z)) (FitsSigned w64) bytes.now result }
+    ensures { Reads (λ z. z) (λ z. to_be_bytes w64 (biased (2 ^ 63) z))
+        (FitsSigned w64) bytes.now result }
 {
     match bytes.split_first_chunk::<8>() {
         Some((number, rest)) => Ok((unbiased_long(u64::from_be_bytes(*number)), rest)),
@@ -121,7 +123,8 @@ fn unbiased_long(number: u64) -> i64
 
 // The text of bytes, if they are UTF-8.
 fn utf8(bytes: Vec<u8>) -> Option<Text>
-    ensures { MatchOption result (¬ IsUtf8 bytes.items) (λ text. (text ≡ bytes.items) × IsUtf8 bytes.items) }
+    ensures { MatchOption result (¬ IsUtf8 bytes.items)
+        (λ text. (text ≡ bytes.items) × IsUtf8 bytes.items) }
 {
     match String::from_utf8(bytes) {
         Ok(text) => Some(Text::from_string(text)),
@@ -405,8 +408,10 @@ fn key_rises(pair: &Pair, others: &[Pair]) -> bool
 /// Bytes in which more than 256 values stand inside one another are answered as want of memory, so that the calls
 /// nest no deeper.
 pub fn decode(alloc: Global, bytes: &[u8]) -> Result<Option<Value>, AllocError>
-    ensures value { IfOk result (λ found. MatchOption found ((v : Tree) → ¬ (IsCodeOf bytes.now v)) (λ v. IsCodeOf bytes.now (tree v))) }
-    ensures round_trip { (v : Tree) → IsCodeOf bytes.now v → IfOk result (λ found. option_map tree found ≡ Some v) }
+    ensures value { IfOk result (λ found. MatchOption found ((v : Tree)
+        → ¬ (IsCodeOf bytes.now v)) (λ v. IsCodeOf bytes.now (tree v))) }
+    ensures round_trip { (v : Tree) → IsCodeOf bytes.now v
+        → IfOk result (λ found. option_map tree found ≡ Some v) }
 {
     match read_value(alloc, LEVELS, bytes) {
         Ok((value, rest)) => Ok(whole(value, rest)),
@@ -417,8 +422,10 @@ pub fn decode(alloc: Global, bytes: &[u8]) -> Result<Option<Value>, AllocError>
 
 /// The row of the ascending code of a tuple, or none where [`decode`] finds no tuple.
 pub fn decode_row(alloc: Global, bytes: &[u8]) -> Result<Option<Tuple>, AllocError>
-    ensures row { IfOk result (λ found. MatchOption found ((row : List Tree) → ¬ (IsCodeOfRow bytes.now row)) (λ row. IsCodeOfRow bytes.now (row_tree row))) }
-    ensures round_trip { (row : List Tree) → IsCodeOfRow bytes.now row → IfOk result (λ found. option_map row_tree found ≡ Some row) }
+    ensures row { IfOk result (λ found. MatchOption found ((row : List Tree)
+        → ¬ (IsCodeOfRow bytes.now row)) (λ row. IsCodeOfRow bytes.now (row_tree row))) }
+    ensures round_trip { (row : List Tree) → IsCodeOfRow bytes.now row
+        → IfOk result (λ found. option_map row_tree found ≡ Some row) }
 {
     match decode(alloc, bytes) {
         Ok(Some(value)) => Ok(row_of(value)),
@@ -430,7 +437,8 @@ pub fn decode_row(alloc: Global, bytes: &[u8]) -> Result<Option<Tuple>, AllocErr
 /// The value whose ascending code the bytes begin with, and the bytes behind it; none where they begin with no code.
 /// The limit of [`decode`] holds.
 pub fn read_code(alloc: Global, bytes: &[u8]) -> Result<Option<(Value, &[u8])>, AllocError>
-    ensures { IfOk result (λ found. MatchOption found (NoneFirst code IsValue bytes.now) (λ read. StandsFirst code IsValue bytes.now (tree read.0) read.1.now)) }
+    ensures { IfOk result (λ found. MatchOption found (NoneFirst code IsValue bytes.now)
+        (λ read. StandsFirst code IsValue bytes.now (tree read.0) read.1.now)) }
 {
     match read_value(alloc, LEVELS, bytes) {
         Ok(read) => Ok(Some(read)),
@@ -448,7 +456,8 @@ fn whole(value: Value, rest: &[u8]) -> Option<Value>
 
 // The row of a tuple.
 fn row_of(value: Value) -> Option<Tuple>
-    ensures { MatchOption result ((row : List Tree) → ¬ (tree value ≡ v_tuple (fields_of row))) (λ row. tree value ≡ v_tuple (fields_of (row_tree row))) }
+    ensures { MatchOption result ((row : List Tree) → ¬ (tree value ≡ v_tuple (fields_of row)))
+        (λ row. tree value ≡ v_tuple (fields_of (row_tree row))) }
 {
     match value {
         Value::Tuple(row) => Some(row),

@@ -87,7 +87,8 @@ fn fields_of_key(key: &Value) -> &[Value]
 
 // Appends the codes of fields, each in its own direction.
 fn write_directed(fields: &[Value], dirs: &[Dir], out: &mut Vec<u8>) -> Result<(), AllocError>
-    ensures ok { OnOk result (out.new.items ≡ out.old.items ++ codes_in dirs.now (row_tree fields.now)) }
+    ensures ok { OnOk result (out.new.items ≡ out.old.items
+        ++ codes_in dirs.now (row_tree fields.now)) }
     ensures grows { IsExtended out.old.items out.new.items }
 {
     let mut left = fields;
@@ -133,7 +134,8 @@ fn write_value(value: &Value, out: &mut Vec<u8>) -> Result<(), AllocError>
 // Appends a tag, and the codes of fields.
 #[cycle(code)]
 fn write_fields(tag: u8, fields: &Tuple, out: &mut Vec<u8>) -> Result<(), AllocError>
-    ensures ok { OnOk result (out.new.items ≡ out.old.items ++ tag ∷ fields_code (fields_of (row_tree fields.now))) }
+    ensures ok { OnOk result (out.new.items ≡ out.old.items
+        ++ tag ∷ fields_code (fields_of (row_tree fields.now))) }
     ensures grows { IsExtended out.old.items out.new.items }
 {
     out.push(tag)?;
@@ -147,7 +149,8 @@ fn write_fields(tag: u8, fields: &Tuple, out: &mut Vec<u8>) -> Result<(), AllocE
 
 #[cycle(code)]
 fn write_rows(tag: u8, rows: &Rows, out: &mut Vec<u8>) -> Result<(), AllocError>
-    ensures ok { OnOk result (out.new.items ≡ out.old.items ++ tag ∷ tuples_code (tuples_of (rows_tree rows.now))) }
+    ensures ok { OnOk result (out.new.items ≡ out.old.items
+        ++ tag ∷ tuples_code (tuples_of (rows_tree rows.now))) }
     ensures grows { IsExtended out.old.items out.new.items }
 {
     out.push(tag)?;
@@ -161,7 +164,8 @@ fn write_rows(tag: u8, rows: &Rows, out: &mut Vec<u8>) -> Result<(), AllocError>
 
 #[cycle(code)]
 fn write_pairs(tag: u8, pairs: &Pairs, out: &mut Vec<u8>) -> Result<(), AllocError>
-    ensures ok { OnOk result (out.new.items ≡ out.old.items ++ tag ∷ entries_code (entries_of (map entry_of pairs.now))) }
+    ensures ok { OnOk result (out.new.items ≡ out.old.items
+        ++ tag ∷ entries_code (entries_of (map entry_of pairs.now))) }
     ensures grows { IsExtended out.old.items out.new.items }
 {
     out.push(tag)?;
@@ -207,7 +211,8 @@ fn write_text(tag: u8, text: &[u8], out: &mut Vec<u8>) -> Result<(), AllocError>
 }
 
 fn write_int(number: i32, out: &mut Vec<u8>) -> Result<(), AllocError>
-    ensures ok { OnOk result (out.new.items ≡ out.old.items ++ 2 ∷ to_be_bytes w32 (biased (2 ^ 31) number)) }
+    ensures ok { OnOk result (out.new.items ≡ out.old.items
+        ++ 2 ∷ to_be_bytes w32 (biased (2 ^ 31) number)) }
     ensures grows { IsExtended out.old.items out.new.items }
 {
     out.push(INT)?;
@@ -215,7 +220,8 @@ fn write_int(number: i32, out: &mut Vec<u8>) -> Result<(), AllocError>
 }
 
 fn write_long(number: i64, out: &mut Vec<u8>) -> Result<(), AllocError>
-    ensures ok { OnOk result (out.new.items ≡ out.old.items ++ 3 ∷ to_be_bytes w64 (biased (2 ^ 63) number)) }
+    ensures ok { OnOk result (out.new.items ≡ out.old.items
+        ++ 3 ∷ to_be_bytes w64 (biased (2 ^ 63) number)) }
     ensures grows { IsExtended out.old.items out.new.items }
 {
     out.push(LONG)?;
@@ -252,7 +258,8 @@ fn write_bytes(bytes: &[u8], out: &mut Vec<u8>) -> Result<(), AllocError>
 // Puts an ascending code from a place on into a direction.
 fn direct(dir: Dir, from: usize, out: &mut Vec<u8>)
     requires { from ≤ length out.old.items }
-    ensures { out.new.items ≡ take from out.old.items ++ in_direction dir (drop from out.old.items) }
+    ensures { out.new.items ≡ take from out.old.items
+        ++ in_direction dir (drop from out.old.items) }
 {
     match dir {
         Dir::Asc => {}

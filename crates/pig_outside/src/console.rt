@@ -16,7 +16,8 @@ pub trait Console {
 
     /// Appends all the bytes; after an error, a prefix of them.
     fn write(&mut self, bytes: &[u8]) -> Result<(), OutsideError>
-        ensures written { OnOk result (text self.new ≡ option_map (λ t. t ++ bytes.now) (text self.old)) }
+        ensures written { OnOk result (text self.new
+            ≡ option_map (λ t. t ++ bytes.now) (text self.old)) }
         ensures err { OnErr result (LeftPrefix bytes.now (text self.old) (text self.new)) }
         ensures cause { HasConsoleCause (faults self.old) (faults self.new) result };
 }

@@ -29,7 +29,8 @@ impl FaultCounts {
     pub fn fail(&mut self) -> OutsideError
         ensures later { all_faults self.old ≤ all_faults self.new }
         ensures failed { result ≡ OutsideError.Failed → all_faults self.old < all_faults self.new }
-        ensures memory { result ≡ OutsideError.OutOfMemory → all_faults self.new ≡ all_faults self.old }
+        ensures memory { result ≡ OutsideError.OutOfMemory
+            → all_faults self.new ≡ all_faults self.old }
         ensures full { result ≡ OutsideError.OutOfMemory → all_faults self.old ≡ count_end }
         ensures stores { stores_failed self.new ≡ stores_failed self.old }
     {
@@ -45,10 +46,13 @@ impl FaultCounts {
         ensures later { all_faults self.old ≤ all_faults self.new }
         ensures stores_later { stores_failed self.old ≤ stores_failed self.new }
         ensures failed { result ≡ OutsideError.Failed → all_faults self.old < all_faults self.new }
-        ensures memory { result ≡ OutsideError.OutOfMemory → all_faults self.new ≡ all_faults self.old }
+        ensures memory { result ≡ OutsideError.OutOfMemory
+            → all_faults self.new ≡ all_faults self.old }
         ensures full { result ≡ OutsideError.OutOfMemory → all_faults self.old ≡ count_end }
-        ensures stores { result ≡ OutsideError.Failed → stores_failed self.old < stores_failed self.new }
-        ensures stores_memory { result ≡ OutsideError.OutOfMemory → stores_failed self.new ≡ stores_failed self.old }
+        ensures stores { result ≡ OutsideError.Failed
+            → stores_failed self.old < stores_failed self.new }
+        ensures stores_memory { result ≡ OutsideError.OutOfMemory
+            → stores_failed self.new ≡ stores_failed self.old }
     {
         if self.all == u64::MAX {
             return OutsideError::OutOfMemory;

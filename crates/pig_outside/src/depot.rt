@@ -26,45 +26,55 @@ pub trait Depot {
 
     /// Appends the first `most` bytes of the script, or all where it is shorter. False: there is no such script.
     fn script(&mut self, path: &str, most: u64, into: &mut Vec<u8>) -> Result<bool, OutsideError>
-        ensures there { ForSome (shelf self.old) (λ s. IfOk result (λ there. there ≡ is_some (script_of path.now s))) }
-        ensures read { ForSome (shelf self.old) (λ s. OnOk result (into.new.items ≡ into.old.items ++ script_bytes path.now most s)) }
+        ensures there { ForSome (shelf self.old)
+            (λ s. IfOk result (λ there. there ≡ is_some (script_of path.now s))) }
+        ensures read { ForSome (shelf self.old)
+            (λ s. OnOk result (into.new.items ≡ into.old.items ++ script_bytes path.now most s)) }
         ensures grows { OnOk result (Grows most into.old.items into.new.items) }
         ensures absent { result ≡ Ok false → into.new.items ≡ into.old.items }
         ensures err { OnErr result (into.new.items ≡ into.old.items) }
         ensures shelf { shelf self.new ≡ shelf self.old }
-        ensures calls { calls self.new ≡ option_map (and_call Method.Script path.now) (calls self.old) }
+        ensures calls { calls self.new ≡ option_map (and_call Method.Script path.now)
+            (calls self.old) }
         ensures cause { HasCause (faults self.old) (faults self.new) result }
         ensures store_faults { store_faults self.new ≡ store_faults self.old };
 
     /// The lengths of the input's pieces in order, in bytes. None: there is no such input.
     fn pieces(&mut self, path: &str) -> Result<Option<Lengths>, OutsideError>
-        ensures lengths { ForSome (shelf self.old) (λ s. IfOk result (λ found. found ≡ lengths_at path.now s)) }
+        ensures lengths { ForSome (shelf self.old)
+            (λ s. IfOk result (λ found. found ≡ lengths_at path.now s)) }
         ensures shelf { shelf self.new ≡ shelf self.old }
-        ensures calls { calls self.new ≡ option_map (and_call Method.Pieces path.now) (calls self.old) }
+        ensures calls { calls self.new ≡ option_map (and_call Method.Pieces path.now)
+            (calls self.old) }
         ensures cause { HasCause (faults self.old) (faults self.new) result }
         ensures store_faults { store_faults self.new ≡ store_faults self.old };
 
     /// Whether it has the directory.
     fn exists(&mut self, dir: &str) -> Result<bool, OutsideError>
-        ensures there { ForSome (shelf self.old) (λ s. IfOk result (λ there. there ≡ has_dir dir.now s)) }
+        ensures there { ForSome (shelf self.old)
+            (λ s. IfOk result (λ there. there ≡ has_dir dir.now s)) }
         ensures shelf { shelf self.new ≡ shelf self.old }
-        ensures calls { calls self.new ≡ option_map (and_call Method.Exists dir.now) (calls self.old) }
+        ensures calls { calls self.new ≡ option_map (and_call Method.Exists dir.now)
+            (calls self.old) }
         ensures cause { HasCause (faults self.old) (faults self.new) result }
         ensures store_faults { store_faults self.new ≡ store_faults self.old };
 
     /// Makes an empty, unmarked directory.
     fn create(&mut self, dir: &str) -> Result<(), OutsideError>
         requires { ForSome (shelf self.old) (CanCreate dir.now) }
-        ensures created { OnOk result (shelf self.new ≡ option_map (with_new dir.now) (shelf self.old)) }
+        ensures created { OnOk result (shelf self.new
+            ≡ option_map (with_new dir.now) (shelf self.old)) }
         ensures err { OnErr result (LeftAbsentOrEmpty dir.now (shelf self.old) (shelf self.new)) }
-        ensures calls { calls self.new ≡ option_map (and_call Method.Create dir.now) (calls self.old) }
+        ensures calls { calls self.new ≡ option_map (and_call Method.Create dir.now)
+            (calls self.old) }
         ensures cause { HasCause (faults self.old) (faults self.new) result }
         ensures store_cause { HasCause (store_faults self.old) (store_faults self.new) result };
 
     /// Appends one whole part.
     fn put(&mut self, dir: &str, part: u32, bytes: &[u8]) -> Result<(), OutsideError>
         requires { ForSome (shelf self.old) (CanPut dir.now part) }
-        ensures put { OnOk result (shelf self.new ≡ option_map (with_part dir.now bytes.now) (shelf self.old)) }
+        ensures put { OnOk result (shelf self.new
+            ≡ option_map (with_part dir.now bytes.now) (shelf self.old)) }
         ensures err { OnErr result (LeftUnmarked dir.now (shelf self.old) (shelf self.new)) }
         ensures calls { calls self.new ≡ option_map (and_call Method.Put dir.now) (calls self.old) }
         ensures cause { HasCause (faults self.old) (faults self.new) result }
@@ -73,9 +83,11 @@ pub trait Depot {
     /// Sets the directory's marker: it is whole.
     fn finish(&mut self, dir: &str) -> Result<(), OutsideError>
         requires { ForSome (shelf self.old) (CanFinish dir.now) }
-        ensures marked { OnOk result (shelf self.new ≡ option_map (with_mark dir.now) (shelf self.old)) }
+        ensures marked { OnOk result (shelf self.new
+            ≡ option_map (with_mark dir.now) (shelf self.old)) }
         ensures err { OnErr result (LeftUnmarked dir.now (shelf self.old) (shelf self.new)) }
-        ensures calls { calls self.new ≡ option_map (and_call Method.Finish dir.now) (calls self.old) }
+        ensures calls { calls self.new ≡ option_map (and_call Method.Finish dir.now)
+            (calls self.old) }
         ensures cause { HasCause (faults self.old) (faults self.new) result }
         ensures store_cause { HasCause (store_faults self.old) (store_faults self.new) result };
 }

@@ -55,7 +55,8 @@ impl Failing {
     pub fn call(&mut self, method: Method) -> Result<(), OutsideError>
         ensures listed { EndsAsListed method self.old self.new result }
         ensures cause { HasConsoleCause (fault_count self.old) (fault_count self.new) result }
-        ensures stores { StoreCause method (store_fault_count self.old) (store_fault_count self.new) result }
+        ensures stores { StoreCause method (store_fault_count self.old)
+            (store_fault_count self.new) result }
         ensures full { result ≡ Err OutsideError.OutOfMemory → fault_count self.old ≡ count_end }
     {
         let number = count(&mut self.made, method);

@@ -22,7 +22,8 @@ pub trait Host {
     /// An attempt starts. Failed: this attempt is lost. It takes no memory.
     fn begin(&mut self, wave: u32, task: u32, attempt: u32) -> Result<(), Failed>
         ensures inputs { inputs self.new ≡ inputs self.old }
-        ensures begun { begun self.new ≡ option_map (and_attempt wave task attempt) (begun self.old) }
+        ensures begun { begun self.new ≡ option_map (and_attempt wave task attempt)
+            (begun self.old) }
         ensures later { faults self.old ≤ faults self.new }
         ensures failed { OnErr result (faults self.old < faults self.new) };
 
@@ -35,7 +36,8 @@ pub trait Host {
         into: &mut [u8],
     ) -> Result<(), OutsideError>
         requires { ForSome (inputs self.old) (HasRange path.now piece from (length into.old)) }
-        ensures filled { ForSome (inputs self.old) (λ i. OnOk result (into.new ≡ range_of path.now piece from (length into.old) i)) }
+        ensures filled { ForSome (inputs self.old)
+            (λ i. OnOk result (into.new ≡ range_of path.now piece from (length into.old) i)) }
         ensures inputs { inputs self.new ≡ inputs self.old }
         ensures begun { begun self.new ≡ begun self.old }
         ensures cause { HasCause (faults self.old) (faults self.new) result };

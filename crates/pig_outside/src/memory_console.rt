@@ -48,11 +48,14 @@ impl Console for MemoryConsole {
     ghost faults = { console_faults };
 
     fn write(&mut self, bytes: &[u8]) -> Result<(), OutsideError>
-        ensures written { OnOk result (told_text self.new ≡ option_map (λ t. t ++ bytes.now) (told_text self.old)) }
-        ensures err { OnErr result (LeftPrefix bytes.now (told_text self.old) (told_text self.new)) }
+        ensures written { OnOk result (told_text self.new
+            ≡ option_map (λ t. t ++ bytes.now) (told_text self.old)) }
+        ensures err { OnErr result (LeftPrefix bytes.now (told_text self.old)
+            (told_text self.new)) }
         ensures cause { HasConsoleCause (console_faults self.old) (console_faults self.new) result }
         ensures as_before { OnErr result (told_text self.new ≡ told_text self.old) }
-        ensures listed { EndsAsListed Method.Write (console_failing self.old) (console_failing self.new) result }
+        ensures listed { EndsAsListed Method.Write (console_failing self.old)
+            (console_failing self.new) result }
     {
         self.failing.call(Method::Write)?;
         self.text.extend_from_slice(bytes)?;

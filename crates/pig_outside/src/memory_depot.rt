@@ -32,7 +32,8 @@ impl MemoryDepot {
 
     /// A depot with these scripts and inputs, and no directory. It takes no memory.
     pub fn new(alloc: Global, scripts: Sources, inputs: Inputs, failing: Calls) -> MemoryDepot
-        ensures shelf { depot_shelf result ≡ record { scripts = scripts; inputs = inputs; dirs = [] } }
+        ensures shelf { depot_shelf result
+            ≡ record { scripts = scripts; inputs = inputs; dirs = [] } }
         ensures calls { depot_calls result ≡ [] }
         ensures failing { IsUncalled failing (depot_failing result) }
     {
@@ -50,9 +51,11 @@ impl MemoryDepot {
     fn call(&mut self, method: Method, path: &str) -> Result<(), OutsideError>
         ensures shelf { depot_shelf self.new ≡ depot_shelf self.old }
         ensures calls { depot_calls self.new ≡ and_call method path.now (depot_calls self.old) }
-        ensures listed { EndsAsListed method (depot_failing self.old) (depot_failing self.new) result }
+        ensures listed { EndsAsListed method (depot_failing self.old)
+            (depot_failing self.new) result }
         ensures cause { HasConsoleCause (depot_faults self.old) (depot_faults self.new) result }
-        ensures stores { StoreCause method (depot_store_faults self.old) (depot_store_faults self.new) result }
+        ensures stores { StoreCause method (depot_store_faults self.old)
+            (depot_store_faults self.new) result }
         ensures full { result ≡ Err OutsideError.OutOfMemory → depot_faults self.old ≡ count_end }
     {
         self.history = self.history.and(&Asked::Call { method, path });
@@ -85,16 +88,20 @@ impl Depot for MemoryDepot {
     ghost store_faults = { depot_store_faults };
 
     fn script(&mut self, path: &str, most: u64, into: &mut Vec<u8>) -> Result<bool, OutsideError>
-        ensures there { ForSome (told_shelf self.old) (λ s. IfOk result (λ there. there ≡ is_some (script_of path.now s))) }
-        ensures read { ForSome (told_shelf self.old) (λ s. OnOk result (into.new.items ≡ into.old.items ++ script_bytes path.now most s)) }
+        ensures there { ForSome (told_shelf self.old)
+            (λ s. IfOk result (λ there. there ≡ is_some (script_of path.now s))) }
+        ensures read { ForSome (told_shelf self.old)
+            (λ s. OnOk result (into.new.items ≡ into.old.items ++ script_bytes path.now most s)) }
         ensures grows { OnOk result (Grows most into.old.items into.new.items) }
         ensures absent { result ≡ Ok false → into.new.items ≡ into.old.items }
         ensures err { OnErr result (into.new.items ≡ into.old.items) }
         ensures shelf { told_shelf self.new ≡ told_shelf self.old }
-        ensures calls { told_calls self.new ≡ option_map (and_call Method.Script path.now) (told_calls self.old) }
+        ensures calls { told_calls self.new ≡ option_map (and_call Method.Script path.now)
+            (told_calls self.old) }
         ensures cause { HasCause (depot_faults self.old) (depot_faults self.new) result }
         ensures store_faults { depot_store_faults self.new ≡ depot_store_faults self.old }
-        ensures listed { EndsAsListed Method.Script (depot_failing self.old) (depot_failing self.new) result }
+        ensures listed { EndsAsListed Method.Script (depot_failing self.old)
+            (depot_failing self.new) result }
     {
         self.call(Method::Script, path)?;
         match find(self.scripts.as_slice(), path) {
@@ -107,12 +114,15 @@ impl Depot for MemoryDepot {
     }
 
     fn pieces(&mut self, path: &str) -> Result<Option<Lengths>, OutsideError>
-        ensures lengths { ForSome (told_shelf self.old) (λ s. IfOk result (λ found. found ≡ lengths_at path.now s)) }
+        ensures lengths { ForSome (told_shelf self.old)
+            (λ s. IfOk result (λ found. found ≡ lengths_at path.now s)) }
         ensures shelf { told_shelf self.new ≡ told_shelf self.old }
-        ensures calls { told_calls self.new ≡ option_map (and_call Method.Pieces path.now) (told_calls self.old) }
+        ensures calls { told_calls self.new ≡ option_map (and_call Method.Pieces path.now)
+            (told_calls self.old) }
         ensures cause { HasCause (depot_faults self.old) (depot_faults self.new) result }
         ensures store_faults { depot_store_faults self.new ≡ depot_store_faults self.old }
-        ensures listed { EndsAsListed Method.Pieces (depot_failing self.old) (depot_failing self.new) result }
+        ensures listed { EndsAsListed Method.Pieces (depot_failing self.old)
+            (depot_failing self.new) result }
     {
         self.call(Method::Pieces, path)?;
         match find(self.inputs.as_slice(), path) {
@@ -122,12 +132,15 @@ impl Depot for MemoryDepot {
     }
 
     fn exists(&mut self, dir: &str) -> Result<bool, OutsideError>
-        ensures there { ForSome (told_shelf self.old) (λ s. IfOk result (λ there. there ≡ has_dir dir.now s)) }
+        ensures there { ForSome (told_shelf self.old)
+            (λ s. IfOk result (λ there. there ≡ has_dir dir.now s)) }
         ensures shelf { told_shelf self.new ≡ told_shelf self.old }
-        ensures calls { told_calls self.new ≡ option_map (and_call Method.Exists dir.now) (told_calls self.old) }
+        ensures calls { told_calls self.new ≡ option_map (and_call Method.Exists dir.now)
+            (told_calls self.old) }
         ensures cause { HasCause (depot_faults self.old) (depot_faults self.new) result }
         ensures store_faults { depot_store_faults self.new ≡ depot_store_faults self.old }
-        ensures listed { EndsAsListed Method.Exists (depot_failing self.old) (depot_failing self.new) result }
+        ensures listed { EndsAsListed Method.Exists (depot_failing self.old)
+            (depot_failing self.new) result }
     {
         self.call(Method::Exists, dir)?;
         Ok(find(self.dirs.as_slice(), dir).is_some())
@@ -135,13 +148,18 @@ impl Depot for MemoryDepot {
 
     fn create(&mut self, dir: &str) -> Result<(), OutsideError>
         requires { ForSome (told_shelf self.old) (CanCreate dir.now) }
-        ensures created { OnOk result (told_shelf self.new ≡ option_map (with_new dir.now) (told_shelf self.old)) }
-        ensures err { OnErr result (LeftAbsentOrEmpty dir.now (told_shelf self.old) (told_shelf self.new)) }
+        ensures created { OnOk result (told_shelf self.new
+            ≡ option_map (with_new dir.now) (told_shelf self.old)) }
+        ensures err { OnErr result (LeftAbsentOrEmpty dir.now (told_shelf self.old)
+            (told_shelf self.new)) }
         ensures as_before { OnErr result (told_shelf self.new ≡ told_shelf self.old) }
-        ensures calls { told_calls self.new ≡ option_map (and_call Method.Create dir.now) (told_calls self.old) }
+        ensures calls { told_calls self.new ≡ option_map (and_call Method.Create dir.now)
+            (told_calls self.old) }
         ensures cause { HasCause (depot_faults self.old) (depot_faults self.new) result }
-        ensures store_cause { HasCause (depot_store_faults self.old) (depot_store_faults self.new) result }
-        ensures listed { EndsAsListed Method.Create (depot_failing self.old) (depot_failing self.new) result }
+        ensures store_cause { HasCause (depot_store_faults self.old)
+            (depot_store_faults self.new) result }
+        ensures listed { EndsAsListed Method.Create (depot_failing self.old)
+            (depot_failing self.new) result }
     {
         self.call(Method::Create, dir)?;
         add_dir(self.alloc, &mut self.dirs, dir)
@@ -149,13 +167,18 @@ impl Depot for MemoryDepot {
 
     fn put(&mut self, dir: &str, part: u32, bytes: &[u8]) -> Result<(), OutsideError>
         requires { ForSome (told_shelf self.old) (CanPut dir.now part) }
-        ensures put { OnOk result (told_shelf self.new ≡ option_map (with_part dir.now bytes.now) (told_shelf self.old)) }
-        ensures err { OnErr result (LeftUnmarked dir.now (told_shelf self.old) (told_shelf self.new)) }
+        ensures put { OnOk result (told_shelf self.new
+            ≡ option_map (with_part dir.now bytes.now) (told_shelf self.old)) }
+        ensures err { OnErr result (LeftUnmarked dir.now (told_shelf self.old)
+            (told_shelf self.new)) }
         ensures as_before { OnErr result (told_shelf self.new ≡ told_shelf self.old) }
-        ensures calls { told_calls self.new ≡ option_map (and_call Method.Put dir.now) (told_calls self.old) }
+        ensures calls { told_calls self.new ≡ option_map (and_call Method.Put dir.now)
+            (told_calls self.old) }
         ensures cause { HasCause (depot_faults self.old) (depot_faults self.new) result }
-        ensures store_cause { HasCause (depot_store_faults self.old) (depot_store_faults self.new) result }
-        ensures listed { EndsAsListed Method.Put (depot_failing self.old) (depot_failing self.new) result }
+        ensures store_cause { HasCause (depot_store_faults self.old)
+            (depot_store_faults self.new) result }
+        ensures listed { EndsAsListed Method.Put (depot_failing self.old)
+            (depot_failing self.new) result }
     {
         self.call(Method::Put, dir)?;
         let _ = part;
@@ -164,13 +187,18 @@ impl Depot for MemoryDepot {
 
     fn finish(&mut self, dir: &str) -> Result<(), OutsideError>
         requires { ForSome (told_shelf self.old) (CanFinish dir.now) }
-        ensures marked { OnOk result (told_shelf self.new ≡ option_map (with_mark dir.now) (told_shelf self.old)) }
-        ensures err { OnErr result (LeftUnmarked dir.now (told_shelf self.old) (told_shelf self.new)) }
+        ensures marked { OnOk result (told_shelf self.new
+            ≡ option_map (with_mark dir.now) (told_shelf self.old)) }
+        ensures err { OnErr result (LeftUnmarked dir.now (told_shelf self.old)
+            (told_shelf self.new)) }
         ensures as_before { OnErr result (told_shelf self.new ≡ told_shelf self.old) }
-        ensures calls { told_calls self.new ≡ option_map (and_call Method.Finish dir.now) (told_calls self.old) }
+        ensures calls { told_calls self.new ≡ option_map (and_call Method.Finish dir.now)
+            (told_calls self.old) }
         ensures cause { HasCause (depot_faults self.old) (depot_faults self.new) result }
-        ensures store_cause { HasCause (depot_store_faults self.old) (depot_store_faults self.new) result }
-        ensures listed { EndsAsListed Method.Finish (depot_failing self.old) (depot_failing self.new) result }
+        ensures store_cause { HasCause (depot_store_faults self.old)
+            (depot_store_faults self.new) result }
+        ensures listed { EndsAsListed Method.Finish (depot_failing self.old)
+            (depot_failing self.new) result }
     {
         self.call(Method::Finish, dir)?;
         mark(&mut self.dirs, dir);
@@ -200,7 +228,8 @@ fn lengths(alloc: Global, pieces: &[Blob]) -> Result<Lengths, AllocError>
 
 /// Makes an empty directory behind the others.
 fn add_dir(alloc: Global, dirs: &mut Vec<Directory>, dir: &str) -> Result<(), OutsideError>
-    ensures ok { OnOk result (dirs.new.items ≡ dirs.old.items ++ record { path = dir.now; state = open_state [] } ∷ []) }
+    ensures ok { OnOk result (dirs.new.items ≡ dirs.old.items
+        ++ record { path = dir.now; state = open_state [] } ∷ []) }
     ensures err { OnErr result (dirs.new.items ≡ dirs.old.items) }
     ensures memory { result ≡ Err OutsideError.Failed → ⊥ }
 {
@@ -223,7 +252,8 @@ fn add_part(
     bytes: &[u8],
 ) -> Result<(), OutsideError>
     requires { IsOpenIn dir.now (parts_in dir.now dirs.old.items) dirs.old.items }
-    ensures ok { OnOk result (dirs.new.items ≡ set_dir dir.now (open_state (parts_in dir.now dirs.old.items ++ bytes.now ∷ [])) dirs.old.items) }
+    ensures ok { OnOk result (dirs.new.items ≡ set_dir dir.now
+        (open_state (parts_in dir.now dirs.old.items ++ bytes.now ∷ [])) dirs.old.items) }
     ensures err { OnErr result (dirs.new.items ≡ dirs.old.items) }
     ensures memory { result ≡ Err OutsideError.Failed → ⊥ }
 {
@@ -236,7 +266,8 @@ fn add_part(
 /// Sets the marker of that directory.
 fn mark(dirs: &mut Vec<Directory>, dir: &str)
     requires { IsOpenIn dir.now (parts_in dir.now dirs.old.items) dirs.old.items }
-    ensures { dirs.new.items ≡ set_dir dir.now (whole_state (parts_in dir.now dirs.old.items)) dirs.old.items }
+    ensures { dirs.new.items ≡ set_dir dir.now
+        (whole_state (parts_in dir.now dirs.old.items)) dirs.old.items }
 {
     let at = existing(dirs.as_slice(), dir);
     dirs[at].state.marked = true;

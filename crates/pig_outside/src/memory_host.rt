@@ -52,7 +52,8 @@ impl Host for MemoryHost {
 
     fn begin(&mut self, wave: u32, task: u32, attempt: u32) -> Result<(), Failed>
         ensures inputs { told_inputs self.new ≡ told_inputs self.old }
-        ensures begun { told_begun self.new ≡ option_map (and_attempt wave task attempt) (told_begun self.old) }
+        ensures begun { told_begun self.new ≡ option_map (and_attempt wave task attempt)
+            (told_begun self.old) }
         ensures later { host_faults self.old ≤ host_faults self.new }
         ensures failed { OnErr result (host_faults self.old < host_faults self.new) }
         ensures listed { BeginsAsListed (host_failing self.old) (host_failing self.new) result }
@@ -76,12 +77,14 @@ impl Host for MemoryHost {
         into: &mut [u8],
     ) -> Result<(), OutsideError>
         requires { ForSome (told_inputs self.old) (HasRange path.now piece from (length into.old)) }
-        ensures filled { ForSome (told_inputs self.old) (λ i. OnOk result (into.new ≡ range_of path.now piece from (length into.old) i)) }
+        ensures filled { ForSome (told_inputs self.old)
+            (λ i. OnOk result (into.new ≡ range_of path.now piece from (length into.old) i)) }
         ensures as_before { OnErr result (into.new ≡ into.old) }
         ensures inputs { told_inputs self.new ≡ told_inputs self.old }
         ensures begun { told_begun self.new ≡ told_begun self.old }
         ensures cause { HasCause (host_faults self.old) (host_faults self.new) result }
-        ensures listed { EndsAsListed Method.Read (host_failing self.old) (host_failing self.new) result }
+        ensures listed { EndsAsListed Method.Read (host_failing self.old)
+            (host_failing self.new) result }
         ensures full { result ≡ Err OutsideError.OutOfMemory → host_faults self.old ≡ count_end }
     {
         self.failing.call(Method::Read)?;

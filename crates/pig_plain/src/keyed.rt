@@ -83,7 +83,8 @@ pub fn grouped(alloc: Global, inputs: &[KeyedInput], table: &[Rows]) -> Result<R
 
 fn grouping(alloc: Global, inputs: &[KeyedInput]) -> Result<Gathering, AllocError>
     ensures { IfOk result (λ how. (rows : ℕ → List (List Tree))
-        → gathered (made how) (keyed_entries 0 (map keyed_of inputs.now) rows) ≡ group_rows (map keyed_of inputs.now) rows) }
+        → gathered (made how) (keyed_entries 0 (map keyed_of inputs.now) rows)
+        ≡ group_rows (map keyed_of inputs.now) rows) }
 {
     if let [_one] = inputs {
         return Ok(Gathering::Group);
@@ -94,7 +95,8 @@ fn grouping(alloc: Global, inputs: &[KeyedInput]) -> Result<Gathering, AllocErro
 fn cogrouping(alloc: Global, inputs: &[KeyedInput]) -> Result<Gathering, AllocError>
     requires { length inputs.now ≢ 1 }
     ensures { IfOk result (λ how. (rows : ℕ → List (List Tree))
-        → gathered (made how) (keyed_entries 0 (map keyed_of inputs.now) rows) ≡ group_rows (map keyed_of inputs.now) rows) }
+        → gathered (made how) (keyed_entries 0 (map keyed_of inputs.now) rows)
+        ≡ group_rows (map keyed_of inputs.now) rows) }
 {
     let inner = flags(alloc, inputs)?;
     Ok(Gathering::Cogroup { inner })
@@ -121,7 +123,8 @@ pub fn joined(
     requires rows { AreValues table.now }
     requires literals { KeyLiteralsAre IsValue (map keyed_of inputs.now) }
     ensures { IfOk result (λ made. rows_tree made
-        ≡ join_rows side (width_at (plan_of plan.now)) (map keyed_of inputs.now) (table_rows table.now)) }
+        ≡ join_rows side (width_at (plan_of plan.now)) (map keyed_of inputs.now)
+        (table_rows table.now)) }
 {
     match joining(plan, inputs, side) {
         Some(how) => brought(alloc, &how, inputs, table),
@@ -179,7 +182,8 @@ fn brought(
     requires rows { AreValues table.now }
     requires literals { KeyLiteralsAre IsValue (map keyed_of inputs.now) }
     ensures { IfOk result (λ rows. rows_tree rows
-        ≡ gathered (made how.now) (keyed_entries 0 (map keyed_of inputs.now) (table_rows table.now))) }
+        ≡ gathered (made how.now) (keyed_entries 0 (map keyed_of inputs.now)
+        (table_rows table.now))) }
 {
     let builder = entries(alloc, inputs, table)?;
     gather(alloc, how, builder.finish())
@@ -190,7 +194,8 @@ fn entries(alloc: Global, inputs: &[KeyedInput], table: &[Rows]) -> Result<RunBu
     requires rows { AreValues table.now }
     requires literals { KeyLiteralsAre IsValue (map keyed_of inputs.now) }
     ensures { IfOk result (λ builder. builder
-        ≡ and_entries (all_keyed 0 (map keyed_of inputs.now) (table_rows table.now)) (no_entries_in [])) }
+        ≡ and_entries (all_keyed 0 (map keyed_of inputs.now) (table_rows table.now))
+        (no_entries_in [])) }
 {
     let mut builder = RunBuilder::new(alloc, Dirs::new(alloc));
     let mut number = 0;
@@ -221,7 +226,8 @@ fn add_input(
     requires rows { AreValues table.now }
     requires literals { AllByRecursion (LiteralsAre IsValue) (map typed input.now.keys) }
     ensures { OnOk result (builder.new
-        ≡ and_entries (keyed_rows (map typed input.now.keys) number (table_rows table.now input.now.input)) builder.old) }
+        ≡ and_entries (keyed_rows (map typed input.now.keys) number
+        (table_rows table.now input.now.input)) builder.old) }
 {
     let rows = rows_at(table, input.input);
     add_rows(alloc, input.keys.as_slice(), number, rows, builder)
@@ -259,7 +265,8 @@ fn add_row(
     requires row { IsRow (row_tree row.now) }
     requires literals { AllByRecursion (LiteralsAre IsValue) (map typed keys.now) }
     ensures { OnOk result (builder.new
-        ≡ and_entries (keyed_rows (map typed keys.now) number (row_tree row.now ∷ [])) builder.old) }
+        ≡ and_entries (keyed_rows (map typed keys.now) number
+        (row_tree row.now ∷ [])) builder.old) }
 {
     if let [key] = keys {
         return add_by_one(alloc, key, number, row, builder);
@@ -279,7 +286,8 @@ fn add_by_one(
     requires row { IsRow (row_tree row.now) }
     requires literals { LiteralsAre IsValue (typed key.now) }
     ensures { OnOk result (builder.new
-        ≡ and_entries (keyed_rows (typed key.now ∷ []) number (row_tree row.now ∷ [])) builder.old) }
+        ≡ and_entries (keyed_rows (typed key.now ∷ []) number
+        (row_tree row.now ∷ [])) builder.old) }
 {
     let none = Tuple::new(alloc);
     let seen = look(alloc, key, row, &none)?;
@@ -299,7 +307,8 @@ fn add_by_several(
     requires literals { AllByRecursion (LiteralsAre IsValue) (map typed keys.now) }
     requires several { length keys.now ≢ 1 }
     ensures { OnOk result (builder.new
-        ≡ and_entries (keyed_rows (map typed keys.now) number (row_tree row.now ∷ [])) builder.old) }
+        ≡ and_entries (keyed_rows (map typed keys.now) number
+        (row_tree row.now ∷ [])) builder.old) }
 {
     let key = tuple_of(alloc, keys, row)?;
     add_under(&key, number, row, builder)

@@ -36,7 +36,8 @@ pub fn found(
     requires values { AreValues table.old.items }
     requires literals { OpLiteralsAre IsValue (op_of op.now) }
     ensures rows { IfOk result (λ rows. rows_tree rows
-        ≡ found_rows inputs.now (width_at (plan_of plan.now)) (op_of op.now) (table_rows table.old.items)) }
+        ≡ found_rows inputs.now (width_at (plan_of plan.now)) (op_of op.now)
+        (table_rows table.old.items)) }
     ensures valid { IfOk result (λ rows. AreRows (rows_tree rows)) }
     ensures size { length table.new.items ≡ length table.old.items }
     ensures values { AreValues table.new.items }
@@ -57,7 +58,8 @@ fn made(
     requires values { AreValues table.old.items }
     requires literals { OpLiteralsAre IsValue (op_of op.now) }
     ensures rows { IfOk result (λ rows. rows_tree rows
-        ≡ found_rows inputs.now (width_at (plan_of plan.now)) (op_of op.now) (table_rows table.old.items)) }
+        ≡ found_rows inputs.now (width_at (plan_of plan.now)) (op_of op.now)
+        (table_rows table.old.items)) }
     ensures size { length table.new.items ≡ length table.old.items }
     ensures values { AreValues table.new.items }
     ensures kept { LaterStand ends.now number table.old.items table.new.items }

@@ -108,7 +108,8 @@ fn keys_before(
     row: &Tuple,
 ) -> Result<Rows, AllocError>
     ensures { IfOk result (λ made. rows_tree made
-        ≡ map (key_fields keys.now) (stand_before keys.now (rows_tree rows.now) (row_tree row.now))) }
+        ≡ map (key_fields keys.now) (stand_before keys.now (rows_tree rows.now)
+        (row_tree row.now))) }
 {
     let mut made = Rows::new(alloc);
     for other in rows {
@@ -125,7 +126,8 @@ fn add_before(
     made: &mut Rows,
 ) -> Result<(), AllocError>
     ensures { OnOk result (rows_tree made.new
-        ≡ rows_tree made.old ++ map (key_fields keys.now) (stand_before keys.now (row_tree other.now ∷ []) (row_tree row.now))) }
+        ≡ rows_tree made.old ++ map (key_fields keys.now)
+        (stand_before keys.now (row_tree other.now ∷ []) (row_tree row.now))) }
 {
     if !stands_before(keys, other, row) {
         return Ok(());

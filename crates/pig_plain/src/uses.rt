@@ -62,7 +62,8 @@ impl Uses {
         ensures others { (k : ℕ) → number < k
             → get_or self.new.live.items k false ≡ get_or self.old.live.items k false }
         ensures ends { (k : ℕ) → get_or self.new.ends.items k 0
-            ≡ raised (number + 1) (alive (op_of op.now) number self.old.ends.items && names (op_of op.now) k) (get_or self.old.ends.items k 0) }
+            ≡ raised (number + 1) (alive (op_of op.now) number self.old.ends.items
+            && names (op_of op.now) k) (get_or self.old.ends.items k 0) }
     {
         if is_store(op) || self.ends[number] > 0 {
             self.live[number] = true;

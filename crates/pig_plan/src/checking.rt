@@ -18,7 +18,8 @@ use std::alloc::{AllocError, Global};
 
 /// What a node gives behind these, or None where it is not valid there as to its inputs and kinds.
 pub fn given(alloc: Global, before: &[Given], op: &NodeOp) -> Result<Option<Given>, AllocError>
-    ensures { IfOk result (λ g. option_map given_kinds g ≡ node_gives (before_of before.now) (op_of op.now)) }
+    ensures { IfOk result (λ g. option_map given_kinds g
+        ≡ node_gives (before_of before.now) (op_of op.now)) }
 {
     match op {
         NodeOp::Load { columns, .. } => load(alloc, columns),
@@ -56,7 +57,8 @@ fn tested(
     input: u32,
     cond: &TExpr,
 ) -> Result<Option<Given>, AllocError>
-    ensures { IfOk result (λ g. option_map given_kinds g ≡ tested_gives (before_of before.now) input (typed cond.now)) }
+    ensures { IfOk result (λ g. option_map given_kinds g
+        ≡ tested_gives (before_of before.now) input (typed cond.now)) }
 {
     let Some(row) = rows_before(before, input) else {
         return Ok(None);
@@ -73,7 +75,8 @@ fn foreach(
     input: u32,
     block: &Block,
 ) -> Result<Option<Given>, AllocError>
-    ensures { IfOk result (λ g. option_map given_kinds g ≡ foreach_gives (before_of before.now) input (block_typed block.now)) }
+    ensures { IfOk result (λ g. option_map given_kinds g
+        ≡ foreach_gives (before_of before.now) input (block_typed block.now)) }
 {
     let Some(row) = rows_before(before, input) else {
         return Ok(None);
@@ -85,7 +88,8 @@ fn foreach(
 }
 
 fn group_all(alloc: Global, before: &[Given], input: u32) -> Result<Option<Given>, AllocError>
-    ensures { IfOk result (λ g. option_map given_kinds g ≡ group_all_gives (before_of before.now) input) }
+    ensures { IfOk result (λ g. option_map given_kinds g
+        ≡ group_all_gives (before_of before.now) input) }
 {
     let Some(row) = rows_before(before, input) else {
         return Ok(None);
@@ -97,7 +101,8 @@ fn group_all(alloc: Global, before: &[Given], input: u32) -> Result<Option<Given
 }
 
 fn group(alloc: Global, before: &[Given], inputs: &KeyedInputs) -> Result<Option<Given>, AllocError>
-    ensures { IfOk result (λ g. option_map given_kinds g ≡ group_gives (before_of before.now) (map keyed_of inputs.now)) }
+    ensures { IfOk result (λ g. option_map given_kinds g
+        ≡ group_gives (before_of before.now) (map keyed_of inputs.now)) }
 {
     let Some(found) = keyed_rows(alloc, before, inputs)? else {
         return Ok(None);
@@ -112,7 +117,8 @@ fn join(
     side: Side,
     replicated: bool,
 ) -> Result<Option<Given>, AllocError>
-    ensures { IfOk result (λ g. option_map given_kinds g ≡ join_gives (before_of before.now) (map keyed_of inputs.now) side replicated) }
+    ensures { IfOk result (λ g. option_map given_kinds g
+        ≡ join_gives (before_of before.now) (map keyed_of inputs.now) side replicated) }
 {
     let Some(found) = keyed_rows(alloc, before, inputs)? else {
         return Ok(None);
@@ -149,7 +155,8 @@ fn none_is_inner(inputs: &[KeyedInput]) -> bool
 }
 
 fn union(alloc: Global, before: &[Given], inputs: &Numbers) -> Result<Option<Given>, AllocError>
-    ensures { IfOk result (λ g. option_map given_kinds g ≡ union_gives (before_of before.now) inputs.now) }
+    ensures { IfOk result (λ g. option_map given_kinds g
+        ≡ union_gives (before_of before.now) inputs.now) }
 {
     let Some(found) = each_relation(alloc, before, inputs)? else {
         return Ok(None);
@@ -165,7 +172,8 @@ fn each_relation(
     before: &[Given],
     inputs: &Numbers,
 ) -> Result<Option<Seq<Kinds>>, AllocError>
-    ensures { IfOk result (λ found. option_map (map (map kind_tree)) found ≡ all_of (before_of before.now) inputs.now) }
+    ensures { IfOk result (λ found. option_map (map (map kind_tree)) found
+        ≡ all_of (before_of before.now) inputs.now) }
 {
     let mut found = Vec::with_capacity(alloc, inputs.len())?;
     for input in inputs.as_slice() {
@@ -178,7 +186,8 @@ fn each_relation(
 }
 
 fn common_kinds(alloc: Global, found: &[Kinds]) -> Result<Option<Kinds>, AllocError>
-    ensures { IfOk result (λ row. option_map (map kind_tree) row ≡ union_kinds (map (map kind_tree) found.now)) }
+    ensures { IfOk result (λ row. option_map (map kind_tree) row
+        ≡ union_kinds (map (map kind_tree) found.now)) }
 {
     match found {
         [first, others @ ..] => {
@@ -206,7 +215,8 @@ fn all_same(row: &Kinds, others: &[Kinds]) -> bool
 }
 
 fn same(alloc: Global, before: &[Given], input: u32) -> Result<Option<Given>, AllocError>
-    ensures { IfOk result (λ g. option_map given_kinds g ≡ same_gives (before_of before.now) input) }
+    ensures { IfOk result (λ g. option_map given_kinds g
+        ≡ same_gives (before_of before.now) input) }
 {
     let Some(row) = rows_before(before, input) else {
         return Ok(None);
@@ -220,7 +230,8 @@ fn order(
     input: u32,
     keys: &SortKeys,
 ) -> Result<Option<Given>, AllocError>
-    ensures { IfOk result (λ g. option_map given_kinds g ≡ order_gives (before_of before.now) input keys.now) }
+    ensures { IfOk result (λ g. option_map given_kinds g
+        ≡ order_gives (before_of before.now) input keys.now) }
 {
     let Some(row) = rows_before(before, input) else {
         return Ok(None);
@@ -246,7 +257,8 @@ fn rank(
     input: u32,
     keys: &SortKeys,
 ) -> Result<Option<Given>, AllocError>
-    ensures { IfOk result (λ g. option_map given_kinds g ≡ rank_gives (before_of before.now) input keys.now) }
+    ensures { IfOk result (λ g. option_map given_kinds g
+        ≡ rank_gives (before_of before.now) input keys.now) }
 {
     let Some(row) = rows_before(before, input) else {
         return Ok(None);

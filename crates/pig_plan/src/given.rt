@@ -63,7 +63,8 @@ fn stands_before(column: &Column, others: &[Column]) -> bool
 
 /// The kinds of columns, in order.
 pub fn column_kinds(alloc: Global, columns: &[Column]) -> Result<Kinds, AllocError>
-    ensures { IfOk result (λ kinds. map kind_tree kinds ≡ map (λ column. kind_tree column.kind) columns.now) }
+    ensures { IfOk result (λ kinds. map kind_tree kinds
+        ≡ map (λ column. kind_tree column.kind) columns.now) }
 {
     let mut kinds = Vec::with_capacity(alloc, columns.len())?;
     for column in columns {

@@ -28,7 +28,8 @@ pub fn keyed_rows<'p>(
     before: &'p [Given],
     inputs: &KeyedInputs,
 ) -> Result<Option<Vec<KeyedRows<'p>>>, AllocError>
-    ensures { IfOk result (λ found. option_map (λ f. map keyed_row f.items) found ≡ all_keyed (before_of before.now) (map keyed_of inputs.now)) }
+    ensures { IfOk result (λ found. option_map (λ f. map keyed_row f.items) found
+        ≡ all_keyed (before_of before.now) (map keyed_of inputs.now)) }
 {
     let Some(found) = each_keyed(alloc, before, inputs)? else {
         return Ok(None);
@@ -44,7 +45,8 @@ fn each_keyed<'p>(
     before: &'p [Given],
     inputs: &KeyedInputs,
 ) -> Result<Option<Vec<KeyedRows<'p>>>, AllocError>
-    ensures { IfOk result (λ found. option_map (λ f. map keyed_row f.items) found ≡ all_of (keyed_kinds (before_of before.now)) (map keyed_of inputs.now)) }
+    ensures { IfOk result (λ found. option_map (λ f. map keyed_row f.items) found
+        ≡ all_of (keyed_kinds (before_of before.now)) (map keyed_of inputs.now)) }
 {
     let mut found = Vec::with_capacity(alloc, inputs.len())?;
     for input in inputs.as_slice() {
@@ -61,7 +63,8 @@ fn one_keyed<'p>(
     before: &'p [Given],
     input: &KeyedInput,
 ) -> Result<Option<KeyedRows<'p>>, AllocError>
-    ensures { IfOk result (λ found. option_map keyed_row found ≡ keyed_kinds (before_of before.now) (keyed_of input.now)) }
+    ensures { IfOk result (λ found. option_map keyed_row found
+        ≡ keyed_kinds (before_of before.now) (keyed_of input.now)) }
 {
     let Some(row) = rows_before(before, input.input) else {
         return Ok(None);
@@ -73,7 +76,8 @@ fn one_keyed<'p>(
 }
 
 fn kinds_of_keys(alloc: Global, row: &Kinds, keys: &TExprs) -> Result<Option<Kinds>, AllocError>
-    ensures { IfOk result (λ ks. option_map (map kind_tree) ks ≡ key_kinds (map kind_tree row.now) (map typed keys.now)) }
+    ensures { IfOk result (λ ks. option_map (map kind_tree) ks
+        ≡ key_kinds (map kind_tree row.now) (map typed keys.now)) }
 {
     let Some(found) = each_key(alloc, row, keys)? else {
         return Ok(None);
@@ -85,7 +89,8 @@ fn kinds_of_keys(alloc: Global, row: &Kinds, keys: &TExprs) -> Result<Option<Kin
 }
 
 fn each_key(alloc: Global, row: &Kinds, keys: &TExprs) -> Result<Option<Kinds>, AllocError>
-    ensures { IfOk result (λ ks. option_map (map kind_tree) ks ≡ all_of (key_kind (map kind_tree row.now)) (map typed keys.now)) }
+    ensures { IfOk result (λ ks. option_map (map kind_tree) ks
+        ≡ all_of (key_kind (map kind_tree row.now)) (map typed keys.now)) }
 {
     let mut found = Vec::with_capacity(alloc, keys.len())?;
     for key in keys.as_slice() {
@@ -98,7 +103,8 @@ fn each_key(alloc: Global, row: &Kinds, keys: &TExprs) -> Result<Option<Kinds>, 
 }
 
 fn kind_of_key(alloc: Global, row: &Kinds, key: &TExpr) -> Result<Option<Kind>, AllocError>
-    ensures { IfOk result (λ k. option_map kind_tree k ≡ key_kind (map kind_tree row.now) (typed key.now)) }
+    ensures { IfOk result (λ k. option_map kind_tree k
+        ≡ key_kind (map kind_tree row.now) (typed key.now)) }
 {
     let none = Kinds::new(alloc);
     let Some(kind) = kind_of(alloc, key, row, &none)? else {
@@ -120,7 +126,8 @@ fn agree(found: &[KeyedRows]) -> bool
 }
 
 fn all_like(keys: &Kinds, others: &[KeyedRows]) -> bool
-    ensures { result ≡ list_all (λ other. kinds_eq (kinds_of (map kind_tree keys.now)) (kinds_of other.keys)) (map keyed_row others.now) }
+    ensures { result ≡ list_all (λ other. kinds_eq (kinds_of (map kind_tree keys.now))
+        (kinds_of other.keys)) (map keyed_row others.now) }
 {
     let mut left = others;
     while let [other, rest @ ..] = left {
@@ -157,7 +164,8 @@ fn key_row(alloc: Global, keys: &Kinds) -> Result<Kind, AllocError>
 
 /// The kinds of the rows of a JOIN: those of its inputs in turn.
 pub fn joined_row(alloc: Global, found: &[KeyedRows]) -> Result<Kinds, AllocError>
-    ensures { IfOk result (λ kinds. map kind_tree kinds ≡ flat_map (λ input. input.row) (map keyed_row found.now)) }
+    ensures { IfOk result (λ kinds. map kind_tree kinds
+        ≡ flat_map (λ input. input.row) (map keyed_row found.now)) }
 {
     let mut kinds = Kinds::new(alloc);
     for input in found {

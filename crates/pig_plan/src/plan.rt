@@ -84,7 +84,8 @@ impl Plan {
 
     /// The kinds of the rows of a node, where there is such a relation; a STORE is none.
     pub fn kinds(&self, node: u32) -> Option<&Kinds>
-        ensures { option_map (map kind_tree) (option_copied result) ≡ kinds_at (plan_of self.now) node }
+        ensures { option_map (map kind_tree) (option_copied result)
+            ≡ kinds_at (plan_of self.now) node }
     {
         rows_before(self.given.as_slice(), node)
     }
@@ -119,7 +120,8 @@ impl Plan {
 fn give(alloc: Global, count: usize, given: &mut Vec<Given>, op: &NodeOp) -> Result<u32, AllocError>
     ensures ok { OnOk result (map given_kinds given.new.items ≡ map given_kinds given.old.items
         ++ unwrap_or (node_gives (before_of given.old.items) (op_of op.now)) None ∷ []) }
-    ensures taken { OnOk result ((last : Given) × (given.new.items ≡ given.old.items ++ last ∷ [])) }
+    ensures taken { OnOk result ((last : Given)
+        × (given.new.items ≡ given.old.items ++ last ∷ [])) }
     ensures number { IfOk result (λ n. n ≡ count) }
     ensures err { OnErr result (given.new.items ≡ given.old.items) }
 {
@@ -137,9 +139,11 @@ fn push_or_take_back(
     given: &mut Vec<Given>,
     node: Node,
 ) -> Result<(), AllocError>
-    ensures ok { OnOk result ((nodes.new ≡ nodes.old ++ node ∷ []) × (given.new.items ≡ given.old.items)) }
+    ensures ok { OnOk result ((nodes.new ≡ nodes.old ++ node ∷ [])
+        × (given.new.items ≡ given.old.items)) }
     ensures err { OnErr result ((nodes.new ≡ nodes.old)
-        × ((rest : List Given) (last : Given) → given.old.items ≡ rest ++ last ∷ [] → given.new.items ≡ rest)) }
+        × ((rest : List Given) (last : Given) → given.old.items ≡ rest ++ last ∷ []
+        → given.new.items ≡ rest)) }
 {
     match nodes.push(node) {
         Ok(()) => Ok(()),

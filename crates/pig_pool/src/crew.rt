@@ -35,7 +35,8 @@ fn merge<O: Drop>(board: &Board, left: Worker<O>, right: Worker<O>) -> Result<Wo
     requires left { OnBoard board.now left.pass }
     requires right { OnBoard board.now right.pass }
     ensures board { IfOk result (λ r. OnBoard board.now r.pass) }
-    ensures view { IfOk result (λ r. view_of r.pass ≡ both (view_of left.pass) (view_of right.pass)) }
+    ensures view { IfOk result (λ r. view_of r.pass
+        ≡ both (view_of left.pass) (view_of right.pass)) }
     ensures outputs { IfOk result (λ r. r.outputs ≡ left.outputs ++ right.outputs) }
 {
     let Worker {
@@ -134,7 +135,8 @@ pub fn run_crew<R: Threads + Sync, W: Work + Sync, H: Host + Send>(
         rt,
         &mut || -> Result<Worker<W::Out>, AllocError>
             requires sync { IsSync R.row × IsSync W.row × IsSend H.row × IsSend W.Out.row }
-            requires count { (tasks_of board.now ≡ W.count work.now) × (tasks_of board.now ≤ 65536) }
+            requires count { (tasks_of board.now ≡ W.count work.now)
+                × (tasks_of board.now ≤ 65536) }
             requires ready { Holds left.pass (IsReady board.now below) }
             requires fit { (0 < length left.hosts.now) × (length left.hosts.now ≤ 2 ^ below) }
             requires suit { All (λ h. W.suits work.now (H.inputs h)) left.hosts.now }
@@ -144,15 +146,18 @@ pub fn run_crew<R: Threads + Sync, W: Work + Sync, H: Host + Send>(
                 (view_of r.pass)
                 (sum_by H.faults left.entry.hosts.now)
                 (sum_by H.faults left.exit.hosts.now))) }
-            ensures won { IfOk result (λ r. HasWon (W.right work.entry.now) (view_of r.pass) r.outputs) }
+            ensures won { IfOk result (λ r. HasWon (W.right work.entry.now)
+                (view_of r.pass) r.outputs) }
             ensures done { IfOk result (λ r. IsDone (tasks_of board.entry.now) (view_of r.pass)) }
             ensures inputs { map H.inputs left.exit.hosts.now ≡ map H.inputs left.entry.hosts.now }
-            ensures later { sum_by H.faults left.entry.hosts.now ≤ sum_by H.faults left.exit.hosts.now }
+            ensures later { sum_by H.faults left.entry.hosts.now
+                ≤ sum_by H.faults left.exit.hosts.now }
             ensures same_reference { left.exit.hosts.ghost_name ≡ left.entry.hosts.ghost_name }
         { run_half(rt, alloc, work, wave, board, below, &mut left) },
         &mut || -> Result<Worker<W::Out>, AllocError>
             requires sync { IsSync R.row × IsSync W.row × IsSend H.row × IsSend W.Out.row }
-            requires count { (tasks_of board.now ≡ W.count work.now) × (tasks_of board.now ≤ 65536) }
+            requires count { (tasks_of board.now ≡ W.count work.now)
+                × (tasks_of board.now ≤ 65536) }
             requires ready { Holds right.pass (IsReady board.now below) }
             requires fit { (0 < length right.hosts.now) × (length right.hosts.now ≤ 2 ^ below) }
             requires suit { All (λ h. W.suits work.now (H.inputs h)) right.hosts.now }
@@ -162,10 +167,13 @@ pub fn run_crew<R: Threads + Sync, W: Work + Sync, H: Host + Send>(
                 (view_of r.pass)
                 (sum_by H.faults right.entry.hosts.now)
                 (sum_by H.faults right.exit.hosts.now))) }
-            ensures won { IfOk result (λ r. HasWon (W.right work.entry.now) (view_of r.pass) r.outputs) }
+            ensures won { IfOk result (λ r. HasWon (W.right work.entry.now)
+                (view_of r.pass) r.outputs) }
             ensures done { IfOk result (λ r. IsDone (tasks_of board.entry.now) (view_of r.pass)) }
-            ensures inputs { map H.inputs right.exit.hosts.now ≡ map H.inputs right.entry.hosts.now }
-            ensures later { sum_by H.faults right.entry.hosts.now ≤ sum_by H.faults right.exit.hosts.now }
+            ensures inputs { map H.inputs right.exit.hosts.now
+                ≡ map H.inputs right.entry.hosts.now }
+            ensures later { sum_by H.faults right.entry.hosts.now
+                ≤ sum_by H.faults right.exit.hosts.now }
             ensures same_reference { right.exit.hosts.ghost_name ≡ right.entry.hosts.ghost_name }
         { run_half(rt, alloc, work, wave, board, below, &mut right) },
     );

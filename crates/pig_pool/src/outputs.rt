@@ -46,7 +46,8 @@ pub fn gather<W: Work>(
     outputs: LinkedList<(u32, W::Out)>,
 ) -> OutList<W::Out>
     requires places { vec_len places ≡ W.count work.now }
-    requires list { (list.items ≡ []) × (vec_len list ≡ 0) × (W.count work.now ≤ vec_capacity list) }
+    requires list { (list.items ≡ []) × (vec_len list ≡ 0)
+        × (W.count work.now ≤ vec_capacity list) }
     requires each { (t : ℕ) → outputs_of t outputs ≡ once_below (W.count work.now) t }
     requires right { All (λ o. W.right work.now o.0 o.1) outputs }
     ensures { AreOutputs (W.right work.now) (W.count work.now) result }

@@ -87,7 +87,8 @@ fn finish<W: Work>(
     requires won { HasWon (W.right work.now) (view_of worker.pass) worker.outputs }
     requires done { IsDone (tasks_of board) (view_of worker.pass) }
     requires places { vec_len places ≡ W.count work.now }
-    requires list { (list.items ≡ []) × (vec_len list ≡ 0) × (W.count work.now ≤ vec_capacity list) }
+    requires list { (list.items ≡ []) × (vec_len list ≡ 0)
+        × (W.count work.now ≤ vec_capacity list) }
     ensures outs { IfOk result (λ r. AreOutputs (W.right work.now) (W.count work.now) r.outs) }
     ensures won { IfOk result (λ r. IsWonWave (W.count work.now) r.end) }
     ensures failed { IfErr result (HasFailed (W.count work.now)) }

@@ -116,7 +116,8 @@ fn depot(
     input: &str,
     call: Option<(Method, u64)>,
 ) -> Result<MemoryDepot, AllocError>
-    ensures inputs { IfOk result (λ d. (depot_shelf d).inputs ≡ record { path = codes "in"; pieces = input.now ∷ [] } ∷ []) }
+    ensures inputs { IfOk result (λ d. (depot_shelf d).inputs
+        ≡ record { path = codes "in"; pieces = input.now ∷ [] } ∷ []) }
     ensures empty { IfOk result (λ d. (depot_shelf d).dirs ≡ []) }
 {
     Ok(MemoryDepot::new(
@@ -129,7 +130,8 @@ fn depot(
 
 /// A host with the input at `in`, of which that call fails.
 fn host(alloc: Global, input: &str, call: Option<(Method, u64)>) -> Result<MemoryHost, AllocError>
-    ensures { IfOk result (λ h. host_inputs h ≡ record { path = codes "in"; pieces = input.now ∷ [] } ∷ []) }
+    ensures { IfOk result (λ h. host_inputs h
+        ≡ record { path = codes "in"; pieces = input.now ∷ [] } ∷ []) }
 {
     Ok(MemoryHost::new(inputs(alloc, input.as_bytes())?, failing(alloc, call)?))
 }

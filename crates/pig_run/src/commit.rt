@@ -12,12 +12,14 @@ use pig_outside::Depot;
 /// Makes the directory of the STORE of this number, with one part, and marks it.
 pub fn commit<D: Depot>(depot: &mut D, dir: &str, bytes: &[u8], store: u32) -> Result<(), RunFault>
     requires { ForSome (D.shelf depot.old) (CanCreate dir.now) }
-    ensures ok { OnOk result (D.shelf depot.new ≡ option_map (with_dir dir.now (whole_state (bytes.now ∷ []))) (D.shelf depot.old)) }
+    ensures ok { OnOk result (D.shelf depot.new
+        ≡ option_map (with_dir dir.now (whole_state (bytes.now ∷ []))) (D.shelf depot.old)) }
     ensures err { OnErr result (LeftOpen dir.now (D.shelf depot.old) (D.shelf depot.new)) }
     ensures fault { IfErr result (IsCommitFault store) }
     ensures cause { DepotCause (D.faults depot.old) (D.faults depot.new) result }
     ensures stores { StoreCause (D.store_faults depot.old) (D.store_faults depot.new) result }
-    ensures asked { OnOk result (Asked (store_calls dir.now) (D.calls depot.old) (D.calls depot.new)) }
+    ensures asked { OnOk result (Asked (store_calls dir.now) (D.calls depot.old)
+        (D.calls depot.new)) }
 {
     if let Err(error) = depot.create(dir) {
         return Err(depot_fault(error, Some(store)));

@@ -112,9 +112,11 @@ impl Filter {
 
     /// Keeps a row where the condition is true of it.
     fn keep_row(&self, row: &Tuple, stored: &mut Stored) -> Result<(), AllocError>
-        ensures bytes { OnOk result (stored.new.bytes.items ≡ stored.old.bytes.items ++ rows_text 9 (keeps_row self.now (row_tree row.now))) }
+        ensures bytes { OnOk result (stored.new.bytes.items
+            ≡ stored.old.bytes.items ++ rows_text 9 (keeps_row self.now (row_tree row.now))) }
         ensures read { OnOk result (stored.new.read ≡ stored.old.read) }
-        ensures kept { OnOk result (stored.new.kept ≡ counted stored.old.kept (length (keeps_row self.now (row_tree row.now)))) }
+        ensures kept { OnOk result (stored.new.kept
+            ≡ counted stored.old.kept (length (keeps_row self.now (row_tree row.now)))) }
     {
         if !self.passes(row) {
             return Ok(());
@@ -126,9 +128,11 @@ impl Filter {
 
     /// Reads a line and keeps its row where the condition is true of it.
     fn keep_line(&self, alloc: Global, line: &[u8], stored: &mut Stored) -> Result<(), AllocError>
-        ensures bytes { OnOk result (stored.new.bytes.items ≡ stored.old.bytes.items ++ rows_text 9 (keeps_line self.now line.now)) }
+        ensures bytes { OnOk result (stored.new.bytes.items
+            ≡ stored.old.bytes.items ++ rows_text 9 (keeps_line self.now line.now)) }
         ensures read { OnOk result (stored.new.read ≡ counted stored.old.read 1) }
-        ensures kept { OnOk result (stored.new.kept ≡ counted stored.old.kept (length (keeps_line self.now line.now))) }
+        ensures kept { OnOk result (stored.new.kept
+            ≡ counted stored.old.kept (length (keeps_line self.now line.now))) }
     {
         let row = line_row(alloc, line, Delim::tab(), &self.columns)?;
         stored.read = stored.read.wrapping_add(1);
@@ -142,9 +146,12 @@ impl Filter {
         piece: &[u8],
         stored: &mut Stored,
     ) -> Result<(), AllocError>
-        ensures bytes { OnOk result (stored.new.bytes.items ≡ stored.old.bytes.items ++ rows_text 9 (keeps self.now piece.now)) }
-        ensures read { OnOk result (stored.new.read ≡ counted stored.old.read (length (lines piece.now))) }
-        ensures kept { OnOk result (stored.new.kept ≡ counted stored.old.kept (length (keeps self.now piece.now))) }
+        ensures bytes { OnOk result (stored.new.bytes.items
+            ≡ stored.old.bytes.items ++ rows_text 9 (keeps self.now piece.now)) }
+        ensures read { OnOk result (stored.new.read
+            ≡ counted stored.old.read (length (lines piece.now))) }
+        ensures kept { OnOk result (stored.new.kept
+            ≡ counted stored.old.kept (length (keeps self.now piece.now))) }
     {
         let mut from = 0;
         while let Some(span) = next_line(piece, from) {

@@ -446,7 +446,8 @@ fn form_found(alloc: Global, statements: &Stmts) -> Result<Option<FirstForm>, Al
 #[tactic(auto, using(crate::proofs::FormFound::form_told))]
 pub fn first_form(alloc: Global, statements: &Stmts) -> Result<Option<FirstForm>, AllocError>
     requires { length statements.now < 2 ^ 32 }
-    ensures { IfOk result (λ found. MatchOption found ((f : FirstForm) → ¬ IsFirstForm f statements.now) (λ f. IsFirstForm f statements.now)) }
+    ensures { IfOk result (λ found. MatchOption found ((f : FirstForm)
+        → ¬ IsFirstForm f statements.now) (λ f. IsFirstForm f statements.now)) }
 {
     let found = form_found(alloc, statements)?;
     Ok(found)

@@ -30,8 +30,10 @@ pub fn depot_fault(error: OutsideError, store: Option<u32>) -> RunFault
 fn read_path(alloc: Global, words: &Words, hosts: u32) -> Result<Text, RunFault>
     requires some { 1 ≤ hosts }
     requires few { hosts ≤ 256 }
-    ensures found { IfOk result (λ path. AreWords (record { hosts = hosts; words = words.now }) path) }
-    ensures usage { IfErr result (λ f. ((f ≡ fault.Usage) × (¬ HasWords (record { hosts = hosts; words = words.now }))) ⊎ (f ≡ fault.OutOfMemory)) }
+    ensures found { IfOk result (λ path. AreWords
+        (record { hosts = hosts; words = words.now }) path) }
+    ensures usage { IfErr result (λ f. ((f ≡ fault.Usage)
+        × (¬ HasWords (record { hosts = hosts; words = words.now }))) ⊎ (f ≡ fault.OutOfMemory)) }
 {
     match read_words(alloc, words, hosts) {
         Ok(command) => match command.verb {
@@ -45,13 +47,15 @@ fn read_path(alloc: Global, words: &Words, hosts: u32) -> Result<Text, RunFault>
 
 /// The form of the script at a path.
 fn load_form<D: Depot>(alloc: Global, depot: &mut D, path: &str) -> Result<FirstForm, RunFault>
-    ensures told { ForSome (D.shelf depot.old) (λ s. MatchResult result (λ f. IsScriptAt path.now s (Finds f)) (λ f. ScriptRefusal path.now s f)) }
+    ensures told { ForSome (D.shelf depot.old) (λ s. MatchResult result
+        (λ f. IsScriptAt path.now s (Finds f)) (λ f. ScriptRefusal path.now s f)) }
     ensures form { IfOk result IsForm }
     ensures fault { IfErr result IsPlanFault }
     ensures shelf { D.shelf depot.new ≡ D.shelf depot.old }
     ensures cause { DepotCause (D.faults depot.old) (D.faults depot.new) result }
     ensures stores { D.store_faults depot.new ≡ D.store_faults depot.old }
-    ensures asked { Asked (call method.Script path.now ∷ []) (D.calls depot.old) (D.calls depot.new) }
+    ensures asked { Asked (call method.Script path.now ∷ []) (D.calls depot.old)
+        (D.calls depot.new) }
 {
     let mut script = Vec::new(alloc);
     match depot.script(path, MOST_SCRIPT + 1, &mut script) {
@@ -71,14 +75,18 @@ fn read_plan<D: Depot>(
 ) -> Result<FirstForm, RunFault>
     requires some_hosts { 1 ≤ hosts }
     requires few_hosts { hosts ≤ 256 }
-    ensures told { ForSome (D.shelf depot.old) (λ s. MatchResult result (λ f. IsScripted (record { hosts = hosts; words = words.now }) s f) (λ f. IsRefused (record { hosts = hosts; words = words.now }) s f)) }
+    ensures told { ForSome (D.shelf depot.old)
+        (λ s. MatchResult result (λ f. IsScripted (record { hosts = hosts; words = words.now }) s f)
+        (λ f. IsRefused (record { hosts = hosts; words = words.now }) s f)) }
     ensures form { IfOk result IsForm }
     ensures fault { IfErr result (λ f. (f ≡ fault.Usage) ⊎ IsPlanFault f) }
-    ensures words { MatchResult result (λ _. HasWords (record { hosts = hosts; words = words.now })) (SaysWords (record { hosts = hosts; words = words.now })) }
+    ensures words { MatchResult result (λ _. HasWords (record { hosts = hosts; words = words.now }))
+        (SaysWords (record { hosts = hosts; words = words.now })) }
     ensures shelf { D.shelf depot.new ≡ D.shelf depot.old }
     ensures cause { DepotCause (D.faults depot.old) (D.faults depot.new) result }
     ensures stores { D.store_faults depot.new ≡ D.store_faults depot.old }
-    ensures asked { IfOk result (λ _. AskedFor (record { hosts = hosts; words = words.now }) (λ path. call method.Script path ∷ []) (D.calls depot.old) (D.calls depot.new)) }
+    ensures asked { IfOk result (λ _. AskedFor (record { hosts = hosts; words = words.now })
+        (λ path. call method.Script path ∷ []) (D.calls depot.old) (D.calls depot.new)) }
 {
     let path = read_path(alloc, words, hosts)?;
     load_form(alloc, depot, path.as_str())
@@ -88,12 +96,14 @@ fn read_plan<D: Depot>(
 fn find_input<D: Depot>(alloc: Global, depot: &mut D, form: &FirstForm) -> Result<Lengths, RunFault>
     ensures told { ForSome (D.shelf depot.old) (λ s. MatchResult result
         (λ lengths. lengths_at form.now.input s ≡ Some lengths)
-        (λ f. ((f ≡ fault.NoInput form.now.input) × (lengths_at form.now.input s ≡ None)) ⊎ IsDepotStep f)) }
+        (λ f. ((f ≡ fault.NoInput form.now.input) × (lengths_at form.now.input s ≡ None))
+        ⊎ IsDepotStep f)) }
     ensures fault { IfErr result IsPlanFault }
     ensures shelf { D.shelf depot.new ≡ D.shelf depot.old }
     ensures cause { DepotCause (D.faults depot.old) (D.faults depot.new) result }
     ensures stores { D.store_faults depot.new ≡ D.store_faults depot.old }
-    ensures asked { Asked (call method.Pieces form.now.input ∷ []) (D.calls depot.old) (D.calls depot.new) }
+    ensures asked { Asked (call method.Pieces form.now.input ∷ []) (D.calls depot.old)
+        (D.calls depot.new) }
 {
     match depot.pieces(form.input.as_str()) {
         Ok(Some(lengths)) => Ok(lengths),
@@ -108,12 +118,14 @@ fn find_input<D: Depot>(alloc: Global, depot: &mut D, form: &FirstForm) -> Resul
 fn check_output<D: Depot>(alloc: Global, depot: &mut D, form: &FirstForm) -> Result<(), RunFault>
     ensures told { ForSome (D.shelf depot.old) (λ s. MatchResult result
         (λ _. has_dir form.now.output s ≡ false)
-        (λ f. ((f ≡ fault.OutputExists form.now.output) × (has_dir form.now.output s ≡ true)) ⊎ IsDepotStep f)) }
+        (λ f. ((f ≡ fault.OutputExists form.now.output) × (has_dir form.now.output s ≡ true))
+        ⊎ IsDepotStep f)) }
     ensures fault { IfErr result IsPlanFault }
     ensures shelf { D.shelf depot.new ≡ D.shelf depot.old }
     ensures cause { DepotCause (D.faults depot.old) (D.faults depot.new) result }
     ensures stores { D.store_faults depot.new ≡ D.store_faults depot.old }
-    ensures asked { Asked (call method.Exists form.now.output ∷ []) (D.calls depot.old) (D.calls depot.new) }
+    ensures asked { Asked (call method.Exists form.now.output ∷ []) (D.calls depot.old)
+        (D.calls depot.new) }
 {
     match depot.exists(form.output.as_str()) {
         Ok(false) => Ok(()),
@@ -140,14 +152,18 @@ pub fn prepare<D: Depot>(
 ) -> Result<Plan, RunFault>
     requires some_hosts { 1 ≤ hosts }
     requires few_hosts { hosts ≤ 256 }
-    ensures told { ForSome (D.shelf depot.old) (λ s. MatchResult result (λ p. IsReady (record { hosts = hosts; words = words.now }) s p) (λ f. IsRefused (record { hosts = hosts; words = words.now }) s f)) }
+    ensures told { ForSome (D.shelf depot.old)
+        (λ s. MatchResult result (λ p. IsReady (record { hosts = hosts; words = words.now }) s p)
+        (λ f. IsRefused (record { hosts = hosts; words = words.now }) s f)) }
     ensures form { IfOk result (λ p. IsForm p.form) }
     ensures fault { IfErr result (λ f. (f ≡ fault.Usage) ⊎ IsPlanFault f) }
-    ensures words { MatchResult result (λ _. HasWords (record { hosts = hosts; words = words.now })) (SaysWords (record { hosts = hosts; words = words.now })) }
+    ensures words { MatchResult result (λ _. HasWords (record { hosts = hosts; words = words.now }))
+        (SaysWords (record { hosts = hosts; words = words.now })) }
     ensures shelf { D.shelf depot.new ≡ D.shelf depot.old }
     ensures cause { DepotCause (D.faults depot.old) (D.faults depot.new) result }
     ensures stores { D.store_faults depot.new ≡ D.store_faults depot.old }
-    ensures asked { IfOk result (λ p. AskedFor (record { hosts = hosts; words = words.now }) (λ path. look_calls path p.form) (D.calls depot.old) (D.calls depot.new)) }
+    ensures asked { IfOk result (λ p. AskedFor (record { hosts = hosts; words = words.now })
+        (λ path. look_calls path p.form) (D.calls depot.old) (D.calls depot.new)) }
 {
     let form = read_plan(alloc, words, hosts, depot)?;
     let lengths = find_input(alloc, depot, &form)?;

@@ -35,7 +35,8 @@ fn read_piece<H: Host>(
     length: u64,
 ) -> Result<Vec<u8>, RunFault>
     requires { ForSome (H.inputs host.old) (HasRange path.now piece 0 length) }
-    ensures filled { ForSome (H.inputs host.old) (λ i. IfOk result (λ bytes. bytes.items ≡ range_of path.now piece 0 length i)) }
+    ensures filled { ForSome (H.inputs host.old)
+        (λ i. IfOk result (λ bytes. bytes.items ≡ range_of path.now piece 0 length i)) }
     ensures fault { IfErr result IsHostStep }
     ensures inputs { H.inputs host.new ≡ H.inputs host.old }
     ensures cause { HostCause (H.faults host.old) (H.faults host.new) result }
@@ -56,7 +57,8 @@ fn read_input<H: Host>(
     lengths: &Lengths,
 ) -> Result<Stored, RunFault>
     requires { ForSome (H.inputs host.old) (HasLengths path.now lengths.now) }
-    ensures stored { ForSome (H.inputs host.old) (λ i. (pieces : List (List ℕ)) → pieces_of path.now i ≡ Some pieces → IfOk result (IsStored filter.now pieces)) }
+    ensures stored { ForSome (H.inputs host.old) (λ i. (pieces : List (List ℕ))
+        → pieces_of path.now i ≡ Some pieces → IfOk result (IsStored filter.now pieces)) }
     ensures fault { IfErr result IsHostStep }
     ensures inputs { H.inputs host.new ≡ H.inputs host.old }
     ensures cause { HostCause (H.faults host.old) (H.faults host.new) result }
@@ -87,14 +89,20 @@ pub fn perform<D: Depot, H: Host>(
 ) -> Result<Counts, RunFault>
     requires form { IsForm plan.now.form }
     requires absent { ForSome (D.shelf depot.old) (CanCreate plan.now.form.output) }
-    requires lengths { ForSome (H.inputs host.old) (HasLengths plan.now.form.input plan.now.lengths) }
-    ensures done { ForSome (H.inputs host.old) (λ i. (pieces : List (List ℕ)) → pieces_of plan.now.form.input i ≡ Some pieces → IfOk result (IsRun plan.now.form pieces (D.shelf depot.old) (D.shelf depot.new))) }
-    ensures left { OnErr result (LeftOpen plan.now.form.output (D.shelf depot.old) (D.shelf depot.new)) }
-    ensures host_left { IfErr result (λ f. f ≡ fault.HostFault → D.shelf depot.new ≡ D.shelf depot.old) }
+    requires lengths { ForSome (H.inputs host.old)
+        (HasLengths plan.now.form.input plan.now.lengths) }
+    ensures done { ForSome (H.inputs host.old) (λ i. (pieces : List (List ℕ))
+        → pieces_of plan.now.form.input i ≡ Some pieces
+        → IfOk result (IsRun plan.now.form pieces (D.shelf depot.old) (D.shelf depot.new))) }
+    ensures left { OnErr result (LeftOpen plan.now.form.output (D.shelf depot.old)
+        (D.shelf depot.new)) }
+    ensures host_left { IfErr result (λ f. f ≡ fault.HostFault
+        → D.shelf depot.new ≡ D.shelf depot.old) }
     ensures fault { IfErr result (IsRunStep plan.now.form.store) }
     ensures depot { DepotCause (D.faults depot.old) (D.faults depot.new) result }
     ensures stores { StoreCause (D.store_faults depot.old) (D.store_faults depot.new) result }
-    ensures asked { OnOk result (Asked (store_calls plan.now.form.output) (D.calls depot.old) (D.calls depot.new)) }
+    ensures asked { OnOk result (Asked (store_calls plan.now.form.output) (D.calls depot.old)
+        (D.calls depot.new)) }
     ensures host { HostCause (H.faults host.old) (H.faults host.new) result }
 {
     let filter = filter_of(alloc, &plan.form)?;

@@ -94,7 +94,8 @@ fn options<'a>(alloc: Global) -> Result<clap::Command<'a>, AllocError>
 
 // What clap makes of the words, of which the first stands for the program's name.
 fn matches<'a>(alloc: Global, words: &'a [&'a str]) -> Result<ArgMatches<'a>, clap::Error>
-    ensures found { IfOk result (λ m. rows_of (found_of m) ≡ matches_of pig (map (λ w. w.now) words.now)) }
+    ensures found { IfOk result (λ m. rows_of (found_of m)
+        ≡ matches_of pig (map (λ w. w.now) words.now)) }
     ensures kinds { FailsBy (fault_of pig (map (λ w. w.now) words.now)) result }
 {
     options(alloc)?.try_get_matches_from(words)
@@ -116,7 +117,8 @@ fn texts(alloc: Global, words: &Words) -> Result<Vec<&str>, AllocError>
 fn read_options<'a>(alloc: Global, words: &'a [&'a str]) -> Result<Found<'a>, WordFault>
     requires utf8 { All IsUtf8 (map (λ w. w.now) words.now) }
     ensures read { IfOk result (λ f. AreRead (drop 1 (map (λ w. w.now) words.now)) (given_of f)) }
-    ensures usage { IfErr result (λ f. f ≡ faults.Usage → LackOperand (drop 1 (map (λ w. w.now) words.now))) }
+    ensures usage { IfErr result (λ f. f ≡ faults.Usage
+        → LackOperand (drop 1 (map (λ w. w.now) words.now))) }
 {
     match matches(alloc, words) {
         Ok(matches) => match matches.get_str("operand") {
@@ -189,7 +191,8 @@ fn setting(value: Option<&str>, default: u32, most: u32) -> Option<u32>
 
 // The verb that a word is.
 fn verb_of(word: &Text) -> Option<Verb>
-    ensures { MatchOption result ((v : Verb) → word.now ≢ verb_word v) (λ v. word.now ≡ verb_word v) }
+    ensures { MatchOption result ((v : Verb) → word.now ≢ verb_word v)
+        (λ v. word.now ≡ verb_word v) }
 {
     match word.as_str() {
         "run" => Some(Verb::Run),
@@ -202,7 +205,8 @@ fn verb_of(word: &Text) -> Option<Verb>
 
 // The verb that the words begin with.
 fn first_verb(words: &Words) -> Option<Verb>
-    ensures { MatchOption result ((v : Verb) (rest : List (List ℕ)) → words.now ≢ verb_word v ∷ rest) (λ v. words.now ≡ verb_word v ∷ drop 1 words.now) }
+    ensures { MatchOption result ((v : Verb) (rest : List (List ℕ))
+        → words.now ≢ verb_word v ∷ rest) (λ v. words.now ≡ verb_word v ∷ drop 1 words.now) }
 {
     match words.as_slice() {
         [first, ..] => verb_of(first),
@@ -233,8 +237,10 @@ fn takes(verb: Verb, operand: &str) -> bool
 
 // The command of a verb and of what was given.
 fn make_command(alloc: Global, verb: Verb, found: &Found, hosts: u32) -> Result<Command, WordFault>
-    ensures makes { IfOk result (λ c. (c.verb ≡ verb) × AreValues (given_of found.now) × Makes hosts (given_of found.now) c) }
-    ensures usage { IfErr result (λ f. f ≡ faults.Usage → (c : Command) → c.verb ≡ verb → AreValues (given_of found.now) → ¬ Makes hosts (given_of found.now) c) }
+    ensures makes { IfOk result (λ c. (c.verb ≡ verb) × AreValues (given_of found.now)
+        × Makes hosts (given_of found.now) c) }
+    ensures usage { IfErr result (λ f. f ≡ faults.Usage → (c : Command) → c.verb ≡ verb
+        → AreValues (given_of found.now) → ¬ Makes hosts (given_of found.now) c) }
 {
     if !takes(verb, found.operand) {
         return Err(WordFault::Usage);
@@ -263,7 +269,8 @@ pub fn read_words(alloc: Global, words: &Words, hosts: u32) -> Result<Command, W
     requires some { 1 ≤ hosts }
     requires few { hosts ≤ 256 }
     ensures command { IfOk result (IsCommand hosts words.now) }
-    ensures usage { IfErr result (λ f. f ≡ faults.Usage → (c : Command) → ¬ IsCommand hosts words.now c) }
+    ensures usage { IfErr result (λ f. f ≡ faults.Usage → (c : Command)
+        → ¬ IsCommand hosts words.now c) }
 {
     let Some(verb) = first_verb(words) else {
         return Err(WordFault::Usage);
@@ -276,5 +283,6 @@ pub fn read_words(alloc: Global, words: &Words, hosts: u32) -> Result<Command, W
 
 /// Words are at most one command.
 pub fn one_command()
-    ensures { (hosts : ℕ) (words : List (List ℕ)) (c d : Command) → IsCommand hosts words c → IsCommand hosts words d → c ≡ d }
+    ensures { (hosts : ℕ) (words : List (List ℕ)) (c d : Command) → IsCommand hosts words c
+        → IsCommand hosts words d → c ≡ d }
 {}

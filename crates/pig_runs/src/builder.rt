@@ -64,7 +64,8 @@ impl RunBuilder {
     pub fn add(&mut self, key: &Value, input: u32, row: &Tuple) -> Result<(), AllocError>
         requires key { IsKey self.old.dirs (tree key.now) }
         requires row { IsRow (row_tree row.now) }
-        ensures ok { OnOk result (self.new ≡ and_entries (record { key = tree key.now; input = input; row = row_tree row.now } ∷ []) self.old) }
+        ensures ok { OnOk result (self.new ≡ and_entries
+            (record { key = tree key.now; input = input; row = row_tree row.now } ∷ []) self.old) }
         ensures err { OnErr result (self.new ≡ self.old) }
     {
         add_entry(
@@ -127,7 +128,8 @@ impl RunBuilder {
     // The row of an entry.
     pub(crate) fn row(&self, alloc: Global, at: usize) -> Result<Tuple, AllocError>
         requires { at < length self.now.entries }
-        ensures { IfOk result (λ row. option_map (λ e. e.row) (slice_get self.now.entries at) ≡ Some (row_tree row)) }
+        ensures { IfOk result (λ row. option_map (λ e. e.row) (slice_get self.now.entries at)
+            ≡ Some (row_tree row)) }
     {
         let slot = slot_at(self.slots.as_slice(), at);
         read_row(alloc, self.bytes.as_slice(), slot)
@@ -169,7 +171,8 @@ impl RunBuilder {
     // The bytes of an entry.
     pub(crate) fn lend(&self, at: usize) -> Lent<'_>
         requires { at < length self.now.entries }
-        ensures is { option_map (packed self.now.dirs) (slice_get self.now.entries at) ≡ Some (packed_lent result) }
+        ensures is { option_map (packed self.now.dirs) (slice_get self.now.entries at)
+            ≡ Some (packed_lent result) }
         ensures good { ∥ AreKeyed self.now.dirs self.now.entries ∥₁ }
     {
         let slot = slot_at(self.slots.as_slice(), at);
@@ -178,7 +181,8 @@ impl RunBuilder {
 
     // Adds the bytes of all entries to a list.
     pub(crate) fn lend_all<'r>(&'r self, all: &mut Vec<Lent<'r>>) -> Result<(), AllocError>
-        ensures told { OnOk result (map packed_lent all.new.items ≡ map packed_lent all.old.items ++ map (packed self.now.dirs) self.now.entries) }
+        ensures told { OnOk result (map packed_lent all.new.items
+            ≡ map packed_lent all.old.items ++ map (packed self.now.dirs) self.now.entries) }
         ensures good { ∥ AreKeyed self.now.dirs self.now.entries ∥₁ }
     {
         lend_slots(self.bytes.as_slice(), self.slots.as_slice(), all)
@@ -187,7 +191,8 @@ impl RunBuilder {
     // Adds an entry that is lent. Where memory is wanting, the entries stay as they were.
     pub(crate) fn add_lent(&mut self, lent: Lent) -> Result<(), AllocError>
         requires { ∥ Held self.old.dirs (packed_lent lent ∷ []) ∥₁ }
-        ensures ok { (e : Keyed) → IsEntry self.old.dirs e → packed self.old.dirs e ≡ packed_lent lent.entry → OnOk result (self.new ≡ and_entries (e ∷ []) self.old) }
+        ensures ok { (e : Keyed) → IsEntry self.old.dirs e → packed self.old.dirs e
+            ≡ packed_lent lent.entry → OnOk result (self.new ≡ and_entries (e ∷ []) self.old) }
         ensures err { OnErr result (self.new ≡ self.old) }
         ensures dirs { self.new.dirs ≡ self.old.dirs }
     {
@@ -198,7 +203,8 @@ impl RunBuilder {
     pub(crate) fn copy_entry(&mut self, other: &RunBuilder, at: usize) -> Result<(), AllocError>
         requires within { at < length other.now.entries }
         requires alike { other.now.dirs ≡ self.old.dirs }
-        ensures ok { OnOk result (self.new ≡ and_entries (take 1 (drop at other.now.entries)) self.old) }
+        ensures ok { OnOk result (self.new ≡ and_entries
+            (take 1 (drop at other.now.entries)) self.old) }
         ensures err { OnErr result (self.new ≡ self.old) }
     {
         self.add_lent(other.lend(at))
@@ -214,7 +220,8 @@ impl RunBuilder {
         requires order { from ≤ end }
         requires within { end ≤ length other.now.entries }
         requires alike { other.now.dirs ≡ self.old.dirs }
-        ensures { OnOk result (self.new ≡ and_entries (drop from (take end other.now.entries)) self.old) }
+        ensures { OnOk result (self.new ≡ and_entries
+            (drop from (take end other.now.entries)) self.old) }
     {
         for at in from..end {
             self.copy_entry(other, at)?;
@@ -230,7 +237,8 @@ impl RunBuilder {
         end: usize,
     ) -> Result<RunBuilder, AllocError>
         requires { end ≤ length self.now.entries }
-        ensures { IfOk result (λ found. found ≡ record { dirs = self.now.dirs; entries = drop from (take end self.now.entries) }) }
+        ensures { IfOk result (λ found. found
+            ≡ record { dirs = self.now.dirs; entries = drop from (take end self.now.entries) }) }
     {
         let mut found = RunBuilder::new(alloc, self.copy_dirs(alloc)?);
         if from < end {
@@ -245,7 +253,9 @@ impl RunBuilder {
         requires here { at < length self.now.entries }
         requires there { there < length other.now.entries }
         requires alike { other.now.dirs ≡ self.now.dirs }
-        ensures { (e f : Keyed) → slice_get self.now.entries at ≡ Some e → slice_get other.now.entries there ≡ Some f → result ≡ is_lt (run_cmp self.now.dirs e f) }
+        ensures { (e f : Keyed) → slice_get self.now.entries at ≡ Some e
+            → slice_get other.now.entries there ≡ Some f
+            → result ≡ is_lt (run_cmp self.now.dirs e f) }
     {
         stands_before(&self.lend(at), &other.lend(there))
     }
@@ -256,7 +266,8 @@ impl RunBuilder {
         requires alike { other.now.dirs ≡ self.now.dirs }
         requires sorted { ∥ Ascends (run_cmp self.now.dirs) self.now.entries ∥₁ }
         ensures bound { result ≤ length self.now.entries }
-        ensures parts { (f : Keyed) → slice_get other.now.entries there ≡ Some f → Divides (λ e. is_lt (run_cmp self.now.dirs e f)) self.now.entries result }
+        ensures parts { (f : Keyed) → slice_get other.now.entries there ≡ Some f
+            → Divides (λ e. is_lt (run_cmp self.now.dirs e f)) self.now.entries result }
     {
         let mut low = 0;
         let mut high = self.len();

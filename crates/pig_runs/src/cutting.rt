@@ -66,7 +66,12 @@ impl CutPoints {
 pub fn cuts(alloc: Global, runs: &Runs, n: u32) -> Result<CutPoints, AllocError>
     requires some { 0 < n }
     requires alike { HaveDirections (dirs_of_all runs.now) runs.now }
-    ensures { IfOk result (λ found. found ≡ record { dirs = dirs_of_all runs.now; points = cut_points n (sort (run_cmp (dirs_of_all runs.now)) (entries_of_all runs.now)) }) }
+    ensures { IfOk result
+        (λ found. found ≡ record {
+          dirs = dirs_of_all runs.now;
+          points = cut_points n
+              (sort (run_cmp (dirs_of_all runs.now)) (entries_of_all runs.now));
+        }) }
 {
     let dirs = dirs_of(alloc, runs)?;
     let order = in_order(alloc, runs)?;
@@ -90,7 +95,8 @@ fn dirs_of(alloc: Global, runs: &Runs) -> Result<Dirs, AllocError>
 // The bytes of the entries of all runs, in order.
 fn in_order<'r>(alloc: Global, runs: &'r Runs) -> Result<Vec<Lent<'r>>, AllocError>
     requires { HaveDirections (dirs_of_all runs.now) runs.now }
-    ensures { IfOk result (λ order. Stand (dirs_of_all runs.now) (sort (run_cmp (dirs_of_all runs.now)) (entries_of_all runs.now)) (map packed_lent order.items)) }
+    ensures { IfOk result (λ order. Stand (dirs_of_all runs.now) (sort
+        (run_cmp (dirs_of_all runs.now)) (entries_of_all runs.now)) (map packed_lent order.items)) }
 {
     let mut all = all_lent(alloc, runs)?;
     sort_lent(&mut all);
@@ -99,7 +105,8 @@ fn in_order<'r>(alloc: Global, runs: &'r Runs) -> Result<Vec<Lent<'r>>, AllocErr
 
 fn all_lent<'r>(alloc: Global, runs: &'r Runs) -> Result<Vec<Lent<'r>>, AllocError>
     requires { HaveDirections (dirs_of_all runs.now) runs.now }
-    ensures { IfOk result (λ all. Stand (dirs_of_all runs.now) (entries_of_all runs.now) (map packed_lent all.items)) }
+    ensures { IfOk result (λ all. Stand (dirs_of_all runs.now) (entries_of_all runs.now)
+        (map packed_lent all.items)) }
 {
     let mut all = Vec::new(alloc);
     for run in runs.as_slice() {
@@ -124,7 +131,8 @@ fn pick(points: &mut RunBuilder, order: &[Lent], n: u32) -> Result<(), AllocErro
     requires some { 0 < n }
     requires entries { 0 < length order.now }
     requires held { ∥ Held points.old.dirs (map packed_lent order.now) ∥₁ }
-    ensures { (es : List Keyed) → Stand points.old.dirs es (map packed_lent order.now) → OnOk result (points.new ≡ and_entries (picked n es (n - 1)) points.old) }
+    ensures { (es : List Keyed) → Stand points.old.dirs es (map packed_lent order.now)
+        → OnOk result (points.new ≡ and_entries (picked n es (n - 1)) points.old) }
 {
     for k in 0..n - 1 {
         pick_one(points, order, k, n)?;
@@ -136,7 +144,9 @@ fn pick_one(points: &mut RunBuilder, order: &[Lent], k: u32, n: u32) -> Result<(
     requires later { k + 1 < n }
     requires entries { 0 < length order.now }
     requires held { ∥ Held points.old.dirs (map packed_lent order.now) ∥₁ }
-    ensures ok { (es : List Keyed) → Stand points.old.dirs es (map packed_lent order.now) → OnOk result (points.new ≡ and_entries (take 1 (drop (((k + 1) * length es) / n) es)) points.old) }
+    ensures ok { (es : List Keyed) → Stand points.old.dirs es (map packed_lent order.now)
+        → OnOk result (points.new ≡ and_entries
+        (take 1 (drop (((k + 1) * length es) / n) es)) points.old) }
     ensures dirs { points.new.dirs ≡ points.old.dirs }
 {
     let lent = lent_at(order, place(k, n, order.len()));
@@ -156,7 +166,9 @@ fn lent_at<'r>(order: &[Lent<'r>], at: usize) -> Lent<'r>
 pub fn slice(alloc: Global, run: &Run, points: &CutPoints, part: u32) -> Result<Run, AllocError>
     requires within { part ≤ length points.now.points }
     requires alike { points.now.dirs ≡ run.now.dirs }
-    ensures { IfOk result (λ found. found ≡ record { dirs = run.now.dirs; entries = slice_of run.now.dirs points.now.points part run.now.entries }) }
+    ensures { IfOk result
+        (λ found. found
+        ≡ record { dirs = run.now.dirs; entries = slice_of run.now.dirs points.now.points part run.now.entries }) }
 {
     let entries = run.as_builder();
     let from = points.count_before(run, part);

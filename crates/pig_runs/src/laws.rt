@@ -15,12 +15,18 @@ use crate::run::{Run, Runs};
 /// is that of all their entries. The slices by ascending
 /// points are the entries in order, each once, and the points of cuts ascend.
 pub fn run_laws()
-    ensures either_way { (ds : List Dir) (e f : Keyed) → run_cmp ds e f ≡ ordering_reverse (run_cmp ds f e) }
-    ensures transitive { (ds : List Dir) (e f g : Keyed) → run_cmp ds e f ≡ Less → run_cmp ds f g ≡ Less → run_cmp ds e g ≡ Less }
+    ensures either_way { (ds : List Dir) (e f : Keyed)
+        → run_cmp ds e f ≡ ordering_reverse (run_cmp ds f e) }
+    ensures transitive { (ds : List Dir) (e f g : Keyed) → run_cmp ds e f ≡ Less
+        → run_cmp ds f g ≡ Less → run_cmp ds e g ≡ Less }
     ensures equal_is_same { (ds : List Dir) (e f : Keyed) → (run_cmp ds e f ≡ Equal) ↔ (e ≡ f) }
-    ensures merged { (ds : List Dir) (lists : List (List Keyed)) → run_of ds (entries_of_all (map (run_of ds) lists)) ≡ run_of ds (flat_map (λ es. es) lists) }
-    ensures slices { (ds : List Dir) (points : List Point) (es : List Keyed) → Ascends (point_cmp ds) points → Ascends (run_cmp ds) es → flat_map (λ part. slice_of ds points part es) (range_with_len 0 (length points + 1)) ≡ es }
-    ensures rising { (ds : List Dir) (n : ℕ) (es : List Keyed) → 0 < n → Ascends (run_cmp ds) es → Ascends (point_cmp ds) (cut_points n es) }
+    ensures merged { (ds : List Dir) (lists : List (List Keyed)) → run_of ds
+        (entries_of_all (map (run_of ds) lists)) ≡ run_of ds (flat_map (λ es. es) lists) }
+    ensures slices { (ds : List Dir) (points : List Point) (es : List Keyed)
+        → Ascends (point_cmp ds) points → Ascends (run_cmp ds) es → flat_map
+        (λ part. slice_of ds points part es) (range_with_len 0 (length points + 1)) ≡ es }
+    ensures rising { (ds : List Dir) (n : ℕ) (es : List Keyed) → 0 < n → Ascends (run_cmp ds) es
+        → Ascends (point_cmp ds) (cut_points n es) }
 {}
 
 /// Entries and runs may be shared and handed to other threads.

@@ -24,7 +24,8 @@ pub(crate) fn compare_lent(a: &Lent, b: &Lent) -> Ordering
 }
 
 fn compare_rest(a: &Lent, b: &Lent) -> Ordering
-    ensures { result ≡ ordering_then (nat_cmp a.now.input b.now.input) (text_cmp a.now.row.now b.now.row.now) }
+    ensures { result ≡ ordering_then (nat_cmp a.now.input b.now.input)
+        (text_cmp a.now.row.now b.now.row.now) }
 {
     match a.input.cmp(&b.input) {
         Ordering::Equal => a.row.cmp(b.row),

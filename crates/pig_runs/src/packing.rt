@@ -42,7 +42,8 @@ pub(crate) fn compare(bytes: &[u8], a: &Slot, b: &Slot) -> Ordering
 }
 
 fn compare_rows(bytes: &[u8], a: &Slot, b: &Slot) -> Ordering
-    ensures { result ≡ ordering_then (nat_cmp a.now.input b.now.input) (text_cmp (part bytes.now a.now.row_at a.now.row_len) (part bytes.now b.now.row_at b.now.row_len)) }
+    ensures { result ≡ ordering_then (nat_cmp a.now.input b.now.input) (text_cmp
+        (part bytes.now a.now.row_at a.now.row_len) (part bytes.now b.now.row_at b.now.row_len)) }
 {
     match a.input.cmp(&b.input) {
         Ordering::Equal => part(bytes, a.row_at, a.row_len).cmp(part(bytes, b.row_at, b.row_len)),
@@ -58,8 +59,10 @@ fn write_entry(
     input: u32,
     row: &Tuple,
 ) -> Result<Slot, AllocError>
-    ensures bytes { OnOk result (bytes.new.items ≡ bytes.old.items ++ (key_code dirs.now (tree key.now) ++ row_code (row_tree row.now))) }
-    ensures slot { IfOk result (λ slot. slot ≡ slot_of (length bytes.old.items) (key_code dirs.now (tree key.now)) (row_code (row_tree row.now)) input) }
+    ensures bytes { OnOk result (bytes.new.items
+        ≡ bytes.old.items ++ (key_code dirs.now (tree key.now) ++ row_code (row_tree row.now))) }
+    ensures slot { IfOk result (λ slot. slot ≡ slot_of (length bytes.old.items)
+        (key_code dirs.now (tree key.now)) (row_code (row_tree row.now)) input) }
     ensures err { OnErr result (bytes.new.items ≡ bytes.old.items) }
 {
     let key_at = bytes.len();
@@ -101,8 +104,11 @@ pub(crate) fn add_entry(
     input: u32,
     row: &Tuple,
 ) -> Result<(), AllocError>
-    ensures bytes { OnOk result (bytes.new.items ≡ bytes.old.items ++ (key_code dirs.now (tree key.now) ++ row_code (row_tree row.now))) }
-    ensures slots { OnOk result (slots.new.items ≡ slots.old.items ++ slot_of (length bytes.old.items) (key_code dirs.now (tree key.now)) (row_code (row_tree row.now)) input ∷ []) }
+    ensures bytes { OnOk result (bytes.new.items
+        ≡ bytes.old.items ++ (key_code dirs.now (tree key.now) ++ row_code (row_tree row.now))) }
+    ensures slots { OnOk result (slots.new.items
+        ≡ slots.old.items ++ slot_of (length bytes.old.items) (key_code dirs.now (tree key.now))
+        (row_code (row_tree row.now)) input ∷ []) }
     ensures err_bytes { OnErr result (bytes.new.items ≡ bytes.old.items) }
     ensures err_slots { OnErr result (slots.new.items ≡ slots.old.items) }
 {
@@ -119,7 +125,8 @@ pub(crate) fn add_entry(
 
 // Sorts slots by their entries.
 pub(crate) fn sort_slots(bytes: &[u8], slots: &mut Vec<Slot>)
-    ensures order { map (found_at bytes.now) slots.new.items ≡ sort packed_cmp (map (found_at bytes.now) slots.old.items) }
+    ensures order { map (found_at bytes.now) slots.new.items
+        ≡ sort packed_cmp (map (found_at bytes.now) slots.old.items) }
     ensures same { IsPermutation slots.old.items slots.new.items }
 {
     slots.sort_unstable_by(|a, b| compare(bytes, a, b));
@@ -134,7 +141,8 @@ pub(crate) fn slot_at(slots: &[Slot], at: usize) -> Slot
 
 // The row of a slot.
 pub(crate) fn read_row(alloc: Global, bytes: &[u8], slot: Slot) -> Result<Tuple, AllocError>
-    ensures { (row : List Tree) → IsCodeOfRow (part bytes.now slot.row_at slot.row_len) row → IfOk result (λ found. row_tree found ≡ row) }
+    ensures { (row : List Tree) → IsCodeOfRow (part bytes.now slot.row_at slot.row_len) row
+        → IfOk result (λ found. row_tree found ≡ row) }
 {
     match decode_row(alloc, part(bytes, slot.row_at, slot.row_len)) {
         Ok(Some(row)) => Ok(row),
@@ -145,7 +153,8 @@ pub(crate) fn read_row(alloc: Global, bytes: &[u8], slot: Slot) -> Result<Tuple,
 
 // The key of a slot.
 pub(crate) fn read_key(alloc: Global, bytes: &[u8], slot: Slot) -> Result<Value, AllocError>
-    ensures { (key : Tree) → IsCodeOf (part bytes.now slot.key_at slot.key_len) key → IfOk result (λ found. tree found ≡ key) }
+    ensures { (key : Tree) → IsCodeOf (part bytes.now slot.key_at slot.key_len) key
+        → IfOk result (λ found. tree found ≡ key) }
 {
     match decode(alloc, part(bytes, slot.key_at, slot.key_len)) {
         Ok(Some(key)) => Ok(key),
@@ -209,7 +218,8 @@ pub(crate) fn append_entries(
 ) -> Result<(), AllocError>
     requires { AllByRecursion (IsWithin (length more.now)) more_slots.now }
     ensures bytes { OnOk result (bytes.new.items ≡ bytes.old.items ++ more.now) }
-    ensures slots { OnOk result (slots.new.items ≡ slots.old.items ++ map (moved (length bytes.old.items)) more_slots.now) }
+    ensures slots { OnOk result (slots.new.items
+        ≡ slots.old.items ++ map (moved (length bytes.old.items)) more_slots.now) }
     ensures err_bytes { OnErr result (bytes.new.items ≡ bytes.old.items) }
     ensures err_slots { OnErr result (slots.new.items ≡ slots.old.items) }
 {
@@ -241,7 +251,8 @@ fn push_moved(
 
 // Whether the keys of two slots have the same bytes.
 pub(crate) fn same_key_bytes(bytes: &[u8], a: Slot, b: Slot) -> bool
-    ensures { Decides result (part bytes.now a.key_at a.key_len ≡ part bytes.now b.key_at b.key_len) }
+    ensures { Decides result (part bytes.now a.key_at a.key_len
+        ≡ part bytes.now b.key_at b.key_len) }
 {
     part(bytes, a.key_at, a.key_len) == part(bytes, b.key_at, b.key_len)
 }
@@ -263,7 +274,8 @@ pub(crate) fn lend_slots<'r>(
     slots: &[Slot],
     all: &mut Vec<Lent<'r>>,
 ) -> Result<(), AllocError>
-    ensures { OnOk result (map packed_lent all.new.items ≡ map packed_lent all.old.items ++ map (found_at bytes.now) slots.now) }
+    ensures { OnOk result (map packed_lent all.new.items
+        ≡ map packed_lent all.old.items ++ map (found_at bytes.now) slots.now) }
 {
     for slot in slots {
         all.push(lend(bytes, *slot))?;
@@ -280,8 +292,10 @@ pub(crate) fn sort_lent(all: &mut Vec<Lent>)
 
 // Appends the bytes of an entry that is lent. Where memory is wanting, the bytes stay as they were.
 fn write_lent(bytes: &mut Vec<u8>, lent: Lent) -> Result<Slot, AllocError>
-    ensures bytes { OnOk result (bytes.new.items ≡ bytes.old.items ++ (lent.entry.key.now ++ lent.entry.row.now)) }
-    ensures slot { IfOk result (λ slot. slot ≡ slot_of (length bytes.old.items) lent.entry.key.now lent.entry.row.now lent.entry.input) }
+    ensures bytes { OnOk result (bytes.new.items
+        ≡ bytes.old.items ++ (lent.entry.key.now ++ lent.entry.row.now)) }
+    ensures slot { IfOk result (λ slot. slot ≡ slot_of
+        (length bytes.old.items) lent.entry.key.now lent.entry.row.now lent.entry.input) }
     ensures err { OnErr result (bytes.new.items ≡ bytes.old.items) }
 {
     let key_at = bytes.len();
@@ -308,8 +322,10 @@ pub(crate) fn add_lent(
     slots: &mut Vec<Slot>,
     lent: Lent,
 ) -> Result<(), AllocError>
-    ensures bytes { OnOk result (bytes.new.items ≡ bytes.old.items ++ (lent.entry.key.now ++ lent.entry.row.now)) }
-    ensures slots { OnOk result (slots.new.items ≡ slots.old.items ++ slot_of (length bytes.old.items) lent.entry.key.now lent.entry.row.now lent.entry.input ∷ []) }
+    ensures bytes { OnOk result (bytes.new.items
+        ≡ bytes.old.items ++ (lent.entry.key.now ++ lent.entry.row.now)) }
+    ensures slots { OnOk result (slots.new.items ≡ slots.old.items ++ slot_of
+        (length bytes.old.items) lent.entry.key.now lent.entry.row.now lent.entry.input ∷ []) }
     ensures err_bytes { OnErr result (bytes.new.items ≡ bytes.old.items) }
     ensures err_slots { OnErr result (slots.new.items ≡ slots.old.items) }
 {

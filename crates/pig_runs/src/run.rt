@@ -71,7 +71,8 @@ impl Run {
     /// The row of an entry.
     pub fn row(&self, alloc: Global, at: usize) -> Result<Tuple, AllocError>
         requires { at < length self.now.entries }
-        ensures { IfOk result (λ row. option_map (λ e. e.row) (slice_get self.now.entries at) ≡ Some (row_tree row)) }
+        ensures { IfOk result (λ row. option_map (λ e. e.row) (slice_get self.now.entries at)
+            ≡ Some (row_tree row)) }
     {
         self.built.row(alloc, at)
     }
@@ -97,7 +98,8 @@ impl Run {
     /// The bytes of an entry's key, its code in the run's directions.
     pub fn key_bytes(&self, at: usize) -> &[u8]
         requires { at < length self.now.entries }
-        ensures { option_map (λ e. key_code self.now.dirs e.key) (slice_get self.now.entries at) ≡ Some result.now }
+        ensures { option_map (λ e. key_code self.now.dirs e.key) (slice_get self.now.entries at)
+            ≡ Some result.now }
     {
         self.built.lend(at).key
     }
@@ -105,7 +107,8 @@ impl Run {
     /// The bytes of an entry's row, its code as a tuple.
     pub fn row_bytes(&self, at: usize) -> &[u8]
         requires { at < length self.now.entries }
-        ensures { option_map (λ e. row_code e.row) (slice_get self.now.entries at) ≡ Some result.now }
+        ensures { option_map (λ e. row_code e.row) (slice_get self.now.entries at)
+            ≡ Some result.now }
     {
         self.built.lend(at).row
     }

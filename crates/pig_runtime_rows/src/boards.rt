@@ -123,12 +123,16 @@ fn pair<R: Threads + Sync>(rt: &R, board: &Board, pass: Pass, who: u32) -> (Pass
     let ((mut left, one), (right, two)) = join(
         rt,
         || -> (Pass, Told)
-            requires { OnBoard board.now left × (4 ≤ tasks_of board.now) × (4 ≤ (view_of left).known) × (100 ≤ (view_of left).room) }
-            ensures { OnBoard board.entry.now result.0 × (steps_of (view_of result.0) ≡ steps_of (view_of left)) }
+            requires { OnBoard board.now left × (4 ≤ tasks_of board.now)
+                × (4 ≤ (view_of left).known) × (100 ≤ (view_of left).room) }
+            ensures { OnBoard board.entry.now result.0
+                × (steps_of (view_of result.0) ≡ steps_of (view_of left)) }
         { worker(board, left, who) },
         || -> (Pass, Told)
-            requires { OnBoard board.now right × (4 ≤ tasks_of board.now) × (4 ≤ (view_of right).known) × (100 ≤ (view_of right).room) }
-            ensures { OnBoard board.entry.now result.0 × (steps_of (view_of result.0) ≡ steps_of (view_of right)) }
+            requires { OnBoard board.now right × (4 ≤ tasks_of board.now)
+                × (4 ≤ (view_of right).known) × (100 ≤ (view_of right).room) }
+            ensures { OnBoard board.entry.now result.0
+                × (steps_of (view_of result.0) ≡ steps_of (view_of right)) }
         { worker(board, right, who ^ 1) },
     );
     board.join(&mut left, right);
@@ -149,12 +153,16 @@ fn crew<R: Threads + Sync>(rt: &R, board: &Board, pass: Pass) -> (Pass, [Told; 4
     let ((mut left, a, b), (right, c, d)) = join(
         rt,
         || -> (Pass, Told, Told)
-            requires { IsSync R.row × OnBoard board.now left × (4 ≤ tasks_of board.now) × (4 ≤ (view_of left).known) × (300 ≤ (view_of left).room) }
-            ensures { OnBoard board.entry.now result.0 × (steps_of (view_of result.0) ≡ steps_of (view_of left)) }
+            requires { IsSync R.row × OnBoard board.now left × (4 ≤ tasks_of board.now)
+                × (4 ≤ (view_of left).known) × (300 ≤ (view_of left).room) }
+            ensures { OnBoard board.entry.now result.0
+                × (steps_of (view_of result.0) ≡ steps_of (view_of left)) }
         { pair(rt, board, left, 0) },
         || -> (Pass, Told, Told)
-            requires { IsSync R.row × OnBoard board.now right × (4 ≤ tasks_of board.now) × (4 ≤ (view_of right).known) × (300 ≤ (view_of right).room) }
-            ensures { OnBoard board.entry.now result.0 × (steps_of (view_of result.0) ≡ steps_of (view_of right)) }
+            requires { IsSync R.row × OnBoard board.now right × (4 ≤ tasks_of board.now)
+                × (4 ≤ (view_of right).known) × (300 ≤ (view_of right).room) }
+            ensures { OnBoard board.entry.now result.0
+                × (steps_of (view_of result.0) ≡ steps_of (view_of right)) }
         { pair(rt, board, right, 2) },
     );
     board.join(&mut left, right);

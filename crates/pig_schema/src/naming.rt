@@ -78,9 +78,12 @@ fn only(place: usize, other: Option<usize>) -> Result<usize, NameFault>
 
 // The first place from `start` on whose field has the name.
 fn next_named(fields: &[Field], name: &[u8], start: usize) -> Option<usize>
-    ensures found { IfSome result (λ place. places_from (has_name name.now) (names_of fields.now) start ≡ place ∷ places_from (has_name name.now) (names_of fields.now) (place + 1)) }
+    ensures found { IfSome result (λ place. places_from (has_name name.now)
+        (names_of fields.now) start ≡ place ∷ places_from (has_name name.now) (names_of fields.now)
+        (place + 1)) }
     ensures within { IfSome result (λ place. place < length fields.now) }
-    ensures none { IfNone result (places_from (has_name name.now) (names_of fields.now) start ≡ []) }
+    ensures none { IfNone result (places_from (has_name name.now) (names_of fields.now) start
+        ≡ []) }
 {
     for place in start..fields.len() {
         if is_named(&fields[place], name) {
@@ -92,9 +95,12 @@ fn next_named(fields: &[Field], name: &[u8], start: usize) -> Option<usize>
 
 // The first place from `start` on whose field fits.
 fn next_fitting(fields: &[Field], name: &[u8], start: usize) -> Option<usize>
-    ensures found { IfSome result (λ place. places_from (fits_field name.now) (names_of fields.now) start ≡ place ∷ places_from (fits_field name.now) (names_of fields.now) (place + 1)) }
+    ensures found { IfSome result (λ place. places_from (fits_field name.now)
+        (names_of fields.now) start ≡ place ∷ places_from (fits_field name.now)
+        (names_of fields.now) (place + 1)) }
     ensures within { IfSome result (λ place. place < length fields.now) }
-    ensures none { IfNone result (places_from (fits_field name.now) (names_of fields.now) start ≡ []) }
+    ensures none { IfNone result (places_from (fits_field name.now) (names_of fields.now) start
+        ≡ []) }
 {
     for place in start..fields.len() {
         if is_fitting(&fields[place], name) {

@@ -27,8 +27,10 @@ pub fn rows_are_of_their_kinds()
 /// order, all lines.
 pub fn lines_start_in_ranges()
     ensures parts { (from between to : ℕ) (bytes : List ℕ) → from ≤ between → between ≤ to →
-        lines_within from between bytes ++ lines_within between to bytes ≡ lines_within from to bytes }
-    ensures whole { (to : ℕ) (bytes : List ℕ) → length bytes ≤ to → lines_within 0 to bytes ≡ lines bytes }
+        lines_within from between bytes ++ lines_within between to bytes
+        ≡ lines_within from to bytes }
+    ensures whole { (to : ℕ) (bytes : List ℕ) → length bytes ≤ to
+        → lines_within 0 to bytes ≡ lines bytes }
 {}
 
 /// No line of an input holds an LF, and no value that is read from a line does. So the text of a row that is
@@ -38,13 +40,15 @@ pub fn rows_of_lines_are_line_free()
     ensures rows { (columns : List Column) (delimiter : ℕ) (bytes : List ℕ) →
         AreLineFreeRows (map (row_of columns delimiter) (lines bytes)) }
     ensures text { (columns : List Column) (from to : ℕ) (line : List ℕ) → to ≢ 10 → HasNoLf line →
-        stored_lines (row_text to (row_of columns from line) ++ 10 ∷ []) ≡ row_text to (row_of columns from line) ∷ [] }
+        stored_lines (row_text to (row_of columns from line) ++ 10 ∷ [])
+        ≡ row_text to (row_of columns from line) ∷ [] }
 {}
 
 /// The texts of line-free rows, each with an LF behind it, have these texts as their lines, since no
 /// delimiter is an LF.
 pub fn texts_of_rows_are_lines()
-    ensures list { (delimiter : ℕ) → delimiter ≢ 10 → (rows : List (List Tree)) → AreLineFreeRows rows →
+    ensures list { (delimiter : ℕ) → delimiter ≢ 10 → (rows : List (List Tree))
+        → AreLineFreeRows rows →
         StoresList delimiter (rows_text delimiter rows) rows }
     ensures bag { (delimiter : ℕ) (bytes : List ℕ) (rows : List (List Tree)) →
         StoresList delimiter bytes rows → StoresBag delimiter bytes rows }

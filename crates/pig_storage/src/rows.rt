@@ -111,7 +111,8 @@ fn bytes_at(line: &[u8], byte: u8, piece: Piece, position: u32) -> Option<&[u8]>
 
 // The value of a field, or null where the line has no such field.
 fn field_or_null(alloc: Global, bytes: Option<&[u8]>, kind: &Kind) -> Result<Value, AllocError>
-    ensures { IfOk result (λ v. tree v ≡ option_map_or (field_value (kind_tree kind.now)) (option_copied bytes.entry) v_null) }
+    ensures { IfOk result (λ v. tree v ≡ option_map_or (field_value (kind_tree kind.now))
+        (option_copied bytes.entry) v_null) }
 {
     match bytes {
         Some(bytes) => {

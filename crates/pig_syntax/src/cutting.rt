@@ -45,7 +45,8 @@ fn add_statement(pieces: &mut Pieces, start: usize, to: usize) -> Result<(), All
 
 // Adds the tokens behind the last cut, where there are some.
 fn add_tail(pieces: &mut Pieces, start: usize, to: usize) -> Result<(), AllocError>
-    ensures some { start < to → OnOk result (pieces.new ≡ pieces.old ++ record { «from» = start; to = to } ∷ []) }
+    ensures some { start < to → OnOk result (pieces.new
+        ≡ pieces.old ++ record { «from» = start; to = to } ∷ []) }
     ensures none { to ≤ start → OnOk result (pieces.new ≡ pieces.old) }
 {
     if start < to {
@@ -134,9 +135,12 @@ impl Brackets {
     fn read(&mut self, token: &Token)
         requires room { self.old.opened + 1 < 2 ^ 32 }
         requires room_closed { self.old.closed + 1 < 2 ^ 32 }
-        ensures opened { self.new.opened ≡ self.old.opened + (if opens_bracket token.now.form then 1 else 0) }
-        ensures closed { self.new.closed ≡ self.old.closed + (if closes_bracket token.now.form then 1 else 0) }
-        ensures deepest { self.new.deepest ≡ max self.old.deepest (self.new.opened - self.new.closed) }
+        ensures opened { self.new.opened ≡ self.old.opened +
+            (if opens_bracket token.now.form then 1 else 0) }
+        ensures closed { self.new.closed ≡ self.old.closed +
+            (if closes_bracket token.now.form then 1 else 0) }
+        ensures deepest { self.new.deepest ≡ max self.old.deepest
+            (self.new.opened - self.new.closed) }
     {
         self.opened += u32::from(opens_bracket(token));
         self.closed += u32::from(closes_bracket(token));
@@ -167,13 +171,16 @@ fn closes_bracket(token: &Token) -> bool
 /// Tokens have one list of statements and no other.
 pub fn statements_are_one()
     ensures some { (ts : List Token) → (ps : List Piece) × AreStatements ts ps }
-    ensures one { (ts : List Token) (ps qs : List Piece) → AreStatements ts ps → AreStatements ts qs → ps ≡ qs }
+    ensures one { (ts : List Token) (ps qs : List Piece) → AreStatements ts ps → AreStatements ts qs
+        → ps ≡ qs }
 {}
 
 /// The statements lie within the tokens, and there are at most as many of them as tokens.
 pub fn statements_lie_within()
-    ensures within { (ts : List Token) (ps : List Piece) → AreStatements ts ps → All (IsWithin ts) ps }
-    ensures few { (ts : List Token) (ps : List Piece) → AreStatements ts ps → length ps ≤ length ts }
+    ensures within { (ts : List Token) (ps : List Piece) → AreStatements ts ps
+        → All (IsWithin ts) ps }
+    ensures few { (ts : List Token) (ps : List Piece) → AreStatements ts ps
+        → length ps ≤ length ts }
 {}
 
 /// A statement has one depth and no other.

@@ -256,7 +256,8 @@ fn whole_text(content: Blob) -> Option<Text>
 // The content of a text up to its closing quote, and the bytes behind that.
 fn content(alloc: Global, bytes: &[u8]) -> Result<Option<(Blob, &[u8])>, AllocError>
     ensures within { IfOk result (λ found. IfSome found (λ p. length p.1.now < length bytes.now)) }
-    ensures value { IfOk result (λ found. option_map (λ p. (p.0, p.1.now)) found ≡ content_after (length bytes.now) [] bytes.now) }
+    ensures value { IfOk result (λ found. option_map (λ p. (p.0, p.1.now)) found
+        ≡ content_after (length bytes.now) [] bytes.now) }
 {
     let mut read = Blob::new(alloc);
     let mut rest = bytes;

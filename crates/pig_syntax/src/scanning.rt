@@ -85,7 +85,8 @@ fn after_close(bytes: &[u8]) -> Option<&[u8]>
 /// The bytes behind `prefix`, where they begin with it.
 pub fn after<'a>(bytes: &'a [u8], prefix: &[u8]) -> Option<&'a [u8]>
     ensures value { option_map (λ rest. rest.now) result ≡ strip prefix.now bytes.now }
-    ensures length { IfSome result (λ rest. length rest.now + length prefix.now ≡ length bytes.now) }
+    ensures length { IfSome result (λ rest. length rest.now + length prefix.now
+        ≡ length bytes.now) }
 {
     bytes.strip_prefix(prefix)
 }

@@ -32,7 +32,8 @@ impl TextSink for TextBuffer {
 /// Appends the text of a row, its fields' texts with the delimiter between each two, and an LF. Where
 /// memory is wanting, `out` stays as it was.
 pub fn write_row(row: &Tuple, delim: Delim, out: &mut Vec<u8>) -> Result<(), AllocError>
-    ensures ok { OnOk result (out.new.items ≡ out.old.items ++ (row_text delim (row_tree row.now) ++ 10 ∷ [])) }
+    ensures ok { OnOk result (out.new.items ≡ out.old.items
+        ++ (row_text delim (row_tree row.now) ++ 10 ∷ [])) }
     ensures err { OnErr result (out.new.items ≡ out.old.items) }
 {
     let length = out.len();
@@ -50,7 +51,8 @@ pub fn write_row(row: &Tuple, delim: Delim, out: &mut Vec<u8>) -> Result<(), All
 
 // The bytes with the text of a row and an LF behind them.
 fn with_row(row: &Tuple, delim: Delim, bytes: Vec<u8>) -> TextBuffer
-    ensures { HasTaken bytes.items false (row_text delim (row_tree row.now) ++ 10 ∷ []) result.bytes.items result.wants }
+    ensures { HasTaken bytes.items false (row_text delim (row_tree row.now)
+        ++ 10 ∷ []) result.bytes.items result.wants }
 {
     let mut told = TextBuffer {
         bytes,

@@ -48,7 +48,8 @@ fn tell_bool<S: TextSink>(truth: bool, sink: &mut S)
 // The texts of fields with the separator between each two.
 #[cycle(text)]
 fn tell_fields<S: TextSink>(fields: &[Value], separator: u8, sink: &mut S)
-    ensures { S.after sink.old (join_with_byte separator (map text_of (row_tree fields.now))) sink.new }
+    ensures { S.after sink.old (join_with_byte separator
+        (map text_of (row_tree fields.now))) sink.new }
 {
     for i in 0..fields.len() {
         start_item(i, separator, sink);
@@ -67,7 +68,8 @@ fn tell_tuple<S: TextSink>(fields: &[Value], sink: &mut S)
 
 #[cycle(text)]
 fn tell_rows<S: TextSink>(rows: &[Tuple], sink: &mut S)
-    ensures { S.after sink.old (join_with_byte 44 (map row_as_tuple (rows_tree rows.now))) sink.new }
+    ensures { S.after sink.old (join_with_byte 44
+        (map row_as_tuple (rows_tree rows.now))) sink.new }
 {
     for i in 0..rows.len() {
         start_item(i, b',', sink);
@@ -77,7 +79,8 @@ fn tell_rows<S: TextSink>(rows: &[Tuple], sink: &mut S)
 
 #[cycle(text)]
 fn tell_bag<S: TextSink>(rows: &[Tuple], sink: &mut S)
-    ensures { S.after sink.old (bracketed 123 (map row_as_tuple (rows_tree rows.now)) 125) sink.new }
+    ensures { S.after sink.old (bracketed 123
+        (map row_as_tuple (rows_tree rows.now)) 125) sink.new }
 {
     sink.put(b"{");
     tell_rows(rows, sink);
@@ -95,7 +98,8 @@ fn tell_pair<S: TextSink>(pair: &Pair, sink: &mut S)
 
 #[cycle(text)]
 fn tell_pairs<S: TextSink>(pairs: &[Pair], sink: &mut S)
-    ensures { S.after sink.old (join_with_byte 44 (map pair_text (map entry_of pairs.now))) sink.new }
+    ensures { S.after sink.old (join_with_byte 44
+        (map pair_text (map entry_of pairs.now))) sink.new }
 {
     for i in 0..pairs.len() {
         start_item(i, b',', sink);

@@ -12,13 +12,15 @@ use std::alloc::{AllocError, Global};
 
 /// The kind of what a function gives of arguments of these kinds: none where it takes no such arguments.
 pub fn called(alloc: Global, function: Function, kinds: Kinds) -> Result<Option<Kind>, AllocError>
-    ensures { IfOk result (λ found. option_map kind_tree found ≡ function_kind function (map kind_tree kinds)) }
+    ensures { IfOk result (λ found. option_map kind_tree found
+        ≡ function_kind function (map kind_tree kinds)) }
 {
     by_signature(alloc, function, kinds)
 }
 
 fn by_signature(alloc: Global, function: Function, kinds: Kinds) -> Result<Option<Kind>, AllocError>
-    ensures { IfOk result (λ found. option_map kind_tree found ≡ signature_kind function (map kind_tree kinds)) }
+    ensures { IfOk result (λ found. option_map kind_tree found
+        ≡ signature_kind function (map kind_tree kinds)) }
 {
     match function {
         Function::Concat => Ok(concatenated(kinds.as_slice())),
@@ -74,7 +76,8 @@ fn to_tuple(kinds: Kinds) -> Option<Kind>
 }
 
 fn to_bag(alloc: Global, width: Option<u32>, kinds: &[Kind]) -> Result<Option<Kind>, AllocError>
-    ensures { IfOk result (λ found. option_map kind_tree found ≡ tobag_kind width (map kind_tree kinds.now)) }
+    ensures { IfOk result (λ found. option_map kind_tree found
+        ≡ tobag_kind width (map kind_tree kinds.now)) }
 {
     let [first, rest @ ..] = kinds else {
         return Ok(None);
@@ -127,13 +130,15 @@ fn one(kinds: &[Kind]) -> Option<&Kind>
 
 /// The one field of a bag.
 fn one_field(fields: &[Kind]) -> Option<&Kind>
-    ensures { option_map kind_tree (option_copied result) ≡ column (kinds_of (map kind_tree fields.now)) }
+    ensures { option_map kind_tree (option_copied result)
+        ≡ column (kinds_of (map kind_tree fields.now)) }
 {
     one(fields)
 }
 
 fn of_one(alloc: Global, function: Function, a: &Kind) -> Result<Option<Kind>, AllocError>
-    ensures { IfOk result (λ found. option_map kind_tree found ≡ one_kind function (kind_tree a.now)) }
+    ensures { IfOk result (λ found. option_map kind_tree found
+        ≡ one_kind function (kind_tree a.now)) }
 {
     match function {
         Function::Count => Ok(counted(a)),

@@ -104,7 +104,8 @@ fn bag_kind(
 
 /// A bag of such rows, where the condition is boolean on them.
 fn filtered(alloc: Global, rows: Kinds, cond: &TExpr) -> Result<Option<Kind>, AllocError>
-    ensures { IfOk result (λ found. option_map kind_tree found ≡ filtered_kind (typed cond.now) (map kind_tree rows)) }
+    ensures { IfOk result (λ found. option_map kind_tree found
+        ≡ filtered_kind (typed cond.now) (map kind_tree rows)) }
 {
     match kind_of(alloc, cond, &rows, &Seq::new(alloc))? {
         Some(Kind::Boolean) => Ok(Some(Kind::Bag(rows))),
@@ -151,7 +152,8 @@ fn of_items(
     locals: &Kinds,
 ) -> Result<Option<Kinds>, AllocError>
     ensures { IfOk result (λ found. option_map (map kind_tree) found
-        ≡ items_kinds (map item_typed items.now) (map kind_tree row.now) (map kind_tree locals.now)) }
+        ≡ items_kinds (map item_typed items.now) (map kind_tree row.now)
+        (map kind_tree locals.now)) }
 {
     let mut made = Seq::new(alloc);
     for item in items.as_slice() {
@@ -183,7 +185,8 @@ fn of_item(
 
 /// The kinds of the fields that a value gives.
 fn given(alloc: Global, kind: Kind, flatten: bool) -> Result<Option<Kinds>, AllocError>
-    ensures { IfOk result (λ found. option_map (map kind_tree) found ≡ given_kinds flatten (kind_tree kind)) }
+    ensures { IfOk result (λ found. option_map (map kind_tree) found
+        ≡ given_kinds flatten (kind_tree kind)) }
 {
     if flatten {
         flattened(alloc, kind)
@@ -193,7 +196,8 @@ fn given(alloc: Global, kind: Kind, flatten: bool) -> Result<Option<Kinds>, Allo
 }
 
 fn flattened(alloc: Global, kind: Kind) -> Result<Option<Kinds>, AllocError>
-    ensures { IfOk result (λ found. option_map (map kind_tree) found ≡ flattened_kinds (kind_tree kind)) }
+    ensures { IfOk result (λ found. option_map (map kind_tree) found
+        ≡ flattened_kinds (kind_tree kind)) }
 {
     match kind {
         Kind::Tuple(kinds) => Ok(Some(kinds)),

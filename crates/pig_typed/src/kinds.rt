@@ -38,7 +38,8 @@ fn look<'a>(
     scope: &'a Scope<'a>,
 ) -> Result<Option<SeenKind<'a>>, AllocError>
     ensures { IfOk result (λ found. option_map seen_kind found
-        ≡ expr_kind (typed e.now) (map kind_tree scope.now.row.now) (map kind_tree scope.now.locals.now)) }
+        ≡ expr_kind (typed e.now) (map kind_tree scope.now.row.now)
+        (map kind_tree scope.now.locals.now)) }
 {
     match e {
         TExpr::Null => Ok(Some(SeenKind::Made(Kind::Bytearray))),
@@ -137,7 +138,8 @@ fn all_kinds<'a>(
     scope: &'a Scope<'a>,
 ) -> Result<Option<Kinds>, AllocError>
     ensures { IfOk result (λ found. option_map (map kind_tree) found
-        ≡ args_kinds (args_of (map typed args.now)) (map kind_tree scope.now.row.now) (map kind_tree scope.now.locals.now)) }
+        ≡ args_kinds (args_of (map typed args.now)) (map kind_tree scope.now.row.now)
+        (map kind_tree scope.now.locals.now)) }
 {
     let args = args.as_slice();
     let mut kinds = Vec::with_capacity(alloc, args.len())?;
@@ -160,7 +162,8 @@ fn made<'a>(kind: Option<Kind>) -> Option<SeenKind<'a>>
 }
 
 fn chosen<'a>(cond: &Kind, yes: SeenKind<'a>, no: &Kind) -> Option<SeenKind<'a>>
-    ensures { option_map seen_kind result ≡ choose_kind (kind_tree cond.now) (seen_kind yes.entry) (kind_tree no.now) }
+    ensures { option_map seen_kind result ≡ choose_kind (kind_tree cond.now) (seen_kind yes.entry)
+        (kind_tree no.now) }
 {
     match cond {
         Kind::Boolean => {

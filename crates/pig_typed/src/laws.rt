@@ -16,10 +16,14 @@ ghost use Rattle.pig_typed.specs.Typed.{Typed, TypedBlock};
 /// What has a kind is never evaluated at a wrong one: on a row and locals of the kinds that it was typed for,
 /// an expression gives a value of its kind, and a block rows of its kinds, as functions do of their arguments.
 pub fn kinds_are_kept()
-    ensures expression { FunctionsKeepKinds → (e : Typed) (row locals : List Tree) (kinds more : List KindTree) (k : KindTree)
-        → IsRowOf row kinds → IsRowOf locals more → expr_kind e kinds more ≡ Some k → IsOf (ev e row locals) k }
-    ensures block { FunctionsKeepKinds → (block : TypedBlock) (row : List Tree) (kinds made : List KindTree)
-        → IsRowOf row kinds → row_kinds block kinds ≡ Some made → AreRowsOf (foreach_rows block row) made }
+    ensures expression { FunctionsKeepKinds → (e : Typed) (row locals : List Tree)
+        (kinds more : List KindTree) (k : KindTree)
+        → IsRowOf row kinds → IsRowOf locals more → expr_kind e kinds more ≡ Some k
+        → IsOf (ev e row locals) k }
+    ensures block { FunctionsKeepKinds → (block : TypedBlock) (row : List Tree)
+        (kinds made : List KindTree)
+        → IsRowOf row kinds → row_kinds block kinds ≡ Some made
+        → AreRowsOf (foreach_rows block row) made }
 {}
 
 /// Of values an expression gives a value, and a block rows of values, as functions do: bags are sorted, keys of
@@ -34,10 +38,13 @@ pub fn values_are_kept()
 /// Of values and literals without an LF an expression gives a value without one, and a block rows of such
 /// values, as functions do.
 pub fn lines_are_kept()
-    ensures expression { FunctionsKeepValues → FunctionsKeepLines → (e : Typed) (row locals : List Tree)
-        → LiteralsAre IsLineFreeValue e → IsRow row → IsLineFreeRow row → IsRow locals → IsLineFreeRow locals
+    ensures expression { FunctionsKeepValues → FunctionsKeepLines
+        → (e : Typed) (row locals : List Tree)
+        → LiteralsAre IsLineFreeValue e → IsRow row → IsLineFreeRow row → IsRow locals
+        → IsLineFreeRow locals
         → IsLineFree (ev e row locals) }
-    ensures block { FunctionsKeepValues → FunctionsKeepLines → (block : TypedBlock) (row : List Tree)
+    ensures block { FunctionsKeepValues → FunctionsKeepLines
+        → (block : TypedBlock) (row : List Tree)
         → BlockLiteralsAre IsLineFreeValue block → IsRow row → IsLineFreeRow row
         → AreLineFreeRows (foreach_rows block row) }
 {}
@@ -48,7 +55,9 @@ pub fn rows_go_one_by_one()
     ensures in_turn { (block : TypedBlock) (rows more : List (List Tree))
         → foreach_all block (rows ++ more) ≡ foreach_all block rows ++ foreach_all block more }
     ensures permuted { (block : TypedBlock) (rows others : List (List Tree))
-        → IsPermutation rows others → IsPermutation (foreach_all block rows) (foreach_all block others) }
+        → IsPermutation rows others → IsPermutation (foreach_all block rows)
+        (foreach_all block others) }
     ensures as_bags { (block : TypedBlock) (rows others : List (List Tree))
-        → bag_of rows ≡ bag_of others → bag_of (foreach_all block rows) ≡ bag_of (foreach_all block others) }
+        → bag_of rows ≡ bag_of others → bag_of (foreach_all block rows)
+        ≡ bag_of (foreach_all block others) }
 {}

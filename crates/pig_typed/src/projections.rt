@@ -13,7 +13,8 @@ pub fn projected(
     fields: &Positions,
     single: bool,
 ) -> Result<Option<Kind>, AllocError>
-    ensures { IfOk result (λ found. option_map kind_tree found ≡ project_kind fields.now single (kind_tree of.now)) }
+    ensures { IfOk result (λ found. option_map kind_tree found
+        ≡ project_kind fields.now single (kind_tree of.now)) }
 {
     if !selects(fields, single) {
         return Ok(None);
@@ -42,7 +43,8 @@ fn of_tuple(
 
 fn of_bag(alloc: Global, kinds: &Kinds, fields: &Positions) -> Result<Option<Kind>, AllocError>
     ensures { IfOk result (λ found. option_map kind_tree found
-        ≡ option_map (λ picked. k_bag (kinds_of picked)) (picked_kinds fields.now (map kind_tree kinds.now))) }
+        ≡ option_map (λ picked. k_bag (kinds_of picked))
+        (picked_kinds fields.now (map kind_tree kinds.now))) }
 {
     match picked(alloc, kinds, fields)? {
         Some(picked) => Ok(Some(Kind::Bag(picked))),
@@ -62,7 +64,8 @@ fn selects(fields: &Positions, single: bool) -> bool
 
 /// The kinds at these positions, where each is within the fields.
 fn picked(alloc: Global, kinds: &Kinds, fields: &Positions) -> Result<Option<Kinds>, AllocError>
-    ensures { IfOk result (λ found. option_map (map kind_tree) found ≡ picked_kinds fields.now (map kind_tree kinds.now)) }
+    ensures { IfOk result (λ found. option_map (map kind_tree) found
+        ≡ picked_kinds fields.now (map kind_tree kinds.now)) }
 {
     let fields = fields.as_slice();
     let mut made = Vec::with_capacity(alloc, fields.len())?;
@@ -76,7 +79,8 @@ fn picked(alloc: Global, kinds: &Kinds, fields: &Positions) -> Result<Option<Kin
 }
 
 fn copy_at(alloc: Global, kinds: &Kinds, field: u32) -> Result<Option<Kind>, AllocError>
-    ensures { IfOk result (λ found. option_map kind_tree found ≡ slice_get (map kind_tree kinds.now) field) }
+    ensures { IfOk result (λ found. option_map kind_tree found
+        ≡ slice_get (map kind_tree kinds.now) field) }
 {
     match kinds.get(field as usize) {
         Some(kind) => Ok(Some(copy_kind(alloc, kind)?)),

@@ -31,7 +31,8 @@ impl Model for Delim {
 impl Delim {
     /// The delimiter that a text names: its one character, or the tab for a backslash and `t`.
     pub fn new(text: &str) -> Result<Delim, BadDelimiter>
-        ensures { MatchResult result (λ d. delimiter_of text.now ≡ Some d) (λ _. delimiter_of text.now ≡ None) }
+        ensures { MatchResult result (λ d. delimiter_of text.now ≡ Some d)
+            (λ _. delimiter_of text.now ≡ None) }
     {
         let byte = match text.as_bytes() {
             [byte] => *byte,

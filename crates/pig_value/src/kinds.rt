@@ -36,7 +36,8 @@ fn value_is_of(value: &Value, kind: &Kind) -> bool
 
 #[cycle(is_of)]
 fn fields_are_of(fields: &[Value], kinds: &[Kind]) -> bool
-    ensures { result ≡ fields_of_kinds (fields_of (map tree fields.now)) (kinds_of (map kind_tree kinds.now)) }
+    ensures { result ≡ fields_of_kinds (fields_of (map tree fields.now))
+        (kinds_of (map kind_tree kinds.now)) }
 {
     let shorter = fields.len().min(kinds.len());
     for i in 0..shorter {
@@ -49,7 +50,8 @@ fn fields_are_of(fields: &[Value], kinds: &[Kind]) -> bool
 
 #[cycle(is_of)]
 fn rows_are_of(rows: &[Tuple], kinds: &[Kind]) -> bool
-    ensures { result ≡ tuples_of_kinds (tuples_of (map (map tree) rows.now)) (kinds_of (map kind_tree kinds.now)) }
+    ensures { result ≡ tuples_of_kinds (tuples_of (map (map tree) rows.now))
+        (kinds_of (map kind_tree kinds.now)) }
 {
     for i in 0..rows.len() {
         if !fields_are_of(rows[i].as_slice(), kinds) {
