@@ -54,7 +54,7 @@ pub enum Stmt {
         cond: Expr,
         message: Option<Text>,
     },
-    /// A statement that begins with a word of another dialect.
+    /// A statement whose first word is one that this profile leaves out.
     Unsupported,
 }
 

@@ -29,7 +29,7 @@ pub enum CheckKind {
     SelfLoad,
     /// A path with the ending of compressed files.
     Compressed,
-    /// What the language has and this dialect leaves out.
+    /// What the language has and this profile leaves out.
     Unsupported,
     /// More than 512 fields in a tuple, or more than 4096 kinds in all.
     TooWide,
