@@ -208,7 +208,7 @@ unfolding otherwise_at
 otherwise_found no_otherwise = refl
 otherwise_found otherwise = refl
 
--- a word of an operator is none of another dialect
+-- a word of an operator is none of a statement that is left out
 supported_group : (word : Keyword) → is_group_word word ≡ true → is_unsupported_word word ≡ false
 supported_group k.Group h = refl
 supported_group k.Cogroup h = refl

@@ -396,7 +396,7 @@ otherwise_upholds ts = Holds.just IsOtherwise.no_otherwise
 abbrev IsFront : Forms → Stmt → Forms → Type 0
 IsFront ts tree rest = rest ≡ [] → IsStatement ts tree
 
--- what stands where a word of another dialect does
+-- what stands where a word of a statement that is left out does
 where_unsupported : (P : Forms → Type 0) → ((word : Keyword) (ts : Forms) → is_unsupported_word word ≡ true → P (f.Keyword word ∷ ts)) → (ts : Forms) → is_unsupported ts ≡ true → P ts
 unfolding is_unsupported
 where_unsupported P each (f.Keyword word ∷ ts) e = each word ts e

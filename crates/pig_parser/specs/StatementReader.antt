@@ -372,7 +372,7 @@ unfoldable pub store_at : Forms → FoundPart Stmt
 store_at (f.Ident name ∷ f.Keyword k.Into ∷ f.Text path ∷ ts) = option_map (λ p. (stmt.Store name path p.0, p.1)) (using_func_at ts)
 store_at _ = None
 
--- a statement that begins with a word of another dialect
+-- a statement that is left out, by its first word
 unfoldable pub is_unsupported : Forms → Bool
 is_unsupported (f.Keyword word ∷ ts) = is_unsupported_word word
 is_unsupported _ = false

@@ -186,7 +186,7 @@ fn store(alloc: Global, tokens: &[Token]) -> Result<(Stmt, &[Token]), ParseFault
     }
 }
 
-// Whether a statement of another dialect begins with the word.
+// Whether a statement that is left out begins with the word.
 fn is_unsupported_word(word: Keyword) -> bool
     ensures { result ≡ is_unsupported_word word }
 {
@@ -207,7 +207,7 @@ fn is_unsupported_word(word: Keyword) -> bool
     )
 }
 
-// Whether a statement of another dialect stands there.
+// Whether a statement that is left out stands there.
 #[tactic(auto, unfolding(crate::specs::StatementReader::is_unsupported))]
 fn is_unsupported(tokens: &[Token]) -> bool
     ensures { result ≡ is_unsupported (forms tokens.now) }

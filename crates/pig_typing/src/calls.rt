@@ -35,7 +35,7 @@ pub enum Casting {
 ///
 /// # Errors
 ///
-/// FloatType for AVG, which this dialect leaves out, UnknownFunction for any other name that is no function's.
+/// FloatType for AVG, which this profile leaves out, UnknownFunction for any other name that is no function's.
 #[tactic(auto, unfolding(crate::specs::Reader::function_of))]
 pub fn function(name: &str) -> Result<Function, TypeFault>
     ensures { Tells (λ f. f) (function_of name.now) result }
