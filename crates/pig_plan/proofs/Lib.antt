@@ -8,8 +8,12 @@ pub mod Lower
 mod Grows
 pub mod Adding
 pub mod Seen
+pub mod ByPieces
+pub mod Pairs
 pub mod Listed
 pub mod LoadRows
 pub mod Carries
 pub mod Meanings
 pub mod Values
+pub mod LineFree
+pub mod OfKinds

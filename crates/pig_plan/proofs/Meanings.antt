@@ -83,14 +83,14 @@ used_behind i n (node ∷ nodes) (suc j) v at named live =
     (ap (λ m. is_store v.op || is_used m (m + 1) (drop (j + 1) nodes)) next ∙ ap (λ m. is_store v.op || is_used (n + suc j) (n + suc j + 1) (drop m (node ∷ nodes))) (sym one) ∙ live))
 
 -- what a list names
-named_each : (xs ys : List ℕ) → ((i : ℕ) → list_any (λ j. j == i) xs ≡ true → list_any (λ j. j == i) ys ≡ true) → AllByRecursion (λ i. list_any (λ j. j == i) ys ≡ true) xs
+pub named_each : (xs ys : List ℕ) → ((i : ℕ) → list_any (λ j. j == i) xs ≡ true → list_any (λ j. j == i) ys ≡ true) → AllByRecursion (λ i. list_any (λ j. j == i) ys ≡ true) xs
 named_each [] ys h = tt
 named_each (x ∷ xs) ys h =
     (h x (either_first (x == x) (list_any (λ j. j == x) xs) (eq-eqb x x refl)), named_each xs ys (λ i found. h i (either_second (x == i) (list_any (λ j. j == i) xs) found)))
 
 module _ (plan : Plan) where
   -- a live node names live nodes
-  live_input : (k : ℕ) (v : PlanNode) → slice_get plan k ≡ Some v → is_live plan k ≡ true → (i : ℕ) → i < k → (w : PlanNode) → slice_get plan i ≡ Some w → names v.op i ≡ true → is_live plan i ≡ true
+  pub live_input : (k : ℕ) (v : PlanNode) → slice_get plan k ≡ Some v → is_live plan k ≡ true → (i : ℕ) → i < k → (w : PlanNode) → slice_get plan i ≡ Some w → names v.op i ≡ true → is_live plan i ≡ true
   live_input k v at live i below w stands named =
       let j : ℕ = k - (i + 1) in
       let place : i + 1 + j ≡ k = omega (arith, below) in
@@ -102,8 +102,16 @@ module _ (plan : Plan) where
       (used_behind i (i + 1) (drop (i + 1) plan) j v found named
       ((λ m. is_store v.op || is_used (place m) (place m + 1) (behind m)) ∙ itself))
 
+  -- only a node of the plan is live
+  pub live_within : (k : ℕ) → is_live plan k ≡ true → k < length plan
+  live_within k live = by_found (slice_get plan k) refl
+    where
+      by_found : (o : Option PlanNode) → slice_get plan k ≡ o → k < length plan
+      by_found None e = absurd (true≢false (sym live ∙ ap (λ o. option_map_or (λ node. is_store node.op || is_used k (k + 1) (drop (k + 1) plan)) o false) e))
+      by_found (Some v) e = slice_get_within plan k v e
+
 -- two facts of each element give a third
-each_both : {X : Type 0} (P Q R : X → Type 0) → ((x : X) → P x → Q x → R x) → (xs : List X) → AllByRecursion P xs → AllByRecursion Q xs → AllByRecursion R xs
+pub each_both : {X : Type 0} (P Q R : X → Type 0) → ((x : X) → P x → Q x → R x) → (xs : List X) → AllByRecursion P xs → AllByRecursion Q xs → AllByRecursion R xs
 each_both P Q R f [] h g = tt
 each_both P Q R f (x ∷ xs) h g = (f x h.0 g.0, each_both P Q R f xs h.1 g.1)
 
@@ -144,18 +152,10 @@ module _ (P : Tree → Type 0) (c : IsCarried P) (long : (z : ℤ) → P (long_o
       (operator_held P c long word (meaning plan inputs kept) (setting plan inputs kept) v.statement v.op (each_at (λ node. OpLiteralsAre P node.op) plan k v at ok)
       (own_held k v.statement v.op at live held) held)
 
-  -- only a node of the plan is live
-  live_within : (k : ℕ) → is_live plan k ≡ true → k < length plan
-  live_within k live = by_found (slice_get plan k) refl
-    where
-      by_found : (o : Option PlanNode) → slice_get plan k ≡ o → k < length plan
-      by_found None e = absurd (true≢false (sym live ∙ ap (λ o. option_map_or (λ node. is_store node.op || is_used k (k + 1) (drop (k + 1) plan)) o false) e))
-      by_found (Some v) e = slice_get_within plan k v e
-
   all_held : (n k : ℕ) → k < n → is_live plan k ≡ true → IsHeld k
   all_held zero k h live = absurd (omega (arith, h))
   all_held (suc n) k h live =
-      let found = some_at plan k (live_within k live) in
+      let found = some_at plan k (live_within plan k live) in
       node_held k found.0 found.1 live (λ i below alive. all_held n i (omega (arith, below, h)) alive)
 
   pub rows_held : (k : ℕ) → is_live plan k ≡ true → AllByRecursion (AllByRecursion P) (meaning plan inputs kept k)

@@ -89,6 +89,15 @@ module _ {N R : Type 0} (step : ℕ → N → (ℕ → R) → R) (nothing : R) w
       ∙ looks (at_place nothing (take k (results step nothing nodes))) (result_at step nothing nodes)
       (λ j below. ap (λ r. unwrap_or r nothing) (get-take (results step nothing nodes) k j below))
 
+  -- a node's result is its step on the results of the nodes before it alone
+  pub result_before : (nodes : List N) (k : ℕ) (node : N) → slice_get nodes k ≡ Some node
+      → result_at step nothing nodes k ≡ step k node (at_place nothing (take k (results step nothing nodes)))
+  result_before nodes k node h = ap (λ r. unwrap_or r nothing) (result_behind [] nodes k k node h (omega (arith)))
+
+  -- which stand there as among all
+  pub before_is : (nodes : List N) (k j : ℕ) → j < k → at_place nothing (take k (results step nothing nodes)) j ≡ result_at step nothing nodes j
+  before_is nodes k j below = ap (λ r. unwrap_or r nothing) (get-take (results step nothing nodes) k j below)
+
   -- further nodes change no result
   pub result-append : (nodes : List N) (node : N) (k : ℕ) → k < length nodes → result_at step nothing (nodes ++ node ∷ []) k ≡ result_at step nothing nodes k
   result-append nodes node k h =

@@ -27,7 +27,7 @@ use Rattle.pig_plan.specs.Operators.{load_rows, pieces_of}
 use Rattle.pig_plan.specs.Plans.{Plan}
 use Rattle.pig_plan.specs.Valid.{IsPlan}
 
-pieces_are : (inputs : List Input) (path : List ℕ) → AreOfBytes inputs → AllByRecursion AreBytes (pieces_of inputs path)
+pub pieces_are : (inputs : List Input) (path : List ℕ) → AreOfBytes inputs → AllByRecursion AreBytes (pieces_of inputs path)
 pieces_are [] path h = tt
 pieces_are (input ∷ inputs) path h = by_test (bytes_eq input.path path) (pieces_are inputs path h.1)
   where
@@ -41,7 +41,7 @@ loads_values inputs h path delim columns =
     each-flat_map (AllByRecursion IsValue) (λ piece. map (row_of columns delim) (lines piece)) (pieces_of inputs path)
     (each_weaker AreBytes (λ piece. AllByRecursion (AllByRecursion IsValue) (map (row_of columns delim) (lines piece))) (λ piece are. rows_of_values columns delim piece are) (pieces_of inputs path) (pieces_are inputs path h))
 
-word_is_text : IsUtf8 (codes "all")
+pub word_is_text : IsUtf8 (codes "all")
 word_is_text = IsUtf8-from_ascii (codes "all") (search rules)
 
 pub meanings_are_values : FunctionsKeepValues → (plan : Plan) (inputs : List Input) (kept : List Kept) → IsPlan plan → PlanLiteralsAre IsValue plan → AreOfBytes inputs → EachIsKept plan inputs kept

@@ -1,26 +1,31 @@
 -- The laws of plans and of their operators.
-use Rattle.std.specs.Prelude.{◌≡◌, ◌<◌, ◌≤◌, ℕ, Bool, true, false, List, [], ◌∷◌, ◌++◌, length, Some, slice_get, ⊤}
-use Rattle.std.specs.List.{AllByRecursion, flat_map, range_with_len}
+use Rattle.std.specs.Prelude.{◌≡◌, ◌<◌, ◌≤◌, ◌+◌, ℕ, Bool, true, false, not, ◌&&◌, if◌then◌else◌, List, [], ◌∷◌, ◌++◌, length, Some, slice_get, ⊤}
+use Rattle.std.specs.List.{AllByRecursion, filter, flat_map, range_with_len}
 use Rattle.std.specs.List.Sorted.{IsPermutation}
-use Rattle.std.specs.Ordering.{is_gt}
+use Rattle.std.specs.Ordering.{is_eq, is_gt}
 use Rattle.pig_value.specs.declared.inputs.Input.{Input}
 use Rattle.pig_value.specs.declared.outcomes.Kept.{Kept}
 use Rattle.pig_value.specs.Gathering.{in_part}
-use Rattle.pig_value.specs.Orders.{bag_of}
+use Rattle.pig_value.specs.Orders.{bag_of, tree_cmp}
+use Rattle.pig_value.specs.declared.operators.Side.TheVariants as side
 use Rattle.pig_value.specs.Sorts.{sort}
-use Rattle.pig_value.specs.Trees.{Tree}
+use Rattle.pig_value.specs.Texts.{AreLineFreeRows}
+use Rattle.pig_value.specs.Trees.{KindTree, Tree}
+use Rattle.pig_value.specs.Kinds.{AreRowsOf}
+use Rattle.pig_plan.specs.NodeKinds.{kinds_at}
 use Rattle.pig_typed.specs.declared.blocks.SortKey.{SortKey}
-use Rattle.pig_typed.specs.Blocks.{keys_cmp}
-use Rattle.pig_plan.specs.ByKey.{Entry, gathered}
+use Rattle.pig_typed.specs.Blocks.{foreach_all, keys_cmp}
+use Rattle.pig_typed.specs.Typed.{Typed, TypedBlock}
+use Rattle.pig_plan.specs.ByKey.{Entry, gathered, holds_null, key_of}
 use Rattle.pig_plan.specs.Meaning.{meaning, setting, EachIsKept}
 use Rattle.pig_plan.specs.Nodes.{inputs_of, is_list, is_sorted, lists, is_live}
-use Rattle.pig_plan.specs.Operators.{Setting, operator_rows}
+use Rattle.pig_plan.specs.Operators.{Setting, filter_rows, join_rows, keys_of, operator_rows}
 use Rattle.pig_plan.specs.Plans.{Plan, PlanNode, PlanOp, p_limit, p_store, p_assert, Keyed, p_filter, p_foreach, p_group, p_join}
 use Rattle.pig_plan.specs.Valid.{IsPlan, fits}
 use Rattle.pig_value.specs.Leaves.{AreBytes}
 use Rattle.pig_value.specs.Valid.{AreRows, IsValue}
 use Rattle.pig_typed.specs.Literals.{BlockLiteralsAre, LiteralsAre}
-use Rattle.pig_typed.specs.Premises.{FunctionsKeepValues}
+use Rattle.pig_typed.specs.Premises.{FunctionsKeepKinds, FunctionsKeepLines, FunctionsKeepValues}
 
 abbrev pub MeaningGoesByNodes : Type 0
 MeaningGoesByNodes = (plan : Plan) (inputs : List Input) (kept : List Kept) → IsPlan plan → (k : ℕ) (node : PlanNode) → slice_get plan k ≡ Some node
@@ -63,6 +68,39 @@ abbrev pub OrderGoesBySlices : Type 0
 OrderGoesBySlices = (keys : List SortKey) (part : List Tree → ℕ) (n : ℕ) → ((x y : List Tree) → is_gt (keys_cmp keys x y) ≡ false → part x ≤ part y)
     → ((x : List Tree) → part x < n) → (rows : List (List Tree)) → flat_map (λ p. sort (keys_cmp keys) (in_part part p rows)) (range_with_len 0 n) ≡ sort (keys_cmp keys) rows
 
+-- the number of a row's slice between cut points: how many of these do not stand behind it
+abbrev pub slice_of : List SortKey → List (List Tree) → List Tree → ℕ
+slice_of keys points row = length (filter (λ point. not (is_gt (keys_cmp keys point row))) points)
+
+abbrev pub OrderGoesByCutPoints : Type 0
+OrderGoesByCutPoints = (keys : List SortKey) (points rows : List (List Tree))
+    → flat_map (λ p. sort (keys_cmp keys) (in_part (slice_of keys points) p rows)) (range_with_len 0 (length points + 1)) ≡ sort (keys_cmp keys) rows
+
+-- An inner JOIN of two inputs by pairs, which is what a reader expects: each row of the first with each row of the second that has the
+-- same key, where no part of it is null.
+abbrev pub key_in : Keyed → List Tree → Tree
+key_in input row = key_of (keys_of input.keys row)
+
+abbrev pub joined_pair : Keyed → Keyed → List Tree → List Tree → List (List Tree)
+joined_pair a b x y = if is_eq (tree_cmp (key_in b y) (key_in a x)) && not (holds_null (key_in a x)) then (x ++ y) ∷ [] else []
+
+abbrev pub pairs : Keyed → Keyed → (ℕ → List (List Tree)) → List (List Tree)
+pairs a b rows = flat_map (λ x. flat_map (joined_pair a b x) (rows b.input)) (rows a.input)
+
+abbrev pub JoinGivesPairs : Type 0
+JoinGivesPairs = (a b : Keyed) (width : ℕ → ℕ) (rows : ℕ → List (List Tree)) → IsPermutation (join_rows side.Inner width (a ∷ b ∷ []) rows) (pairs a b rows)
+
+-- FILTER, FOREACH and UNION of rows that come in pieces, piece by piece
+abbrev pub FilterGoesByPieces : Type 0
+FilterGoesByPieces = (cond : Typed) (pieces : List (List (List Tree))) → filter_rows cond (flat_map (λ piece. piece) pieces) ≡ flat_map (filter_rows cond) pieces
+
+abbrev pub ForeachGoesByPieces : Type 0
+ForeachGoesByPieces = (block : TypedBlock) (pieces : List (List (List Tree))) → foreach_all block (flat_map (λ piece. piece) pieces) ≡ flat_map (foreach_all block) pieces
+
+abbrev pub UnionGoesByPieces : Type 0
+UnionGoesByPieces = (pieces : ℕ → List (List (List Tree))) (inputs : List ℕ)
+    → flat_map (λ i. flat_map (λ piece. piece) (pieces i)) inputs ≡ flat_map (λ piece. piece) (flat_map pieces inputs)
+
 -- what is asked of the literals of a plan, each taken as the value that it stands for
 abbrev pub KeyLiteralsAre : (Tree → Type 0) → List Keyed → Type 0
 KeyLiteralsAre P inputs = AllByRecursion (λ input. AllByRecursion (LiteralsAre P) input.keys) inputs
@@ -86,3 +124,13 @@ AreOfBytes inputs = AllByRecursion (λ input. AllByRecursion AreBytes input.piec
 abbrev pub MeaningsAreValues : Type 0
 MeaningsAreValues = FunctionsKeepValues → (plan : Plan) (inputs : List Input) (kept : List Kept) → IsPlan plan → PlanLiteralsAre IsValue plan → AreOfBytes inputs
     → EachIsKept plan inputs kept → (k : ℕ) → is_live plan k ≡ true → AreRows (meaning plan inputs kept k)
+
+-- and hold no LF
+abbrev pub MeaningsAreLineFree : Type 0
+MeaningsAreLineFree = FunctionsKeepValues → FunctionsKeepLines → (plan : Plan) (inputs : List Input) (kept : List Kept) → IsPlan plan → PlanLiteralsAre IsValue plan → AreOfBytes inputs
+    → EachIsKept plan inputs kept → (k : ℕ) → is_live plan k ≡ true → AreLineFreeRows (meaning plan inputs kept k)
+
+-- and are of the kinds that the plan gives the node
+abbrev pub MeaningsAreOfKinds : Type 0
+MeaningsAreOfKinds = FunctionsKeepKinds → (plan : Plan) (inputs : List Input) (kept : List Kept) → IsPlan plan → EachIsKept plan inputs kept
+    → (k : ℕ) (kinds : List KindTree) → is_live plan k ≡ true → kinds_at plan k ≡ Some kinds → AreRowsOf (meaning plan inputs kept k) kinds

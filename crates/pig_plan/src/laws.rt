@@ -1,4 +1,5 @@
-ghost use Rattle.pig_plan.specs.Laws.{FurtherNodesChangeNone, MeaningGoesByNodes, MeaningsAreValues, OperatorsKeepAlike, OrderGoesBySlices};
+ghost use Rattle.pig_plan.specs.Laws.{FurtherNodesChangeNone, MeaningGoesByNodes, MeaningsAreLineFree, MeaningsAreOfKinds, MeaningsAreValues, OperatorsKeepAlike, OrderGoesBySlices};
+ghost use Rattle.pig_plan.specs.Laws.{FilterGoesByPieces, ForeachGoesByPieces, JoinGivesPairs, OrderGoesByCutPoints, UnionGoesByPieces};
 ghost use Rattle.pig_plan.specs.Laws.{OthersSeeBags, PartsGiveTheWhole, SortedNodesAreLists};
 
 /// The meaning of each node of a plan is its operator on the meanings of its inputs.
@@ -25,9 +26,23 @@ pub fn parts_give_the_whole()
     ensures { PartsGiveTheWhole }
 {}
 
-/// Slices between places in the order of an ORDER, each sorted, are in turn the whole sorted.
+/// Slices between places in the order of an ORDER, each sorted, are in turn the whole sorted; so are those between cut
+/// points.
 pub fn order_goes_by_slices()
-    ensures { OrderGoesBySlices }
+    ensures parts { OrderGoesBySlices }
+    ensures points { OrderGoesByCutPoints }
+{}
+
+/// An inner JOIN of two inputs gives the joined rows of each pair of equal keys that hold no null, and no others.
+pub fn a_join_gives_pairs()
+    ensures { JoinGivesPairs }
+{}
+
+/// FILTER, FOREACH and UNION of rows that come in pieces give what they give of the pieces, one after the other.
+pub fn rows_go_by_pieces()
+    ensures filter { FilterGoesByPieces }
+    ensures foreach { ForeachGoesByPieces }
+    ensures union { UnionGoesByPieces }
 {}
 
 /// The rows of the live nodes of a plan are rows of values: bags are sorted, keys of maps ascend and differ, numbers are in
@@ -35,4 +50,16 @@ pub fn order_goes_by_slices()
 /// source, and functions give values of values.
 pub fn meanings_are_values()
     ensures { MeaningsAreValues }
+{}
+
+/// The rows of the live nodes of a plan hold no line end, where the premises of [`meanings_are_values`] hold and functions
+/// give values without a line end of such values. So each stored row is one line.
+pub fn meanings_are_line_free()
+    ensures { MeaningsAreLineFree }
+{}
+
+/// The rows of each live node are of the kinds that [`Plan::kinds`](crate::Plan::kinds) tells, where functions give values
+/// of their kind: what is typed stays so, whatever the inputs hold.
+pub fn meanings_are_of_kinds()
+    ensures { MeaningsAreOfKinds }
 {}

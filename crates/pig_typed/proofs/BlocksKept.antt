@@ -152,7 +152,7 @@ before_kept : (ks ls : List KindTree) (x : List Tree) (ys : List (List Tree)) �
 before_kept ks ls x [] h g = tt
 before_kept ks ls x (y ∷ ys) h g = (row_of-append x y ks ls h g.0, before_kept ks ls x ys h g.1)
 
-joined_kept : (ks ls : List KindTree) (xs ys : List (List Tree)) → AreRowsOf xs ks → AreRowsOf ys ls → AreRowsOf (joined xs ys) (ks ++ ls)
+pub joined_kept : (ks ls : List KindTree) (xs ys : List (List Tree)) → AreRowsOf xs ks → AreRowsOf ys ls → AreRowsOf (joined xs ys) (ks ++ ls)
 joined_kept ks ls [] ys h g = tt
 joined_kept ks ls (x ∷ xs) ys h g = rows_of-append (ks ++ ls) (map (λ y. x ++ y) ys) (joined xs ys) (before_kept ks ls x ys h.0 g) (joined_kept ks ls xs ys h.1 g)
 
