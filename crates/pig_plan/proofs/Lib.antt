@@ -1,4 +1,5 @@
 mod Samples
+mod PlanSamples
 mod WrongBodies
 pub mod Unfolds
 pub mod Gathered
@@ -7,6 +8,7 @@ pub mod Looking
 pub mod Lower
 mod Grows
 pub mod Adding
+mod Twins
 pub mod Seen
 pub mod ByPieces
 pub mod Pairs

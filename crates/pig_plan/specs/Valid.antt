@@ -1,6 +1,6 @@
 -- Which lists of nodes are plans: each node is valid behind those before it.
-use Rattle.std.specs.Prelude.{◌≡◌, ℕ, ◌==◌, Bool, true, false, not, ◌&&◌, List, take, Some, slice_get}
-use Rattle.std.specs.List.{list_any}
+use Rattle.std.specs.Prelude.{◌≡◌, ◌≤◌, ℕ, ◌==◌, Bool, true, false, not, ◌&&◌, List, take, Some, slice_get}
+use Rattle.std.specs.List.{AllByRecursion, list_any}
 use Rattle.std.specs.Option.{is_some}
 use Rattle.pig_plan.specs.Written.{block_writes_lf, writes_lf}
 use Rattle.pig_plan.specs.NodeKinds.{kinds_at, node_gives}
@@ -26,6 +26,10 @@ are_twins o p = false
 
 abbrev pub is_twin : PlanNode → PlanNode → Bool
 is_twin node other = are_twins node.op other.op && other.statement == node.statement
+
+-- no node has a later statement
+abbrev pub AreUpTo : ℕ → Plan → Type 0
+AreUpTo latest plan = AllByRecursion (λ node. node.statement ≤ latest) plan
 
 -- the node is valid behind the plan: as to its inputs and kinds, without a line end in a text, with a statement of its own
 abbrev pub fits : Plan → PlanNode → Bool

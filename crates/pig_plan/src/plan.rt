@@ -7,7 +7,7 @@ ghost use Rattle.pig_plan.specs.NodeKinds.{kinds_at, node_gives};
 ghost use Rattle.pig_plan.specs.declared.given.Given.{Given};
 ghost use Rattle.pig_plan.specs.Plans.{node_of, op_of, plan_of};
 ghost use Rattle.pig_plan.specs.Laws.{PlanLiteralsAre};
-ghost use Rattle.pig_plan.specs.Valid.{IsPlan, are_twins, fits, is_twin};
+ghost use Rattle.pig_plan.specs.Valid.{AreUpTo, IsPlan, are_twins, fits, is_twin};
 ghost use Rattle.pig_value.specs.Valid.{IsValue};
 
 use crate::checking::given;
@@ -28,6 +28,8 @@ pub struct Plan {
     nodes: Nodes,
     /// What each node gives.
     given: Vec<Given>,
+    /// No node has a later statement.
+    latest: u32,
 }
 
 impl Model for Plan {
@@ -40,7 +42,7 @@ impl Model for Plan {
     ghost use Rattle.pig_plan.specs.NodeKinds.{kinds_table};
     ghost use Rattle.pig_value.specs.Valid.{IsValue};
     ghost use Rattle.pig_plan.specs.Plans.{plan_of};
-    ghost use Rattle.pig_plan.specs.Valid.{IsPlan};
+    ghost use Rattle.pig_plan.specs.Valid.{AreUpTo, IsPlan};
     ghost use Rattle.pig_plan.specs.declared.nodes.Node.{Node};
 
     ghost Value = { List Node };
@@ -50,7 +52,7 @@ impl Model for Plan {
     ghost view = { λ p. p.nodes };
 
     ghost invariant = { λ p. IsPlan (plan_of p.nodes) × (map given_kinds p.given.items ≡ kinds_table (plan_of p.nodes))
-        × PlanLiteralsAre IsValue (plan_of p.nodes) };
+        × PlanLiteralsAre IsValue (plan_of p.nodes) × AreUpTo p.latest (plan_of p.nodes) };
 }
 
 impl Plan {
@@ -62,6 +64,7 @@ impl Plan {
             alloc,
             nodes: Nodes::new(alloc),
             given: Vec::new(alloc),
+            latest: 0,
         }
     }
 
@@ -90,7 +93,7 @@ impl Plan {
         rows_before(self.given.as_slice(), node)
     }
 
-    /// Whether the node is valid behind the plan's nodes: it names relations of theirs, its expressions and keys are
+    /// Whether the node is valid behind the plan's nodes, in time linear in the node where statements ascend: it names relations of theirs, its expressions and keys are
     /// typed on the kinds of these, no text in them holds a line end, and no other LIMIT, and no other ASSERT, has
     /// its statement.
     pub fn fits(&self, node: &Node) -> Result<bool, AllocError>
@@ -98,7 +101,11 @@ impl Plan {
     {
         let given = given(self.alloc, self.given.as_slice(), &node.op)?;
         let typed = given.is_some();
-        Ok(typed && !op_writes_line_end(&node.op) && !has_twin(self.nodes.as_slice(), node))
+        Ok(
+            typed
+                && !op_writes_line_end(&node.op)
+                && !has_twin(self.nodes.as_slice(), self.latest, node),
+        )
     }
 
     /// Adds a node behind the others, and gives its number. Where memory is wanting the plan stays as it was.
@@ -110,7 +117,9 @@ impl Plan {
     {
         know_literals(&node.op);
         let number = give(self.alloc, self.nodes.len(), &mut self.given, &node.op)?;
+        let latest = self.latest.max(node.statement);
         push_or_take_back(&mut self.nodes, &mut self.given, node)?;
+        self.latest = latest;
         Ok(number)
     }
 }
@@ -154,8 +163,19 @@ fn push_or_take_back(
     }
 }
 
-/// Whether another LIMIT, for a LIMIT, or another ASSERT, for an ASSERT, has the node's statement.
-fn has_twin(nodes: &[Node], node: &Node) -> bool
+/// Whether another LIMIT, for a LIMIT, or another ASSERT, for an ASSERT, has the node's statement, where no node has a
+/// later one than `latest`: so nodes that come in the order of their statements need no look at the others.
+fn has_twin(nodes: &[Node], latest: u32, node: &Node) -> bool
+    requires { AreUpTo latest (plan_of nodes.now) }
+    ensures { result ≡ list_any (is_twin (node_of node.now)) (plan_of nodes.now) }
+{
+    if node.statement > latest {
+        return false;
+    }
+    finds_twin(nodes, node)
+}
+
+fn finds_twin(nodes: &[Node], node: &Node) -> bool
     ensures { result ≡ list_any (is_twin (node_of node.now)) (plan_of nodes.now) }
 {
     for other in nodes {

@@ -1,13 +1,14 @@
-use Rattle.std.proofs.Common.{◌≡◌, ◌∙◌, [], ◌∷◌, ap, map, subst, sym, true}
+use Rattle.std.proofs.Common.{◌≡◌, ◌∙◌, [], ◌∷◌, ◌++◌, ap, map, subst, sym, true}
 use Rattle.std.proofs.lemmas.List.{map-append}
 use Rattle.pig_plan.proofs.Grows.{grown_plan, grown_table}
+use Rattle.pig_plan.proofs.Twins.{up_to_more}
 use Rattle.pig_value.proofs.list_laws.Listing.{each-append}
 use Rattle.pig_value.specs.Valid.{IsValue}
 use Rattle.pig_plan.specs.Given.{given_kinds}
 use Rattle.pig_plan.specs.Laws.{OpLiteralsAre, PlanLiteralsAre}
 use Rattle.pig_plan.specs.NodeKinds.{kinds_table}
 use Rattle.pig_plan.specs.Plans.{node_of, plan_of}
-use Rattle.pig_plan.specs.Valid.{IsPlan, fits}
+use Rattle.pig_plan.specs.Valid.{AreUpTo, IsPlan, fits}
 use Rattle.pig_plan.proofs.plan.Plan.add.Goals as goal
 
 pub invariant_of-self-2 : goal.invariant_of-self-2
@@ -21,4 +22,7 @@ invariant_of-self-2 c =
     let literals = subst (λ ns. PlanLiteralsAre IsValue (plan_of ns)) (sym pushed.0)
     (rw (map-append node_of c.self.inside.nodes (c.args.node ∷ []))
     (each-append (λ node. OpLiteralsAre IsValue node.op) (plan_of c.self.inside.nodes) (node_of c.args.node ∷ []) c.self.invariant.2 (c.know_literals.ensures, tt))) in
-    (whole, table, literals)
+    let up_to = subst (λ ns. AreUpTo c.max-latest.result (plan_of ns)) (sym pushed.0)
+    (subst (λ n. AreUpTo n (plan_of (c.self.inside.nodes ++ c.args.node ∷ []))) (sym c.max-latest.ensures)
+    (rw (map-append node_of c.self.inside.nodes (c.args.node ∷ [])) (up_to_more c.self.inside.latest (node_of c.args.node) (plan_of c.self.inside.nodes) c.self.invariant.3))) in
+    (whole, table, literals, up_to)
