@@ -93,9 +93,9 @@ impl Plan {
         rows_before(self.given.as_slice(), node)
     }
 
-    /// Whether the node is valid behind the plan's nodes, in time linear in the node where statements ascend: it names relations of theirs, its expressions and keys are
+    /// Whether the node is valid behind the plan's nodes: it names relations of theirs, its expressions and keys are
     /// typed on the kinds of these, no text in them holds a line end, and no other LIMIT, and no other ASSERT, has
-    /// its statement.
+    /// its statement. Of a node whose statement is later than the others' this takes no look at them.
     pub fn fits(&self, node: &Node) -> Result<bool, AllocError>
         ensures { IfOk result (λ b. b ≡ fits (plan_of self.now) (node_of node.now)) }
     {
