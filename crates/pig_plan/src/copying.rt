@@ -1,9 +1,8 @@
 ghost use Rattle.std.specs.Prelude.{◌≡◌, IfOk};
 
-use crate::nodes::Numbers;
 use crate::{KeyedInput, KeyedInputs, Node, NodeOp};
 use pig_typed::{copy_block, copy_expr, copy_exprs, copy_keys};
-use pig_value::{Column, Columns, Seq, Text, copy_kind};
+use pig_value::{Column, Columns, Numbers, Seq, Text, copy_kind};
 use std::alloc::{AllocError, Global};
 
 /// A copy of a node, which holds memory of its own.

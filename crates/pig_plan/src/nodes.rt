@@ -1,8 +1,5 @@
 use pig_typed::{Block, SortKeys, TExpr, TExprs};
-use pig_value::{Columns, Delim, Seq, Side, Text};
-
-/// Numbers of nodes.
-pub type Numbers = Seq<u32>;
+use pig_value::{Columns, Delim, Numbers, Seq, Side, Text};
 
 /// The nodes of a plan, each numbered by its place from 0.
 pub type Nodes = Seq<Node>;

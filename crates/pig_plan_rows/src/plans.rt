@@ -1,5 +1,5 @@
 //! Nodes that fit a plan, and that don't.
-use pig_plan::{KeyedInput, KeyedInputs, Node, NodeOp, Plan};
+use pig_plan::{KeyedInput, KeyedInputs, Node, NodeOp, Plan, copy_node};
 use pig_typed::{Block, BlockItem, BlockItems, BlockSteps, SortKey, SortKeys, TExpr, TExprs};
 use pig_value::{Boxed, Column, Columns, Delim, Dir, Kind, Kinds, Numbers, Rel, Side, Text};
 use std::alloc::{AllocError, Global};
@@ -291,7 +291,7 @@ fn node_op(alloc: Global, line: &[u8]) -> Result<NodeOp, AllocError> {
     }
 }
 
-/// Whether the line's node fits; it is added where it does.
+/// Whether the line's node fits; a copy of it is added where it does.
 fn tried(alloc: Global, plan: &mut Plan, line: &[u8]) -> Result<bool, AllocError> {
     let node = Node {
         op: node_op(alloc, line)?,
@@ -300,7 +300,7 @@ fn tried(alloc: Global, plan: &mut Plan, line: &[u8]) -> Result<bool, AllocError
     if !plan.fits(&node)? {
         return Ok(false);
     }
-    plan.add(node)?;
+    plan.add(copy_node(alloc, &node)?)?;
     Ok(true)
 }
 
