@@ -1,16 +1,17 @@
-ghost use Rattle.std.specs.Prelude.{◌≡◌, map, IfOk};
-ghost use Rattle.std.specs.Option.{option_map};
-ghost use Rattle.pig_value.specs.Trees.{kind_tree};
-ghost use Rattle.pig_typed.specs.ExprKinds.{args_kinds, cast_kind, choose_kind, expr_kind, links_kind, look_kind};
+ghost use Rattle.std.specs.Prelude.{◌≡◌, Some, map, IfOk};
+ghost use Rattle.std.specs.Option.{option_and_then, option_map};
+ghost use Rattle.pig_value.specs.FunctionKinds.{function_kind};
+ghost use Rattle.pig_value.specs.Trees.{k_boolean, kind_tree};
+ghost use Rattle.pig_typed.specs.ExprKinds.{args_kinds, cast_kind, choose_kind, expr_kind, links_kind, look_kind, minus_kind, not_kind, project_kind};
 ghost use Rattle.pig_typed.specs.Seen.{seen_kind};
-ghost use Rattle.pig_typed.specs.Typed.{args_of, link_of, links_of, typed};
+ghost use Rattle.pig_typed.specs.Typed.{args_of, link_of, links_of, typed, x_chain, x_choose, x_compare};
 
 use crate::calls::called;
 use crate::operators::{chained, compared, minus, negated};
 use crate::projections::projected;
 use crate::seen::{Scope, SeenKind, kind, kind_at, owned};
 use crate::{TExpr, TExprs, TLinks};
-use pig_value::{Boxed, Kind, Kinds, Seq, casts_to, same_kind};
+use pig_value::{Boxed, Function, Kind, Kinds, Positions, Rel, Seq, casts_to, same_kind};
 use std::alloc::{AllocError, Global};
 
 /// The kind of an expression on rows and locals of these kinds: none exactly where the expression has no kind
@@ -49,66 +50,201 @@ fn look<'a>(
         TExpr::Chars(_) => Ok(Some(SeenKind::Made(Kind::Chararray))),
         TExpr::Field(n) => Ok(kind_at(scope.row, *n)),
         TExpr::Local(n) => Ok(kind_at(scope.locals, *n)),
-        TExpr::Chain { first, rest } => {
-            let Some(first) = look(alloc, first.get(), scope)? else {
-                return Ok(None);
-            };
-            chain(alloc, first, rest, scope)
+        TExpr::Chain { first, rest } => chain(alloc, rest, first.get(), scope),
+        TExpr::Compare { op, a, b } => comparison(alloc, *op, a.get(), b.get(), scope),
+        TExpr::IsNull { a, .. } => null_test(alloc, a.get(), scope),
+        TExpr::Not(a) => negation(alloc, a.get(), scope),
+        TExpr::Minus(a) => negative(alloc, a.get(), scope),
+        TExpr::Choose { cond, yes, no } => choice(alloc, cond.get(), yes.get(), no.get(), scope),
+        TExpr::Cast { to, a } => cast_to(alloc, to, a.get(), scope),
+        TExpr::Project { a, fields, single } => {
+            projection(alloc, a.get(), fields, *single, scope)
         }
-        TExpr::Compare { op, a, b } => {
-            let Some(a) = look(alloc, a.get(), scope)? else {
-                return Ok(None);
-            };
-            let Some(b) = look(alloc, b.get(), scope)? else {
-                return Ok(None);
-            };
-            Ok(made(compared(*op, kind(&a), kind(&b))))
-        }
-        TExpr::IsNull { a, .. } => match look(alloc, a.get(), scope)? {
-            Some(_) => Ok(Some(SeenKind::Made(Kind::Boolean))),
-            None => Ok(None),
-        },
-        TExpr::Not(a) => match look(alloc, a.get(), scope)? {
-            Some(a) => Ok(made(negated(kind(&a)))),
-            None => Ok(None),
-        },
-        TExpr::Minus(a) => match look(alloc, a.get(), scope)? {
-            Some(a) => Ok(made(minus(kind(&a)))),
-            None => Ok(None),
-        },
-        TExpr::Choose { cond, yes, no } => {
-            let Some(cond) = look(alloc, cond.get(), scope)? else {
-                return Ok(None);
-            };
-            let Some(yes) = look(alloc, yes.get(), scope)? else {
-                return Ok(None);
-            };
-            let Some(no) = look(alloc, no.get(), scope)? else {
-                return Ok(None);
-            };
-            Ok(chosen(kind(&cond), yes, kind(&no)))
-        }
-        TExpr::Cast { to, a } => match look(alloc, a.get(), scope)? {
-            Some(a) => Ok(cast(to, kind(&a))),
-            None => Ok(None),
-        },
-        TExpr::Project { a, fields, single } => match look(alloc, a.get(), scope)? {
-            Some(a) => Ok(made(projected(alloc, kind(&a), fields, *single)?)),
-            None => Ok(None),
-        },
-        TExpr::Look { a, .. } => match look(alloc, a.get(), scope)? {
-            Some(a) => Ok(looked_up(a)),
-            None => Ok(None),
-        },
-        TExpr::Call { function, args } => match all_kinds(alloc, args, scope)? {
-            Some(kinds) => Ok(made(called(alloc, *function, kinds)?)),
-            None => Ok(None),
-        },
+        TExpr::Look { a, .. } => look_up(alloc, a.get(), scope),
+        TExpr::Call { function, args } => call(alloc, *function, args, scope),
     }
 }
 
 #[cycle(kinds)]
 fn chain<'a>(
+    alloc: Global,
+    rest: &'a TLinks,
+    first: &'a TExpr,
+    scope: &'a Scope<'a>,
+) -> Result<Option<SeenKind<'a>>, AllocError>
+    ensures { IfOk result (λ found. option_map seen_kind found
+        ≡ expr_kind (x_chain (typed first.now) (links_of (map link_of rest.now)))
+        (map kind_tree scope.now.row.now) (map kind_tree scope.now.locals.now)) }
+{
+    match look(alloc, first, scope)? {
+        Some(first) => links(alloc, first, rest, scope),
+        None => Ok(None),
+    }
+}
+
+#[cycle(kinds)]
+fn comparison<'a>(
+    alloc: Global,
+    op: Rel,
+    a: &'a TExpr,
+    b: &'a TExpr,
+    scope: &'a Scope<'a>,
+) -> Result<Option<SeenKind<'a>>, AllocError>
+    ensures { IfOk result (λ found. option_map seen_kind found
+        ≡ expr_kind (x_compare op (typed a.now) (typed b.now))
+        (map kind_tree scope.now.row.now) (map kind_tree scope.now.locals.now)) }
+{
+    let Some(a) = look(alloc, a, scope)? else {
+        return Ok(None);
+    };
+    let Some(b) = look(alloc, b, scope)? else {
+        return Ok(None);
+    };
+    Ok(made(compared(op, kind(&a), kind(&b))))
+}
+
+#[cycle(kinds)]
+fn null_test<'a>(
+    alloc: Global,
+    a: &'a TExpr,
+    scope: &'a Scope<'a>,
+) -> Result<Option<SeenKind<'a>>, AllocError>
+    ensures { IfOk result (λ found. option_map seen_kind found
+        ≡ option_and_then (λ k. Some k_boolean) (expr_kind (typed a.now)
+        (map kind_tree scope.now.row.now) (map kind_tree scope.now.locals.now))) }
+{
+    match look(alloc, a, scope)? {
+        Some(_) => Ok(Some(SeenKind::Made(Kind::Boolean))),
+        None => Ok(None),
+    }
+}
+
+#[cycle(kinds)]
+fn negation<'a>(
+    alloc: Global,
+    a: &'a TExpr,
+    scope: &'a Scope<'a>,
+) -> Result<Option<SeenKind<'a>>, AllocError>
+    ensures { IfOk result (λ found. option_map seen_kind found
+        ≡ option_and_then not_kind (expr_kind (typed a.now)
+        (map kind_tree scope.now.row.now) (map kind_tree scope.now.locals.now))) }
+{
+    match look(alloc, a, scope)? {
+        Some(a) => Ok(made(negated(kind(&a)))),
+        None => Ok(None),
+    }
+}
+
+#[cycle(kinds)]
+fn negative<'a>(
+    alloc: Global,
+    a: &'a TExpr,
+    scope: &'a Scope<'a>,
+) -> Result<Option<SeenKind<'a>>, AllocError>
+    ensures { IfOk result (λ found. option_map seen_kind found
+        ≡ option_and_then minus_kind (expr_kind (typed a.now)
+        (map kind_tree scope.now.row.now) (map kind_tree scope.now.locals.now))) }
+{
+    match look(alloc, a, scope)? {
+        Some(a) => Ok(made(minus(kind(&a)))),
+        None => Ok(None),
+    }
+}
+
+#[cycle(kinds)]
+fn choice<'a>(
+    alloc: Global,
+    cond: &'a TExpr,
+    yes: &'a TExpr,
+    no: &'a TExpr,
+    scope: &'a Scope<'a>,
+) -> Result<Option<SeenKind<'a>>, AllocError>
+    ensures { IfOk result (λ found. option_map seen_kind found
+        ≡ expr_kind (x_choose (typed cond.now) (typed yes.now) (typed no.now))
+        (map kind_tree scope.now.row.now) (map kind_tree scope.now.locals.now)) }
+{
+    let Some(cond) = look(alloc, cond, scope)? else {
+        return Ok(None);
+    };
+    let Some(yes) = look(alloc, yes, scope)? else {
+        return Ok(None);
+    };
+    let Some(no) = look(alloc, no, scope)? else {
+        return Ok(None);
+    };
+    Ok(chosen(kind(&cond), yes, kind(&no)))
+}
+
+#[cycle(kinds)]
+fn cast_to<'a>(
+    alloc: Global,
+    to: &'a Kind,
+    a: &'a TExpr,
+    scope: &'a Scope<'a>,
+) -> Result<Option<SeenKind<'a>>, AllocError>
+    ensures { IfOk result (λ found. option_map seen_kind found
+        ≡ option_and_then (cast_kind (kind_tree to.now)) (expr_kind (typed a.now)
+        (map kind_tree scope.now.row.now) (map kind_tree scope.now.locals.now))) }
+{
+    match look(alloc, a, scope)? {
+        Some(a) => Ok(cast(to, kind(&a))),
+        None => Ok(None),
+    }
+}
+
+#[cycle(kinds)]
+fn projection<'a>(
+    alloc: Global,
+    a: &'a TExpr,
+    fields: &'a Positions,
+    single: bool,
+    scope: &'a Scope<'a>,
+) -> Result<Option<SeenKind<'a>>, AllocError>
+    ensures { IfOk result (λ found. option_map seen_kind found
+        ≡ option_and_then (project_kind fields.now single) (expr_kind (typed a.now)
+        (map kind_tree scope.now.row.now) (map kind_tree scope.now.locals.now))) }
+{
+    match look(alloc, a, scope)? {
+        Some(a) => Ok(made(projected(alloc, kind(&a), fields, single)?)),
+        None => Ok(None),
+    }
+}
+
+#[cycle(kinds)]
+fn look_up<'a>(
+    alloc: Global,
+    a: &'a TExpr,
+    scope: &'a Scope<'a>,
+) -> Result<Option<SeenKind<'a>>, AllocError>
+    ensures { IfOk result (λ found. option_map seen_kind found
+        ≡ option_and_then look_kind (expr_kind (typed a.now)
+        (map kind_tree scope.now.row.now) (map kind_tree scope.now.locals.now))) }
+{
+    match look(alloc, a, scope)? {
+        Some(a) => Ok(looked_up(a)),
+        None => Ok(None),
+    }
+}
+
+#[cycle(kinds)]
+fn call<'a>(
+    alloc: Global,
+    function: Function,
+    args: &'a TExprs,
+    scope: &'a Scope<'a>,
+) -> Result<Option<SeenKind<'a>>, AllocError>
+    ensures { IfOk result (λ found. option_map seen_kind found
+        ≡ option_and_then (function_kind function) (args_kinds (args_of (map typed args.now))
+        (map kind_tree scope.now.row.now) (map kind_tree scope.now.locals.now))) }
+{
+    match all_kinds(alloc, args, scope)? {
+        Some(kinds) => Ok(made(called(alloc, function, kinds)?)),
+        None => Ok(None),
+    }
+}
+
+#[cycle(kinds)]
+fn links<'a>(
     alloc: Global,
     first: SeenKind<'a>,
     links: &'a TLinks,

@@ -3,21 +3,52 @@ use Rattle.pig_value.specs.Trees.{kind_tree}
 use Rattle.pig_typed.specs.ExprKinds.{args_kinds, links_kind}
 use Rattle.pig_typed.specs.Seen.{seen_kind}
 use Rattle.pig_typed.specs.Typed.{args_of, link_of, links_of, typed}
+use Rattle.pig_typed.specs.declared.exprs.TExpr.TheViews.{size-TExpr}
 use Rattle.std.specs.Option.{option_map}
-use Rattle.std.specs.Prelude.{◌++◌}
+use Rattle.std.specs.Prelude.{◌++◌, max}
 use Rattle.pig_typed.proofs.kinds.+kinds.Given as goal
 
 abbrev pub decreases-look : goal.decreases-look
-decreases-look l = 2 * goal.size-look l
+decreases-look l = 3 * goal.size-look l
 
 abbrev pub decreases-chain : goal.decreases-chain
-decreases-chain l = 2 * goal.size-chain l + 1
+decreases-chain l = 3 * max (goal.size-chain l) (size-TExpr l.first.now) + 2
+
+abbrev pub decreases-comparison : goal.decreases-comparison
+decreases-comparison l = 3 * max (size-TExpr l.a.now) (size-TExpr l.b.now) + 1
+
+abbrev pub decreases-null_test : goal.decreases-null_test
+decreases-null_test l = 3 * size-TExpr l.a.now + 1
+
+abbrev pub decreases-negation : goal.decreases-negation
+decreases-negation l = 3 * size-TExpr l.a.now + 1
+
+abbrev pub decreases-negative : goal.decreases-negative
+decreases-negative l = 3 * size-TExpr l.a.now + 1
+
+abbrev pub decreases-choice : goal.decreases-choice
+decreases-choice l = 3 * max (size-TExpr l.cond.now) (max (size-TExpr l.yes.now) (size-TExpr l.no.now)) + 1
+
+abbrev pub decreases-cast_to : goal.decreases-cast_to
+decreases-cast_to l = 3 * size-TExpr l.a.now + 1
+
+abbrev pub decreases-projection : goal.decreases-projection
+decreases-projection l = 3 * size-TExpr l.a.now + 1
+
+abbrev pub decreases-look_up : goal.decreases-look_up
+decreases-look_up l = 3 * size-TExpr l.a.now + 1
+
+abbrev pub decreases-call : goal.decreases-call
+decreases-call l = 3 * goal.size-call l + 2
+
+abbrev pub decreases-links : goal.decreases-links
+decreases-links l = 3 * goal.size-links l + 1
 
 abbrev pub decreases-all_kinds : goal.decreases-all_kinds
-decreases-all_kinds l = 2 * goal.size-all_kinds l + 1
+decreases-all_kinds l = 3 * goal.size-all_kinds l + 1
 
-abbrev pub invariant-chain-loop-link : goal.invariant-chain-loop-link
-invariant-chain-loop-link l =
+abbrev pub invariant-links-loop-link : goal.invariant-links-loop-link
+invariant-links-loop-link l =
     links_kind (seen_kind l.so_far) (links_of (map link_of (drop l.link-index l.link-items))) (map kind_tree l.scope.row.now) (map kind_tree l.scope.locals.now)
     ≡ links_kind (seen_kind l.fn.first) (links_of (map link_of l.fn.links)) (map kind_tree l.scope.row.now) (map kind_tree l.scope.locals.now)
 
