@@ -15,7 +15,7 @@ use Rattle.pig_value.specs.Sorts.{sort}
 use Rattle.pig_value.specs.Trees.{Tree}
 use Rattle.pig_typed.specs.declared.blocks.SortKey.{SortKey}
 use Rattle.pig_typed.specs.Blocks.{keys_cmp}
-use Rattle.pig_plan.specs.Laws.{slice_of}
+use Rattle.pig_plan.specs.Laws.{slice_number}
 use Rattle.pig_value.specs.Trees.{at}
 
 pub keys_total : (keys : List SortKey) → IsTotalOrder (keys_cmp keys)
@@ -40,11 +40,11 @@ ordered_slices keys part n rising below rows = slices_in_turn (keys_cmp keys) (k
 -- ---- cut points
 
 -- how many points do not stand behind a row
-more_points : (keys : List SortKey) (points : List (List Tree)) (x y : List Tree) → is_gt (keys_cmp keys x y) ≡ false → slice_of keys points x ≤ slice_of keys points y
+more_points : (keys : List SortKey) (points : List (List Tree)) (x y : List Tree) → is_gt (keys_cmp keys x y) ≡ false → slice_number keys points x ≤ slice_number keys points y
 more_points keys [] x y h = omega (arith)
 more_points keys (p ∷ points) x y h = by_tests (is_gt (keys_cmp keys p x)) (is_gt (keys_cmp keys p y)) refl refl (more_points keys points x y h)
   where
-    by_tests : (a b : Bool) → is_gt (keys_cmp keys p x) ≡ a → is_gt (keys_cmp keys p y) ≡ b → slice_of keys points x ≤ slice_of keys points y
+    by_tests : (a b : Bool) → is_gt (keys_cmp keys p x) ≡ a → is_gt (keys_cmp keys p y) ≡ b → slice_number keys points x ≤ slice_number keys points y
         → length (cond (not a) (p ∷ filter (λ q. not (is_gt (keys_cmp keys q x))) points) (filter (λ q. not (is_gt (keys_cmp keys q x))) points))
         ≤ length (cond (not b) (p ∷ filter (λ q. not (is_gt (keys_cmp keys q y))) points) (filter (λ q. not (is_gt (keys_cmp keys q y))) points))
     by_tests false false e f more = omega (arith, more)
@@ -62,7 +62,7 @@ at_most_all p (x ∷ xs) = by_test (p x) (at_most_all p xs)
 
 -- the slices between cut points, each sorted, are the whole sorted
 pub ordered_by_points : (keys : List SortKey) (points rows : List (List Tree))
-    → flat_map (λ p. sort (keys_cmp keys) (in_part (slice_of keys points) p rows)) (range_with_len 0 (length points + 1)) ≡ sort (keys_cmp keys) rows
+    → flat_map (λ p. sort (keys_cmp keys) (in_part (slice_number keys points) p rows)) (range_with_len 0 (length points + 1)) ≡ sort (keys_cmp keys) rows
 ordered_by_points keys points rows =
-    ordered_slices keys (slice_of keys points) (length points + 1) (λ x y h. more_points keys points x y h)
+    ordered_slices keys (slice_number keys points) (length points + 1) (λ x y h. more_points keys points x y h)
     (λ x. let fewer = at_most_all (λ q. not (is_gt (keys_cmp keys q x))) points in omega (arith, fewer)) rows

@@ -69,12 +69,12 @@ OrderGoesBySlices = (keys : List SortKey) (part : List Tree → ℕ) (n : ℕ) �
     → ((x : List Tree) → part x < n) → (rows : List (List Tree)) → flat_map (λ p. sort (keys_cmp keys) (in_part part p rows)) (range_with_len 0 n) ≡ sort (keys_cmp keys) rows
 
 -- the number of a row's slice between cut points: how many of these do not stand behind it
-abbrev pub slice_of : List SortKey → List (List Tree) → List Tree → ℕ
-slice_of keys points row = length (filter (λ point. not (is_gt (keys_cmp keys point row))) points)
+abbrev pub slice_number : List SortKey → List (List Tree) → List Tree → ℕ
+slice_number keys points row = length (filter (λ point. not (is_gt (keys_cmp keys point row))) points)
 
 abbrev pub OrderGoesByCutPoints : Type 0
 OrderGoesByCutPoints = (keys : List SortKey) (points rows : List (List Tree))
-    → flat_map (λ p. sort (keys_cmp keys) (in_part (slice_of keys points) p rows)) (range_with_len 0 (length points + 1)) ≡ sort (keys_cmp keys) rows
+    → flat_map (λ p. sort (keys_cmp keys) (in_part (slice_number keys points) p rows)) (range_with_len 0 (length points + 1)) ≡ sort (keys_cmp keys) rows
 
 -- An inner JOIN of two inputs by pairs, which is what a reader expects: each row of the first with each row of the second that has the
 -- same key, where no part of it is null.
