@@ -1,0 +1,103 @@
+//! The columns of the rows that the tests' blocks stand on.
+use pig_schema::{Field, Schema, kinds};
+use pig_value::{Boxed, Kind, Kinds, Seq, Text};
+use std::alloc::{AllocError, Global};
+
+pub fn column(alloc: Global, name: &str, kind: Kind, inner: Schema) -> Result<Field, AllocError> {
+    let name = Some(Text::from_str(alloc, name)?);
+    Ok(Field { name, kind, inner })
+}
+
+pub fn scalar(alloc: Global, name: &str, kind: Kind) -> Result<Field, AllocError> {
+    column(alloc, name, kind, Seq::new(alloc))
+}
+
+pub fn bag(alloc: Global, name: &str, inner: Schema) -> Result<Field, AllocError> {
+    let kind = Kind::Bag(kinds(alloc, &inner)?);
+    column(alloc, name, kind, inner)
+}
+
+fn one(alloc: Global, name: &str, kind: Kind) -> Result<Schema, AllocError> {
+    let mut fields = Seq::new(alloc);
+    fields.push(scalar(alloc, name, kind)?)?;
+    Ok(fields)
+}
+
+// The tuples of a grouped input `k:chararray, n:int, s:chararray`.
+fn grouped(alloc: Global) -> Result<Schema, AllocError> {
+    let mut fields = one(alloc, "k", Kind::Chararray)?;
+    fields.push(scalar(alloc, "n", Kind::Int)?)?;
+    fields.push(scalar(alloc, "s", Kind::Chararray)?)?;
+    Ok(fields)
+}
+
+// `x:int, f:bytearray, g:{(y:int)}`
+fn nested(alloc: Global) -> Result<Schema, AllocError> {
+    let mut fields = one(alloc, "x", Kind::Int)?;
+    fields.push(scalar(alloc, "f", Kind::Bytearray)?)?;
+    fields.push(bag(alloc, "g", one(alloc, "y", Kind::Int)?)?)?;
+    Ok(fields)
+}
+
+fn map(alloc: Global) -> Result<Field, AllocError> {
+    let kind = Kind::Map(Boxed::new(alloc, Kind::Bytearray)?);
+    scalar(alloc, "m", kind)
+}
+
+// group:chararray, a:{(k:chararray, n:int, s:chararray)}, b:{(x:int, f:bytearray, g:{(y:int)})}, p::c:int, q::c:int, m:map[]
+pub fn columns(alloc: Global) -> Result<Schema, AllocError> {
+    let mut columns = one(alloc, "group", Kind::Chararray)?;
+    columns.push(bag(alloc, "a", grouped(alloc)?)?)?;
+    columns.push(bag(alloc, "b", nested(alloc)?)?)?;
+    columns.push(scalar(alloc, "p::c", Kind::Int)?)?;
+    columns.push(scalar(alloc, "q::c", Kind::Int)?)?;
+    columns.push(map(alloc)?)?;
+    Ok(columns)
+}
+
+// k:int, a:{(x:int)}, b:{(y:int)}
+pub fn two_bags(alloc: Global) -> Result<Schema, AllocError> {
+    let mut columns = one(alloc, "k", Kind::Int)?;
+    columns.push(bag(alloc, "a", one(alloc, "x", Kind::Int)?)?)?;
+    columns.push(bag(alloc, "b", one(alloc, "y", Kind::Int)?)?)?;
+    Ok(columns)
+}
+
+// ---- kinds at the limits
+
+fn alone(alloc: Global, kind: Kind) -> Result<Kinds, AllocError> {
+    let mut kinds = Seq::new(alloc);
+    kinds.push(kind)?;
+    Ok(kinds)
+}
+
+// An int in tuples, nested so deep in all.
+fn deep_kind(alloc: Global, depth: usize) -> Result<Kind, AllocError> {
+    let mut kind = Kind::Int;
+    for _level in 1..depth {
+        kind = Kind::Tuple(alone(alloc, kind)?);
+    }
+    Ok(kind)
+}
+
+// A tuple of so many ints.
+fn wide_kind(alloc: Global, count: usize) -> Result<Kind, AllocError> {
+    let mut kinds = Seq::with_capacity(alloc, count)?;
+    for _field in 0..count {
+        kinds.push(Kind::Int)?;
+    }
+    Ok(Kind::Tuple(kinds))
+}
+
+fn at_limits(alloc: Global) -> Result<Schema, AllocError> {
+    let mut fields = one(alloc, "d", deep_kind(alloc, 64)?)?;
+    fields.push(scalar(alloc, "w", wide_kind(alloc, 512)?)?)?;
+    Ok(fields)
+}
+
+// d, which nests 64 deep, w, which has 512 fields, and h, a bag of both.
+pub fn limits(alloc: Global) -> Result<Schema, AllocError> {
+    let mut columns = at_limits(alloc)?;
+    columns.push(bag(alloc, "h", at_limits(alloc)?)?)?;
+    Ok(columns)
+}
