@@ -1,8 +1,8 @@
 -- Typed blocks have their kinds, and inside the columns that they give is what is of these.
-use Rattle.std.proofs.Common.{◌≡◌, ◌∙◌, ◌≤◌, ◌++◌, ℕ, Bool, true, false, not, List, [], ◌∷◌, map, length, refl, sym, ap, subst, arith}
-use Rattle.std.specs.Prelude.{⊤, Option, Some, None}
+use Rattle.std.proofs.Common.{◌≡◌, ◌∙◌, ◌≤◌, ◌++◌, ℕ, true, List, [], ◌∷◌, map, length, refl, sym, ap, subst, arith}
+use Rattle.std.specs.Prelude.{Some}
 use Rattle.std.proofs.lemmas.List.{map-append}
-use Rattle.pig_value.specs.Trees.{KindTree, KindTrees, k_boolean, k_int, k_long, k_chars, k_bytes, k_tuple, k_bag, k_map, no_kinds, more_kinds, kinds_list, kinds_of}
+use Rattle.pig_value.specs.Trees.{KindTrees, k_bag, no_kinds, more_kinds, kinds_list, kinds_of}
 use Rattle.pig_value.proofs.TreeLaws.{kinds_back}
 use Rattle.pig_schema.specs.FieldTrees.{FieldTree, a_field, tree_kind, IsColumn}
 use Rattle.pig_syntax.specs.ExprTrees.{expr_form}
@@ -22,7 +22,7 @@ use Rattle.pig_typing.proofs.KindsHold.{holds}
 use Rattle.pig_blocks.specs.Bags.{Bags, a_bag, bag_form, columns_in, is_bag}
 use Rattle.pig_blocks.specs.Foreach.{Foreach, TypesForeach, types_foreach, block_in, columns_of}
 use Rattle.pig_blocks.specs.SortKeys.{KeysAre, no_keys, more_keys, SortsBy, sorts_by, fields_meant}
-use Rattle.pig_blocks.specs.Steps.{Made, made, step_made, column_made, within, row_place, Makes, makes_filter, makes_distinct, makes_order, makes_limit, makes_take, behind, Stepped, stepped, steps_made, place_behind, AllMake, none_make, more_make}
+use Rattle.pig_blocks.specs.Steps.{Made, made, step_made, column_made, within, row_place, Makes, makes_filter, makes_distinct, makes_order, makes_limit, makes_take, behind, Stepped, steps_made, place_behind, AllMake, none_make, more_make}
 
 -- ---- keys
 

@@ -1,6 +1,6 @@
 -- What holds of keys, bags, steps and blocks is found, so there is one typing of them, or a refusal, and never both.
-use Rattle.std.proofs.Common.{◌≡◌, ◌∙◌, List, [], ◌∷◌, refl, sym}
-use Rattle.std.specs.declared.result.Result.TheVariants.{Ok, Err}
+use Rattle.std.proofs.Common.{◌≡◌, ◌∙◌, List, refl, sym}
+use Rattle.std.specs.declared.result.Result.TheVariants.{Ok}
 use Rattle.pig_schema.specs.FieldTrees.{FieldTree}
 use Rattle.pig_syntax.specs.declared.trees.BagRef.{BagRef}
 use Rattle.pig_syntax.specs.declared.trees.Item.{Item}

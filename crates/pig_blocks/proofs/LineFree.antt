@@ -1,12 +1,12 @@
 -- Typed blocks write no line end, where none stands in the texts of their steps and items.
-use Rattle.std.proofs.Common.{◌≡◌, ◌≤◌, List, [], ◌∷◌, arith}
-use Rattle.std.specs.Prelude.{⊤, Option, Some, None, IfSome}
+use Rattle.std.proofs.Common.{List, [], arith}
+use Rattle.std.specs.Prelude.{Option, Some, None, IfSome}
 use Rattle.std.specs.List.{All, AllByRecursion}
 use Rattle.std.proofs.lemmas.List.Elements.{All-cons, All-head, All-nil, All-tail}
 use Rattle.pig_value.specs.Texts.{IsLineFree}
 use Rattle.pig_schema.specs.FieldTrees.{FieldTree}
-use Rattle.pig_syntax.specs.ExprTrees.{ExprForm, e_field, expr_form}
-use Rattle.pig_syntax.specs.Formed.{AtLeast, BagRefFormed, ExprFormed, FieldRefFormed, ItemFormed, PostStepFormed, SelectionFormed, StepFormed, NestedFormed}
+use Rattle.pig_syntax.specs.ExprTrees.{e_field, expr_form}
+use Rattle.pig_syntax.specs.Formed.{BagRefFormed, ExprFormed, FieldRefFormed, ItemFormed, PostStepFormed, SelectionFormed, StepFormed, NestedFormed}
 use Rattle.pig_syntax.specs.declared.trees.BagRef.{BagRef}
 use Rattle.pig_syntax.specs.declared.trees.FieldRef.{FieldRef}
 use Rattle.pig_syntax.specs.declared.trees.Item.{Item}

@@ -6,14 +6,13 @@ use Rattle.pig_value.specs.declared.operators.Dir.TheVariants as dir
 use Rattle.pig_schema.specs.FieldTrees.{FieldTree, a_field, no_inner, inner_of}
 use Rattle.pig_syntax.specs.declared.trees.BagRef.{BagRef}
 use Rattle.pig_syntax.specs.declared.trees.FieldRef.TheVariants as ref
-use Rattle.pig_syntax.specs.declared.trees.Item.TheVariants as item
 use Rattle.pig_syntax.specs.declared.trees.Nested.{Nested}
 use Rattle.pig_syntax.specs.declared.trees.Nested.TheVariants as nested
 use Rattle.pig_syntax.specs.declared.trees.OrderKeys.TheVariants as keys
 use Rattle.pig_syntax.specs.declared.trees.Step.{Step}
 use Rattle.pig_typed.specs.Typed.{s_limit, s_order, s_take, x_field, x_local}
 use Rattle.pig_typing.specs.declared.faults.CheckKind.TheVariants as kind
-use Rattle.pig_typing.specs.Columns.{Place, column_at, refer}
+use Rattle.pig_typing.specs.Columns.{column_at, refer}
 use Rattle.pig_typing.specs.Reader.{field_of, reference_of, type_of}
 use Rattle.pig_blocks.specs.Bags.{as_bag, bag_of}
 use Rattle.pig_blocks.specs.SortKeys.{as_key, key_of, keys_of, sort_key, sorted_by}

@@ -13,7 +13,6 @@ use Rattle.pig_syntax.specs.declared.trees.OrderField.{OrderField}
 use Rattle.pig_syntax.specs.declared.trees.OrderKeys.{OrderKeys}
 use Rattle.pig_syntax.specs.declared.trees.Step.{Step}
 use Rattle.pig_typed.specs.declared.blocks.SortKey.{SortKey}
-use Rattle.pig_typing.specs.declared.faults.CheckKind.{CheckKind}
 use Rattle.pig_typing.specs.declared.faults.CheckKind.TheVariants as kind
 use Rattle.pig_typing.specs.Columns.{Place, RefersTo, refer}
 use Rattle.pig_typing.specs.Conditions.{condition_on}
@@ -23,7 +22,7 @@ use Rattle.pig_typing.specs.Parts.{Typing, kind_in}
 use Rattle.pig_typing.specs.Reader.{type_of}
 use Rattle.pig_typing.specs.Results.{Checked, ◌>>=◌}
 use Rattle.pig_typing.specs.Typing.{Types}
-use Rattle.pig_typing.proofs.Chains.{then_told, passes, then_is}
+use Rattle.pig_typing.proofs.Chains.{then_told, then_is}
 use Rattle.pig_typing.proofs.ItemsTold.{IsConditionTold, condition_told, AreGenerated, items_told}
 use Rattle.pig_typing.proofs.References.{IsReferred, referred}
 use Rattle.pig_typing.proofs.Told as expr

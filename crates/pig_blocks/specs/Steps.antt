@@ -1,7 +1,7 @@
 -- The steps of a nested block: each makes a bag of a bag of the row or of an earlier step, and has the columns of that bag.
 -- (Pig Latin Basics: "FOREACH", nested blocks. That a condition of a nested FILTER sees the fields of its bag alone is a choice of this profile.)
-use Rattle.std.specs.Prelude.{◌≡◌, ◌++◌, ℕ, List, [], ◌∷◌}
-use Rattle.std.specs.declared.result.Result.TheVariants.{Ok, Err}
+use Rattle.std.specs.Prelude.{◌++◌, ℕ, List, [], ◌∷◌}
+use Rattle.std.specs.declared.result.Result.TheVariants.{Ok}
 use Rattle.pig_schema.specs.FieldTrees.{FieldTree}
 use Rattle.pig_syntax.specs.ExprTrees.{ExprForm, expr_form}
 use Rattle.pig_syntax.specs.declared.trees.BagRef.{BagRef}

@@ -1,8 +1,8 @@
 -- What the code holds, as the definitions see it.
-use Rattle.std.specs.Prelude.{List, map}
+use Rattle.std.specs.Prelude.{map}
 use Rattle.pig_schema.specs.FieldTrees.{named_tree, schema_tree}
 use Rattle.pig_typed.specs.Typed.{block_typed, step_typed, typed}
-use Rattle.pig_typing.specs.Columns.{Place, local_of}
+use Rattle.pig_typing.specs.Columns.{local_of}
 use Rattle.pig_typing.specs.Parts.{Typing, typing}
 use Rattle.pig_blocks.specs.declared.bags.TypedBag.{TypedBag}
 use Rattle.pig_blocks.specs.declared.foreach.TypedForeach.{TypedForeach}

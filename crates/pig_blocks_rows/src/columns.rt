@@ -1,6 +1,6 @@
 //! The columns of the rows that the tests' blocks stand on.
 use pig_schema::{Field, Schema, kinds};
-use pig_value::{Boxed, Kind, Kinds, Seq, Text};
+use pig_value::{Boxed, Kind, Seq, Text};
 use std::alloc::{AllocError, Global};
 
 pub fn column(alloc: Global, name: &str, kind: Kind, inner: Schema) -> Result<Field, AllocError> {
@@ -63,35 +63,47 @@ pub fn two_bags(alloc: Global) -> Result<Schema, AllocError> {
     Ok(columns)
 }
 
-// ---- kinds at the limits
+// ---- columns at the limits
 
-fn alone(alloc: Global, kind: Kind) -> Result<Kinds, AllocError> {
-    let mut kinds = Seq::new(alloc);
-    kinds.push(kind)?;
-    Ok(kinds)
-}
-
-// An int in tuples, nested so deep in all.
-fn deep_kind(alloc: Global, depth: usize) -> Result<Kind, AllocError> {
-    let mut kind = Kind::Int;
-    for _level in 1..depth {
-        kind = Kind::Tuple(alone(alloc, kind)?);
+fn unnamed(kind: Kind, inner: Schema) -> Field {
+    Field {
+        name: None,
+        kind,
+        inner,
     }
-    Ok(kind)
 }
 
-// A tuple of so many ints.
-fn wide_kind(alloc: Global, count: usize) -> Result<Kind, AllocError> {
-    let mut kinds = Seq::with_capacity(alloc, count)?;
+// Tuples of one field, within each other so deep in all with the int inside.
+fn deep(alloc: Global, depth: usize) -> Result<Schema, AllocError> {
+    let mut inner = Seq::new(alloc);
+    inner.push(unnamed(Kind::Int, Seq::new(alloc)))?;
+    for _level in 2..depth {
+        let kind = Kind::Tuple(kinds(alloc, &inner)?);
+        let field = unnamed(kind, inner);
+        inner = Seq::new(alloc);
+        inner.push(field)?;
+    }
+    Ok(inner)
+}
+
+// So many ints.
+fn wide(alloc: Global, count: usize) -> Result<Schema, AllocError> {
+    let mut inner = Seq::with_capacity(alloc, count)?;
     for _field in 0..count {
-        kinds.push(Kind::Int)?;
+        inner.push(unnamed(Kind::Int, Seq::new(alloc)))?;
     }
-    Ok(Kind::Tuple(kinds))
+    Ok(inner)
+}
+
+fn tuple(alloc: Global, name: &str, inner: Schema) -> Result<Field, AllocError> {
+    let kind = Kind::Tuple(kinds(alloc, &inner)?);
+    column(alloc, name, kind, inner)
 }
 
 fn at_limits(alloc: Global) -> Result<Schema, AllocError> {
-    let mut fields = one(alloc, "d", deep_kind(alloc, 64)?)?;
-    fields.push(scalar(alloc, "w", wide_kind(alloc, 512)?)?)?;
+    let mut fields = Seq::new(alloc);
+    fields.push(tuple(alloc, "d", deep(alloc, 64)?)?)?;
+    fields.push(tuple(alloc, "w", wide(alloc, 512)?)?)?;
     Ok(fields)
 }
 

@@ -1,5 +1,5 @@
 use Rattle.std.proofs.Common.{◌≡◌, [], ◌∷◌, rules, subst, sym}
-use Rattle.std.specs.declared.result.Result.TheVariants.{Ok, Err}
+use Rattle.std.specs.declared.result.Result.TheVariants.{Err}
 use Rattle.pig_typing.specs.Columns.{place_of}
 use Rattle.pig_typing.specs.Parts.{step_of, steps_of}
 use Rattle.pig_typing.specs.Reader.{reference_of, type_of}

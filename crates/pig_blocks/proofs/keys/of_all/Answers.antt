@@ -1,5 +1,5 @@
-use Rattle.std.proofs.Common.{◌≡◌, ◌+◌, ◌++◌, ◌-◌, List, [], ◌∷◌, length, rules, subst, sym}
-use Rattle.std.specs.declared.result.Result.TheVariants.{Ok, Err}
+use Rattle.std.proofs.Common.{◌≡◌, ◌+◌, ◌++◌, ◌-◌, List, [], ◌∷◌, rules, subst, sym}
+use Rattle.std.specs.declared.result.Result.TheVariants.{Err}
 use Rattle.pig_schema.specs.FieldTrees.{schema_tree}
 use Rattle.pig_typed.specs.declared.blocks.SortKey.{SortKey}
 use Rattle.pig_typing.specs.Results.{Tells, checked_map}

@@ -1,4 +1,4 @@
-use Rattle.std.proofs.Common.{◌≡◌, ◌++◌, ◌-◌, length}
+use Rattle.std.proofs.Common.{◌≡◌, ◌++◌, ◌-◌}
 use Rattle.pig_schema.specs.FieldTrees.{schema_tree}
 use Rattle.pig_typing.specs.Results.{checked_map}
 use Rattle.pig_blocks.specs.SortKeys.{fields_in, keys_of}
