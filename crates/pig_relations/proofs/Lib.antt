@@ -1,2 +1,9 @@
 pub mod Tables
 mod Index
+mod TogetherHolds
+mod KeyedTold
+mod OperatorsTold
+mod KeyedHold
+mod Gives
+mod UnionGives
+pub mod LineEnds
