@@ -1,23 +1,21 @@
 -- What each typed operator gives over tables of aliases: rows of the kinds of its columns, each of which has inside it what is of its
 -- kind.
-use Rattle.std.proofs.Common.{◌≡◌, ◌∙◌, ℕ, suc, List, [], ◌∷◌, ◌++◌, map, length, refl, sym, ap, subst, Bool, true, false}
-use Rattle.std.specs.Prelude.{⊤, Option, Some, None, not, ◌&&◌}
+use Rattle.std.proofs.Common.{◌≡◌, ◌∙◌, ℕ, List, [], ◌∷◌, ◌++◌, map, refl, sym, ap, subst, true}
+use Rattle.std.specs.Prelude.{Option, Some, not}
 use Rattle.std.specs.List.{AllByRecursion, flat_map, list_all}
-use Rattle.pig_value.specs.Trees.{KindTree, kinds_of, k_bag, k_tuple}
+use Rattle.pig_value.specs.Trees.{KindTree, kinds_of, k_bag}
 use Rattle.pig_value.specs.declared.operators.Side.{Side}
-use Rattle.pig_schema.specs.FieldTrees.{FieldTree, FieldTrees, tree_kind, tree_inner, inner_of, HasInner, AreInner, IsColumn}
+use Rattle.pig_schema.specs.FieldTrees.{FieldTree, tree_kind, inner_of, AreInner, IsColumn}
 use Rattle.pig_syntax.specs.declared.trees.JoinInput.{JoinInput}
-use Rattle.pig_plan.specs.NodeKinds.{Before, Gives, KeyedKinds, RowKinds, bag_kinds, group_kind, group_kinds, is_join, keys_agree, node_gives, only_if}
-use Rattle.pig_plan.specs.Plans.{Keyed, p_group_all}
+use Rattle.pig_plan.specs.NodeKinds.{Before, bag_kinds, group_kind, node_gives}
 use Rattle.pig_typing.specs.Columns.{AreColumns}
 use Rattle.pig_typing.specs.Items.{under_name}
-use Rattle.pig_typing.specs.Parts.{Typing}
-use Rattle.pig_relations.specs.Aliases.{Aliases, RelationTree, IsRelation, IsTable}
-use Rattle.pig_relations.specs.Keyed.{KeyedForm, TypedInput, Keyable, join_form, key_columns, keyed, keys_kinds, TypesInput, types_input, TypesInputs, no_inputs, more_inputs, TypesKeyed, types_keyed}
-use Rattle.pig_relations.specs.Operators.{TypedOp, Groups, groups, GroupsAll, groups_all, Joins, joins, bag_column, columns_under, first_keys, group_column, group_columns, group_op, group_all_columns, join_columns, join_op}
+use Rattle.pig_relations.specs.Aliases.{Aliases, IsTable}
+use Rattle.pig_relations.specs.Keyed.{KeyedForm, TypedInput, Keyable, join_form, key_columns, keyed, types_input, TypesInputs, no_inputs, more_inputs, TypesKeyed, types_keyed}
+use Rattle.pig_relations.specs.Operators.{TypedOp, Groups, groups, GroupsAll, groups_all, Joins, joins, bag_column, columns_under, group_column, group_columns, group_op, join_columns, join_op}
 use Rattle.pig_relations.specs.Together.{of_kinds}
 use Rattle.pig_relations.proofs.KeyedHold.{KeyedHold, HoldsColumns, given, inputs_count, keyed_hold, row_of}
-use Rattle.pig_relations.proofs.TogetherHolds.{AllFit, AllRowsFit, columns_given, kinds_given}
+use Rattle.pig_relations.proofs.TogetherHolds.{columns_given, kinds_given}
 
 -- ---- columns of inputs
 

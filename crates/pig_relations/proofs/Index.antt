@@ -1,12 +1,12 @@
 -- The index of aliases: what it tells is what an alias means, also behind one more statement.
-use Rattle.std.proofs.Common.{◌≡◌, ◌∙◌, ◌<◌, ℕ, zero, suc, ◌+◌, List, [], ◌∷◌, ◌++◌, map, length, refl, sym, ap, subst, Bool, true, false, arith}
+use Rattle.std.proofs.Common.{◌≡◌, ◌∙◌, ◌<◌, ℕ, zero, suc, List, [], ◌∷◌, ◌++◌, length, refl, sym, ap, Bool, true, false, arith}
 use Rattle.std.specs.Prelude.{Option, Some, None, IfSome, slice_get, if◌then◌else◌}
 use Rattle.std.specs.Option.{option_map}
 use Rattle.std.specs.Str.{bytes_eq}
 use Rattle.std.proofs.lemmas.Cmp.{nat_list_eq_equiv}
 use Rattle.pig_typing.specs.Columns.{later_or}
 use Rattle.pig_relations.specs.declared.aliases.Named.{Named}
-use Rattle.pig_relations.specs.Aliases.{IsIndex, RelationTree, aliases_of, if_named, named_relation, relation_at, relation_in, relation_tree}
+use Rattle.pig_relations.specs.Aliases.{IsIndex, aliases_of, named_relation, relation_at, relation_in, relation_tree}
 use Rattle.pig_relations.proofs.Tables.{relation_behind}
 
 -- what is found at the place of an alias

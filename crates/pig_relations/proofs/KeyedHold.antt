@@ -1,5 +1,5 @@
 -- Inputs by key over tables of aliases: the keys of each have the kinds that all have together.
-use Rattle.std.proofs.Common.{◌≡◌, ◌∙◌, ℕ, suc, List, [], ◌∷◌, ◌++◌, map, length, refl, sym, ap, subst, Bool, true, false, arith}
+use Rattle.std.proofs.Common.{◌≡◌, suc, List, [], ◌∷◌, map, length, refl, ap, subst, true, false, arith}
 use Rattle.std.specs.Prelude.{Option, Some, None}
 use Rattle.std.specs.List.{AllByRecursion, list_all}
 use Rattle.std.specs.Option.{option_and_then}
@@ -8,18 +8,17 @@ use Rattle.pig_value.specs.FieldReader.{all_of}
 use Rattle.pig_value.specs.Kinds.{has_bag_or_map, kinds_eq}
 use Rattle.pig_value.specs.Trees.{KindTree, kinds_of}
 use Rattle.pig_value.proofs.KindLaws.{kinds_itself}
-use Rattle.pig_schema.specs.FieldTrees.{FieldTree, tree_kind}
+use Rattle.pig_schema.specs.FieldTrees.{tree_kind}
 use Rattle.pig_syntax.specs.ExprTrees.{ExprForms}
 use Rattle.pig_typed.specs.ExprKinds.{expr_kind}
 use Rattle.pig_typed.specs.Typed.{Typed}
 use Rattle.pig_plan.specs.NodeKinds.{Before, RowKinds, KeyedKinds, key_kind, keyed_kinds, keys_agree, all_keyed}
 use Rattle.pig_plan.specs.NodeKinds as plan
-use Rattle.pig_plan.specs.Plans.{Keyed}
 use Rattle.pig_typing.specs.Columns.{AreColumns}
 use Rattle.pig_typing.specs.Conditions.{Keys, no_keys, more_keys}
 use Rattle.pig_typing.specs.Parts.{Typing, kind_in, typed_column, typed_of}
 use Rattle.pig_typing.proofs.KindsHold.{holds}
-use Rattle.pig_relations.specs.Aliases.{Aliases, RelationTree, IsRelation, IsTable}
+use Rattle.pig_relations.specs.Aliases.{Aliases, RelationTree, IsTable}
 use Rattle.pig_relations.specs.Keyed.{KeyedForm, TypedInput, Keyable, TypesInput, types_input, TypesInputs, no_inputs, more_inputs, TypesKeyed, types_keyed, rows_of, cast_keys, keyed, keys_kinds, key_kinds, if_some}
 use Rattle.pig_relations.specs.Together.{all_together, widened}
 use Rattle.pig_relations.proofs.TogetherHolds.{Fits, AllFit, AllRowsFit, rows_fit, simple_stays, widened_kind}

@@ -6,4 +6,5 @@ mod OperatorsTold
 mod KeyedHold
 mod Gives
 mod UnionGives
+mod CastKeys
 pub mod LineEnds

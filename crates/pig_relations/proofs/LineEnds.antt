@@ -1,28 +1,26 @@
 -- What an operator writes out holds no line end, where none stands in the texts of its keys.
-use Rattle.std.proofs.Common.{◌≡◌, ◌≢◌, ℕ, ◌+◌, ◌==◌, ne_eqb, List, [], ◌∷◌, map, length, refl, sym, ap, subst, Bool, true, false}
-use Rattle.std.specs.Prelude.{⊤, Option, Some, None, All, IfSome, ◌||◌, if◌then◌else◌}
+use Rattle.std.proofs.Common.{◌≡◌, ◌≢◌, ℕ, ◌+◌, ◌==◌, ne_eqb, List, [], ◌∷◌, map, refl, Bool, true, false}
+use Rattle.std.specs.Prelude.{Option, Some, None, All, IfSome, ◌||◌, if◌then◌else◌}
 use Rattle.std.specs.List.{AllByRecursion, list_any}
 use Rattle.std.proofs.lemmas.List.Elements.{All-head, All-tail}
 use Rattle.pig_value.specs.Texts.{HasNoLf, IsLineFree}
 use Rattle.pig_value.specs.Trees.{KindTree}
 use Rattle.pig_value.specs.declared.operators.Side.{Side}
-use Rattle.pig_syntax.specs.ExprTrees.{ExprForms}
-use Rattle.pig_syntax.specs.Formed.{ExprsFormed, GroupInputFormed, IsExprFormed, JoinInputFormed}
+use Rattle.pig_syntax.specs.Formed.{ExprsFormed, GroupInputFormed, JoinInputFormed}
 use Rattle.pig_syntax.specs.declared.trees.GroupInput.{GroupInput}
 use Rattle.pig_syntax.specs.declared.trees.JoinInput.{JoinInput}
 use Rattle.pig_typed.specs.Literals.{LiteralsAre, LinkLiteralsAre, ArgLiteralsAre, StepLiteralsAre, BlockLiteralsAre}
 use Rattle.pig_typed.specs.Typed.{Typed, TypedLinks, TypedArgs, TypedStep, TypedItem, TypedBlock, x_null, x_bool, x_int, x_long, x_chars, x_field, x_local, x_chain, x_compare, x_is_null, x_not, x_minus, x_choose, x_cast, x_project, x_look, x_call, no_links, more_links, no_args, more_args, s_filter, s_order, s_limit, s_distinct, s_take}
 use Rattle.pig_plan.specs.Valid.{keys_write_lf, op_writes_lf}
 use Rattle.pig_plan.specs.Written.{has_lf, writes_lf, links_write_lf, args_write_lf, step_writes_lf, block_writes_lf}
-use Rattle.pig_typing.specs.Conditions.{Keys}
 use Rattle.pig_typing.specs.Joins.{cast_if}
 use Rattle.pig_typing.specs.Parts.{Typing, kind_in, typed_of}
 use Rattle.pig_typing.proofs.NoLineEnds.{formed_keys, keys_free}
 use Rattle.pig_relations.specs.Aliases.{Aliases, RelationTree}
-use Rattle.pig_relations.specs.Keyed.{KeyedForm, TypedInput, group_form, join_form, rows_of, cast_keys, keyed, TypesInput, types_input, TypesInputs, no_inputs, more_inputs, TypesKeyed, types_keyed}
+use Rattle.pig_relations.specs.Keyed.{KeyedForm, TypedInput, group_form, join_form, rows_of, cast_first, cast_keys, rest_of, keyed, types_input, TypesInputs, no_inputs, more_inputs, types_keyed}
 use Rattle.pig_relations.specs.Operators.{TypedOp, Groups, groups, GroupsAll, groups_all, Joins, joins}
 use Rattle.pig_relations.specs.Together.{widens, widened}
-use Rattle.pig_relations.specs.Unions.{TypedUnion, UnionInput, Unions, unions, any_widens, column_kinds, union_input, widened_fields, widening}
+use Rattle.pig_relations.specs.Unions.{TypedUnion, UnionInput, Unions, unions, any_widens, column_kinds, union_input, widened_fields}
 
 -- ---- what is free of line ends writes none
 
@@ -89,12 +87,14 @@ widened_writes : (b : Bool) (k : KindTree) (t : Typed) → writes_lf t ≡ false
 widened_writes true k t h = h
 widened_writes false k t h = h
 
+first_writes_none : (p : Typing) (ks : List KindTree) → LiteralsAre IsLineFree (typed_of p) → writes_lf (cast_first p ks) ≡ false
+first_writes_none p [] h = writes_none (typed_of p) h
+first_writes_none p (k ∷ ks) h = widened_writes (widens (kind_in p) k) k (typed_of p) (writes_none (typed_of p) h)
+
 keys_write_none : (ps : List Typing) (ks : List KindTree) → AllByRecursion (λ p. LiteralsAre IsLineFree (typed_of p)) ps → list_any writes_lf (cast_keys ps ks) ≡ false
 keys_write_none [] ks h = refl
-keys_write_none (p ∷ ps) [] h = refl
-keys_write_none (p ∷ ps) (k ∷ ks) h =
-    neither (writes_lf (widened (kind_in p) k (typed_of p))) (list_any writes_lf (cast_keys ps ks))
-    (widened_writes (widens (kind_in p) k) k (typed_of p) (writes_none (typed_of p) h.0)) (keys_write_none ps ks h.1)
+keys_write_none (p ∷ ps) ks h =
+    neither (writes_lf (cast_first p ks)) (list_any writes_lf (cast_keys ps (rest_of ks))) (first_writes_none p ks h.0) (keys_write_none ps (rest_of ks) h.1)
 
 abbrev FormsFormed : List KeyedForm → Type 0
 FormsFormed = AllByRecursion (λ i. ExprsFormed i.keys)

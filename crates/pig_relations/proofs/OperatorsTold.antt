@@ -1,6 +1,6 @@
 -- What the readers of GROUP, COGROUP, JOIN and UNION tell holds, and what holds is found, so there is one typing, or a refusal, and
 -- never both.
-use Rattle.std.proofs.Common.{◌≡◌, ◌∙◌, ℕ, List, [], ◌∷◌, map, length, refl, sym, subst, Bool, true, false}
+use Rattle.std.proofs.Common.{◌≡◌, ℕ, List, [], ◌∷◌, map, length, refl, sym, subst, Bool, true, false}
 use Rattle.std.specs.Prelude.{Option, Some, None, nat_le, if◌then◌else◌}
 use Rattle.std.specs.declared.result.Result.TheVariants.{Ok, Err}
 use Rattle.pig_value.specs.declared.operators.Side.{Side}
@@ -12,9 +12,9 @@ use Rattle.pig_typing.specs.declared.faults.CheckKind.TheVariants as kind
 use Rattle.pig_typing.specs.Limits.{limited_row}
 use Rattle.pig_typing.specs.Results.{Checked, due, ◌>>=◌}
 use Rattle.pig_typing.proofs.Chains.{then_told, then_is, due_is}
-use Rattle.pig_typing.proofs.References.{Fails, failed, fails_first, fails_next, not_both}
+use Rattle.pig_typing.proofs.References.{Fails, failed, fails_first, fails_next}
 use Rattle.pig_relations.specs.Aliases.{Aliases, RelationTree, relation_at, relation_of}
-use Rattle.pig_relations.specs.Keyed.{KeyedForm, Keyable, keyed_of}
+use Rattle.pig_relations.specs.Keyed.{KeyedForm, keyed_of}
 use Rattle.pig_relations.specs.Operators.{TypedOp, Groups, GroupsNot, groups, group_using, group_untyped, group_past_limits, GroupsAll, GroupsAllNot, groups_all, group_all_using, group_all_unknown, group_all_past_limits, Joins, JoinsNot, joins, join_using, join_of_side, join_untyped, join_past_limits, group_columns, group_op, group_all_columns, join_columns, join_op, limited_op, sided, without, group_of, group_all_of, join_of}
 use Rattle.pig_relations.specs.Together.{all_together}
 use Rattle.pig_relations.specs.Unions.{TypedUnion, AllMeant, AllMeantNot, none_meant, more_meant, here_unknown, later_unknown, column_kinds, Unions, UnionsNot, unions, on_schema, of_one_input, of_unknown, of_other_columns, of_two, relations_of, agreed_union, union_of}

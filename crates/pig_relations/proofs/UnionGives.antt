@@ -1,23 +1,21 @@
 -- What a UNION gives over tables of aliases: each input, or the FOREACH before it, gives rows of the kinds of its columns.
-use Rattle.std.proofs.Common.{add-one, ◌≡◌, ◌∙◌, ℕ, zero, suc, ◌+◌, List, [], ◌∷◌, ◌++◌, map, length, refl, sym, ap, subst, Bool, true, false, arith}
-use Rattle.std.specs.Prelude.{⊤, Option, Some, None, nat_le, nat_lt, not, ◌&&◌, ◌||◌, slice_get, if◌then◌else◌}
-use Rattle.std.specs.List.{AllByRecursion, list_all}
+use Rattle.std.proofs.Common.{add-one, ◌≡◌, ◌∙◌, ℕ, suc, ◌+◌, List, [], ◌∷◌, map, length, refl, sym, ap, subst, Bool, true, false, arith}
+use Rattle.std.specs.Prelude.{⊤, Some, None, nat_le, nat_lt, ◌||◌, slice_get, if◌then◌else◌}
+use Rattle.std.specs.List.{AllByRecursion}
 use Rattle.std.proofs.lemmas.Bool.{lt-ltb}
 use Rattle.pig_value.specs.FieldReader.{all_of}
-use Rattle.pig_value.specs.Kinds.{kinds_eq}
-use Rattle.pig_value.specs.Trees.{KindTree, k_int, k_long, kinds_of}
+use Rattle.pig_value.specs.Trees.{KindTree, kinds_of}
 use Rattle.pig_value.proofs.KindLaws.{kinds_itself}
-use Rattle.pig_schema.specs.FieldTrees.{FieldTree, tree_kind}
-use Rattle.pig_typed.specs.BlockKinds.{item_kinds, items_kinds, row_kinds}
-use Rattle.pig_typed.specs.ExprKinds.{expr_kind}
-use Rattle.pig_typed.specs.Typed.{Typed, TypedBlock, TypedItem, x_field}
+use Rattle.pig_schema.specs.FieldTrees.{tree_kind}
+use Rattle.pig_typed.specs.BlockKinds.{item_kinds, items_kinds}
+use Rattle.pig_typed.specs.Typed.{x_field}
 use Rattle.pig_plan.specs.NodeKinds.{Before, RowKinds, are_alike, node_gives, union_kinds}
 use Rattle.pig_plan.specs.Plans.{p_union}
 use Rattle.pig_typing.specs.Columns.{AreColumns}
 use Rattle.pig_typing.specs.Items.{plain_item}
-use Rattle.pig_relations.specs.Aliases.{Aliases, RelationTree, IsRelation, IsTable}
+use Rattle.pig_relations.specs.Aliases.{Aliases, RelationTree, IsTable}
 use Rattle.pig_relations.specs.Together.{all_together, of_kinds, widens, widened}
-use Rattle.pig_relations.specs.Unions.{UnionInput, TypedUnion, AllMeant, none_meant, more_meant, Unions, unions, any_widens, column_kinds, first_columns, union_input, union_of_kinds, widened_fields, widened_row, widening, GivesRows}
+use Rattle.pig_relations.specs.Unions.{TypedUnion, AllMeant, none_meant, more_meant, Unions, unions, any_widens, column_kinds, first_columns, union_input, widened_fields, widened_row, widening, GivesRows}
 use Rattle.pig_relations.proofs.TogetherHolds.{Fits, same, wider, AllFit, AllRowsFit, columns_given, kinds_given, rows_fit, widened_kind}
 
 -- ---- the block that widens

@@ -2,7 +2,7 @@
 -- (Pig Latin Basics: "GROUP", "COGROUP", "JOIN (inner)", "JOIN (outer)".)
 use Rattle.std.specs.Prelude.{◌≡◌, ℕ, Bool, true, false, List, [], ◌∷◌, map, Option, Some, None}
 use Rattle.std.specs.Option.{option_and_then}
-use Rattle.std.specs.declared.result.Result.TheVariants.{Ok, Err}
+use Rattle.std.specs.declared.result.Result.TheVariants.{Ok}
 use Rattle.pig_value.specs.Trees.{KindTree}
 use Rattle.pig_schema.specs.FieldTrees.{FieldTree, tree_kind}
 use Rattle.pig_syntax.specs.ExprTrees.{ExprForms, expr_form, expr_forms}
@@ -80,11 +80,19 @@ keys_kinds t = map tree_kind (key_columns t)
 abbrev pub key_kinds : List TypedInput → Option (List KindTree)
 key_kinds ts = option_and_then if_some (all_together (map keys_kinds ts))
 
+-- a key, of the first of the kinds, where it stands there
+abbrev pub cast_first : Typing → List KindTree → Typed
+cast_first p [] = typed_of p
+cast_first p (k ∷ ks) = widened (kind_in p) k (typed_of p)
+
+abbrev pub rest_of : List KindTree → List KindTree
+rest_of [] = []
+rest_of (k ∷ ks) = ks
+
 -- keys of these kinds, where an int stands with a long by a cast
 abbrev pub cast_keys : List Typing → List KindTree → List Typed
 cast_keys [] ks = []
-cast_keys (p ∷ ps) [] = []
-cast_keys (p ∷ ps) (k ∷ ks) = widened (kind_in p) k (typed_of p) ∷ cast_keys ps ks
+cast_keys (p ∷ ps) ks = cast_first p ks ∷ cast_keys ps (rest_of ks)
 
 abbrev pub keyed : List KindTree → TypedInput → Keyed
 keyed ks t = record { input = t.relation.node; keys = cast_keys t.keys ks; inner = t.inner }

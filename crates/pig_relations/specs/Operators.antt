@@ -4,7 +4,7 @@
 use Rattle.std.specs.Prelude.{◌≡◌, ℕ, true, false, List, [], ◌∷◌, map, length, codes, Option, Some, None, if◌then◌else◌}
 use Rattle.std.specs.List.{flat_map}
 use Rattle.std.specs.declared.result.Result.TheVariants.{Ok, Err}
-use Rattle.pig_value.specs.Trees.{KindTree, k_chars, k_tuple, k_bag}
+use Rattle.pig_value.specs.Trees.{k_chars, k_tuple, k_bag}
 use Rattle.pig_value.specs.declared.operators.Side.{Side}
 use Rattle.pig_schema.specs.FieldTrees.{FieldTree, schema_tree}
 use Rattle.pig_plan.specs.NodeKinds.{is_join}

@@ -1,12 +1,12 @@
 -- Kinds that several inputs have together: those of keys, and of the columns of a UNION. They are equal, but that an int stands with a
 -- long, and is then cast to long.
 -- (Pig Latin Basics: "JOIN", "COGROUP", "UNION". That nothing else is brought together is a choice of this profile.)
-use Rattle.std.specs.Prelude.{ℕ, Bool, true, false, List, [], ◌∷◌, map, length, ◌==◌, Option, Some, None, if◌then◌else◌}
+use Rattle.std.specs.Prelude.{Bool, true, false, List, [], ◌∷◌, length, ◌==◌, Option, Some, None, if◌then◌else◌}
 use Rattle.std.specs.List.{list_all}
 use Rattle.std.specs.Option.{option_and_then, option_map}
 use Rattle.pig_value.specs.Kinds.{kind_eq}
 use Rattle.pig_value.specs.Trees.{KindTree, k_int, k_long}
-use Rattle.pig_schema.specs.FieldTrees.{FieldTree, a_field, tree_name, tree_kind, tree_inner}
+use Rattle.pig_schema.specs.FieldTrees.{FieldTree, a_field, tree_name, tree_inner}
 use Rattle.pig_typed.specs.Typed.{Typed}
 use Rattle.pig_typing.specs.Joins.{cast_if}
 

@@ -3,13 +3,12 @@ ghost use Rattle.std.specs.Option.{option_map};
 ghost use Rattle.pig_value.specs.Trees.{kind_tree};
 ghost use Rattle.pig_schema.specs.FieldTrees.{tree_kind};
 ghost use Rattle.pig_typed.specs.Typed.{typed};
-ghost use Rattle.pig_typing.specs.Parts.{kind_in, typed_column, typed_of};
+ghost use Rattle.pig_typing.specs.Parts.{typed_column};
 ghost use Rattle.pig_typing.specs.Results.{Tells};
 ghost use Rattle.pig_typing.specs.Views.{typed_tree};
 ghost use Rattle.pig_plan.specs.Plans.{keyed_of as plan_keyed};
 ghost use Rattle.pig_relations.specs.Aliases.{aliases_of};
-ghost use Rattle.pig_relations.specs.Keyed.{cast_keys, group_form, if_some, input_of, inputs_of, join_form, key_kinds, keyed, keyed_of, keys_kinds};
-ghost use Rattle.pig_relations.specs.Together.{widened};
+ghost use Rattle.pig_relations.specs.Keyed.{cast_first, cast_keys, group_form, if_some, input_of, inputs_of, join_form, key_kinds, keyed, keyed_of, keys_kinds, rest_of};
 ghost use Rattle.pig_relations.specs.Views.{fields_seen, form_of, input_tree, keyable_tree};
 
 use crate::aliases::{Relation, Relations};
@@ -148,7 +147,7 @@ fn key_kinds(alloc: Global, inputs: &[TypedInput]) -> Result<Option<Kinds>, Allo
     ensures { IfOk result (λ found. option_map (map kind_tree) found
         ≡ key_kinds (map input_tree inputs.now)) }
 {
-    let rows = key_rows(alloc, inputs)?;
+    let rows = key_rows(alloc, &*inputs)?;
     match all_together(alloc, rows.as_slice())? {
         Some(kinds) => Ok(if_some(kinds)),
         None => Ok(None),
@@ -161,9 +160,9 @@ fn if_some(kinds: Kinds) -> Option<Kinds>
     if kinds.is_empty() { None } else { Some(kinds) }
 }
 
-fn key_rows<'a>(
+fn key_rows<'a, 'b>(
     alloc: Global,
-    inputs: &'a [TypedInput<'a>],
+    inputs: &'a [TypedInput<'b>],
 ) -> Result<Vec<Vec<&'a Field>>, AllocError>
     ensures { IfOk result (λ rows. map (λ row. map tree_kind (fields_seen row.items)) rows.items
         ≡ map keys_kinds (map input_tree inputs.now)) }
@@ -236,22 +235,28 @@ fn cast_keys(alloc: Global, keys: TypedExprs, kinds: &[Kind]) -> Result<TExprs, 
     let mut made = Seq::with_capacity(alloc, keys.len())?;
     let mut left = kinds;
     for key in keys.into_vec() {
-        match left {
-            [kind, rest @ ..] => {
-                made.push(cast_key(alloc, key, kind)?)?;
-                left = rest;
-                continue;
-            }
-            [] => continue,
-        }
+        made.push(cast_first(alloc, key, left)?)?;
+        left = rest_of(left);
     }
     Ok(made)
 }
 
-fn cast_key(alloc: Global, key: TypedExpr, kind: &Kind) -> Result<TExpr, AllocError>
-    ensures { IfOk result (λ e. typed e ≡ widened (kind_in (typed_tree key)) (kind_tree kind.now)
-        (typed_of (typed_tree key))) }
+fn cast_first(alloc: Global, key: TypedExpr, kinds: &[Kind]) -> Result<TExpr, AllocError>
+    ensures { IfOk result (λ e. typed e
+        ≡ cast_first (typed_tree key) (map kind_tree kinds.now)) }
 {
     let TypedExpr { expr, column } = key;
-    widened(alloc, &column.kind, kind, expr)
+    match kinds {
+        [kind, ..] => widened(alloc, &column.kind, kind, expr),
+        [] => Ok(expr),
+    }
+}
+
+fn rest_of(kinds: &[Kind]) -> &[Kind]
+    ensures { map kind_tree result.now ≡ rest_of (map kind_tree kinds.now) }
+{
+    match kinds {
+        [_, rest @ ..] => rest,
+        [] => kinds,
+    }
 }

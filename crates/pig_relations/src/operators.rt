@@ -1,4 +1,4 @@
-ghost use Rattle.std.specs.Prelude.{◌≡◌, ◌++◌, IfOk, false, map};
+ghost use Rattle.std.specs.Prelude.{◌≡◌, ◌++◌, IfOk, false, length, map};
 ghost use Rattle.std.specs.List.{flat_map};
 ghost use Rattle.pig_value.specs.Trees.{kind_tree};
 ghost use Rattle.pig_schema.specs.FieldTrees.{named_tree, schema_tree};
@@ -154,7 +154,7 @@ fn join_told(
         hint.now) result }
 {
     without(hint)?;
-    sided(side, inputs.len())?;
+    sided(side, count(inputs))?;
     let forms = join_forms(alloc, inputs)?;
     let keyed = type_keyed(alloc, relations, forms.as_slice())?;
     joined(alloc, side, keyed)
@@ -181,6 +181,12 @@ fn sided(side: Side, count: usize) -> Result<(), TypeFault>
     } else {
         Err(TypeFault::Refused(CheckKind::Unsupported))
     }
+}
+
+fn count(inputs: &[JoinInput]) -> usize
+    ensures { result ≡ length (map join_form inputs.now) }
+{
+    inputs.len()
 }
 
 fn joins(side: Side, count: usize) -> bool

@@ -134,7 +134,7 @@ fn all_kinds(alloc: Global, inputs: &[&Relation]) -> Result<Option<Kinds>, Alloc
 
 fn column_rows<'a>(
     alloc: Global,
-    inputs: &'a [&'a Relation],
+    inputs: &[&'a Relation],
 ) -> Result<Vec<Vec<&'a Field>>, AllocError>
     ensures { IfOk result (λ rows. map (λ row. map tree_kind (fields_seen row.items)) rows.items
         ≡ map column_kinds (relations_seen inputs.now)) }

@@ -1,7 +1,6 @@
 use Rattle.std.proofs.Common.{rules, ◌≡◌, ◌∙◌, ◌++◌, ℕ, List, [], ◌∷◌, Some, subst, sym, ap, string_bytes, if◌then◌else◌, length}
 use Rattle.std.specs.Str.{bytes_eq}
 use Rattle.indexmap.specs.IndexMap.{get_by_text}
-use Rattle.pig_relations.specs.declared.aliases.Named.{Named}
 use Rattle.pig_relations.specs.Aliases.{IsIndex}
 use Rattle.pig_relations.proofs.Index.{index_behind}
 use Rattle.pig_relations.proofs.aliases.note.Goals as goal

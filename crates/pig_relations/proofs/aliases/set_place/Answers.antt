@@ -1,9 +1,8 @@
-use Rattle.std.proofs.Common.{◌≡◌, ◌∙◌, ℕ, List, Some, refl, sym, string_bytes, if◌then◌else◌, Bool, true, false, inl, inr}
+use Rattle.std.proofs.Common.{◌≡◌, ◌∙◌, ℕ, List, Some, string_bytes, if◌then◌else◌, true, false, inl, inr}
 use Rattle.std.specs.Prelude.{◌≢◌}
 use Rattle.std.specs.Prelude.{Option, ◌⊎◌}
 use Rattle.std.specs.Str.{bytes_eq}
 use Rattle.std.proofs.lemmas.Map.Text.{hash_map_text_after}
-use Rattle.indexmap.specs.IndexMap.{get_by_text}
 use Rattle.pig_relations.proofs.aliases.set_place.Goals as goal
 
 same_or_other : {V : Type 0} (bs cs : List ℕ) (v : V) (new old at was : Option V) → at ≡ Some v

@@ -1,8 +1,6 @@
-use Rattle.std.proofs.Common.{rules, ◌≡◌, ◌∙◌, List, ℕ, Some, refl, sym, ap}
+use Rattle.std.proofs.Common.{rules, ◌≡◌, Some}
 use Rattle.std.specs.Prelude.{None, slice_get}
-use Rattle.std.specs.Option.{option_map}
 use Rattle.indexmap.specs.IndexMap.{get_by_text}
-use Rattle.pig_relations.specs.Aliases.{aliases_of, relation_at, relation_tree}
 use Rattle.pig_relations.proofs.Index.{index_tells}
 use Rattle.pig_relations.proofs.aliases.Relations.latest.Goals as goal
 
