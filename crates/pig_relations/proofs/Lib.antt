@@ -2,9 +2,9 @@ pub mod Tables
 mod Index
 mod TogetherHolds
 mod KeyedTold
-mod OperatorsTold
+pub mod OperatorsTold
 mod KeyedHold
-mod Gives
-mod UnionGives
+pub mod Gives
+pub mod UnionGives
 mod CastKeys
 pub mod LineEnds
