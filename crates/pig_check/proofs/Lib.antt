@@ -1,0 +1,11 @@
+mod KindsBack
+mod Kept
+mod Grown
+mod Joining
+mod Told
+mod Found
+mod ScriptsTold
+mod Filters
+mod Unites
+mod Sound
+mod Steps
