@@ -34,7 +34,7 @@ pub struct Stepped<'a> {
     pub locals: Locals,
 }
 
-/// The steps of a nested block over a row of these columns, in turn: each sees the fields of the row and the steps before it.
+/// The steps of a nested block over a row of these columns, in turn: each sees the row and the steps before it.
 #[tactic(auto, unfolding(crate::specs::Steps::steps_of))]
 pub fn all_steps<'a>(
     alloc: Global,
