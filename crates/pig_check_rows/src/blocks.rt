@@ -1,5 +1,5 @@
 //! Nested blocks and items: each kind of refusal at the sorts of places where it can stand in a FOREACH, and blocks that are typed.
-use crate::shared::{Answer, answer};
+use crate::shared::third;
 use std::alloc::{AllocError, Global};
 use std::test::Fail;
 
@@ -50,15 +50,6 @@ SchemaMismatch: GENERATE key AS (x, y);\n\
 SchemaMismatch: GENERATE FLATTEN(a) AS (x, y);\n\
 UnknownField: { y = a; GENERATE y, z; };";
 
-// What is answered of the third statement.
-fn found(alloc: Global, script: &str) -> Result<String, AllocError> {
-    match answer(alloc, script)? {
-        Answer::Plan(_) => String::from_str(alloc, "fine"),
-        Answer::Refused { statement: 3, kind } => format!(in alloc; "{kind:?}"),
-        _ => String::from_str(alloc, "another statement"),
-    }
-}
-
 #[test]
 fn types_each_block(rt: HostRuntime) -> Result<(), Fail> {
     let alloc = rt.alloc();
@@ -66,7 +57,7 @@ fn types_each_block(rt: HostRuntime) -> Result<(), Fail> {
         let (wanted, block) = row.split_once(": ").unwrap_or(("none", ""));
         let mut script = String::from_str(alloc, BEFORE)?;
         script.push_str(block)?;
-        let found = found(alloc, script.as_str())?;
+        let found = third(alloc, script.as_str())?;
         assert_eq!(rt; found.as_str(), wanted, "{block}");
     }
     Ok(())
@@ -91,10 +82,10 @@ fn large(alloc: Global, steps: usize, items: usize) -> Result<String, AllocError
 fn types_large_blocks(rt: HostRuntime) -> Result<(), Fail> {
     let alloc = rt.alloc();
     let script = large(alloc, 64, 512)?;
-    let typed = found(alloc, script.as_str())?;
+    let typed = third(alloc, script.as_str())?;
     assert_eq!(rt; typed.as_str(), "fine");
     let script = large(alloc, 1, 513)?;
-    let refused = found(alloc, script.as_str())?;
+    let refused = third(alloc, script.as_str())?;
     assert_eq!(rt; refused.as_str(), "TooWide");
     Ok(())
 }

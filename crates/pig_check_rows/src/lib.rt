@@ -4,6 +4,8 @@
 #[cfg(test)]
 mod blocks;
 #[cfg(test)]
+mod joined;
+#[cfg(test)]
 mod kinds;
 #[cfg(test)]
 mod plans;

@@ -52,6 +52,15 @@ pub fn answer(alloc: Global, script: &str) -> Result<Answer, AllocError> {
     }
 }
 
+// What is answered of a script's third statement, where those before it are typed: `fine`, or a kind.
+pub fn third(alloc: Global, script: &str) -> Result<String, AllocError> {
+    match answer(alloc, script)? {
+        Answer::Plan(_) => String::from_str(alloc, "fine"),
+        Answer::Refused { statement: 3, kind } => format!(in alloc; "{kind:?}"),
+        _ => String::from_str(alloc, "another statement"),
+    }
+}
+
 // The number of a node's statement, and its operator.
 pub fn node_shown(alloc: Global, node: &Node) -> Result<String, AllocError> {
     let Ok(shown) = format!(in alloc; "{}: {:?}", node.statement, node.op) else {

@@ -1,0 +1,72 @@
+//! Operators over several relations: each kind of refusal of their inputs and keys, and many inputs.
+use crate::shared::third;
+use std::alloc::{AllocError, Global};
+use std::test::Fail;
+
+// Two relations of four fields; what is tried is the third statement.
+const BEFORE: &str =
+    "a = LOAD 'a' AS (k:int, l:long, s:chararray, g:{(x:int)}); b = LOAD 'b' AS (k:int, l:long, s:chararray, g:{(x:int)}); y = ";
+
+// A line for each operator: the kind that is due, or `fine`.
+const OPERATORS: &str = "\
+fine: COGROUP a BY k, b BY l;\n\
+fine: COGROUP a BY (k, s) INNER, b BY (l, s);\n\
+fine: JOIN a BY (k, s), b BY (l, s);\n\
+fine: JOIN a BY k + 1 LEFT, b BY $0;\n\
+fine: GROUP a ALL;\n\
+fine: UNION a, b, a;\n\
+SchemaMismatch: COGROUP a BY (k, l), b BY k;\n\
+SchemaMismatch: JOIN a BY k, b BY (k, s);\n\
+BadKey: COGROUP a BY g, b BY g;\n\
+BadKey: JOIN a BY k, b BY g;\n\
+UnknownField: JOIN a BY k, b BY zz;\n\
+PositionOut: COGROUP a BY $4, b BY k;\n\
+UnknownAlias: JOIN a BY k, zz BY k;\n\
+UnknownAlias: COGROUP zz BY k, a BY k;\n\
+UnknownAlias: GROUP zz ALL;\n\
+UnknownAlias: UNION a, zz;\n\
+Unsupported: JOIN a BY k LEFT, b BY k, a BY k;\n\
+Unsupported: JOIN a BY k, b BY k USING 'replicated';\n\
+Unsupported: COGROUP a BY k, b BY k USING 'merge';\n\
+Unsupported: GROUP a ALL USING 'collected';\n\
+Unsupported: UNION ONSCHEMA a, b;";
+
+#[test]
+fn types_each_operator(rt: HostRuntime) -> Result<(), Fail> {
+    let alloc = rt.alloc();
+    for row in OPERATORS.lines() {
+        let (wanted, operator) = row.split_once(": ").unwrap_or(("none", ""));
+        let mut script = String::from_str(alloc, BEFORE)?;
+        script.push_str(operator)?;
+        let found = third(alloc, script.as_str())?;
+        assert_eq!(rt; found.as_str(), wanted, "{operator}");
+    }
+    Ok(())
+}
+
+// A JOIN, or a UNION, of so many inputs.
+fn many(alloc: Global, first: &str, further: &str, inputs: usize) -> Result<String, AllocError> {
+    let mut script = String::from_str(alloc, BEFORE)?;
+    script.push_str(first)?;
+    for _ in 1..inputs {
+        script.push_str(further)?;
+    }
+    script.push_str(";")?;
+    Ok(script)
+}
+
+// A JOIN of 128 inputs of four fields has as many fields as a row may have.
+#[test]
+fn types_many_inputs(rt: HostRuntime) -> Result<(), Fail> {
+    let alloc = rt.alloc();
+    let script = many(alloc, "JOIN a BY k", ", b BY l", 128)?;
+    let joined = third(alloc, script.as_str())?;
+    assert_eq!(rt; joined.as_str(), "fine");
+    let script = many(alloc, "JOIN a BY k", ", b BY l", 129)?;
+    let refused = third(alloc, script.as_str())?;
+    assert_eq!(rt; refused.as_str(), "TooWide");
+    let script = many(alloc, "UNION a", ", b", 1000)?;
+    let united = third(alloc, script.as_str())?;
+    assert_eq!(rt; united.as_str(), "fine");
+    Ok(())
+}
