@@ -1,3 +1,4 @@
+mod Samples
 mod KindsBack
 mod Kept
 mod Grown
