@@ -1,12 +1,8 @@
-pub mod Answers
-pub mod Asked
-pub mod ClapWords
-pub mod CommandWords
-pub mod FirstForm
-pub mod FormParts
-pub mod FormReader
-pub mod Meaning
+pub mod Due
+pub mod Ends
+pub mod Outputs
 pub mod Reading
-pub mod Running
+pub mod Refusals
 pub mod Steps
+pub mod Texts
 pub mod Told

@@ -1,0 +1,10 @@
+-- Which nodes are marked as live while the nodes are gone through from the last.
+use Rattle.std.specs.Prelude.{◌≡◌, ◌≤◌, ◌<◌, ℕ, Bool, false, List, drop, length, get_or}
+use Rattle.pig_plan.specs.Nodes.{is_live, is_used}
+use Rattle.pig_plan.specs.Plans.{Plan}
+
+-- From the node numbered i on, the live nodes are marked; before it, those that a live node from there on names.
+pub record AreMarks (plan : Plan) (i : ℕ) (marks : List Bool) : Type 0 where
+  pub size : length marks ≡ length plan
+  pub behind : (k : ℕ) → i ≤ k → k < length plan → get_or marks k false ≡ is_live plan k
+  pub before : (k : ℕ) → k < i → get_or marks k false ≡ is_used k i (drop i plan)
