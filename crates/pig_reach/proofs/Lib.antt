@@ -1,0 +1,3 @@
+mod Flowing
+mod Marking
+mod Once

@@ -6,7 +6,7 @@ use Rattle.pig_plan.specs.Plans.{PlanNode}
 use Rattle.pig_reach.specs.Reach.{loaded_path}
 
 abbrev pub is_among : List ℕ → List (List ℕ) → Bool
-is_among path paths = list_any (λ other. bytes_eq other path) paths
+is_among path paths = list_any (bytes_eq path) paths
 
 -- the paths with one more, unless it is there
 abbrev pub with_new : List (List ℕ) → List ℕ → List (List ℕ)

@@ -51,7 +51,7 @@ fn is_among(path: &Text, paths: &Texts) -> bool
 {
     let mut left = paths.as_slice();
     while let [other, rest @ ..] = left {
-        if other.as_bytes() == path.as_bytes() {
+        if path.as_bytes() == other.as_bytes() {
             return true;
         }
         left = rest;

@@ -1,8 +1,11 @@
 pub mod Due
 pub mod Ends
+pub mod Lines
+pub mod Looking
 pub mod Outputs
 pub mod Reading
 pub mod Refusals
+pub mod Running
 pub mod Steps
 pub mod Texts
 pub mod Told

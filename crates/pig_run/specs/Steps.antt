@@ -94,6 +94,10 @@ IsHostStep found = (found ≡ fault.HostFault) ⊎ (found ≡ fault.OutOfMemory)
 abbrev pub IsCommitFault : ℕ → RunFault → Type 0
 IsCommitFault number found = (found ≡ fault.DepotFault (Some number)) ⊎ (found ≡ fault.OutOfMemory)
 
+-- the run of a plan ends by the host, the depot at a STORE, or memory
+abbrev pub IsRunFault : RunFault → Type 0
+IsRunFault found = (found ≡ fault.HostFault) ⊎ ((number : ℕ) × (found ≡ fault.DepotFault (Some number))) ⊎ (found ≡ fault.OutOfMemory)
+
 -- another fault than that of wrong words
 abbrev pub IsNotUsage : RunFault → Type 0
 IsNotUsage fault.Usage = ⊥

@@ -1,5 +1,5 @@
 -- What the top call says of a shelf that is told.
-use Rattle.std.specs.Prelude.{◌≡◌, ◌<◌, ◌++◌, ℕ, List, Option, Some, None}
+use Rattle.std.specs.Prelude.{◌≡◌, ◌<◌, ◌++◌, ℕ, List, ◌∷◌, [], length, Option, Some, None}
 use Rattle.std.specs.Option.{ForSome, option_map}
 use Rattle.pig_value.specs.declared.inputs.Input.{Input}
 use Rattle.pig_outside.specs.Calls.{DepotCall}
@@ -100,3 +100,7 @@ Tells inputs = (told : List Input) × (inputs ≡ Some told)
 abbrev pub first_of : {X : Type 0} → (X → ℕ) → List X → ℕ
 first_of count [] = 0
 first_of count (x ∷ _) = count x
+
+-- the words of a program with these hosts
+abbrev pub line_of : {H : Type 0} → List H → List (List ℕ) → Line
+line_of hosts words = record { hosts = length hosts; words = words }

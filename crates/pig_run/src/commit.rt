@@ -1,3 +1,15 @@
+ghost use Rattle.std.specs.Prelude.{◌≡◌, ◌++◌, ◌∷◌, [], length, map, true, false, IfOk, IfErr, OnOk, OnErr};
+ghost use Rattle.std.specs.Option.{ForSome, option_map};
+ghost use Rattle.std.specs.List.{AllByRecursion, flat_map};
+ghost use Rattle.pig_value.specs.Texts.{rows_text};
+ghost use Rattle.pig_value.specs.Trees.{rows_tree};
+ghost use Rattle.pig_outside.specs.Shelf.{CanCreate, whole_state, with_dir};
+ghost use Rattle.pig_run.specs.Due.{store_calls};
+ghost use Rattle.pig_run.specs.Looking.{IsAbsentIn, are_apart};
+ghost use Rattle.pig_run.specs.Outputs.{LeftOpen, with_outputs};
+ghost use Rattle.pig_run.specs.Running.{AskedFor, IsBrokenAt, IsNotBegun, output_of, outputs_of};
+ghost use Rattle.pig_run.specs.Steps.{DepotCause, IsCommitFault, StoreCause};
+
 use crate::RunFault;
 use crate::looking::depot_fault;
 use crate::progress::Progress;
@@ -51,7 +63,22 @@ fn store_rows<D: Depot>(
     store: &Store,
     rows: &Rows,
     progress: &mut Progress,
-) -> Result<(), RunFault> {
+) -> Result<(), RunFault>
+    requires { ForSome (D.shelf depot.old) (CanCreate store.now.dir) }
+    ensures ok { OnOk result (D.shelf depot.new
+        ≡ option_map (with_outputs (output_of store.now rows.now ∷ [])) (D.shelf depot.old)) }
+    ensures err { OnErr result (LeftOpen store.now.dir (D.shelf depot.old) (D.shelf depot.new)) }
+    ensures fault { IfErr result (IsCommitFault store.now.statement) }
+    ensures cause { DepotCause (D.faults depot.old) (D.faults depot.new) result }
+    ensures stores { StoreCause (D.store_faults depot.old) (D.store_faults depot.new) result }
+    ensures asked { AskedFor (store_calls store.now.dir) result (D.calls depot.old)
+        (D.calls depot.new) }
+    ensures lines { OnOk result (progress.new.lines.items
+        ≡ progress.old.lines.items ++ length rows.now ∷ []) }
+    ensures kept { progress.new.kept ≡ progress.old.kept }
+    ensures read { progress.new.read ≡ progress.old.read }
+    ensures begun { IsNotBegun progress.new.begun result (D.shelf depot.old) (D.shelf depot.new) }
+{
     let bytes = rows_bytes(alloc, rows, store.delim)?;
     progress.lines.push(rows.len() as u64)?;
     progress.begun = true;
@@ -65,7 +92,24 @@ pub fn store_all<D: Depot>(
     stores: &[Store],
     relations: &[Rows],
     progress: &mut Progress,
-) -> Result<(), RunFault> {
+) -> Result<(), RunFault>
+    requires absent { ForSome (D.shelf depot.old) (λ s. AllByRecursion (IsAbsentIn s) stores.now) }
+    requires apart { are_apart stores.now ≡ true }
+    requires each { length relations.now ≡ length stores.now }
+    ensures ok { OnOk result (D.shelf depot.new
+        ≡ option_map (with_outputs (outputs_of stores.now relations.now)) (D.shelf depot.old)) }
+    ensures err { IfErr result (λ f. IsBrokenAt stores.now relations.now f
+        (D.shelf depot.old) (D.shelf depot.new)) }
+    ensures cause { DepotCause (D.faults depot.old) (D.faults depot.new) result }
+    ensures stores { StoreCause (D.store_faults depot.old) (D.store_faults depot.new) result }
+    ensures asked { AskedFor (flat_map store_calls (map (λ store. store.dir) stores.now)) result
+        (D.calls depot.old) (D.calls depot.new) }
+    ensures lines { OnOk result (progress.new.lines.items
+        ≡ progress.old.lines.items ++ map length relations.now) }
+    ensures kept { progress.new.kept ≡ progress.old.kept }
+    ensures read { progress.new.read ≡ progress.old.read }
+    ensures begun { IsNotBegun progress.new.begun result (D.shelf depot.old) (D.shelf depot.new) }
+{
     let mut left = stores;
     let mut rows_left = relations;
     while let ([store, rest @ ..], [rows, more @ ..]) = (left, rows_left) {

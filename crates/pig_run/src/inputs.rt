@@ -1,5 +1,13 @@
-use crate::looking::{Size, Sizes};
+ghost use Rattle.std.specs.Prelude.{◌≡◌, ◌<◌, ◌≤◌, map, Some, IfOk, IfErr};
+ghost use Rattle.std.specs.Option.{ForSome};
+ghost use Rattle.std.specs.List.{AllByRecursion};
+ghost use Rattle.pig_outside.specs.Shelf.{HasRange, pieces_of, range_of};
+ghost use Rattle.pig_run.specs.Looking.{HasLengths};
+ghost use Rattle.pig_run.specs.Running.{inputs_at};
+ghost use Rattle.pig_run.specs.Steps.{HostCause, IsHostStep, host_fault_of};
+
 use crate::RunFault;
+use crate::looking::{Size, Sizes};
 use pig_outside::{Host, OutsideError};
 use pig_value::{Blob, Blobs, Input, Inputs};
 use std::alloc::Global;
@@ -37,7 +45,14 @@ fn read_piece<H: Host>(
 }
 
 /// The pieces of an input.
-fn read_pieces<H: Host>(alloc: Global, host: &mut H, size: &Size) -> Result<Blobs, RunFault> {
+fn read_pieces<H: Host>(alloc: Global, host: &mut H, size: &Size) -> Result<Blobs, RunFault>
+    requires { ForSome (H.inputs host.old) (λ i. HasLengths i size.now) }
+    ensures read { ForSome (H.inputs host.old)
+        (λ i. IfOk result (λ pieces. pieces_of size.now.path i ≡ Some pieces)) }
+    ensures fault { IfErr result IsHostStep }
+    ensures inputs { H.inputs host.new ≡ H.inputs host.old }
+    ensures cause { HostCause (H.faults host.old) (H.faults host.new) result }
+{
     let mut pieces = Blobs::new(alloc);
     let mut piece: u32 = 0;
     for length in size.lengths.as_slice() {
@@ -51,12 +66,21 @@ fn read_pieces<H: Host>(alloc: Global, host: &mut H, size: &Size) -> Result<Blob
 }
 
 /// Inputs, every piece read once.
-pub fn read_inputs<H: Host>(alloc: Global, host: &mut H, sizes: &Sizes) -> Result<Inputs, RunFault> {
+pub fn read_inputs<H: Host>(alloc: Global, host: &mut H, sizes: &Sizes) -> Result<Inputs, RunFault>
+    requires { ForSome (H.inputs host.old) (λ i. AllByRecursion (HasLengths i) sizes.now) }
+    ensures read { ForSome (H.inputs host.old) (λ i. IfOk result (λ inputs. inputs
+        ≡ inputs_at i (map (λ size. size.path) sizes.now))) }
+    ensures fault { IfErr result IsHostStep }
+    ensures inputs { H.inputs host.new ≡ H.inputs host.old }
+    ensures cause { HostCause (H.faults host.old) (H.faults host.new) result }
+{
     let mut inputs = Inputs::new(alloc);
-    for size in sizes.as_slice() {
+    let mut left = sizes.as_slice();
+    while let [size, rest @ ..] = left {
         let pieces = read_pieces(alloc, host, size)?;
         let path = size.path.copy(alloc)?;
         inputs.push(Input { path, pieces })?;
+        left = rest;
     }
     Ok(inputs)
 }

@@ -23,4 +23,4 @@ mod texts;
 mod top;
 
 pub use outcome::{Counts, Outcome, RunFault, TooLarge};
-pub use top::pig_main;
+pub use top::{one_verdict, pig_main};

@@ -1,15 +1,15 @@
-ghost use Rattle.std.specs.Prelude.{◌≡◌, ◌≤◌, ◌⊎◌, ◌^◌, ◌×◌, map, IfOk, IfErr, MatchResult};
+ghost use Rattle.std.specs.Prelude.{◌≡◌, ◌<◌, ◌≤◌, ◌⊎◌, ◌^◌, ◌-◌, ◌∷◌, [], min, map, true, IfOk, IfErr, MatchResult};
 ghost use Rattle.std.specs.Option.{ForSome};
-ghost use Rattle.std.specs.List.{sum_by};
+ghost use Rattle.std.specs.List.{AllByRecursion, sum_by};
 ghost use Rattle.pig_outside.specs.declared.failing.Method.TheVariants as method;
-ghost use Rattle.pig_outside.specs.Shelf.{has_dir};
-ghost use Rattle.pig_plan.specs.Plans.{plan_of};
-ghost use Rattle.pig_reach.specs.Reach.{dirs_of, live_paths as paths_of};
-ghost use Rattle.pig_run.specs.Due.{HasWords, AreWords, InputsDue, IsDue, OutputsDue, RunDue, ScriptDue, SizeDue, Stage};
-ghost use Rattle.pig_run.specs.Lines.{line_of};
-ghost use Rattle.pig_run.specs.Sizes.{AreSizesOf, AreApart, LooksAt, total_of};
-ghost use Rattle.pig_run.specs.Steps.{Step, DepotCause, SaysWords, IsPlanFault, depot_fault_of};
+ghost use Rattle.pig_plan.specs.Plans.{PlanNode, plan_of};
+ghost use Rattle.pig_reach.specs.Reach.{live_paths, stores_of};
+ghost use Rattle.pig_run.specs.Due.{AreWords, HasWords, InputsDue, IsDue, OutputsDue, RunDue, ScriptDue, SizeDue, call};
+ghost use Rattle.pig_run.specs.Looking.{HasSize, IsAbsentIn, IsPrepared, IsReady, LooksForInput, LooksForOutput, are_apart, is_stored_in, line_of, total_of};
+ghost use Rattle.pig_run.specs.Steps.{DepotCause, IsPlanFault, SaysWords, Step, depot_fault_of};
+ghost use Rattle.pig_run.specs.Told.{Asked};
 ghost use Rattle.pig_run.specs.declared.outcome.RunFault.TheVariants as fault;
+ghost use Rattle.pig_run.specs.declared.outcome.TooLarge.TheVariants as large;
 
 use crate::line::CommandLine;
 use crate::reading::{MOST_SCRIPT, read_script};
@@ -102,8 +102,9 @@ fn find_inputs<D: Depot>(alloc: Global, depot: &mut D, plan: &Plan) -> Result<Si
     ensures told { ForSome (D.shelf depot.old) (λ s. Step (InputsDue (plan_of plan.now) s)
         (λ sizes. SizeDue (plan_of plan.now) s) (D.calls depot.old) (D.calls depot.new) result) }
     ensures sizes { IfOk result (λ sizes. map (λ size. size.path) sizes
-        ≡ paths_of (plan_of plan.now)) }
-    ensures lengths { ForSome (D.shelf depot.old) (λ s. IfOk result (All (HasSize s))) }
+        ≡ live_paths (plan_of plan.now)) }
+    ensures lengths { ForSome (D.shelf depot.old)
+        (λ s. IfOk result (AllByRecursion (HasSize s))) }
     ensures fault { IfErr result IsPlanFault }
     ensures shelf { D.shelf depot.new ≡ D.shelf depot.old }
     ensures cause { DepotCause (D.faults depot.old) (D.faults depot.new) result }
@@ -123,7 +124,7 @@ fn find_inputs<D: Depot>(alloc: Global, depot: &mut D, plan: &Plan) -> Result<Si
 
 /// The sum of lengths, as far as it can be counted.
 fn length_sum(lengths: &Lengths) -> u64
-    ensures { result ≡ min (sum_l lengths.now) (2 ^ 64 - 1) }
+    ensures { result ≡ min (sum_by (λ n. n) lengths.now) (2 ^ 64 - 1) }
 {
     let mut sum: u64 = 0;
     for length in lengths.as_slice() {
@@ -181,8 +182,7 @@ fn check_outputs<D: Depot>(alloc: Global, depot: &mut D, stores: &Stores) -> Res
         → stores.now ≡ stores_of plan → Step (OutputsDue plan s)
         (λ _. RunDue plan) (D.calls depot.old) (D.calls depot.new) result) }
     ensures absent { ForSome (D.shelf depot.old)
-        (λ s. IfOk result (λ _. AllByRecursion (λ store. has_dir store.dir s ≡ false)
-        stores.now)) }
+        (λ s. IfOk result (λ _. AllByRecursion (IsAbsentIn s) stores.now)) }
     ensures fault { IfErr result IsPlanFault }
     ensures shelf { D.shelf depot.new ≡ D.shelf depot.old }
     ensures cause { DepotCause (D.faults depot.old) (D.faults depot.new) result }
@@ -233,7 +233,16 @@ pub struct Prepared {
 }
 
 /// The inputs and outputs of a plan, where nothing stands in the way of its run.
-fn look<D: Depot>(alloc: Global, depot: &mut D, plan: Plan) -> Result<Prepared, RunFault> {
+fn look<D: Depot>(alloc: Global, depot: &mut D, plan: Plan) -> Result<Prepared, RunFault>
+    ensures told { ForSome (D.shelf depot.old) (λ s. Step (InputsDue (plan_of plan) s)
+        (λ p. RunDue (plan_of p.plan)) (D.calls depot.old) (D.calls depot.new) result) }
+    ensures ready { ForSome (D.shelf depot.old) (λ s. IfOk result (IsReady s)) }
+    ensures prepared { IfOk result IsPrepared }
+    ensures fault { IfErr result IsPlanFault }
+    ensures shelf { D.shelf depot.new ≡ D.shelf depot.old }
+    ensures cause { DepotCause (D.faults depot.old) (D.faults depot.new) result }
+    ensures stores { D.store_faults depot.new ≡ D.store_faults depot.old }
+{
     let sizes = find_inputs(alloc, depot, &plan)?;
     check_size(&sizes)?;
     let stores = stores(alloc, &plan)?;
@@ -254,7 +263,18 @@ pub fn prepare<D: Depot>(
     alloc: Global,
     line: &CommandLine,
     depot: &mut D,
-) -> Result<Prepared, RunFault> {
+) -> Result<Prepared, RunFault>
+    ensures told { ForSome (D.shelf depot.old) (λ s. Step (IsDue (line_of line.now) s)
+        (λ p. RunDue (plan_of p.plan)) (D.calls depot.old) (D.calls depot.new) result) }
+    ensures ready { ForSome (D.shelf depot.old) (λ s. IfOk result (IsReady s)) }
+    ensures prepared { IfOk result IsPrepared }
+    ensures words { MatchResult result (λ _. HasWords (line_of line.now))
+        (SaysWords (line_of line.now)) }
+    ensures fault { IfErr result (λ f. (f ≡ fault.Usage) ⊎ IsPlanFault f) }
+    ensures shelf { D.shelf depot.new ≡ D.shelf depot.old }
+    ensures cause { DepotCause (D.faults depot.old) (D.faults depot.new) result }
+    ensures stores { D.store_faults depot.new ≡ D.store_faults depot.old }
+{
     let path = read_path(alloc, line)?;
     let plan = load_plan(alloc, depot, path.as_str())?;
     look(alloc, depot, plan)

@@ -1,5 +1,7 @@
+ghost use Rattle.std.specs.Prelude.{◌≡◌, [], false};
+
 use pig_value::KeptList;
-use std::alloc::{AllocError, Global};
+use std::alloc::Global;
 
 /// How far a run has come, which stands whatever ends it.
 #[derive(Drop)]
@@ -17,7 +19,8 @@ pub struct Progress {
 impl Progress {
     /// Nothing was done yet.
     pub fn new(alloc: Global) -> Progress
-        ensures { IsStart result }
+        ensures lines { result.lines.items ≡ [] }
+        ensures begun { result.begun ≡ false }
     {
         Progress {
             kept: KeptList::new(alloc),

@@ -38,11 +38,7 @@ fn plan_of_trees(alloc: Global, statements: &Stmts) -> Result<Plan, RunFault>
 }
 
 /// The plan of the trees of statements.
-fn plan_of_statements(
-    alloc: Global,
-    tokens: &Tokens,
-    pieces: &Pieces,
-) -> Result<Plan, RunFault>
+fn plan_of_statements(alloc: Global, tokens: &Tokens, pieces: &Pieces) -> Result<Plan, RunFault>
     requires statements { AreStatements tokens.now pieces.now }
     requires few { length tokens.now < 2 ^ 32 }
     requires few_statements { length pieces.now ≤ 4096 }

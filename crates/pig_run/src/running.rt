@@ -1,3 +1,14 @@
+ghost use Rattle.std.specs.Prelude.{◌≡◌, ◌≢◌, ◌<◌, ◌≤◌, ◌⊎◌, ◌%◌, ◌^◌, [], length, false, IfOk, IfErr, MatchResult};
+ghost use Rattle.std.specs.Option.{ForSome};
+ghost use Rattle.std.specs.List.{AllByRecursion, sum_by};
+ghost use Rattle.pig_plan.specs.Plans.{plan_of};
+ghost use Rattle.pig_run.specs.Due.{HasWords};
+ghost use Rattle.pig_run.specs.Looking.{HasLengths, IsPrepared, IsReady, line_of};
+ghost use Rattle.pig_run.specs.Running.{IsFoundOver, RunTold, RunsTold, counts_in};
+ghost use Rattle.pig_run.specs.Steps.{DepotCause, HostCause, IsHostStep, IsRunFault, SaysWords, StoreCause};
+ghost use Rattle.pig_run.specs.Told.{Tells, TellsOf};
+ghost use Rattle.pig_run.specs.declared.outcome.RunFault.TheVariants as fault;
+
 use crate::commit::store_all;
 use crate::inputs::read_inputs;
 use crate::line::CommandLine;
@@ -8,6 +19,7 @@ use crate::{Counts, RunFault};
 use pig_outside::{Depot, Host};
 use pig_plain::{Answers, answer};
 use pig_reach::lines_read;
+use pig_value::Blob;
 use std::alloc::Global;
 
 /// What a plan means, and the number of lines that were read for it.
@@ -18,7 +30,18 @@ struct Found {
 }
 
 /// Reads the inputs, each piece once, and finds what the plan means over them.
-fn find<H: Host>(alloc: Global, host: &mut H, prepared: &Prepared) -> Result<Found, RunFault> {
+fn find<H: Host>(alloc: Global, host: &mut H, prepared: &Prepared) -> Result<Found, RunFault>
+    requires prepared { IsPrepared prepared.now }
+    requires lengths { ForSome (H.inputs host.old)
+        (λ i. AllByRecursion (HasLengths i) prepared.now.sizes) }
+    ensures found { ForSome (H.inputs host.old)
+        (λ i. IfOk result (IsFoundOver (plan_of prepared.now.plan) i)) }
+    ensures each { IfOk result (λ found. length found.answers.stores
+        ≡ length prepared.now.stores) }
+    ensures fault { IfErr result IsHostStep }
+    ensures inputs { H.inputs host.new ≡ H.inputs host.old }
+    ensures cause { HostCause (H.faults host.old) (H.faults host.new) result }
+{
     let inputs = read_inputs(alloc, host, &prepared.sizes)?;
     let read = lines_read(alloc, &prepared.plan, &inputs)?;
     let answers = answer(alloc, &prepared.plan, &inputs)?;
@@ -27,7 +50,7 @@ fn find<H: Host>(alloc: Global, host: &mut H, prepared: &Prepared) -> Result<Fou
 
 /// The sum of numbers, modulo 2 to the 64.
 fn sum(numbers: &[u64]) -> u64
-    ensures { result ≡ sum_l numbers.now % 2 ^ 64 }
+    ensures { result ≡ sum_by (λ n. n) numbers.now % 2 ^ 64 }
 {
     let mut sum: u64 = 0;
     for number in numbers {
@@ -43,22 +66,44 @@ fn perform<D: Depot, H: Host>(
     host: &mut H,
     prepared: &Prepared,
     progress: &mut Progress,
-) -> Result<Vec<u8>, RunFault> {
+) -> Result<Blob, RunFault>
+    requires prepared { IsPrepared prepared.now }
+    requires ready { ForSome (D.shelf depot.old) (λ s. IsReady s prepared.now) }
+    requires tells { TellsOf (D.shelf depot.old) (H.inputs host.old) }
+    requires lines { progress.old.lines.items ≡ [] }
+    requires begun { progress.old.begun ≡ false }
+    ensures told { ForSome (D.shelf depot.old) (λ s. RunsTold (plan_of prepared.now.plan) s
+        (Tells (H.inputs host.old)) (D.calls depot.old) (D.calls depot.new) (D.shelf depot.new)
+        progress.new result) }
+    ensures fault { IfErr result IsRunFault }
+    ensures depot { DepotCause (D.faults depot.old) (D.faults depot.new) result }
+    ensures stores { StoreCause (D.store_faults depot.old) (D.store_faults depot.new) result }
+    ensures host { HostCause (H.faults host.old) (H.faults host.new) result }
+    ensures inputs { H.inputs host.new ≡ H.inputs host.old }
+{
     let found = find(alloc, host, prepared)?;
     let Found { answers, read } = found;
     let Answers { kept, stores } = answers;
     progress.kept = kept;
     progress.read = read;
     let relations = stores.as_slice();
-    store_all(alloc, depot, prepared.stores.as_slice(), relations, progress)?;
+    store_all(
+        alloc,
+        depot,
+        prepared.stores.as_slice(),
+        relations,
+        progress,
+    )?;
     let counts = counts_of(progress);
     let lines = progress.lines.as_slice();
     let text = done_bytes(alloc, prepared.stores.as_slice(), lines, &counts)?;
-    Ok(text)
+    Ok(Blob::from_vec(text))
 }
 
 /// The numbers of a run that has come to its end.
-pub fn counts_of(progress: &Progress) -> Counts {
+pub fn counts_of(progress: &Progress) -> Counts
+    ensures { result ≡ counts_in progress.now }
+{
     Counts {
         read: progress.read,
         shuffled: 0,
@@ -73,7 +118,21 @@ pub fn run<D: Depot, H: Host>(
     depot: &mut D,
     host: &mut H,
     progress: &mut Progress,
-) -> Result<Vec<u8>, RunFault> {
+) -> Result<Blob, RunFault>
+    requires tells { TellsOf (D.shelf depot.old) (H.inputs host.old) }
+    requires lines { progress.old.lines.items ≡ [] }
+    requires begun { progress.old.begun ≡ false }
+    ensures told { ForSome (D.shelf depot.old) (λ s. RunTold (line_of line.now) s
+        (Tells (H.inputs host.old)) (D.calls depot.old) (D.calls depot.new) (D.shelf depot.new)
+        progress.new result) }
+    ensures fault { IfErr result (λ f. f ≢ fault.ConsoleFault) }
+    ensures words { MatchResult result (λ _. HasWords (line_of line.now))
+        (SaysWords (line_of line.now)) }
+    ensures depot { DepotCause (D.faults depot.old) (D.faults depot.new) result }
+    ensures stores { StoreCause (D.store_faults depot.old) (D.store_faults depot.new) result }
+    ensures host { HostCause (H.faults host.old) (H.faults host.new) result }
+    ensures inputs { H.inputs host.new ≡ H.inputs host.old }
+{
     let prepared = prepare(alloc, line, depot)?;
     perform(alloc, depot, host, &prepared, progress)
 }

@@ -1,3 +1,8 @@
+ghost use Rattle.std.specs.Prelude.{◌≡◌, ◌++◌, ◌∷◌, [], map, codes, decimal, IfOk, OnOk};
+ghost use Rattle.pig_run.specs.Texts.{done_line, fault_text, kind_name, large_name, stored_line};
+ghost use Rattle.pig_run.specs.Lines.{lines_text};
+ghost use Rattle.pig_run.specs.declared.outcome.RunFault.TheVariants as fault;
+
 use crate::{Counts, RunFault, TooLarge};
 use itoa::Buffer;
 use pig_check::CheckKind;
@@ -122,7 +127,13 @@ fn depot_bytes(alloc: Global, store: Option<u32>) -> Result<Vec<u8>, AllocError>
     match store {
         Some(statement) => {
             let statement = u64::from(statement);
-            number_line(alloc, b"pig: storage failed at statement ", statement, b"", b"")
+            number_line(
+                alloc,
+                b"pig: storage failed at statement ",
+                statement,
+                b"",
+                b"",
+            )
         }
         None => line_of(alloc, b"pig: storage failed", b""),
     }
@@ -142,7 +153,7 @@ fn add_number(out: &mut Vec<u8>, before: &[u8], number: u64, behind: u8) -> Resu
 
 /// Adds the line of a STORE.
 fn add_stored(out: &mut Vec<u8>, dir: &[u8], lines: u64) -> Result<(), AllocError>
-    ensures { OnOk result (out.new.items ≡ out.old.items ++ stored_line dir.now lines) }
+    ensures { OnOk result (out.new.items ≡ out.old.items ++ stored_line (record { dir = dir.now; bytes = []; lines = lines })) }
 {
     out.extend_from_slice(b"stored ")?;
     out.extend_from_slice(dir)?;
@@ -166,7 +177,7 @@ pub fn done_bytes(
     counts: &Counts,
 ) -> Result<Vec<u8>, AllocError>
     ensures { IfOk result (λ text. text.items
-        ≡ stored_lines (map (λ store. store.dir) stores.now) lines.now ++ done_line counts.now) }
+        ≡ lines_text stores.now lines.now ++ done_line counts.now) }
 {
     let mut out = Vec::new(alloc);
     let mut left = stores;

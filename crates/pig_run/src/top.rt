@@ -1,10 +1,24 @@
+ghost use Rattle.std.specs.Prelude.{◌≡◌, ◌≤◌, ◌<◌, ◌⊎◌, ℕ, List, Option, Some, None, true, length, map, drop, All, codes, if◌then◌else◌};
+ghost use Rattle.std.specs.Option.{ForSome};
+ghost use Rattle.pig_outside.specs.Calls.{DepotCall};
+ghost use Rattle.pig_outside.specs.Shelf.{Shelf};
+ghost use Rattle.pig_run.specs.Due.{HasWords, IsDue, Line};
+ghost use Rattle.pig_run.specs.Ends.{Shown, counts_shown, unshown};
+ghost use Rattle.pig_run.specs.Reading.{Verdict};
+ghost use Rattle.pig_run.specs.Refusals.{status_of};
+ghost use Rattle.pig_run.specs.Running.{end_text, found_in, kept_in};
+ghost use Rattle.pig_run.specs.Texts.{fault_text};
+ghost use Rattle.pig_run.specs.Told.{Tells, TellsOf, Told, first_of, line_of};
+ghost use Rattle.pig_run.specs.declared.outcome.RunFault.TheVariants as fault;
+
 use crate::line::CommandLine;
 use crate::progress::Progress;
 use crate::running::{counts_of, run};
 use crate::texts::fault_bytes;
 use crate::{Counts, Outcome, RunFault};
+use pig_check::a_script_has_one_plan;
 use pig_outside::{Console, Depot, Host, OutsideError};
-use pig_value::{KeptList, Words};
+use pig_value::{Blob, KeptList, Words};
 use std::alloc::Global;
 use std::thread::Threads;
 
@@ -12,11 +26,10 @@ use std::thread::Threads;
 const NO_MEMORY: &str = "pig: out of memory\n";
 
 /// Prints the text of what was found, and answers what it then is.
-fn show<C: Console>(
-    console: &mut C,
-    text: &[u8],
-    found: Option<RunFault>,
-) -> Option<RunFault>
+fn show<C: Console>(console: &mut C, text: &[u8], found: Option<RunFault>) -> Option<RunFault>
+    ensures shown { Shown text.now (record { text = C.text console.old; faults = C.faults console.old })
+        (record { text = C.text console.new; faults = C.faults console.new }) found result }
+    ensures later { C.faults console.old ≤ C.faults console.new }
 {
     match console.write(text) {
         Ok(()) => found,
@@ -36,7 +49,12 @@ fn unshown(found: Option<RunFault>) -> RunFault
 }
 
 /// Prints the text of a fault, and answers what it then is.
-fn show_fault<C: Console>(alloc: Global, console: &mut C, fault: RunFault) -> Option<RunFault> {
+fn show_fault<C: Console>(alloc: Global, console: &mut C, fault: RunFault) -> Option<RunFault>
+    ensures shown { Shown (fault_text fault)
+        (record { text = C.text console.old; faults = C.faults console.old })
+        (record { text = C.text console.new; faults = C.faults console.new }) (Some fault) result }
+    ensures later { C.faults console.old ≤ C.faults console.new }
+{
     match fault_bytes(alloc, &fault) {
         Ok(text) => show(console, text.as_slice(), Some(fault)),
         Err(_) => show(console, NO_MEMORY.as_bytes(), Some(RunFault::OutOfMemory)),
@@ -47,8 +65,14 @@ fn show_fault<C: Console>(alloc: Global, console: &mut C, fault: RunFault) -> Op
 fn show_end<C: Console>(
     alloc: Global,
     console: &mut C,
-    end: Result<Vec<u8>, RunFault>,
-) -> Option<RunFault> {
+    end: Result<Blob, RunFault>,
+) -> Option<RunFault>
+    ensures shown { Shown (end_text end)
+        (record { text = C.text console.old; faults = C.faults console.old })
+        (record { text = C.text console.new; faults = C.faults console.new })
+        (found_in end) result }
+    ensures later { C.faults console.old ≤ C.faults console.new }
+{
     match end {
         Ok(text) => show(console, text.as_slice(), None),
         Err(fault) => show_fault(alloc, console, fault),
@@ -76,7 +100,9 @@ fn counts_shown(fault: &Option<RunFault>, counts: Counts) -> Counts
 }
 
 /// What the bare LIMITs kept, where it counts: once all was found, and where memory sufficed or a directory was begun.
-fn kept_shown(alloc: Global, done: bool, progress: Progress) -> KeptList {
+fn kept_shown(alloc: Global, done: bool, progress: Progress) -> KeptList
+    ensures { result ≡ kept_in done progress }
+{
     if done || progress.begun {
         let Progress { kept, .. } = progress;
         return kept;
@@ -100,6 +126,45 @@ pub fn pig_main<R: Threads + Sync, D: Depot, H: Host + Send, C: Console>(
     requires some_hosts { 1 ≤ length hosts.old.items }
     requires few_hosts { length hosts.old.items ≤ 256 }
     requires hosts_tell { All (λ h. TellsOf (D.shelf depot.old) (H.inputs h)) hosts.old.items }
+    ensures told { ForSome (D.shelf depot.old) (λ s. Told (line_of hosts.old.items words.now) s
+        (All (λ h. Tells (H.inputs h)) hosts.old.items)
+        (record {
+          shelf = D.shelf depot.old;
+          calls = D.calls depot.old;
+          depot_faults = D.faults depot.old;
+          host_faults = first_of H.faults hosts.old.items;
+          console = record { text = C.text console.old; faults = C.faults console.old };
+        })
+        (record {
+          shelf = D.shelf depot.new;
+          calls = D.calls depot.new;
+          depot_faults = D.faults depot.new;
+          host_faults = first_of H.faults hosts.new.items;
+          console = record { text = C.text console.new; faults = C.faults console.new };
+        })
+        result) }
+    ensures usage { result.fault ≡ Some fault.Usage
+        → ¬ HasWords (line_of hosts.old.items words.now) }
+    ensures off_words { ¬ HasWords (line_of hosts.old.items words.now)
+        → (result.fault ≡ Some fault.Usage) ⊎ (result.fault ≡ Some fault.OutOfMemory) }
+    ensures depot_fault { (store : Option ℕ) → result.fault ≡ Some (fault.DepotFault store)
+        → D.faults depot.old < D.faults depot.new }
+    ensures store_fault { (store : ℕ) → result.fault ≡ Some (fault.DepotFault (Some store))
+        → D.store_faults depot.old < D.store_faults depot.new }
+    ensures lookup_fault { result.fault ≡ Some (fault.DepotFault None)
+        → D.store_faults depot.new ≡ D.store_faults depot.old }
+    ensures host_fault { result.fault ≡ Some fault.HostFault
+        → first_of H.faults hosts.old.items < first_of H.faults hosts.new.items }
+    ensures console_fault { result.fault ≡ Some fault.ConsoleFault
+        → C.faults console.old < C.faults console.new }
+    ensures console_failed { C.faults console.old < C.faults console.new
+        → ¬ (result.fault ≡ None) }
+    ensures counts_stand { (D.faults depot.old ≤ D.faults depot.new)
+        × (first_of H.faults hosts.old.items ≤ first_of H.faults hosts.new.items)
+        × (C.faults console.old ≤ C.faults console.new) }
+    ensures hosts { (map H.inputs hosts.new.items ≡ map H.inputs hosts.old.items)
+        × (drop 1 hosts.new.items ≡ drop 1 hosts.old.items) }
+    ensures status { result.status ≡ status_of result.fault }
 {
     let line = CommandLine {
         words,
@@ -116,4 +181,15 @@ pub fn pig_main<R: Threads + Sync, D: Depot, H: Host + Send, C: Console>(
         kept: kept_shown(alloc, done, progress),
         counts,
     }
+}
+
+/// Exactly one thing is due of the same words, number of hosts and shelf: a refusal, which names its statement where one has
+/// no typing, or the run of a plan; and for it the depot is asked one list of calls.
+pub fn one_verdict()
+    ensures some { (line : Line) (shelf : Shelf) → (calls : List DepotCall) × (verdict : Verdict)
+        × IsDue line shelf calls verdict }
+    ensures one { (line : Line) (shelf : Shelf) (calls others : List DepotCall) (v w : Verdict)
+        → IsDue line shelf calls v → IsDue line shelf others w → (v ≡ w) × (calls ≡ others) }
+{
+    a_script_has_one_plan();
 }

@@ -1,0 +1,116 @@
+-- How the steps of a run speak of each other.
+use Rattle.std.specs.Prelude.{◌≡◌, ◌≤◌, ◌<◌, ◌++◌, ◌%◌, ◌^◌, ℕ, Bool, true, false, List, [], ◌∷◌, length, map, Option, Some, None, Result, Ok, Err, IfOk, MatchResult, if◌then◌else◌}
+use Rattle.std.specs.List.{AllByRecursion, flat_map, sum_by}
+use Rattle.std.specs.Option.{option_map, unwrap_or}
+use Rattle.pig_value.specs.declared.inputs.Input.{Input}
+use Rattle.pig_value.specs.declared.outcomes.Kept.{Kept}
+use Rattle.pig_value.specs.Texts.{rows_text}
+use Rattle.pig_value.specs.Trees.{rows_tree}
+use Rattle.pig_outside.specs.Calls.{DepotCall}
+use Rattle.pig_outside.specs.Shelf.{Shelf, pieces_of}
+use Rattle.pig_plain.specs.Answering.{IsAnswer}
+use Rattle.pig_plan.specs.Plans.{Plan}
+use Rattle.pig_reach.specs.Reach.{dirs_of, lines_read}
+use Rattle.pig_reach.specs.declared.storing.Store.{Store}
+use Rattle.pig_value.specs.declared.values.Value.{Value}
+use Rattle.pig_run.specs.declared.outcome.Counts.{Counts}
+use Rattle.pig_run.specs.declared.outcome.RunFault.{RunFault}
+use Rattle.pig_run.specs.declared.outcome.RunFault.TheVariants as fault
+use Rattle.pig_run.specs.declared.progress.Progress.{Progress}
+use Rattle.pig_run.specs.declared.running.Found.{Found}
+use Rattle.pig_run.specs.Due.{IsDue, Line, store_calls}
+use Rattle.pig_run.specs.Ends.{Ends}
+use Rattle.pig_run.specs.Outputs.{Left, LeftOpen, Output, with_outputs}
+use Rattle.pig_run.specs.Reading.{Verdict, Refuses, Runs}
+use Rattle.pig_run.specs.Steps.{IsCommitFault}
+use Rattle.pig_run.specs.Texts.{done_text, fault_text}
+use Rattle.pig_run.specs.Told.{Asked, CountsAre, IsAsked, IsPrefix}
+
+-- the inputs at paths, as they are told
+abbrev pub inputs_at : List Input → List (List ℕ) → List Input
+inputs_at inputs paths = map (λ path. record { path = path; pieces = unwrap_or (pieces_of path inputs) [] }) paths
+
+-- what a plan means was found, and the lines were counted
+pub record IsFoundOver (plan : Plan) (inputs : List Input) (found : Found) : Type 0 where
+  pub answer : IsAnswer plan inputs found.answers.kept (map rows_tree found.answers.stores)
+  pub read : found.read ≡ lines_read plan inputs % 2 ^ 64
+
+-- ---- storing
+
+-- rows of values
+abbrev pub Relation : Type 0
+Relation = List (List Value)
+
+abbrev pub output_of : Store → Relation → Output
+output_of store rows = record { dir = store.dir; bytes = rows_text store.delim (rows_tree rows); lines = length rows }
+
+abbrev pub outputs_of : List Store → List Relation → List Output
+outputs_of (store ∷ stores) (rows ∷ relations) = output_of store rows ∷ outputs_of stores relations
+outputs_of stores relations = []
+
+-- these calls were made, or where there was a fault, the first of them
+pub record AskedFor {T : Type 0} (calls : List DepotCall) (result : Result T RunFault) (old new : Option (List DepotCall)) : Type 0 where
+  pub made : List DepotCall
+  pub asked : Asked made old new
+  pub first : IsPrefix made calls
+  pub all : IfOk result (λ _. made ≡ calls)
+
+-- the STOREs before one were stored, and that one was not
+pub record IsBrokenAt (stores : List Store) (relations : List Relation) (found : RunFault) (old new : Option Shelf) : Type 0 where
+  pub before : List Store
+  pub store : Store
+  pub behind : List Store
+  pub first : List Relation
+  pub last : List Relation
+  pub are : stores ≡ before ++ store ∷ behind
+  pub rows_are : relations ≡ first ++ last
+  pub each : length first ≡ length before
+  pub named : IsCommitFault store.statement found
+  pub left : LeftOpen store.dir (option_map (with_outputs (outputs_of before first)) old) new
+
+-- nothing was begun, and only memory was wanting
+abbrev pub IsNotBegun : {T : Type 0} → Bool → Result T RunFault → Option Shelf → Option Shelf → Type 0
+IsNotBegun begun result old new = begun ≡ false → (new ≡ old) × MatchResult result (λ _. Unit {0}) (λ found. found ≡ fault.OutOfMemory)
+
+-- ---- the run
+
+abbrev pub counts_in : Progress → Counts
+counts_in progress = record { read = progress.read; shuffled = 0; stored = sum_by (λ n. n) progress.lines.items % 2 ^ 64 }
+
+-- what was kept counts where all was stored, or a directory was begun
+abbrev pub kept_in : Bool → Progress → List Kept
+kept_in done progress = if done then progress.kept else (if progress.begun then progress.kept else [])
+
+abbrev pub found_in : {T : Type 0} → Result T RunFault → Option RunFault
+found_in (Ok _) = None
+found_in (Err found) = Some found
+
+-- the text of an end
+abbrev pub end_text : Result (List ℕ) RunFault → List ℕ
+end_text (Ok text) = text
+end_text (Err found) = fault_text found
+
+abbrev pub is_done : {T : Type 0} → Result T RunFault → Bool
+is_done (Ok _) = true
+is_done (Err _) = false
+
+-- What the run of a plan says of a shelf that is told.
+pub record RunsTold (plan : Plan) (shelf : Shelf) (tells : Type 0) (calls_old calls_new : Option (List DepotCall)) (new : Option Shelf) (progress : Progress)
+    (result : Result (List ℕ) RunFault) : Type 0 where
+  pub outs : List Output
+  pub state : Ends tells shelf (record { outs = outs; kept = kept_in (is_done result) progress; shelf = new }) (Runs plan) (found_in result)
+  pub asked : IsAsked (flat_map store_calls (dirs_of plan)) (found_in result) calls_old calls_new
+  pub numbers : CountsAre tells (Runs plan) shelf outs (counts_in progress) (found_in result)
+  pub text : IfOk result (λ text. text ≡ done_text outs (counts_in progress))
+
+-- What a call says of it, from the words on.
+pub record RunTold (line : Line) (shelf : Shelf) (tells : Type 0) (calls_old calls_new : Option (List DepotCall)) (new : Option Shelf)
+    (progress : Progress) (result : Result (List ℕ) RunFault) : Type 0 where
+  pub verdict : Verdict
+  pub calls : List DepotCall
+  pub due : IsDue line shelf calls verdict
+  pub outs : List Output
+  pub state : Ends tells shelf (record { outs = outs; kept = kept_in (is_done result) progress; shelf = new }) verdict (found_in result)
+  pub asked : IsAsked calls (found_in result) calls_old calls_new
+  pub numbers : CountsAre tells verdict shelf outs (counts_in progress) (found_in result)
+  pub text : IfOk result (λ text. text ≡ done_text outs (counts_in progress))
