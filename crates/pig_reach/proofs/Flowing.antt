@@ -3,7 +3,6 @@ use Rattle.std.specs.Prelude.{◌≡◌, ◌<◌, ◌≤◌, ◌+◌, ◌%◌, �
 use Rattle.std.proofs.Common.{ap, sym, subst, ◌∙◌, arith, inl, inr, cond}
 use Rattle.std.specs.List.{AllByRecursion, flat_map, sum_by}
 use Rattle.std.specs.Option.{option_map_or, unwrap_or}
-use Rattle.std.proofs.Math.Nat.{add-mod-mod, mod-add-mod, mod-mod}
 use Rattle.std.proofs.lemmas.List.Sums.{sum_by-append, sum_by-cons}
 use Rattle.std.proofs.lemmas.Bool.{cases_Bool}
 use Rattle.pig_value.specs.declared.inputs.Input.{Input}
@@ -14,7 +13,7 @@ use Rattle.pig_plan.specs.Results.{at_place, result_at, results}
 use Rattle.pig_plan.specs.Valid.{IsPlan}
 use Rattle.pig_plan.proofs.Lower.{names_lower}
 use Rattle.pig_plan.proofs.Unfolds.{length-results, result_is}
-use Rattle.pig_reach.specs.Flows.{come_from, comes_to, flows_of, uses_at}
+use Rattle.pig_reach.specs.Flows.{come_from, comes_to, flows_of, uses_at, uses_in}
 use Rattle.pig_reach.specs.Reach.{lines_at, lines_of, lines_read}
 
 -- ---- sums
@@ -44,27 +43,19 @@ sum_joined f g (x ∷ xs) =
     let more = sum_joined f g xs in
     omega (arith, a, b, more)
 
--- counting on, modulo some number
-pub counts_on : (m count u x rest total : ℕ) → u ≡ x % m → (count + (x + rest)) % m ≡ total % m → ((count + u) % m + rest) % m ≡ total % m
-counts_on m count u x rest total is so_far =
-    mod-add-mod (count + u) rest m
-    ∙ (let e : count + u + rest ≡ (count + rest) + u = omega arith in ap (λ n. n % m) e)
-    ∙ ap (λ v. (count + rest + v) % m) is
-    ∙ add-mod-mod (count + rest) x m
-    ∙ (let e : count + rest + x ≡ count + (x + rest) = omega arith in ap (λ n. n % m) e)
-    ∙ so_far
+-- counting on, modulo 2 to the 64
+pub counts_on : (count u x rest total : ℕ) → u ≡ x % 2 ^ 64 → (count + (x + rest)) % 2 ^ 64 ≡ total % 2 ^ 64 → ((count + u) % 2 ^ 64 + rest) % 2 ^ 64 ≡ total % 2 ^ 64
+counts_on count u x rest total is so_far = omega (arith, is, so_far)
 
 -- a sum of remainders
-sum_mod : {X : Type 0} (m : ℕ) (f g : X → ℕ) (xs : List X) → AllByRecursion (λ x. f x ≡ g x % m) xs → sum_by f xs % m ≡ sum_by g xs % m
-sum_mod m f g [] h = refl
-sum_mod m f g (x ∷ xs) h =
-    ap (λ n. n % m) (sum_by-cons f x xs)
-    ∙ ap (λ n. (n + sum_by f xs) % m) h.0
-    ∙ mod-add-mod (g x) (sum_by f xs) m
-    ∙ sym (add-mod-mod (g x) (sum_by f xs) m)
-    ∙ ap (λ n. (g x + n) % m) (sum_mod m f g xs h.1)
-    ∙ add-mod-mod (g x) (sum_by g xs) m
-    ∙ ap (λ n. n % m) (sym (sum_by-cons g x xs))
+sum_mod : {X : Type 0} (f g : X → ℕ) (xs : List X) → AllByRecursion (λ x. f x ≡ g x % 2 ^ 64) xs → sum_by f xs % 2 ^ 64 ≡ sum_by g xs % 2 ^ 64
+sum_mod f g [] h = refl
+sum_mod f g (x ∷ xs) h =
+    let a = sum_by-cons f x xs in
+    let b = sum_by-cons g x xs in
+    let one = h.0 in
+    let more = sum_mod f g xs h.1 in
+    omega (arith, a, b, one, more)
 
 -- ---- results
 
@@ -131,7 +122,7 @@ module _ (plan : Plan) (inputs : List Input) where
       each [] = refl
       each (n ∷ ns) =
           let one = sum_map (lines_at plan inputs) (λ path. path ++ k ∷ []) (paths n)
-              ∙ sum_same (λ path. lines_at plan inputs (path ++ k ∷ [])) (lines_at plan inputs) (paths n) (each_begins k node at through (paths n)) in
+          ∙ sum_same (λ path. lines_at plan inputs (path ++ k ∷ [])) (lines_at plan inputs) (paths n) (each_begins k node at through (paths n)) in
           let a = sum_by-cons (λ i. sum_by (lines_at plan inputs) (map (λ path. path ++ k ∷ []) (paths i))) n ns in
           let b = sum_by-cons (λ i. sum_by (lines_at plan inputs) (paths i)) n ns in
           let more = each ns in
@@ -146,7 +137,7 @@ module _ (plan : Plan) (inputs : List Input) where
         ap (λ b. sum_by (lines_at plan inputs) (cond b ((k ∷ []) ∷ []) (flat_map (λ i. map (λ path. path ++ k ∷ []) (paths i)) (inputs_of node.op)))) source
         ∙ sum_by-cons (lines_at plan inputs) (k ∷ []) []
         ∙ (let e = alone k node at in let z : sum_by (lines_at plan inputs) [] ≡ 0 = refl in
-          let both : lines_at plan inputs (k ∷ []) + sum_by (lines_at plan inputs) [] ≡ lines_of inputs node.op = omega (arith, e, z) in both)
+        let both : lines_at plan inputs (k ∷ []) + sum_by (lines_at plan inputs) [] ≡ lines_of inputs node.op = omega (arith, e, z) in both)
         ∙ sym (ap (λ b. cond b (lines_of inputs node.op) (sum_by (λ i. sum_by (lines_at plan inputs) (paths i)) (inputs_of node.op))) source)
     | inr through ↦
         ap (λ b. sum_by (lines_at plan inputs) (cond b ((k ∷ []) ∷ []) (flat_map (λ i. map (λ path. path ++ k ∷ []) (paths i)) (inputs_of node.op)))) through
@@ -173,6 +164,10 @@ module _ (plan : Plan) (inputs : List Input) where
   abbrev pub counted : ℕ → ℕ
   counted = at_place 0 (flows_of inputs plan)
 
+  -- the lines that are read for a node
+  abbrev pub read_at : ℕ → ℕ
+  read_at k = option_map_or (λ node. sum_by (lines_at plan inputs) (read_paths plan k node.op)) (slice_get plan k) 0
+
   module _ (valid : IsPlan plan) where
     path_step : (k : ℕ) (node : PlanNode) → slice_get plan k ≡ Some node → paths_of plan k ≡ ways k node.op (paths_of plan)
     path_step k node at = result_is (λ k node. ways k node.op) [] plan k node at
@@ -193,7 +188,7 @@ module _ (plan : Plan) (inputs : List Input) where
               ∙ ap (λ n. n % 2 ^ 64) (sym (flows ∙ ap (λ b. cond b (lines_of inputs node.op) (sum_by flow (inputs_of node.op))) source))
           | inr through ↦
               count_step k node at ∙ ap (λ b. cond b (lines_of inputs node.op % 2 ^ 64) (come_from node.op counted)) through
-              ∙ sum_mod (2 ^ 64) counted flow (inputs_of node.op) lower
+              ∙ sum_mod counted flow (inputs_of node.op) lower
               ∙ ap (λ n. n % 2 ^ 64) (sym (flows ∙ ap (λ b. cond b (lines_of inputs node.op) (sum_by flow (inputs_of node.op))) through))
         ]
 
@@ -205,23 +200,19 @@ module _ (plan : Plan) (inputs : List Input) where
 
     up_to : (n k : ℕ) → k < n → counted k ≡ flow k % 2 ^ 64
     up_to zero k below = absurd (omega (arith, below))
-    up_to (suc n) k below = found (slice_get plan k) refl
+    up_to (suc n) k below = found (λ i lower. up_to n i (omega (arith, lower, below))) (slice_get plan k) refl
       where
-        found : (o : Option PlanNode) → slice_get plan k ≡ o → counted k ≡ flow k % 2 ^ 64
-        found None at = off_plan k at
-        found (Some node) at = counted_at k node at
-            (each_weaker (λ i. i < k) (λ i. counted i ≡ flow i % 2 ^ 64) (λ i lower. up_to n i (omega (arith, lower, below))) (inputs_of node.op) (names_lower plan valid k node at))
+        found : ((i : ℕ) → i < k → counted i ≡ flow i % 2 ^ 64) → (o : Option PlanNode) → slice_get plan k ≡ o → counted k ≡ flow k % 2 ^ 64
+        found lower None at = off_plan k at
+        found lower (Some node) at = counted_at k node at
+            (each_weaker (λ i. i < k) (λ i. counted i ≡ flow i % 2 ^ 64) lower (inputs_of node.op) (names_lower plan valid k node at))
 
     pub counted_is : (k : ℕ) → counted k ≡ flow k % 2 ^ 64
     counted_is k = up_to (suc k) k (omega arith)
 
     -- ---- what is read
 
-    -- the lines that are read for a node
-    abbrev pub read_for : ℕ → ℕ
-    read_for k = option_map_or (λ node. sum_by (lines_at plan inputs) (read_paths plan k node.op)) (slice_get plan k) 0
-
-    pub reads : lines_read plan inputs ≡ sum_by read_for (live plan)
+    pub reads : lines_read plan inputs ≡ sum_by read_at (live plan)
     reads = sum_joined (lines_at plan inputs) (λ k. option_map_or (λ node. read_paths plan k node.op) (slice_get plan k) []) (live plan) ∙ each (live plan)
       where
         inside : (k : ℕ) (o : Option PlanNode) → sum_by (lines_at plan inputs) (option_map_or (λ node. read_paths plan k node.op) o [])
@@ -229,17 +220,17 @@ module _ (plan : Plan) (inputs : List Input) where
         inside k None = refl
         inside k (Some node) = refl
 
-        each : (ns : List ℕ) → sum_by (λ k. sum_by (lines_at plan inputs) (option_map_or (λ node. read_paths plan k node.op) (slice_get plan k) [])) ns ≡ sum_by read_for ns
+        each : (ns : List ℕ) → sum_by (λ k. sum_by (lines_at plan inputs) (option_map_or (λ node. read_paths plan k node.op) (slice_get plan k) [])) ns ≡ sum_by read_at ns
         each [] = refl
         each (n ∷ ns) =
             let a = sum_by-cons (λ k. sum_by (lines_at plan inputs) (option_map_or (λ node. read_paths plan k node.op) (slice_get plan k) [])) n ns in
-            let b = sum_by-cons read_for n ns in
+            let b = sum_by-cons read_at n ns in
             let one = inside n (slice_get plan n) in
             let more = each ns in
             omega (arith, a, b, one, more)
 
     -- what the code counts for a node
-    pub used_is : (k : ℕ) (node : PlanNode) → slice_get plan k ≡ Some node → uses_at k node.op counted ≡ read_for k % 2 ^ 64
+    pub used_is : (k : ℕ) (node : PlanNode) → slice_get plan k ≡ Some node → uses_at k node.op counted ≡ read_at k % 2 ^ 64
     used_is k node at =
         by_kind (is_boundary node.op) (is_store node.op)
         ∙ ap (λ n. n % 2 ^ 64) (sym (ap (λ o. option_map_or (λ node. sum_by (lines_at plan inputs) (read_paths plan k node.op)) o 0) at))
@@ -247,7 +238,16 @@ module _ (plan : Plan) (inputs : List Input) where
         by_kind : (b s : Bool) → cond b (come_from node.op counted) (cond s (counted k) 0)
             ≡ sum_by (lines_at plan inputs) (cond b (flat_map (paths_of plan) (inputs_of node.op)) (cond s (paths_of plan k) [])) % 2 ^ 64
         by_kind true s =
-            sum_mod (2 ^ 64) counted flow (inputs_of node.op) (each_of_all (λ i. counted i ≡ flow i % 2 ^ 64) counted_is (inputs_of node.op))
+            sum_mod counted flow (inputs_of node.op) (each_of_all (λ i. counted i ≡ flow i % 2 ^ 64) counted_is (inputs_of node.op))
             ∙ ap (λ n. n % 2 ^ 64) (sym (sum_joined (lines_at plan inputs) (paths_of plan) (inputs_of node.op)))
         by_kind false true = counted_is k
         by_kind false false = refl
+
+    -- the same of a number, whether there is a node or none
+    pub used_in : (k : ℕ) → uses_in plan k counted ≡ read_at k % 2 ^ 64
+    used_in k = found (slice_get plan k) refl
+      where
+        found : (o : Option PlanNode) → slice_get plan k ≡ o → uses_in plan k counted ≡ read_at k % 2 ^ 64
+        found None at = ap (λ o. option_map_or (λ node. uses_at k node.op counted) o 0) at
+            ∙ sym (ap (λ o. option_map_or (λ node. sum_by (lines_at plan inputs) (read_paths plan k node.op)) o 0 % 2 ^ 64) at)
+        found (Some node) at = ap (λ o. option_map_or (λ node. uses_at k node.op counted) o 0) at ∙ used_is k node at

@@ -7,9 +7,9 @@ use Rattle.std.proofs.lemmas.List.{drop_all}
 use Rattle.std.proofs.lemmas.Option.{slice_get-get_or, slice_get-map}
 use Rattle.pig_value.proofs.list_laws.Indexing.{dropped}
 use Rattle.pig_plan.specs.declared.nodes.Node.{Node}
-use Rattle.pig_plan.specs.Nodes.{is_live, is_store, is_used, names}
+use Rattle.pig_plan.specs.Nodes.{inputs_of, is_live, is_store, is_used, names}
 use Rattle.pig_plan.specs.Plans.{Plan, PlanNode, node_of, plan_of}
-use Rattle.pig_reach.specs.Marks.{AreMarks}
+use Rattle.pig_reach.specs.Marks.{AreMarks, IsMarked}
 
 -- the node at a place of a plan, from the code's list
 pub node_at : (nodes : List Node) (i : ℕ) (d : Node) → i < length nodes → slice_get (plan_of nodes) i ≡ Some (node_of (get_or nodes i d))
@@ -36,9 +36,7 @@ and_swapped false true = refl
 and_swapped false false = refl
 
 module _ (plan : Plan) (i : ℕ) (node : PlanNode) (at : slice_get plan i ≡ Some node) (marks new : List Bool) (so_far : AreMarks plan (i + 1) marks)
-    (size : length new ≡ length marks) (own : get_or new i false ≡ (is_store node.op || get_or marks i false))
-    (others : (k : ℕ) → i < k → get_or new k false ≡ get_or marks k false)
-    (lower : (k : ℕ) → k < i → get_or new k false ≡ (((is_store node.op || get_or marks i false) && names node.op k) || get_or marks k false)) where
+    (told : IsMarked i (is_store node.op) (inputs_of node.op) marks new) where
   behind_it : drop i plan ≡ node ∷ drop (i + 1) plan
   behind_it = dropped plan i node at
 
@@ -46,21 +44,21 @@ module _ (plan : Plan) (i : ℕ) (node : PlanNode) (at : slice_get plan i ≡ So
   used_at k below = so_far.before k below
 
   own_is : get_or new i false ≡ is_live plan i
-  own_is = own ∙ ap (λ b. is_store node.op || b) (used_at i (omega arith))
+  own_is = told.own ∙ ap (λ b. is_store node.op || b) (used_at i (omega arith))
       ∙ sym (ap (λ o. option_map_or (λ n. is_store n.op || is_used i (i + 1) (drop (i + 1) plan)) o false) at)
 
   behind_is : (k : ℕ) → i ≤ k → k < length plan → get_or new k false ≡ is_live plan k
   behind_is k from below = elim (eq-or-lt_of_le from) [
     | inl same ↦ subst (λ n. get_or new n false ≡ is_live plan n) same own_is
-    | inr more ↦ others k more ∙ so_far.behind k (omega (arith, more)) below
+    | inr more ↦ told.behind k more ∙ so_far.behind k (omega (arith, more)) below
   ]
 
   before_is : (k : ℕ) → k < i → get_or new k false ≡ is_used k i (drop i plan)
-  before_is k below = lower k below
+  before_is k below = told.before k below
       ∙ ap (λ b. ((is_store node.op || get_or marks i false) && names node.op k) || b) (used_at k (omega (arith, below)))
       ∙ ap (λ b. b || is_used k (i + 1) (drop (i + 1) plan)) (and_swapped (is_store node.op || get_or marks i false) (names node.op k))
       ∙ ap (λ b. (names node.op k && (is_store node.op || b)) || is_used k (i + 1) (drop (i + 1) plan)) (used_at i (omega arith))
       ∙ sym (ap (λ nodes. is_used k i nodes) behind_it)
 
   pub marked : AreMarks plan i new
-  marked = record { size = size ∙ so_far.size; behind = behind_is; before = before_is }
+  marked = record { size = told.size ∙ so_far.size; behind = behind_is; before = before_is }

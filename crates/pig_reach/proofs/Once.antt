@@ -11,11 +11,11 @@ use Rattle.pig_plan.specs.Plans.{Plan, PlanNode}
 use Rattle.pig_reach.specs.Reach.{loaded_path, once}
 use Rattle.pig_reach.specs.Paths.{is_among, with_new, with_path}
 
-not_among : List (List ℕ) → List ℕ → Bool
+abbrev pub not_among : List (List ℕ) → List ℕ → Bool
 not_among seen path = not (is_among path seen)
 
 -- those of further paths that were not seen
-abbrev unseen : List (List ℕ) → List (List ℕ) → List (List ℕ)
+abbrev pub unseen : List (List ℕ) → List (List ℕ) → List (List ℕ)
 unseen seen more = filter (not_among seen) more
 
 filter_same : {X : Type 0} (p q : X → Bool) → ((x : X) → p x ≡ q x) → (xs : List X) → filter p xs ≡ filter q xs
@@ -59,17 +59,17 @@ one_more seen path more = elim (cases_Bool (is_among path seen)) [
       let rest = filter (λ other. not (bytes_eq other path)) (once more) in
       let gone : unseen seen (path ∷ rest) ≡ unseen seen rest = ap (λ b. cond (not b) (path ∷ unseen seen rest) (unseen seen rest)) there in
       let same : unseen seen rest ≡ unseen seen (once more) =
-          filter-filter (not_among seen) (λ other. not (bytes_eq other path)) (once more)
-          ∙ filter_same (λ other. not (bytes_eq other path) && not_among seen other) (not_among seen) (others_only seen path there) (once more) in
+      filter-filter (not_among seen) (λ other. not (bytes_eq other path)) (once more)
+      ∙ filter_same (λ other. not (bytes_eq other path) && not_among seen other) (not_among seen) (others_only seen path there) (once more) in
       ap (λ xs. seen ++ xs) (gone ∙ same)
       ∙ sym (ap (λ b. cond b seen (seen ++ path ∷ []) ++ unseen (cond b seen (seen ++ path ∷ [])) (once more)) there)
   | inr new ↦
       let rest = filter (λ other. not (bytes_eq other path)) (once more) in
       let kept : unseen seen (path ∷ rest) ≡ path ∷ unseen seen rest = ap (λ b. cond (not b) (path ∷ unseen seen rest) (unseen seen rest)) new in
       let same : unseen seen rest ≡ unseen (seen ++ path ∷ []) (once more) =
-          filter-filter (not_among seen) (λ other. not (bytes_eq other path)) (once more)
-          ∙ filter_same (λ other. not (bytes_eq other path) && not_among seen other) (not_among (seen ++ path ∷ []))
-          (λ other. not_either (is_among other seen) (bytes_eq other path) ∙ sym (ap not (any_behind seen path other))) (once more) in
+      filter-filter (not_among seen) (λ other. not (bytes_eq other path)) (once more)
+      ∙ filter_same (λ other. not (bytes_eq other path) && not_among seen other) (not_among (seen ++ path ∷ []))
+      (λ other. not_either (is_among other seen) (bytes_eq other path) ∙ sym (ap not (any_behind seen path other))) (once more) in
       ap (λ xs. seen ++ xs) kept ∙ ap (λ xs. seen ++ path ∷ xs) same
       ∙ sym (append_assoc seen (path ∷ []) (unseen (seen ++ path ∷ []) (once more)))
       ∙ sym (ap (λ b. cond b seen (seen ++ path ∷ []) ++ unseen (cond b seen (seen ++ path ∷ [])) (once more)) new)

@@ -1,6 +1,7 @@
 -- How many lines come to each node, as they are counted: each node's from those of the nodes before it, modulo 2 to the 64.
-use Rattle.std.specs.Prelude.{◌+◌, ◌%◌, ◌^◌, ℕ, List, [], ◌∷◌, if◌then◌else◌}
+use Rattle.std.specs.Prelude.{◌+◌, ◌%◌, ◌^◌, ℕ, List, slice_get, if◌then◌else◌}
 use Rattle.std.specs.List.{sum_by}
+use Rattle.std.specs.Option.{option_map_or}
 use Rattle.pig_value.specs.declared.inputs.Input.{Input}
 use Rattle.pig_plan.specs.Nodes.{inputs_of, is_boundary, is_source, is_store}
 use Rattle.pig_plan.specs.Plans.{Plan, PlanOp}
@@ -21,3 +22,6 @@ flows_of inputs = results (λ k node. comes_to inputs node.op) 0
 -- A boundary node reads what comes to its inputs, and a STORE what comes to it.
 abbrev pub uses_at : ℕ → PlanOp → (ℕ → ℕ) → ℕ
 uses_at k o flow = if is_boundary o then come_from o flow else if is_store o then flow k else 0
+
+abbrev pub uses_in : Plan → ℕ → (ℕ → ℕ) → ℕ
+uses_in plan k flow = option_map_or (λ node. uses_at k node.op flow) (slice_get plan k) 0

@@ -1,41 +1,60 @@
-ghost use Rattle.std.specs.Prelude.{◌≡◌, map, slice_get, option_map, option_copied};
+ghost use Rattle.std.specs.Prelude.{◌≡◌, ◌∷◌, ◌++◌, [], map, IfOk};
 ghost use Rattle.pig_plan.specs.Nodes.{inputs_of};
 ghost use Rattle.pig_plan.specs.Plans.{keyed_of, op_of};
 
 use pig_plan::{KeyedInput, NodeOp};
+use pig_value::Numbers;
+use std::alloc::{AllocError, Global};
 
-/// The number of a node's input at a place, counted from 0.
-pub fn input_at(op: &NodeOp, place: usize) -> Option<u32>
-    ensures { result ≡ slice_get (inputs_of (op_of op.now)) place }
+/// The numbers of a node's inputs, in order.
+pub fn inputs_in(alloc: Global, op: &NodeOp) -> Result<Numbers, AllocError>
+    ensures { IfOk result (λ inputs. inputs ≡ inputs_of (op_of op.now)) }
 {
     match op {
-        NodeOp::Load { .. } => None,
-        NodeOp::Filter { input, .. } => only(*input, place),
-        NodeOp::Foreach { input, .. } => only(*input, place),
-        NodeOp::GroupAll { input } => only(*input, place),
-        NodeOp::Group { inputs } => keyed_at(inputs.as_slice(), place),
-        NodeOp::Join { inputs, .. } => keyed_at(inputs.as_slice(), place),
-        NodeOp::Union { inputs } => inputs.get(place).copied(),
-        NodeOp::Distinct { input } => only(*input, place),
-        NodeOp::Order { input, .. } => only(*input, place),
-        NodeOp::Limit { input, .. } => only(*input, place),
-        NodeOp::Store { input, .. } => only(*input, place),
-        NodeOp::Assert { input, .. } => only(*input, place),
-        NodeOp::Rank { input, .. } => only(*input, place),
+        NodeOp::Load { .. } => Ok(Numbers::new(alloc)),
+        NodeOp::Filter { input, .. } => only(alloc, *input),
+        NodeOp::Foreach { input, .. } => only(alloc, *input),
+        NodeOp::GroupAll { input } => only(alloc, *input),
+        NodeOp::Group { inputs } => keyed(alloc, inputs.as_slice()),
+        NodeOp::Join { inputs, .. } => keyed(alloc, inputs.as_slice()),
+        NodeOp::Union { inputs } => all(alloc, inputs.as_slice()),
+        NodeOp::Distinct { input } => only(alloc, *input),
+        NodeOp::Order { input, .. } => only(alloc, *input),
+        NodeOp::Limit { input, .. } => only(alloc, *input),
+        NodeOp::Store { input, .. } => only(alloc, *input),
+        NodeOp::Assert { input, .. } => only(alloc, *input),
+        NodeOp::Rank { input, .. } => only(alloc, *input),
     }
 }
 
-fn only(input: u32, place: usize) -> Option<u32>
-    ensures { result ≡ slice_get (input ∷ []) place }
+fn only(alloc: Global, input: u32) -> Result<Numbers, AllocError>
+    ensures { IfOk result (λ inputs. inputs ≡ input ∷ []) }
 {
-    if place == 0 { Some(input) } else { None }
+    let mut inputs = Numbers::new(alloc);
+    inputs.push(input)?;
+    Ok(inputs)
 }
 
-fn keyed_at(inputs: &[KeyedInput], place: usize) -> Option<u32>
-    ensures { result ≡ slice_get (map (λ i. i.input) (map keyed_of inputs.now)) place }
+fn keyed(alloc: Global, inputs: &[KeyedInput]) -> Result<Numbers, AllocError>
+    ensures { IfOk result (λ numbers. numbers ≡ map (λ i. i.input) (map keyed_of inputs.now)) }
 {
-    match inputs.get(place) {
-        Some(keyed) => Some(keyed.input),
-        None => None,
+    let mut numbers = Numbers::new(alloc);
+    let mut left = inputs;
+    while let [input, rest @ ..] = left {
+        numbers.push(input.input)?;
+        left = rest;
     }
+    Ok(numbers)
+}
+
+fn all(alloc: Global, inputs: &[u32]) -> Result<Numbers, AllocError>
+    ensures { IfOk result (λ numbers. numbers ≡ inputs.now) }
+{
+    let mut numbers = Numbers::new(alloc);
+    let mut left = inputs;
+    while let [input, rest @ ..] = left {
+        numbers.push(*input)?;
+        left = rest;
+    }
+    Ok(numbers)
 }

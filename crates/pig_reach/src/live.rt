@@ -1,11 +1,11 @@
-ghost use Rattle.std.specs.Prelude.{◌≡◌, ◌<◌, ◌||◌, ◌&&◌, ℕ, false, length, get_or, IfOk};
-ghost use Rattle.std.specs.List.{AllByRecursion};
-ghost use Rattle.pig_plan.specs.Nodes.{inputs_of, is_store as is_store_op, live, names};
+ghost use Rattle.std.specs.Prelude.{◌≡◌, ◌<◌, ◌||◌, ◌==◌, ℕ, false, length, get_or, IfOk};
+ghost use Rattle.std.specs.List.{AllByRecursion, list_any};
+ghost use Rattle.pig_plan.specs.Nodes.{is_store as is_store_op, live};
 ghost use Rattle.pig_plan.specs.Plans.{op_of, plan_of};
 ghost use Rattle.pig_plan.specs.Valid.{IsPlan};
-ghost use Rattle.pig_reach.specs.Marks.{AreMarks};
+ghost use Rattle.pig_reach.specs.Marks.{AreMarks, IsMarked};
 
-use crate::inputs::input_at;
+use crate::inputs::inputs_in;
 use pig_plan::{Node, NodeOp, Plan};
 use std::alloc::{AllocError, Global};
 
@@ -33,27 +33,22 @@ fn live_marks(alloc: Global, nodes: &[Node]) -> Result<Vec<bool>, AllocError>
     let mut number = nodes.len();
     'marks: while number > 0 {
         number -= 1;
-        mark(&mut marks, number, &nodes[number].op);
+        let op = &nodes[number].op;
+        let inputs = inputs_in(alloc, op)?;
+        mark(&mut marks, number, is_store(op), inputs.as_slice());
     }
     Ok(marks)
 }
 
 /// Marks the inputs of a node where it is live; marked it is where a live node behind it names it.
-fn mark(marks: &mut Vec<bool>, number: usize, op: &NodeOp)
+fn mark(marks: &mut Vec<bool>, number: usize, is_store: bool, inputs: &[u32])
     requires within { number < length marks.old.items }
-    requires lower { AllByRecursion (λ i. i < number) (inputs_of (op_of op.now)) }
-    ensures size { length marks.new.items ≡ length marks.old.items }
-    ensures own { get_or marks.new.items number false
-        ≡ (is_store_op (op_of op.now) || get_or marks.old.items number false) }
-    ensures behind { (k : ℕ) → number < k
-        → get_or marks.new.items k false ≡ get_or marks.old.items k false }
-    ensures before { (k : ℕ) → k < number → get_or marks.new.items k false
-        ≡ (((is_store_op (op_of op.now) || get_or marks.old.items number false)
-        && names (op_of op.now) k) || get_or marks.old.items k false) }
+    requires lower { AllByRecursion (λ i. i < number) inputs.now }
+    ensures { IsMarked number is_store inputs.now marks.old.items marks.new.items }
 {
-    if is_store(op) || marks[number] {
+    if is_store || marks[number] {
         marks[number] = true;
-        mark_inputs(marks, op);
+        mark_inputs(marks, inputs);
     }
 }
 
@@ -63,16 +58,25 @@ fn is_store(op: &NodeOp) -> bool
     matches!(op, NodeOp::Store { .. })
 }
 
-/// Marks each input of a node.
-fn mark_inputs(marks: &mut Vec<bool>, op: &NodeOp)
-    requires { AllByRecursion (λ i. i < length marks.old.items) (inputs_of (op_of op.now)) }
+/// Marks each of the inputs.
+fn mark_inputs(marks: &mut Vec<bool>, inputs: &[u32])
+    requires { AllByRecursion (λ i. i < length marks.old.items) inputs.now }
     ensures size { length marks.new.items ≡ length marks.old.items }
     ensures each { (k : ℕ) → get_or marks.new.items k false
-        ≡ (names (op_of op.now) k || get_or marks.old.items k false) }
+        ≡ (list_any (λ i. i == k) inputs.now || get_or marks.old.items k false) }
 {
-    let mut place = 0;
-    'inputs: while let Some(input) = input_at(op, place) {
-        marks[input as usize] = true;
-        place += 1;
+    let mut left = inputs;
+    while let [input, rest @ ..] = left {
+        mark_one(marks, *input);
+        left = rest;
     }
+}
+
+fn mark_one(marks: &mut Vec<bool>, input: u32)
+    requires { input < length marks.old.items }
+    ensures size { length marks.new.items ≡ length marks.old.items }
+    ensures each { (k : ℕ) → get_or marks.new.items k false
+        ≡ ((input == k) || get_or marks.old.items k false) }
+{
+    marks[input as usize] = true;
 }

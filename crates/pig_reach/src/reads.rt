@@ -1,14 +1,14 @@
-ghost use Rattle.std.specs.Prelude.{◌≡◌, ◌%◌, ◌^◌, ℕ, get_or, length, map, slice_get, IfOk};
+ghost use Rattle.std.specs.Prelude.{◌≡◌, ◌%◌, ◌^◌, length, IfOk};
 ghost use Rattle.std.specs.List.{flat_map, sum_by};
 ghost use Rattle.pig_value.specs.Lines.{lines};
-ghost use Rattle.pig_plan.specs.Nodes.{inputs_of, is_boundary as bounds, is_source as is_source_op};
+ghost use Rattle.pig_plan.specs.Nodes.{is_source as is_source_op};
 ghost use Rattle.pig_plan.specs.Operators.{pieces_of};
 ghost use Rattle.pig_plan.specs.Plans.{op_of, plan_of};
 ghost use Rattle.pig_plan.specs.Results.{at_place};
-ghost use Rattle.pig_reach.specs.Flows.{come_from, comes_to, flows_of, uses_at};
-ghost use Rattle.pig_reach.specs.Reach.{lines_read, lines_of};
+ghost use Rattle.pig_reach.specs.Flows.{come_from, comes_to, flows_of, uses_at, uses_in};
+ghost use Rattle.pig_reach.specs.Reach.{lines_read};
 
-use crate::inputs::input_at;
+use crate::inputs::inputs_in;
 use crate::live::live_numbers;
 use pig_plan::{Node, NodeOp, Plan};
 use pig_storage::next_line;
@@ -26,12 +26,21 @@ pub fn lines_read(alloc: Global, plan: &Plan, inputs: &Inputs) -> Result<u64, Al
     let mut count: u64 = 0;
     let mut left = live.as_slice();
     while let [number, rest @ ..] = left {
-        if let Some(node) = nodes.get(*number) {
-            count = count.wrapping_add(uses_at(&node.op, *number, flows.as_slice()));
-        }
+        count = count.wrapping_add(read_for(alloc, nodes, *number, flows.as_slice())?);
         left = rest;
     }
     Ok(count)
+}
+
+/// How many lines are read for the node of a number.
+fn read_for(alloc: Global, nodes: &[Node], number: usize, flows: &[u64]) -> Result<u64, AllocError>
+    ensures { IfOk result (λ count. count
+        ≡ uses_in (plan_of nodes.now) number (at_place 0 flows.now)) }
+{
+    match nodes.get(number) {
+        Some(node) => uses_at(alloc, &node.op, number, flows),
+        None => Ok(0),
+    }
 }
 
 /// Of each node how many lines come to it.
@@ -39,40 +48,44 @@ fn flows(alloc: Global, nodes: &[Node], inputs: &[Input]) -> Result<Vec<u64>, Al
     ensures { IfOk result (λ flows. flows.items ≡ flows_of inputs.now (plan_of nodes.now)) }
 {
     let mut flows = Vec::with_capacity(alloc, nodes.len())?;
-    for node in nodes {
-        let own = comes_to(&node.op, inputs, flows.as_slice());
+    let mut left = nodes;
+    while let [node, rest @ ..] = left {
+        let own = comes_to(alloc, &node.op, inputs, flows.as_slice())?;
         flows.push(own)?;
+        left = rest;
     }
     Ok(flows)
 }
 
 /// How many lines come to a node, by those that come to the nodes before it.
-fn comes_to(op: &NodeOp, inputs: &[Input], flows: &[u64]) -> u64
-    ensures { result ≡ comes_to inputs.now (op_of op.now) (at_place 0 flows.now) }
+fn comes_to(alloc: Global, op: &NodeOp, inputs: &[Input], flows: &[u64]) -> Result<u64, AllocError>
+    ensures { IfOk result (λ count. count
+        ≡ comes_to inputs.now (op_of op.now) (at_place 0 flows.now)) }
 {
     match op {
-        NodeOp::Load { path, .. } => loaded_lines(inputs, path),
+        NodeOp::Load { path, .. } => Ok(loaded_lines(inputs, path)),
         _ => {
             if is_source(op) {
-                return 0;
+                return Ok(0);
             }
-            come_from(op, flows)
+            come_from(alloc, op, flows)
         }
     }
 }
 
 /// How many lines are read for a node: by a boundary node those that come to its inputs, by a STORE its own.
-fn uses_at(op: &NodeOp, number: usize, flows: &[u64]) -> u64
-    ensures { result ≡ uses_at number (op_of op.now) (at_place 0 flows.now) }
+fn uses_at(alloc: Global, op: &NodeOp, number: usize, flows: &[u64]) -> Result<u64, AllocError>
+    ensures { IfOk result (λ count. count
+        ≡ uses_at number (op_of op.now) (at_place 0 flows.now)) }
 {
     match op {
-        NodeOp::Load { .. } => 0,
-        NodeOp::Store { .. } => flow_at(flows, number),
+        NodeOp::Load { .. } => Ok(0),
+        NodeOp::Store { .. } => Ok(flow_at(flows, number)),
         _ => {
             if is_source(op) {
-                return come_from(op, flows);
+                return come_from(alloc, op, flows);
             }
-            0
+            Ok(0)
         }
     }
 }
@@ -104,14 +117,21 @@ fn flow_at(flows: &[u64], number: usize) -> u64
 }
 
 /// How many lines come to the inputs of a node together.
-fn come_from(op: &NodeOp, flows: &[u64]) -> u64
-    ensures { result ≡ come_from (op_of op.now) (at_place 0 flows.now) }
+fn come_from(alloc: Global, op: &NodeOp, flows: &[u64]) -> Result<u64, AllocError>
+    ensures { IfOk result (λ count. count ≡ come_from (op_of op.now) (at_place 0 flows.now)) }
+{
+    let inputs = inputs_in(alloc, op)?;
+    Ok(flow_sum(inputs.as_slice(), flows))
+}
+
+fn flow_sum(numbers: &[u32], flows: &[u64]) -> u64
+    ensures { result ≡ sum_by (at_place 0 flows.now) numbers.now % 2 ^ 64 }
 {
     let mut sum: u64 = 0;
-    let mut place = 0;
-    'inputs: while let Some(input) = input_at(op, place) {
-        sum = sum.wrapping_add(flow_at(flows, input as usize));
-        place += 1;
+    let mut left = numbers;
+    while let [number, rest @ ..] = left {
+        sum = sum.wrapping_add(flow_at(flows, *number as usize));
+        left = rest;
     }
     sum
 }

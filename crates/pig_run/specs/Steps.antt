@@ -86,6 +86,15 @@ IsPlanFault fault.ConsoleFault = ⊥
 IsPlanFault (fault.DepotFault (Some store)) = ⊥
 IsPlanFault found = Unit {0}
 
+-- reading a script ends by a refusal of it, or memory
+abbrev pub IsReadFault : RunFault → Type 0
+IsReadFault (fault.Lex offset) = Unit {0}
+IsReadFault (fault.Syntax n) = Unit {0}
+IsReadFault (fault.Check n kind) = Unit {0}
+IsReadFault (fault.TooLarge which) = Unit {0}
+IsReadFault fault.OutOfMemory = Unit {0}
+IsReadFault found = ⊥
+
 -- reading what the host has ends by the host or memory
 abbrev pub IsHostStep : RunFault → Type 0
 IsHostStep found = (found ≡ fault.HostFault) ⊎ (found ≡ fault.OutOfMemory)

@@ -1,10 +1,10 @@
-ghost use Rattle.std.specs.Prelude.{◌≡◌, ◌<◌, ◌≤◌, ◌^◌, ◌↔◌, length, IsTrue, All};
+ghost use Rattle.std.specs.Prelude.{◌≡◌, ◌<◌, ◌≤◌, ◌^◌, ◌↔◌, length, IsTrue, IfErr, All};
 ghost use Rattle.pig_syntax.specs.Cutting.{AreStatements, IsWithin};
 ghost use Rattle.pig_parser.specs.Parsing.{IsShallow};
 ghost use Rattle.pig_syntax.specs.Formed.{StmtFormed};
 ghost use Rattle.pig_syntax.specs.Tokens.{HoldsNoLf};
 ghost use Rattle.pig_run.specs.Reading.{IsChecked, IsParsed, IsMeasured, IsLexed, IsFound};
-ghost use Rattle.pig_run.specs.Steps.{TellsPlan};
+ghost use Rattle.pig_run.specs.Steps.{IsReadFault, TellsPlan};
 
 use crate::{RunFault, TooLarge};
 use pig_check::{CheckFault, check};
@@ -28,7 +28,8 @@ const MOST_DEPTH: u32 = 64;
 /// The plan of trees.
 fn plan_of_trees(alloc: Global, statements: &Stmts) -> Result<Plan, RunFault>
     requires { All StmtFormed statements.now }
-    ensures { TellsPlan (IsChecked statements.now) result }
+    ensures told { TellsPlan (IsChecked statements.now) result }
+    ensures fault { IfErr result IsReadFault }
 {
     match check(alloc, statements) {
         Ok(plan) => Ok(plan),
@@ -44,7 +45,8 @@ fn plan_of_statements(alloc: Global, tokens: &Tokens, pieces: &Pieces) -> Result
     requires few_statements { length pieces.now ≤ 4096 }
     requires texts { All (λ token. HoldsNoLf token.form) tokens.now }
     requires shallow { All (IsShallow tokens.now) pieces.now }
-    ensures { TellsPlan (IsParsed tokens.now pieces.now) result }
+    ensures told { TellsPlan (IsParsed tokens.now pieces.now) result }
+    ensures fault { IfErr result IsReadFault }
 {
     match parse(alloc, tokens, pieces) {
         Ok(trees) => plan_of_trees(alloc, &trees),
@@ -84,7 +86,8 @@ fn plan_of_pieces(alloc: Global, tokens: &Tokens, pieces: &Pieces) -> Result<Pla
     requires statements { AreStatements tokens.now pieces.now }
     requires few { length tokens.now < 2 ^ 32 }
     requires texts { All (λ token. HoldsNoLf token.form) tokens.now }
-    ensures { TellsPlan (IsMeasured tokens.now pieces.now) result }
+    ensures told { TellsPlan (IsMeasured tokens.now pieces.now) result }
+    ensures fault { IfErr result IsReadFault }
 {
     if pieces.len() > MOST_STATEMENTS {
         return Err(RunFault::TooLarge {
@@ -102,7 +105,8 @@ fn plan_of_pieces(alloc: Global, tokens: &Tokens, pieces: &Pieces) -> Result<Pla
 /// The plan of the tokens of a script.
 fn plan_of_script(alloc: Global, script: &[u8]) -> Result<Plan, RunFault>
     requires { length script.now ≤ 2 ^ 20 }
-    ensures { TellsPlan (IsLexed script.now) result }
+    ensures told { TellsPlan (IsLexed script.now) result }
+    ensures fault { IfErr result IsReadFault }
 {
     a_script_has_one_reading();
     match lex(alloc, script) {
@@ -117,7 +121,8 @@ fn plan_of_script(alloc: Global, script: &[u8]) -> Result<Plan, RunFault>
 
 /// The plan of a script, or the first refusal that it meets.
 pub fn read_script(alloc: Global, script: &[u8]) -> Result<Plan, RunFault>
-    ensures { TellsPlan (IsFound script.now) result }
+    ensures told { TellsPlan (IsFound script.now) result }
+    ensures fault { IfErr result IsReadFault }
 {
     if script.len() as u64 > MOST_SCRIPT {
         return Err(RunFault::TooLarge {
