@@ -1,8 +1,9 @@
 -- The lines that come to a node, as they are counted, are those of the LOADs at which its paths begin.
-use Rattle.std.specs.Prelude.{◌≡◌, ◌<◌, ◌≤◌, ◌+◌, ◌%◌, ◌^◌, ℕ, zero, suc, Bool, true, false, List, [], ◌∷◌, ◌++◌, length, map, drop, Option, Some, None, slice_get, refl, if◌then◌else◌}
+use Rattle.std.specs.Prelude.{◌≡◌, ◌<◌, ◌≤◌, ◌+◌, ◌%◌, ◌^◌, ℕ, zero, suc, Bool, true, false, List, [], ◌∷◌, ◌++◌, length, map, drop, get_or, Option, Some, None, slice_get, refl, if◌then◌else◌}
 use Rattle.std.proofs.Common.{ap, sym, subst, ◌∙◌, arith, inl, inr, cond}
 use Rattle.std.specs.List.{AllByRecursion, flat_map, sum_by}
 use Rattle.std.specs.Option.{option_map_or, unwrap_or}
+use Rattle.std.proofs.lemmas.List.{drop_all, drop_more}
 use Rattle.std.proofs.lemmas.List.Sums.{sum_by-append, sum_by-cons}
 use Rattle.std.proofs.lemmas.Bool.{cases_Bool}
 use Rattle.pig_value.specs.declared.inputs.Input.{Input}
@@ -251,3 +252,26 @@ module _ (plan : Plan) (inputs : List Input) where
         found None at = ap (λ o. option_map_or (λ node. uses_at k node.op counted) o 0) at
             ∙ sym (ap (λ o. option_map_or (λ node. sum_by (lines_at plan inputs) (read_paths plan k node.op)) o 0 % 2 ^ 64) at)
         found (Some node) at = ap (λ o. option_map_or (λ node. uses_at k node.op counted) o 0) at ∙ used_is k node at
+
+    -- one more node, from a place of the list of live ones
+    pub read_on : (numbers : List ℕ) (place number : ℕ) (count more : ℕ) (flows : List ℕ) (total : ℕ) → flows ≡ flows_of inputs plan → place < length numbers
+        → number ≡ get_or numbers place number → more ≡ uses_in plan number (at_place 0 flows)
+        → (count + sum_by read_at (drop place numbers)) % 2 ^ 64 ≡ total % 2 ^ 64
+        → ((count + more) % 2 ^ 64 + sum_by read_at (drop (place + 1) numbers)) % 2 ^ 64 ≡ total % 2 ^ 64
+    read_on numbers place number count more flows total same within at is so_far =
+        let front : drop place numbers ≡ number ∷ drop (place + 1) numbers = drop_more numbers place number within ∙ ap (λ n. n ∷ drop (place + 1) numbers) (sym at) in
+        let sums : sum_by read_at (drop place numbers) ≡ read_at number + sum_by read_at (drop (place + 1) numbers) =
+        ap (sum_by read_at) front ∙ sum_by-cons read_at number (drop (place + 1) numbers) in
+        let used : more ≡ read_at number % 2 ^ 64 = is ∙ ap (λ fs. uses_in plan number (at_place 0 fs)) same ∙ used_in number in
+        counts_on count more (read_at number) (sum_by read_at (drop (place + 1) numbers)) total used (ap (λ n. (count + n) % 2 ^ 64) (sym sums) ∙ so_far)
+
+    pub read_first : (numbers : List ℕ) → numbers ≡ live plan → (0 + sum_by read_at (drop 0 numbers)) % 2 ^ 64 ≡ lines_read plan inputs % 2 ^ 64
+    read_first numbers are = let e : sum_by read_at numbers ≡ lines_read plan inputs = ap (sum_by read_at) are ∙ sym reads in
+        let zero_more : 0 + sum_by read_at numbers ≡ lines_read plan inputs = omega (arith, e) in ap (λ n. n % 2 ^ 64) zero_more
+
+    pub read_last : (numbers : List ℕ) (place count : ℕ) → length numbers ≤ place → count < 2 ^ 64
+        → (count + sum_by read_at (drop place numbers)) % 2 ^ 64 ≡ lines_read plan inputs % 2 ^ 64 → count ≡ lines_read plan inputs % 2 ^ 64
+    read_last numbers place count end small so_far =
+        let none : sum_by read_at (drop place numbers) ≡ 0 = ap (sum_by read_at) (drop_all place numbers end) in
+        let same : (count + 0) % 2 ^ 64 ≡ lines_read plan inputs % 2 ^ 64 = ap (λ n. (count + n) % 2 ^ 64) (sym none) ∙ so_far in
+        omega (arith, small, same)

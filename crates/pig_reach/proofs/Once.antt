@@ -1,15 +1,15 @@
 -- Paths that are added one by one, each once, are those of the definition.
-use Rattle.std.specs.Prelude.{◌≡◌, ◌&&◌, ◌||◌, ℕ, Bool, true, false, not, List, [], ◌∷◌, ◌++◌, Option, Some, None, bytes_eq, slice_get, refl}
+use Rattle.std.specs.Prelude.{◌≡◌, ◌<◌, ◌≤◌, ◌+◌, ◌&&◌, ◌||◌, ℕ, Bool, true, false, not, List, [], ◌∷◌, ◌++◌, length, drop, get_or, Option, Some, None, bytes_eq, slice_get, refl}
 use Rattle.std.proofs.Common.{ap, sym, subst, ◌∙◌, inl, inr, cond}
 use Rattle.std.specs.List.{cons_option, filter, filter_map, list_any}
 use Rattle.std.specs.Option.{option_map_or}
 use Rattle.std.proofs.lemmas.Bool.{cases_Bool}
-use Rattle.std.proofs.lemmas.List.{append_assoc, append-nil}
+use Rattle.std.proofs.lemmas.List.{append_assoc, append-nil, drop_all, drop_more}
 use Rattle.std.proofs.lemmas.Slice.Eq.{bytes_eq-Decides}
 use Rattle.pig_value.proofs.list_laws.Listing.{filter-filter, filter_all, each_of_all}
 use Rattle.pig_plan.specs.Plans.{Plan, PlanNode}
 use Rattle.pig_reach.specs.Reach.{loaded_path, once}
-use Rattle.pig_reach.specs.Paths.{is_among, with_new, with_path}
+use Rattle.pig_reach.specs.Paths.{is_among, with_new, with_path, with_path_at}
 
 abbrev pub not_among : List (List ℕ) → List ℕ → Bool
 not_among seen path = not (is_among path seen)
@@ -113,3 +113,20 @@ goes_on plan number rest seen node at =
 pub passes_on : (plan : Plan) (number : ℕ) (rest : List ℕ) (seen : List (List ℕ)) → slice_get plan number ≡ None
     → Comes plan (number ∷ rest) seen ≡ Comes plan rest seen
 passes_on plan number rest seen at = ap (λ o. seen ++ unseen seen (once (filter_map loaded_path (cons_option o (filter_map (slice_get plan) rest))))) at
+
+-- one more number, from a place of a list
+pub comes_on : (plan : Plan) (numbers : List ℕ) (place number : ℕ) (seen new : List (List ℕ)) → place < length numbers → number ≡ get_or numbers place number
+    → new ≡ with_path_at plan number seen → Comes plan (drop place numbers) seen ≡ Comes plan (drop (place + 1) numbers) new
+comes_on plan numbers place number seen new within at is =
+    ap (λ ns. Comes plan ns seen) (drop_more numbers place number within ∙ ap (λ n. n ∷ drop (place + 1) numbers) (sym at))
+    ∙ by_node (slice_get plan number) refl
+  where
+    by_node : (o : Option PlanNode) → slice_get plan number ≡ o → Comes plan (number ∷ drop (place + 1) numbers) seen ≡ Comes plan (drop (place + 1) numbers) new
+    by_node None e = passes_on plan number (drop (place + 1) numbers) seen e
+        ∙ ap (Comes plan (drop (place + 1) numbers)) (sym (is ∙ ap (λ o. option_map_or (with_path seen) o seen) e))
+    by_node (Some node) e = goes_on plan number (drop (place + 1) numbers) seen node e
+        ∙ ap (Comes plan (drop (place + 1) numbers)) (sym (is ∙ ap (λ o. option_map_or (with_path seen) o seen) e))
+
+-- at the end of the list
+pub all_came : (plan : Plan) (numbers : List ℕ) (place : ℕ) (seen : List (List ℕ)) → length numbers ≤ place → Comes plan (drop place numbers) seen ≡ seen
+all_came plan numbers place seen end = ap (λ ns. Comes plan ns seen) (drop_all place numbers end) ∙ ends plan seen

@@ -1,5 +1,5 @@
-ghost use Rattle.std.specs.Prelude.{◌≡◌, ◌<◌, ◌||◌, ◌==◌, ℕ, false, length, get_or, IfOk};
-ghost use Rattle.std.specs.List.{AllByRecursion, list_any};
+ghost use Rattle.std.specs.Prelude.{◌≡◌, ◌<◌, ◌||◌, ◌==◌, ◌++◌, ◌∷◌, [], ℕ, false, length, get_or, IfOk, OnOk};
+ghost use Rattle.std.specs.List.{AllByRecursion, filter, list_any};
 ghost use Rattle.pig_plan.specs.Nodes.{is_store as is_store_op, live};
 ghost use Rattle.pig_plan.specs.Plans.{op_of, plan_of};
 ghost use Rattle.pig_plan.specs.Valid.{IsPlan};
@@ -16,11 +16,22 @@ pub fn live_numbers(alloc: Global, plan: &Plan) -> Result<Vec<usize>, AllocError
     let marks = live_marks(alloc, plan.nodes().as_slice())?;
     let mut numbers = Vec::new(alloc);
     for number in 0..marks.len() {
-        if marks[number] {
-            numbers.push(number)?;
-        }
+        keep_marked(&mut numbers, marks.as_slice(), number)?;
     }
     Ok(numbers)
+}
+
+/// Adds the number of a node where it is marked.
+fn keep_marked(numbers: &mut Vec<usize>, marks: &[bool], number: usize) -> Result<(), AllocError>
+    requires { number < length marks.now }
+    ensures { OnOk result (numbers.new.items
+        ≡ numbers.old.items ++ filter (λ k. get_or marks.now k false) (number ∷ [])) }
+{
+    if !marks[number] {
+        return Ok(());
+    }
+    numbers.push(number)?;
+    Ok(())
 }
 
 /// Of each node whether a STORE reaches it. They are gone through from the last to the first, since a node is live where a
@@ -46,10 +57,11 @@ fn mark(marks: &mut Vec<bool>, number: usize, is_store: bool, inputs: &[u32])
     requires lower { AllByRecursion (λ i. i < number) inputs.now }
     ensures { IsMarked number is_store inputs.now marks.old.items marks.new.items }
 {
-    if is_store || marks[number] {
-        marks[number] = true;
-        mark_inputs(marks, inputs);
+    if !is_store && !marks[number] {
+        return;
     }
+    mark_one(marks, number);
+    mark_inputs(marks, inputs);
 }
 
 fn is_store(op: &NodeOp) -> bool
@@ -67,16 +79,16 @@ fn mark_inputs(marks: &mut Vec<bool>, inputs: &[u32])
 {
     let mut left = inputs;
     while let [input, rest @ ..] = left {
-        mark_one(marks, *input);
+        mark_one(marks, *input as usize);
         left = rest;
     }
 }
 
-fn mark_one(marks: &mut Vec<bool>, input: u32)
-    requires { input < length marks.old.items }
+fn mark_one(marks: &mut Vec<bool>, number: usize)
+    requires { number < length marks.old.items }
     ensures size { length marks.new.items ≡ length marks.old.items }
     ensures each { (k : ℕ) → get_or marks.new.items k false
-        ≡ ((input == k) || get_or marks.old.items k false) }
+        ≡ ((number == k) || get_or marks.old.items k false) }
 {
-    marks[input as usize] = true;
+    marks[number] = true;
 }

@@ -1,5 +1,5 @@
 ghost use Rattle.std.specs.Prelude.{◌≡◌, IfOk, OnOk};
-ghost use Rattle.pig_reach.specs.Paths.{is_among, with_new, with_path};
+ghost use Rattle.pig_reach.specs.Paths.{is_among, with_new, with_path, with_path_at};
 ghost use Rattle.pig_plan.specs.Plans.{node_of, plan_of};
 ghost use Rattle.pig_reach.specs.Reach.{live_paths};
 
@@ -15,14 +15,25 @@ pub fn live_paths(alloc: Global, plan: &Plan) -> Result<Texts, AllocError>
     let numbers = live_numbers(alloc, plan)?;
     let nodes = plan.nodes().as_slice();
     let mut paths = Texts::new(alloc);
-    let mut left = numbers.as_slice();
-    while let [number, rest @ ..] = left {
-        if let Some(node) = nodes.get(*number) {
-            add_path(alloc, node, &mut paths)?;
-        }
-        left = rest;
+    for place in 0..numbers.len() {
+        add_path_at(alloc, nodes, numbers[place], &mut paths)?;
     }
     Ok(paths)
+}
+
+/// Adds the path of the node of a number.
+fn add_path_at(
+    alloc: Global,
+    nodes: &[Node],
+    number: usize,
+    paths: &mut Texts,
+) -> Result<(), AllocError>
+    ensures { OnOk result (paths.new ≡ with_path_at (plan_of nodes.now) number paths.old) }
+{
+    match nodes.get(number) {
+        Some(node) => add_path(alloc, node, paths),
+        None => Ok(()),
+    }
 }
 
 /// Adds the path of a LOAD where it is not there yet.

@@ -24,10 +24,9 @@ pub fn lines_read(alloc: Global, plan: &Plan, inputs: &Inputs) -> Result<u64, Al
     let nodes = plan.nodes().as_slice();
     let flows = flows(alloc, nodes, inputs.as_slice())?;
     let mut count: u64 = 0;
-    let mut left = live.as_slice();
-    while let [number, rest @ ..] = left {
-        count = count.wrapping_add(read_for(alloc, nodes, *number, flows.as_slice())?);
-        left = rest;
+    for place in 0..live.len() {
+        let more = read_for(alloc, nodes, live[place], flows.as_slice())?;
+        count = count.wrapping_add(more);
     }
     Ok(count)
 }
