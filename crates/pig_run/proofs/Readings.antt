@@ -126,4 +126,3 @@ module _ (laws : PlanLaws) where
     | inl long ↦ (Refuses (too_large large.Script), too_long long)
     | inr few ↦ (let rest = some_lexed script in (rest.0, short few rest.1))
   ]
-

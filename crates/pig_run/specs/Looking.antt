@@ -1,5 +1,5 @@
 -- How the steps that look for the script, the inputs and the outputs speak of each other.
-use Rattle.std.specs.Prelude.{◌≡◌, ◌&&◌, ℕ, Bool, true, false, not, List, [], ◌∷◌, map, Option, Some, None, Result, MatchResult, bytes_eq}
+use Rattle.std.specs.Prelude.{◌≡◌, ◌&&◌, ℕ, Bool, true, false, not, List, [], ◌∷◌, ◌++◌, map, Option, Some, None, Result, MatchResult, bytes_eq}
 use Rattle.std.specs.List.{AllByRecursion, list_any, sum_by}
 use Rattle.pig_value.specs.declared.inputs.Input.{Input}
 use Rattle.pig_outside.specs.Shelf.{Shelf, has_dir, lengths_at, lengths_of, pieces_of}
@@ -27,6 +27,12 @@ LooksForInput path s result = MatchResult result (λ lengths. lengths_at path s 
 -- the size is that of an input of the shelf
 abbrev pub HasSize : Shelf → Size → Type 0
 HasSize s size = lengths_at size.path s ≡ Some size.lengths
+
+-- the size at a path is added, or the input is missing
+abbrev pub LooksForSize : {T : Type 0} → List ℕ → Shelf → List Size → List Size → Result T RunFault → Type 0
+LooksForSize path s old new result = MatchResult result
+    (λ _. (lengths : List ℕ) × (lengths_at path s ≡ Some lengths) × (new ≡ old ++ record { path = path; lengths = lengths } ∷ []))
+    (λ found. ((found ≡ fault.NoInput path) × (lengths_at path s ≡ None)) ⊎ IsLookFault found)
 
 -- all lengths of pieces together
 abbrev pub total_of : List Size → ℕ

@@ -46,11 +46,21 @@ pub record IsBrokenIn (stage : Stage) (made : List DepotCall) (found : RunFault)
 abbrev pub EndsIn : Stage → List DepotCall → RunFault → Type 0
 EndsIn stage made found = IsRefusedBy stage made found ⊎ IsBrokenIn stage made found
 
--- a step goes from a stage to the next one, or ends in it
-pub record Step {T : Type 0} (stage : Stage) (next : T → Stage) (old new : Option (List DepotCall)) (result : Result T RunFault) : Type 0 where
+-- a stage is passed, and the next one is due
+pub record Passes (stage next : Stage) (old new : Option (List DepotCall)) : Type 0 where
   pub made : List DepotCall
   pub asked : Asked made old new
-  pub told : MatchResult result (λ x. HandsOn stage (next x) made) (EndsIn stage made)
+  pub hands : HandsOn stage next made
+
+-- a call ends in a stage
+pub record Stops (stage : Stage) (old new : Option (List DepotCall)) (found : RunFault) : Type 0 where
+  pub made : List DepotCall
+  pub asked : Asked made old new
+  pub ends : EndsIn stage made found
+
+-- a step goes from a stage to the next one, or ends in it
+abbrev pub Step : {T : Type 0} → Stage → (T → Stage) → Option (List DepotCall) → Option (List DepotCall) → Result T RunFault → Type 0
+Step stage next old new result = MatchResult result (λ x. Passes stage (next x) old new) (Stops stage old new)
 
 -- reading a script finds this, or memory was wanting
 abbrev pub TellsPlan : (Verdict → Type 0) → Result Plan RunFault → Type 0

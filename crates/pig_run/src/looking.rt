@@ -1,11 +1,11 @@
-ghost use Rattle.std.specs.Prelude.{◌≡◌, ◌<◌, ◌≤◌, ◌⊎◌, ◌^◌, ◌-◌, ◌∷◌, [], min, map, true, IfOk, IfErr, MatchResult};
+ghost use Rattle.std.specs.Prelude.{◌≡◌, ◌<◌, ◌≤◌, ◌⊎◌, ◌^◌, ◌-◌, ◌∷◌, [], ◌++◌, min, map, true, IfOk, IfErr, OnOk, MatchResult};
 ghost use Rattle.std.specs.Option.{ForSome};
 ghost use Rattle.std.specs.List.{AllByRecursion, sum_by};
 ghost use Rattle.pig_outside.specs.declared.failing.Method.TheVariants as method;
 ghost use Rattle.pig_plan.specs.Plans.{PlanNode, plan_of};
 ghost use Rattle.pig_reach.specs.Reach.{live_paths, stores_of};
 ghost use Rattle.pig_run.specs.Due.{AreWords, HasWords, InputsDue, IsDue, OutputsDue, RunDue, ScriptDue, SizeDue, call};
-ghost use Rattle.pig_run.specs.Looking.{HasSize, IsAbsentIn, IsPrepared, IsReady, LooksForInput, LooksForOutput, are_apart, is_stored_in, line_of, total_of};
+ghost use Rattle.pig_run.specs.Looking.{HasSize, IsAbsentIn, IsPrepared, IsReady, LooksForInput, LooksForOutput, LooksForSize, are_apart, is_stored_in, line_of, total_of};
 ghost use Rattle.pig_run.specs.Steps.{DepotCause, IsPlanFault, SaysWords, Step, depot_fault_of};
 ghost use Rattle.pig_run.specs.Told.{Asked};
 ghost use Rattle.pig_run.specs.declared.outcome.RunFault.TheVariants as fault;
@@ -97,6 +97,30 @@ fn find_input<D: Depot>(alloc: Global, depot: &mut D, path: &Text) -> Result<Len
     }
 }
 
+/// Adds the size of the input at a path.
+fn add_size<D: Depot>(
+    alloc: Global,
+    depot: &mut D,
+    path: &Text,
+    sizes: &mut Sizes,
+) -> Result<(), RunFault>
+    ensures told { ForSome (D.shelf depot.old) (λ s. LooksForSize path.now s sizes.old sizes.new
+        result) }
+    ensures fault { IfErr result IsPlanFault }
+    ensures paths { OnOk result (map (λ size. size.path) sizes.new
+        ≡ map (λ size. size.path) sizes.old ++ path.now ∷ []) }
+    ensures shelf { D.shelf depot.new ≡ D.shelf depot.old }
+    ensures cause { DepotCause (D.faults depot.old) (D.faults depot.new) result }
+    ensures stores { D.store_faults depot.new ≡ D.store_faults depot.old }
+    ensures asked { Asked (call method.Pieces path.now ∷ []) (D.calls depot.old)
+        (D.calls depot.new) }
+{
+    let lengths = find_input(alloc, depot, path)?;
+    let path = path.copy(alloc)?;
+    sizes.push(Size { path, lengths })?;
+    Ok(())
+}
+
 /// The inputs of a plan, each path once, in the order of the statements.
 fn find_inputs<D: Depot>(alloc: Global, depot: &mut D, plan: &Plan) -> Result<Sizes, RunFault>
     ensures told { ForSome (D.shelf depot.old) (λ s. Step (InputsDue (plan_of plan.now) s)
@@ -112,12 +136,9 @@ fn find_inputs<D: Depot>(alloc: Global, depot: &mut D, plan: &Plan) -> Result<Si
 {
     let paths = live_paths(alloc, plan)?;
     let mut sizes = Sizes::new(alloc);
-    let mut left = paths.as_slice();
-    while let [path, rest @ ..] = left {
-        let lengths = find_input(alloc, depot, path)?;
-        let path = path.copy(alloc)?;
-        sizes.push(Size { path, lengths })?;
-        left = rest;
+    let paths = paths.as_slice();
+    for place in 0..paths.len() {
+        add_size(alloc, depot, &paths[place], &mut sizes)?;
     }
     Ok(sizes)
 }
@@ -188,10 +209,9 @@ fn check_outputs<D: Depot>(alloc: Global, depot: &mut D, stores: &Stores) -> Res
     ensures cause { DepotCause (D.faults depot.old) (D.faults depot.new) result }
     ensures stores { D.store_faults depot.new ≡ D.store_faults depot.old }
 {
-    let mut left = stores.as_slice();
-    while let [store, rest @ ..] = left {
-        check_output(alloc, depot, &store.dir)?;
-        left = rest;
+    let stores = stores.as_slice();
+    for place in 0..stores.len() {
+        check_output(alloc, depot, &stores[place].dir)?;
     }
     Ok(())
 }
