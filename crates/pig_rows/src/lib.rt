@@ -5,9 +5,7 @@
 #[cfg(test)]
 mod files;
 #[cfg(test)]
-mod first_path;
-#[cfg(test)]
-mod scripts;
+mod runs;
 #[cfg(test)]
 mod setting;
 #[cfg(test)]
