@@ -8,7 +8,8 @@ use Rattle.std.proofs.lemmas.List.{append_assoc, append-nil, drop_all, drop_more
 use Rattle.std.proofs.lemmas.Slice.Eq.{bytes_eq-Decides}
 use Rattle.pig_value.proofs.list_laws.Listing.{filter-filter, filter_all, each_of_all}
 use Rattle.pig_plan.specs.Plans.{Plan, PlanNode}
-use Rattle.pig_reach.specs.Reach.{loaded_path, once}
+use Rattle.pig_plan.specs.Nodes.{live}
+use Rattle.pig_reach.specs.Reach.{live_paths, loaded_path, once}
 use Rattle.pig_reach.specs.Paths.{is_among, with_new, with_path, with_path_at}
 
 abbrev pub not_among : List (List ℕ) → List ℕ → Bool
@@ -130,3 +131,7 @@ comes_on plan numbers place number seen new within at is =
 -- at the end of the list
 pub all_came : (plan : Plan) (numbers : List ℕ) (place : ℕ) (seen : List (List ℕ)) → length numbers ≤ place → Comes plan (drop place numbers) seen ≡ seen
 all_came plan numbers place seen end = ap (λ ns. Comes plan ns seen) (drop_all place numbers end) ∙ ends plan seen
+
+-- before the first
+pub comes_first : (plan : Plan) (numbers : List ℕ) → numbers ≡ live plan → Comes plan (drop 0 numbers) [] ≡ live_paths plan
+comes_first plan numbers are = begins plan numbers ∙ ap (λ ns. once (paths_at plan ns)) are

@@ -57,7 +57,7 @@ fn mark(marks: &mut Vec<bool>, number: usize, is_store: bool, inputs: &[u32])
     requires lower { AllByRecursion (λ i. i < number) inputs.now }
     ensures { IsMarked number is_store inputs.now marks.old.items marks.new.items }
 {
-    if !is_store && !marks[number] {
+    if !is_alive(is_store, marks.as_slice(), number) {
         return;
     }
     mark_one(marks, number);
@@ -68,6 +68,14 @@ fn is_store(op: &NodeOp) -> bool
     ensures { result ≡ is_store_op (op_of op.now) }
 {
     matches!(op, NodeOp::Store { .. })
+}
+
+/// Whether a node is live, where it is marked as soon as a live node names it.
+fn is_alive(is_store: bool, marks: &[bool], number: usize) -> bool
+    requires { number < length marks.now }
+    ensures { result ≡ (is_store || get_or marks.now number false) }
+{
+    is_store || marks[number]
 }
 
 /// Marks each of the inputs.
