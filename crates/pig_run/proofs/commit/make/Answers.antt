@@ -1,11 +1,11 @@
-use Rattle.std.proofs.Common.{rules, ◌≡◌, ◌∷◌, [], sym, ◌∙◌, ap, subst, inr}
+use Rattle.std.proofs.Common.{rules, ◌≡◌, ◌∷◌, [], sym, ◌∙◌, ap, subst, inr, refl}
 use Rattle.std.specs.Option.{option_map}
 use Rattle.pig_outside.specs.Shelf.{with_dir, with_new, with_part, with_mark, open_state, LeftUnmarked}
 use Rattle.pig_outside.proofs.ShelfLaws.{part_added, mark_set, left_unmarked, can_put, can_finish}
 use Rattle.pig_outside.specs.declared.failing.Method.TheVariants as method
-use Rattle.pig_run.specs.Asked.{call}
-use Rattle.pig_run.proofs.Asking.{asked_then}
-use Rattle.pig_run.proofs.commit.commit.Goals as goal
+use Rattle.pig_run.specs.Due.{call}
+use Rattle.pig_run.proofs.Stages.{asked_then}
+use Rattle.pig_run.proofs.commit.make.Goals as goal
 
 pub put-requires : goal.put-requires
 put-requires g c s is =
@@ -49,9 +49,45 @@ returns-clause-ok g c =
     put ∙ ap (option_map (with_part c.args.dir.now c.args.bytes.now)) created ∙ part_added c.args.dir.now c.args.bytes.now (open_state []) old in
     marked ∙ ap (option_map (with_mark c.args.dir.now)) both ∙ mark_set c.args.dir.now (open_state (c.args.bytes.now ∷ [])) old
 
+pub returns-in-Err-create-clause-asked : goal.returns-in-Err-create-clause-asked
+returns-in-Err-create-clause-asked g c = record {
+  made = call method.Create c.args.dir.now ∷ [];
+  asked = c.create.ensures.calls;
+  first = (call method.Put c.args.dir.now ∷ call method.Finish c.args.dir.now ∷ [], refl);
+  all = tt;
+}
+
+pub returns-in-Err-put-clause-asked : goal.returns-in-Err-put-clause-asked
+returns-in-Err-put-clause-asked g c =
+    let calls = g.D.Depot.calls in
+    let dir = c.args.dir.now in
+    record {
+      made = call method.Create dir ∷ call method.Put dir ∷ [];
+      asked = asked_then (call method.Create dir ∷ []) (call method.Put dir ∷ []) (calls c.args.depot.now) (calls c.create.new.self) (calls c.put.new.self) c.create.ensures.calls c.put.ensures.calls;
+      first = (call method.Finish dir ∷ [], refl);
+      all = tt;
+    }
+
+pub returns-in-Err-finish-clause-asked : goal.returns-in-Err-finish-clause-asked
+returns-in-Err-finish-clause-asked g c =
+    let calls = g.D.Depot.calls in
+    let dir = c.args.dir.now in
+    let two = asked_then (call method.Create dir ∷ []) (call method.Put dir ∷ []) (calls c.args.depot.now) (calls c.create.new.self) (calls c.put.new.self) c.create.ensures.calls c.put.ensures.calls in
+    record {
+      made = call method.Create dir ∷ call method.Put dir ∷ call method.Finish dir ∷ [];
+      asked = asked_then (call method.Create dir ∷ call method.Put dir ∷ []) (call method.Finish dir ∷ []) (calls c.args.depot.now) (calls c.put.new.self) (calls c.finish.new.self) two c.finish.ensures.calls;
+      first = ([], refl);
+      all = tt;
+    }
+
 pub returns-clause-asked : goal.returns-clause-asked
 returns-clause-asked g c =
     let calls = g.D.Depot.calls in
     let dir = c.args.dir.now in
     let two = asked_then (call method.Create dir ∷ []) (call method.Put dir ∷ []) (calls c.args.depot.now) (calls c.create.new.self) (calls c.put.new.self) c.create.ensures.calls c.put.ensures.calls in
-    asked_then (call method.Create dir ∷ call method.Put dir ∷ []) (call method.Finish dir ∷ []) (calls c.args.depot.now) (calls c.put.new.self) (calls c.finish.new.self) two c.finish.ensures.calls
+    record {
+      made = call method.Create dir ∷ call method.Put dir ∷ call method.Finish dir ∷ [];
+      asked = asked_then (call method.Create dir ∷ call method.Put dir ∷ []) (call method.Finish dir ∷ []) (calls c.args.depot.now) (calls c.put.new.self) (calls c.finish.new.self) two c.finish.ensures.calls;
+      first = ([], refl);
+      all = refl;
+    }

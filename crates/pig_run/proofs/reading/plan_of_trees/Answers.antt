@@ -1,10 +1,16 @@
-use Rattle.std.proofs.Common.{inl}
-use Rattle.pig_run.specs.Reading.{formed, not_built}
-use Rattle.pig_run.proofs.ReadingSteps.{of_none, of_some}
-use Rattle.pig_run.proofs.reading.form_of_trees.Goals as goal
+use Rattle.std.proofs.Common.{rules, refl, inl}
+use Rattle.pig_check.specs.Scripts.{IsFirstUntyped, IsPlanOf}
+use Rattle.pig_plan.specs.Plans.{plan_of}
+use Rattle.pig_run.specs.Reading.{checked, no_typing}
+use Rattle.pig_run.specs.Refusals.{untyped}
+use Rattle.pig_run.proofs.reading.plan_of_trees.Goals as goal
 
-pub returns-in-Some : goal.returns-in-Some
-returns-in-Some c = formed (of_some _ _ c.in_ok-form.field-0 c.in-Some.form c.in_ok-form.ensures c.in-Some.is)
+pub returns-in-Ok-clause-told : goal.returns-in-Ok-clause-told
+returns-in-Ok-clause-told c =
+    let is : IsPlanOf c.args.statements.now (plan_of c.in-Ok.plan) = search rules in
+    checked is
 
-pub returns-in-None : goal.returns-in-None
-returns-in-None c = inl (not_built (of_none _ _ c.in_ok-form.field-0 c.in_ok-form.ensures c.in-None.is))
+pub returns-in-Err-Check-clause-told : goal.returns-in-Err-Check-clause-told
+returns-in-Err-Check-clause-told c =
+    let none : IsFirstUntyped c.args.statements.now c.in-Err-Check.statement c.in-Err-Check.kind = search rules in
+    inl (untyped c.args.statements.now c.in-Err-Check.statement, no_typing none, (c.in-Err-Check.kind, none, refl))
