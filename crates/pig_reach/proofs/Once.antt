@@ -135,3 +135,6 @@ all_came plan numbers place seen end = ap (λ ns. Comes plan ns seen) (drop_all 
 -- before the first
 pub comes_first : (plan : Plan) (numbers : List ℕ) → numbers ≡ live plan → Comes plan (drop 0 numbers) [] ≡ live_paths plan
 comes_first plan numbers are = begins plan numbers ∙ ap (λ ns. once (paths_at plan ns)) are
+
+pub comes_begun : (plan : Plan) (numbers : List ℕ) (seen : List (List ℕ)) → seen ≡ [] → numbers ≡ live plan → Comes plan (drop 0 numbers) seen ≡ live_paths plan
+comes_begun plan numbers seen none are = ap (λ xs. Comes plan (drop 0 numbers) xs) none ∙ comes_first plan numbers are
