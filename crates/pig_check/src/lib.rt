@@ -4,4 +4,3 @@
 mod checking;
 
 pub use checking::{CheckFault, a_script_has_one_plan, check};
-pub use pig_typing::CheckKind;

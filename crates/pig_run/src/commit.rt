@@ -110,12 +110,8 @@ pub fn store_all<D: Depot>(
     ensures read { progress.new.read ≡ progress.old.read }
     ensures begun { IsNotBegun progress.new.begun result (D.shelf depot.old) (D.shelf depot.new) }
 {
-    let mut left = stores;
-    let mut rows_left = relations;
-    while let ([store, rest @ ..], [rows, more @ ..]) = (left, rows_left) {
-        store_rows(alloc, depot, store, rows, progress)?;
-        left = rest;
-        rows_left = more;
+    for place in 0..stores.len() {
+        store_rows(alloc, depot, &stores[place], &relations[place], progress)?;
     }
     Ok(())
 }

@@ -3,7 +3,7 @@ ghost use Rattle.pig_run.specs.Outputs.{no_counts};
 ghost use Rattle.pig_run.specs.Refusals.{status_of};
 ghost use Rattle.pig_run.specs.declared.outcome.RunFault.TheVariants as fault;
 
-use pig_check::CheckKind;
+use pig_typing::CheckKind;
 use pig_value::{KeptList, Text};
 use std::alloc::{AllocError, AllocFailed};
 use thiserror::Error;

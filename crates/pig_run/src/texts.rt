@@ -5,8 +5,8 @@ ghost use Rattle.pig_run.specs.declared.outcome.RunFault.TheVariants as fault;
 
 use crate::{Counts, RunFault, TooLarge};
 use itoa::Buffer;
-use pig_check::CheckKind;
 use pig_reach::Store;
+use pig_typing::CheckKind;
 use std::alloc::{AllocError, Global};
 
 /// The parts of a line, joined, with an LF behind them.

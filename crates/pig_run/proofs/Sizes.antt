@@ -1,0 +1,91 @@
+-- The sizes of inputs, and how they are looked for.
+use Rattle.std.proofs.Common.{◌≡◌, ◌<◌, ◌≤◌, ◌+◌, ◌++◌, ℕ, Bool, true, false, List, [], ◌∷◌, length, map, take, get_or, Option, Some, None, refl, sym, ◌∙◌, ap, subst, arith, inl, inr, ◌⊎◌}
+use Rattle.std.specs.List.{AllByRecursion, sum_by}
+use Rattle.std.specs.Option.{is_none, option_map, unwrap_or}
+use Rattle.std.proofs.lemmas.List.Sums.{sum_by-cons}
+use Rattle.pig_value.specs.declared.inputs.Input.{Input}
+use Rattle.pig_value.proofs.list_laws.Listing.{each-append, each_weaker}
+use Rattle.pig_outside.specs.Calls.{DepotCall}
+use Rattle.pig_outside.specs.Shelf.{Shelf, has_dir, lengths_at, lengths_of, pieces_of}
+use Rattle.pig_outside.specs.declared.failing.Method.TheVariants as method
+use Rattle.pig_plan.specs.Plans.{PlanNode}
+use Rattle.pig_reach.specs.Reach.{dirs_of, live_paths}
+use Rattle.pig_run.specs.declared.looking.Size.{Size}
+use Rattle.pig_run.specs.declared.outcome.RunFault.{RunFault}
+use Rattle.pig_run.specs.declared.outcome.RunFault.TheVariants as fault
+use Rattle.pig_run.specs.Due.{InputsDue, Looks, OutputsDue, RunDue, SizeDue, call, is_missing, size_of}
+use Rattle.pig_run.specs.Looking.{HasLengths, HasSize, total_of}
+use Rattle.pig_run.specs.Refusals.{no_input, output_there}
+use Rattle.pig_run.specs.Steps.{IsLookFault, Stops}
+use Rattle.pig_run.specs.Told.{Asked}
+use Rattle.pig_run.proofs.LookUps.{LookedAt, looks_broken, looks_stop}
+
+sum_lengths : (pieces : List (List ℕ)) → sum_by (λ n. n) (lengths_of pieces) ≡ sum_by length pieces
+sum_lengths [] = refl
+sum_lengths (p ∷ ps) =
+    let a = sum_by-cons (λ n. n) (length p) (lengths_of ps) in
+    let b = sum_by-cons length p ps in
+    let more = sum_lengths ps in
+    omega (arith, a, b, more)
+
+one_size : (o : Option (List (List ℕ))) (lengths : List ℕ) → option_map lengths_of o ≡ Some lengths → sum_by (λ n. n) lengths ≡ sum_by length (unwrap_or o [])
+one_size None lengths h = absurd (cc)
+one_size (Some pieces) lengths h = let same : lengths ≡ lengths_of pieces = cc in ap (sum_by (λ n. n)) same ∙ sum_lengths pieces
+
+-- all sizes together are those of the shelf's inputs
+pub total_is : (s : Shelf) (sizes : List Size) → AllByRecursion (HasSize s) sizes → total_of sizes ≡ sum_by (size_of s) (map (λ size. size.path) sizes)
+total_is s [] h = refl
+total_is s (size ∷ sizes) h =
+    let a = sum_by-cons (λ size. sum_by (λ n. n) size.lengths) size sizes in
+    let b = sum_by-cons (size_of s) size.path (map (λ size. size.path) sizes) in
+    let one = one_size (pieces_of size.path s.inputs) size.lengths h.0 in
+    let more = total_is s sizes h.1 in
+    omega (arith, a, b, one, more)
+
+pieces_behind : (o : Option (List (List ℕ))) (lengths : List ℕ) → option_map lengths_of o ≡ Some lengths → (pieces : List (List ℕ)) × (o ≡ Some pieces) × (lengths ≡ lengths_of pieces)
+pieces_behind None lengths h = absurd (cc)
+pieces_behind (Some pieces) lengths h = (pieces, refl, cc)
+
+-- a host that tells the shelf's inputs has them
+pub have_lengths : (s : Shelf) (i : List Input) → s.inputs ≡ i → (sizes : List Size) → AllByRecursion (HasSize s) sizes → AllByRecursion (HasLengths i) sizes
+have_lengths s i same sizes h = each_weaker (HasSize s) (HasLengths i) (λ size is.
+    let behind = pieces_behind (pieces_of size.path s.inputs) size.lengths is in
+    record { pieces = behind.0; there = ap (pieces_of size.path) (sym same) ∙ behind.1; lengths = behind.2 }) sizes h
+
+missing_of : (s : Shelf) (path : List ℕ) → lengths_at path s ≡ None → is_missing s path ≡ true
+missing_of s path h = by_option (pieces_of path s.inputs) h
+  where
+    by_option : (o : Option (List (List ℕ))) → option_map lengths_of o ≡ None → is_none o ≡ true
+    by_option None h = refl
+    by_option (Some pieces) h = absurd (cc)
+
+pub there_of : (s : Shelf) (path lengths : List ℕ) → lengths_at path s ≡ Some lengths → is_missing s path ≡ false
+there_of s path lengths h = by_option (pieces_of path s.inputs) h
+  where
+    by_option : (o : Option (List (List ℕ))) → option_map lengths_of o ≡ Some lengths → is_none o ≡ false
+    by_option None h = absurd (cc)
+    by_option (Some pieces) h = refl
+
+-- an input that is missing, or that the depot did not tell of
+pub input_stops : (plan : List PlanNode) (s : Shelf) (paths : List (List ℕ)) → paths ≡ live_paths plan → (place : ℕ) (path : List ℕ) (old now new : Option (List DepotCall))
+    → LookedAt (is_missing s) no_input method.Pieces paths (SizeDue plan s) place old now → place < length paths → path ≡ get_or paths place path
+    → Asked (call method.Pieces path ∷ []) now new → (f : RunFault) → ((f ≡ fault.NoInput path) × (lengths_at path s ≡ None)) ⊎ IsLookFault f → Stops (InputsDue plan s) old new f
+input_stops plan s paths are place path old now new so_far within at asked f (inl (is, none)) =
+    subst (λ f. Stops (InputsDue plan s) old new f) (sym is)
+    (subst (λ ps. Stops (Looks (is_missing s) no_input method.Pieces ps (SizeDue plan s)) old new (fault.NoInput path)) are
+    (looks_stop (is_missing s) no_input method.Pieces paths (SizeDue plan s) place path old now new so_far within at asked (fault.NoInput path) (missing_of s path none) refl))
+input_stops plan s paths are place path old now new so_far within at asked f (inr free) =
+    subst (λ ps. Stops (Looks (is_missing s) no_input method.Pieces ps (SizeDue plan s)) old new f) are
+    (looks_broken (is_missing s) no_input method.Pieces paths (SizeDue plan s) place path old now new so_far within at asked f free)
+
+-- an output that is there, or that the depot did not tell of
+pub output_stops : (plan : List PlanNode) (s : Shelf) (dirs : List (List ℕ)) → dirs ≡ dirs_of plan → (place : ℕ) (dir : List ℕ) (old now new : Option (List DepotCall))
+    → LookedAt (λ dir. has_dir dir s) output_there method.Exists dirs (RunDue plan) place old now → place < length dirs → dir ≡ get_or dirs place dir
+    → Asked (call method.Exists dir ∷ []) now new → (f : RunFault) → ((f ≡ fault.OutputExists dir) × (has_dir dir s ≡ true)) ⊎ IsLookFault f → Stops (OutputsDue plan s) old new f
+output_stops plan s dirs are place dir old now new so_far within at asked f (inl (is, there)) =
+    subst (λ f. Stops (OutputsDue plan s) old new f) (sym is)
+    (subst (λ ds. Stops (Looks (λ dir. has_dir dir s) output_there method.Exists ds (RunDue plan)) old new (fault.OutputExists dir)) are
+    (looks_stop (λ dir. has_dir dir s) output_there method.Exists dirs (RunDue plan) place dir old now new so_far within at asked (fault.OutputExists dir) there refl))
+output_stops plan s dirs are place dir old now new so_far within at asked f (inr free) =
+    subst (λ ds. Stops (Looks (λ dir. has_dir dir s) output_there method.Exists ds (RunDue plan)) old new f) are
+    (looks_broken (λ dir. has_dir dir s) output_there method.Exists dirs (RunDue plan) place dir old now new so_far within at asked f free)
