@@ -19,7 +19,7 @@ use Rattle.pig_reach.specs.Reach.{lines_at, lines_of, lines_read}
 
 -- ---- sums
 
-sum_same : {X : Type 0} (f g : X → ℕ) (xs : List X) → AllByRecursion (λ x. f x ≡ g x) xs → sum_by f xs ≡ sum_by g xs
+pub sum_same : {X : Type 0} (f g : X → ℕ) (xs : List X) → AllByRecursion (λ x. f x ≡ g x) xs → sum_by f xs ≡ sum_by g xs
 sum_same f g [] h = refl
 sum_same f g (x ∷ xs) h =
     let a = sum_by-cons f x xs in
@@ -36,7 +36,7 @@ sum_map f g (x ∷ xs) =
     let more = sum_map f g xs in
     omega (arith, a, b, more)
 
-sum_joined : {X Y : Type 0} (f : Y → ℕ) (g : X → List Y) (xs : List X) → sum_by f (flat_map g xs) ≡ sum_by (λ x. sum_by f (g x)) xs
+pub sum_joined : {X Y : Type 0} (f : Y → ℕ) (g : X → List Y) (xs : List X) → sum_by f (flat_map g xs) ≡ sum_by (λ x. sum_by f (g x)) xs
 sum_joined f g [] = refl
 sum_joined f g (x ∷ xs) =
     let a = sum_by-append f (g x) (flat_map g xs) in
@@ -177,6 +177,9 @@ module _ (plan : Plan) (inputs : List Input) where
     count_step : (k : ℕ) (node : PlanNode) → slice_get plan k ≡ Some node → counted k ≡ comes_to inputs node.op counted
     count_step k node at = result_is (λ k node. comes_to inputs node.op) 0 plan k node at
         (λ f g same. come_agree k node.op f g same (names_lower plan valid k node at))
+
+    pub flow_step : (k : ℕ) (node : PlanNode) → slice_get plan k ≡ Some node → flow k ≡ (if is_source node.op then lines_of inputs node.op else sum_by flow (inputs_of node.op))
+    flow_step k node at = ap (sum_by (lines_at plan inputs)) (path_step k node at) ∙ flow_in k node at (paths_of plan)
 
     counted_at : (k : ℕ) (node : PlanNode) → slice_get plan k ≡ Some node → AllByRecursion (λ i. counted i ≡ flow i % 2 ^ 64) (inputs_of node.op)
         → counted k ≡ flow k % 2 ^ 64

@@ -1,3 +1,4 @@
-mod Flowing
+pub mod Enough
+pub mod Flowing
 mod Marking
 mod Once
