@@ -1,4 +1,5 @@
 mod Deciding
+mod Found
 mod LookUps
 mod Readings
 mod ReadingSteps
