@@ -1,4 +1,5 @@
 mod Deciding
+mod Ending
 mod Found
 mod LookUps
 mod Readings
