@@ -4,6 +4,7 @@ use Rattle.std.specs.List.{flat_map, sum_by}
 use Rattle.std.specs.Option.{option_map}
 use Rattle.std.proofs.lemmas.Bool.{cases_Bool}
 use Rattle.std.proofs.lemmas.List.{append_assoc, append-nil}
+use Rattle.std.proofs.lemmas.List.Concat.{flat_map-map}
 use Rattle.std.proofs.lemmas.List.Sums.{sum_by-cons}
 use Rattle.pig_value.specs.declared.inputs.Input.{Input}
 use Rattle.pig_value.specs.declared.outcomes.Kept.{Kept}
@@ -24,9 +25,9 @@ use Rattle.pig_run.specs.Ends.{Ends, done, host_failed, lookup_failed, no_memory
 use Rattle.pig_run.specs.Outputs.{AreCounts, AreOutputsOf, AreStored, IsStopped, IsUntouched, IsWhole, Left, LeftOpen, Output, with_outputs}
 use Rattle.pig_run.specs.Reading.{Refuses, Runs, Verdict}
 use Rattle.pig_run.specs.Refusals.{Names, by_depot, by_host, by_memory, cause_of}
-use Rattle.pig_run.specs.Running.{AskedFor, IsBrokenAt, IsNotBegun, Relation, RunTold, RunsTold, counts_in, found_in, is_done, kept_in, output_of, outputs_of}
+use Rattle.pig_run.specs.Running.{AskedFor, IsBrokenAt, IsNotBegun, Relation, RunTold, RunsTold, counts_in, found_in, is_done, kept_in, note_of, noted_line, output_of, outputs_of}
 use Rattle.pig_run.specs.Steps.{IsCommitFault, IsHostStep, IsLookFault, Passes, Stops}
-use Rattle.pig_run.specs.Texts.{done_text}
+use Rattle.pig_run.specs.Texts.{done_line, done_text}
 use Rattle.pig_run.specs.Told.{Asked, CountsAre, EndsEarly, IsAsked, IsPrefix}
 use Rattle.pig_run.proofs.Deciding.{some_due}
 use Rattle.pig_run.proofs.Found.{outputs_are, relations_are}
@@ -66,15 +67,15 @@ module _ (laws : PlanLaws) (line : Line) (s : Shelf) (tells : Type 0) (old new :
   pub told_stopped : (f : RunFault) → Stops (IsDue line s) old new f → RunTold line s tells old new shelf progress (Err f)
   told_stopped f stops = elim stops.ends [
     | inl e ↦ record {
-        verdict = Refuses e.refusal;
-        calls = stops.made;
-        due = e.due;
-        outs = [];
-        state = refused e.names (untouched s shelf progress same idle);
-        asked = record { made = stops.made; asked = stops.asked; first = ([], sym (append-nil stops.made)); all = λ early. refl };
-        numbers = tt;
-        text = tt;
-      }
+      verdict = Refuses e.refusal;
+      calls = stops.made;
+      due = e.due;
+      outs = [];
+      state = refused e.names (untouched s shelf progress same idle);
+      asked = record { made = stops.made; asked = stops.asked; first = ([], sym (append-nil stops.made)); all = λ early. refl };
+      numbers = tt;
+      text = tt;
+    }
     | inr e ↦
         let due = some_due laws line s in
         record {
@@ -174,12 +175,12 @@ module _ (plan : Plan) (s : Shelf) (tells : Type 0) (old new : Option (List Depo
         → AskedFor {T = Unit {0}} (flat_map store_calls (map (λ store. store.dir) stores)) (Err f) old new → RunsTold plan s tells old new shelf progress (Err f)
     told_broken f broken idle asked = elim (cases_Bool progress.begun) [
       | inl busy ↦ record {
-          outs = outputs_of broken.before broken.first;
-          state = by_fault broken.named busy;
-          asked = asked_is;
-          numbers = λ e. absurd (cc);
-          text = tt;
-        }
+        outs = outputs_of broken.before broken.first;
+        state = by_fault broken.named busy;
+        asked = asked_is;
+        numbers = λ e. absurd (cc);
+        text = tt;
+      }
       | inr quiet ↦
           let nothing = idle quiet in
           record {
@@ -225,42 +226,41 @@ module _ (plan : Plan) (s : Shelf) (tells : Type 0) (old new : Option (List Depo
         all = λ early. asked.all ∙ dirs_are;
       }
 
-      lines_sum : (xs : List Store) (rs : List Relation) → length rs ≡ length xs → sum_by (λ n. n) (map length rs) ≡ sum_by (λ out. out.lines) (outputs_of xs rs)
-      lines_sum [] [] each = refl
-      lines_sum [] (r ∷ rs) each = absurd (omega (arith, each))
-      lines_sum (store ∷ xs) [] each = absurd (omega (arith, each))
-      lines_sum (store ∷ xs) (r ∷ rs) each =
-          let a = sum_by-cons (λ n. n) (length r) (map length rs) in
-          let b = sum_by-cons (λ out. out.lines) (output_of store r) (outputs_of xs rs) in
-          let more = lines_sum xs rs (omega (arith, each)) in
+      lines_sum : (outs : List Output) → sum_by (λ note. note.lines) (map note_of outs) ≡ sum_by (λ out. out.lines) outs
+      lines_sum [] = refl
+      lines_sum (out ∷ outs) =
+          let a = sum_by-cons (λ note. note.lines) (note_of out) (map note_of outs) in
+          let b = sum_by-cons (λ out. out.lines) out outs in
+          let more = lines_sum outs in
           omega (arith, a, b, more)
 
-      pub told_done : (text : List ℕ) → progress.lines.items ≡ map length relations → (tells → progress.read ≡ lines_read plan s.inputs % 2 ^ 64)
-          → text ≡ done_text (outputs_of stores relations) (counts_in progress) → RunsTold plan s tells old new shelf progress (Ok text)
-      told_done text lines read is = record {
+      pub told_done : (text : List ℕ) → progress.notes ≡ map note_of (outputs_of stores relations) → (tells → progress.read ≡ lines_read plan s.inputs % 2 ^ 64)
+          → text ≡ flat_map noted_line progress.notes ++ done_line (counts_in progress) → RunsTold plan s tells old new shelf progress (Ok text)
+      told_done text notes read is = record {
         outs = outputs_of stores relations;
         state = done (whole progress.kept refl);
         asked = all_asked None;
-        numbers = λ e. record { read = read; shuffled = refl; stored = ap (λ n. n % 2 ^ 64) (ap (sum_by (λ n. n)) lines ∙ lines_sum stores relations each) };
-        text = is;
+        numbers = λ e. record { read = read; shuffled = refl; stored = ap (λ n. n % 2 ^ 64) (ap (sum_by (λ note. note.lines)) notes ∙ lines_sum (outputs_of stores relations)) };
+        text = is ∙ ap (λ ns. flat_map noted_line ns ++ done_line (counts_in progress)) notes
+            ∙ ap (λ xs. xs ++ done_line (counts_in progress)) (flat_map-map noted_line note_of (outputs_of stores relations));
       }
 
       -- memory was wanting for the text
       pub told_untold : (f : RunFault) → f ≡ fault.OutOfMemory → IsNotBegun {T = Unit {0}} progress.begun (Ok tt) (Some s) shelf → RunsTold plan s tells old new shelf progress (Err f)
       told_untold f wants idle = elim (cases_Bool progress.begun) [
         | inl busy ↦ record {
-            outs = outputs_of stores relations;
-            state = subst (λ g. Ends tells s (record { outs = outputs_of stores relations; kept = kept_in false progress; shelf = shelf }) (Runs plan) (Some g)) (sym wants)
-                (no_memory_behind (whole (kept_in false progress) (ap (λ b. cond b progress.kept []) busy)));
-            asked = all_asked (Some f);
-            numbers = λ e. absurd (cc);
-            text = tt;
-          }
+          outs = outputs_of stores relations;
+          state = subst (λ g. Ends tells s (record { outs = outputs_of stores relations; kept = kept_in false progress; shelf = shelf }) (Runs plan) (Some g)) (sym wants)
+              (no_memory_behind (whole (kept_in false progress) (ap (λ b. cond b progress.kept []) busy)));
+          asked = all_asked (Some f);
+          numbers = λ e. absurd (cc);
+          text = tt;
+        }
         | inr quiet ↦ record {
-            outs = [];
-            state = subst (λ g. Ends tells s (record { outs = []; kept = kept_in false progress; shelf = shelf }) (Runs plan) (Some g)) (sym wants) (no_memory (untouched s shelf progress (idle quiet).0 quiet));
-            asked = all_asked (Some f);
-            numbers = λ e. absurd (cc);
-            text = tt;
-          }
+          outs = [];
+          state = subst (λ g. Ends tells s (record { outs = []; kept = kept_in false progress; shelf = shelf }) (Runs plan) (Some g)) (sym wants) (no_memory (untouched s shelf progress (idle quiet).0 quiet));
+          asked = all_asked (Some f);
+          numbers = λ e. absurd (cc);
+          text = tt;
+        }
       ]

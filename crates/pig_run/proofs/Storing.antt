@@ -12,10 +12,11 @@ use Rattle.pig_outside.specs.Shelf.{Shelf, has_dir, state_of, whole_state, with_
 use Rattle.pig_outside.specs.declared.contents.DirState.{DirState}
 use Rattle.pig_reach.specs.declared.storing.Store.{Store}
 use Rattle.pig_run.specs.declared.outcome.RunFault.{RunFault}
+use Rattle.pig_run.specs.declared.progress.Noted.{Noted}
 use Rattle.pig_run.specs.Due.{store_calls}
 use Rattle.pig_run.specs.Looking.{IsAbsentIn, are_apart, is_stored_in}
 use Rattle.pig_run.specs.Outputs.{LeftOpen, Output, with_outputs}
-use Rattle.pig_run.specs.Running.{AskedFor, IsBrokenAt, Relation, output_of, outputs_of}
+use Rattle.pig_run.specs.Running.{AskedFor, IsBrokenAt, Relation, note_of, output_of, outputs_of}
 use Rattle.pig_run.specs.Steps.{IsCommitFault}
 use Rattle.pig_run.specs.Told.{Asked, IsPrefix}
 use Rattle.pig_run.proofs.Stages.{asked_then}
@@ -83,18 +84,18 @@ some_outputs_append a b (Some s) = ap (λ x. Some x) (with_outputs_append a b s)
 
 -- those before a place were stored
 pub record StoredSoFar (stores : List Store) (relations : List Relation) (place : ℕ) (old now : Option Shelf) (calls_old calls_now : Option (List DepotCall))
-    (lines_old lines_now : List ℕ) : Type 0 where
+    (notes_old notes_now : List Noted) : Type 0 where
   pub shelf : now ≡ option_map (with_outputs (outputs_of (take place stores) (take place relations))) old
   pub asked : Asked (flat_map store_calls (map (λ store. store.dir) (take place stores))) calls_old calls_now
-  pub lines : lines_now ≡ lines_old ++ map length (take place relations)
+  pub notes : notes_now ≡ notes_old ++ map note_of (outputs_of (take place stores) (take place relations))
 
 taken : {X : Type 0} (xs : List X) (place : ℕ) (x : X) → place < length xs → x ≡ get_or xs place x → take (place + 1) xs ≡ take place xs ++ x ∷ []
 taken xs place x within at = ap (λ n. take n xs) (add-one place) ∙ take-suc xs place x within ∙ ap (λ y. take place xs ++ y ∷ []) (sym at)
 
 module _ (stores : List Store) (relations : List Relation) (each : length relations ≡ length stores) (place : ℕ) (store : Store) (rows : Relation)
     (within : place < length stores) (at : store ≡ get_or stores place store) (rows_at : rows ≡ get_or relations place rows)
-    (old now new : Option Shelf) (calls_old calls_now calls_new : Option (List DepotCall)) (lines_old lines_now lines_new : List ℕ)
-    (so_far : StoredSoFar stores relations place old now calls_old calls_now lines_old lines_now) where
+    (old now new : Option Shelf) (calls_old calls_now calls_new : Option (List DepotCall)) (notes_old notes_now notes_new : List Noted)
+    (so_far : StoredSoFar stores relations place old now calls_old calls_now notes_old notes_now) where
   same_length : length (take place stores) ≡ length (take place relations)
   same_length = let a = length-take place stores in let b = length-take place relations in omega (arith, a, b, each)
 
@@ -113,17 +114,20 @@ module _ (stores : List Store) (relations : List Relation) (each : length relati
       ∙ flat_map-append store_calls (map (λ store. store.dir) (take place stores)) (store.dir ∷ [])
       ∙ ap (λ xs. flat_map store_calls (map (λ store. store.dir) (take place stores)) ++ xs) (append-nil (store_calls store.dir))
 
-  pub stored_on : new ≡ option_map (with_outputs (output_of store rows ∷ [])) now → Asked (store_calls store.dir) calls_now calls_new → lines_new ≡ lines_now ++ length rows ∷ []
-      → StoredSoFar stores relations (place + 1) old new calls_old calls_new lines_old lines_new
-  stored_on shelf asked lines = record {
+  outputs_more : outputs_of (take place stores) (take place relations) ++ output_of store rows ∷ [] ≡ outputs_of (take (place + 1) stores) (take (place + 1) relations)
+  outputs_more = sym (outputs_append (take place stores) (take place relations) store rows same_length) ∙ (λ i. outputs_of (sym more_stores i) (sym more_relations i))
+
+  pub stored_on : new ≡ option_map (with_outputs (output_of store rows ∷ [])) now → Asked (store_calls store.dir) calls_now calls_new
+      → notes_new ≡ notes_now ++ note_of (output_of store rows) ∷ [] → StoredSoFar stores relations (place + 1) old new calls_old calls_new notes_old notes_new
+  stored_on shelf asked notes = record {
     shelf = shelf ∙ ap (option_map (with_outputs (output_of store rows ∷ []))) so_far.shelf
         ∙ sym (some_outputs_append (outputs_of (take place stores) (take place relations)) (output_of store rows ∷ []) old)
-        ∙ ap (λ outs. option_map (with_outputs outs) old) (sym (outputs_append (take place stores) (take place relations) store rows same_length))
-        ∙ (λ i. option_map (with_outputs (outputs_of (sym more_stores i) (sym more_relations i))) old);
+        ∙ ap (λ outs. option_map (with_outputs outs) old) outputs_more;
     asked = subst (λ xs. Asked xs calls_old calls_new) (sym calls_are)
         (asked_then (flat_map store_calls (map (λ store. store.dir) (take place stores))) (store_calls store.dir) calls_old calls_now calls_new so_far.asked asked);
-    lines = lines ∙ ap (λ xs. xs ++ length rows ∷ []) so_far.lines ∙ append_assoc lines_old (map length (take place relations)) (length rows ∷ [])
-        ∙ ap (λ xs. lines_old ++ xs) (sym (map-append length (take place relations) (rows ∷ [])) ∙ ap (map length) (sym more_relations));
+    notes = notes ∙ ap (λ xs. xs ++ note_of (output_of store rows) ∷ []) so_far.notes
+        ∙ append_assoc notes_old (map note_of (outputs_of (take place stores) (take place relations))) (note_of (output_of store rows) ∷ [])
+        ∙ ap (λ xs. notes_old ++ xs) (sym (map-append note_of (outputs_of (take place stores) (take place relations)) (output_of store rows ∷ [])) ∙ ap (map note_of) outputs_more);
   }
 
   split_stores : stores ≡ take place stores ++ store ∷ drop (place + 1) stores

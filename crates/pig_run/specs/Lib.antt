@@ -1,6 +1,5 @@
 pub mod Due
 pub mod Ends
-pub mod Lines
 pub mod Looking
 pub mod Outputs
 pub mod Reading

@@ -16,6 +16,7 @@ use Rattle.pig_value.specs.declared.values.Value.{Value}
 use Rattle.pig_run.specs.declared.outcome.Counts.{Counts}
 use Rattle.pig_run.specs.declared.outcome.RunFault.{RunFault}
 use Rattle.pig_run.specs.declared.outcome.RunFault.TheVariants as fault
+use Rattle.pig_run.specs.declared.progress.Noted.{Noted}
 use Rattle.pig_run.specs.declared.progress.Progress.{Progress}
 use Rattle.pig_run.specs.declared.running.Found.{Found}
 use Rattle.pig_run.specs.Due.{IsDue, Line, store_calls}
@@ -23,7 +24,7 @@ use Rattle.pig_run.specs.Ends.{Ends}
 use Rattle.pig_run.specs.Outputs.{Left, LeftOpen, Output, with_outputs}
 use Rattle.pig_run.specs.Reading.{Verdict, Refuses, Runs}
 use Rattle.pig_run.specs.Steps.{IsCommitFault}
-use Rattle.pig_run.specs.Texts.{done_text, fault_text}
+use Rattle.pig_run.specs.Texts.{done_text, fault_text, stored_line}
 use Rattle.pig_run.specs.Told.{Asked, CountsAre, IsAsked, IsPrefix}
 
 -- the inputs at paths, as they are told
@@ -47,6 +48,13 @@ output_of store rows = record { dir = store.dir; bytes = rows_text store.delim (
 abbrev pub outputs_of : List Store → List Relation → List Output
 outputs_of (store ∷ stores) (rows ∷ relations) = output_of store rows ∷ outputs_of stores relations
 outputs_of stores relations = []
+
+-- what is noted of an output, and its line
+abbrev pub note_of : Output → Noted
+note_of out = record { dir = out.dir; lines = out.lines }
+
+abbrev pub noted_line : Noted → List ℕ
+noted_line note = stored_line (record { dir = note.dir; bytes = []; lines = note.lines })
 
 -- these calls were made, or where there was a fault, the first of them
 pub record AskedFor {T : Type 0} (calls : List DepotCall) (result : Result T RunFault) (old new : Option (List DepotCall)) : Type 0 where
@@ -75,7 +83,7 @@ IsNotBegun begun result old new = begun ≡ false → (new ≡ old) × MatchResu
 -- ---- the run
 
 abbrev pub counts_in : Progress → Counts
-counts_in progress = record { read = progress.read; shuffled = 0; stored = sum_by (λ n. n) progress.lines.items % 2 ^ 64 }
+counts_in progress = record { read = progress.read; shuffled = 0; stored = sum_by (λ note. note.lines) progress.notes % 2 ^ 64 }
 
 -- what was kept counts where all was stored, or a directory was begun
 abbrev pub kept_in : Bool → Progress → List Kept

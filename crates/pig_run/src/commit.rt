@@ -7,7 +7,7 @@ ghost use Rattle.pig_outside.specs.Shelf.{CanCreate, whole_state, with_dir};
 ghost use Rattle.pig_run.specs.Due.{store_calls};
 ghost use Rattle.pig_run.specs.Looking.{IsAbsentIn, are_apart};
 ghost use Rattle.pig_run.specs.Outputs.{LeftOpen, with_outputs};
-ghost use Rattle.pig_run.specs.Running.{AskedFor, IsBrokenAt, IsNotBegun, output_of, outputs_of};
+ghost use Rattle.pig_run.specs.Running.{AskedFor, IsBrokenAt, IsNotBegun, note_of, output_of, outputs_of};
 ghost use Rattle.pig_run.specs.Steps.{DepotCause, IsCommitFault, StoreCause};
 
 use crate::RunFault;
@@ -73,14 +73,14 @@ fn store_rows<D: Depot>(
     ensures stores { StoreCause (D.store_faults depot.old) (D.store_faults depot.new) result }
     ensures asked { AskedFor (store_calls store.now.dir) result (D.calls depot.old)
         (D.calls depot.new) }
-    ensures lines { OnOk result (progress.new.lines.items
-        ≡ progress.old.lines.items ++ length rows.now ∷ []) }
+    ensures notes { OnOk result (progress.new.notes
+        ≡ progress.old.notes ++ note_of (output_of store.now rows.now) ∷ []) }
     ensures kept { progress.new.kept ≡ progress.old.kept }
     ensures read { progress.new.read ≡ progress.old.read }
     ensures begun { IsNotBegun progress.new.begun result (D.shelf depot.old) (D.shelf depot.new) }
 {
     let bytes = rows_bytes(alloc, rows, store.delim)?;
-    progress.lines.push(rows.len() as u64)?;
+    progress.note(alloc, &store.dir, rows.len())?;
     progress.begun = true;
     make(depot, store.dir.as_str(), bytes.as_slice(), store.statement)
 }
@@ -104,8 +104,8 @@ pub fn store_all<D: Depot>(
     ensures stores { StoreCause (D.store_faults depot.old) (D.store_faults depot.new) result }
     ensures asked { AskedFor (flat_map store_calls (map (λ store. store.dir) stores.now)) result
         (D.calls depot.old) (D.calls depot.new) }
-    ensures lines { OnOk result (progress.new.lines.items
-        ≡ progress.old.lines.items ++ map length relations.now) }
+    ensures notes { OnOk result (progress.new.notes
+        ≡ progress.old.notes ++ map note_of (outputs_of stores.now relations.now)) }
     ensures kept { progress.new.kept ≡ progress.old.kept }
     ensures read { progress.new.read ≡ progress.old.read }
     ensures begun { IsNotBegun progress.new.begun result (D.shelf depot.old) (D.shelf depot.new) }

@@ -1,5 +1,5 @@
-ghost use Rattle.std.specs.Prelude.{◌≡◌, ◌<◌, ◌≤◌, map, Some, IfOk, IfErr};
-ghost use Rattle.std.specs.Option.{ForSome};
+ghost use Rattle.std.specs.Prelude.{◌≡◌, ◌<◌, ◌≤◌, [], map, Some, IfOk, IfErr};
+ghost use Rattle.std.specs.Option.{ForSome, unwrap_or};
 ghost use Rattle.std.specs.List.{AllByRecursion};
 ghost use Rattle.pig_outside.specs.Shelf.{HasRange, pieces_of, range_of};
 ghost use Rattle.pig_run.specs.Looking.{HasLengths};
@@ -65,6 +65,20 @@ fn read_pieces<H: Host>(alloc: Global, host: &mut H, size: &Size) -> Result<Blob
     Ok(pieces)
 }
 
+/// An input, every piece read once.
+fn read_input<H: Host>(alloc: Global, host: &mut H, size: &Size) -> Result<Input, RunFault>
+    requires { ForSome (H.inputs host.old) (λ i. HasLengths i size.now) }
+    ensures read { ForSome (H.inputs host.old) (λ i. IfOk result (λ input. input
+        ≡ record { path = size.now.path; pieces = unwrap_or (pieces_of size.now.path i) [] })) }
+    ensures fault { IfErr result IsHostStep }
+    ensures inputs { H.inputs host.new ≡ H.inputs host.old }
+    ensures cause { HostCause (H.faults host.old) (H.faults host.new) result }
+{
+    let pieces = read_pieces(alloc, host, size)?;
+    let path = size.path.copy(alloc)?;
+    Ok(Input { path, pieces })
+}
+
 /// Inputs, every piece read once.
 pub fn read_inputs<H: Host>(alloc: Global, host: &mut H, sizes: &Sizes) -> Result<Inputs, RunFault>
     requires { ForSome (H.inputs host.old) (λ i. AllByRecursion (HasLengths i) sizes.now) }
@@ -75,12 +89,10 @@ pub fn read_inputs<H: Host>(alloc: Global, host: &mut H, sizes: &Sizes) -> Resul
     ensures cause { HostCause (H.faults host.old) (H.faults host.new) result }
 {
     let mut inputs = Inputs::new(alloc);
-    let mut left = sizes.as_slice();
-    while let [size, rest @ ..] = left {
-        let pieces = read_pieces(alloc, host, size)?;
-        let path = size.path.copy(alloc)?;
-        inputs.push(Input { path, pieces })?;
-        left = rest;
+    let sizes = sizes.as_slice();
+    for place in 0..sizes.len() {
+        let input = read_input(alloc, host, &sizes[place])?;
+        inputs.push(input)?;
     }
     Ok(inputs)
 }

@@ -148,8 +148,10 @@ fn length_sum(lengths: &Lengths) -> u64
     ensures { result ≡ min (sum_by (λ n. n) lengths.now) (2 ^ 64 - 1) }
 {
     let mut sum: u64 = 0;
-    for length in lengths.as_slice() {
+    let mut left = lengths.as_slice();
+    while let [length, rest @ ..] = left {
         sum = sum.saturating_add(*length);
+        left = rest;
     }
     sum
 }
@@ -159,8 +161,10 @@ fn size_sum(sizes: &Sizes) -> u64
     ensures { result ≡ min (total_of sizes.now) (2 ^ 64 - 1) }
 {
     let mut sum: u64 = 0;
-    for size in sizes.as_slice() {
+    let mut left = sizes.as_slice();
+    while let [size, rest @ ..] = left {
         sum = sum.saturating_add(length_sum(&size.lengths));
+        left = rest;
     }
     sum
 }

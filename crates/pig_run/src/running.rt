@@ -13,7 +13,7 @@ use crate::commit::store_all;
 use crate::inputs::read_inputs;
 use crate::line::CommandLine;
 use crate::looking::{Prepared, prepare};
-use crate::progress::Progress;
+use crate::progress::{Notes, Progress};
 use crate::texts::done_bytes;
 use crate::{Counts, RunFault};
 use pig_outside::{Depot, Host};
@@ -48,13 +48,15 @@ fn find<H: Host>(alloc: Global, host: &mut H, prepared: &Prepared) -> Result<Fou
     Ok(Found { answers, read })
 }
 
-/// The sum of numbers, modulo 2 to the 64.
-fn sum(numbers: &[u64]) -> u64
-    ensures { result ≡ sum_by (λ n. n) numbers.now % 2 ^ 64 }
+/// The number of lines of all directories, modulo 2 to the 64.
+fn line_sum(notes: &Notes) -> u64
+    ensures { result ≡ sum_by (λ note. note.lines) notes.now % 2 ^ 64 }
 {
     let mut sum: u64 = 0;
-    for number in numbers {
-        sum = sum.wrapping_add(*number);
+    let mut left = notes.as_slice();
+    while let [note, rest @ ..] = left {
+        sum = sum.wrapping_add(note.lines);
+        left = rest;
     }
     sum
 }
@@ -70,7 +72,7 @@ fn perform<D: Depot, H: Host>(
     requires prepared { IsPrepared prepared.now }
     requires ready { ForSome (D.shelf depot.old) (λ s. IsReady s prepared.now) }
     requires tells { TellsOf (D.shelf depot.old) (H.inputs host.old) }
-    requires lines { progress.old.lines.items ≡ [] }
+    requires notes { progress.old.notes ≡ [] }
     requires begun { progress.old.begun ≡ false }
     ensures told { ForSome (D.shelf depot.old) (λ s. RunsTold (plan_of prepared.now.plan) s
         (Tells (H.inputs host.old)) (D.calls depot.old) (D.calls depot.new) (D.shelf depot.new)
@@ -95,8 +97,7 @@ fn perform<D: Depot, H: Host>(
         progress,
     )?;
     let counts = counts_of(progress);
-    let lines = progress.lines.as_slice();
-    let text = done_bytes(alloc, prepared.stores.as_slice(), lines, &counts)?;
+    let text = done_bytes(alloc, &progress.notes, &counts)?;
     Ok(Blob::from_vec(text))
 }
 
@@ -107,7 +108,7 @@ pub fn counts_of(progress: &Progress) -> Counts
     Counts {
         read: progress.read,
         shuffled: 0,
-        stored: sum(progress.lines.as_slice()),
+        stored: line_sum(&progress.notes),
     }
 }
 
@@ -120,7 +121,7 @@ pub fn run<D: Depot, H: Host>(
     progress: &mut Progress,
 ) -> Result<Blob, RunFault>
     requires tells { TellsOf (D.shelf depot.old) (H.inputs host.old) }
-    requires lines { progress.old.lines.items ≡ [] }
+    requires notes { progress.old.notes ≡ [] }
     requires begun { progress.old.begun ≡ false }
     ensures told { ForSome (D.shelf depot.old) (λ s. RunTold (line_of line.now) s
         (Tells (H.inputs host.old)) (D.calls depot.old) (D.calls depot.new) (D.shelf depot.new)

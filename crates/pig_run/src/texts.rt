@@ -1,11 +1,12 @@
 ghost use Rattle.std.specs.Prelude.{◌≡◌, ◌++◌, ◌∷◌, [], map, codes, decimal, IfOk, OnOk};
 ghost use Rattle.pig_run.specs.Texts.{done_line, fault_text, kind_name, large_name, stored_line};
-ghost use Rattle.pig_run.specs.Lines.{lines_text};
+ghost use Rattle.std.specs.List.{flat_map};
+ghost use Rattle.pig_run.specs.Running.{noted_line};
 ghost use Rattle.pig_run.specs.declared.outcome.RunFault.TheVariants as fault;
 
+use crate::progress::Notes;
 use crate::{Counts, RunFault, TooLarge};
 use itoa::Buffer;
-use pig_reach::Store;
 use pig_typing::CheckKind;
 use std::alloc::{AllocError, Global};
 
@@ -169,23 +170,16 @@ fn add_done(out: &mut Vec<u8>, counts: &Counts) -> Result<(), AllocError>
     add_number(out, b"", counts.stored, 10)
 }
 
-/// The text of a run that stored so many lines of each STORE.
-pub fn done_bytes(
-    alloc: Global,
-    stores: &[Store],
-    lines: &[u64],
-    counts: &Counts,
-) -> Result<Vec<u8>, AllocError>
+/// The text of a run that made these directories.
+pub fn done_bytes(alloc: Global, notes: &Notes, counts: &Counts) -> Result<Vec<u8>, AllocError>
     ensures { IfOk result (λ text. text.items
-        ≡ lines_text stores.now lines.now ++ done_line counts.now) }
+        ≡ flat_map noted_line notes.now ++ done_line counts.now) }
 {
     let mut out = Vec::new(alloc);
-    let mut left = stores;
-    let mut lines_left = lines;
-    while let ([store, rest @ ..], [count, more @ ..]) = (left, lines_left) {
-        add_stored(&mut out, store.dir.as_bytes(), *count)?;
+    let mut left = notes.as_slice();
+    while let [note, rest @ ..] = left {
+        add_stored(&mut out, note.dir.as_bytes(), note.lines)?;
         left = rest;
-        lines_left = more;
     }
     add_done(&mut out, counts)?;
     Ok(out)
