@@ -2,9 +2,11 @@ mod Deciding
 mod Ending
 mod Found
 mod LookUps
+mod Pieces
 mod Readings
 mod ReadingSteps
 mod Scripts
 mod Sizes
 mod Stages
 mod Storing
+mod Topping

@@ -104,3 +104,8 @@ first_of count (x ∷ _) = count x
 -- the words of a program with these hosts
 abbrev pub line_of : {H : Type 0} → List H → List (List ℕ) → Line
 line_of hosts words = record { hosts = length hosts; words = words }
+
+-- the first of them tells its inputs
+abbrev pub FirstTells : {X : Type 0} → (X → Option (List Input)) → List X → Type 0
+FirstTells inputs [] = Unit {0}
+FirstTells inputs (x ∷ _) = Tells (inputs x)

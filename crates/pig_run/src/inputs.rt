@@ -9,7 +9,7 @@ ghost use Rattle.pig_run.specs.Steps.{HostCause, IsHostStep, host_fault_of};
 use crate::RunFault;
 use crate::looking::{Size, Sizes};
 use pig_outside::{Host, OutsideError};
-use pig_value::{Blob, Blobs, Input, Inputs};
+use pig_value::{Blob, Blobs, Input, Inputs, Text};
 use std::alloc::Global;
 
 /// The fault that an error of the host is.
@@ -26,7 +26,7 @@ fn host_fault(error: OutsideError) -> RunFault
 fn read_piece<H: Host>(
     alloc: Global,
     host: &mut H,
-    path: &str,
+    path: &Text,
     piece: u32,
     length: u64,
 ) -> Result<Blob, RunFault>
@@ -38,7 +38,7 @@ fn read_piece<H: Host>(
     ensures cause { HostCause (H.faults host.old) (H.faults host.new) result }
 {
     let mut bytes = vec![in alloc; 0u8; length as usize]?;
-    match host.read(path, piece, 0, bytes.as_mut_slice()) {
+    match host.read(path.as_str(), piece, 0, bytes.as_mut_slice()) {
         Ok(()) => Ok(Blob::from_vec(bytes)),
         Err(error) => Err(host_fault(error)),
     }
@@ -56,7 +56,8 @@ fn read_pieces<H: Host>(alloc: Global, host: &mut H, size: &Size) -> Result<Blob
     let mut pieces = Blobs::new(alloc);
     let mut piece: u32 = 0;
     for length in size.lengths.as_slice() {
-        pieces.push(read_piece(alloc, host, size.path.as_str(), piece, *length)?)?;
+        let bytes = read_piece(alloc, host, &size.path, piece, *length)?;
+        pieces.push(bytes)?;
         piece = match piece.checked_add(1) {
             Some(next) => next,
             None => return Err(RunFault::OutOfMemory),

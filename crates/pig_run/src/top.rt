@@ -8,7 +8,7 @@ ghost use Rattle.pig_run.specs.Reading.{Verdict};
 ghost use Rattle.pig_run.specs.Refusals.{status_of};
 ghost use Rattle.pig_run.specs.Running.{end_text, found_in, kept_in};
 ghost use Rattle.pig_run.specs.Texts.{fault_text};
-ghost use Rattle.pig_run.specs.Told.{Tells, TellsOf, Told, first_of, line_of};
+ghost use Rattle.pig_run.specs.Told.{FirstTells, TellsOf, Told, first_of, line_of};
 ghost use Rattle.pig_run.specs.declared.outcome.RunFault.TheVariants as fault;
 
 use crate::line::CommandLine;
@@ -127,7 +127,7 @@ pub fn pig_main<R: Threads + Sync, D: Depot, H: Host + Send, C: Console>(
     requires few_hosts { length hosts.old.items ≤ 256 }
     requires hosts_tell { All (λ h. TellsOf (D.shelf depot.old) (H.inputs h)) hosts.old.items }
     ensures told { ForSome (D.shelf depot.old) (λ s. Told (line_of hosts.old.items words.now) s
-        (All (λ h. Tells (H.inputs h)) hosts.old.items)
+        (FirstTells H.inputs hosts.old.items)
         (record {
           shelf = D.shelf depot.old;
           calls = D.calls depot.old;
