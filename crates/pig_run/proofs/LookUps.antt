@@ -27,13 +27,13 @@ module _ (is_so : List ℕ → Bool) (refusal : List ℕ → Refusal) (m : Metho
   pub looks_first : (old now : Option (List DepotCall)) → now ≡ option_map (λ xs. xs ++ []) old → LookedAt 0 old now
   looks_first old now same = record { asked = same; found = refl; calls = refl }
 
-  module _ (place : ℕ) (path : List ℕ) (old now new : Option (List DepotCall)) (so_far : LookedAt place old now) (within : place < length paths)
-      (at : path ≡ get_or paths place path) (asked : Asked (call m path ∷ []) now new) where
+  module _ (place : ℕ) (path d : List ℕ) (old now new : Option (List DepotCall)) (so_far : LookedAt place old now) (within : place < length paths)
+      (at : path ≡ get_or paths place d) (asked : Asked (call m path ∷ []) now new) where
     front : drop place paths ≡ path ∷ drop (place + 1) paths
-    front = drop_more paths place path within ∙ ap (λ p. p ∷ drop (place + 1) paths) (sym at)
+    front = drop_more paths place d within ∙ ap (λ p. p ∷ drop (place + 1) paths) (sym at)
 
     more : take (place + 1) paths ≡ take place paths ++ path ∷ []
-    more = ap (λ n. take n paths) (add-one place) ∙ take-suc paths place path within ∙ ap (λ p. take place paths ++ p ∷ []) (sym at)
+    more = ap (λ n. take n paths) (add-one place) ∙ take-suc paths place d within ∙ ap (λ p. take place paths ++ p ∷ []) (sym at)
 
     asked_now : Asked (map (call m) (take (place + 1) paths)) old new
     asked_now = subst (λ xs. Asked xs old new) (sym (ap (map (call m)) more ∙ map-append (call m) (take place paths) (path ∷ [])))

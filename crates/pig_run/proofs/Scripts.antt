@@ -12,18 +12,13 @@ use Rattle.pig_run.specs.declared.outcome.RunFault.{RunFault}
 use Rattle.pig_run.specs.declared.outcome.RunFault.TheVariants as fault
 use Rattle.pig_run.specs.declared.outcome.TooLarge.TheVariants as large
 use Rattle.pig_run.specs.Due.{InputsDue, ScriptDue, call, script_found, script_missing, script_refused}
+use Rattle.pig_run.specs.Looking.{IsRead}
 use Rattle.pig_run.specs.Reading.{IsFound, Refuses, Runs, Verdict, too_long}
 use Rattle.pig_run.specs.Refusals.{Refusal, Names, no_script, too_large}
 use Rattle.pig_run.specs.Steps.{DepotCause, IsLookFault, IsPlanFault, IsReadFault, Passes, Step, Stops, TellsPlan}
 use Rattle.pig_run.specs.Told.{Asked, IsPrefix}
 use Rattle.pig_run.proofs.Deciding.{just, not_none}
 use Rattle.pig_run.proofs.Readings.{PlanLaws, one_found}
-
--- a script that is there, of which the first bytes were read
-pub record IsRead (n : ℕ) (o : Option (List ℕ)) (bytes : List ℕ) : Type 0 where
-  pub script : List ℕ
-  pub there : o ≡ Some script
-  pub front : bytes ≡ take (n + 1) script
 
 pub is_read : (n : ℕ) (o : Option (List ℕ)) (bytes : List ℕ) → true ≡ is_some o → bytes ≡ [] ++ take (n + 1) (unwrap_or o []) → IsRead n o bytes
 is_read n None bytes h k = absurd (cc)
@@ -91,6 +86,11 @@ module _ (laws : PlanLaws) (path : List ℕ) (s : Shelf) where
       ends = inl (record { refusal = h.0; due = script_refused r.there (found_whole n limit bytes r (Refuses h.0) h.1); names = h.2 });
     }
     script_step n limit bytes r (Err f) (inr h) = script_broken f (inr h)
+
+    -- the bytes could not be had
+    pub script_stops : (f : RunFault) → ((f ≡ fault.NoScript) × (script_of path s ≡ None)) ⊎ IsLookFault f → Stops (ScriptDue path s) old new f
+    script_stops f (inl (is, none)) = subst (λ g. Stops (ScriptDue path s) old new g) (sym is) (script_gone none)
+    script_stops f (inr free) = script_broken f free
 
 -- a fault of reading is one of the steps before the run, and blames no device
 pub plan_fault : (f : RunFault) → IsReadFault f → IsPlanFault f

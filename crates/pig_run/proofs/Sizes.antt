@@ -18,7 +18,7 @@ use Rattle.pig_run.specs.Looking.{HasLengths, HasSize, total_of}
 use Rattle.pig_run.specs.Refusals.{no_input, output_there}
 use Rattle.pig_run.specs.Steps.{IsLookFault, Stops}
 use Rattle.pig_run.specs.Told.{Asked}
-use Rattle.pig_run.proofs.LookUps.{LookedAt, looks_broken, looks_stop}
+use Rattle.pig_run.proofs.LookUps.{LookedAt, looks_broken, looks_on, looks_stop}
 
 sum_lengths : (pieces : List (List ℕ)) → sum_by (λ n. n) (lengths_of pieces) ≡ sum_by length pieces
 sum_lengths [] = refl
@@ -67,25 +67,37 @@ there_of s path lengths h = by_option (pieces_of path s.inputs) h
     by_option (Some pieces) h = refl
 
 -- an input that is missing, or that the depot did not tell of
-pub input_stops : (plan : List PlanNode) (s : Shelf) (paths : List (List ℕ)) → paths ≡ live_paths plan → (place : ℕ) (path : List ℕ) (old now new : Option (List DepotCall))
-    → LookedAt (is_missing s) no_input method.Pieces paths (SizeDue plan s) place old now → place < length paths → path ≡ get_or paths place path
+pub input_stops : (plan : List PlanNode) (s : Shelf) (paths : List (List ℕ)) → paths ≡ live_paths plan → (place : ℕ) (path d : List ℕ) (old now new : Option (List DepotCall))
+    → LookedAt (is_missing s) no_input method.Pieces paths (SizeDue plan s) place old now → place < length paths → path ≡ get_or paths place d
     → Asked (call method.Pieces path ∷ []) now new → (f : RunFault) → ((f ≡ fault.NoInput path) × (lengths_at path s ≡ None)) ⊎ IsLookFault f → Stops (InputsDue plan s) old new f
-input_stops plan s paths are place path old now new so_far within at asked f (inl (is, none)) =
+input_stops plan s paths are place path d old now new so_far within at asked f (inl (is, none)) =
     subst (λ f. Stops (InputsDue plan s) old new f) (sym is)
     (subst (λ ps. Stops (Looks (is_missing s) no_input method.Pieces ps (SizeDue plan s)) old new (fault.NoInput path)) are
-    (looks_stop (is_missing s) no_input method.Pieces paths (SizeDue plan s) place path old now new so_far within at asked (fault.NoInput path) (missing_of s path none) refl))
-input_stops plan s paths are place path old now new so_far within at asked f (inr free) =
+    (looks_stop (is_missing s) no_input method.Pieces paths (SizeDue plan s) place path d old now new so_far within at asked (fault.NoInput path) (missing_of s path none) refl))
+input_stops plan s paths are place path d old now new so_far within at asked f (inr free) =
     subst (λ ps. Stops (Looks (is_missing s) no_input method.Pieces ps (SizeDue plan s)) old new f) are
-    (looks_broken (is_missing s) no_input method.Pieces paths (SizeDue plan s) place path old now new so_far within at asked f free)
+    (looks_broken (is_missing s) no_input method.Pieces paths (SizeDue plan s) place path d old now new so_far within at asked f free)
 
 -- an output that is there, or that the depot did not tell of
-pub output_stops : (plan : List PlanNode) (s : Shelf) (dirs : List (List ℕ)) → dirs ≡ dirs_of plan → (place : ℕ) (dir : List ℕ) (old now new : Option (List DepotCall))
-    → LookedAt (λ dir. has_dir dir s) output_there method.Exists dirs (RunDue plan) place old now → place < length dirs → dir ≡ get_or dirs place dir
+pub output_stops : (plan : List PlanNode) (s : Shelf) (dirs : List (List ℕ)) → dirs ≡ dirs_of plan → (place : ℕ) (dir d : List ℕ) (old now new : Option (List DepotCall))
+    → LookedAt (λ dir. has_dir dir s) output_there method.Exists dirs (RunDue plan) place old now → place < length dirs → dir ≡ get_or dirs place d
     → Asked (call method.Exists dir ∷ []) now new → (f : RunFault) → ((f ≡ fault.OutputExists dir) × (has_dir dir s ≡ true)) ⊎ IsLookFault f → Stops (OutputsDue plan s) old new f
-output_stops plan s dirs are place dir old now new so_far within at asked f (inl (is, there)) =
+output_stops plan s dirs are place dir d old now new so_far within at asked f (inl (is, there)) =
     subst (λ f. Stops (OutputsDue plan s) old new f) (sym is)
     (subst (λ ds. Stops (Looks (λ dir. has_dir dir s) output_there method.Exists ds (RunDue plan)) old new (fault.OutputExists dir)) are
-    (looks_stop (λ dir. has_dir dir s) output_there method.Exists dirs (RunDue plan) place dir old now new so_far within at asked (fault.OutputExists dir) there refl))
-output_stops plan s dirs are place dir old now new so_far within at asked f (inr free) =
+    (looks_stop (λ dir. has_dir dir s) output_there method.Exists dirs (RunDue plan) place dir d old now new so_far within at asked (fault.OutputExists dir) there refl))
+output_stops plan s dirs are place dir d old now new so_far within at asked f (inr free) =
     subst (λ ds. Stops (Looks (λ dir. has_dir dir s) output_there method.Exists ds (RunDue plan)) old new f) are
-    (looks_broken (λ dir. has_dir dir s) output_there method.Exists dirs (RunDue plan) place dir old now new so_far within at asked f free)
+    (looks_broken (λ dir. has_dir dir s) output_there method.Exists dirs (RunDue plan) place dir d old now new so_far within at asked f free)
+
+-- an input that is there
+pub inputs_on : (plan : List PlanNode) (s : Shelf) (paths : List (List ℕ)) (place : ℕ) (path d : List ℕ) (old now new : Option (List DepotCall))
+    → LookedAt (is_missing s) no_input method.Pieces paths (SizeDue plan s) place old now → place < length paths → path ≡ get_or paths place d
+    → Asked (call method.Pieces path ∷ []) now new → (lengths : List ℕ) → lengths_at path s ≡ Some lengths → LookedAt (is_missing s) no_input method.Pieces paths (SizeDue plan s) (place + 1) old new
+inputs_on plan s paths place path d old now new so_far within at asked lengths there =
+    looks_on (is_missing s) no_input method.Pieces paths (SizeDue plan s) place path d old now new so_far within at asked (there_of s path lengths there)
+
+-- its size joins those before it
+pub sizes_on : (s : Shelf) (old new : List Size) (path lengths : List ℕ) → lengths_at path s ≡ Some lengths → new ≡ old ++ record { path = path; lengths = lengths } ∷ []
+    → AllByRecursion (HasSize s) old → AllByRecursion (HasSize s) new
+sizes_on s old new path lengths there is h = subst (AllByRecursion (HasSize s)) (sym is) (each-append (HasSize s) old (record { path = path; lengths = lengths } ∷ []) h (there, tt))

@@ -51,16 +51,16 @@ absent_after s t state (u ∷ ts) apart h =
     same q h = ap (option_map (λ x. x)) (state_of-set_dir_other q t.dir state s.dirs h)
 
 -- the directory of a STORE is not there when its turn comes
-pub absent_now : (s : Shelf) (stores : List Store) (relations : List Relation) (place : ℕ) (store : Store) → length relations ≡ length stores → AllByRecursion (IsAbsentIn s) stores
-    → are_apart stores ≡ true → place < length stores → store ≡ get_or stores place store
+pub absent_now : (s : Shelf) (stores : List Store) (relations : List Relation) (place : ℕ) (store d : Store) → length relations ≡ length stores → AllByRecursion (IsAbsentIn s) stores
+    → are_apart stores ≡ true → place < length stores → store ≡ get_or stores place d
     → has_dir store.dir (with_outputs (outputs_of (take place stores) (take place relations)) s) ≡ false
-absent_now s [] relations place store each h apart within at = absurd (omega (arith, within))
-absent_now s (t ∷ ts) relations zero store each h apart within at = ap (λ x. has_dir x.dir s) at ∙ h.0
-absent_now s (t ∷ ts) [] (suc place) store each h apart within at = absurd (omega (arith, each))
-absent_now s (t ∷ ts) (r ∷ rs) (suc place) store each h apart within at =
+absent_now s [] relations place store d each h apart within at = absurd (omega (arith, within))
+absent_now s (t ∷ ts) relations zero store d each h apart within at = ap (λ x. has_dir x.dir s) at ∙ h.0
+absent_now s (t ∷ ts) [] (suc place) store d each h apart within at = absurd (omega (arith, each))
+absent_now s (t ∷ ts) (r ∷ rs) (suc place) store d each h apart within at =
     let both = both_true (not (is_stored_in t.dir ts)) (are_apart ts) apart in
     let out = output_of t r in
-    absent_now (with_dir out.dir (whole_state (out.bytes ∷ [])) s) ts rs place store (omega (arith, each))
+    absent_now (with_dir out.dir (whole_state (out.bytes ∷ [])) s) ts rs place store d (omega (arith, each))
     (absent_after s t (whole_state (out.bytes ∷ [])) ts (not_true (is_stored_in t.dir ts) both.0) h.1) both.1 (omega (arith, within)) at
 
 -- ---- outputs
@@ -89,11 +89,11 @@ pub record StoredSoFar (stores : List Store) (relations : List Relation) (place 
   pub asked : Asked (flat_map store_calls (map (λ store. store.dir) (take place stores))) calls_old calls_now
   pub notes : notes_now ≡ notes_old ++ map note_of (outputs_of (take place stores) (take place relations))
 
-taken : {X : Type 0} (xs : List X) (place : ℕ) (x : X) → place < length xs → x ≡ get_or xs place x → take (place + 1) xs ≡ take place xs ++ x ∷ []
-taken xs place x within at = ap (λ n. take n xs) (add-one place) ∙ take-suc xs place x within ∙ ap (λ y. take place xs ++ y ∷ []) (sym at)
+taken : {X : Type 0} (xs : List X) (place : ℕ) (x d : X) → place < length xs → x ≡ get_or xs place d → take (place + 1) xs ≡ take place xs ++ x ∷ []
+taken xs place x d within at = ap (λ n. take n xs) (add-one place) ∙ take-suc xs place d within ∙ ap (λ y. take place xs ++ y ∷ []) (sym at)
 
-module _ (stores : List Store) (relations : List Relation) (each : length relations ≡ length stores) (place : ℕ) (store : Store) (rows : Relation)
-    (within : place < length stores) (at : store ≡ get_or stores place store) (rows_at : rows ≡ get_or relations place rows)
+module _ (stores : List Store) (relations : List Relation) (each : length relations ≡ length stores) (place : ℕ) (store d : Store) (rows e : Relation)
+    (within : place < length stores) (at : store ≡ get_or stores place d) (rows_at : rows ≡ get_or relations place e)
     (old now new : Option Shelf) (calls_old calls_now calls_new : Option (List DepotCall)) (notes_old notes_now notes_new : List Noted)
     (so_far : StoredSoFar stores relations place old now calls_old calls_now notes_old notes_now) where
   same_length : length (take place stores) ≡ length (take place relations)
@@ -103,10 +103,10 @@ module _ (stores : List Store) (relations : List Relation) (each : length relati
   below = omega (arith, within, each)
 
   more_stores : take (place + 1) stores ≡ take place stores ++ store ∷ []
-  more_stores = taken stores place store within at
+  more_stores = taken stores place store d within at
 
   more_relations : take (place + 1) relations ≡ take place relations ++ rows ∷ []
-  more_relations = taken relations place rows below rows_at
+  more_relations = taken relations place rows e below rows_at
 
   calls_are : flat_map store_calls (map (λ store. store.dir) (take (place + 1) stores)) ≡ flat_map store_calls (map (λ store. store.dir) (take place stores)) ++ store_calls store.dir
   calls_are = ap (λ xs. flat_map store_calls (map (λ store. store.dir) xs)) more_stores
@@ -131,7 +131,7 @@ module _ (stores : List Store) (relations : List Relation) (each : length relati
   }
 
   split_stores : stores ≡ take place stores ++ store ∷ drop (place + 1) stores
-  split_stores = sym (take-append-drop place stores) ∙ ap (λ xs. take place stores ++ xs) (drop_more stores place store within ∙ ap (λ x. x ∷ drop (place + 1) stores) (sym at))
+  split_stores = sym (take-append-drop place stores) ∙ ap (λ xs. take place stores ++ xs) (drop_more stores place d within ∙ ap (λ x. x ∷ drop (place + 1) stores) (sym at))
 
   pub broken_here : (f : RunFault) → IsCommitFault store.statement f → LeftOpen store.dir now new → IsBrokenAt stores relations f old new
   broken_here f named left = record {

@@ -1,8 +1,8 @@
 -- How the steps that look for the script, the inputs and the outputs speak of each other.
-use Rattle.std.specs.Prelude.{◌≡◌, ◌&&◌, ℕ, Bool, true, false, not, List, [], ◌∷◌, ◌++◌, map, Option, Some, None, Result, MatchResult, bytes_eq}
+use Rattle.std.specs.Prelude.{◌≡◌, ◌&&◌, ℕ, Bool, true, false, not, List, [], ◌∷◌, ◌++◌, ◌+◌, take, map, Option, Some, None, Result, MatchResult, bytes_eq}
 use Rattle.std.specs.List.{AllByRecursion, list_any, sum_by}
 use Rattle.pig_value.specs.declared.inputs.Input.{Input}
-use Rattle.pig_outside.specs.Shelf.{Shelf, has_dir, lengths_at, lengths_of, pieces_of}
+use Rattle.pig_outside.specs.Shelf.{Shelf, has_dir, lengths_at, lengths_of, pieces_of, script_of}
 use Rattle.pig_plan.specs.Plans.{plan_of}
 use Rattle.pig_reach.specs.Reach.{live_paths, stores_of}
 use Rattle.pig_reach.specs.declared.storing.Store.{Store}
@@ -16,6 +16,19 @@ use Rattle.pig_run.specs.Steps.{IsLookFault}
 
 abbrev pub line_of : CommandLine → Line
 line_of line = record { hosts = line.hosts; words = line.words.now }
+
+-- ---- the script
+
+-- a script that is there, of which so many bytes and one more were read
+pub record IsRead (most : ℕ) (o : Option (List ℕ)) (bytes : List ℕ) : Type 0 where
+  pub script : List ℕ
+  pub there : o ≡ Some script
+  pub front : bytes ≡ take (most + 1) script
+
+-- its bytes are read, or there is none
+abbrev pub LooksForScript : {T : Type 0} → List ℕ → Shelf → (T → List ℕ) → Result T RunFault → Type 0
+LooksForScript path s bytes_of result = MatchResult result (λ x. IsRead 1048576 (script_of path s) (bytes_of x))
+    (λ found. ((found ≡ fault.NoScript) × (script_of path s ≡ None)) ⊎ IsLookFault found)
 
 -- ---- inputs
 

@@ -5,7 +5,7 @@ ghost use Rattle.pig_outside.specs.declared.failing.Method.TheVariants as method
 ghost use Rattle.pig_plan.specs.Plans.{PlanNode, plan_of};
 ghost use Rattle.pig_reach.specs.Reach.{live_paths, stores_of};
 ghost use Rattle.pig_run.specs.Due.{AreWords, HasWords, InputsDue, IsDue, OutputsDue, RunDue, ScriptDue, SizeDue, call};
-ghost use Rattle.pig_run.specs.Looking.{HasSize, IsAbsentIn, IsPrepared, IsReady, LooksForInput, LooksForOutput, LooksForSize, are_apart, is_stored_in, line_of, total_of};
+ghost use Rattle.pig_run.specs.Looking.{HasSize, IsAbsentIn, IsPrepared, IsReady, LooksForInput, LooksForOutput, LooksForScript, LooksForSize, are_apart, is_stored_in, line_of, total_of};
 ghost use Rattle.pig_run.specs.Steps.{DepotCause, IsPlanFault, SaysWords, Step, depot_fault_of};
 ghost use Rattle.pig_run.specs.Told.{Asked};
 ghost use Rattle.pig_run.specs.declared.outcome.RunFault.TheVariants as fault;
@@ -14,6 +14,7 @@ ghost use Rattle.pig_run.specs.declared.outcome.TooLarge.TheVariants as large;
 use crate::line::CommandLine;
 use crate::reading::{MOST_SCRIPT, read_script};
 use crate::{RunFault, TooLarge};
+use pig_check::a_script_has_one_plan;
 use pig_outside::{Depot, OutsideError};
 use pig_plan::Plan;
 use pig_reach::{Store, Stores, live_paths, stores};
@@ -60,6 +61,25 @@ fn read_path(alloc: Global, line: &CommandLine) -> Result<Text, RunFault>
     }
 }
 
+/// The bytes of the script at a path, or more than the limit of them where it is longer.
+fn script_bytes<D: Depot>(alloc: Global, depot: &mut D, path: &str) -> Result<Vec<u8>, RunFault>
+    ensures told { ForSome (D.shelf depot.old) (λ s. LooksForScript path.now s
+        (λ bytes. bytes.items) result) }
+    ensures fault { IfErr result IsPlanFault }
+    ensures shelf { D.shelf depot.new ≡ D.shelf depot.old }
+    ensures cause { DepotCause (D.faults depot.old) (D.faults depot.new) result }
+    ensures stores { D.store_faults depot.new ≡ D.store_faults depot.old }
+    ensures asked { Asked (call method.Script path.now ∷ []) (D.calls depot.old)
+        (D.calls depot.new) }
+{
+    let mut script = Vec::new(alloc);
+    match depot.script(path, MOST_SCRIPT + 1, &mut script) {
+        Ok(true) => Ok(script),
+        Ok(false) => Err(RunFault::NoScript),
+        Err(error) => Err(depot_fault(error, None)),
+    }
+}
+
 /// The plan of the script at a path.
 fn load_plan<D: Depot>(alloc: Global, depot: &mut D, path: &str) -> Result<Plan, RunFault>
     ensures told { ForSome (D.shelf depot.old) (λ s. Step (ScriptDue path.now s)
@@ -69,12 +89,8 @@ fn load_plan<D: Depot>(alloc: Global, depot: &mut D, path: &str) -> Result<Plan,
     ensures cause { DepotCause (D.faults depot.old) (D.faults depot.new) result }
     ensures stores { D.store_faults depot.new ≡ D.store_faults depot.old }
 {
-    let mut script = Vec::new(alloc);
-    match depot.script(path, MOST_SCRIPT + 1, &mut script) {
-        Ok(true) => {}
-        Ok(false) => return Err(RunFault::NoScript),
-        Err(error) => return Err(depot_fault(error, None)),
-    }
+    a_script_has_one_plan();
+    let script = script_bytes(alloc, depot, path)?;
     read_script(alloc, script.as_slice())
 }
 
