@@ -1,5 +1,5 @@
 -- The sizes of inputs, and how they are looked for.
-use Rattle.std.proofs.Common.{◌≡◌, ◌<◌, ◌≤◌, ◌+◌, ◌++◌, ℕ, Bool, true, false, List, [], ◌∷◌, length, map, take, get_or, Option, Some, None, refl, sym, ◌∙◌, ap, subst, arith, inl, inr, ◌⊎◌}
+use Rattle.std.proofs.Common.{◌≡◌, ◌<◌, ◌≤◌, ◌+◌, ◌^◌, ◌++◌, ℕ, Bool, true, false, List, [], ◌∷◌, length, map, take, get_or, Option, Some, None, refl, sym, ◌∙◌, ap, subst, arith, inl, inr, ◌⊎◌}
 use Rattle.std.specs.List.{AllByRecursion, sum_by}
 use Rattle.std.specs.Option.{is_none, option_map, unwrap_or}
 use Rattle.std.proofs.lemmas.List.Sums.{sum_by-cons}
@@ -13,11 +13,14 @@ use Rattle.pig_reach.specs.Reach.{dirs_of, live_paths}
 use Rattle.pig_run.specs.declared.looking.Size.{Size}
 use Rattle.pig_run.specs.declared.outcome.RunFault.{RunFault}
 use Rattle.pig_run.specs.declared.outcome.RunFault.TheVariants as fault
-use Rattle.pig_run.specs.Due.{InputsDue, Looks, OutputsDue, RunDue, SizeDue, call, is_missing, size_of}
+use Rattle.pig_run.specs.declared.outcome.TooLarge.TheVariants as large
+use Rattle.pig_run.specs.Due.{InputsDue, Looks, OutputsDue, RunDue, SizeDue, call, is_missing, size_of, small, too_big}
 use Rattle.pig_run.specs.Looking.{HasLengths, HasSize, total_of}
-use Rattle.pig_run.specs.Refusals.{no_input, output_there}
-use Rattle.pig_run.specs.Steps.{IsLookFault, Stops}
+use Rattle.pig_run.specs.Refusals.{no_input, output_there, too_large}
+use Rattle.pig_run.specs.Reading.{Verdict}
+use Rattle.pig_run.specs.Steps.{IsLookFault, Passes, Stops}
 use Rattle.pig_run.specs.Told.{Asked}
+use Rattle.pig_run.proofs.Stages.{passes_itself, refuses}
 use Rattle.pig_run.proofs.LookUps.{LookedAt, looks_broken, looks_on, looks_stop}
 
 sum_lengths : (pieces : List (List ℕ)) → sum_by (λ n. n) (lengths_of pieces) ≡ sum_by length pieces
@@ -101,3 +104,23 @@ inputs_on plan s paths place path d old now new so_far within at asked lengths t
 pub sizes_on : (s : Shelf) (old new : List Size) (path lengths : List ℕ) → lengths_at path s ≡ Some lengths → new ≡ old ++ record { path = path; lengths = lengths } ∷ []
     → AllByRecursion (HasSize s) old → AllByRecursion (HasSize s) new
 sizes_on s old new path lengths there is h = subst (AllByRecursion (HasSize s)) (sym is) (each-append (HasSize s) old (record { path = path; lengths = lengths } ∷ []) h (there, tt))
+
+-- ---- the sizes of all inputs
+
+size_back : (plan : List PlanNode) (s : Shelf) → sum_by (size_of s) (live_paths plan) ≤ 2 ^ 26 → (asked : List DepotCall) (v : Verdict) → SizeDue plan s asked v → OutputsDue plan s asked v
+size_back plan s few _ _ (too_big big) = absurd (omega (arith, few, big))
+size_back plan s few asked v (small h due) = due
+
+module _ (plan : List PlanNode) (s : Shelf) (sizes : List Size) (paths : map (λ size. size.path) sizes ≡ live_paths plan) (have : AllByRecursion (HasSize s) sizes) (now : Option (List DepotCall)) where
+  sum_is : total_of sizes ≡ sum_by (size_of s) (live_paths plan)
+  sum_is = total_is s sizes have ∙ ap (sum_by (size_of s)) paths
+
+  pub size_passes : total_of sizes ≤ 2 ^ 26 → Passes (SizeDue plan s) (OutputsDue plan s) now now
+  size_passes few =
+      let bound : sum_by (size_of s) (live_paths plan) ≤ 2 ^ 26 = let e = sum_is in omega (arith, few, e) in
+      passes_itself (SizeDue plan s) (OutputsDue plan s) now now refl (λ asked v due. small bound due) (size_back plan s bound)
+
+  pub size_stops : (f : RunFault) → (f ≡ fault.TooLarge large.Input) × (2 ^ 26 < total_of sizes) → Stops (SizeDue plan s) now now f
+  size_stops f h =
+      let big : 2 ^ 26 < sum_by (size_of s) (live_paths plan) = let e = sum_is in let m = h.1 in omega (arith, m, e) in
+      refuses (SizeDue plan s) now now refl f (too_large large.Input) h.0 (too_big big)
