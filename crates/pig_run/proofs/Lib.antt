@@ -10,3 +10,4 @@ mod Sizes
 mod Stages
 mod Storing
 mod Topping
+mod Wording

@@ -42,6 +42,8 @@ fn find<H: Host>(alloc: Global, host: &mut H, prepared: &Prepared) -> Result<Fou
     ensures inputs { H.inputs host.new ≡ H.inputs host.old }
     ensures cause { HostCause (H.faults host.old) (H.faults host.new) result }
 {
+    // That the plan is valid is known of its nodes.
+    prepared.plan.nodes();
     let inputs = read_inputs(alloc, host, &prepared.sizes)?;
     let read = lines_read(alloc, &prepared.plan, &inputs)?;
     let answers = answer(alloc, &prepared.plan, &inputs)?;
