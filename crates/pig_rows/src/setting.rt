@@ -4,7 +4,7 @@ ghost use Rattle.pig_outside.specs.Memory.{depot_shelf, told_shelf, host_inputs,
 ghost use Rattle.pig_run.specs.Told.{TellsOf};
 
 use pig_outside::{
-    Call, Calls, DirState, MemoryConsole, MemoryDepot, MemoryHost, Method, Source, Sources,
+    Call, Calls, Depot, DirState, MemoryConsole, MemoryDepot, MemoryHost, Method, Source, Sources,
 };
 use pig_run::{Outcome, pig_main};
 use pig_value::{Blob, Input, Inputs, Seq, Text, Words};
@@ -115,6 +115,7 @@ fn depot(
     ensures inputs { IfOk result (λ d. (depot_shelf d).inputs
         ≡ record { path = codes "a"; pieces = a.now ∷ [] }
         ∷ record { path = codes "b"; pieces = b.now ∷ [] } ∷ []) }
+    ensures empty { IfOk result (λ d. (depot_shelf d).dirs ≡ []) }
 {
     Ok(MemoryDepot::new(
         alloc,
@@ -154,4 +155,21 @@ pub fn told<R: Threads + Sync>(
     let host = host(alloc, a, b, call)?;
     let console = MemoryConsole::new(alloc, failing(alloc, call)?);
     told_over(rt, alloc, words, &mut depot, host, console)
+}
+
+/// The same of `run s` where `q` is there already, empty and unmarked.
+pub fn told_beside_output<R: Threads + Sync>(
+    rt: &R,
+    alloc: Global,
+    script: &str,
+    a: &str,
+) -> Result<String, AllocError> {
+    let mut depot = depot(alloc, script, a, "", None)?;
+    let host = host(alloc, a, "", None)?;
+    let console = MemoryConsole::new(alloc, Calls::new(alloc));
+    // No call is to fail, so an error is want of memory.
+    match depot.create("q") {
+        Ok(()) => told_over(rt, alloc, &["run", "s"], &mut depot, host, console),
+        Err(_) => Err(AllocError),
+    }
 }
