@@ -28,7 +28,7 @@ use Rattle.pig_run.specs.Refusals.{Names, by_depot, by_host, by_memory, cause_of
 use Rattle.pig_run.specs.Running.{AskedFor, IsBrokenAt, IsNotBegun, Relation, RunTold, RunsTold, counts_in, found_in, is_done, kept_in, note_of, noted_line, output_of, outputs_of}
 use Rattle.pig_run.specs.Steps.{IsCommitFault, IsHostStep, IsLookFault, Passes, Stops}
 use Rattle.pig_run.specs.Texts.{done_line, done_text}
-use Rattle.pig_run.specs.Told.{Asked, CountsAre, EndsEarly, IsAsked, IsPrefix}
+use Rattle.pig_run.specs.Told.{CountsAre, EndsEarly, IsAsked}
 use Rattle.pig_run.proofs.Deciding.{some_due}
 use Rattle.pig_run.proofs.Found.{outputs_are, relations_are}
 use Rattle.pig_run.proofs.Readings.{PlanLaws}

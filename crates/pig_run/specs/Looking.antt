@@ -1,5 +1,5 @@
 -- How the steps that look for the script, the inputs and the outputs speak of each other.
-use Rattle.std.specs.Prelude.{◌≡◌, ◌&&◌, ℕ, Bool, true, false, not, List, [], ◌∷◌, ◌++◌, ◌+◌, take, map, Option, Some, None, Result, MatchResult, bytes_eq}
+use Rattle.std.specs.Prelude.{◌≡◌, ◌⊎◌, ◌&&◌, ℕ, Bool, true, false, not, List, [], ◌∷◌, ◌++◌, ◌+◌, take, map, Option, Some, None, Result, MatchResult, bytes_eq}
 use Rattle.std.specs.List.{AllByRecursion, list_any, sum_by}
 use Rattle.pig_value.specs.declared.inputs.Input.{Input}
 use Rattle.pig_outside.specs.Shelf.{Shelf, has_dir, lengths_at, lengths_of, pieces_of, script_of}

@@ -1,7 +1,7 @@
 -- What a run stores: of each STORE the directory, whole, with one part that holds the texts of its rows, each with an LF behind it.
 -- (Pig Latin Basics: "STORE". That a relation but for an ordered one is stored in any order is said there under "Relations, Bags, Tuples,
 -- Fields".)
-use Rattle.std.specs.Prelude.{◌≡◌, ◌%◌, ◌^◌, ⊤, ℕ, List, [], ◌∷◌, ◌++◌, length, map, Option, Some}
+use Rattle.std.specs.Prelude.{◌≡◌, ◌⊎◌, ◌%◌, ◌^◌, ⊤, ℕ, List, [], ◌∷◌, ◌++◌, length, map, Option, Some}
 use Rattle.std.specs.List.{sum_by}
 use Rattle.pig_value.specs.declared.inputs.Input.{Input}
 use Rattle.pig_value.specs.declared.outcomes.Kept.{Kept}
@@ -11,7 +11,8 @@ use Rattle.pig_outside.specs.Shelf.{Shelf, LeftUnmarked, whole_state, with_dir}
 use Rattle.pig_plan.specs.Meaning.{IsKept}
 use Rattle.pig_plan.specs.Plans.{Plan}
 use Rattle.pig_plain.specs.Answering.{AnswersFor}
-use Rattle.pig_reach.specs.Reach.{Store, lines_read, stores_of}
+use Rattle.pig_reach.specs.Reach.{lines_read, stores_of}
+use Rattle.pig_reach.specs.declared.storing.Store.{Store}
 use Rattle.pig_run.specs.declared.outcome.Counts.{Counts}
 
 -- a directory that was made, the bytes of its one part, and how many lines they are

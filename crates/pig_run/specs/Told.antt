@@ -1,5 +1,5 @@
 -- What the top call says of a shelf that is told.
-use Rattle.std.specs.Prelude.{◌≡◌, ◌<◌, ◌++◌, ℕ, List, ◌∷◌, [], length, Option, Some, None}
+use Rattle.std.specs.Prelude.{◌≡◌, ◌⊎◌, ◌<◌, ◌++◌, ℕ, List, ◌∷◌, [], length, Option, Some, None}
 use Rattle.std.specs.Option.{ForSome, option_map}
 use Rattle.pig_value.specs.declared.inputs.Input.{Input}
 use Rattle.pig_outside.specs.Calls.{DepotCall}

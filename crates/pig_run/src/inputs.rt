@@ -1,4 +1,4 @@
-ghost use Rattle.std.specs.Prelude.{◌≡◌, ◌<◌, ◌≤◌, [], map, Some, IfOk, IfErr};
+ghost use Rattle.std.specs.Prelude.{◌≡◌, length, ◌<◌, ◌≤◌, [], map, Some, IfOk, IfErr};
 ghost use Rattle.std.specs.Option.{ForSome, unwrap_or};
 ghost use Rattle.std.specs.List.{AllByRecursion};
 ghost use Rattle.pig_outside.specs.Shelf.{HasRange, pieces_of, range_of};

@@ -1,4 +1,4 @@
-ghost use Rattle.std.specs.Prelude.{◌≡◌, ◌<◌, ◌≤◌, ◌⊎◌, ◌^◌, ◌-◌, ◌∷◌, [], ◌++◌, min, map, true, IfOk, IfErr, OnOk, MatchResult};
+ghost use Rattle.std.specs.Prelude.{◌≡◌, List, ◌<◌, ◌≤◌, ◌⊎◌, ◌^◌, ◌-◌, ◌∷◌, [], ◌++◌, min, map, true, IfOk, IfErr, OnOk, MatchResult};
 ghost use Rattle.std.specs.Option.{ForSome};
 ghost use Rattle.std.specs.List.{AllByRecursion, sum_by};
 ghost use Rattle.pig_outside.specs.declared.failing.Method.TheVariants as method;

@@ -1,4 +1,4 @@
-use Rattle.std.proofs.Common.{rules, refl, ◌≡◌, ◌⊎◌, ◌×◌, None, MatchResult}
+use Rattle.std.proofs.Common.{rules, refl, ◌≡◌, ◌⊎◌, None, MatchResult}
 use Rattle.std.proofs.lemmas.Result.{MatchResult-weaker}
 use Rattle.pig_outside.specs.Shelf.{script_of}
 use Rattle.pig_plan.specs.Plans.{plan_of}
