@@ -25,7 +25,7 @@ use Rattle.pig_run.specs.Ends.{Ends, done, host_failed, lookup_failed, no_memory
 use Rattle.pig_run.specs.Outputs.{AreCounts, AreOutputsOf, AreStored, IsStopped, IsUntouched, IsWhole, Left, LeftOpen, Output, with_outputs}
 use Rattle.pig_run.specs.Reading.{Refuses, Runs, Verdict}
 use Rattle.pig_run.specs.Refusals.{Names, by_depot, by_host, by_memory, cause_of}
-use Rattle.pig_run.specs.Running.{AskedFor, IsBrokenAt, IsNotBegun, Relation, RunTold, RunsTold, counts_in, found_in, is_done, kept_in, note_of, noted_line, output_of, outputs_of}
+use Rattle.pig_run.specs.Running.{AskedFor, IsBrokenAt, IsNotBegun, Relation, RunEnd, RunsEnd, counts_in, found_in, is_done, kept_in, note_of, noted_line, output_of, outputs_of}
 use Rattle.pig_run.specs.Steps.{IsCommitFault, IsHostStep, IsLookFault, Passes, Stops}
 use Rattle.pig_run.specs.Texts.{done_line, done_text}
 use Rattle.pig_run.specs.Told.{CountsAre, EndsEarly, IsAsked}
@@ -64,7 +64,7 @@ module _ (laws : PlanLaws) (line : Line) (s : Shelf) (tells : Type 0) (old new :
   left_look v f (inl is) = subst (λ g. Ends tells s (record { outs = []; kept = kept_in false progress; shelf = shelf }) v (Some g)) (sym is) (lookup_failed (untouched s shelf progress same idle))
   left_look v f (inr is) = subst (λ g. Ends tells s (record { outs = []; kept = kept_in false progress; shelf = shelf }) v (Some g)) (sym is) (no_memory (untouched s shelf progress same idle))
 
-  pub told_stopped : (f : RunFault) → Stops (IsDue line s) old new f → RunTold line s tells old new shelf progress (Err f)
+  pub told_stopped : (f : RunFault) → Stops (IsDue line s) old new f → RunEnd line s tells old new shelf progress (Err f)
   told_stopped f stops = elim stops.ends [
     | inl e ↦ record {
       verdict = Refuses e.refusal;
@@ -93,7 +93,7 @@ module _ (laws : PlanLaws) (line : Line) (s : Shelf) (tells : Type 0) (old new :
 -- ---- the run came
 
 pub told_runs : (line : Line) (s : Shelf) (tells : Type 0) (plan : Plan) (old mid new : Option (List DepotCall)) (shelf : Option Shelf) (progress : Progress) (result : Result (List ℕ) RunFault)
-    → Passes (IsDue line s) (RunDue plan) old mid → RunsTold plan s tells mid new shelf progress result → RunTold line s tells old new shelf progress result
+    → Passes (IsDue line s) (RunDue plan) old mid → RunsEnd plan s tells mid new shelf progress result → RunEnd line s tells old new shelf progress result
 told_runs line s tells plan old mid new shelf progress result passes told = record {
   verdict = Runs plan;
   calls = passes.made ++ flat_map store_calls (dirs_of plan);
@@ -127,7 +127,7 @@ each_first plan i kept (store ∷ before) behind (r ∷ first) last each h = (h.
 
 module _ (plan : Plan) (s : Shelf) (tells : Type 0) (old new : Option (List DepotCall)) (shelf : Option Shelf) (progress : Progress) where
   -- reading or answering ended it
-  pub told_unread : shelf ≡ Some s → progress.begun ≡ false → new ≡ old → (f : RunFault) → IsHostStep f → RunsTold plan s tells old new shelf progress (Err f)
+  pub told_unread : shelf ≡ Some s → progress.begun ≡ false → new ≡ old → (f : RunFault) → IsHostStep f → RunsEnd plan s tells old new shelf progress (Err f)
   told_unread same idle asked f step = record {
     outs = [];
     state = left step;
@@ -172,7 +172,7 @@ module _ (plan : Plan) (s : Shelf) (tells : Type 0) (old new : Option (List Depo
         }
 
     pub told_broken : (f : RunFault) → IsBrokenAt stores relations f (Some s) shelf → IsNotBegun {T = Unit {0}} progress.begun (Err f) (Some s) shelf
-        → AskedFor {T = Unit {0}} (flat_map store_calls (map (λ store. store.dir) stores)) (Err f) old new → RunsTold plan s tells old new shelf progress (Err f)
+        → AskedFor {T = Unit {0}} (flat_map store_calls (map (λ store. store.dir) stores)) (Err f) old new → RunsEnd plan s tells old new shelf progress (Err f)
     told_broken f broken idle asked = elim (cases_Bool progress.begun) [
       | inl busy ↦ record {
         outs = outputs_of broken.before broken.first;
@@ -235,7 +235,7 @@ module _ (plan : Plan) (s : Shelf) (tells : Type 0) (old new : Option (List Depo
           omega (arith, a, b, more)
 
       pub told_done : (text : List ℕ) → progress.notes ≡ map note_of (outputs_of stores relations) → (tells → progress.read ≡ lines_read plan s.inputs % 2 ^ 64)
-          → text ≡ flat_map noted_line progress.notes ++ done_line (counts_in progress) → RunsTold plan s tells old new shelf progress (Ok text)
+          → text ≡ flat_map noted_line progress.notes ++ done_line (counts_in progress) → RunsEnd plan s tells old new shelf progress (Ok text)
       told_done text notes read is = record {
         outs = outputs_of stores relations;
         state = done (whole progress.kept refl);
@@ -246,7 +246,7 @@ module _ (plan : Plan) (s : Shelf) (tells : Type 0) (old new : Option (List Depo
       }
 
       -- memory was wanting for the text
-      pub told_untold : (f : RunFault) → f ≡ fault.OutOfMemory → IsNotBegun {T = Unit {0}} progress.begun (Ok tt) (Some s) shelf → RunsTold plan s tells old new shelf progress (Err f)
+      pub told_untold : (f : RunFault) → f ≡ fault.OutOfMemory → IsNotBegun {T = Unit {0}} progress.begun (Ok tt) (Some s) shelf → RunsEnd plan s tells old new shelf progress (Err f)
       told_untold f wants idle = elim (cases_Bool progress.begun) [
         | inl busy ↦ record {
           outs = outputs_of stores relations;

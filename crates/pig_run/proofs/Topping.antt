@@ -12,7 +12,7 @@ use Rattle.pig_run.specs.Ends.{Console, Ends, Fails, Shown, counts_shown, cut_sh
 use Rattle.pig_run.specs.Outputs.{Left}
 use Rattle.pig_run.specs.Reading.{Verdict, Refuses, Runs}
 use Rattle.pig_run.specs.Refusals.{Cause, by_depot, by_host, cause_of}
-use Rattle.pig_run.specs.Running.{RunTold, counts_in, end_text, found_in, is_done, kept_in}
+use Rattle.pig_run.specs.Running.{RunEnd, counts_in, end_text, found_in, is_done, kept_in}
 use Rattle.pig_run.specs.Steps.{DepotCause, HostCause, IsNotUsage, SaysWords, StoreCause}
 use Rattle.pig_run.specs.Texts.{answer_text}
 use Rattle.pig_run.specs.Told.{IsCaused, IsRight, Seen, SomeFailed, Told}
@@ -77,13 +77,13 @@ shown_right v text old new found _ (no_text sound is) none right = inr refl
 shown_right v text old new found _ (no_text_failed fails is) none right = inr refl
 shown_right v text old new found _ (no_text_cut sound is) none right = inr refl
 
-text_is : (line : Line) (s : Shelf) (tells : Type 0) (old new : Seen) (progress : Progress) (result : Result (List ℕ) RunFault) (r : RunTold line s tells old.calls new.calls new.shelf progress result)
+text_is : (line : Line) (s : Shelf) (tells : Type 0) (old new : Seen) (progress : Progress) (result : Result (List ℕ) RunFault) (r : RunEnd line s tells old.calls new.calls new.shelf progress result)
     → end_text result ≡ answer_text r.outs (counts_in progress) (found_in result)
 text_is line s tells old new progress (Ok text) r = r.text
 text_is line s tells old new progress (Err f) r = refl
 
 pub told_all : (line : Line) (s : Shelf) (tells : Type 0) (old new : Seen) (outcome : Outcome) (progress : Progress) (result : Result (List ℕ) RunFault)
-    → RunTold line s tells old.calls new.calls new.shelf progress result
+    → RunEnd line s tells old.calls new.calls new.shelf progress result
     → Shown (end_text result) old.console new.console (found_in result) outcome.fault → outcome.kept ≡ kept_in (is_done result) progress
     → outcome.counts ≡ counts_shown outcome.fault (counts_in progress) → DepotCause old.depot_faults new.depot_faults result → HostCause old.host_faults new.host_faults result
     → Told line s tells old new outcome

@@ -103,7 +103,7 @@ is_done (Ok _) = true
 is_done (Err _) = false
 
 -- What the run of a plan says of a shelf that is told.
-pub record RunsTold (plan : Plan) (shelf : Shelf) (tells : Type 0) (calls_old calls_new : Option (List DepotCall)) (new : Option Shelf) (progress : Progress)
+pub record RunsEnd (plan : Plan) (shelf : Shelf) (tells : Type 0) (calls_old calls_new : Option (List DepotCall)) (new : Option Shelf) (progress : Progress)
     (result : Result (List ℕ) RunFault) : Type 0 where
   pub outs : List Output
   pub state : Ends tells shelf (record { outs = outs; kept = kept_in (is_done result) progress; shelf = new }) (Runs plan) (found_in result)
@@ -112,7 +112,7 @@ pub record RunsTold (plan : Plan) (shelf : Shelf) (tells : Type 0) (calls_old ca
   pub text : IfOk result (λ text. text ≡ done_text outs (counts_in progress))
 
 -- What a call says of it, from the words on.
-pub record RunTold (line : Line) (shelf : Shelf) (tells : Type 0) (calls_old calls_new : Option (List DepotCall)) (new : Option Shelf)
+pub record RunEnd (line : Line) (shelf : Shelf) (tells : Type 0) (calls_old calls_new : Option (List DepotCall)) (new : Option Shelf)
     (progress : Progress) (result : Result (List ℕ) RunFault) : Type 0 where
   pub verdict : Verdict
   pub calls : List DepotCall
@@ -122,3 +122,12 @@ pub record RunTold (line : Line) (shelf : Shelf) (tells : Type 0) (calls_old cal
   pub asked : IsAsked calls (found_in result) calls_old calls_new
   pub numbers : CountsAre tells verdict shelf outs (counts_in progress) (found_in result)
   pub text : IfOk result (λ text. text ≡ done_text outs (counts_in progress))
+
+-- so it is of each end
+abbrev pub RunsTold : Plan → Shelf → Type 0 → Option (List DepotCall) → Option (List DepotCall) → Option Shelf → Progress → Result (List ℕ) RunFault → Type 0
+RunsTold plan shelf tells calls_old calls_new new progress result = MatchResult result (λ text. RunsEnd plan shelf tells calls_old calls_new new progress (Ok text))
+    (λ found. RunsEnd plan shelf tells calls_old calls_new new progress (Err found))
+
+abbrev pub RunTold : Line → Shelf → Type 0 → Option (List DepotCall) → Option (List DepotCall) → Option Shelf → Progress → Result (List ℕ) RunFault → Type 0
+RunTold line shelf tells calls_old calls_new new progress result = MatchResult result (λ text. RunEnd line shelf tells calls_old calls_new new progress (Ok text))
+    (λ found. RunEnd line shelf tells calls_old calls_new new progress (Err found))
