@@ -16,6 +16,7 @@ use crate::looking::{Prepared, prepare};
 use crate::progress::{Notes, Progress};
 use crate::texts::done_bytes;
 use crate::{Counts, RunFault};
+use pig_check::a_script_has_one_plan;
 use pig_outside::{Depot, Host};
 use pig_plain::{Answers, answer};
 use pig_reach::lines_read;
@@ -136,6 +137,7 @@ pub fn run<D: Depot, H: Host>(
     ensures host { HostCause (H.faults host.old) (H.faults host.new) result }
     ensures inputs { H.inputs host.new ≡ H.inputs host.old }
 {
+    a_script_has_one_plan();
     let prepared = prepare(alloc, line, depot)?;
     perform(alloc, depot, host, &prepared, progress)
 }

@@ -25,3 +25,26 @@ returns-in_err-found-clause-told g c s told =
     IsHostStep = search rules in
     MatchResult-weaker c.from_residual.result broke (λ text h. h)
     (λ f h. told_unread plan s tells calls calls (g.D.Depot.shelf c.args.depot.now) c.args.progress.now told c.requires.begun refl f h)
+
+-- what is known once all was found
+pub returns-in_err-store_all-clause-told : goal.returns-in_err-store_all-clause-told
+returns-in_err-store_all-clause-told g c s told =
+    let plan = plan_of c.args.prepared.now.plan in
+    let stores = c.args.prepared.now.stores in
+    let old = g.D.Depot.calls c.args.depot.now in
+    let new = g.D.Depot.calls c.store_all.new.depot in
+    let shelf = g.D.Depot.shelf c.store_all.new.depot in
+    let tells = Tells (g.H.Host.inputs c.args.host.now) in
+    let relations = c.as_slice-relations.result.now in
+    let answers : Tells (g.H.Host.inputs c.args.host.now) → IsAnswer (plan_of c.args.prepared.now.plan) s.inputs c.store_all.new.progress.kept (map rows_tree c.as_slice-relations.result.now) = ? in
+    let broke : MatchResult c.from_residual-in_err-store_all.result
+    (λ text. RunsEnd (plan_of c.args.prepared.now.plan) s (Tells (g.H.Host.inputs c.args.host.now)) (g.D.Depot.calls c.args.depot.now) (g.D.Depot.calls c.store_all.new.depot)
+    (g.D.Depot.shelf c.store_all.new.depot) c.store_all.new.progress (Ok text))
+    (λ f. IsBrokenAt c.args.prepared.now.stores c.as_slice-relations.result.now f (g.D.Depot.shelf c.args.depot.now) (g.D.Depot.shelf c.store_all.new.depot)) = search rules in
+    ?
+
+pub returns-in_err-text-clause-told : goal.returns-in_err-text-clause-told
+returns-in_err-text-clause-told g c s told = ?
+
+pub returns-clause-told : goal.returns-clause-told
+returns-clause-told g c s told = ?
