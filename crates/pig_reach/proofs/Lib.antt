@@ -1,0 +1,4 @@
+pub mod Enough
+pub mod Flowing
+mod Marking
+mod Once

@@ -1,0 +1,4 @@
+pub mod Flows
+pub mod Marks
+pub mod Paths
+pub mod Reach
