@@ -9,7 +9,8 @@ use Rattle.pig_value.specs.declared.operators.Dir.{Dir}
 use Rattle.pig_value.proofs.list_laws.Listing.{each-append, each_weaker}
 use Rattle.pig_runs.specs.declared.slots.Slot.{Slot}
 use Rattle.pig_runs.specs.Entries.{Keyed, IsEntry, AreKeyed, InDirections, and_entries}
-use Rattle.pig_runs.specs.Packed.{Packed, packed, part, found_at, slot_of, moved, IsWithin, Held, held_prop}
+use Rattle.pig_runs.specs.Fronts.{front}
+use Rattle.pig_runs.specs.Packed.{Packed, packed, part, found_at, slot_of, moved, IsPlaced, Held, held_prop}
 
 part_kept : (bytes more : List ℕ) (at len : ℕ) → at + len ≤ length bytes → part (bytes ++ more) at len ≡ part bytes at len
 part_kept bytes more at len h =
@@ -24,13 +25,13 @@ second_part bytes key row =
     ap (take (length row)) (drop-append-add bytes (key ++ row) (length key) ∙ drop-append_seam key row)
     ∙ (ap (take (length row)) (sym (append-nil row)) ∙ take-append_seam row [])
 
-found_kept : (bytes more : List ℕ) (s : Slot) → IsWithin (length bytes) s → found_at (bytes ++ more) s ≡ found_at bytes s
+found_kept : (bytes more : List ℕ) (s : Slot) → IsPlaced bytes s → found_at (bytes ++ more) s ≡ found_at bytes s
 found_kept bytes more s h =
-    let key = part_kept bytes more s.key_at s.key_len h.key in
-    let row = part_kept bytes more s.row_at s.row_len h.row in
+    let key = part_kept bytes more s.key_at s.key_len h.within.key in
+    let row = part_kept bytes more s.row_at s.row_len h.within.row in
     λ i. record { key = key i; input = s.input; row = row i }
 
-pub all_kept : (bytes more : List ℕ) (slots : List Slot) → AllByRecursion (IsWithin (length bytes)) slots → map (found_at (bytes ++ more)) slots ≡ map (found_at bytes) slots
+pub all_kept : (bytes more : List ℕ) (slots : List Slot) → AllByRecursion (IsPlaced bytes) slots → map (found_at (bytes ++ more)) slots ≡ map (found_at bytes) slots
 all_kept bytes more [] h = refl
 all_kept bytes more (s ∷ slots) h = let one = found_kept bytes more s h.0 in let rest = all_kept bytes more slots h.1 in λ i. one i ∷ rest i
 
@@ -52,22 +53,45 @@ all_moved bytes more (s ∷ slots) =
     let rest = all_moved bytes more slots in
     λ i. record { key = key i; input = s.input; row = row i } ∷ rest i
 
-moved_within : (bytes more : List ℕ) (slots : List Slot) → AllByRecursion (IsWithin (length more)) slots → AllByRecursion (IsWithin (length (bytes ++ more))) (map (moved (length bytes)) slots)
-moved_within bytes more [] h = tt
-moved_within bytes more (s ∷ slots) h =
+one_moved : (bytes more : List ℕ) (s : Slot) → IsPlaced more s → IsPlaced (bytes ++ more) (moved (length bytes) s)
+one_moved bytes more s h =
     let longer = length-append bytes more in
-    (record { key = omega (arith, h.0.key, longer); row = omega (arith, h.0.row, longer) }, moved_within bytes more slots h.1)
+    record {
+      within = record { key = omega (arith, h.within.key, longer); row = omega (arith, h.within.row, longer) };
+      fronts = record {
+        key = h.fronts.key ∙ ap front (sym (moved_part bytes more s.key_at s.key_len));
+        row = h.fronts.row ∙ ap front (sym (moved_part bytes more s.row_at s.row_len));
+      };
+    }
 
-within_more : (bytes more : List ℕ) (slots : List Slot) → AllByRecursion (IsWithin (length bytes)) slots → AllByRecursion (IsWithin (length (bytes ++ more))) slots
-within_more bytes more slots h =
+moved_placed : (bytes more : List ℕ) (slots : List Slot) → AllByRecursion (IsPlaced more) slots → AllByRecursion (IsPlaced (bytes ++ more)) (map (moved (length bytes)) slots)
+moved_placed bytes more [] h = tt
+moved_placed bytes more (s ∷ slots) h = (one_moved bytes more s h.0, moved_placed bytes more slots h.1)
+
+one_kept : (bytes more : List ℕ) (s : Slot) → IsPlaced bytes s → IsPlaced (bytes ++ more) s
+one_kept bytes more s h =
     let longer = length-append bytes more in
-    each_weaker (IsWithin (length bytes)) (IsWithin (length (bytes ++ more))) (λ s k. record { key = omega (arith, k.key, longer); row = omega (arith, k.row, longer) }) slots h
+    record {
+      within = record { key = omega (arith, h.within.key, longer); row = omega (arith, h.within.row, longer) };
+      fronts = record {
+        key = h.fronts.key ∙ ap front (sym (part_kept bytes more s.key_at s.key_len h.within.key));
+        row = h.fronts.row ∙ ap front (sym (part_kept bytes more s.row_at s.row_len h.within.row));
+      };
+    }
 
-pub new_within : (bytes key row : List ℕ) (input : ℕ) → AllByRecursion (IsWithin (length (bytes ++ (key ++ row)))) (slot_of (length bytes) key row input ∷ [])
-new_within bytes key row input =
+placed_more : (bytes more : List ℕ) (slots : List Slot) → AllByRecursion (IsPlaced bytes) slots → AllByRecursion (IsPlaced (bytes ++ more)) slots
+placed_more bytes more slots h = each_weaker (IsPlaced bytes) (IsPlaced (bytes ++ more)) (one_kept bytes more) slots h
+
+pub new_placed : (bytes key row : List ℕ) (input : ℕ) → AllByRecursion (IsPlaced (bytes ++ (key ++ row))) (slot_of (length bytes) key row input ∷ [])
+new_placed bytes key row input =
     let outer = length-append bytes (key ++ row) in
-    let inner = length-append key row in
-    (record { key = omega (arith, outer, inner); row = omega (arith, outer, inner) }, tt)
+    let inner = length-append key row in (
+      record {
+        within = record { key = omega (arith, outer, inner); row = omega (arith, outer, inner) };
+        fronts = record { key = ap front (sym (first_part bytes key row)); row = ap front (sym (second_part bytes key row)) };
+      },
+      tt,
+    )
 
 -- the entries that slots at the end find
 abbrev pub Finds : List Dir → List ℕ → List Slot → List Keyed → Type 0
@@ -89,51 +113,51 @@ module _ (bytes more held_bytes : List ℕ) (slots held_slots : List Slot) (same
     all_moved bytes more slots ∙ ((λ i. map (found_at (same_bytes i)) (same_slots i)) ∙ (sym held.1.1 ∙ ap (λ d. map (packed d) held.0) same)),
   )
 
-  pub fits_moved : AllByRecursion (IsWithin (length held_bytes)) held_slots → AllByRecursion (IsWithin (length (bytes ++ more))) (map (moved (length bytes)) slots)
-  fits_moved within =
-      moved_within bytes more slots
-      (subst (λ b. AllByRecursion (IsWithin (length b)) slots) (sym same_bytes) (subst (AllByRecursion (IsWithin (length held_bytes))) (sym same_slots) within))
+  pub placed_moved : AllByRecursion (IsPlaced held_bytes) held_slots → AllByRecursion (IsPlaced (bytes ++ more)) (map (moved (length bytes)) slots)
+  placed_moved placed =
+      moved_placed bytes more slots
+      (subst (λ b. AllByRecursion (IsPlaced b) slots) (sym same_bytes) (subst (AllByRecursion (IsPlaced held_bytes)) (sym same_slots) placed))
 
 -- ---- what an addition leaves
 
 module _ (ds : List Dir) (fs : List Keyed) (old new more : List ℕ) (slots grown added : List Slot) where
-  grown_found : new ≡ old ++ more → grown ≡ slots ++ added → AllByRecursion (IsWithin (length old)) slots → map (found_at (old ++ more)) added ≡ map (packed ds) fs
+  grown_found : new ≡ old ++ more → grown ≡ slots ++ added → AllByRecursion (IsPlaced old) slots → map (found_at (old ++ more)) added ≡ map (packed ds) fs
       → map (found_at new) grown ≡ map (found_at old) slots ++ map (packed ds) fs
-  grown_found bytes both within found =
+  grown_found bytes both placed found =
       (λ i. map (found_at (bytes i)) (both i))
-      ∙ (map-append (found_at (old ++ more)) slots added ∙ (let kept = all_kept old more slots within in λ i. kept i ++ found i))
+      ∙ (map-append (found_at (old ++ more)) slots added ∙ (let kept = all_kept old more slots placed in λ i. kept i ++ found i))
 
-  pub held_after : {T E : Type 0} (r : Result T E) → Finds ds (old ++ more) added fs → AllByRecursion (IsWithin (length old)) slots → Held ds (map (found_at old) slots)
+  pub held_after : {T E : Type 0} (r : Result T E) → Finds ds (old ++ more) added fs → AllByRecursion (IsPlaced old) slots → Held ds (map (found_at old) slots)
       → OnOk r (new ≡ old ++ more) → OnOk r (grown ≡ slots ++ added) → OnErr r (new ≡ old) → OnErr r (grown ≡ slots) → Held ds (map (found_at new) grown)
-  held_after (Ok u) finds within held bytes both same_bytes same_slots = (
+  held_after (Ok u) finds placed held bytes both same_bytes same_slots = (
     held.0 ++ fs,
     (
       ∥∥₁_map₂ held.1.0 finds.0 (λ h k. each-append (IsEntry ds) held.0 fs h k),
-      map-append (packed ds) held.0 fs ∙ (ap (λ l. l ++ map (packed ds) fs) held.1.1 ∙ sym (grown_found bytes both within finds.1)),
+      map-append (packed ds) held.0 fs ∙ (ap (λ l. l ++ map (packed ds) fs) held.1.1 ∙ sym (grown_found bytes both placed finds.1)),
     ),
   )
-  held_after (Err u) finds within held bytes both same_bytes same_slots = (held.0, (held.1.0, held.1.1 ∙ (λ i. map (found_at (sym same_bytes i)) (sym same_slots i))))
+  held_after (Err u) finds placed held bytes both same_bytes same_slots = (held.0, (held.1.0, held.1.1 ∙ (λ i. map (found_at (sym same_bytes i)) (sym same_slots i))))
 
-  pub within_after : {T E : Type 0} (r : Result T E) → AllByRecursion (IsWithin (length (old ++ more))) added → AllByRecursion (IsWithin (length old)) slots
-      → OnOk r (new ≡ old ++ more) → OnOk r (grown ≡ slots ++ added) → OnErr r (new ≡ old) → OnErr r (grown ≡ slots) → AllByRecursion (IsWithin (length new)) grown
-  within_after (Ok u) fits within bytes both same_bytes same_slots =
-      subst (λ b. AllByRecursion (IsWithin (length b)) grown) (sym bytes)
-      (subst (AllByRecursion (IsWithin (length (old ++ more)))) (sym both) (each-append (IsWithin (length (old ++ more))) slots added (within_more old more slots within) fits))
-  within_after (Err u) fits within bytes both same_bytes same_slots =
-      subst (λ b. AllByRecursion (IsWithin (length b)) grown) (sym same_bytes) (subst (AllByRecursion (IsWithin (length old))) (sym same_slots) within)
+  pub placed_after : {T E : Type 0} (r : Result T E) → AllByRecursion (IsPlaced (old ++ more)) added → AllByRecursion (IsPlaced old) slots
+      → OnOk r (new ≡ old ++ more) → OnOk r (grown ≡ slots ++ added) → OnErr r (new ≡ old) → OnErr r (grown ≡ slots) → AllByRecursion (IsPlaced new) grown
+  placed_after (Ok u) fits placed bytes both same_bytes same_slots =
+      subst (λ b. AllByRecursion (IsPlaced b) grown) (sym bytes)
+      (subst (AllByRecursion (IsPlaced (old ++ more))) (sym both) (each-append (IsPlaced (old ++ more)) slots added (placed_more old more slots placed) fits))
+  placed_after (Err u) fits placed bytes both same_bytes same_slots =
+      subst (λ b. AllByRecursion (IsPlaced b) grown) (sym same_bytes) (subst (AllByRecursion (IsPlaced old)) (sym same_slots) placed)
 
   -- what is seen of the entries after it
-  pub seen_after : {T E : Type 0} (r : Result T E) (finds : Finds ds (old ++ more) added fs) (within : AllByRecursion (IsWithin (length old)) slots) (held : Held ds (map (found_at old) slots))
+  pub seen_after : {T E : Type 0} (r : Result T E) (finds : Finds ds (old ++ more) added fs) (placed : AllByRecursion (IsPlaced old) slots) (held : Held ds (map (found_at old) slots))
       (bytes : OnOk r (new ≡ old ++ more)) (both : OnOk r (grown ≡ slots ++ added)) (same_bytes : OnErr r (new ≡ old)) (same_slots : OnErr r (grown ≡ slots))
       (given : Held ds (map (found_at new) grown)) (b : InDirections) → b ≡ record { dirs = ds; entries = held.0 }
       → OnOk r (record { dirs = ds; entries = given.0 } ≡ and_entries fs b) × OnErr r (record { dirs = ds; entries = given.0 } ≡ b)
   unfolding held_after
-  seen_after {T} {E} (Ok u) finds within held bytes both same_bytes same_slots given b was =
-      let after = held_after {T = T} {E = E} (Ok u) finds within held bytes both same_bytes same_slots in
+  seen_after {T} {E} (Ok u) finds placed held bytes both same_bytes same_slots given b was =
+      let after = held_after {T = T} {E = E} (Ok u) finds placed held bytes both same_bytes same_slots in
       let is : given.0 ≡ held.0 ++ fs = ap (λ h. h.0) (held_prop ds (map (found_at new) grown) given after) in
       (ap (λ l. record { dirs = ds; entries = l }) is ∙ ap (and_entries fs) (sym was), tt)
-  seen_after {T} {E} (Err u) finds within held bytes both same_bytes same_slots given b was =
-      let after = held_after {T = T} {E = E} (Err u) finds within held bytes both same_bytes same_slots in
+  seen_after {T} {E} (Err u) finds placed held bytes both same_bytes same_slots given b was =
+      let after = held_after {T = T} {E = E} (Err u) finds placed held bytes both same_bytes same_slots in
       let is : given.0 ≡ held.0 = ap (λ h. h.0) (held_prop ds (map (found_at new) grown) given after) in
       (tt, ap (λ l. record { dirs = ds; entries = l }) is ∙ sym was)
 

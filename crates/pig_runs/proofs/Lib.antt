@@ -2,6 +2,8 @@ pub mod Order
 pub mod Adding
 pub mod Reading
 pub mod SortedSlots
+pub mod FrontOrder
+pub mod FrontedSlots
 pub mod Merging
 pub mod Lending
 pub mod Halving

@@ -10,7 +10,7 @@ use Rattle.pig_value.specs.declared.operators.Dir.{Dir}
 use Rattle.pig_value.proofs.list_laws.Bags.{each-sort, sort_ascends}
 use Rattle.pig_runs.specs.declared.slots.Slot.{Slot}
 use Rattle.pig_runs.specs.Entries.{Keyed, IsEntry, InDirections, run_cmp, run_of}
-use Rattle.pig_runs.specs.Packed.{packed, packed_cmp, found_at, IsWithin, Held, held_prop, coded_packed}
+use Rattle.pig_runs.specs.Packed.{packed, packed_cmp, found_at, IsPlaced, Held, held_prop, coded_packed}
 use Rattle.pig_runs.proofs.Order.{run_total, sorted_codes}
 
 module _ (ds : List Dir) (bytes : List ℕ) (slots done : List Slot) (held : Held ds (map (found_at bytes) slots))
@@ -38,8 +38,8 @@ along P (under x s) h = (h.0, along P s h.1)
 along P (swapped x y zs) h = (h.1.0, (h.0, h.1.1))
 along P (after s t) h = along P t (along P s h)
 
-pub within_sorted : (size : ℕ) (slots done : List Slot) → IsPermutation slots done → AllByRecursion (IsWithin size) slots → AllByRecursion (IsWithin size) done
-within_sorted size slots done moved h = along (IsWithin size) (shuffled_from_permutation slots done moved) h
+pub placed_sorted : (bytes : List ℕ) (slots done : List Slot) → IsPermutation slots done → AllByRecursion (IsPlaced bytes) slots → AllByRecursion (IsPlaced bytes) done
+placed_sorted bytes slots done moved h = along (IsPlaced bytes) (shuffled_from_permutation slots done moved) h
 
 pub ascends_run : (run : InDirections) (ds : List Dir) (es : List Keyed) → run ≡ run_of ds es → Ascends (run_cmp run.dirs) run.entries
 ascends_run run ds es is = subst (λ r. Ascends (run_cmp r.dirs) r.entries) (sym is) (sort_ascends (run_cmp ds) (run_total ds) es)

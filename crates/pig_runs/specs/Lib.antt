@@ -1,4 +1,5 @@
 pub mod Entries
+pub mod Fronts
 pub mod Packed
 pub mod Parts
 pub mod Cutting

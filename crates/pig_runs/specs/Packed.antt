@@ -15,6 +15,7 @@ use Rattle.pig_keycode.proofs.Wholes.{one_row}
 use Rattle.pig_runs.specs.declared.lent.Lent.{Lent}
 use Rattle.pig_runs.specs.declared.slots.Slot.{Slot}
 use Rattle.pig_runs.specs.Entries.{Keyed, IsEntry, AreKeyed, coded_keyed}
+use Rattle.pig_runs.specs.Fronts.{Fronted, front, fronted_cmp}
 
 -- an entry as bytes: the code of its key, the number of its input, the code of its row
 pub record Packed : Type 0 where
@@ -43,16 +44,58 @@ found_at bytes s = record { key = part bytes s.key_at s.key_len; input = s.input
 
 -- the slot of an entry whose bytes are appended to so many
 abbrev pub slot_of : ℕ → List ℕ → List ℕ → ℕ → Slot
-slot_of size key row input = record { key_at = size; key_len = length key; row_at = size + length key; row_len = length row; input = input }
+slot_of size key row input = record {
+  key_front = front key;
+  row_front = front row;
+  key_at = size;
+  key_len = length key;
+  row_at = size + length key;
+  row_len = length row;
+  input = input;
+}
 
 -- a slot whose bytes are moved behind so many others
 abbrev pub moved : ℕ → Slot → Slot
-moved base s = record { key_at = base + s.key_at; key_len = s.key_len; row_at = base + s.row_at; row_len = s.row_len; input = s.input }
+moved base s = record {
+  key_front = s.key_front;
+  row_front = s.row_front;
+  key_at = base + s.key_at;
+  key_len = s.key_len;
+  row_at = base + s.row_at;
+  row_len = s.row_len;
+  input = s.input;
+}
 
 -- both places of a slot lie within so many bytes
 pub record IsWithin (size : ℕ) (s : Slot) : Type 0 where
   pub key : s.key_at + s.key_len ≤ size
   pub row : s.row_at + s.row_len ≤ size
+
+-- the fronts of a slot are those of what it finds
+pub record HasFronts (bytes : List ℕ) (s : Slot) : Type 0 where
+  pub key : s.key_front ≡ front (part bytes s.key_at s.key_len)
+  pub row : s.row_front ≡ front (part bytes s.row_at s.row_len)
+
+-- a slot of the bytes
+pub record IsPlaced (bytes : List ℕ) (s : Slot) : Type 0 where
+  pub within : IsWithin (length bytes) s
+  pub fronts : HasFronts bytes s
+
+-- an entry as bytes with the fronts of its key and its row
+pub record FrontedEntry : Type 0 where
+  pub key : Fronted
+  pub input : ℕ
+  pub row : Fronted
+
+abbrev pub fronted_entry_cmp : FrontedEntry → FrontedEntry → Ordering
+fronted_entry_cmp p q = ordering_then (fronted_cmp p.key q.key) (ordering_then (nat_cmp p.input q.input) (fronted_cmp p.row q.row))
+
+abbrev pub fronted_at : List ℕ → Slot → FrontedEntry
+fronted_at bytes s = record {
+  key = record { front = s.key_front; text = part bytes s.key_at s.key_len };
+  input = s.input;
+  row = record { front = s.row_front; text = part bytes s.row_at s.row_len };
+}
 
 -- ---- the bytes tell the entries
 

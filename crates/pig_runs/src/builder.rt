@@ -25,10 +25,9 @@ pub struct RunBuilder {
 }
 
 impl Model for RunBuilder {
-    ghost use Rattle.std.specs.Prelude.{length};
     ghost use Rattle.std.specs.List.{AllByRecursion};
     ghost use Rattle.pig_runs.specs.Entries.{InDirections, coded_in_directions};
-    ghost use Rattle.pig_runs.specs.Packed.{IsWithin};
+    ghost use Rattle.pig_runs.specs.Packed.{IsPlaced};
 
     ghost Value = { InDirections };
 
@@ -36,7 +35,7 @@ impl Model for RunBuilder {
 
     ghost view = { λ b. record { dirs = b.dirs; entries = b.held.0 } };
 
-    ghost invariant = { λ b. AllByRecursion (IsWithin (length b.bytes.items)) b.slots.items };
+    ghost invariant = { λ b. AllByRecursion (IsPlaced b.bytes.items) b.slots.items };
 }
 
 impl RunBuilder {

@@ -4,6 +4,7 @@
 mod builder;
 mod cutting;
 mod entries;
+mod fronts;
 mod laws;
 mod lent;
 mod packing;

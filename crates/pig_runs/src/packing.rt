@@ -2,14 +2,15 @@ ghost use Rattle.std.specs.Prelude.{◌≡◌, ◌<◌, ◌≤◌, ◌^◌, ◌+
 ghost use Rattle.std.specs.Bool.{Decides};
 ghost use Rattle.std.specs.List.{AllByRecursion};
 ghost use Rattle.std.specs.Ordering.{ordering_then, nat_cmp};
-ghost use Rattle.pig_value.specs.Orders.{text_cmp};
 ghost use Rattle.pig_value.specs.Sorts.{sort};
 ghost use Rattle.pig_value.specs.Trees.{Tree, tree, row_tree};
 ghost use Rattle.pig_keycode.specs.Codable.{IsCodeOf, IsCodeOfRow};
 ghost use Rattle.pig_keycode.specs.Keys.{key_code};
 ghost use Rattle.pig_keycode.specs.Reading.{row_code};
-ghost use Rattle.pig_runs.specs.Packed.{part, found_at, packed_cmp, packed_lent, slot_of, moved, IsWithin};
+ghost use Rattle.pig_runs.specs.Fronts.{fronted_cmp};
+ghost use Rattle.pig_runs.specs.Packed.{part, found_at, fronted_at, fronted_entry_cmp, packed_cmp, packed_lent, slot_of, moved, IsPlaced};
 
+use crate::fronts::{compare_fronted, front};
 use crate::lent::{Lent, compare_lent};
 use crate::slots::Slot;
 use pig_keycode::{decode, decode_row, encode_key, encode_row};
@@ -30,23 +31,28 @@ pub(crate) fn part(bytes: &[u8], at: usize, len: usize) -> &[u8]
     }
 }
 
-// How two entries stand, by the bytes of their keys, their inputs, and the bytes of their rows.
+// How two entries stand, by their keys, their inputs and their rows, of which the fronts are compared first.
 pub(crate) fn compare(bytes: &[u8], a: &Slot, b: &Slot) -> Ordering
-    ensures { result ≡ packed_cmp (found_at bytes.now a.now) (found_at bytes.now b.now) }
+    ensures { result ≡ fronted_entry_cmp (fronted_at bytes.now a.now) (fronted_at bytes.now b.now) }
 {
-    let keys = part(bytes, a.key_at, a.key_len).cmp(part(bytes, b.key_at, b.key_len));
-    match keys {
+    let key = part(bytes, a.key_at, a.key_len);
+    let other = part(bytes, b.key_at, b.key_len);
+    match compare_fronted(a.key_front, key, b.key_front, other) {
         Ordering::Equal => compare_rows(bytes, a, b),
         found => found,
     }
 }
 
 fn compare_rows(bytes: &[u8], a: &Slot, b: &Slot) -> Ordering
-    ensures { result ≡ ordering_then (nat_cmp a.now.input b.now.input) (text_cmp
-        (part bytes.now a.now.row_at a.now.row_len) (part bytes.now b.now.row_at b.now.row_len)) }
+    ensures { result ≡ ordering_then (nat_cmp a.now.input b.now.input) (fronted_cmp
+        (fronted_at bytes.now a.now).row (fronted_at bytes.now b.now).row) }
 {
     match a.input.cmp(&b.input) {
-        Ordering::Equal => part(bytes, a.row_at, a.row_len).cmp(part(bytes, b.row_at, b.row_len)),
+        Ordering::Equal => {
+            let row = part(bytes, a.row_at, a.row_len);
+            let other = part(bytes, b.row_at, b.row_len);
+            compare_fronted(a.row_front, row, b.row_front, other)
+        }
         found => found,
     }
 }
@@ -72,7 +78,10 @@ fn write_entry(
         Ok(()) => {
             let key_len = row_at - key_at;
             let row_len = bytes.len() - row_at;
+            let written = bytes.as_slice();
             Ok(Slot {
+                key_front: front(part(written, key_at, key_len)),
+                row_front: front(part(written, row_at, row_len)),
                 key_at,
                 key_len,
                 row_at,
@@ -125,6 +134,7 @@ pub(crate) fn add_entry(
 
 // Sorts slots by their entries.
 pub(crate) fn sort_slots(bytes: &[u8], slots: &mut Vec<Slot>)
+    requires { AllByRecursion (IsPlaced bytes.now) slots.old.items }
     ensures order { map (found_at bytes.now) slots.new.items
         ≡ sort packed_cmp (map (found_at bytes.now) slots.old.items) }
     ensures same { IsPermutation slots.old.items slots.new.items }
@@ -216,7 +226,7 @@ pub(crate) fn append_entries(
     more: &[u8],
     more_slots: &[Slot],
 ) -> Result<(), AllocError>
-    requires { AllByRecursion (IsWithin (length more.now)) more_slots.now }
+    requires { AllByRecursion (IsPlaced more.now) more_slots.now }
     ensures bytes { OnOk result (bytes.new.items ≡ bytes.old.items ++ more.now) }
     ensures slots { OnOk result (slots.new.items
         ≡ slots.old.items ++ map (moved (length bytes.old.items)) more_slots.now) }
@@ -303,6 +313,8 @@ fn write_lent(bytes: &mut Vec<u8>, lent: Lent) -> Result<Slot, AllocError>
     let row_at = bytes.len();
     match extend_bytes(bytes, lent.row) {
         Ok(()) => Ok(Slot {
+            key_front: front(lent.key),
+            row_front: front(lent.row),
             key_at,
             key_len: lent.key.len(),
             row_at,

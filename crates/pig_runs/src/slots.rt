@@ -1,6 +1,9 @@
 // Where an entry stands in the bytes of its run.
 #[derive(Debug, Clone, Copy, Drop)]
 pub(crate) struct Slot {
+    // The fronts of the codes of its key and of its row.
+    pub(crate) key_front: u64,
+    pub(crate) row_front: u64,
     // The place and the length of the code of its key.
     pub(crate) key_at: usize,
     pub(crate) key_len: usize,

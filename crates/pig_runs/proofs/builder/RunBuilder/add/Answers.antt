@@ -2,7 +2,7 @@ use Rattle.std.proofs.Common.{[], ◌∷◌, sym, ap, subst}
 use Rattle.pig_value.specs.Trees.{tree, row_tree}
 use Rattle.pig_keycode.specs.Keys.{IsKey}
 use Rattle.pig_runs.specs.Entries.{Keyed, IsEntry}
-use Rattle.pig_runs.proofs.Adding.{finds_new, new_within, held_after, within_after, seen_after}
+use Rattle.pig_runs.proofs.Adding.{finds_new, new_placed, held_after, placed_after, seen_after}
 use Rattle.pig_runs.proofs.builder.RunBuilder.add.Goals as goal
 
 pub invariant_of-self-inside : goal.invariant_of-self-inside
@@ -14,7 +14,7 @@ invariant_of-self-inside c =
 pub invariant_of-self : goal.invariant_of-self
 invariant_of-self c =
     let e : Keyed = record { key = tree c.args.key.now; input = c.args.input; row = row_tree c.args.row.now } in
-    within_after c.self.inside.dirs (e ∷ []) c.self.inside.bytes.items c.add_entry.new.bytes.items _ c.self.inside.slots.items c.add_entry.new.slots.items _ c.add_entry.result (new_within c.self.inside.bytes.items _ _ e.input) c.self.invariant c.add_entry.ensures.bytes c.add_entry.ensures.slots c.add_entry.ensures.err_bytes c.add_entry.ensures.err_slots
+    placed_after c.self.inside.dirs (e ∷ []) c.self.inside.bytes.items c.add_entry.new.bytes.items _ c.self.inside.slots.items c.add_entry.new.slots.items _ c.add_entry.result (new_placed c.self.inside.bytes.items _ _ e.input) c.self.invariant c.add_entry.ensures.bytes c.add_entry.ensures.slots c.add_entry.ensures.err_bytes c.add_entry.ensures.err_slots
 
 pub returns-clause-ok : goal.returns-clause-ok
 returns-clause-ok c =

@@ -2,7 +2,7 @@ use Rattle.std.proofs.Common.{◌≡◌, [], ◌∷◌, map, sym, ap, subst}
 use Rattle.std.proofs.Math.Logic.{∥∥₁_elim}
 use Rattle.pig_runs.specs.Entries.{IsEntry}
 use Rattle.pig_runs.specs.Packed.{Packed, packed, packed_lent, found_at, Held, held_prop}
-use Rattle.pig_runs.proofs.Adding.{finds_lent, new_within, held_after, within_after, seen_after, seen_same}
+use Rattle.pig_runs.proofs.Adding.{finds_lent, new_placed, held_after, placed_after, seen_after, seen_same}
 use Rattle.pig_runs.proofs.builder.RunBuilder.add_lent.Goals as goal
 
 pub invariant_of-self-inside : goal.invariant_of-self-inside
@@ -17,7 +17,7 @@ invariant_of-self-inside c =
 
 pub invariant_of-self : goal.invariant_of-self
 invariant_of-self c =
-    within_after c.self.inside.dirs [] c.self.inside.bytes.items c.add_lent.new.bytes.items _ c.self.inside.slots.items c.add_lent.new.slots.items _ c.add_lent.result (new_within c.self.inside.bytes.items _ _ c.args.lent.input) c.self.invariant c.add_lent.ensures.bytes c.add_lent.ensures.slots c.add_lent.ensures.err_bytes c.add_lent.ensures.err_slots
+    placed_after c.self.inside.dirs [] c.self.inside.bytes.items c.add_lent.new.bytes.items _ c.self.inside.slots.items c.add_lent.new.slots.items _ c.add_lent.result (new_placed c.self.inside.bytes.items _ _ c.args.lent.input) c.self.invariant c.add_lent.ensures.bytes c.add_lent.ensures.slots c.add_lent.ensures.err_bytes c.add_lent.ensures.err_slots
 
 pub returns-clause-ok : goal.returns-clause-ok
 returns-clause-ok c e good told =

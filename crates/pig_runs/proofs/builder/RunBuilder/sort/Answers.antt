@@ -1,8 +1,12 @@
-use Rattle.std.proofs.Common.{◌≡◌, map, sym, ◌∙◌}
+use Rattle.std.proofs.Common.{◌≡◌, map, sym, ◌∙◌, subst}
+use Rattle.std.specs.List.{AllByRecursion}
 use Rattle.pig_value.specs.Sorts.{sort}
-use Rattle.pig_runs.specs.Packed.{packed_cmp, found_at}
-use Rattle.pig_runs.proofs.SortedSlots.{held_sorted, seen_sorted, within_sorted}
+use Rattle.pig_runs.specs.Packed.{packed_cmp, found_at, IsPlaced}
+use Rattle.pig_runs.proofs.SortedSlots.{held_sorted, seen_sorted, placed_sorted}
 use Rattle.pig_runs.proofs.builder.RunBuilder.sort.Goals as goal
+
+pub sort_slots-requires : goal.sort_slots-requires
+sort_slots-requires c = subst (λ b. AllByRecursion (IsPlaced b) c.self.inside.slots.items) (sym c.as_slice.ensures.value) c.self.invariant
 
 pub invariant_of-self-inside : goal.invariant_of-self-inside
 invariant_of-self-inside c =
@@ -12,7 +16,7 @@ invariant_of-self-inside c =
     (held_sorted c.self.inside.dirs c.self.inside.bytes.items c.self.inside.slots.items c.sort_slots.new.slots.items c.self.inside.held sorted, tt)
 
 pub invariant_of-self : goal.invariant_of-self
-invariant_of-self c = within_sorted _ c.self.inside.slots.items c.sort_slots.new.slots.items c.sort_slots.ensures.same c.self.invariant
+invariant_of-self c = placed_sorted c.self.inside.bytes.items c.self.inside.slots.items c.sort_slots.new.slots.items c.sort_slots.ensures.same c.self.invariant
 
 pub returns : goal.returns
 returns c =
