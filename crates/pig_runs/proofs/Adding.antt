@@ -45,7 +45,7 @@ found_new bytes key row input =
 moved_part : (bytes more : List ℕ) (at len : ℕ) → part (bytes ++ more) (length bytes + at) len ≡ part more at len
 moved_part bytes more at len = ap (take len) (drop-append-add bytes more at)
 
-all_moved : (bytes more : List ℕ) (slots : List Slot) → map (found_at (bytes ++ more)) (map (moved (length bytes)) slots) ≡ map (found_at more) slots
+pub all_moved : (bytes more : List ℕ) (slots : List Slot) → map (found_at (bytes ++ more)) (map (moved (length bytes)) slots) ≡ map (found_at more) slots
 all_moved bytes more [] = refl
 all_moved bytes more (s ∷ slots) =
     let key = moved_part bytes more s.key_at s.key_len in
@@ -64,7 +64,7 @@ one_moved bytes more s h =
       };
     }
 
-moved_placed : (bytes more : List ℕ) (slots : List Slot) → AllByRecursion (IsPlaced more) slots → AllByRecursion (IsPlaced (bytes ++ more)) (map (moved (length bytes)) slots)
+pub moved_placed : (bytes more : List ℕ) (slots : List Slot) → AllByRecursion (IsPlaced more) slots → AllByRecursion (IsPlaced (bytes ++ more)) (map (moved (length bytes)) slots)
 moved_placed bytes more [] h = tt
 moved_placed bytes more (s ∷ slots) h = (one_moved bytes more s h.0, moved_placed bytes more slots h.1)
 
@@ -79,7 +79,7 @@ one_kept bytes more s h =
       };
     }
 
-placed_more : (bytes more : List ℕ) (slots : List Slot) → AllByRecursion (IsPlaced bytes) slots → AllByRecursion (IsPlaced (bytes ++ more)) slots
+pub placed_more : (bytes more : List ℕ) (slots : List Slot) → AllByRecursion (IsPlaced bytes) slots → AllByRecursion (IsPlaced (bytes ++ more)) slots
 placed_more bytes more slots h = each_weaker (IsPlaced bytes) (IsPlaced (bytes ++ more)) (one_kept bytes more) slots h
 
 pub new_placed : (bytes key row : List ℕ) (input : ℕ) → AllByRecursion (IsPlaced (bytes ++ (key ++ row))) (slot_of (length bytes) key row input ∷ [])
@@ -105,18 +105,6 @@ finds_new ds bytes e good = (∣ (good, tt) ∣₁, (let found = found_new bytes
 pub finds_lent : (ds : List Dir) (bytes : List ℕ) (p : Packed) (one : Held ds (p ∷ []))
     → Finds ds (bytes ++ (p.key ++ p.row)) (slot_of (length bytes) p.key p.row p.input ∷ []) one.0
 finds_lent ds bytes p one = (one.1.0, (let found = found_new bytes p.key p.row p.input in (λ i. found i ∷ []) ∙ sym one.1.1))
-
-module _ (bytes more held_bytes : List ℕ) (slots held_slots : List Slot) (same_bytes : more ≡ held_bytes) (same_slots : slots ≡ held_slots) where
-  pub finds_moved : (ds held_dirs : List Dir) → held_dirs ≡ ds → (held : Held held_dirs (map (found_at held_bytes) held_slots)) → Finds ds (bytes ++ more) (map (moved (length bytes)) slots) held.0
-  finds_moved ds held_dirs same held = (
-    subst (λ d. ∥ AreKeyed d held.0 ∥₁) same held.1.0,
-    all_moved bytes more slots ∙ ((λ i. map (found_at (same_bytes i)) (same_slots i)) ∙ (sym held.1.1 ∙ ap (λ d. map (packed d) held.0) same)),
-  )
-
-  pub placed_moved : AllByRecursion (IsPlaced held_bytes) held_slots → AllByRecursion (IsPlaced (bytes ++ more)) (map (moved (length bytes)) slots)
-  placed_moved placed =
-      moved_placed bytes more slots
-      (subst (λ b. AllByRecursion (IsPlaced b) slots) (sym same_bytes) (subst (AllByRecursion (IsPlaced held_bytes)) (sym same_slots) placed))
 
 -- ---- what an addition leaves
 

@@ -4,6 +4,8 @@ pub mod Reading
 pub mod SortedSlots
 pub mod FrontOrder
 pub mod FrontedSlots
+pub mod Joined
+pub mod KWay
 pub mod Merging
 pub mod Lending
 pub mod Halving

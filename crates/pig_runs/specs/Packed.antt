@@ -6,7 +6,9 @@ use Rattle.std.specs.declared.cmp.Ordering.{Ordering}
 use Rattle.std.specs.Coded.{Coded, Coded-set, code_by, coded×, coded_ℕ, coded_list, ×_prop}
 use Rattle.std.proofs.Math.Logic.{∥∥₁_prop, ∥∥₁_elim}
 use mathlib.Core.HLevel.{Σ_prop_path}
+use Rattle.std.specs.List.{AllByRecursion, flat_map}
 use Rattle.pig_value.specs.Orders.{text_cmp}
+use Rattle.pig_value.specs.Sorts.{Ascends}
 use Rattle.pig_value.specs.declared.operators.Dir.{Dir}
 use Rattle.pig_keycode.specs.Keys.{key_code}
 use Rattle.pig_keycode.specs.Reading.{row_code}
@@ -81,6 +83,15 @@ pub record IsPlaced (bytes : List ℕ) (s : Slot) : Type 0 where
   pub within : IsWithin (length bytes) s
   pub fronts : HasFronts bytes s
 
+-- slots of the bytes that are sorted by what they find
+pub record IsPart (bytes : List ℕ) (slots : List Slot) : Type 0 where
+  pub placed : AllByRecursion (IsPlaced bytes) slots
+  pub sorted : Ascends packed_cmp (map (found_at bytes) slots)
+
+-- lists, one behind another
+abbrev pub joined : List (List Slot) → List Slot
+joined lists = flat_map (λ slots. slots) lists
+
 -- an entry as bytes with the fronts of its key and its row
 pub record FrontedEntry : Type 0 where
   pub key : Fronted
@@ -136,6 +147,11 @@ entries_told ds (e ∷ es) (f ∷ fs) h k same =
 pub record Stand (ds : List Dir) (es : List Keyed) (ps : List Packed) : Type 0 where
   pub good : ∥ AreKeyed ds es ∥₁
   pub told : map (packed ds) es ≡ ps
+
+-- sorted lists of slots, of which all together are those of entries
+pub record Joins (ds : List Dir) (es : List Keyed) (bytes : List ℕ) (lists : List (List Slot)) : Type 0 where
+  pub stand : Stand ds es (map (found_at bytes) (joined lists))
+  pub parts : AllByRecursion (IsPart bytes) lists
 
 -- the entries that bytes stand for
 abbrev pub Held : List Dir → List Packed → Type 0

@@ -1,11 +1,12 @@
-ghost use Rattle.std.specs.Prelude.{◌≡◌, ◌<◌, ◌≤◌, [], ◌∷◌, ◌++◌, length, map, take, drop, option_map, slice_get, Some, OnOk, OnErr, IfOk};
+ghost use Rattle.std.specs.List.{AllByRecursion};
+ghost use Rattle.std.specs.Prelude.{◌≡◌, ◌<◌, ◌≤◌, List, [], ◌∷◌, ◌++◌, length, map, take, drop, option_map, slice_get, Some, OnOk, OnErr, IfOk};
 ghost use Rattle.pig_runs.specs.Entries.{run_of};
-ghost use Rattle.pig_runs.specs.Packed.{found_at, packed, packed_lent, Held, held_prop};
+ghost use Rattle.pig_runs.specs.Packed.{found_at, packed, packed_lent, Held, held_prop, IsPlaced, Joins, Stand};
 
 use crate::lent::{Lent, stands_before};
 use crate::packing::{
-    add_entry, add_lent, append_entries, lend, lend_slots, read_key, read_row, same_key_bytes,
-    slot_at, sort_slots,
+    add_entry, add_lent, join_slots, lend, lend_slots, read_key, read_row, same_key_bytes, slot_at,
+    sort_slots,
 };
 use crate::run::Run;
 use crate::slots::Slot;
@@ -77,19 +78,31 @@ impl RunBuilder {
         )
     }
 
-    // Adds all entries of another builder. Where memory is wanting, the entries stay as they were.
-    pub(crate) fn append(&mut self, other: &RunBuilder) -> Result<(), AllocError>
-        requires { other.now.dirs ≡ self.old.dirs }
-        ensures ok { OnOk result (self.new ≡ and_entries other.now.entries self.old) }
-        ensures err { OnErr result (self.new ≡ self.old) }
+    // Adds the bytes and the slots of the entries, which are sorted, to those of others.
+    pub(crate) fn join_to(
+        &self,
+        alloc: Global,
+        bytes: &mut Vec<u8>,
+        lists: &mut Vec<Vec<Slot>>,
+    ) -> Result<(), AllocError>
+        requires sorted { ∥ Ascends (run_cmp self.now.dirs) self.now.entries ∥₁ }
+        ensures { (es : List Keyed)
+            → Joins self.now.dirs es bytes.old.items (map (λ list. list.items) lists.old.items)
+            → OnOk result (Joins self.now.dirs (es ++ self.now.entries) bytes.new.items
+            (map (λ list. list.items) lists.new.items)) }
     {
-        let more = other.bytes.as_slice();
-        append_entries(
-            &mut self.bytes,
-            &mut self.slots,
-            more,
-            other.slots.as_slice(),
-        )
+        let more = self.bytes.as_slice();
+        join_slots(alloc, bytes, lists, more, self.slots.as_slice())
+    }
+
+    // The entries that slots find in the bytes.
+    pub(crate) fn from_slots(dirs: Dirs, bytes: Vec<u8>, slots: Vec<Slot>) -> RunBuilder
+        requires placed { AllByRecursion (IsPlaced bytes.items) slots.items }
+        requires held { ∥ Held dirs (map (found_at bytes.items) slots.items) ∥₁ }
+        ensures { (es : List Keyed) → Stand dirs es (map (found_at bytes.items) slots.items)
+            → result ≡ record { dirs = dirs; entries = es } }
+    {
+        RunBuilder { dirs, bytes, slots }
     }
 
     /// The sorted run of the entries.

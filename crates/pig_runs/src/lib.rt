@@ -5,6 +5,7 @@ mod builder;
 mod cutting;
 mod entries;
 mod fronts;
+mod joining;
 mod laws;
 mod lent;
 mod packing;

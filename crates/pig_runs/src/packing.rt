@@ -220,7 +220,7 @@ fn extend_slots(slots: &mut Vec<Slot>, more: &[Slot]) -> Result<(), AllocError>
 }
 
 // Appends the bytes of other entries, and their slots. Where memory is wanting, both stay as they were.
-pub(crate) fn append_entries(
+fn append_entries(
     bytes: &mut Vec<u8>,
     slots: &mut Vec<Slot>,
     more: &[u8],
@@ -257,6 +257,26 @@ fn push_moved(
     let alloc = *slots.allocator();
     let more = all_moved(alloc, more, base, end)?;
     extend_slots(slots, more.as_slice())
+}
+
+// Adds bytes to others, and a list of the slots that find there what they found.
+pub(crate) fn join_slots(
+    alloc: Global,
+    bytes: &mut Vec<u8>,
+    lists: &mut Vec<Vec<Slot>>,
+    more: &[u8],
+    slots: &[Slot],
+) -> Result<(), AllocError>
+    requires { AllByRecursion (IsPlaced more.now) slots.now }
+    ensures bytes { OnOk result (bytes.new.items ≡ bytes.old.items ++ more.now) }
+    ensures lists { OnOk result (map (λ list. list.items) lists.new.items
+        ≡ map (λ list. list.items) lists.old.items
+        ++ map (moved (length bytes.old.items)) slots.now ∷ []) }
+{
+    let mut list = Vec::new(alloc);
+    append_entries(bytes, &mut list, more, slots)?;
+    lists.push(list)?;
+    Ok(())
 }
 
 // Whether the keys of two slots have the same bytes.

@@ -4,6 +4,7 @@ ghost use Rattle.pig_runs.specs.Entries.{keyed, AreKeyed, run_of, entries_of_all
 
 use crate::builder::RunBuilder;
 use crate::entries::Entries;
+use crate::joining::merge_slots;
 use crate::run::{Run, Runs};
 use pig_value::Dirs;
 use std::alloc::{AllocError, Global};
@@ -25,9 +26,11 @@ pub fn merge(alloc: Global, runs: Runs, dirs: Dirs) -> Result<Run, AllocError>
     requires { AllByRecursion (λ run. run.dirs ≡ dirs) runs }
     ensures { IfOk result (λ run. run ≡ run_of dirs (entries_of_all runs)) }
 {
-    let mut builder = RunBuilder::new(alloc, dirs);
+    let mut bytes = Vec::new(alloc);
+    let mut lists = Vec::new(alloc);
     for run in runs.as_slice() {
-        builder.append(run.as_builder())?;
+        run.as_builder().join_to(alloc, &mut bytes, &mut lists)?;
     }
-    Ok(builder.finish())
+    let slots = merge_slots(alloc, bytes.as_slice(), lists)?;
+    Ok(Run::from_sorted(RunBuilder::from_slots(dirs, bytes, slots)))
 }
