@@ -3,10 +3,12 @@ pub mod Chains
 pub mod References
 pub mod Told
 pub mod Found
-mod Joined
-mod Inside
+pub mod Joined
+pub mod Inside
 pub mod KindsHold
-mod CodeLaws
+pub mod CodeLaws
 mod LinkSteps
-mod ItemsTold
-mod ItemsFound
+pub mod ItemsTold
+pub mod ItemsFound
+pub mod ItemsHold
+pub mod NoLineEnds

@@ -53,7 +53,15 @@ pub fn type_expr(alloc: Global, e: &Expr, scope: &Scope) -> Result<TypedExpr, Ty
 pub fn typed_expr(alloc: Global, e: &Expr, scope: &Scope) -> Result<TypedExpr, TypeFault>
     ensures { Tells typed_tree (type_of (place_of scope.now) (expr_form e.now)) result }
 {
-    let Typing { expr, column } = type_in(alloc, e, scope)?;
+    let typing = type_in(alloc, e, scope)?;
+    Ok(kept(alloc, typing)?)
+}
+
+/// A typing with memory of its own.
+pub fn kept(alloc: Global, typing: Typing) -> Result<TypedExpr, AllocError>
+    ensures { IfOk result (λ t. typed_tree t ≡ typing_tree typing.entry) }
+{
+    let Typing { expr, column } = typing;
     let column = owned(alloc, column)?;
     let expr = expr.into_inner();
     Ok(TypedExpr { expr, column })

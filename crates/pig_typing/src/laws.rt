@@ -1,11 +1,17 @@
 ghost use Rattle.std.specs.Prelude.{◌≡◌, ◌⊎◌, List, Some, map};
+ghost use Rattle.std.specs.List.{All, AllByRecursion};
+ghost use Rattle.pig_value.specs.Texts.{IsLineFree};
+ghost use Rattle.pig_value.specs.Trees.{k_boolean};
 ghost use Rattle.pig_schema.specs.FieldTrees.{IsColumn, tree_kind};
 ghost use Rattle.pig_syntax.specs.ExprTrees.{ExprForm, ExprForms};
 ghost use Rattle.pig_syntax.specs.declared.trees.Item.{Item};
+ghost use Rattle.pig_syntax.specs.Formed.{ExprFormed, ExprsFormed, ItemFormed};
+ghost use Rattle.pig_typed.specs.BlockKinds.{items_kinds};
 ghost use Rattle.pig_typed.specs.ExprKinds.{expr_kind};
+ghost use Rattle.pig_typed.specs.Literals.{LiteralsAre};
 ghost use Rattle.pig_typed.specs.Typed.{Typed};
 ghost use Rattle.pig_typing.specs.declared.faults.CheckKind.{CheckKind};
-ghost use Rattle.pig_typing.specs.Columns.{IsPlace, Place, locals_of, place_row};
+ghost use Rattle.pig_typing.specs.Columns.{AreColumns, IsPlace, Place, locals_of, place_row};
 ghost use Rattle.pig_typing.specs.Conditions.{Conditions, ConditionsNot, Keys, KeysNot};
 ghost use Rattle.pig_typing.specs.Faults.{Faults};
 ghost use Rattle.pig_typing.specs.Items.{AllGenerate, AllGenerateNot, Generated};
@@ -29,6 +35,42 @@ pub fn typings_have_their_kinds()
         → expr_kind (typed_of p) (place_row s) (locals_of s) ≡ Some (kind_in p) }
     ensures inside { (s : Place) (a : ExprForm) (p : Typing) → IsPlace s → Types s a p
         → IsColumn (typed_column p) }
+{}
+
+/// What is typed writes no line end, where none stands in the texts of its form.
+pub fn typings_write_no_line_end()
+    ensures expression { (s : Place) (a : ExprForm) (p : Typing) → ExprFormed a → Types s a p
+        → LiteralsAre IsLineFree (typed_of p) }
+    ensures condition { (s : Place) (a : ExprForm) (t : Typed) → ExprFormed a → Conditions s a t
+        → LiteralsAre IsLineFree t }
+    ensures keys { (s : Place) (es : ExprForms) (ps : List Typing) → ExprsFormed es → Keys s es ps
+        → AllByRecursion (λ p. LiteralsAre IsLineFree (typed_of p)) ps }
+    ensures items { (s : Place) (is : List Item) (g : Generated) → All ItemFormed is
+        → AllGenerate s is g
+        → AllByRecursion (λ i. LiteralsAre IsLineFree i.value) g.items }
+{}
+
+/// A condition is boolean on the kinds of the columns and of the nested aliases.
+pub fn conditions_have_their_kind()
+    ensures { (s : Place) (a : ExprForm) (t : Typed) → IsPlace s → Conditions s a t
+        → expr_kind t (place_row s) (locals_of s) ≡ Some k_boolean }
+{}
+
+/// Each key has its kind, and inside it the columns of that kind.
+pub fn keys_have_their_kinds()
+    ensures kind { (s : Place) (es : ExprForms) (ps : List Typing) → IsPlace s → Keys s es ps
+        → AllByRecursion (λ p. expr_kind (typed_of p) (place_row s) (locals_of s)
+        ≡ Some (kind_in p)) ps }
+    ensures inside { (s : Place) (es : ExprForms) (ps : List Typing) → IsPlace s → Keys s es ps
+        → AllByRecursion (λ p. IsColumn (typed_column p)) ps }
+{}
+
+/// The items of a GENERATE have the kinds of the columns that they give, and inside each column is what is of its kind.
+pub fn items_have_their_kinds()
+    ensures kinds { (s : Place) (is : List Item) (g : Generated) → IsPlace s → AllGenerate s is g
+        → items_kinds g.items (place_row s) (locals_of s) ≡ Some (map tree_kind g.columns) }
+    ensures columns { (s : Place) (is : List Item) (g : Generated) → IsPlace s → AllGenerate s is g
+        → AreColumns g.columns }
 {}
 
 /// Of a condition there is likewise one typing, or the condition of some kind of refusal holds, and never both.

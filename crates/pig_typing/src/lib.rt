@@ -18,6 +18,7 @@ mod laws;
 mod limits;
 mod names;
 mod parts;
+mod referring;
 mod scope;
 mod written;
 
@@ -26,9 +27,12 @@ pub use exprs::{TypedExpr, type_expr};
 pub use faults::{CheckKind, TypeFault};
 pub use items::{Generated, type_items};
 pub use laws::{
-    conditions_have_one_typing, expressions_have_one_typing, items_have_one_typing,
-    keys_have_one_typing, typings_have_their_kinds,
+    conditions_have_one_typing, conditions_have_their_kind, expressions_have_one_typing,
+    items_have_one_typing, items_have_their_kinds, keys_have_one_typing, keys_have_their_kinds,
+    typings_have_their_kinds, typings_write_no_line_end,
 };
 pub use limits::{row_within_limits, within_limits};
+pub use names::refer;
+pub use referring::{type_reference, type_step};
 pub use scope::{Local, Locals, Scope};
 pub use written::{written_schema, written_type};

@@ -43,7 +43,7 @@ pub fn walk<'a>(
 }
 
 #[tactic(auto, unfolding(crate::specs::Parts::step_of))]
-fn one_step<'a>(alloc: Global, of: Typing<'a>, step: &PostStep) -> Result<Typing<'a>, TypeFault>
+pub fn one_step<'a>(alloc: Global, of: Typing<'a>, step: &PostStep) -> Result<Typing<'a>, TypeFault>
     ensures { Tells typing_tree (step_of (typing_tree of.entry) step.now) result }
 {
     match step {

@@ -1,0 +1,5 @@
+pub mod SortKeys
+pub mod Bags
+pub mod Steps
+pub mod Foreach
+pub mod Views

@@ -1,0 +1,12 @@
+mod Samples
+mod KindsBack
+mod Kept
+mod Grown
+mod Joining
+mod Told
+mod Found
+mod ScriptsTold
+mod Filters
+mod Unites
+mod Sound
+mod Steps

@@ -1,0 +1,9 @@
+pub mod Paths
+pub mod Functions
+pub mod States
+pub mod Operators
+pub mod Splits
+pub mod Unions
+pub mod Statements
+pub mod Scripts
+pub mod Views

@@ -1,0 +1,114 @@
+//! Each kind of refusal, at the sorts of places where it can stand: the statement and the kind by hand, and scripts that have a plan.
+use crate::shared::{Answer, answer};
+use std::alloc::{AllocError, Global};
+use std::test::Fail;
+
+// A line for each script: the number of its statement and the kind that is due, or `fine`.
+const SCRIPTS: &str = "\
+1 UnknownAlias: x = FILTER nope BY $0 == 1; y = LOAD 'no' AS (a:int); STORE y INTO 'o';\n\
+2 UnknownAlias: a = LOAD 'i' AS (x:int); STORE b INTO 'o';\n\
+2 UnknownAlias: a = LOAD 'i' AS (x:int); SPLIT b INTO c IF zz == 1;\n\
+3 UnknownAlias: a = LOAD 'i' AS (x:int);; j = JOIN a BY x, A BY x;\n\
+2 UnknownField: a = LOAD 'i' AS (x:int); b = FILTER a BY y == 1;\n\
+2 UnknownField: a = LOAD 'i' AS (x:int); b = ORDER a BY y;\n\
+3 UnknownField: a = LOAD 'i' AS (x:int); a = FOREACH a GENERATE x AS y; b = FILTER a BY x == 1;\n\
+4 AmbiguousField: a = LOAD 'a' AS (k:int); b = LOAD 'b' AS (k:int); j = JOIN a BY k, b BY k; f = FILTER j BY k == 1;\n\
+2 PositionOut: a = LOAD 'i' AS (x:int); b = ORDER a BY $1;\n\
+2 PositionOut: a = LOAD 'i' AS (x:int); SPLIT a INTO b IF $0 == 1, c IF $1 == 1;\n\
+2 TypeMismatch: a = LOAD 'i' AS (x:int); b = FILTER a BY x;\n\
+2 TypeMismatch: a = LOAD 'i' AS (x:int); SPLIT a INTO b IF x == 'k';\n\
+3 BadKey: a = LOAD 'i' AS (x:int); g = GROUP a BY x; o = ORDER g BY a;\n\
+3 BadKey: a = LOAD 'i' AS (x:int); g = GROUP a BY x; o = ORDER g BY *;\n\
+3 BadKey: a = LOAD 'i' AS (x:int); g = GROUP a BY x; h = GROUP g BY a;\n\
+1 FloatType: y = LOAD 'i' AS (a:float);\n\
+1 FloatType: y = LOAD 'i' AS (a:{(b:double)});\n\
+2 FloatType: a = LOAD 'i' AS (x:int); b = FILTER a BY x > 1.5;\n\
+1 UnknownFunction: a = LOAD 'i' USING pigstorage(',') AS (x:int);\n\
+2 UnknownFunction: a = LOAD 'i' AS (x:int); STORE a INTO 'o' USING BinStorage('a', 'b');\n\
+1 WrongArguments: a = LOAD 'i' USING PigStorage('ab') AS (x:int);\n\
+2 WrongArguments: a = LOAD 'i' AS (x:int); STORE a INTO 'o' USING PigStorage('a', 'b');\n\
+3 SchemaMismatch: a = LOAD 'a' AS (x:int); b = LOAD 'b' AS (x:chararray); u = UNION a, b;\n\
+2 SchemaMismatch: a = LOAD 'a' AS (x:int); b = FOREACH a GENERATE x AS (y, z);\n\
+3 OutputTwice: a = LOAD 'i' AS (x:int); STORE a INTO 'o'; STORE a INTO 'o/';\n\
+3 OutputTwice: a = LOAD 'i' AS (x:int); STORE a INTO 'o/p'; STORE a INTO 'o';\n\
+3 OutputTwice: a = LOAD 'i' AS (x:int); STORE a INTO 'o'; STORE a INTO 'o/p/q';\n\
+2 SelfLoad: a = LOAD 'i' AS (x:int); STORE a INTO 'i';\n\
+2 SelfLoad: a = LOAD 'd/i/' AS (x:int); STORE a INTO 'd';\n\
+3 SelfLoad: a = LOAD 'i' AS (x:int); STORE a INTO 'o'; b = LOAD 'o/part' AS (x:int);\n\
+1 Compressed: y = LOAD 'i.gz' AS (a:int);\n\
+2 Compressed: a = LOAD 'i' AS (x:int); STORE a INTO 'o.bz2/';\n\
+1 Unsupported: a = LOAD '' AS (x:int);\n\
+1 Unsupported: a = LOAD '/' AS (x:int);\n\
+1 Unsupported: a = LOAD 'd//i' AS (x:int);\n\
+1 Unsupported: a = LOAD 'd/./i' AS (x:int);\n\
+1 Unsupported: a = LOAD '../i' AS (x:int);\n\
+1 Unsupported: a = LOAD 'i*' AS (x:int);\n\
+2 Unsupported: a = LOAD 'i' AS (x:int); STORE a INTO 'o/{p}';\n\
+3 Unsupported: a = LOAD 'a' AS (x:int); b = LOAD 'b' AS (x:int); u = UNION ONSCHEMA a, b;\n\
+2 Unsupported: a = LOAD 'a' AS (x:int); g = GROUP a BY x USING 'merge';\n\
+2 Unsupported: a = LOAD 'a' AS (x:int); DUMP a;\n\
+fine: a = LOAD 'o' AS (x:int); STORE a INTO '/o'; STORE a INTO 'op'; b = LOAD 'o/' AS (x:int);\n\
+fine: a = LOAD '/d/i.gzip' USING PigStorage() AS (x:int); STORE a INTO 'd/o' USING PigStorage('\\t');\n\
+fine: ;; a = LOAD 'i' AS (x:int);";
+
+// What is answered, as a line of the table begins.
+fn shown(alloc: Global, script: &str) -> Result<String, AllocError> {
+    let found = answer(alloc, script)?;
+    let shown = match &found {
+        Answer::Plan(_) => return String::from_str(alloc, "fine"),
+        Answer::Refused { statement, kind } => format!(in alloc; "{statement} {kind:?}"),
+        Answer::NoTree => return String::from_str(alloc, "no tree"),
+    };
+    match shown {
+        Ok(text) => Ok(text),
+        Err(_) => Err(AllocError),
+    }
+}
+
+#[test]
+fn names_the_first_statement_and_a_kind(rt: HostRuntime) -> Result<(), Fail> {
+    let alloc = rt.alloc();
+    for row in SCRIPTS.lines() {
+        let (wanted, script) = row.split_once(": ").unwrap_or(("none", ""));
+        let found = shown(alloc, script)?;
+        assert_eq!(rt; found.as_str(), wanted, "{script}");
+    }
+    Ok(())
+}
+
+// A LOAD of so many columns.
+fn wide_load(alloc: Global, columns: usize) -> Result<String, AllocError> {
+    let mut script = String::from_str(alloc, "a = LOAD 'i' AS (x")?;
+    for _ in 1..columns {
+        script.push_str(", x")?;
+    }
+    script.push_str(");")?;
+    Ok(script)
+}
+
+// A tuple around the field, so many times.
+fn deep_tuple(alloc: Global, depth: usize) -> Result<String, AllocError> {
+    let mut script = String::from_str(alloc, "a = LOAD 'i' AS (x:int);")?;
+    for _ in 0..depth {
+        script.push_str("a = FOREACH a GENERATE TOTUPLE($0);")?;
+    }
+    Ok(script)
+}
+
+#[test]
+fn keeps_the_limits(rt: HostRuntime) -> Result<(), Fail> {
+    let alloc = rt.alloc();
+    let script = wide_load(alloc, 512)?;
+    let found = shown(alloc, script.as_str())?;
+    assert_eq!(rt; found.as_str(), "fine");
+    let script = wide_load(alloc, 513)?;
+    let found = shown(alloc, script.as_str())?;
+    assert_eq!(rt; found.as_str(), "1 TooWide");
+    let script = deep_tuple(alloc, 63)?;
+    let found = shown(alloc, script.as_str())?;
+    assert_eq!(rt; found.as_str(), "fine");
+    let script = deep_tuple(alloc, 64)?;
+    let found = shown(alloc, script.as_str())?;
+    assert_eq!(rt; found.as_str(), "65 TooDeep");
+    Ok(())
+}

@@ -1,0 +1,9 @@
+//! Tests of the checker: plans of whole scripts, and each kind of refusal. Their values are written by hand.
+#![tactic(auto)]
+
+#[cfg(test)]
+mod kinds;
+#[cfg(test)]
+mod plans;
+#[cfg(test)]
+mod shared;

@@ -1,0 +1,101 @@
+//! The plans of worked scripts, node by node.
+use crate::shared::{Answer, answer, node_shown};
+use std::alloc::{AllocError, Global};
+use std::test::Fail;
+
+// A script on each line that doesn't begin with `- `, and behind it its nodes: the number of the statement, and the operator.
+const PLANS: &str = "\
+a = LOAD 'in' AS (line:chararray); w = FOREACH a GENERATE FLATTEN(TOKENIZE(line)) AS word; g = GROUP w BY word PARALLEL 2; c = FOREACH g GENERATE group AS word, COUNT(w) AS n; o = ORDER c BY n DESC, word; STORE o INTO 'out';\n\
+- 1: Load { path: 'in', delim: Delim { byte: 9 }, columns: [Column { position: 0, kind: Chararray }] }\n\
+- 2: Foreach { input: 0, block: Block { steps: [], items: [BlockItem { value: Call { function: Tokenize, args: [Field(0)] }, flatten: true, width: 1 }] } }\n\
+- 3: Group { inputs: [KeyedInput { input: 1, keys: [Field(0)], inner: false }] }\n\
+- 4: Foreach { input: 2, block: Block { steps: [], items: [BlockItem { value: Field(0), flatten: false, width: 1 }, BlockItem { value: Call { function: Count, args: [Field(1)] }, flatten: false, width: 1 }] } }\n\
+- 5: Order { input: 3, keys: [SortKey { position: 1, dir: Desc }, SortKey { position: 0, dir: Asc }] }\n\
+- 6: Store { input: 4, path: 'out', delim: Delim { byte: 9 } }\n\
+a = LOAD 'a' AS (k:int, v:chararray); b = LOAD 'b' AS (k:int, v:chararray); g = GROUP a BY k; c = COGROUP a BY k, b BY k INNER; j = JOIN a BY k, b BY k; f = JOIN a BY k FULL, b BY k;\n\
+- 1: Load { path: 'a', delim: Delim { byte: 9 }, columns: [Column { position: 0, kind: Int }, Column { position: 1, kind: Chararray }] }\n\
+- 2: Load { path: 'b', delim: Delim { byte: 9 }, columns: [Column { position: 0, kind: Int }, Column { position: 1, kind: Chararray }] }\n\
+- 3: Group { inputs: [KeyedInput { input: 0, keys: [Field(0)], inner: false }] }\n\
+- 4: Group { inputs: [KeyedInput { input: 0, keys: [Field(0)], inner: false }, KeyedInput { input: 1, keys: [Field(0)], inner: true }] }\n\
+- 5: Join { inputs: [KeyedInput { input: 0, keys: [Field(0)], inner: false }, KeyedInput { input: 1, keys: [Field(0)], inner: false }], side: Inner, replicated: false }\n\
+- 6: Join { inputs: [KeyedInput { input: 0, keys: [Field(0)], inner: false }, KeyedInput { input: 1, keys: [Field(0)], inner: false }], side: Full, replicated: false }\n\
+t = LOAD 'd/in/' USING PigStorage(',') AS (a:chararray, b:int);; g = GROUP t BY b; o = FOREACH g GENERATE group, COUNT(t); STORE o INTO '/out/' USING PigStorage('|');\n\
+- 1: Load { path: 'd/in', delim: Delim { byte: 44 }, columns: [Column { position: 0, kind: Chararray }, Column { position: 1, kind: Int }] }\n\
+- 3: Group { inputs: [KeyedInput { input: 0, keys: [Field(1)], inner: false }] }\n\
+- 4: Foreach { input: 1, block: Block { steps: [], items: [BlockItem { value: Field(0), flatten: false, width: 1 }, BlockItem { value: Call { function: Count, args: [Field(1)] }, flatten: false, width: 1 }] } }\n\
+- 5: Store { input: 2, path: '/out', delim: Delim { byte: 124 } }\n\
+a = LOAD 'in' AS (x:int); l = LIMIT a 2; STORE l INTO 'p'; STORE l INTO 'q';\n\
+- 1: Load { path: 'in', delim: Delim { byte: 9 }, columns: [Column { position: 0, kind: Int }] }\n\
+- 2: Limit { input: 0, count: 2 }\n\
+- 3: Store { input: 1, path: 'p', delim: Delim { byte: 9 } }\n\
+- 4: Store { input: 1, path: 'q', delim: Delim { byte: 9 } }\n\
+a = LOAD 'in' AS (k:chararray, n:int, s:chararray); g = GROUP a BY k; r = FOREACH g { o = ORDER a BY n; t = LIMIT o 1; GENERATE group, t, o.(n,s); };\n\
+- 1: Load { path: 'in', delim: Delim { byte: 9 }, columns: [Column { position: 0, kind: Chararray }, Column { position: 1, kind: Int }, Column { position: 2, kind: Chararray }] }\n\
+- 2: Group { inputs: [KeyedInput { input: 0, keys: [Field(0)], inner: false }] }\n\
+- 3: Foreach { input: 1, block: Block { steps: [Order { from: Field(1), keys: [SortKey { position: 1, dir: Asc }] }, Limit { from: Local(0), count: 1 }], items: [BlockItem { value: Field(0), flatten: false, width: 1 }, BlockItem { value: Local(1), flatten: false, width: 1 }, BlockItem { value: Project { a: Local(0), fields: [1, 2], single: false }, flatten: false, width: 1 }] } }\n\
+a = LOAD 'in' AS (k:int, a:{(x:int)}, b:{(y:int)}); o = FOREACH a GENERATE k, FLATTEN(a), FLATTEN(b);\n\
+- 1: Load { path: 'in', delim: Delim { byte: 9 }, columns: [Column { position: 0, kind: Int }, Column { position: 1, kind: Bag([Int]) }, Column { position: 2, kind: Bag([Int]) }] }\n\
+- 2: Foreach { input: 0, block: Block { steps: [], items: [BlockItem { value: Field(0), flatten: false, width: 1 }, BlockItem { value: Field(1), flatten: true, width: 1 }, BlockItem { value: Field(2), flatten: true, width: 1 }] } }\n\
+a = LOAD 'in' AS (x:int); SPLIT a INTO a IF x > 2, c IF x < 2, d OTHERWISE; e = DISTINCT a; f = DISTINCT d;\n\
+- 1: Load { path: 'in', delim: Delim { byte: 9 }, columns: [Column { position: 0, kind: Int }] }\n\
+- 2: Filter { input: 0, cond: Compare { op: Gt, a: Field(0), b: Int(2) } }\n\
+- 2: Filter { input: 0, cond: Compare { op: Lt, a: Field(0), b: Int(2) } }\n\
+- 2: Filter { input: 0, cond: Not(Chain { first: Compare { op: Gt, a: Field(0), b: Int(2) }, rest: [TLink { op: Or, a: Compare { op: Lt, a: Field(0), b: Int(2) } }] }) }\n\
+- 3: Distinct { input: 1 }\n\
+- 4: Distinct { input: 3 }\n\
+a = LOAD 'in' AS (x:int); SPLIT a INTO b IF x > 2, c OTHERWISE;\n\
+- 1: Load { path: 'in', delim: Delim { byte: 9 }, columns: [Column { position: 0, kind: Int }] }\n\
+- 2: Filter { input: 0, cond: Compare { op: Gt, a: Field(0), b: Int(2) } }\n\
+- 2: Filter { input: 0, cond: Not(Compare { op: Gt, a: Field(0), b: Int(2) }) }\n\
+a = LOAD 'a' AS (x:int); b = LOAD 'b' AS (x:long); u = UNION a, b; o = ORDER u BY x;\n\
+- 1: Load { path: 'a', delim: Delim { byte: 9 }, columns: [Column { position: 0, kind: Int }] }\n\
+- 2: Load { path: 'b', delim: Delim { byte: 9 }, columns: [Column { position: 0, kind: Long }] }\n\
+- 3: Foreach { input: 0, block: Block { steps: [], items: [BlockItem { value: Cast { to: Long, a: Field(0) }, flatten: false, width: 1 }] } }\n\
+- 3: Union { inputs: [2, 1] }\n\
+- 4: Order { input: 3, keys: [SortKey { position: 0, dir: Asc }] }\n\
+a = LOAD 'a' AS (x:int, y:int); b = LOAD 'b' AS (x:int, y:long); u = UNION b, a, a; u = UNION u, b;\n\
+- 1: Load { path: 'a', delim: Delim { byte: 9 }, columns: [Column { position: 0, kind: Int }, Column { position: 1, kind: Int }] }\n\
+- 2: Load { path: 'b', delim: Delim { byte: 9 }, columns: [Column { position: 0, kind: Int }, Column { position: 1, kind: Long }] }\n\
+- 3: Foreach { input: 0, block: Block { steps: [], items: [BlockItem { value: Field(0), flatten: false, width: 1 }, BlockItem { value: Cast { to: Long, a: Field(1) }, flatten: false, width: 1 }] } }\n\
+- 3: Foreach { input: 0, block: Block { steps: [], items: [BlockItem { value: Field(0), flatten: false, width: 1 }, BlockItem { value: Cast { to: Long, a: Field(1) }, flatten: false, width: 1 }] } }\n\
+- 3: Union { inputs: [1, 2, 3] }\n\
+- 4: Union { inputs: [4, 1] }\n\
+a = LOAD 'a' AS (k:int, v:int); b = LOAD 'b' AS (k:int, w:int); j = JOIN a BY k LEFT, b BY k; f = FILTER j BY v > 1 AND w > 2; STORE f INTO 'o';\n\
+- 1: Load { path: 'a', delim: Delim { byte: 9 }, columns: [Column { position: 0, kind: Int }, Column { position: 1, kind: Int }] }\n\
+- 2: Load { path: 'b', delim: Delim { byte: 9 }, columns: [Column { position: 0, kind: Int }, Column { position: 1, kind: Int }] }\n\
+- 3: Join { inputs: [KeyedInput { input: 0, keys: [Field(0)], inner: false }, KeyedInput { input: 1, keys: [Field(0)], inner: false }], side: Left, replicated: false }\n\
+- 4: Filter { input: 2, cond: Chain { first: Compare { op: Gt, a: Field(1), b: Int(1) }, rest: [TLink { op: And, a: Compare { op: Gt, a: Field(3), b: Int(2) } }] } }\n\
+- 5: Store { input: 3, path: 'o', delim: Delim { byte: 9 } }\n";
+
+// The script and the nodes of its plan, as the table has them.
+fn shown(alloc: Global, script: &str) -> Result<String, AllocError> {
+    let mut text = String::from_str(alloc, script)?;
+    text.push_str("\n")?;
+    match answer(alloc, script)? {
+        Answer::Plan(plan) => {
+            for node in plan.nodes().as_slice() {
+                text.push_str("- ")?;
+                text.push_str(node_shown(alloc, node)?.as_str())?;
+                text.push_str("\n")?;
+            }
+        }
+        _ => text.push_str("no plan\n")?,
+    }
+    Ok(text)
+}
+
+#[test]
+fn gives_the_nodes_of_scripts(rt: HostRuntime) -> Result<(), Fail> {
+    let alloc = rt.alloc();
+    let mut found = String::new(alloc);
+    for line in PLANS.lines() {
+        if !line.starts_with("- ") {
+            found.push_str(shown(alloc, line)?.as_str())?;
+        }
+    }
+    for (found, wanted) in found.lines().zip(PLANS.lines()) {
+        assert_eq!(rt; found, wanted);
+    }
+    assert_eq!(rt; found.as_str(), PLANS);
+    Ok(())
+}
