@@ -112,5 +112,6 @@ pub fn operators_write_no_line_end()
         → Joins aliases (map join_form inputs) side hint t → op_writes_lf t.op ≡ false }
     ensures union { (aliases : Aliases) (onschema : Bool) (names : List (List ℕ))
         (u : TypedUnion) → Unions aliases onschema names u
-        → AllByRecursion (λ i. IfSome i.widening (λ block. block_writes_lf block ≡ false)) u.inputs }
+        → AllByRecursion (λ i. IfSome i.widening (λ block. block_writes_lf block
+        ≡ false)) u.inputs }
 {}
