@@ -17,8 +17,8 @@ mod unions;
 pub use aliases::{Named, Relation, Relations};
 pub use laws::{
     groups_have_one_typing, groups_of_all_have_one_typing, joins_have_one_typing,
-    operators_give_their_columns, operators_write_no_line_end, unions_give_their_columns,
-    unions_have_one_typing,
+    kinds_together_are_the_least, operators_give_their_columns, operators_write_no_line_end,
+    unions_give_their_columns, unions_have_one_typing,
 };
 pub use operators::{TypedOp, type_group, type_group_all, type_join};
 pub use unions::{TypedUnion, UnionInput, UnionInputs, type_union};
