@@ -20,8 +20,8 @@ use Rattle.pig_typing.specs.Parts.{Typing, kind_in, typed_column, typed_of}
 use Rattle.pig_typing.proofs.KindsHold.{holds}
 use Rattle.pig_relations.specs.Aliases.{Aliases, RelationTree, IsTable}
 use Rattle.pig_relations.specs.Keyed.{KeyedForm, TypedInput, Keyable, TypesInput, types_input, TypesInputs, no_inputs, more_inputs, TypesKeyed, types_keyed, rows_of, cast_keys, keyed, keys_kinds, key_kinds, if_some}
-use Rattle.pig_relations.specs.Together.{all_together, widened}
-use Rattle.pig_relations.proofs.TogetherHolds.{Fits, AllFit, AllRowsFit, rows_fit, simple_stays, widened_kind}
+use Rattle.pig_relations.specs.Together.{Fits, AllFit, AllRowsFit, all_together, widened}
+use Rattle.pig_relations.proofs.TogetherHolds.{rows_fit, simple_stays, widened_kind}
 
 -- ---- the keys of one input
 

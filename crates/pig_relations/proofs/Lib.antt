@@ -1,3 +1,4 @@
+mod Samples
 pub mod Tables
 mod Index
 mod TogetherHolds

@@ -4,27 +4,12 @@ use Rattle.std.specs.Prelude.{⊤, Option, Some, None, if◌then◌else◌}
 use Rattle.std.specs.Option.{option_and_then, option_map}
 use Rattle.pig_value.specs.Kinds.{has_bag_or_map, kind_eq}
 use Rattle.pig_value.specs.Trees.{KindTree, k_int, k_long}
-use Rattle.pig_value.proofs.KindLaws.{kind_same}
+use Rattle.pig_value.proofs.KindLaws.{kind_itself, kind_same}
 use Rattle.pig_schema.specs.FieldTrees.{FieldTree, FieldTrees, tree_kind, tree_inner, HasInner}
 use Rattle.pig_typed.specs.ExprKinds.{expr_kind}
 use Rattle.pig_typed.specs.Typed.{Typed}
 use Rattle.pig_typing.specs.Columns.{AreColumns}
-use Rattle.pig_relations.specs.Together.{int_with_long, together, each_together, with_others, all_together, widens, widened, of_kinds}
-
--- the kind is the whole's, or widens to it
-pub data Fits : KindTree → KindTree → Type 0 where
-  same : {k : KindTree} → Fits k k
-  wider : Fits k_int k_long
-
-abbrev pub AllFit : List KindTree → List KindTree → Type 0
-AllFit [] [] = ⊤
-AllFit [] (j ∷ js) = ⊥
-AllFit (k ∷ ks) [] = ⊥
-AllFit (k ∷ ks) (j ∷ js) = Fits k j × AllFit ks js
-
-abbrev pub AllRowsFit : List (List KindTree) → List KindTree → Type 0
-AllRowsFit [] js = ⊤
-AllRowsFit (ks ∷ others) js = AllFit ks js × AllRowsFit others js
+use Rattle.pig_relations.specs.Together.{Fits, same, wider, AllFit, AllRowsFit, int_with_long, together, each_together, with_others, all_together, widens, widened, of_kinds}
 
 fits_on : {k j m : KindTree} → Fits k j → Fits j m → Fits k m
 fits_on same g = g
@@ -101,6 +86,47 @@ others_fit ks (ls ∷ others) js e = then_others ks ls others js (λ more. other
 pub rows_fit : (rows : List (List KindTree)) (js : List KindTree) → all_together rows ≡ Some js → AllRowsFit rows js
 rows_fit [] js e = absurd (cc)
 rows_fit (ks ∷ others) js e = others_fit ks others js e
+
+-- ---- and they are the least that all fit
+
+not_mixed : (k : KindTree) → int_with_long k k ≡ false
+not_mixed k_int = refl
+not_mixed k_long = refl
+not_mixed k = refl
+
+abbrev Least : KindTree → KindTree → KindTree → Type 0
+Least k l m = (j : KindTree) × (together k l ≡ Some j) × Fits j m
+
+both_least : (k l m : KindTree) → Fits k m → Fits l m → Least k l m
+both_least k l m same same = (k, rw (not_mixed k, kind_itself k) refl, same)
+both_least k l m same wider = (k_long, refl, same)
+both_least k l m wider same = (k_long, refl, same)
+both_least k l m wider wider = (k_int, refl, wider)
+
+abbrev LeastKinds : Option (List KindTree) → List KindTree → Type 0
+LeastKinds found ms = (js : List KindTree) × (found ≡ Some js) × AllFit js ms
+
+each_least : (ks ls ms : List KindTree) → AllFit ks ms → AllFit ls ms → LeastKinds (each_together ks ls) ms
+each_least [] [] [] h g = ([], refl, tt)
+each_least [] [] (m ∷ ms) h g = absurd h
+each_least [] (l ∷ ls) [] h g = absurd g
+each_least [] (l ∷ ls) (m ∷ ms) h g = absurd h
+each_least (k ∷ ks) ls [] h g = absurd h
+each_least (k ∷ ks) [] (m ∷ ms) h g = absurd g
+each_least (k ∷ ks) (l ∷ ls) (m ∷ ms) h g =
+    let first = both_least k l m h.0 g.0 in
+    let rest = each_least ks ls ms h.1 g.1 in
+    (first.0 ∷ rest.0, rw (first.1, rest.1) refl, (first.2, rest.2))
+
+others_least : (ks : List KindTree) (others : List (List KindTree)) (ms : List KindTree) → AllFit ks ms → AllRowsFit others ms → LeastKinds (with_others ks others) ms
+others_least ks [] ms h g = (ks, refl, h)
+others_least ks (ls ∷ others) ms h g =
+    let first = each_least ks ls ms h g.0 in
+    let rest = others_least first.0 others ms first.2 g.1 in
+    (rest.0, rw (first.1) rest.1, rest.2)
+
+pub rows_least : (ks : List KindTree) (others : List (List KindTree)) (ms : List KindTree) → AllRowsFit (ks ∷ others) ms → LeastKinds (all_together (ks ∷ others)) ms
+rows_least ks others ms h = others_least ks others ms h.0 h.1
 
 -- ---- what is widened
 

@@ -14,9 +14,9 @@ use Rattle.pig_plan.specs.Plans.{p_union}
 use Rattle.pig_typing.specs.Columns.{AreColumns}
 use Rattle.pig_typing.specs.Items.{plain_item}
 use Rattle.pig_relations.specs.Aliases.{Aliases, RelationTree, IsTable}
-use Rattle.pig_relations.specs.Together.{all_together, of_kinds, widens, widened}
+use Rattle.pig_relations.specs.Together.{Fits, same, wider, AllFit, AllRowsFit, all_together, of_kinds, widens, widened}
 use Rattle.pig_relations.specs.Unions.{TypedUnion, AllMeant, none_meant, more_meant, Unions, unions, any_widens, column_kinds, first_columns, union_input, widened_fields, widened_row, widening, GivesRows}
-use Rattle.pig_relations.proofs.TogetherHolds.{Fits, same, wider, AllFit, AllRowsFit, columns_given, kinds_given, rows_fit, widened_kind}
+use Rattle.pig_relations.proofs.TogetherHolds.{columns_given, kinds_given, rows_fit, widened_kind}
 
 -- ---- the block that widens
 

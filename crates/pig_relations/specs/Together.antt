@@ -1,7 +1,7 @@
 -- Kinds that several inputs have together: those of keys, and of the columns of a UNION. They are equal, but that an int stands with a
 -- long, and is then cast to long.
 -- (Pig Latin Basics: "JOIN", "COGROUP", "UNION". That nothing else is brought together is a choice of this profile.)
-use Rattle.std.specs.Prelude.{Bool, true, false, List, [], ◌∷◌, length, ◌==◌, Option, Some, None, if◌then◌else◌}
+use Rattle.std.specs.Prelude.{⊤, Bool, true, false, List, [], ◌∷◌, length, ◌==◌, Option, Some, None, if◌then◌else◌}
 use Rattle.std.specs.List.{list_all}
 use Rattle.std.specs.Option.{option_and_then, option_map}
 use Rattle.pig_value.specs.Kinds.{kind_eq}
@@ -39,6 +39,24 @@ all_together (ks ∷ others) = with_others ks others
 abbrev pub equally_many : List (List KindTree) → Bool
 equally_many [] = true
 equally_many (ks ∷ others) = list_all (λ ls. length ls == length ks) others
+
+-- ---- what fits
+
+-- the first kind is the second, or widens to it
+pub data Fits : KindTree → KindTree → Type 0 where
+  same : {k : KindTree} → Fits k k
+  wider : Fits k_int k_long
+
+-- place by place, equally many
+abbrev pub AllFit : List KindTree → List KindTree → Type 0
+AllFit [] [] = ⊤
+AllFit [] (j ∷ js) = ⊥
+AllFit (k ∷ ks) [] = ⊥
+AllFit (k ∷ ks) (j ∷ js) = Fits k j × AllFit ks js
+
+abbrev pub AllRowsFit : List (List KindTree) → List KindTree → Type 0
+AllRowsFit [] js = ⊤
+AllRowsFit (ks ∷ others) js = AllFit ks js × AllRowsFit others js
 
 -- ---- what is widened
 

@@ -1,5 +1,6 @@
-ghost use Rattle.std.specs.Prelude.{◌≡◌, ◌⊎◌, ℕ, Bool, List, Option, Some, false, length, map, IfSome};
+ghost use Rattle.std.specs.Prelude.{◌≡◌, ◌∷◌, ◌⊎◌, ℕ, Bool, List, Option, Some, false, length, map, IfSome};
 ghost use Rattle.std.specs.List.{All, AllByRecursion};
+ghost use Rattle.pig_value.specs.Trees.{KindTree};
 ghost use Rattle.pig_value.specs.declared.operators.Side.{Side};
 ghost use Rattle.pig_schema.specs.FieldTrees.{tree_kind};
 ghost use Rattle.pig_syntax.specs.Formed.{GroupInputFormed, JoinInputFormed};
@@ -14,7 +15,18 @@ ghost use Rattle.pig_typing.specs.Columns.{AreColumns};
 ghost use Rattle.pig_relations.specs.Aliases.{Aliases, IsTable};
 ghost use Rattle.pig_relations.specs.Keyed.{KeyedForm, group_form, join_form};
 ghost use Rattle.pig_relations.specs.Operators.{Groups, GroupsAll, GroupsAllNot, GroupsNot, Joins, JoinsNot, TypedOp};
+ghost use Rattle.pig_relations.specs.Together.{AllFit, AllRowsFit, all_together};
 ghost use Rattle.pig_relations.specs.Unions.{GivesRows, TypedUnion, Unions, UnionsNot};
+
+/// The kinds that inputs have together are the least that those of each input fit, where an int fits a long and any kind
+/// itself; and there are such where there are any that all fit.
+pub fn kinds_together_are_the_least()
+    ensures fit { (rows : List (List KindTree)) (js : List KindTree)
+        → all_together rows ≡ Some js → AllRowsFit rows js }
+    ensures least { (ks : List KindTree) (others : List (List KindTree)) (ms : List KindTree)
+        → AllRowsFit (ks ∷ others) ms
+        → (js : List KindTree) × (all_together (ks ∷ others) ≡ Some js) × AllFit js ms }
+{}
 
 /// Over the aliases so far a GROUP or COGROUP has one typing, or the condition of some kind of refusal holds of it, and
 /// never both.
@@ -112,5 +124,6 @@ pub fn operators_write_no_line_end()
         → Joins aliases (map join_form inputs) side hint t → op_writes_lf t.op ≡ false }
     ensures union { (aliases : Aliases) (onschema : Bool) (names : List (List ℕ))
         (u : TypedUnion) → Unions aliases onschema names u
-        → AllByRecursion (λ i. IfSome i.widening (λ block. block_writes_lf block ≡ false)) u.inputs }
+        → AllByRecursion (λ i. IfSome i.widening (λ block. block_writes_lf block
+        ≡ false)) u.inputs }
 {}
