@@ -1,13 +1,20 @@
-mod Deciding
-mod Ending
-mod Found
-mod LookUps
-mod Pieces
+mod ClapRows
+mod ClapTurns
+mod ClapReads
+mod ClapFinds
+mod WordNumbers
+mod Commands
+mod Decisions
+pub mod FormLemmas
+pub mod FormFound
 mod Readings
 mod ReadingSteps
+mod Answering
+mod Asking
+mod Decided
+mod Done
+mod Due
 mod Scripts
-mod Sizes
-mod Stages
-mod Storing
-mod Topping
-mod Wording
+mod Keeping
+mod PieceLoop
+mod Verdicts

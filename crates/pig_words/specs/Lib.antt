@@ -1,2 +1,0 @@
-pub mod ClapWords
-pub mod CommandWords

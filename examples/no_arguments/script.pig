@@ -1,3 +1,0 @@
--- ABS takes one argument.
-a = LOAD 'a' AS (x:int, s:chararray);
-b = FOREACH a GENERATE ABS(x, x);

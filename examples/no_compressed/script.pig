@@ -1,2 +1,0 @@
--- Compressed files are left out.
-a = LOAD 'a.gz' AS (x:int);

@@ -1,2 +1,0 @@
--- Floating numbers are left out.
-a = LOAD 'a' AS (x:double);

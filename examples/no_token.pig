@@ -1,0 +1,1 @@
+x = FILTER nope BY @;

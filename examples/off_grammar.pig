@@ -1,0 +1,2 @@
+y = LOAD 'marks' AS (k:int);
+x = ;
