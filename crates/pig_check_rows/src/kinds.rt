@@ -1,5 +1,5 @@
 //! Each kind of refusal, at the sorts of places where it can stand: the statement and the kind by hand, and scripts that have a plan.
-use crate::shared::{Answer, answer};
+use crate::shared::{Answer, checked};
 use std::alloc::{AllocError, Global};
 use std::test::Fail;
 
@@ -53,7 +53,7 @@ fine: ;; a = LOAD 'i' AS (x:int);";
 
 // What is answered, as a line of the table begins.
 fn shown(alloc: Global, script: &str) -> Result<String, AllocError> {
-    let found = answer(alloc, script)?;
+    let found = checked(alloc, script)?;
     let shown = match &found {
         Answer::Plan(_) => return String::from_str(alloc, "fine"),
         Answer::Refused { statement, kind } => format!(in alloc; "{statement} {kind:?}"),

@@ -1,5 +1,5 @@
 //! The plans of worked scripts, node by node.
-use crate::shared::{Answer, answer, node_shown};
+use crate::shared::{Answer, checked, node_shown};
 use std::alloc::{AllocError, Global};
 use std::test::Fail;
 
@@ -71,7 +71,7 @@ a = LOAD 'a' AS (k:int, v:int); b = LOAD 'b' AS (k:int, w:int); j = JOIN a BY k 
 fn shown(alloc: Global, script: &str) -> Result<String, AllocError> {
     let mut text = String::from_str(alloc, script)?;
     text.push_str("\n")?;
-    match answer(alloc, script)? {
+    match checked(alloc, script)? {
         Answer::Plan(plan) => {
             for node in plan.nodes().as_slice() {
                 text.push_str("- ")?;

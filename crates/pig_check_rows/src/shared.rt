@@ -32,7 +32,7 @@ fn shallow(tokens: &Tokens, pieces: &Pieces) -> bool
     true
 }
 
-pub fn answer(alloc: Global, script: &str) -> Result<Answer, AllocError> {
+pub fn checked(alloc: Global, script: &str) -> Result<Answer, AllocError> {
     statements_lie_within();
     let Ok(tokens) = lex(alloc, script.as_bytes()) else {
         return Ok(Answer::NoTree);
