@@ -54,8 +54,8 @@ used_by k n [] j v at named lives = absurd (cc)
 used_by k n (node ∷ nodes) zero v at named lives =
     let same : node ≡ v = cc in
     let here : (is_store node.op || is_used n (n + 1) nodes) ≡ true =
-        ap (λ w. is_store w.op || is_used n (n + 1) nodes) same
-        ∙ (let e : n + 0 ≡ n = omega arith in ap (λ m. is_store v.op || is_used m (m + 1) nodes) (sym e)) ∙ lives in
+    ap (λ w. is_store w.op || is_used n (n + 1) nodes) same
+    ∙ (let e : n + 0 ≡ n = omega arith in ap (λ m. is_store v.op || is_used m (m + 1) nodes) (sym e)) ∙ lives in
     let name : names node.op k ≡ true = ap (λ w. names w.op k) same ∙ named in
     first_true (names node.op k && (is_store node.op || is_used n (n + 1) nodes)) (is_used k (n + 1) nodes) (both (names node.op k) (is_store node.op || is_used n (n + 1) nodes) name here)
 used_by k n (node ∷ nodes) (suc j) v at named lives =
@@ -162,7 +162,7 @@ in_range k a (suc n) from below = elim (cases_Bool (a == k)) [
 ]
   where
     other_than : (a k : ℕ) → (a ≡ k → ⊥) → a ≤ k → a < k
-    other_than a k apart from = elim (cases_lt a k) [ | inl less ↦ less | inr more ↦ absurd (apart (omega (arith, from, more))) ]
+    other_than a k apart from = elim (cases_lt a k) [ inl less ↦ less | inr more ↦ absurd (apart (omega (arith, from, more))) ]
 
 kept_in_filter : (k : ℕ) (p : ℕ → Bool) (xs : List ℕ) → p k ≡ true → list_any (λ m. m == k) xs ≡ true → list_any (λ m. m == k) (filter p xs) ≡ true
 kept_in_filter k p [] passes h = h
