@@ -5,6 +5,30 @@ use std::test::Fail;
 
 // A script on each line that doesn't begin with `- `, and behind it its nodes: the number of the statement, and the operator.
 const PLANS: &str = "\
+urls = LOAD 'u' USING PigStorage(',') AS (url, category:chararray, rank_of:int); good = FILTER urls BY rank_of > 2; groups = GROUP good BY category; big = FILTER groups BY COUNT(good) > 1; o = FOREACH big GENERATE group, SUM(good.rank_of); STORE o INTO 'out';\n\
+- 1: Load { path: 'u', delim: Delim { byte: 44 }, columns: [Column { position: 0, kind: Bytearray }, Column { position: 1, kind: Chararray }, Column { position: 2, kind: Int }] }\n\
+- 2: Filter { input: 0, cond: Compare { op: Gt, a: Field(2), b: Int(2) } }\n\
+- 3: Group { inputs: [KeyedInput { input: 1, keys: [Field(1)], inner: false }] }\n\
+- 4: Filter { input: 2, cond: Compare { op: Gt, a: Call { function: Count, args: [Field(1)] }, b: Cast { to: Long, a: Int(1) } } }\n\
+- 5: Foreach { input: 3, block: Block { steps: [], items: [BlockItem { value: Field(0), flatten: false, width: 1 }, BlockItem { value: Call { function: Sum, args: [Project { a: Field(1), fields: [2], single: true }] }, flatten: false, width: 1 }] } }\n\
+- 6: Store { input: 4, path: 'out', delim: Delim { byte: 9 } }\n\
+a = LOAD 'in' AS (k:chararray, x:int); g = GROUP a BY k; o = FOREACH g GENERATE group, COUNT(a.x), COUNT_STAR(a.x), SUM(a.x), MIN(a.x);\n\
+- 1: Load { path: 'in', delim: Delim { byte: 9 }, columns: [Column { position: 0, kind: Chararray }, Column { position: 1, kind: Int }] }\n\
+- 2: Group { inputs: [KeyedInput { input: 0, keys: [Field(0)], inner: false }] }\n\
+- 3: Foreach { input: 1, block: Block { steps: [], items: [BlockItem { value: Field(0), flatten: false, width: 1 }, BlockItem { value: Call { function: Count, args: [Project { a: Field(1), fields: [1], single: true }] }, flatten: false, width: 1 }, BlockItem { value: Call { function: CountStar, args: [Project { a: Field(1), fields: [1], single: true }] }, flatten: false, width: 1 }, BlockItem { value: Call { function: Sum, args: [Project { a: Field(1), fields: [1], single: true }] }, flatten: false, width: 1 }, BlockItem { value: Call { function: Min, args: [Project { a: Field(1), fields: [1], single: true }] }, flatten: false, width: 1 }] } }\n\
+a = LOAD 'in' AS (a:int, b:int); o = FOREACH a GENERATE a+1, b/2, b%2, b/0, (long)a+1;\n\
+- 1: Load { path: 'in', delim: Delim { byte: 9 }, columns: [Column { position: 0, kind: Int }, Column { position: 1, kind: Int }] }\n\
+- 2: Foreach { input: 0, block: Block { steps: [], items: [BlockItem { value: Chain { first: Field(0), rest: [TLink { op: Add, a: Int(1) }] }, flatten: false, width: 1 }, BlockItem { value: Chain { first: Field(1), rest: [TLink { op: Div, a: Int(2) }] }, flatten: false, width: 1 }, BlockItem { value: Chain { first: Field(1), rest: [TLink { op: Rem, a: Int(2) }] }, flatten: false, width: 1 }, BlockItem { value: Chain { first: Field(1), rest: [TLink { op: Div, a: Int(0) }] }, flatten: false, width: 1 }, BlockItem { value: Chain { first: Cast { to: Long, a: Field(0) }, rest: [TLink { op: Add, a: Int(1) }] }, flatten: false, width: 1 }] } }\n\
+a = LOAD 'in' AS (m:map[]); o = FOREACH a GENERATE (int)m#'a' + 1, m#'zz', (m#'b' == 'x' ? 'yes' : 'no');\n\
+- 1: Load { path: 'in', delim: Delim { byte: 9 }, columns: [Column { position: 0, kind: Map(Bytearray) }] }\n\
+- 2: Foreach { input: 0, block: Block { steps: [], items: [BlockItem { value: Chain { first: Cast { to: Int, a: Look { a: Field(0), key: 'a' } }, rest: [TLink { op: Add, a: Int(1) }] }, flatten: false, width: 1 }, BlockItem { value: Look { a: Field(0), key: 'zz' }, flatten: false, width: 1 }, BlockItem { value: Choose { cond: Compare { op: Eq, a: Cast { to: Chararray, a: Look { a: Field(0), key: 'b' } }, b: Chars('x') }, yes: Chars('yes'), no: Chars('no') }, flatten: false, width: 1 }] } }\n\
+v = LOAD 'visits' AS (user:chararray, page:chararray, time:int); g = GROUP v BY user; c = FOREACH g GENERATE group, COUNT(v) AS n, SUM(v.time) AS t; o = ORDER c BY n DESC, $0; top = LIMIT o 10; STORE top INTO 'top';\n\
+- 1: Load { path: 'visits', delim: Delim { byte: 9 }, columns: [Column { position: 0, kind: Chararray }, Column { position: 1, kind: Chararray }, Column { position: 2, kind: Int }] }\n\
+- 2: Group { inputs: [KeyedInput { input: 0, keys: [Field(0)], inner: false }] }\n\
+- 3: Foreach { input: 1, block: Block { steps: [], items: [BlockItem { value: Field(0), flatten: false, width: 1 }, BlockItem { value: Call { function: Count, args: [Field(1)] }, flatten: false, width: 1 }, BlockItem { value: Call { function: Sum, args: [Project { a: Field(1), fields: [2], single: true }] }, flatten: false, width: 1 }] } }\n\
+- 4: Order { input: 2, keys: [SortKey { position: 1, dir: Desc }, SortKey { position: 0, dir: Asc }] }\n\
+- 5: Limit { input: 3, count: 10 }\n\
+- 6: Store { input: 4, path: 'top', delim: Delim { byte: 9 } }\n\
 a = LOAD 'in' AS (line:chararray); w = FOREACH a GENERATE FLATTEN(TOKENIZE(line)) AS word; g = GROUP w BY word PARALLEL 2; c = FOREACH g GENERATE group AS word, COUNT(w) AS n; o = ORDER c BY n DESC, word; STORE o INTO 'out';\n\
 - 1: Load { path: 'in', delim: Delim { byte: 9 }, columns: [Column { position: 0, kind: Chararray }] }\n\
 - 2: Foreach { input: 0, block: Block { steps: [], items: [BlockItem { value: Call { function: Tokenize, args: [Field(0)] }, flatten: true, width: 1 }] } }\n\

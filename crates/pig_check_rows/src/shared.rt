@@ -54,7 +54,7 @@ pub fn checked(alloc: Global, script: &str) -> Result<Answer, AllocError> {
 
 // What is answered of a script's third statement, where those before it are typed: `fine`, or a kind.
 pub fn third(alloc: Global, script: &str) -> Result<String, AllocError> {
-    match answer(alloc, script)? {
+    match checked(alloc, script)? {
         Answer::Plan(_) => String::from_str(alloc, "fine"),
         Answer::Refused { statement: 3, kind } => format!(in alloc; "{kind:?}"),
         _ => String::from_str(alloc, "another statement"),
