@@ -291,16 +291,19 @@ fn node_op(alloc: Global, line: &[u8]) -> Result<NodeOp, AllocError> {
     }
 }
 
-/// Whether the line's node fits; a copy of it is added where it does.
+/// A copy of the line's node.
+fn copied(alloc: Global, line: &[u8]) -> Result<Node, AllocError> {
+    let op = node_op(alloc, line)?;
+    copy_node(alloc, &Node { op, statement: 7 })
+}
+
+/// Whether the line's node fits; it is added where it does.
 fn tried(alloc: Global, plan: &mut Plan, line: &[u8]) -> Result<bool, AllocError> {
-    let node = Node {
-        op: node_op(alloc, line)?,
-        statement: 7,
-    };
+    let node = copied(alloc, line)?;
     if !plan.fits(&node)? {
         return Ok(false);
     }
-    plan.add(copy_node(alloc, &node)?)?;
+    plan.add(node)?;
     Ok(true)
 }
 
