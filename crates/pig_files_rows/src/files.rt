@@ -7,7 +7,8 @@ use std::test::Fail;
 use std::{fs, io};
 
 #[test]
-fn a_folder_is_an_input(rt: HostRuntime) -> Result<(), Fail> {
+fn a_folder_is_an_input_and_an_output(rt: HostRuntime) -> Result<(), Fail> {
+    let alloc = rt.alloc();
     fs::create_dir_all(&rt, "in/nested.gz")?;
     for (path, text) in [
         ("in/b", "7\n"),
@@ -18,43 +19,24 @@ fn a_folder_is_an_input(rt: HostRuntime) -> Result<(), Fail> {
     ] {
         fs::write(&rt, path, text)?;
     }
-    let mut depot = FileDepot::new(rt.clone()?, rt.alloc());
+    let mut depot = FileDepot::new(rt.clone()?, alloc);
+    let mut host = FileHost::new(rt.clone()?, alloc);
     let lengths = depot.pieces("in")?.expect(&rt, "the folder");
     assert_eq!(rt; lengths.as_slice(), [1, 2].as_slice());
+    assert!(rt; host.begin(0, 0, 0).is_ok());
+    let mut into = [0; 1];
+    for (piece, from, byte) in [(0, 0, b'5'), (1, 0, b'7'), (1, 1, b'\n')] {
+        host.read("in", piece, from, &mut into)?;
+        assert_eq!(rt; into, [byte]);
+    }
+    assert_eq!(rt; host.read("in", 1, 2, &mut into), Err(OutsideError::Failed));
+    assert_eq!(rt; host.read("in", 2, 0, &mut into), Err(OutsideError::Failed));
+    host.read("in/b", 0, 0, &mut into)?;
+    assert_eq!(rt; into, [b'7']);
     assert!(rt; depot.pieces("no")?.is_none());
     fs::write(&rt, "in/c.gz", "")?;
     assert!(rt; depot.pieces("in").is_err());
-    Ok(())
-}
 
-/// Whether the host reads this byte at the place of the path's piece.
-fn reads<H: Host>(host: &mut H, path: &str, piece: u32, from: u64, byte: u8) -> bool {
-    let mut into = [0; 1];
-    host.read(path, piece, from, &mut into).is_ok() && into == [byte]
-}
-
-#[test]
-fn a_host_reads_pieces(rt: HostRuntime) -> Result<(), Fail> {
-    fs::create_dir_all(&rt, "read")?;
-    fs::write(&rt, "read/b", "7\n")?;
-    fs::write(&rt, "read/a", "5")?;
-    let mut host = FileHost::new(rt.clone()?, rt.alloc());
-    assert!(rt; host.begin(0, 0, 0).is_ok());
-    for (piece, from, byte) in [(0, 0, b'5'), (1, 0, b'7'), (1, 1, b'\n')] {
-        assert!(rt; reads(&mut host, "read", piece, from, byte));
-    }
-    assert!(rt; reads(&mut host, "read/b", 0, 0, b'7'));
-    for (piece, from) in [(1, 2), (2, 0)] {
-        let mut into = [0; 1];
-        let end = host.read("read", piece, from, &mut into);
-        assert_eq!(rt; end, Err(OutsideError::Failed));
-    }
-    Ok(())
-}
-
-#[test]
-fn a_folder_is_an_output(rt: HostRuntime) -> Result<(), Fail> {
-    let mut depot = FileDepot::new(rt.clone()?, rt.alloc());
     assert_eq!(rt; depot.exists("made/out"), Ok(false));
     depot.create("made/out")?;
     depot.put("made/out", 0, b"x\n")?;
@@ -69,17 +51,11 @@ fn a_folder_is_an_output(rt: HostRuntime) -> Result<(), Fail> {
     ] {
         assert_eq!(rt; fs::read_to_string(&rt, path)?.as_str(), text);
     }
-    Ok(())
-}
 
-#[test]
-fn a_script_is_appended(rt: HostRuntime) -> Result<(), Fail> {
-    fs::write(&rt, "script", "7\n")?;
-    let mut depot = FileDepot::new(rt.clone()?, rt.alloc());
-    let mut script = Vec::new(rt.alloc());
+    let mut script = Vec::new(alloc);
     assert_eq!(rt; depot.script("no", 9, &mut script), Ok(false));
-    assert_eq!(rt; depot.script("script", 1, &mut script), Ok(true));
-    assert_eq!(rt; depot.script("script", 9, &mut script), Ok(true));
+    assert_eq!(rt; depot.script("in/b", 1, &mut script), Ok(true));
+    assert_eq!(rt; depot.script("in/b", 9, &mut script), Ok(true));
     assert_eq!(rt; script.as_slice(), b"77\n".as_slice());
     Ok(())
 }
