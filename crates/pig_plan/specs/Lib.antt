@@ -8,4 +8,5 @@ pub mod Written
 pub mod Valid
 pub mod Operators
 pub mod Meaning
+pub mod Stored
 pub mod Laws

@@ -1,16 +1,13 @@
 -- The texts of rows, each with an LF behind it, are their own lines.
-use Rattle.std.proofs.Common.{◌≡◌, ◌≢◌, ℕ, Bool, true, false, List, [], ◌∷◌, ◌++◌, map, refl, sym, ◌∙◌, ap, subst}
+use Rattle.std.proofs.Common.{◌≡◌, ◌≢◌, ℕ, Bool, true, false, List, [], ◌∷◌, ◌++◌, map, refl, sym, ◌∙◌, ap}
 use Rattle.std.specs.List.{slice_split}
-use Rattle.std.specs.List.Sorted.{IsPermutation}
 use Rattle.std.proofs.lemmas.Bool.Decides.{Decides-eqb}
 use Rattle.std.proofs.lemmas.List.{append_assoc, append-nil}
 use Rattle.std.proofs.lemmas.List.Elements.{All-head, All-tail, All-weaker}
-use Rattle.std.proofs.lemmas.List.Sorted.{IsPermutation-refl}
 use Rattle.std.proofs.lemmas.List.Splits.{slice_split_at}
 use Rattle.pig_value.specs.declared.inputs.Column.{Column}
 use Rattle.pig_value.specs.FieldRows.{row_of}
 use Rattle.pig_value.specs.Lines.{is_lf, stored_lines, without_last_empty}
-use Rattle.pig_value.specs.Stored.{StoresBag, StoresList}
 use Rattle.pig_value.specs.Texts.{AreLineFreeRows, HasNoLf, IsLineFreeRow, row_text, rows_text}
 use Rattle.pig_value.specs.Trees.{Tree}
 use Rattle.pig_storage.proofs.FirstLine.{cut_leaves, stays_before}
@@ -31,7 +28,7 @@ stored_line line rest free =
     ap stored_lines (append_assoc line (10 ∷ []) rest) ∙ (ap without_last_empty cut ∙ stays_before line (slice_split is_lf rest) (cut_leaves rest))
 
 -- the texts of line-free rows are stored as they are
-pub rows_stored : (d : ℕ) → d ≢ 10 → (rows : List (List Tree)) → AreLineFreeRows rows → StoresList d (rows_text d rows) rows
+pub rows_stored : (d : ℕ) → d ≢ 10 → (rows : List (List Tree)) → AreLineFreeRows rows → stored_lines (rows_text d rows) ≡ map (row_text d) rows
 rows_stored d other [] free = refl
 rows_stored d other (row ∷ rows) free =
     let here : HasNoLf (row_text d row) = row_text_free d other row (All-head IsLineFreeRow row rows free) in
@@ -42,9 +39,3 @@ pub row_is_one_line : (columns : List Column) (from to : ℕ) (line : List ℕ) 
 row_is_one_line columns from to line other free =
     let text : List ℕ = row_text to (row_of columns from line) in
     ap stored_lines (sym (append-nil (text ++ 10 ∷ []))) ∙ stored_line text [] (row_text_free to other (row_of columns from line) (row_free columns from line free))
-
--- what stores a list stores it as a bag
-pub stored_in_order : (d : ℕ) (bytes : List ℕ) (rows : List (List Tree)) → StoresList d bytes rows → StoresBag d bytes rows
-stored_in_order d bytes rows stored =
-    let P : List (List ℕ) → Type 0 = λ ls. IsPermutation (map (row_text d) rows) ls in
-    subst P (sym stored) (IsPermutation-refl (map (row_text d) rows))

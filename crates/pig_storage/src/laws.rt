@@ -5,7 +5,6 @@ ghost use Rattle.pig_value.specs.FieldRows.{row_of};
 ghost use Rattle.pig_value.specs.Kinds.{IsRowOf};
 ghost use Rattle.pig_value.specs.Leaves.{AreBytes};
 ghost use Rattle.pig_value.specs.Lines.{lines, lines_within, stored_lines};
-ghost use Rattle.pig_value.specs.Stored.{StoresList, StoresBag};
 ghost use Rattle.pig_value.specs.Texts.{HasNoLf, AreLineFreeRows, row_text, rows_text};
 ghost use Rattle.pig_value.specs.Trees.{Tree, kind_tree};
 ghost use Rattle.pig_value.specs.Valid.{IsRow, AreRows};
@@ -47,11 +46,9 @@ pub fn rows_of_lines_are_line_free()
 /// The texts of line-free rows, each with an LF behind it, have these texts as their lines, since no
 /// delimiter is an LF.
 pub fn texts_of_rows_are_lines()
-    ensures list { (delimiter : ℕ) → delimiter ≢ 10 → (rows : List (List Tree))
+    ensures lines { (delimiter : ℕ) → delimiter ≢ 10 → (rows : List (List Tree))
         → AreLineFreeRows rows →
-        StoresList delimiter (rows_text delimiter rows) rows }
-    ensures bag { (delimiter : ℕ) (bytes : List ℕ) (rows : List (List Tree)) →
-        StoresList delimiter bytes rows → StoresBag delimiter bytes rows }
+        stored_lines (rows_text delimiter rows) ≡ map (row_text delimiter) rows }
     ensures delimiter { (text : List ℕ) (delimiter : ℕ) →
         delimiter_of text ≡ Some delimiter → IsDelimiter delimiter }
 {}

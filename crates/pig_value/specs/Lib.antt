@@ -15,7 +15,6 @@ pub mod FieldReader
 pub mod FieldRows
 pub mod Texts
 pub mod Casts
-pub mod Stored
 pub mod TreeViews
 pub mod TreeCode
 pub mod Functions

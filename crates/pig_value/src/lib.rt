@@ -8,8 +8,8 @@
 //! The definitions stand in `specs/`: `Trees` (values as trees, the view that clauses use), `Orders` (the
 //! total order, also in directions), `Sorts` and `Gathering` (sorted lists, lists without repetition, lists by
 //! key), `Kinds` and `Casts` (which values are of a kind, which kinds cast to which), `Leaves` and `Valid` (what
-//! is asked of the texts in a value, and what makes a tree a value), `Functions`, `Lines`, `Fields`, `Texts` and
-//! `Stored` (PigStorage text).
+//! is asked of the texts in a value, and what makes a tree a value), `Functions`, `Lines`, `Fields` and `Texts`
+//! (PigStorage text).
 //!
 //! What follows from them stands in public modules of `proofs/`, for the crates above: `TreeLaws`, `OrderLaws`,
 //! `KindLaws`, `ValidLaws`, `LeafLaws`, and in `list_laws` what holds over lists of any element. [`order_laws`],
