@@ -5,7 +5,7 @@ use Rattle.std.specs.Option.{unwrap_or}
 use Rattle.std.proofs.Common.{ap, sym, ◌∙◌, subst, arith, zero, suc, append_assoc, append-nil, inl, inr}
 use Rattle.std.proofs.lemmas.Bool.{cases_lt, ne_eqb}
 use Rattle.std.proofs.lemmas.Option.{slice_get_past}
-use Rattle.pig_plan.specs.NodeKinds.{Before, Gives, RowKinds, kinds_at, kinds_step, kinds_table, node_gives}
+use Rattle.pig_plan.specs.NodeKinds.{Before, NodeGives, RowKinds, kinds_at, kinds_step, kinds_table, node_gives}
 use Rattle.pig_plan.specs.Plans.{Plan, PlanNode, PlanOp}
 use Rattle.pig_plan.specs.Results.{at_place}
 use Rattle.pig_plan.specs.Valid.{are_twins, fits, is_twin, op_writes_lf}

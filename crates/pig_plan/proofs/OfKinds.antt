@@ -39,7 +39,7 @@ use Rattle.pig_plan.proofs.Meanings.{each_both, each_held, live_input, live_with
 use Rattle.pig_plan.proofs.Unfolds.{before_is, result_before}
 use Rattle.pig_plan.specs.ByKey.{Entry, all_there, alone, as_bag, bags_of, cogroup_of, entries_of_input, gathered, group_of, holds_null, is_empty, join_of, keeps_left, keeps_right, kept_where, key_of, nulls, outer_of}
 use Rattle.pig_plan.specs.Meaning.{EachIsKept, kept_at, meaning, setting}
-use Rattle.pig_plan.specs.NodeKinds.{Before, KeyedKinds, RowKinds, all_keyed, are_alike, bag_kinds, group_kind, group_kinds, is_join, is_sorting, is_test, key_kind, key_kinds, keyed_kinds, keys_agree, kinds_at, kinds_step, kinds_table, node_gives, only_if, union_kinds, ascend}
+use Rattle.pig_plan.specs.NodeKinds.{Before, KeyedKinds, RowKinds, all_keyed, are_alike, keyed_bags, group_kind, group_kinds, is_join, is_sorting, is_test, key_kind, key_kinds, keyed_kinds, keys_agree, kinds_at, kinds_step, kinds_table, node_gives, only_if, union_kinds, ascend}
 use Rattle.pig_plan.specs.Nodes.{inputs_of, is_live, names}
 use Rattle.pig_plan.specs.Operators.{Setting, group_all, group_rows, join_rows, keyed_entries, keys_of, limit_rows, load_rows, operator_rows, pieces_of, rank_of, rank_rows}
 use Rattle.pig_plan.specs.Plans.{Keyed, Plan, PlanNode, PlanOp, p_load, p_filter, p_foreach, p_group_all, p_group, p_join, p_union, p_distinct, p_order, p_limit, p_store, p_assert, p_rank}
@@ -189,7 +189,7 @@ module _ (functions : FunctionsKeepKinds) (before : Before) (width : ℕ → ℕ
         by_test false = record { each = tt; once = refl }
 
     bags_are : (bags : ℕ → List (List Tree)) → Bags bags → (i : ℕ) (found : List KeyedKinds) → ((j : ℕ) → row_at whole (i + j) ≡ row_at found j)
-        → IsRowOf (map (λ j. as_bag (bags j)) (range_with_len i (length found))) (bag_kinds found)
+        → IsRowOf (map (λ j. as_bag (bags j)) (range_with_len i (length found))) (keyed_bags found)
     bags_are bags h i [] at = tt
     bags_are bags h i (kinds ∷ found) at =
         let here : row_at whole i ≡ kinds.row = ap (row_at whole) (let e : i ≡ i + 0 = omega (arith) in e) ∙ at 0 in
@@ -212,16 +212,16 @@ module _ (functions : FunctionsKeepKinds) (before : Before) (width : ℕ → ℕ
 
     -- ---- GROUP and COGROUP
 
-    cogroup_is : (inner : List Bool) (k : Tree) → IsOf k (group_kind keys) → (bags : ℕ → List (List Tree)) → Bags bags → Each (group_kind keys ∷ bag_kinds whole) (cogroup_of inner (length whole) k bags)
+    cogroup_is : (inner : List Bool) (k : Tree) → IsOf k (group_kind keys) → (bags : ℕ → List (List Tree)) → Bags bags → Each (group_kind keys ∷ keyed_bags whole) (cogroup_of inner (length whole) k bags)
     cogroup_is inner k h bags g =
-        each_either (λ row. IsRowOf row (group_kind keys ∷ bag_kinds whole)) (holds_null k)
+        each_either (λ row. IsRowOf row (group_kind keys ∷ keyed_bags whole)) (holds_null k)
         (flat_map (λ i. kept_where (not (is_empty (bags i)) && all_there inner 0 (alone i bags)) (bags_of (length whole) k (alone i bags))) (range_with_len 0 (length whole)))
         (kept_where (all_there inner 0 bags) (bags_of (length whole) k bags))
-        (each-flat_map (λ row. IsRowOf row (group_kind keys ∷ bag_kinds whole)) (λ i. kept_where (not (is_empty (bags i)) && all_there inner 0 (alone i bags)) (bags_of (length whole) k (alone i bags)))
+        (each-flat_map (λ row. IsRowOf row (group_kind keys ∷ keyed_bags whole)) (λ i. kept_where (not (is_empty (bags i)) && all_there inner 0 (alone i bags)) (bags_of (length whole) k (alone i bags)))
         (range_with_len 0 (length whole))
-        (each_of_all _ (λ i. each_kept (λ row. IsRowOf row (group_kind keys ∷ bag_kinds whole)) (not (is_empty (bags i)) && all_there inner 0 (alone i bags)) (bags_of (length whole) k (alone i bags))
+        (each_of_all _ (λ i. each_kept (λ row. IsRowOf row (group_kind keys ∷ keyed_bags whole)) (not (is_empty (bags i)) && all_there inner 0 (alone i bags)) (bags_of (length whole) k (alone i bags))
         (h, bags_are (alone i bags) (alone_are i bags g) 0 whole (at_first whole))) (range_with_len 0 (length whole))))
-        (each_kept (λ row. IsRowOf row (group_kind keys ∷ bag_kinds whole)) (all_there inner 0 bags) (bags_of (length whole) k bags) (h, bags_are bags g 0 whole (at_first whole)))
+        (each_kept (λ row. IsRowOf row (group_kind keys ∷ keyed_bags whole)) (all_there inner 0 bags) (bags_of (length whole) k bags) (h, bags_are bags g 0 whole (at_first whole)))
 
     -- ---- JOIN
 

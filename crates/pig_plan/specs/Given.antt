@@ -8,12 +8,12 @@ use Rattle.pig_plan.specs.declared.given.Given.TheVariants as given
 use Rattle.pig_plan.specs.declared.keyed.KeyedRows.{KeyedRows}
 
 -- the kinds of a node's rows, where it is a relation
-abbrev pub given_kinds : Given → Option RowKinds
-given_kinds (given.Rows kinds) = Some (map kind_tree kinds)
-given_kinds given.Nothing = None
+abbrev pub kinds_of_given : Given → Option RowKinds
+kinds_of_given (given.Rows kinds) = Some (map kind_tree kinds)
+kinds_of_given given.Nothing = None
 
 abbrev pub before_of : List Given → Before
-before_of found = at_place None (map given_kinds found)
+before_of found = at_place None (map kinds_of_given found)
 
 -- the kinds of an input's rows and of its keys
 abbrev pub keyed_row : KeyedRows → KeyedKinds

@@ -81,12 +81,12 @@ abbrev pub group_kind : RowKinds → KindTree
 group_kind (k ∷ []) = k
 group_kind ks = k_tuple (kinds_of ks)
 
-abbrev pub bag_kinds : List KeyedKinds → RowKinds
-bag_kinds found = map (λ input. k_bag (kinds_of input.row)) found
+abbrev pub keyed_bags : List KeyedKinds → RowKinds
+keyed_bags found = map (λ input. k_bag (kinds_of input.row)) found
 
 abbrev pub group_kinds : List KeyedKinds → RowKinds
 group_kinds [] = []
-group_kinds (first ∷ others) = group_kind first.keys ∷ bag_kinds (first ∷ others)
+group_kinds (first ∷ others) = group_kind first.keys ∷ keyed_bags (first ∷ others)
 
 -- a side other than INNER has just two inputs, and a replicated join is INNER or LEFT
 abbrev pub is_join : Side → Bool → ℕ → Bool
@@ -103,69 +103,69 @@ union_kinds [] = None
 union_kinds (first ∷ others) = only_if (nat_lt 0 (length others) && are_alike first others) (Some first)
 
 -- What a valid node gives: the kinds of its rows, or nothing for a STORE, which no node may name.
-abbrev pub Gives : Type 0
-Gives = Option (Option RowKinds)
+abbrev pub NodeGives : Type 0
+NodeGives = Option (Option RowKinds)
 
-abbrev pub load_gives : List Column → Gives
+abbrev pub load_gives : List Column → NodeGives
 load_gives columns = only_if (ascend columns) (Some (Some (map (λ column. kind_tree column.kind) columns)))
 
 -- FILTER and ASSERT: the rows of the input, on which the condition is boolean
-abbrev pub tested_gives : Before → ℕ → Typed → Gives
+abbrev pub tested_gives : Before → ℕ → Typed → NodeGives
 tested_gives before input cond = do
   row ← before input
   only_if (is_test row cond) (Some (Some row))
 
-abbrev pub foreach_gives : Before → ℕ → TypedBlock → Gives
+abbrev pub foreach_gives : Before → ℕ → TypedBlock → NodeGives
 foreach_gives before input block = do
   row ← before input
   given ← row_kinds block row
   Some (Some given)
 
-abbrev pub group_all_gives : Before → ℕ → Gives
+abbrev pub group_all_gives : Before → ℕ → NodeGives
 group_all_gives before input = do
   row ← before input
   Some (Some (k_chars ∷ k_bag (kinds_of row) ∷ []))
 
-abbrev pub group_gives : Before → List Keyed → Gives
+abbrev pub group_gives : Before → List Keyed → NodeGives
 group_gives before inputs = do
   found ← all_keyed before inputs
   Some (Some (group_kinds found))
 
 -- JOIN, whose inputs are never INNER
-abbrev pub join_gives : Before → List Keyed → Side → Bool → Gives
+abbrev pub join_gives : Before → List Keyed → Side → Bool → NodeGives
 join_gives before inputs s replicated = do
   found ← all_keyed before inputs
   only_if (is_join s replicated (length found) && list_all (λ input. not input.inner) inputs) (Some (Some (flat_map (λ input. input.row) found)))
 
-abbrev pub union_gives : Before → List ℕ → Gives
+abbrev pub union_gives : Before → List ℕ → NodeGives
 union_gives before inputs = do
   found ← all_of before inputs
   given ← union_kinds found
   Some (Some given)
 
 -- DISTINCT and LIMIT: rows of the input
-abbrev pub same_gives : Before → ℕ → Gives
+abbrev pub same_gives : Before → ℕ → NodeGives
 same_gives before input = do
   row ← before input
   Some (Some row)
 
-abbrev pub order_gives : Before → ℕ → List SortKey → Gives
+abbrev pub order_gives : Before → ℕ → List SortKey → NodeGives
 order_gives before input keys = do
   row ← before input
   only_if (is_sorting row keys) (Some (Some row))
 
-abbrev pub store_gives : Before → ℕ → Gives
+abbrev pub store_gives : Before → ℕ → NodeGives
 store_gives before input = do
   row ← before input
   Some None
 
 -- RANK: the rows behind their rank, a long
-abbrev pub rank_gives : Before → ℕ → List SortKey → Gives
+abbrev pub rank_gives : Before → ℕ → List SortKey → NodeGives
 rank_gives before input keys = do
   row ← before input
   only_if (is_sorting row keys) (Some (Some (k_long ∷ row)))
 
-abbrev pub node_gives : Before → PlanOp → Gives
+abbrev pub node_gives : Before → PlanOp → NodeGives
 node_gives before (p_load path delim columns) = load_gives columns
 node_gives before (p_filter input cond) = tested_gives before input cond
 node_gives before (p_foreach input block) = foreach_gives before input block

@@ -4,7 +4,7 @@ ghost use Rattle.std.specs.List.{list_all};
 ghost use Rattle.pig_value.specs.FieldReader.{all_of};
 ghost use Rattle.pig_value.specs.Trees.{kind_tree};
 ghost use Rattle.pig_typed.specs.Typed.{block_typed, typed};
-ghost use Rattle.pig_plan.specs.Given.{before_of, given_kinds};
+ghost use Rattle.pig_plan.specs.Given.{before_of, kinds_of_given};
 ghost use Rattle.pig_plan.specs.NodeKinds.{are_alike, foreach_gives, group_all_gives, group_gives, is_join, join_gives, load_gives};
 ghost use Rattle.pig_plan.specs.NodeKinds.{node_gives, order_gives, rank_gives, same_gives, store_gives, tested_gives, union_gives, union_kinds};
 ghost use Rattle.pig_plan.specs.Plans.{keyed_of, op_of};
@@ -18,7 +18,7 @@ use std::alloc::{AllocError, Global};
 
 /// What a node gives behind these, or None where it is not valid there as to its inputs and kinds.
 pub fn given(alloc: Global, before: &[Given], op: &NodeOp) -> Result<Option<Given>, AllocError>
-    ensures { IfOk result (λ g. option_map given_kinds g
+    ensures { IfOk result (λ g. option_map kinds_of_given g
         ≡ node_gives (before_of before.now) (op_of op.now)) }
 {
     match op {
@@ -43,7 +43,7 @@ pub fn given(alloc: Global, before: &[Given], op: &NodeOp) -> Result<Option<Give
 }
 
 fn load(alloc: Global, columns: &Columns) -> Result<Option<Given>, AllocError>
-    ensures { IfOk result (λ g. option_map given_kinds g ≡ load_gives columns.now) }
+    ensures { IfOk result (λ g. option_map kinds_of_given g ≡ load_gives columns.now) }
 {
     if !columns_ascend(columns.as_slice()) {
         return Ok(None);
@@ -57,7 +57,7 @@ fn tested(
     input: u32,
     cond: &TExpr,
 ) -> Result<Option<Given>, AllocError>
-    ensures { IfOk result (λ g. option_map given_kinds g
+    ensures { IfOk result (λ g. option_map kinds_of_given g
         ≡ tested_gives (before_of before.now) input (typed cond.now)) }
 {
     let Some(row) = rows_before(before, input) else {
@@ -75,7 +75,7 @@ fn foreach(
     input: u32,
     block: &Block,
 ) -> Result<Option<Given>, AllocError>
-    ensures { IfOk result (λ g. option_map given_kinds g
+    ensures { IfOk result (λ g. option_map kinds_of_given g
         ≡ foreach_gives (before_of before.now) input (block_typed block.now)) }
 {
     let Some(row) = rows_before(before, input) else {
@@ -88,7 +88,7 @@ fn foreach(
 }
 
 fn group_all(alloc: Global, before: &[Given], input: u32) -> Result<Option<Given>, AllocError>
-    ensures { IfOk result (λ g. option_map given_kinds g
+    ensures { IfOk result (λ g. option_map kinds_of_given g
         ≡ group_all_gives (before_of before.now) input) }
 {
     let Some(row) = rows_before(before, input) else {
@@ -101,7 +101,7 @@ fn group_all(alloc: Global, before: &[Given], input: u32) -> Result<Option<Given
 }
 
 fn group(alloc: Global, before: &[Given], inputs: &KeyedInputs) -> Result<Option<Given>, AllocError>
-    ensures { IfOk result (λ g. option_map given_kinds g
+    ensures { IfOk result (λ g. option_map kinds_of_given g
         ≡ group_gives (before_of before.now) (map keyed_of inputs.now)) }
 {
     let Some(found) = keyed_rows(alloc, before, inputs)? else {
@@ -117,7 +117,7 @@ fn join(
     side: Side,
     replicated: bool,
 ) -> Result<Option<Given>, AllocError>
-    ensures { IfOk result (λ g. option_map given_kinds g
+    ensures { IfOk result (λ g. option_map kinds_of_given g
         ≡ join_gives (before_of before.now) (map keyed_of inputs.now) side replicated) }
 {
     let Some(found) = keyed_rows(alloc, before, inputs)? else {
@@ -155,7 +155,7 @@ fn none_is_inner(inputs: &[KeyedInput]) -> bool
 }
 
 fn union(alloc: Global, before: &[Given], inputs: &Numbers) -> Result<Option<Given>, AllocError>
-    ensures { IfOk result (λ g. option_map given_kinds g
+    ensures { IfOk result (λ g. option_map kinds_of_given g
         ≡ union_gives (before_of before.now) inputs.now) }
 {
     let Some(found) = each_relation(alloc, before, inputs)? else {
@@ -215,7 +215,7 @@ fn all_same(row: &Kinds, others: &[Kinds]) -> bool
 }
 
 fn same(alloc: Global, before: &[Given], input: u32) -> Result<Option<Given>, AllocError>
-    ensures { IfOk result (λ g. option_map given_kinds g
+    ensures { IfOk result (λ g. option_map kinds_of_given g
         ≡ same_gives (before_of before.now) input) }
 {
     let Some(row) = rows_before(before, input) else {
@@ -230,7 +230,7 @@ fn order(
     input: u32,
     keys: &SortKeys,
 ) -> Result<Option<Given>, AllocError>
-    ensures { IfOk result (λ g. option_map given_kinds g
+    ensures { IfOk result (λ g. option_map kinds_of_given g
         ≡ order_gives (before_of before.now) input keys.now) }
 {
     let Some(row) = rows_before(before, input) else {
@@ -243,7 +243,7 @@ fn order(
 }
 
 fn store(before: &[Given], input: u32) -> Option<Given>
-    ensures { option_map given_kinds result ≡ store_gives (before_of before.now) input }
+    ensures { option_map kinds_of_given result ≡ store_gives (before_of before.now) input }
 {
     match rows_before(before, input) {
         Some(_) => Some(Given::Nothing),
@@ -257,7 +257,7 @@ fn rank(
     input: u32,
     keys: &SortKeys,
 ) -> Result<Option<Given>, AllocError>
-    ensures { IfOk result (λ g. option_map given_kinds g
+    ensures { IfOk result (λ g. option_map kinds_of_given g
         ≡ rank_gives (before_of before.now) input keys.now) }
 {
     let Some(row) = rows_before(before, input) else {

@@ -2,7 +2,7 @@ ghost use Rattle.std.specs.Prelude.{◌≡◌, [], ◌∷◌, ◌++◌, List, No
 ghost use Rattle.std.specs.List.{list_any};
 ghost use Rattle.std.specs.Option.{option_copied, option_map, unwrap_or};
 ghost use Rattle.pig_value.specs.Trees.{kind_tree};
-ghost use Rattle.pig_plan.specs.Given.{before_of, given_kinds};
+ghost use Rattle.pig_plan.specs.Given.{before_of, kinds_of_given};
 ghost use Rattle.pig_plan.specs.NodeKinds.{kinds_at, node_gives};
 ghost use Rattle.pig_plan.specs.declared.given.Given.{Given};
 ghost use Rattle.pig_plan.specs.Plans.{node_of, op_of, plan_of};
@@ -37,7 +37,7 @@ impl Model for Plan {
     ghost use Rattle.std.specs.Coded.{codes};
     ghost use Rattle.pig_value.specs.contracts.values.Kind as kind;
     ghost use Rattle.pig_typed.specs.contracts.exprs.TExpr as expr;
-    ghost use Rattle.pig_plan.specs.Given.{given_kinds};
+    ghost use Rattle.pig_plan.specs.Given.{kinds_of_given};
     ghost use Rattle.pig_plan.specs.Laws.{PlanLiteralsAre};
     ghost use Rattle.pig_plan.specs.NodeKinds.{kinds_table};
     ghost use Rattle.pig_value.specs.Valid.{IsValue};
@@ -51,7 +51,7 @@ impl Model for Plan {
 
     ghost view = { λ p. p.nodes };
 
-    ghost invariant = { λ p. IsPlan (plan_of p.nodes) × (map given_kinds p.given.items ≡ kinds_table (plan_of p.nodes))
+    ghost invariant = { λ p. IsPlan (plan_of p.nodes) × (map kinds_of_given p.given.items ≡ kinds_table (plan_of p.nodes))
         × PlanLiteralsAre IsValue (plan_of p.nodes) × AreUpTo p.latest (plan_of p.nodes) };
 }
 
@@ -127,7 +127,7 @@ impl Plan {
 /// Adds what a node gives behind `count` others, and answers the node's number; where memory is wanting, nothing is
 /// added.
 fn give(alloc: Global, count: usize, given: &mut Vec<Given>, op: &NodeOp) -> Result<u32, AllocError>
-    ensures ok { OnOk result (map given_kinds given.new.items ≡ map given_kinds given.old.items
+    ensures ok { OnOk result (map kinds_of_given given.new.items ≡ map kinds_of_given given.old.items
         ++ unwrap_or (node_gives (before_of given.old.items) (op_of op.now)) None ∷ []) }
     ensures taken { OnOk result ((last : Given)
         × (given.new.items ≡ given.old.items ++ last ∷ [])) }

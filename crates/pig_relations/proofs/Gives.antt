@@ -7,7 +7,7 @@ use Rattle.pig_value.specs.Trees.{KindTree, kinds_of, k_bag}
 use Rattle.pig_value.specs.declared.operators.Side.{Side}
 use Rattle.pig_schema.specs.FieldTrees.{FieldTree, tree_kind, inner_of, AreInner, IsColumn}
 use Rattle.pig_syntax.specs.declared.trees.JoinInput.{JoinInput}
-use Rattle.pig_plan.specs.NodeKinds.{Before, bag_kinds, group_kind, node_gives}
+use Rattle.pig_plan.specs.NodeKinds.{Before, keyed_bags, group_kind, node_gives}
 use Rattle.pig_typing.specs.Columns.{AreColumns}
 use Rattle.pig_typing.specs.Items.{under_name}
 use Rattle.pig_relations.specs.Aliases.{Aliases, IsTable}
@@ -23,7 +23,7 @@ inner_all : (cs : List FieldTree) → AreColumns cs → AreInner (kinds_of (map 
 inner_all [] h = refl
 inner_all (c ∷ cs) h = (refl, h.0, inner_all cs h.1)
 
-bags_kinds : (ks : List KindTree) (ts : List TypedInput) → bag_kinds (map (given ks) ts) ≡ map tree_kind (map (λ t. bag_column t.alias t.relation.columns) ts)
+bags_kinds : (ks : List KindTree) (ts : List TypedInput) → keyed_bags (map (given ks) ts) ≡ map tree_kind (map (λ t. bag_column t.alias t.relation.columns) ts)
 bags_kinds ks [] = refl
 bags_kinds ks (t ∷ ts) = ap (λ more. k_bag (kinds_of (row_of t.relation)) ∷ more) (bags_kinds ks ts)
 
