@@ -3,11 +3,11 @@
 #![tactic(auto)]
 
 #[cfg(test)]
+mod failing;
+#[cfg(test)]
 mod files;
 #[cfg(test)]
-mod first_path;
-#[cfg(test)]
-mod scripts;
+mod runs;
 #[cfg(test)]
 mod setting;
 #[cfg(test)]

@@ -1,6 +1,6 @@
 //! Commands by hand, and words that are none.
-use pig_run::read_words;
 use pig_value::{Text, WordFault, Words};
+use pig_words::read_words;
 use std::alloc::{AllocError, Global};
 use std::test::Fail;
 

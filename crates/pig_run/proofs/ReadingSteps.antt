@@ -9,24 +9,16 @@ use Rattle.pig_syntax.specs.declared.tokens.Token.{Token}
 use Rattle.pig_syntax.specs.declared.trees.Stmt.{Stmt}
 use Rattle.pig_parser.specs.Parsing.{AreTrees, no_trees, trees}
 use Rattle.pig_run.specs.declared.outcome.RunFault.{RunFault}
-use Rattle.pig_run.specs.declared.first_form.FirstForm.{FirstForm}
-use Rattle.pig_run.specs.Reading.{Finding, Refuses, Finds, TellsForm}
+use Rattle.pig_plan.specs.declared.plan.Plan.{Plan}
+use Rattle.pig_plan.specs.Plans.{plan_of}
+use Rattle.pig_run.specs.Reading.{Verdict, Refuses, Runs}
+use Rattle.pig_run.specs.Steps.{TellsPlan}
 
 -- what a stage finds, the stage before it finds
-pub tells_weaker : (P Q : Finding → Type 0) → ((v : Finding) → P v → Q v) → (r : Result FirstForm RunFault) → TellsForm P r → TellsForm Q r
-tells_weaker P Q weaker (Ok form) h = weaker (Finds form) h
-tells_weaker P Q weaker (Err f) (inl h) = inl (weaker (Refuses f) h)
+pub tells_weaker : (P Q : Verdict → Type 0) → ((v : Verdict) → P v → Q v) → (r : Result Plan RunFault) → TellsPlan P r → TellsPlan Q r
+tells_weaker P Q weaker (Ok plan) h = weaker (Runs (plan_of plan)) h
+tells_weaker P Q weaker (Err f) (inl h) = inl (h.0, weaker (Refuses h.0) h.1, h.2)
 tells_weaker P Q weaker (Err f) (inr h) = inr h
-
--- what is known of an option that is none, or some
-module _ {A : Type 0} (P : Type 0) (Q : A → Type 0) where
-  pub of_none : (o : Option A) → MatchOption o P Q → o ≡ None → P
-  of_none None h is = h
-  of_none (Some x) h is = absurd (cc)
-
-  pub of_some : (o : Option A) (x : A) → MatchOption o P Q → o ≡ Some x → Q x
-  of_some None x h is = absurd (cc)
-  of_some (Some y) x h is = let same : y ≡ x = cc in subst Q same h
 
 -- one more member passes
 pub passes_more : {X : Type 0} (P : X → Type 0) (xs : List X) (i : ℕ) (x : X) → i < length xs → x ≡ get_or xs i x → P x → All P (take i xs) → All P (take (i + 1) xs)

@@ -1,99 +1,133 @@
--- What a run keeps of the lines that it reads, and what its steps say of each other.
-use Rattle.std.specs.Prelude.{◌≡◌, ◌≤◌, ◌<◌, ◌+◌, ◌%◌, ◌^◌, ℕ, Bool, List, [], ◌∷◌, length, map, filter, Some, Result, IsErrOf}
-use Rattle.std.specs.List.{flat_map}
+-- How the steps of a run speak of each other.
+use Rattle.std.specs.Prelude.{◌≡◌, ◌≤◌, ◌<◌, ◌++◌, ◌%◌, ◌^◌, ℕ, Bool, true, false, List, [], ◌∷◌, length, map, Option, Some, None, Result, Ok, Err, IfOk, MatchResult, if◌then◌else◌}
+use Rattle.std.specs.List.{AllByRecursion, flat_map, sum_by}
+use Rattle.std.specs.Option.{option_map, unwrap_or}
 use Rattle.pig_value.specs.declared.inputs.Input.{Input}
-use Rattle.pig_value.specs.Trees.{Tree, tree}
-use Rattle.pig_value.specs.Lines.{lines}
-use Rattle.pig_value.specs.FieldRows.{row_of}
+use Rattle.pig_value.specs.declared.outcomes.Kept.{Kept}
 use Rattle.pig_value.specs.Texts.{rows_text}
-use Rattle.pig_outside.specs.Shelf.{pieces_of, lengths_of}
-use Rattle.pig_outside.specs.declared.faults.OutsideError.{OutsideError}
-use Rattle.pig_outside.specs.declared.faults.OutsideError.TheVariants as outside
-use Rattle.pig_syntax.specs.declared.trees.Stmt.{Stmt}
-use Rattle.pig_run.specs.declared.first_form.FirstForm.{FirstForm}
-use Rattle.pig_run.specs.declared.first_form.Literal.{Literal}
-use Rattle.pig_run.specs.declared.first_form.Literal.TheVariants.{Number, Letters}
-use Rattle.pig_run.specs.declared.filtering.Filter.{Filter}
-use Rattle.pig_run.specs.declared.stored.Stored.{Stored}
+use Rattle.pig_value.specs.Trees.{rows_tree}
+use Rattle.pig_outside.specs.Calls.{DepotCall}
+use Rattle.pig_outside.specs.Shelf.{Shelf, pieces_of}
+use Rattle.pig_plain.specs.Answering.{IsAnswer}
+use Rattle.pig_plan.specs.Plans.{Plan}
+use Rattle.pig_reach.specs.Reach.{dirs_of, lines_read}
+use Rattle.pig_reach.specs.declared.storing.Store.{Store}
+use Rattle.pig_value.specs.declared.values.Value.{Value}
+use Rattle.pig_run.specs.declared.outcome.Counts.{Counts}
 use Rattle.pig_run.specs.declared.outcome.RunFault.{RunFault}
 use Rattle.pig_run.specs.declared.outcome.RunFault.TheVariants as fault
-use Rattle.pig_run.specs.FirstForm.{IsFirstForm, IsNumber}
-use Rattle.pig_run.specs.Meaning.{columns_of, literal_value, passes_at}
+use Rattle.pig_run.specs.declared.progress.Noted.{Noted}
+use Rattle.pig_run.specs.declared.progress.Progress.{Progress}
+use Rattle.pig_run.specs.declared.running.Found.{Found}
+use Rattle.pig_run.specs.Due.{IsDue, Line, store_calls}
+use Rattle.pig_run.specs.Ends.{Ends}
+use Rattle.pig_run.specs.Outputs.{Left, LeftOpen, Output, with_outputs}
+use Rattle.pig_run.specs.Reading.{Verdict, Refuses, Runs}
+use Rattle.pig_run.specs.Steps.{IsCommitFault}
+use Rattle.pig_run.specs.Texts.{done_text, fault_text, stored_line}
+use Rattle.pig_run.specs.Told.{Asked, CountsAre, IsAsked, IsPrefix}
 
--- parts that some statements of the first form have
-pub record IsForm (form : FirstForm) : Type 0 where
-  pub statements : List Stmt
-  pub is : IsFirstForm form statements
+-- the inputs at paths, as they are told
+abbrev pub inputs_at : List Input → List (List ℕ) → List Input
+inputs_at inputs paths = map (λ path. record { path = path; pieces = unwrap_or (pieces_of path inputs) [] }) paths
 
--- a literal whose number has few digits
-abbrev pub IsLiteral : Literal → Type 0
-IsLiteral (Number n) = IsNumber n
-IsLiteral (Letters _) = Unit {0}
+-- what a plan means was found, and the lines were counted
+pub record IsFoundOver (plan : Plan) (inputs : List Input) (found : Found) : Type 0 where
+  pub answer : IsAnswer plan inputs found.answers.kept (map rows_tree found.answers.stores)
+  pub read : found.read ≡ lines_read plan inputs % 2 ^ 64
 
--- the LOAD and FILTER of a form
-pub record IsFilterOf (form : FirstForm) (f : Filter) : Type 0 where
-  pub columns : f.columns ≡ columns_of form
-  pub compared : f.compared ≡ form.compared
-  pub relation : f.relation ≡ form.relation
-  pub literal : tree f.literal ≡ literal_value form.literal
+-- ---- storing
 
--- whether the condition is true of a row
-abbrev pub passes_row : Filter → List Tree → Bool
-passes_row f = passes_at f.compared f.relation (tree f.literal)
+-- rows of values
+abbrev pub Relation : Type 0
+Relation = List (List Value)
 
--- the row, where it is kept
-abbrev pub keeps_row : Filter → List Tree → List (List Tree)
-keeps_row f row = filter (passes_row f) (row ∷ [])
+abbrev pub output_of : Store → Relation → Output
+output_of store rows = record { dir = store.dir; bytes = rows_text store.delim (rows_tree rows); lines = length rows }
 
--- the rows that are kept of lines, of one line, and of the lines of a piece
-abbrev pub keeps_of : Filter → List (List ℕ) → List (List Tree)
-keeps_of f ls = filter (passes_row f) (map (row_of f.columns 9) ls)
+abbrev pub outputs_of : List Store → List Relation → List Output
+outputs_of (store ∷ stores) (rows ∷ relations) = output_of store rows ∷ outputs_of stores relations
+outputs_of stores relations = []
 
-abbrev pub keeps_line : Filter → List ℕ → List (List Tree)
-keeps_line f line = keeps_of f (line ∷ [])
+-- what is noted of an output, and its line
+abbrev pub note_of : Output → Noted
+note_of out = record { dir = out.dir; lines = out.lines }
 
-abbrev pub keeps : Filter → List ℕ → List (List Tree)
-keeps f piece = keeps_of f (lines piece)
+abbrev pub noted_line : Noted → List ℕ
+noted_line note = stored_line (record { dir = note.dir; bytes = []; lines = note.lines })
 
--- a count that has gone on by so many, modulo 2 to the 64
-abbrev pub counted : ℕ → ℕ → ℕ
-counted count more = (count + more) % 2 ^ 64
+-- these calls were made, or where there was a fault, the first of them
+pub record AskedFor {T : Type 0} (calls : List DepotCall) (result : Result T RunFault) (old new : Option (List DepotCall)) : Type 0 where
+  pub made : List DepotCall
+  pub asked : Asked made old new
+  pub first : IsPrefix made calls
+  pub all : IfOk result (λ _. made ≡ calls)
 
--- the input at the path is told, in pieces of these lengths
-pub record HasLengths (path : List ℕ) (lengths : List ℕ) (inputs : List Input) : Type 0 where
-  pub pieces : List (List ℕ)
-  pub there : pieces_of path inputs ≡ Some pieces
-  pub are : lengths ≡ lengths_of pieces
+-- the STOREs before one were stored, and that one was not
+pub record IsBrokenAt (stores : List Store) (relations : List Relation) (found : RunFault) (old new : Option Shelf) : Type 0 where
+  pub before : List Store
+  pub store : Store
+  pub behind : List Store
+  pub first : List Relation
+  pub last : List Relation
+  pub are : stores ≡ before ++ store ∷ behind
+  pub rows_are : relations ≡ first ++ last
+  pub each : length first ≡ length before
+  pub named : IsCommitFault store.statement found
+  pub left : LeftOpen store.dir (option_map (with_outputs (outputs_of before first)) old) new
 
--- what was kept of all pieces
-pub record IsStored (f : Filter) (pieces : List (List ℕ)) (s : Stored) : Type 0 where
-  pub bytes : s.bytes.items ≡ rows_text 9 (flat_map (keeps f) pieces)
-  pub read : s.read ≡ counted 0 (length (flat_map lines pieces))
-  pub kept : s.kept ≡ counted 0 (length (flat_map (keeps f) pieces))
+-- nothing was begun, and only memory was wanting
+abbrev pub IsNotBegun : {T : Type 0} → Bool → Result T RunFault → Option Shelf → Option Shelf → Type 0
+IsNotBegun begun result old new = begun ≡ false → (new ≡ old) × MatchResult result (λ _. Unit {0}) (λ found. found ≡ fault.OutOfMemory)
 
--- the fault that an error of the host is
-abbrev pub host_fault_of : OutsideError → RunFault
-host_fault_of outside.Failed = fault.HostFault
-host_fault_of outside.OutOfMemory = fault.OutOfMemory
+-- ---- the run
 
--- how reading may end
-abbrev pub IsHostStep : RunFault → Type 0
-IsHostStep fault.HostFault = Unit {0}
-IsHostStep fault.OutOfMemory = Unit {0}
-IsHostStep _ = ⊥
+abbrev pub counts_in : Progress → Counts
+counts_in progress = record { read = progress.read; shuffled = 0; stored = sum_by (λ note. note.lines) progress.notes % 2 ^ 64 }
 
--- how a run may end behind the steps before it, where its STORE has this number
-abbrev pub IsRunStep : ℕ → RunFault → Type 0
-IsRunStep number fault.HostFault = Unit {0}
-IsRunStep number (fault.DepotFault (Some store)) = store ≡ number
-IsRunStep number fault.OutOfMemory = Unit {0}
-IsRunStep number _ = ⊥
+-- what was kept counts where all was stored, or a directory was begun
+abbrev pub kept_in : Bool → Progress → List Kept
+kept_in done progress = if done then progress.kept else (if progress.begun then progress.kept else [])
 
--- the same for a STORE of some number
-abbrev pub IsRunEnd : RunFault → Type 0
-IsRunEnd found = (number : ℕ) × IsRunStep number found
+abbrev pub found_in : {T : Type 0} → Result T RunFault → Option RunFault
+found_in (Ok _) = None
+found_in (Err found) = Some found
 
--- the host's count has not fallen, and has risen where the host is blamed
-pub record HostCause {T : Type 0} (before now : ℕ) (result : Result T RunFault) : Type 0 where
-  pub later : before ≤ now
-  pub failed : IsErrOf result fault.HostFault → before < now
+-- the text of an end
+abbrev pub end_text : Result (List ℕ) RunFault → List ℕ
+end_text (Ok text) = text
+end_text (Err found) = fault_text found
+
+abbrev pub is_done : {T : Type 0} → Result T RunFault → Bool
+is_done (Ok _) = true
+is_done (Err _) = false
+
+-- What the run of a plan says of a shelf that is told.
+pub record RunsEnd (plan : Plan) (shelf : Shelf) (tells : Type 0) (calls_old calls_new : Option (List DepotCall)) (new : Option Shelf) (progress : Progress)
+    (result : Result (List ℕ) RunFault) : Type 0 where
+  pub outs : List Output
+  pub state : Ends tells shelf (record { outs = outs; kept = kept_in (is_done result) progress; shelf = new }) (Runs plan) (found_in result)
+  pub asked : IsAsked (flat_map store_calls (dirs_of plan)) (found_in result) calls_old calls_new
+  pub numbers : CountsAre tells (Runs plan) shelf outs (counts_in progress) (found_in result)
+  pub text : IfOk result (λ text. text ≡ done_text outs (counts_in progress))
+
+-- What a call says of it, from the words on.
+pub record RunEnd (line : Line) (shelf : Shelf) (tells : Type 0) (calls_old calls_new : Option (List DepotCall)) (new : Option Shelf)
+    (progress : Progress) (result : Result (List ℕ) RunFault) : Type 0 where
+  pub verdict : Verdict
+  pub calls : List DepotCall
+  pub due : IsDue line shelf calls verdict
+  pub outs : List Output
+  pub state : Ends tells shelf (record { outs = outs; kept = kept_in (is_done result) progress; shelf = new }) verdict (found_in result)
+  pub asked : IsAsked calls (found_in result) calls_old calls_new
+  pub numbers : CountsAre tells verdict shelf outs (counts_in progress) (found_in result)
+  pub text : IfOk result (λ text. text ≡ done_text outs (counts_in progress))
+
+-- so it is of each end
+abbrev pub RunsTold : Plan → Shelf → Type 0 → Option (List DepotCall) → Option (List DepotCall) → Option Shelf → Progress → Result (List ℕ) RunFault → Type 0
+RunsTold plan shelf tells calls_old calls_new new progress result = MatchResult result (λ text. RunsEnd plan shelf tells calls_old calls_new new progress (Ok text))
+    (λ found. RunsEnd plan shelf tells calls_old calls_new new progress (Err found))
+
+abbrev pub RunTold : Line → Shelf → Type 0 → Option (List DepotCall) → Option (List DepotCall) → Option Shelf → Progress → Result (List ℕ) RunFault → Type 0
+RunTold line shelf tells calls_old calls_new new progress result = MatchResult result (λ text. RunEnd line shelf tells calls_old calls_new new progress (Ok text))
+    (λ found. RunEnd line shelf tells calls_old calls_new new progress (Err found))

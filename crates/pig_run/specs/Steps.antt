@@ -1,84 +1,127 @@
 -- What the steps before a run find, and how each may end.
-use Rattle.std.specs.Prelude.{◌≡◌, ◌≤◌, ◌<◌, ◌⊎◌, ℕ, false, List, Option, Some, None, Result, IsErrOf}
+use Rattle.std.specs.Prelude.{◌≡◌, ◌≤◌, ◌<◌, ◌⊎◌, ◌++◌, ℕ, List, map, Option, Some, None, Result, MatchResult, IsErrOf}
+use Rattle.pig_outside.specs.Calls.{DepotCall}
 use Rattle.pig_outside.specs.declared.faults.OutsideError.{OutsideError}
 use Rattle.pig_outside.specs.declared.faults.OutsideError.TheVariants as outside
-use Rattle.pig_outside.specs.Shelf.{Shelf, script_of, pieces_of, lengths_of, has_dir}
 use Rattle.pig_run.specs.declared.outcome.RunFault.{RunFault}
 use Rattle.pig_run.specs.declared.outcome.RunFault.TheVariants as fault
-use Rattle.pig_run.specs.declared.first_form.FirstForm.{FirstForm}
-use Rattle.pig_run.specs.declared.plan.Plan.{Plan}
-use Rattle.pig_run.specs.Reading.{Finding, IsFound, Refuses, Finds}
-use Rattle.pig_run.specs.Answers.{CommandLine, AreWords, HasWords, IsDue, Refused}
+use Rattle.pig_run.specs.Due.{HasWords, Line, Stage}
+use Rattle.pig_run.specs.Reading.{Verdict, Refuses, Runs}
+use Rattle.pig_run.specs.Refusals.{Refusal, Names, by_depot, by_host, by_console, by_refusal, by_memory, cause_of}
+use Rattle.pig_run.specs.Told.{Asked, IsPrefix}
+use Rattle.pig_plan.specs.declared.plan.Plan.{Plan}
+use Rattle.pig_plan.specs.Plans.{plan_of}
 
--- the fault that an error of the depot is
+-- the fault that an error of a device is
 abbrev pub depot_fault_of : OutsideError → Option ℕ → RunFault
 depot_fault_of outside.Failed store = fault.DepotFault store
 depot_fault_of outside.OutOfMemory store = fault.OutOfMemory
 
--- the depot failed before the commits, or memory was wanting
-abbrev pub IsDepotStep : RunFault → Type 0
-IsDepotStep (fault.DepotFault None) = Unit {0}
-IsDepotStep fault.OutOfMemory = Unit {0}
-IsDepotStep _ = ⊥
+abbrev pub host_fault_of : OutsideError → RunFault
+host_fault_of outside.Failed = fault.HostFault
+host_fault_of outside.OutOfMemory = fault.OutOfMemory
 
--- how a step behind the words and before the run may end
-abbrev pub IsPlanFault : RunFault → Type 0
-IsPlanFault fault.Usage = ⊥
-IsPlanFault fault.HostFault = ⊥
-IsPlanFault (fault.DepotFault (Some _)) = ⊥
-IsPlanFault _ = Unit {0}
+-- ---- stages
 
--- the depot's count has not fallen, and has risen where the depot is blamed
+-- A stage is the next one, with these calls before it.
+pub record HandsOn (stage next : Stage) (made : List DepotCall) : Type 0 where
+  pub on : (asked : List DepotCall) (verdict : Verdict) → next asked verdict → stage (made ++ asked) verdict
+  pub back : (asked : List DepotCall) (verdict : Verdict) → stage asked verdict → (behind : List DepotCall) × (asked ≡ made ++ behind) × next behind verdict
+
+-- the fault is what is due
+pub record IsRefusedBy (stage : Stage) (made : List DepotCall) (found : RunFault) : Type 0 where
+  pub refusal : Refusal
+  pub due : stage made (Refuses refusal)
+  pub names : Names refusal found
+
+-- the depot failed at a look-up, or memory was wanting
+abbrev pub IsLookFault : RunFault → Type 0
+IsLookFault found = (found ≡ fault.DepotFault None) ⊎ (found ≡ fault.OutOfMemory)
+
+-- so it was, and what was asked begins what is due, whatever that is
+pub record IsBrokenIn (stage : Stage) (made : List DepotCall) (found : RunFault) : Type 0 where
+  pub free : IsLookFault found
+  pub first : (asked : List DepotCall) (verdict : Verdict) → stage asked verdict → IsPrefix made asked
+
+abbrev pub EndsIn : Stage → List DepotCall → RunFault → Type 0
+EndsIn stage made found = IsRefusedBy stage made found ⊎ IsBrokenIn stage made found
+
+-- a stage is passed, and the next one is due
+pub record Passes (stage next : Stage) (old new : Option (List DepotCall)) : Type 0 where
+  pub made : List DepotCall
+  pub asked : Asked made old new
+  pub hands : HandsOn stage next made
+
+-- a call ends in a stage
+pub record Stops (stage : Stage) (old new : Option (List DepotCall)) (found : RunFault) : Type 0 where
+  pub made : List DepotCall
+  pub asked : Asked made old new
+  pub ends : EndsIn stage made found
+
+-- a step goes from a stage to the next one, or ends in it
+abbrev pub Step : {T : Type 0} → Stage → (T → Stage) → Option (List DepotCall) → Option (List DepotCall) → Result T RunFault → Type 0
+Step stage next old new result = MatchResult result (λ x. Passes stage (next x) old new) (Stops stage old new)
+
+-- reading a script finds this, or memory was wanting
+abbrev pub TellsPlan : (Verdict → Type 0) → Result Plan RunFault → Type 0
+TellsPlan P result = MatchResult result (λ plan. P (Runs (plan_of plan)))
+    (λ found. ((refusal : Refusal) × P (Refuses refusal) × Names refusal found) ⊎ (found ≡ fault.OutOfMemory))
+
+-- ---- counts
+
+-- The depot's count has not fallen, and has risen where the depot is blamed.
 pub record DepotCause {T : Type 0} (before now : ℕ) (result : Result T RunFault) : Type 0 where
   pub later : before ≤ now
   pub failed : (store : Option ℕ) → IsErrOf result (fault.DepotFault store) → before < now
 
--- the count of the depot's failures at making a directory has not fallen, has risen where a STORE is blamed, and stands
--- still where the depot is blamed without one
+-- The count of the depot's failures at making a directory has not fallen, has risen where a STORE is blamed, and stands still where the
+-- depot is blamed without one.
 pub record StoreCause {T : Type 0} (before now : ℕ) (result : Result T RunFault) : Type 0 where
   pub later : before ≤ now
   pub store : (number : ℕ) → IsErrOf result (fault.DepotFault (Some number)) → before < now
   pub lookup : IsErrOf result (fault.DepotFault None) → now ≡ before
 
--- the script at the path is found to be this
-pub record IsScriptAt (path : List ℕ) (shelf : Shelf) (finding : Finding) : Type 0 where
-  pub script : List ℕ
-  pub there : script_of path shelf ≡ Some script
-  pub is : IsFound script finding
+-- the host's count has not fallen, and has risen where the host is blamed
+pub record HostCause {T : Type 0} (before now : ℕ) (result : Result T RunFault) : Type 0 where
+  pub later : before ≤ now
+  pub failed : IsErrOf result fault.HostFault → before < now
 
--- why there is no form
-abbrev pub ScriptRefusal : List ℕ → Shelf → RunFault → Type 0
-ScriptRefusal path shelf found = ((found ≡ fault.NoScript) × (script_of path shelf ≡ None)) ⊎ IsScriptAt path shelf (Refuses found) ⊎ IsDepotStep found
+-- ---- which faults there are
 
--- the words name a script of this form
-pub record IsScripted (line : CommandLine) (shelf : Shelf) (form : FirstForm) : Type 0 where
-  pub path : List ℕ
-  pub words_are : AreWords line path
-  pub script_is : IsScriptAt path shelf (Finds form)
+-- a step behind the words and before the run ends by a refusal, the depot's look-ups, or memory
+abbrev pub IsPlanFault : RunFault → Type 0
+IsPlanFault fault.Usage = ⊥
+IsPlanFault fault.HostFault = ⊥
+IsPlanFault fault.ConsoleFault = ⊥
+IsPlanFault (fault.DepotFault (Some store)) = ⊥
+IsPlanFault found = Unit {0}
 
--- the fault is what is due, or that of a device or of memory
-abbrev pub IsRefused : CommandLine → Shelf → RunFault → Type 0
-IsRefused line shelf found = IsDue line shelf (Refused found) ⊎ IsDepotStep found
+-- reading a script ends by a refusal of it, or memory
+abbrev pub IsReadFault : RunFault → Type 0
+IsReadFault (fault.Lex offset) = Unit {0}
+IsReadFault (fault.Syntax n) = Unit {0}
+IsReadFault (fault.Check n kind) = Unit {0}
+IsReadFault (fault.TooLarge which) = Unit {0}
+IsReadFault fault.OutOfMemory = Unit {0}
+IsReadFault found = ⊥
 
--- the form's input is there in pieces of these lengths, and its output isn't there
-pub record IsReady (line : CommandLine) (shelf : Shelf) (plan : Plan) : Type 0 where
-  pub scripted : IsScripted line shelf plan.form
-  pub pieces : List (List ℕ)
-  pub there : pieces_of plan.form.input shelf.inputs ≡ Some pieces
-  pub lengths : plan.lengths ≡ lengths_of pieces
-  pub absent : has_dir plan.form.output shelf ≡ false
+-- reading what the host has ends by the host or memory
+abbrev pub IsHostStep : RunFault → Type 0
+IsHostStep found = (found ≡ fault.HostFault) ⊎ (found ≡ fault.OutOfMemory)
 
--- how the commit of the STORE of this number may end
+-- making the directory of the STORE of this number ends by the depot or memory
 abbrev pub IsCommitFault : ℕ → RunFault → Type 0
-IsCommitFault number (fault.DepotFault (Some store)) = store ≡ number
-IsCommitFault number fault.OutOfMemory = Unit {0}
-IsCommitFault number _ = ⊥
+IsCommitFault number found = (found ≡ fault.DepotFault (Some number)) ⊎ (found ≡ fault.OutOfMemory)
+
+-- the run of a plan ends by the host, the depot at a STORE, or memory
+abbrev pub IsRunFault : RunFault → Type 0
+IsRunFault found = (found ≡ fault.HostFault) ⊎ ((number : ℕ) × (found ≡ fault.DepotFault (Some number))) ⊎ (found ≡ fault.OutOfMemory)
 
 -- another fault than that of wrong words
 abbrev pub IsNotUsage : RunFault → Type 0
 IsNotUsage fault.Usage = ⊥
-IsNotUsage _ = Unit {0}
+IsNotUsage found = Unit {0}
 
 -- the fault is that of wrong words only where the words are no command, and another only where they are one or memory was wanting
-abbrev pub SaysWords : CommandLine → RunFault → Type 0
+abbrev pub SaysWords : Line → RunFault → Type 0
 SaysWords line found = ((found ≡ fault.Usage) × (¬ HasWords line)) ⊎ (IsNotUsage found × (HasWords line ⊎ (found ≡ fault.OutOfMemory)))

@@ -1,34 +1,111 @@
--- What a run says of a shelf that is told.
-use Rattle.std.specs.Prelude.{◌≡◌, ◌⊎◌, ℕ, List, Option, Some, Result, Ok, Err}
+-- What the top call says of a shelf that is told.
+use Rattle.std.specs.Prelude.{◌≡◌, ◌⊎◌, ◌<◌, ◌++◌, ℕ, List, ◌∷◌, [], length, Option, Some, None}
+use Rattle.std.specs.Option.{ForSome, option_map}
 use Rattle.pig_value.specs.declared.inputs.Input.{Input}
+use Rattle.pig_outside.specs.Calls.{DepotCall}
 use Rattle.pig_outside.specs.Shelf.{Shelf}
-use Rattle.pig_run.specs.declared.outcome.RunFault.{RunFault}
 use Rattle.pig_run.specs.declared.outcome.Counts.{Counts}
-use Rattle.pig_run.specs.declared.first_form.FirstForm.{FirstForm}
-use Rattle.pig_run.specs.Answers.{CommandLine, IsDue, IsRun, Leaves, Refused, Runs, Tells}
-use Rattle.pig_run.specs.Steps.{IsDepotStep}
-use Rattle.pig_run.specs.Running.{IsRunStep}
+use Rattle.pig_run.specs.declared.outcome.Outcome.{Outcome}
+use Rattle.pig_run.specs.declared.outcome.RunFault.{RunFault}
+use Rattle.pig_run.specs.declared.outcome.RunFault.TheVariants as fault
+use Rattle.pig_run.specs.Due.{IsDue, Line}
+use Rattle.pig_run.specs.Ends.{Console, Ends, Fails, Shown, counts_shown}
+use Rattle.pig_run.specs.Outputs.{AreCounts, Left, Output}
+use Rattle.pig_run.specs.Reading.{Verdict, Refuses, Runs}
+use Rattle.pig_run.specs.Refusals.{Names, by_depot, by_host, by_memory, cause_of}
+use Rattle.pig_run.specs.Texts.{answer_text}
 
--- a run that ended well was due, and has stored what it means where the host tells its inputs
-pub record EndedWell (line : CommandLine) (shelf : Shelf) (inputs : Option (List Input)) (new : Option Shelf) (counts : Counts) : Type 0 where
-  pub form : FirstForm
-  pub pieces : List (List ℕ)
-  pub due : IsDue line shelf (Runs form pieces)
-  pub done : Tells inputs → IsRun form pieces (Some shelf) new counts
+-- What the devices tell at a moment: the depot's shelf, its calls and its count, the first host's count, and the console.
+pub record Seen : Type 0 where
+  pub shelf : Option Shelf
+  pub calls : Option (List DepotCall)
+  pub depot_faults : ℕ
+  pub host_faults : ℕ
+  pub console : Console
 
--- a step before the run refused, and the shelf is as it was
-pub record RefusedBefore (line : CommandLine) (shelf : Shelf) (new : Option Shelf) (found : RunFault) : Type 0 where
-  pub is : IsDue line shelf (Refused found) ⊎ IsDepotStep found
-  pub left : new ≡ Some shelf
+-- a device counted a failure
+abbrev pub SomeFailed : Seen → Seen → Type 0
+SomeFailed old new = (old.depot_faults < new.depot_faults) ⊎ (old.host_faults < new.host_faults) ⊎ Fails old.console new.console
 
--- the run was due, and a device or want of memory ended it
-pub record BrokeOff (line : CommandLine) (shelf : Shelf) (new : Option Shelf) (found : RunFault) : Type 0 where
-  pub form : FirstForm
-  pub pieces : List (List ℕ)
-  pub due : IsDue line shelf (Runs form pieces)
-  pub step : IsRunStep form.store found
-  pub left : Leaves found (Runs form pieces) (Some shelf) new
+-- a fault of a device stands only where its count has risen
+abbrev pub IsCaused : Option RunFault → Seen → Seen → Type 0
+IsCaused None old new = Unit {0}
+IsCaused (Some found) old new = ((store : Option ℕ) → cause_of found ≡ by_depot store → old.depot_faults < new.depot_faults)
+    × (cause_of found ≡ by_host → old.host_faults < new.host_faults)
 
-abbrev pub IsTold : CommandLine → Shelf → Option (List Input) → Option Shelf → Result Counts RunFault → Type 0
-IsTold line shelf inputs new (Ok counts) = EndedWell line shelf inputs new counts
-IsTold line shelf inputs new (Err found) = RefusedBefore line shelf new found ⊎ BrokeOff line shelf new found
+-- ---- the depot's calls
+
+-- these calls were made behind those before, in this order, and no other
+abbrev pub Asked : List DepotCall → Option (List DepotCall) → Option (List DepotCall) → Type 0
+Asked calls old new = new ≡ option_map (λ before. before ++ calls) old
+
+abbrev pub IsPrefix : List DepotCall → List DepotCall → Type 0
+IsPrefix made all = (behind : List DepotCall) × (all ≡ made ++ behind)
+
+-- a fault that ends a call before all is asked
+abbrev pub EndsEarly : Option RunFault → Type 0
+EndsEarly None = ⊥
+EndsEarly (Some found) = (cause_of found ≡ by_host) ⊎ (cause_of found ≡ by_memory) ⊎ ((store : Option ℕ) × (cause_of found ≡ by_depot store))
+
+-- what is due was asked, all of it unless a device or memory ended the call
+pub record IsAsked (due : List DepotCall) (found : Option RunFault) (old new : Option (List DepotCall)) : Type 0 where
+  pub made : List DepotCall
+  pub asked : Asked made old new
+  pub first : IsPrefix made due
+  pub all : ¬ EndsEarly found → made ≡ due
+
+-- ---- the answer
+
+-- what is due is answered
+abbrev pub IsRight : Verdict → Option RunFault → Type 0
+IsRight (Refuses refusal) None = ⊥
+IsRight (Refuses refusal) (Some found) = Names refusal found
+IsRight (Runs plan) answer = answer ≡ None
+
+-- where no device failed and memory sufficed, what is due is answered
+abbrev pub Completes : Verdict → Seen → Seen → Option RunFault → Type 0
+Completes verdict old new answer = ¬ SomeFailed old new → IsRight verdict answer ⊎ (answer ≡ Some fault.OutOfMemory)
+
+-- the numbers are right where all is stored
+abbrev pub CountsAre : Type 0 → Verdict → Shelf → List Output → Counts → Option RunFault → Type 0
+CountsAre tells (Refuses refusal) shelf outs counts found = Unit {0}
+CountsAre tells (Runs plan) shelf outs counts found = found ≡ None → AreCounts tells plan shelf.inputs outs counts
+
+-- Of these words and this shelf: what is due and what is asked for it; what was found, what was stored and counted; what stands; and what
+-- was shown and answered of it.
+pub record Told (line : Line) (shelf : Shelf) (tells : Type 0) (old new : Seen) (outcome : Outcome) : Type 0 where
+  pub verdict : Verdict
+  pub calls : List DepotCall
+  pub due : IsDue line shelf calls verdict
+  pub found : Option RunFault
+  pub outs : List Output
+  pub counts : Counts
+  pub state : Ends tells shelf (record { outs = outs; kept = outcome.kept; shelf = new.shelf }) verdict found
+  pub cause : IsCaused found old new
+  pub asked : IsAsked calls found old.calls new.calls
+  pub numbers : CountsAre tells verdict shelf outs counts found
+  pub text : Shown (answer_text outs counts found) old.console new.console found outcome.fault
+  pub counted : outcome.counts ≡ counts_shown outcome.fault counts
+  pub complete : Completes verdict old new outcome.fault
+
+-- a host that tells its inputs tells those of the depot's shelf
+abbrev pub TellsOf : Option Shelf → Option (List Input) → Type 0
+TellsOf shelf inputs = ForSome inputs (λ told. option_map (λ s. s.inputs) shelf ≡ Some told)
+
+-- it tells its inputs
+abbrev pub Tells : Option (List Input) → Type 0
+Tells inputs = (told : List Input) × (inputs ≡ Some told)
+
+-- the first of the numbers, as the count of the first host's failures
+abbrev pub first_of : {X : Type 0} → (X → ℕ) → List X → ℕ
+first_of count [] = 0
+first_of count (x ∷ _) = count x
+
+-- the words of a program with these hosts
+abbrev pub line_of : {H : Type 0} → List H → List (List ℕ) → Line
+line_of hosts words = record { hosts = length hosts; words = words }
+
+-- the first of them tells its inputs
+abbrev pub FirstTells : {X : Type 0} → (X → Option (List Input)) → List X → Type 0
+FirstTells inputs [] = Unit {0}
+FirstTells inputs (x ∷ _) = Tells (inputs x)

@@ -1,8 +1,9 @@
 ghost use Rattle.std.specs.Prelude.{◌≡◌, Some};
-ghost use Rattle.pig_run.specs.Answers.{no_counts, status_of};
+ghost use Rattle.pig_run.specs.Outputs.{no_counts};
+ghost use Rattle.pig_run.specs.Refusals.{status_of};
 ghost use Rattle.pig_run.specs.declared.outcome.RunFault.TheVariants as fault;
 
-use pig_outside::OutsideError;
+use pig_typing::CheckKind;
 use pig_value::{KeptList, Text};
 use std::alloc::{AllocError, AllocFailed};
 use thiserror::Error;
@@ -11,7 +12,7 @@ use thiserror::Error;
 #[derive(Debug, Drop, Error)]
 pub enum RunFault {
     /// The words are no command that is built: `run`, the path of one script, and options.
-    #[error("usage: pig run SCRIPT [--workers N] [--reducers N] [--split BYTES]")]
+    #[error("the words are no command")]
     Usage,
     /// The depot has no such script.
     #[error("there is no such script")]
@@ -22,13 +23,13 @@ pub enum RunFault {
     /// The statement of this number, counted from 1, is the first that is off the grammar.
     #[error("statement {statement} is off the grammar")]
     Syntax { statement: u32 },
-    /// The script is in the grammar, and of no form that is built yet.
-    #[error("the script is of no form that is built yet")]
-    NotYet,
-    /// The depot has no input at the path of a LOAD.
+    /// The statement of this number is the first without a typing, and the condition of this kind holds there.
+    #[error("statement {statement} has no typing: {kind:?}")]
+    Check { statement: u32, kind: CheckKind },
+    /// The depot has no input at the path of a LOAD that a STORE reaches, the first such.
     #[error("there is no such input")]
     NoInput { path: Text },
-    /// The depot has the directory of a STORE already.
+    /// The depot has the directory of a STORE already, of the first such.
     #[error("the output is there already")]
     OutputExists { dir: Text },
     /// The depot failed, and has counted it; `store` is the number of the STORE whose directory was being
@@ -41,6 +42,9 @@ pub enum RunFault {
     /// Memory was wanting.
     #[error("out of memory")]
     OutOfMemory,
+    /// The console failed at the text of a run that stored all, and has counted it.
+    #[error("the console failed")]
+    ConsoleFault,
     /// A counted size passes its limit.
     #[error("too large: {which}")]
     TooLarge { which: TooLarge },
@@ -58,6 +62,9 @@ pub enum TooLarge {
     /// More than 64 brackets are open at a token of a statement.
     #[error("depth")]
     Depth,
+    /// The inputs that a STORE reaches have more than 67,108,864 bytes in all.
+    #[error("input")]
+    Input,
 }
 
 impl RunFault {
@@ -68,12 +75,13 @@ impl RunFault {
         match self {
             RunFault::Usage => 1,
             RunFault::NoScript => 2,
-            RunFault::Lex { .. } | RunFault::Syntax { .. } | RunFault::NotYet => 3,
+            RunFault::Lex { .. } | RunFault::Syntax { .. } | RunFault::Check { .. } => 3,
             RunFault::NoInput { .. } => 4,
             RunFault::OutputExists { .. } => 5,
             RunFault::DepotFault { .. } => 6,
             RunFault::HostFault => 7,
             RunFault::OutOfMemory => 9,
+            RunFault::ConsoleFault => 10,
             RunFault::TooLarge { .. } => 11,
         }
     }

@@ -1,11 +1,15 @@
-ghost use Rattle.std.specs.Prelude.{◌≡◌, ◌<◌, ◌≤◌, ◌^◌, ◌↔◌, length, IsTrue, All};
+ghost use Rattle.std.specs.Prelude.{◌≡◌, ◌<◌, ◌≤◌, ◌^◌, ◌↔◌, length, IsTrue, IfErr, All};
 ghost use Rattle.pig_syntax.specs.Cutting.{AreStatements, IsWithin};
 ghost use Rattle.pig_parser.specs.Parsing.{IsShallow};
-ghost use Rattle.pig_run.specs.Reading.{IsFormed, IsParsed, IsMeasured, IsLexed, IsFound, TellsForm};
+ghost use Rattle.pig_syntax.specs.Formed.{StmtFormed};
+ghost use Rattle.pig_syntax.specs.Tokens.{HoldsNoLf};
+ghost use Rattle.pig_run.specs.Reading.{IsChecked, IsParsed, IsMeasured, IsLexed, IsFound};
+ghost use Rattle.pig_run.specs.Steps.{IsReadFault, TellsPlan};
 
-use crate::first_form::first_form;
-use crate::{FirstForm, RunFault, TooLarge};
+use crate::{RunFault, TooLarge};
+use pig_check::{CheckFault, check};
 use pig_parser::{SyntaxFault, parse};
+use pig_plan::Plan;
 use pig_syntax::{
     LexFault, Piece, Pieces, Stmts, Tokens, a_script_has_one_reading, cut, depth, lex,
     statements_lie_within,
@@ -21,31 +25,31 @@ const MOST_STATEMENTS: usize = 4096;
 /// The limit on the number of brackets that are open at once.
 const MOST_DEPTH: u32 = 64;
 
-/// The form of trees.
-fn form_of_trees(alloc: Global, statements: &Stmts) -> Result<FirstForm, RunFault>
-    requires { length statements.now < 2 ^ 32 }
-    ensures { TellsForm (IsFormed statements.now) result }
+/// The plan of trees.
+fn plan_of_trees(alloc: Global, statements: &Stmts) -> Result<Plan, RunFault>
+    requires { All StmtFormed statements.now }
+    ensures told { TellsPlan (IsChecked statements.now) result }
+    ensures fault { IfErr result IsReadFault }
 {
-    match first_form(alloc, statements)? {
-        Some(form) => Ok(form),
-        None => Err(RunFault::NotYet),
+    match check(alloc, statements) {
+        Ok(plan) => Ok(plan),
+        Err(CheckFault::Check { statement, kind }) => Err(RunFault::Check { statement, kind }),
+        Err(CheckFault::OutOfMemory) => Err(RunFault::OutOfMemory),
     }
 }
 
-/// The form of the trees of statements.
-fn form_of_statements(
-    alloc: Global,
-    tokens: &Tokens,
-    pieces: &Pieces,
-) -> Result<FirstForm, RunFault>
+/// The plan of the trees of statements.
+fn plan_of_statements(alloc: Global, tokens: &Tokens, pieces: &Pieces) -> Result<Plan, RunFault>
     requires statements { AreStatements tokens.now pieces.now }
     requires few { length tokens.now < 2 ^ 32 }
     requires few_statements { length pieces.now ≤ 4096 }
+    requires texts { All (λ token. HoldsNoLf token.form) tokens.now }
     requires shallow { All (IsShallow tokens.now) pieces.now }
-    ensures { TellsForm (IsParsed tokens.now pieces.now) result }
+    ensures told { TellsPlan (IsParsed tokens.now pieces.now) result }
+    ensures fault { IfErr result IsReadFault }
 {
     match parse(alloc, tokens, pieces) {
-        Ok(trees) => form_of_trees(alloc, &trees),
+        Ok(trees) => plan_of_trees(alloc, &trees),
         Err(SyntaxFault::Syntax { statement }) => Err(RunFault::Syntax { statement }),
         Err(SyntaxFault::OutOfMemory) => Err(RunFault::OutOfMemory),
     }
@@ -77,11 +81,13 @@ fn are_shallow(tokens: &Tokens, pieces: &Pieces) -> bool
     true
 }
 
-/// The form of the statements, where there are not too many and none nests too deep.
-fn form_of_pieces(alloc: Global, tokens: &Tokens, pieces: &Pieces) -> Result<FirstForm, RunFault>
+/// The plan of the statements, where there are not too many and none nests too deep.
+fn plan_of_pieces(alloc: Global, tokens: &Tokens, pieces: &Pieces) -> Result<Plan, RunFault>
     requires statements { AreStatements tokens.now pieces.now }
     requires few { length tokens.now < 2 ^ 32 }
-    ensures { TellsForm (IsMeasured tokens.now pieces.now) result }
+    requires texts { All (λ token. HoldsNoLf token.form) tokens.now }
+    ensures told { TellsPlan (IsMeasured tokens.now pieces.now) result }
+    ensures fault { IfErr result IsReadFault }
 {
     if pieces.len() > MOST_STATEMENTS {
         return Err(RunFault::TooLarge {
@@ -93,33 +99,35 @@ fn form_of_pieces(alloc: Global, tokens: &Tokens, pieces: &Pieces) -> Result<Fir
             which: TooLarge::Depth,
         });
     }
-    form_of_statements(alloc, tokens, pieces)
+    plan_of_statements(alloc, tokens, pieces)
 }
 
-/// The form of the tokens of a script.
-fn form_of_script(alloc: Global, script: &[u8]) -> Result<FirstForm, RunFault>
+/// The plan of the tokens of a script.
+fn plan_of_script(alloc: Global, script: &[u8]) -> Result<Plan, RunFault>
     requires { length script.now ≤ 2 ^ 20 }
-    ensures { TellsForm (IsLexed script.now) result }
+    ensures told { TellsPlan (IsLexed script.now) result }
+    ensures fault { IfErr result IsReadFault }
 {
     a_script_has_one_reading();
     match lex(alloc, script) {
         Ok(tokens) => {
             let pieces = cut(alloc, &tokens)?;
-            form_of_pieces(alloc, &tokens, &pieces)
+            plan_of_pieces(alloc, &tokens, &pieces)
         }
         Err(LexFault::Bad { offset }) => Err(RunFault::Lex { offset }),
         Err(LexFault::OutOfMemory) => Err(RunFault::OutOfMemory),
     }
 }
 
-/// The form of a script, or the first refusal that it meets.
-pub fn read_script(alloc: Global, script: &[u8]) -> Result<FirstForm, RunFault>
-    ensures { TellsForm (IsFound script.now) result }
+/// The plan of a script, or the first refusal that it meets.
+pub fn read_script(alloc: Global, script: &[u8]) -> Result<Plan, RunFault>
+    ensures told { TellsPlan (IsFound script.now) result }
+    ensures fault { IfErr result IsReadFault }
 {
     if script.len() as u64 > MOST_SCRIPT {
         return Err(RunFault::TooLarge {
             which: TooLarge::Script,
         });
     }
-    form_of_script(alloc, script)
+    plan_of_script(alloc, script)
 }

@@ -1,127 +1,143 @@
-ghost use Rattle.std.specs.Prelude.{◌≡◌, ℕ, List, Some, OnOk, OnErr, IfOk, IfErr};
+ghost use Rattle.std.specs.Prelude.{◌≡◌, ◌≢◌, ◌<◌, ◌≤◌, ◌⊎◌, ◌%◌, ◌^◌, [], length, false, IfOk, IfErr, MatchResult};
 ghost use Rattle.std.specs.Option.{ForSome};
-ghost use Rattle.pig_outside.specs.Shelf.{HasRange, range_of, pieces_of, CanCreate};
-ghost use Rattle.pig_run.specs.Answers.{LeftOpen, IsRun};
-ghost use Rattle.pig_run.specs.Asked.{Asked, store_calls};
-ghost use Rattle.pig_run.specs.Steps.{DepotCause, StoreCause};
-ghost use Rattle.pig_run.specs.Running.{IsForm, HasLengths, IsStored, IsHostStep, IsRunStep, HostCause, host_fault_of};
+ghost use Rattle.std.specs.List.{AllByRecursion, sum_by};
+ghost use Rattle.pig_plan.specs.Plans.{plan_of};
+ghost use Rattle.pig_run.specs.Due.{HasWords};
+ghost use Rattle.pig_run.specs.Looking.{HasLengths, IsPrepared, IsReady, line_of};
+ghost use Rattle.pig_run.specs.Running.{IsFoundOver, RunTold, RunsTold, counts_in};
+ghost use Rattle.pig_run.specs.Steps.{DepotCause, HostCause, IsHostStep, IsRunFault, SaysWords, StoreCause};
+ghost use Rattle.pig_run.specs.Told.{Tells, TellsOf};
 ghost use Rattle.pig_run.specs.declared.outcome.RunFault.TheVariants as fault;
 
-use crate::commit::commit;
-use crate::filtering::{Filter, filter_of};
-use crate::plan::Plan;
-use crate::stored::Stored;
+use crate::commit::store_all;
+use crate::inputs::read_inputs;
+use crate::line::CommandLine;
+use crate::looking::{Prepared, prepare};
+use crate::progress::{Notes, Progress};
+use crate::texts::done_bytes;
 use crate::{Counts, RunFault};
-use pig_outside::{Depot, Host, OutsideError};
-use pig_value::Lengths;
+use pig_check::a_script_has_one_plan;
+use pig_outside::{Depot, Host};
+use pig_plain::{Answers, answer};
+use pig_reach::lines_read;
+use pig_value::Blob;
 use std::alloc::Global;
 
-/// The fault that an error of the host is.
-fn host_fault(error: OutsideError) -> RunFault
-    ensures { result ≡ host_fault_of error }
-{
-    match error {
-        OutsideError::Failed => RunFault::HostFault,
-        OutsideError::OutOfMemory => RunFault::OutOfMemory,
-    }
+/// What a plan means, and the number of lines that were read for it.
+#[derive(Drop)]
+struct Found {
+    answers: Answers,
+    read: u64,
 }
 
-/// The bytes of a piece.
-fn read_piece<H: Host>(
-    alloc: Global,
-    host: &mut H,
-    path: &str,
-    piece: u32,
-    length: u64,
-) -> Result<Vec<u8>, RunFault>
-    requires { ForSome (H.inputs host.old) (HasRange path.now piece 0 length) }
-    ensures filled { ForSome (H.inputs host.old)
-        (λ i. IfOk result (λ bytes. bytes.items ≡ range_of path.now piece 0 length i)) }
+/// Reads the inputs, each piece once, and finds what the plan means over them.
+fn find<H: Host>(alloc: Global, host: &mut H, prepared: &Prepared) -> Result<Found, RunFault>
+    requires prepared { IsPrepared prepared.now }
+    requires lengths { ForSome (H.inputs host.old)
+        (λ i. AllByRecursion (HasLengths i) prepared.now.sizes) }
+    ensures found { ForSome (H.inputs host.old)
+        (λ i. IfOk result (IsFoundOver (plan_of prepared.now.plan) i)) }
+    ensures each { IfOk result (λ found. length found.answers.stores
+        ≡ length prepared.now.stores) }
     ensures fault { IfErr result IsHostStep }
     ensures inputs { H.inputs host.new ≡ H.inputs host.old }
     ensures cause { HostCause (H.faults host.old) (H.faults host.new) result }
 {
-    let mut bytes = vec![in alloc; 0u8; length as usize]?;
-    match host.read(path, piece, 0, bytes.as_mut_slice()) {
-        Ok(()) => Ok(bytes),
-        Err(error) => Err(host_fault(error)),
-    }
+    // That the plan is valid is known of its nodes.
+    prepared.plan.nodes();
+    let inputs = read_inputs(alloc, host, &prepared.sizes)?;
+    let read = lines_read(alloc, &prepared.plan, &inputs)?;
+    let answers = answer(alloc, &prepared.plan, &inputs)?;
+    Ok(Found { answers, read })
 }
 
-/// Reads every piece of an input, each once, and keeps the rows of which the condition is true.
-fn read_input<H: Host>(
-    alloc: Global,
-    host: &mut H,
-    filter: &Filter,
-    path: &str,
-    lengths: &Lengths,
-) -> Result<Stored, RunFault>
-    requires { ForSome (H.inputs host.old) (HasLengths path.now lengths.now) }
-    ensures stored { ForSome (H.inputs host.old) (λ i. (pieces : List (List ℕ))
-        → pieces_of path.now i ≡ Some pieces → IfOk result (IsStored filter.now pieces)) }
-    ensures fault { IfErr result IsHostStep }
-    ensures inputs { H.inputs host.new ≡ H.inputs host.old }
-    ensures cause { HostCause (H.faults host.old) (H.faults host.new) result }
+/// The number of lines of all directories, modulo 2 to the 64.
+fn line_sum(notes: &Notes) -> u64
+    ensures { result ≡ sum_by (λ note. note.lines) notes.now % 2 ^ 64 }
 {
-    let mut stored = Stored {
-        bytes: Vec::new(alloc),
-        read: 0,
-        kept: 0,
-    };
-    let mut piece: u32 = 0;
-    for length in lengths.as_slice() {
-        let bytes = read_piece(alloc, host, path, piece, *length)?;
-        filter.keep_lines(alloc, bytes.as_slice(), &mut stored)?;
-        piece = match piece.checked_add(1) {
-            Some(next) => next,
-            None => return Err(RunFault::OutOfMemory),
-        };
+    let mut sum: u64 = 0;
+    let mut left = notes.as_slice();
+    while let [note, rest @ ..] = left {
+        sum = sum.wrapping_add(note.lines);
+        left = rest;
     }
-    Ok(stored)
+    sum
 }
 
-/// Runs a form: reads its input, keeps the rows of which its condition is true, and stores them.
-pub fn perform<D: Depot, H: Host>(
+/// Runs a plan: reads its inputs, finds what it means, and stores that. The text of what was done is answered.
+fn perform<D: Depot, H: Host>(
     alloc: Global,
     depot: &mut D,
     host: &mut H,
-    plan: &Plan,
-) -> Result<Counts, RunFault>
-    requires form { IsForm plan.now.form }
-    requires absent { ForSome (D.shelf depot.old) (CanCreate plan.now.form.output) }
-    requires lengths { ForSome (H.inputs host.old)
-        (HasLengths plan.now.form.input plan.now.lengths) }
-    ensures done { ForSome (H.inputs host.old) (λ i. (pieces : List (List ℕ))
-        → pieces_of plan.now.form.input i ≡ Some pieces
-        → IfOk result (IsRun plan.now.form pieces (D.shelf depot.old) (D.shelf depot.new))) }
-    ensures left { OnErr result (LeftOpen plan.now.form.output (D.shelf depot.old)
-        (D.shelf depot.new)) }
-    ensures host_left { IfErr result (λ f. f ≡ fault.HostFault
-        → D.shelf depot.new ≡ D.shelf depot.old) }
-    ensures fault { IfErr result (IsRunStep plan.now.form.store) }
+    prepared: &Prepared,
+    progress: &mut Progress,
+) -> Result<Blob, RunFault>
+    requires prepared { IsPrepared prepared.now }
+    requires ready { ForSome (D.shelf depot.old) (λ s. IsReady s prepared.now) }
+    requires tells { TellsOf (D.shelf depot.old) (H.inputs host.old) }
+    requires notes { progress.old.notes ≡ [] }
+    requires begun { progress.old.begun ≡ false }
+    ensures told { ForSome (D.shelf depot.old) (λ s. RunsTold (plan_of prepared.now.plan) s
+        (Tells (H.inputs host.old)) (D.calls depot.old) (D.calls depot.new) (D.shelf depot.new)
+        progress.new result) }
+    ensures fault { IfErr result IsRunFault }
     ensures depot { DepotCause (D.faults depot.old) (D.faults depot.new) result }
     ensures stores { StoreCause (D.store_faults depot.old) (D.store_faults depot.new) result }
-    ensures asked { OnOk result (Asked (store_calls plan.now.form.output) (D.calls depot.old)
-        (D.calls depot.new)) }
     ensures host { HostCause (H.faults host.old) (H.faults host.new) result }
+    ensures inputs { H.inputs host.new ≡ H.inputs host.old }
 {
-    let filter = filter_of(alloc, &plan.form)?;
-    let stored = read_input(
+    let found = find(alloc, host, prepared)?;
+    let Found { answers, read } = found;
+    let Answers { kept, stores } = answers;
+    progress.kept = kept;
+    progress.read = read;
+    let relations = stores.as_slice();
+    store_all(
         alloc,
-        host,
-        &filter,
-        plan.form.input.as_str(),
-        &plan.lengths,
-    )?;
-    commit(
         depot,
-        plan.form.output.as_str(),
-        stored.bytes.as_slice(),
-        plan.form.store,
+        prepared.stores.as_slice(),
+        relations,
+        progress,
     )?;
-    Ok(Counts {
-        read: stored.read,
+    let counts = counts_of(progress);
+    let text = done_bytes(alloc, &progress.notes, &counts)?;
+    Ok(Blob::from_vec(text))
+}
+
+/// The numbers of a run that has come to its end.
+pub fn counts_of(progress: &Progress) -> Counts
+    ensures { result ≡ counts_in progress.now }
+{
+    Counts {
+        read: progress.read,
         shuffled: 0,
-        stored: stored.kept,
-    })
+        stored: line_sum(&progress.notes),
+    }
+}
+
+/// Reads the words and the script, and runs it.
+pub fn run<D: Depot, H: Host>(
+    alloc: Global,
+    line: &CommandLine,
+    depot: &mut D,
+    host: &mut H,
+    progress: &mut Progress,
+) -> Result<Blob, RunFault>
+    requires tells { TellsOf (D.shelf depot.old) (H.inputs host.old) }
+    requires notes { progress.old.notes ≡ [] }
+    requires begun { progress.old.begun ≡ false }
+    ensures told { ForSome (D.shelf depot.old) (λ s. RunTold (line_of line.now) s
+        (Tells (H.inputs host.old)) (D.calls depot.old) (D.calls depot.new) (D.shelf depot.new)
+        progress.new result) }
+    ensures fault { IfErr result (λ f. f ≢ fault.ConsoleFault) }
+    ensures words { MatchResult result (λ _. HasWords (line_of line.now))
+        (SaysWords (line_of line.now)) }
+    ensures depot { DepotCause (D.faults depot.old) (D.faults depot.new) result }
+    ensures stores { StoreCause (D.store_faults depot.old) (D.store_faults depot.new) result }
+    ensures host { HostCause (H.faults host.old) (H.faults host.new) result }
+    ensures inputs { H.inputs host.new ≡ H.inputs host.old }
+{
+    a_script_has_one_plan();
+    let prepared = prepare(alloc, line, depot)?;
+    perform(alloc, depot, host, &prepared, progress)
 }

@@ -1,55 +1,120 @@
-ghost use Rattle.std.specs.Prelude.{◌≡◌, ◌≤◌, ◌<◌, ◌⊎◌, ◌↔◌, ℕ, List, [], Option, Some, None, length, All, IfSome, IfErr, IfOk, MatchResult};
+ghost use Rattle.std.specs.Prelude.{◌≡◌, ◌≤◌, ◌<◌, ◌⊎◌, ℕ, List, Option, Some, None, true, length, map, drop, All, codes, if◌then◌else◌};
 ghost use Rattle.std.specs.Option.{ForSome};
+ghost use Rattle.pig_outside.specs.Calls.{DepotCall};
 ghost use Rattle.pig_outside.specs.Shelf.{Shelf};
-ghost use Rattle.pig_run.specs.Answers.{CommandLine, line_of, HasWords, IsDue, Verdict, Runs, IsAnswer, Leaves, IsRun, TellsOf, Tells, first_of, status_of, no_counts};
-ghost use Rattle.pig_run.specs.Asked.{AskedFor, RunAsked, run_calls};
-ghost use Rattle.pig_run.specs.Steps.{DepotCause, StoreCause, IsPlanFault, SaysWords};
-ghost use Rattle.pig_run.specs.Running.{IsRunEnd, HostCause};
-ghost use Rattle.pig_run.specs.Told.{IsTold};
-ghost use Rattle.pig_run.specs.declared.first_form.FirstForm.{FirstForm};
+ghost use Rattle.pig_run.specs.Due.{HasWords, IsDue, Line};
+ghost use Rattle.pig_run.specs.Ends.{Shown, counts_shown, unshown};
+ghost use Rattle.pig_run.specs.Reading.{Verdict};
+ghost use Rattle.pig_run.specs.Refusals.{status_of};
+ghost use Rattle.pig_run.specs.Running.{end_text, found_in, kept_in};
+ghost use Rattle.pig_run.specs.Texts.{fault_text};
+ghost use Rattle.pig_run.specs.Told.{FirstTells, TellsOf, Told, first_of, line_of};
 ghost use Rattle.pig_run.specs.declared.outcome.RunFault.TheVariants as fault;
 
-use crate::plan::prepare;
-use crate::running::perform;
+use crate::line::CommandLine;
+use crate::progress::Progress;
+use crate::running::{counts_of, run};
+use crate::texts::fault_bytes;
 use crate::{Counts, Outcome, RunFault};
-use pig_outside::{Console, Depot, Host};
-use pig_value::{KeptList, Words};
+use pig_check::a_script_has_one_plan;
+use pig_outside::{Console, Depot, Host, OutsideError};
+use pig_value::{Blob, KeptList, Words};
 use std::alloc::Global;
 use std::thread::Threads;
 
-/// Reads the words and the script, and runs it.
-fn run<D: Depot, H: Host>(
-    alloc: Global,
-    words: &Words,
-    hosts: u32,
-    depot: &mut D,
-    host: &mut H,
-) -> Result<Counts, RunFault>
-    requires some_hosts { 1 ≤ hosts }
-    requires few_hosts { hosts ≤ 256 }
-    requires tells { TellsOf (D.shelf depot.old) (H.inputs host.old) }
-    ensures told { ForSome (D.shelf depot.old)
-        (λ s. IsTold (record { hosts = hosts; words = words.now }) s (H.inputs host.old)
-        (D.shelf depot.new) result) }
-    ensures fault { IfErr result (λ f. (f ≡ fault.Usage) ⊎ IsPlanFault f ⊎ IsRunEnd f) }
-    ensures words { MatchResult result (λ _. HasWords (record { hosts = hosts; words = words.now }))
-        (SaysWords (record { hosts = hosts; words = words.now })) }
-    ensures depot { DepotCause (D.faults depot.old) (D.faults depot.new) result }
-    ensures stores { StoreCause (D.store_faults depot.old) (D.store_faults depot.new) result }
-    ensures asked { ForSome (D.shelf depot.old)
-        (λ s. IfOk result (λ _. RunAsked (record { hosts = hosts; words = words.now }) s
-        (D.calls depot.old) (D.calls depot.new))) }
-    ensures host { HostCause (H.faults host.old) (H.faults host.new) result }
+/// The text of want of memory, which takes none.
+const NO_MEMORY: &str = "pig: out of memory\n";
+
+/// Prints the text of what was found, and answers what it then is.
+fn show<C: Console>(console: &mut C, text: &[u8], found: Option<RunFault>) -> Option<RunFault>
+    ensures shown { Shown text.now (record { text = C.text console.old; faults = C.faults console.old })
+        (record { text = C.text console.new; faults = C.faults console.new }) found result }
+    ensures later { C.faults console.old ≤ C.faults console.new }
 {
-    let plan = prepare(alloc, words, hosts, depot)?;
-    perform(alloc, depot, host, &plan)
+    match console.write(text) {
+        Ok(()) => found,
+        Err(OutsideError::Failed) => Some(unshown(found)),
+        Err(OutsideError::OutOfMemory) => Some(RunFault::OutOfMemory),
+    }
+}
+
+/// The answer where the console failed.
+fn unshown(found: Option<RunFault>) -> RunFault
+    ensures { result ≡ unshown found }
+{
+    match found {
+        Some(fault) => fault,
+        None => RunFault::ConsoleFault,
+    }
+}
+
+/// Prints the text of a fault, and answers what it then is.
+fn show_fault<C: Console>(alloc: Global, console: &mut C, fault: RunFault) -> Option<RunFault>
+    ensures shown { Shown (fault_text fault)
+        (record { text = C.text console.old; faults = C.faults console.old })
+        (record { text = C.text console.new; faults = C.faults console.new }) (Some fault) result }
+    ensures later { C.faults console.old ≤ C.faults console.new }
+{
+    match fault_bytes(alloc, &fault) {
+        Ok(text) => show(console, text.as_slice(), Some(fault)),
+        Err(_) => show(console, NO_MEMORY.as_bytes(), Some(RunFault::OutOfMemory)),
+    }
+}
+
+/// Prints the text of how a run ended, and answers what it then is.
+fn show_end<C: Console>(
+    alloc: Global,
+    console: &mut C,
+    end: Result<Blob, RunFault>,
+) -> Option<RunFault>
+    ensures shown { Shown (end_text end)
+        (record { text = C.text console.old; faults = C.faults console.old })
+        (record { text = C.text console.new; faults = C.faults console.new })
+        (found_in end) result }
+    ensures later { C.faults console.old ≤ C.faults console.new }
+{
+    match end {
+        Ok(text) => show(console, text.as_slice(), None),
+        Err(fault) => show_fault(alloc, console, fault),
+    }
+}
+
+/// The exit status of an answer.
+fn status(fault: &Option<RunFault>) -> u8
+    ensures { result ≡ status_of fault.now }
+{
+    match fault {
+        Some(fault) => fault.status(),
+        None => 0,
+    }
+}
+
+/// The numbers of an answer, by those of the run.
+fn counts_shown(fault: &Option<RunFault>, counts: Counts) -> Counts
+    ensures { result ≡ counts_shown fault.now counts }
+{
+    match fault {
+        None | Some(RunFault::ConsoleFault) => counts,
+        _ => Counts::none(),
+    }
+}
+
+/// What the bare LIMITs kept, where it counts: once all was found, and where memory sufficed or a directory was begun.
+fn kept_shown(alloc: Global, done: bool, progress: Progress) -> KeptList
+    ensures { result ≡ kept_in done progress }
+{
+    if done || progress.begun {
+        let Progress { kept, .. } = progress;
+        return kept;
+    }
+    KeptList::new(alloc)
 }
 
 /// Does what the words say, and answers how it ended.
 ///
-/// `words` are the program's words without its name, as [`read_words`](crate::read_words) takes them; of the verbs `run`
-/// alone is built, and its options have no effect yet. The depot keeps scripts, inputs and outputs; the first host reads.
-/// `rt` and the console are not used yet: no worker is started, and nothing is printed.
+/// `words` are the program's words without its name, as [`read_words`](pig_words::read_words) takes them; of the verbs `run`
+/// alone is built, and its options have no effect yet. The depot keeps scripts, inputs and outputs; the first host reads;
+/// the console is shown one text. `rt` is not used yet: no worker is started.
 pub fn pig_main<R: Threads + Sync, D: Depot, H: Host + Send, C: Console>(
     rt: &R,
     alloc: Global,
@@ -61,15 +126,23 @@ pub fn pig_main<R: Threads + Sync, D: Depot, H: Host + Send, C: Console>(
     requires some_hosts { 1 ≤ length hosts.old.items }
     requires few_hosts { length hosts.old.items ≤ 256 }
     requires hosts_tell { All (λ h. TellsOf (D.shelf depot.old) (H.inputs h)) hosts.old.items }
-    ensures answer { ForSome (D.shelf depot.old) (λ s. (v : Verdict)
-        → IsDue (line_of hosts.old.items words.now) s v → IsAnswer v result.fault) }
-    ensures done { ForSome (D.shelf depot.old) (λ s. (form : FirstForm) (pieces : List (List ℕ))
-        → IsDue (line_of hosts.old.items words.now) s (Runs form pieces)
-        → All (λ h. Tells (H.inputs h)) hosts.old.items → result.fault ≡ None
-        → IsRun form pieces (D.shelf depot.old) (D.shelf depot.new) result.counts) }
-    ensures state { ForSome (D.shelf depot.old) (λ s. (v : Verdict)
-        → IsDue (line_of hosts.old.items words.now) s v
-        → IfSome result.fault (λ f. Leaves f v (D.shelf depot.old) (D.shelf depot.new))) }
+    ensures told { ForSome (D.shelf depot.old) (λ s. Told (line_of hosts.old.items words.now) s
+        (FirstTells H.inputs hosts.old.items)
+        (record {
+          shelf = D.shelf depot.old;
+          calls = D.calls depot.old;
+          depot_faults = D.faults depot.old;
+          host_faults = first_of H.faults hosts.old.items;
+          console = record { text = C.text console.old; faults = C.faults console.old };
+        })
+        (record {
+          shelf = D.shelf depot.new;
+          calls = D.calls depot.new;
+          depot_faults = D.faults depot.new;
+          host_faults = first_of H.faults hosts.new.items;
+          console = record { text = C.text console.new; faults = C.faults console.new };
+        })
+        result) }
     ensures usage { result.fault ≡ Some fault.Usage
         → ¬ HasWords (line_of hosts.old.items words.now) }
     ensures off_words { ¬ HasWords (line_of hosts.old.items words.now)
@@ -80,46 +153,43 @@ pub fn pig_main<R: Threads + Sync, D: Depot, H: Host + Send, C: Console>(
         → D.store_faults depot.old < D.store_faults depot.new }
     ensures lookup_fault { result.fault ≡ Some (fault.DepotFault None)
         → D.store_faults depot.new ≡ D.store_faults depot.old }
-    ensures store { ForSome (D.shelf depot.old) (λ s. (form : FirstForm) (pieces : List (List ℕ))
-        → IsDue (line_of hosts.old.items words.now) s (Runs form pieces)
-        → (store : ℕ) → result.fault ≡ Some (fault.DepotFault (Some store)) → store ≡ form.store) }
     ensures host_fault { result.fault ≡ Some fault.HostFault
         → first_of H.faults hosts.old.items < first_of H.faults hosts.new.items }
-    ensures complete { ForSome (D.shelf depot.old) (λ s. (form : FirstForm) (pieces : List (List ℕ))
-        → IsDue (line_of hosts.old.items words.now) s (Runs form pieces)
-        → ¬ (D.faults depot.old < D.faults depot.new)
-        → ¬ (first_of H.faults hosts.old.items < first_of H.faults hosts.new.items)
-        → (result.fault ≡ None) ⊎ (result.fault ≡ Some fault.OutOfMemory)) }
-    ensures asked { ForSome (D.shelf depot.old) (λ s. (form : FirstForm) (pieces : List (List ℕ))
-        → IsDue (line_of hosts.old.items words.now) s (Runs form pieces)
-        → result.fault ≡ None → AskedFor (line_of hosts.old.items words.now)
-        (λ path. run_calls path form) (D.calls depot.old) (D.calls depot.new)) }
+    ensures console_fault { result.fault ≡ Some fault.ConsoleFault
+        → C.faults console.old < C.faults console.new }
+    ensures console_failed { C.faults console.old < C.faults console.new
+        → ¬ (result.fault ≡ None) }
+    ensures counts_stand { (D.faults depot.old ≤ D.faults depot.new)
+        × (first_of H.faults hosts.old.items ≤ first_of H.faults hosts.new.items)
+        × (C.faults console.old ≤ C.faults console.new) }
+    ensures hosts { (map H.inputs hosts.new.items ≡ map H.inputs hosts.old.items)
+        × (drop 1 hosts.new.items ≡ drop 1 hosts.old.items) }
     ensures status { result.status ≡ status_of result.fault }
-    ensures kept { result.kept ≡ [] }
-    ensures counts { IfSome result.fault (λ _. result.counts ≡ no_counts) }
-    ensures console { (C.text console.new ≡ C.text console.old)
-        × (C.faults console.new ≡ C.faults console.old) }
 {
-    let count = hosts.len() as u32;
-    match run(alloc, words, count, depot, &mut hosts[0]) {
-        Ok(counts) => Outcome {
-            status: 0,
-            fault: None,
-            kept: KeptList::new(alloc),
-            counts,
-        },
-        Err(fault) => Outcome {
-            status: fault.status(),
-            fault: Some(fault),
-            kept: KeptList::new(alloc),
-            counts: Counts::none(),
-        },
+    let line = CommandLine {
+        words,
+        hosts: hosts.len() as u32,
+    };
+    let mut progress = Progress::new(alloc);
+    let end = run(alloc, &line, depot, &mut hosts[0], &mut progress);
+    let done = end.is_ok();
+    let fault = show_end(alloc, console, end);
+    let counts = counts_shown(&fault, counts_of(&progress));
+    Outcome {
+        status: status(&fault),
+        fault,
+        kept: kept_shown(alloc, done, progress),
+        counts,
     }
 }
 
-/// Exactly one thing is due of the same words, number of hosts and shelf.
+/// Exactly one thing is due of the same words, number of hosts and shelf: a refusal, which names its statement where one has
+/// no typing, or the run of a plan; and for it the depot is asked one list of calls.
 pub fn one_verdict()
-    ensures some { (line : CommandLine) (shelf : Shelf) → (v : Verdict) × IsDue line shelf v }
-    ensures one { (line : CommandLine) (shelf : Shelf) (v w : Verdict) → IsDue line shelf v
-        → IsDue line shelf w → v ≡ w }
-{}
+    ensures some { (line : Line) (shelf : Shelf) → (calls : List DepotCall) × (verdict : Verdict)
+        × IsDue line shelf calls verdict }
+    ensures one { (line : Line) (shelf : Shelf) (calls others : List DepotCall) (v w : Verdict)
+        → IsDue line shelf calls v → IsDue line shelf others w → (v ≡ w) × (calls ≡ others) }
+{
+    a_script_has_one_plan();
+}

@@ -1,12 +1,14 @@
-use Rattle.std.proofs.Common.{rules, ◌≤◌, ◌^◌, length, inl}
+use Rattle.std.proofs.Common.{rules, refl, ◌≤◌, ◌^◌, length, inl}
+use Rattle.pig_run.specs.declared.outcome.TooLarge.TheVariants as large
 use Rattle.pig_run.specs.Reading.{IsFound, IsLexed, too_long, short}
+use Rattle.pig_run.specs.Refusals.{too_large}
 use Rattle.pig_run.proofs.ReadingSteps.{tells_weaker}
 use Rattle.pig_run.proofs.reading.read_script.Goals as goal
 
-pub returns-then-script-gt-MOST_SCRIPT : goal.returns-then-script-gt-MOST_SCRIPT
-returns-then-script-gt-MOST_SCRIPT c = inl (too_long (search rules))
+pub returns-then-script-gt-MOST_SCRIPT-clause-told : goal.returns-then-script-gt-MOST_SCRIPT-clause-told
+returns-then-script-gt-MOST_SCRIPT-clause-told c = inl (too_large large.Script, too_long (search rules), refl)
 
-pub returns : goal.returns
-returns c =
+pub returns-clause-told : goal.returns-clause-told
+returns-clause-told c =
     let few : length c.args.script.now ≤ 2 ^ 20 = search rules in
-    tells_weaker (IsLexed c.args.script.now) (IsFound c.args.script.now) (λ v h. short few h) c.form_of_script.result c.form_of_script.ensures
+    tells_weaker (IsLexed c.args.script.now) (IsFound c.args.script.now) (λ v h. short few h) c.plan_of_script.result c.plan_of_script.ensures.told

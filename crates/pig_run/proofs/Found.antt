@@ -1,0 +1,167 @@
+-- What a plan means over the inputs that were read is what it means over all that are told, and it is what the STOREs store.
+use Rattle.std.proofs.Common.{◌≡◌, ◌<◌, ◌+◌, ◌%◌, ◌^◌, ◌||◌, ◌==◌, ℕ, zero, suc, Bool, true, false, List, [], ◌∷◌, length, map, Option, Some, None, slice_get, drop, refl, sym, ◌∙◌, ap, subst, arith, inl, inr, cond}
+use Rattle.std.specs.List.{AllByRecursion, cons_option, filter_map, find, list_any}
+use Rattle.std.specs.Option.{option_map, option_map_or, unwrap_or}
+use Rattle.std.specs.Str.{bytes_eq}
+use Rattle.std.proofs.lemmas.Bool.{cases_Bool}
+use Rattle.std.proofs.lemmas.Bool.Decides.{Decides-eqb}
+use Rattle.std.proofs.lemmas.List.{length-map}
+use Rattle.std.proofs.lemmas.Slice.Eq.{bytes_eq-Decides}
+use Rattle.pig_value.specs.declared.inputs.Input.{Input}
+use Rattle.pig_value.specs.declared.outcomes.Kept.{Kept}
+use Rattle.pig_value.specs.Orders.{bag_of}
+use Rattle.pig_value.specs.Trees.{Tree, row_tree, rows_tree}
+use Rattle.pig_outside.specs.Shelf.{pieces_of as pieces_told}
+use Rattle.pig_plan.specs.Nodes.{is_list, is_live, is_store, is_used}
+use Rattle.pig_plan.specs.Operators.{pieces_of}
+use Rattle.pig_plan.specs.Plans.{Plan, PlanNode, PlanOp, p_load, p_filter, p_foreach, p_group_all, p_group, p_join, p_union, p_distinct, p_order, p_limit, p_store, p_assert, p_rank}
+use Rattle.pig_plan.specs.Meaning.{meaning}
+use Rattle.pig_plan.specs.Valid.{IsPlan}
+use Rattle.pig_plan.proofs.Lower.{names_lower}
+use Rattle.pig_plain.specs.Answering.{AnswersFor, EachAnswers, IsAnswer, stored_of, stored_relations}
+use Rattle.pig_reach.specs.Paths.{is_among}
+use Rattle.pig_reach.specs.Reach.{lines_read, live_paths, store_of, stores_of}
+use Rattle.pig_reach.specs.declared.storing.Store.{Store}
+use Rattle.pig_reach.proofs.Enough.{Agree, kept_agrees, lines_agree, meanings_agree, named_lives}
+use Rattle.pig_run.specs.Outputs.{AreOutputsOf, IsOutputOf}
+use Rattle.pig_run.specs.Running.{Relation, inputs_at, output_of, outputs_of}
+
+true_not_false : {A : Type 0} → true ≡ false → A
+true_not_false e = absurd (cc)
+
+-- ---- the inputs that were read
+
+piece_lists : {X : Type 0} (f : X → List (List ℕ)) (o : Option X) → unwrap_or (option_map f o) [] ≡ option_map_or f o []
+piece_lists f None = refl
+piece_lists f (Some x) = refl
+
+found_at : (i : List Input) (paths : List (List ℕ)) (path : List ℕ) → is_among path paths ≡ true → pieces_of (inputs_at i paths) path ≡ pieces_of i path
+found_at i [] path among = true_not_false (sym among)
+found_at i (p ∷ paths) path among = elim (cases_Bool (bytes_eq p path)) [
+  | inl same ↦
+      ap (λ b. option_map_or (λ input. input.pieces) (cond b (Some (record { path = p; pieces = unwrap_or (pieces_told p i) [] })) (find (λ input. bytes_eq input.path path) (inputs_at i paths))) []) same
+      ∙ ap (λ q. unwrap_or (pieces_told q i) []) ((bytes_eq-Decides p path).0 same)
+      ∙ piece_lists (λ input. input.pieces) (find (λ x. bytes_eq x.path path) i)
+  | inr other ↦
+      let turned : bytes_eq path p ≡ false = turn (bytes_eq path p) refl other in
+      ap (λ b. option_map_or (λ input. input.pieces) (cond b (Some (record { path = p; pieces = unwrap_or (pieces_told p i) [] })) (find (λ input. bytes_eq input.path path) (inputs_at i paths))) []) other
+      ∙ found_at i paths path (sym (ap (λ b. b || is_among path paths) turned) ∙ among)
+]
+  where
+    turn : (b : Bool) → bytes_eq path p ≡ b → bytes_eq p path ≡ false → b ≡ false
+    turn true e h = true_not_false (sym ((bytes_eq-Decides p path).1 (sym ((bytes_eq-Decides path p).0 e))) ∙ h)
+    turn false e h = refl
+
+agrees : (plan : Plan) (i : List Input) → Agree plan (inputs_at i (live_paths plan)) i
+agrees plan i = record { same = λ path among. found_at i (live_paths plan) path among }
+
+-- ---- relations that are stored
+
+stored_names : (o : PlanOp) (k : ℕ) → stored_of o ≡ Some k → (path : List ℕ) × (delim : ℕ) × (o ≡ p_store k path delim)
+stored_names (p_store input path delim) k h = let same : input ≡ k = cc in (path, delim, ap (λ n. p_store n path delim) same)
+stored_names (p_load path delim columns) k h = absurd (cc)
+stored_names (p_filter input test) k h = absurd (cc)
+stored_names (p_foreach input block) k h = absurd (cc)
+stored_names (p_group_all input) k h = absurd (cc)
+stored_names (p_group keyed) k h = absurd (cc)
+stored_names (p_join keyed side replicated) k h = absurd (cc)
+stored_names (p_union numbers) k h = absurd (cc)
+stored_names (p_distinct input) k h = absurd (cc)
+stored_names (p_order input keys) k h = absurd (cc)
+stored_names (p_limit input count) k h = absurd (cc)
+stored_names (p_assert input test message) k h = absurd (cc)
+stored_names (p_rank input keys dense) k h = absurd (cc)
+
+module _ (plan : Plan) (valid : IsPlan plan) where
+  store_lives : (n k : ℕ) (path : List ℕ) (delim statement : ℕ) → slice_get plan n ≡ Some (record { op = p_store k path delim; statement = statement }) → is_live plan k ≡ true
+  store_lives n k path delim statement at =
+      let node = record { op = p_store k path delim; statement = statement } in
+      let lives : is_live plan n ≡ true = ap (λ o. option_map_or (λ node. is_store node.op || is_used n (n + 1) (drop (n + 1) plan)) o false) at in
+      named_lives plan n node at lives k (names_lower plan valid n node at).0 (ap (λ b. b || false) ((Decides-eqb k k).1 refl))
+
+  each_lives : (n : ℕ) (nodes : Plan) → ((m : ℕ) (v : PlanNode) → slice_get nodes m ≡ Some v → slice_get plan (n + m) ≡ Some v)
+      → AllByRecursion (λ k. is_live plan k ≡ true) (filter_map (λ node. stored_of node.op) nodes)
+  each_lives n [] h = tt
+  each_lives n (node ∷ nodes) h =
+      by_stored (stored_of node.op) refl
+      (each_lives (n + 1) nodes (λ m v at. let e : n + suc m ≡ n + 1 + m = omega arith in ap (slice_get plan) (sym e) ∙ h (suc m) v at))
+    where
+      by_stored : (o : Option ℕ) → stored_of node.op ≡ o → AllByRecursion (λ k. is_live plan k ≡ true) (filter_map (λ node. stored_of node.op) nodes)
+          → AllByRecursion (λ k. is_live plan k ≡ true) (cons_option o (filter_map (λ node. stored_of node.op) nodes))
+      by_stored None e rest = rest
+      by_stored (Some k) e rest =
+          let is = stored_names node.op k e in
+          let here : slice_get plan n ≡ Some node = let z : n + 0 ≡ n = omega arith in ap (slice_get plan) (sym z) ∙ h zero node refl in
+          (store_lives n k is.0 is.1.0 node.statement (here ∙ ap (λ o. Some (record { op = o; statement = node.statement })) is.1.1), rest)
+
+  pub relations_live : AllByRecursion (λ k. is_live plan k ≡ true) (stored_relations plan)
+  relations_live = each_lives 0 plan (λ m v at. let z : 0 + m ≡ m = omega arith in ap (slice_get plan) z ∙ at)
+
+  module _ (i : List Input) (kept : List Kept) where
+    each_answers : (ns : List ℕ) (rows : List (List (List Tree))) → AllByRecursion (λ k. is_live plan k ≡ true) ns
+        → EachAnswers plan (inputs_at i (live_paths plan)) kept ns rows → EachAnswers plan i kept ns rows
+    each_answers [] [] live h = tt
+    each_answers [] (r ∷ rows) live h = h
+    each_answers (n ∷ ns) [] live h = h
+    each_answers (n ∷ ns) (r ∷ rows) live h =
+        let same = meanings_agree plan valid (inputs_at i (live_paths plan)) i (agrees plan i) kept n live.0 in (
+          record { bag = h.0.bag ∙ ap bag_of same; list = λ listed. h.0.list listed ∙ same },
+          each_answers ns rows live.1 h.1,
+        )
+
+    pub answer_told : (rows : List (List (List Tree))) → IsAnswer plan (inputs_at i (live_paths plan)) kept rows → IsAnswer plan i kept rows
+    answer_told rows h = record {
+      kept = kept_agrees plan valid (inputs_at i (live_paths plan)) i (agrees plan i) kept h.kept;
+      stores = each_answers (stored_relations plan) rows relations_live h.stores;
+    }
+
+  pub lines_told : (i : List Input) → lines_read plan (inputs_at i (live_paths plan)) ≡ lines_read plan i
+  lines_told i = lines_agree plan valid (inputs_at i (live_paths plan)) i (agrees plan i)
+
+-- ---- what the STOREs store
+
+relation_of : (node : PlanNode) → option_map (λ store. store.relation) (store_of node) ≡ stored_of node.op
+relation_of node = by_op node.op
+  where
+    by_op : (o : PlanOp) → option_map (λ store. store.relation) (store_of (record { op = o; statement = node.statement })) ≡ stored_of o
+    by_op (p_store input path delim) = refl
+    by_op (p_load path delim columns) = refl
+    by_op (p_filter input test) = refl
+    by_op (p_foreach input block) = refl
+    by_op (p_group_all input) = refl
+    by_op (p_group keyed) = refl
+    by_op (p_join keyed side replicated) = refl
+    by_op (p_union numbers) = refl
+    by_op (p_distinct input) = refl
+    by_op (p_order input keys) = refl
+    by_op (p_limit input count) = refl
+    by_op (p_assert input test message) = refl
+    by_op (p_rank input keys dense) = refl
+
+pub relations_are : (plan : Plan) → stored_relations plan ≡ map (λ store. store.relation) (stores_of plan)
+relations_are [] = refl
+relations_are (node ∷ plan) =
+    ap (λ ns. cons_option (stored_of node.op) ns) (relations_are plan)
+    ∙ ap (λ o. cons_option o (map (λ store. store.relation) (stores_of plan))) (sym (relation_of node))
+    ∙ mapped (store_of node) (stores_of plan)
+  where
+    mapped : (o : Option Store) (stores : List Store) → cons_option (option_map (λ store. store.relation) o) (map (λ store. store.relation) stores) ≡ map (λ store. store.relation) (cons_option o stores)
+    mapped None stores = refl
+    mapped (Some store) stores = refl
+
+pub outputs_are : (plan : Plan) (i : List Input) (kept : List Kept) (stores : List Store) (relations : List Relation)
+    → EachAnswers plan i kept (map (λ store. store.relation) stores) (map rows_tree relations) → AreOutputsOf plan i kept stores (outputs_of stores relations)
+outputs_are plan i kept [] [] h = tt
+outputs_are plan i kept [] (r ∷ relations) h = absurd h
+outputs_are plan i kept (store ∷ stores) [] h = absurd h
+outputs_are plan i kept (store ∷ stores) (r ∷ relations) h = (
+  record { rows = rows_tree r; answer = h.0; bytes = refl; lines = sym (length-map r row_tree) },
+  outputs_are plan i kept stores relations h.1,
+)
+
+-- as many relations as STOREs
+pub as_many : (plan : Plan) (i : List Input) (kept : List Kept) (ns : List ℕ) (rows : List (List (List Tree))) → EachAnswers plan i kept ns rows → length rows ≡ length ns
+as_many plan i kept [] [] h = refl
+as_many plan i kept [] (r ∷ rows) h = absurd h
+as_many plan i kept (n ∷ ns) [] h = absurd h
+as_many plan i kept (n ∷ ns) (r ∷ rows) h = ap suc (as_many plan i kept ns rows h.1)

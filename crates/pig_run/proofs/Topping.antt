@@ -1,0 +1,195 @@
+-- From a run, and from what the console made of its text, to what the top call says.
+use Rattle.std.proofs.Common.{◌≡◌, ◌<◌, ◌≤◌, ℕ, List, [], ◌∷◌, length, map, drop, get_or, Option, Some, None, Result, Ok, Err, MatchResult, IfErr, IsErrOf, refl, sym, ◌∙◌, ap, subst, arith, inl, inr, ◌⊎◌}
+use Rattle.pig_value.specs.declared.inputs.Input.{Input}
+use Rattle.pig_outside.specs.Shelf.{Shelf}
+use Rattle.pig_run.specs.declared.outcome.Counts.{Counts}
+use Rattle.pig_run.specs.declared.outcome.Outcome.{Outcome}
+use Rattle.pig_run.specs.declared.outcome.RunFault.{RunFault}
+use Rattle.pig_run.specs.declared.outcome.RunFault.TheVariants as fault
+use Rattle.pig_run.specs.declared.progress.Progress.{Progress}
+use Rattle.pig_run.specs.Due.{HasWords, Line}
+use Rattle.pig_run.specs.Ends.{Console, Ends, Fails, Shown, counts_shown, cut_short, done, failed, host_failed, lookup_failed, no_memory, no_memory_at, no_memory_behind, no_text, no_text_cut, no_text_failed, printed, refused, store_failed, unshown}
+use Rattle.pig_run.specs.Outputs.{Left}
+use Rattle.pig_run.specs.Reading.{Verdict, Refuses, Runs}
+use Rattle.pig_run.specs.Refusals.{Cause, by_depot, by_host, cause_of}
+use Rattle.pig_run.specs.Running.{RunEnd, counts_in, end_text, found_in, is_done, kept_in}
+use Rattle.pig_run.specs.Steps.{DepotCause, HostCause, IsNotUsage, SaysWords, StoreCause}
+use Rattle.pig_run.specs.Texts.{answer_text}
+use Rattle.pig_run.specs.Told.{IsCaused, IsRight, Seen, SomeFailed, Told}
+
+-- ---- faults by their causes
+
+depot_of : (f : RunFault) (store : Option ℕ) → cause_of f ≡ by_depot store → f ≡ fault.DepotFault store
+depot_of fault.Usage store e = absurd (cc)
+depot_of fault.NoScript store e = absurd (cc)
+depot_of (fault.Lex offset) store e = absurd (cc)
+depot_of (fault.Syntax n) store e = absurd (cc)
+depot_of (fault.Check n kind) store e = absurd (cc)
+depot_of (fault.NoInput path) store e = absurd (cc)
+depot_of (fault.OutputExists dir) store e = absurd (cc)
+depot_of (fault.DepotFault other) store e = let same : other ≡ store = cc in ap fault.DepotFault same
+depot_of fault.HostFault store e = absurd (cc)
+depot_of fault.OutOfMemory store e = absurd (cc)
+depot_of fault.ConsoleFault store e = absurd (cc)
+depot_of (fault.TooLarge which) store e = absurd (cc)
+
+host_of : (f : RunFault) → cause_of f ≡ by_host → f ≡ fault.HostFault
+host_of fault.Usage e = absurd (cc)
+host_of fault.NoScript e = absurd (cc)
+host_of (fault.Lex offset) e = absurd (cc)
+host_of (fault.Syntax n) e = absurd (cc)
+host_of (fault.Check n kind) e = absurd (cc)
+host_of (fault.NoInput path) e = absurd (cc)
+host_of (fault.OutputExists dir) e = absurd (cc)
+host_of (fault.DepotFault other) e = absurd (cc)
+host_of fault.HostFault e = refl
+host_of fault.OutOfMemory e = absurd (cc)
+host_of fault.ConsoleFault e = absurd (cc)
+host_of (fault.TooLarge which) e = absurd (cc)
+
+caused : (old new : Seen) (result : Result (List ℕ) RunFault) → DepotCause old.depot_faults new.depot_faults result → HostCause old.host_faults new.host_faults result
+    → IsCaused (found_in result) old new
+caused old new (Ok text) depot host = tt
+caused old new (Err f) depot host = (
+  λ store is. depot.failed store (ap Err (depot_of f store is)),
+  λ is. host.failed (ap Err (host_of f is)),
+)
+
+-- ---- what is right
+
+found_right : (tells : Type 0) (s : Shelf) (left : Left) (old new : Seen) (v : Verdict) (found : Option RunFault) → Ends tells s left v found → IsCaused found old new → ¬ SomeFailed old new
+    → IsRight v found ⊎ (found ≡ Some fault.OutOfMemory)
+found_right tells s left old new _ _ (refused names is) cause sound = inl names
+found_right tells s left old new v _ (lookup_failed is) cause sound = absurd (sound (inl (cause.0 None refl)))
+found_right tells s left old new _ _ (host_failed is) cause sound = absurd (sound (inr (inl (cause.1 refl))))
+found_right tells s left old new _ _ (store_failed {n = n} is) cause sound = absurd (sound (inl (cause.0 (Some n) refl)))
+found_right tells s left old new _ _ (done is) cause sound = inl refl
+found_right tells s left old new v _ (no_memory is) cause sound = inr refl
+found_right tells s left old new _ _ (no_memory_at is) cause sound = inr refl
+found_right tells s left old new _ _ (no_memory_behind is) cause sound = inr refl
+
+shown_right : (v : Verdict) (text : List ℕ) (old new : Seen) (found final : Option RunFault) → Shown text old.console new.console found final → ¬ SomeFailed old new
+    → IsRight v found ⊎ (found ≡ Some fault.OutOfMemory) → IsRight v final ⊎ (final ≡ Some fault.OutOfMemory)
+shown_right v text old new found _ (printed sound is) none right = right
+shown_right v text old new found _ (failed fails is) none right = absurd (none (inr (inr fails)))
+shown_right v text old new found _ (cut_short sound is) none right = inr refl
+shown_right v text old new found _ (no_text sound is) none right = inr refl
+shown_right v text old new found _ (no_text_failed fails is) none right = inr refl
+shown_right v text old new found _ (no_text_cut sound is) none right = inr refl
+
+text_is : (line : Line) (s : Shelf) (tells : Type 0) (old new : Seen) (progress : Progress) (result : Result (List ℕ) RunFault) (r : RunEnd line s tells old.calls new.calls new.shelf progress result)
+    → end_text result ≡ answer_text r.outs (counts_in progress) (found_in result)
+text_is line s tells old new progress (Ok text) r = r.text
+text_is line s tells old new progress (Err f) r = refl
+
+pub told_all : (line : Line) (s : Shelf) (tells : Type 0) (old new : Seen) (outcome : Outcome) (progress : Progress) (result : Result (List ℕ) RunFault)
+    → RunEnd line s tells old.calls new.calls new.shelf progress result
+    → Shown (end_text result) old.console new.console (found_in result) outcome.fault → outcome.kept ≡ kept_in (is_done result) progress
+    → outcome.counts ≡ counts_shown outcome.fault (counts_in progress) → DepotCause old.depot_faults new.depot_faults result → HostCause old.host_faults new.host_faults result
+    → Told line s tells old new outcome
+told_all line s tells old new outcome progress result r shown kept counts depot host =
+    let cause = caused old new result depot host in
+    record {
+      verdict = r.verdict;
+      calls = r.calls;
+      due = r.due;
+      found = found_in result;
+      outs = r.outs;
+      counts = counts_in progress;
+      state = subst (λ k. Ends tells s (record { outs = r.outs; kept = k; shelf = new.shelf }) r.verdict (found_in result)) (sym kept) r.state;
+      cause = cause;
+      asked = r.asked;
+      numbers = r.numbers;
+      text = subst (λ t. Shown t old.console new.console (found_in result) outcome.fault) (text_is line s tells old new progress result r) shown;
+      counted = counts;
+      complete = λ none. shown_right r.verdict (end_text result) old new (found_in result) outcome.fault shown none
+          (found_right tells s (record { outs = r.outs; kept = kept_in (is_done result) progress; shelf = new.shelf }) old new r.verdict (found_in result) r.state cause none);
+    }
+
+-- ---- the causes of what is answered
+
+just : {A : Type 0} {x y : A} → Some x ≡ Some y → x ≡ y
+just e = cc
+
+-- an answer is want of memory, that of the console, or what was found
+pub answered : (text : List ℕ) (old new : Console) (found final : Option RunFault) → Shown text old new found final → (f : RunFault) → final ≡ Some f
+    → (f ≡ fault.OutOfMemory) ⊎ ((f ≡ fault.ConsoleFault) × Fails old new) ⊎ (found ≡ Some f)
+answered text old new found _ (printed sound is) f e = inr (inr e)
+answered text old new None _ (failed fails is) f e = inr (inl (sym (just e), fails))
+answered text old new (Some g) _ (failed fails is) f e = inr (inr e)
+answered text old new found _ (cut_short sound is) f e = inl (sym (just e))
+answered text old new found _ (no_text sound is) f e = inl (sym (just e))
+answered text old new found _ (no_text_failed fails is) f e = inl (sym (just e))
+answered text old new found _ (no_text_cut sound is) f e = inl (sym (just e))
+
+found_fault : (result : Result (List ℕ) RunFault) (f : RunFault) → found_in result ≡ Some f → result ≡ Err f
+found_fault (Ok text) f e = absurd (cc)
+found_fault (Err g) f e = ap Err (just e)
+
+pub answers_none : (text : List ℕ) (old new : Console) (found final : Option RunFault) → Shown text old new found final → Fails old new → ¬ (final ≡ None)
+answers_none text old new found _ (printed sound is) fails e = sound fails
+answers_none text old new found _ (failed more is) fails e = absurd (cc)
+answers_none text old new found _ (cut_short sound is) fails e = absurd (cc)
+answers_none text old new found _ (no_text sound is) fails e = absurd (cc)
+answers_none text old new found _ (no_text_failed more is) fails e = absurd (cc)
+answers_none text old new found _ (no_text_cut sound is) fails e = absurd (cc)
+
+-- wrong words, or want of memory, as they are answered
+as_shown : (text : List ℕ) (old new : Console) (found final : Option RunFault) → Shown text old new found final → (f : RunFault) → found ≡ Some f → (f ≡ fault.Usage) ⊎ (f ≡ fault.OutOfMemory)
+    → (final ≡ Some fault.Usage) ⊎ (final ≡ Some fault.OutOfMemory)
+as_shown text old new found _ (printed sound is) f e (inl u) = inl (e ∙ ap Some u)
+as_shown text old new found _ (printed sound is) f e (inr m) = inr (e ∙ ap Some m)
+as_shown text old new found _ (failed fails is) f e (inl u) = inl (ap (λ o. Some (unshown o)) e ∙ ap Some u)
+as_shown text old new found _ (failed fails is) f e (inr m) = inr (ap (λ o. Some (unshown o)) e ∙ ap Some m)
+as_shown text old new found _ (cut_short sound is) f e which = inr refl
+as_shown text old new found _ (no_text sound is) f e which = inr refl
+as_shown text old new found _ (no_text_failed fails is) f e which = inr refl
+as_shown text old new found _ (no_text_cut sound is) f e which = inr refl
+
+module _ (text : List ℕ) (old new : Console) (result : Result (List ℕ) RunFault) (final : Option RunFault) (shown : Shown text old new (found_in result) final) where
+  -- a fault of neither memory nor the console was the run's
+  pub was_found : (f : RunFault) → (f ≡ fault.OutOfMemory → ⊥) → (f ≡ fault.ConsoleFault → ⊥) → final ≡ Some f → result ≡ Err f
+  was_found f memory console is = elim (answered text old new (found_in result) final shown f is) [
+    | inl e ↦ absurd (memory e)
+    | inr (inl e) ↦ absurd (console e.0)
+    | inr (inr e) ↦ found_fault result f e
+  ]
+
+  pub depot_blamed : (before now : ℕ) → DepotCause before now result → (store : Option ℕ) → final ≡ Some (fault.DepotFault store) → before < now
+  depot_blamed before now cause store is = cause.failed store (was_found (fault.DepotFault store) (λ e. absurd (cc)) (λ e. absurd (cc)) is)
+
+  pub store_blamed : (before now : ℕ) → StoreCause before now result → (store : ℕ) → final ≡ Some (fault.DepotFault (Some store)) → before < now
+  store_blamed before now cause store is = cause.store store (was_found (fault.DepotFault (Some store)) (λ e. absurd (cc)) (λ e. absurd (cc)) is)
+
+  pub lookup_blamed : (before now : ℕ) → StoreCause before now result → final ≡ Some (fault.DepotFault None) → now ≡ before
+  lookup_blamed before now cause is = cause.lookup (was_found (fault.DepotFault None) (λ e. absurd (cc)) (λ e. absurd (cc)) is)
+
+  pub host_blamed : (before now : ℕ) → HostCause before now result → final ≡ Some fault.HostFault → before < now
+  host_blamed before now cause is = cause.failed (was_found fault.HostFault (λ e. absurd (cc)) (λ e. absurd (cc)) is)
+
+  pub console_blamed : IfErr result (λ f. f ≡ fault.ConsoleFault → ⊥) → final ≡ Some fault.ConsoleFault → Fails old new
+  console_blamed never is = elim (answered text old new (found_in result) final shown fault.ConsoleFault is) [
+    | inl e ↦ absurd (cc)
+    | inr (inl e) ↦ e.1
+    | inr (inr e) ↦ absurd (subst (λ r. IfErr r (λ f. f ≡ fault.ConsoleFault → ⊥)) (found_fault result fault.ConsoleFault e) never refl)
+  ]
+
+  pub usage_blamed : (line : Line) → MatchResult result (λ _. HasWords line) (SaysWords line) → final ≡ Some fault.Usage → ¬ HasWords line
+  usage_blamed line words is =
+      by_words (subst (λ r. MatchResult r (λ _. HasWords line) (SaysWords line)) (was_found fault.Usage (λ e. absurd (cc)) (λ e. absurd (cc)) is) words)
+    where
+      by_words : SaysWords line fault.Usage → ¬ HasWords line
+      by_words (inl h) = h.1
+      by_words (inr h) = absurd h.0
+
+  pub off_words : (line : Line) → MatchResult result (λ _. HasWords line) (SaysWords line) → ¬ HasWords line → (final ≡ Some fault.Usage) ⊎ (final ≡ Some fault.OutOfMemory)
+  off_words line words none = by_result result refl words
+    where
+      by_shown : (f : RunFault) → found_in result ≡ Some f → (f ≡ fault.Usage) ⊎ (f ≡ fault.OutOfMemory) → (final ≡ Some fault.Usage) ⊎ (final ≡ Some fault.OutOfMemory)
+      by_shown f e which = as_shown text old new (found_in result) final shown f e which
+
+      by_result : (r : Result (List ℕ) RunFault) → r ≡ result → MatchResult r (λ _. HasWords line) (SaysWords line) → (final ≡ Some fault.Usage) ⊎ (final ≡ Some fault.OutOfMemory)
+      by_result (Ok t) e h = absurd (none h)
+      by_result (Err f) e (inl h) = by_shown f (ap found_in (sym e)) (inl h.0)
+      by_result (Err f) e (inr (h, inl words)) = absurd (none words)
+      by_result (Err f) e (inr (h, inr wants)) = by_shown f (ap found_in (sym e)) (inr wants)

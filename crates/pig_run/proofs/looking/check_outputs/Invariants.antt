@@ -1,0 +1,19 @@
+use Rattle.std.proofs.Common.{◌≡◌, ◌≤◌, List, ℕ, Some, map, take}
+use Rattle.std.specs.List.{AllByRecursion}
+use Rattle.pig_outside.specs.Shelf.{Shelf, has_dir}
+use Rattle.pig_outside.specs.declared.failing.Method.TheVariants as method
+use Rattle.pig_plan.specs.Plans.{PlanNode}
+use Rattle.pig_run.specs.Due.{RunDue}
+use Rattle.pig_run.specs.Looking.{IsAbsentIn}
+use Rattle.pig_run.specs.Refusals.{output_there}
+use Rattle.pig_run.proofs.LookUps.{LookedAt}
+use Rattle.pig_run.proofs.looking.check_outputs.Given as goal
+
+abbrev pub invariant-loop-place : goal.invariant-loop-place
+invariant-loop-place g l =
+    (g.D.Depot.shelf l.depot ≡ g.D.Depot.shelf l.fn.depot)
+    × (g.D.Depot.faults l.fn.depot ≤ g.D.Depot.faults l.depot)
+    × (g.D.Depot.store_faults l.depot ≡ g.D.Depot.store_faults l.fn.depot)
+    × ((s : Shelf) → g.D.Depot.shelf l.fn.depot ≡ Some s → (plan : List PlanNode)
+    → LookedAt (λ dir. has_dir dir s) output_there method.Exists (map (λ store. store.dir) l.stores) (RunDue plan) l.place (g.D.Depot.calls l.fn.depot) (g.D.Depot.calls l.depot)
+    × AllByRecursion (IsAbsentIn s) (take l.place l.stores))

@@ -1,0 +1,36 @@
+use Rattle.std.proofs.Common.{rules, refl, ◌≡◌, ◌⊎◌, None, MatchResult}
+use Rattle.std.proofs.lemmas.Result.{MatchResult-weaker}
+use Rattle.pig_outside.specs.Shelf.{script_of}
+use Rattle.pig_plan.specs.Plans.{plan_of}
+use Rattle.pig_run.specs.declared.outcome.RunFault.TheVariants as fault
+use Rattle.pig_run.specs.Due.{InputsDue, ScriptDue}
+use Rattle.pig_run.specs.Looking.{IsRead}
+use Rattle.pig_run.specs.Steps.{IsLookFault, Passes}
+use Rattle.pig_run.proofs.Readings.{PlanLaws}
+use Rattle.pig_run.proofs.Scripts.{read_cause, read_fault, script_step, script_stops}
+use Rattle.pig_run.proofs.looking.load_plan.Goals as goal
+
+pub returns-in_err-script-clause-told : goal.returns-in_err-script-clause-told
+returns-in_err-script-clause-told g c s told =
+    let law = c.a_script_has_one_plan.ensures in
+    let laws : PlanLaws = record { one = law.one; some = law.some; never_both = law.never_both; one_statement = law.one_statement } in
+    let path = c.args.path.now in
+    let old = g.D.Depot.calls c.args.depot.now in
+    let new = g.D.Depot.calls c.script_bytes.new.depot in
+    let refused : MatchResult c.from_residual.result (λ plan. Passes (ScriptDue c.args.path.now s) (InputsDue (plan_of plan) s) (g.D.Depot.calls c.args.depot.now) (g.D.Depot.calls c.script_bytes.new.depot))
+    (λ f. ((f ≡ fault.NoScript) × (script_of c.args.path.now s ≡ None)) ⊎ IsLookFault f) = search rules in
+    MatchResult-weaker c.from_residual.result refused (λ plan h. h) (λ f h. script_stops laws path s old new c.script_bytes.ensures.asked f h)
+
+pub returns-clause-told : goal.returns-clause-told
+returns-clause-told g c s told =
+    let law = c.a_script_has_one_plan.ensures in
+    let laws : PlanLaws = record { one = law.one; some = law.some; never_both = law.never_both; one_statement = law.one_statement } in
+    let read : IsRead 1048576 (script_of c.args.path.now s) c.as_slice.result.now = search rules in
+    script_step laws c.args.path.now s (g.D.Depot.calls c.args.depot.now) (g.D.Depot.calls c.script_bytes.new.depot) c.script_bytes.ensures.asked 1048576 refl
+    c.as_slice.result.now read c.read_script.result c.read_script.ensures.told
+
+pub returns-clause-fault : goal.returns-clause-fault
+returns-clause-fault g c = read_fault c.read_script.result c.read_script.ensures.fault
+
+pub returns-clause-cause : goal.returns-clause-cause
+returns-clause-cause g c = read_cause (g.D.Depot.faults c.args.depot.now) (g.D.Depot.faults c.script_bytes.new.depot) c.read_script.result (search rules) c.read_script.ensures.fault

@@ -1,0 +1,69 @@
+use Rattle.std.proofs.Common.{rules, refl, ◌≡◌, ◌≤◌, ◌<◌, ◌⊎◌, ◌^◌, Some, None, MatchResult, map, sym, ◌∙◌, ap, subst}
+use Rattle.std.proofs.lemmas.Result.{MatchResult-weaker}
+use Rattle.std.specs.List.{AllByRecursion}
+use Rattle.pig_plan.specs.Plans.{plan_of}
+use Rattle.pig_reach.specs.Reach.{live_paths, stores_of}
+use Rattle.pig_run.specs.declared.outcome.RunFault.TheVariants as fault
+use Rattle.pig_run.specs.declared.outcome.TooLarge.TheVariants as large
+use Rattle.pig_run.specs.Due.{InputsDue, OutputsDue, RunDue, SizeDue}
+use Rattle.pig_run.specs.Looking.{HasSize, total_of}
+use Rattle.pig_run.specs.Steps.{Passes, Stops}
+use Rattle.pig_run.proofs.Sizes.{size_passes, size_stops}
+use Rattle.pig_run.proofs.Stages.{passes_both, stops_both, wants}
+use Rattle.pig_run.proofs.looking.look.Goals as goal
+
+pub returns-in_err-check_size-clause-told : goal.returns-in_err-check_size-clause-told
+returns-in_err-check_size-clause-told g c s told =
+    let plan = plan_of c.args.plan in
+    let old = g.D.Depot.calls c.args.depot.now in
+    let mid = g.D.Depot.calls c.find_inputs.new.depot in
+    let first : Passes (InputsDue (plan_of c.args.plan) s) (SizeDue (plan_of c.args.plan) s) (g.D.Depot.calls c.args.depot.now) (g.D.Depot.calls c.find_inputs.new.depot) = search rules in
+    let have : AllByRecursion (HasSize s) c.in_ok-sizes.sizes = search rules in
+    let paths : map (λ size. size.path) c.in_ok-sizes.sizes ≡ live_paths (plan_of c.args.plan) = search rules in
+    let refused : MatchResult c.from_residual-in_err-check_size.result (λ p. Passes (InputsDue (plan_of c.args.plan) s) (RunDue (plan_of p.plan)) (g.D.Depot.calls c.args.depot.now) (g.D.Depot.calls c.find_inputs.new.depot))
+    (λ f. (f ≡ fault.TooLarge large.Input) × (2 ^ 26 < total_of c.in_ok-sizes.sizes)) = search rules in
+    MatchResult-weaker c.from_residual-in_err-check_size.result refused (λ p h. h)
+    (λ f h. stops_both (InputsDue plan s) (SizeDue plan s) old mid first mid f (size_stops plan s c.in_ok-sizes.sizes paths have mid f h))
+
+pub returns-in_err-stores-clause-told : goal.returns-in_err-stores-clause-told
+returns-in_err-stores-clause-told g c s told =
+    let plan = plan_of c.args.plan in
+    let old = g.D.Depot.calls c.args.depot.now in
+    let mid = g.D.Depot.calls c.find_inputs.new.depot in
+    let first : Passes (InputsDue (plan_of c.args.plan) s) (SizeDue (plan_of c.args.plan) s) (g.D.Depot.calls c.args.depot.now) (g.D.Depot.calls c.find_inputs.new.depot) = search rules in
+    let wanting : MatchResult c.from_residual-in_err-stores.result (λ p. Passes (InputsDue (plan_of c.args.plan) s) (RunDue (plan_of p.plan)) (g.D.Depot.calls c.args.depot.now) (g.D.Depot.calls c.find_inputs.new.depot))
+    (λ f. f ≡ fault.OutOfMemory) = search rules in
+    MatchResult-weaker c.from_residual-in_err-stores.result wanting (λ p h. h)
+    (λ f h. stops_both (InputsDue plan s) (SizeDue plan s) old mid first mid f (wants (SizeDue plan s) mid mid refl f h))
+
+pub returns-in_err-check_outputs-clause-told : goal.returns-in_err-check_outputs-clause-told
+returns-in_err-check_outputs-clause-told g c s told =
+    let plan = plan_of c.args.plan in
+    let old = g.D.Depot.calls c.args.depot.now in
+    let mid = g.D.Depot.calls c.find_inputs.new.depot in
+    let new = g.D.Depot.calls c.check_outputs.new.depot in
+    let told_mid : g.D.Depot.shelf c.find_inputs.new.depot ≡ Some s = c.find_inputs.ensures.shelf ∙ told in
+    let first : Passes (InputsDue (plan_of c.args.plan) s) (SizeDue (plan_of c.args.plan) s) (g.D.Depot.calls c.args.depot.now) (g.D.Depot.calls c.find_inputs.new.depot) = search rules in
+    let have : AllByRecursion (HasSize s) c.in_ok-sizes.sizes = search rules in
+    let paths : map (λ size. size.path) c.in_ok-sizes.sizes ≡ live_paths (plan_of c.args.plan) = search rules in
+    let few : total_of c.in_ok-sizes.sizes ≤ 2 ^ 26 = search rules in
+    let both = passes_both (InputsDue plan s) (SizeDue plan s) old mid first mid (OutputsDue plan s) (size_passes plan s c.in_ok-sizes.sizes paths have mid few) in
+    let stopped : MatchResult c.from_residual-in_err-check_outputs.result (λ p. Passes (InputsDue (plan_of c.args.plan) s) (RunDue (plan_of p.plan)) (g.D.Depot.calls c.args.depot.now) (g.D.Depot.calls c.check_outputs.new.depot))
+    (Stops (OutputsDue (plan_of c.args.plan) s) (g.D.Depot.calls c.find_inputs.new.depot) (g.D.Depot.calls c.check_outputs.new.depot)) = search rules in
+    MatchResult-weaker c.from_residual-in_err-check_outputs.result stopped (λ p h. h)
+    (λ f h. stops_both (InputsDue plan s) (OutputsDue plan s) old mid both new f h)
+
+pub returns-clause-told : goal.returns-clause-told
+returns-clause-told g c s told =
+    let plan = plan_of c.args.plan in
+    let old = g.D.Depot.calls c.args.depot.now in
+    let mid = g.D.Depot.calls c.find_inputs.new.depot in
+    let new = g.D.Depot.calls c.check_outputs.new.depot in
+    let told_mid : g.D.Depot.shelf c.find_inputs.new.depot ≡ Some s = c.find_inputs.ensures.shelf ∙ told in
+    let first : Passes (InputsDue (plan_of c.args.plan) s) (SizeDue (plan_of c.args.plan) s) (g.D.Depot.calls c.args.depot.now) (g.D.Depot.calls c.find_inputs.new.depot) = search rules in
+    let have : AllByRecursion (HasSize s) c.in_ok-sizes.sizes = search rules in
+    let paths : map (λ size. size.path) c.in_ok-sizes.sizes ≡ live_paths (plan_of c.args.plan) = search rules in
+    let few : total_of c.in_ok-sizes.sizes ≤ 2 ^ 26 = search rules in
+    let both = passes_both (InputsDue plan s) (SizeDue plan s) old mid first mid (OutputsDue plan s) (size_passes plan s c.in_ok-sizes.sizes paths have mid few) in
+    let last : Passes (OutputsDue (plan_of c.args.plan) s) (RunDue (plan_of c.args.plan)) (g.D.Depot.calls c.find_inputs.new.depot) (g.D.Depot.calls c.check_outputs.new.depot) = search rules in
+    passes_both (InputsDue plan s) (OutputsDue plan s) old mid both new (RunDue plan) last

@@ -1,0 +1,16 @@
+use Rattle.std.proofs.Common.{rules, refl, inl}
+use Rattle.pig_check.specs.Scripts.{IsFirstUntyped, IsPlanOf}
+use Rattle.pig_plan.specs.Plans.{plan_of}
+use Rattle.pig_run.specs.Reading.{checked, no_typing}
+use Rattle.pig_run.specs.Refusals.{untyped}
+use Rattle.pig_run.proofs.reading.plan_of_trees.Goals as goal
+
+pub returns-in-Ok-clause-told : goal.returns-in-Ok-clause-told
+returns-in-Ok-clause-told c =
+    let is : IsPlanOf c.args.statements.now (plan_of c.in-Ok.plan) = search rules in
+    checked is
+
+pub returns-in-Err-Check-clause-told : goal.returns-in-Err-Check-clause-told
+returns-in-Err-Check-clause-told c =
+    let none : IsFirstUntyped c.args.statements.now c.in-Err-Check.statement c.in-Err-Check.kind = search rules in
+    inl (untyped c.args.statements.now c.in-Err-Check.statement, no_typing none, (c.in-Err-Check.kind, none, refl))

@@ -1,0 +1,32 @@
+use Rattle.std.proofs.Common.{rules, ◌≡◌, ◌%◌, ◌^◌, length, map, sym, ◌∙◌, ap, subst}
+use Rattle.std.proofs.lemmas.List.{length-map}
+use Rattle.pig_value.specs.Trees.{rows_tree}
+use Rattle.pig_plain.specs.Answering.{IsAnswer, stored_relations}
+use Rattle.pig_plan.specs.Plans.{plan_of}
+use Rattle.pig_plan.specs.Valid.{IsPlan}
+use Rattle.pig_reach.specs.Reach.{lines_read, live_paths, stores_of}
+use Rattle.pig_run.specs.Running.{inputs_at}
+use Rattle.pig_run.proofs.Found.{answer_told, as_many, lines_told, relations_are}
+use Rattle.pig_run.proofs.running.find.Goals as goal
+
+pub returns-clause-found : goal.returns-clause-found
+returns-clause-found g c i told =
+    let plan = plan_of c.args.prepared.now.plan in
+    let valid : IsPlan (plan_of c.args.prepared.now.plan) = search rules in
+    let read : c.in_ok-inputs.inputs ≡ inputs_at i (map (λ size. size.path) c.args.prepared.now.sizes) = search rules in
+    let inputs : c.in_ok-inputs.inputs ≡ inputs_at i (live_paths (plan_of c.args.prepared.now.plan)) = read ∙ ap (inputs_at i) c.requires.prepared.paths in
+    let answer : IsAnswer (plan_of c.args.prepared.now.plan) c.in_ok-inputs.inputs c.in_ok-answers.answers.kept (map rows_tree c.in_ok-answers.answers.stores) = search rules in
+    let count : c.in_ok-read.read ≡ lines_read (plan_of c.args.prepared.now.plan) c.in_ok-inputs.inputs % 2 ^ 64 = search rules in
+    record {
+      answer = answer_told plan valid i c.in_ok-answers.answers.kept (map rows_tree c.in_ok-answers.answers.stores)
+          (subst (λ x. IsAnswer plan x c.in_ok-answers.answers.kept (map rows_tree c.in_ok-answers.answers.stores)) inputs answer);
+      read = count ∙ ap (λ x. lines_read plan x % 2 ^ 64) inputs ∙ ap (λ n. n % 2 ^ 64) (lines_told plan valid i);
+    }
+
+pub returns-clause-each : goal.returns-clause-each
+returns-clause-each g c =
+    let plan = plan_of c.args.prepared.now.plan in
+    let kept = c.in_ok-answers.answers.kept in
+    let answer : IsAnswer (plan_of c.args.prepared.now.plan) c.in_ok-inputs.inputs c.in_ok-answers.answers.kept (map rows_tree c.in_ok-answers.answers.stores) = search rules in
+    sym (length-map c.in_ok-answers.answers.stores rows_tree) ∙ as_many plan c.in_ok-inputs.inputs kept (stored_relations plan) (map rows_tree c.in_ok-answers.answers.stores) answer.stores
+    ∙ ap length (relations_are plan) ∙ length-map (stores_of plan) (λ store. store.relation) ∙ ap length (sym c.requires.prepared.stores)

@@ -1,0 +1,69 @@
+-- How a call may end where something is due: what is answered, and what then stands; and how the console changes the answer.
+use Rattle.std.specs.Prelude.{◌≡◌, ◌<◌, ◌++◌, ℕ, List, Option, Some, None}
+use Rattle.std.specs.Option.{option_map}
+use Rattle.pig_outside.specs.Shelf.{Shelf}
+use Rattle.pig_outside.specs.Text.{LeftPrefix}
+use Rattle.pig_plan.specs.Plans.{Plan}
+use Rattle.pig_run.specs.declared.outcome.Counts.{Counts}
+use Rattle.pig_run.specs.declared.outcome.RunFault.{RunFault}
+use Rattle.pig_run.specs.declared.outcome.RunFault.TheVariants as fault
+use Rattle.pig_run.specs.Outputs.{IsStopped, IsUntouched, IsWhole, Left, no_counts}
+use Rattle.pig_run.specs.Reading.{Verdict, Refuses, Runs}
+use Rattle.pig_run.specs.Refusals.{Refusal, Names}
+use Rattle.pig_run.specs.Texts.{fault_text}
+
+-- What is found before the console is asked: one rule for each cause. `tells` is that the first host tells its inputs.
+pub data Ends (tells : Type 0) (shelf : Shelf) (left : Left) : Verdict → Option RunFault → Type 0 where
+  -- what is due is refused
+  refused : {refusal : Refusal} {found : RunFault} → Names refusal found → IsUntouched shelf left → Ends tells shelf left (Refuses refusal) (Some found)
+  -- the depot failed at a look-up
+  lookup_failed : {verdict : Verdict} → IsUntouched shelf left → Ends tells shelf left verdict (Some (fault.DepotFault None))
+  -- the host failed, as it read
+  host_failed : {plan : Plan} → IsUntouched shelf left → Ends tells shelf left (Runs plan) (Some fault.HostFault)
+  -- the depot failed as it made the directory of a STORE
+  store_failed : {plan : Plan} {n : ℕ} → IsStopped tells plan shelf n left → Ends tells shelf left (Runs plan) (Some (fault.DepotFault (Some n)))
+  -- all is stored
+  done : {plan : Plan} → IsWhole tells plan shelf left → Ends tells shelf left (Runs plan) None
+  -- memory was wanting: before anything was made, at a STORE, or when all was stored
+  no_memory : {verdict : Verdict} → IsUntouched shelf left → Ends tells shelf left verdict (Some fault.OutOfMemory)
+  no_memory_at : {plan : Plan} {n : ℕ} → IsStopped tells plan shelf n left → Ends tells shelf left (Runs plan) (Some fault.OutOfMemory)
+  no_memory_behind : {plan : Plan} → IsWhole tells plan shelf left → Ends tells shelf left (Runs plan) (Some fault.OutOfMemory)
+
+-- ---- the console
+
+-- the console's text, where it is told, and its count of failures
+pub record Console : Type 0 where
+  pub text : Option (List ℕ)
+  pub faults : ℕ
+
+-- the text has grown by these bytes
+abbrev pub Printed : List ℕ → Console → Console → Type 0
+Printed bytes old new = new.text ≡ option_map (λ text. text ++ bytes) old.text
+
+-- the text has grown by a prefix of these bytes
+abbrev pub PrintedPart : List ℕ → Console → Console → Type 0
+PrintedPart bytes old new = LeftPrefix bytes old.text new.text
+
+abbrev pub Fails : Console → Console → Type 0
+Fails old new = old.faults < new.faults
+
+-- the answer where the console failed at the text of what was found
+abbrev pub unshown : Option RunFault → RunFault
+unshown None = fault.ConsoleFault
+unshown (Some found) = found
+
+-- What is answered of what was found, by what became of its text: it was printed; the console failed; memory was wanting for it, or for
+-- making it, and then the text of that answer stands, or as much of it as could be printed.
+pub data Shown (text : List ℕ) (old new : Console) (found : Option RunFault) : Option RunFault → Type 0 where
+  printed : ¬ Fails old new → Printed text old new → Shown text old new found found
+  failed : Fails old new → PrintedPart text old new → Shown text old new found (Some (unshown found))
+  cut_short : ¬ Fails old new → PrintedPart text old new → Shown text old new found (Some fault.OutOfMemory)
+  no_text : ¬ Fails old new → Printed (fault_text fault.OutOfMemory) old new → Shown text old new found (Some fault.OutOfMemory)
+  no_text_failed : Fails old new → PrintedPart (fault_text fault.OutOfMemory) old new → Shown text old new found (Some fault.OutOfMemory)
+  no_text_cut : ¬ Fails old new → PrintedPart (fault_text fault.OutOfMemory) old new → Shown text old new found (Some fault.OutOfMemory)
+
+-- the numbers of an answer: those of the run where it stored all and memory sufficed
+abbrev pub counts_shown : Option RunFault → Counts → Counts
+counts_shown None counts = counts
+counts_shown (Some fault.ConsoleFault) counts = counts
+counts_shown (Some found) counts = no_counts

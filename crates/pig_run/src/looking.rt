@@ -1,0 +1,321 @@
+ghost use Rattle.std.specs.Prelude.{◌≡◌, List, ◌<◌, ◌≤◌, ◌⊎◌, ◌^◌, ◌-◌, ◌∷◌, [], ◌++◌, min, map, true, IfOk, IfErr, OnOk, MatchResult};
+ghost use Rattle.std.specs.Option.{ForSome};
+ghost use Rattle.std.specs.List.{AllByRecursion, sum_by};
+ghost use Rattle.pig_outside.specs.declared.failing.Method.TheVariants as method;
+ghost use Rattle.pig_plan.specs.Plans.{PlanNode, plan_of};
+ghost use Rattle.pig_reach.specs.Reach.{live_paths, stores_of};
+ghost use Rattle.pig_run.specs.Due.{AreWords, HasWords, InputsDue, IsDue, OutputsDue, RunDue, ScriptDue, SizeDue, call};
+ghost use Rattle.pig_run.specs.Looking.{HasSize, IsAbsentIn, IsPrepared, IsReady, LooksForInput, LooksForOutput, LooksForScript, LooksForSize, are_apart, is_stored_in, line_of, total_of};
+ghost use Rattle.pig_run.specs.Steps.{DepotCause, IsPlanFault, SaysWords, Step, depot_fault_of};
+ghost use Rattle.pig_run.specs.Told.{Asked};
+ghost use Rattle.pig_run.specs.declared.outcome.RunFault.TheVariants as fault;
+ghost use Rattle.pig_run.specs.declared.outcome.TooLarge.TheVariants as large;
+
+use crate::line::CommandLine;
+use crate::reading::{MOST_SCRIPT, read_script};
+use crate::{RunFault, TooLarge};
+use pig_check::a_script_has_one_plan;
+use pig_outside::{Depot, OutsideError};
+use pig_plan::Plan;
+use pig_reach::{Store, Stores, live_paths, stores};
+use pig_value::{Lengths, Seq, Text, WordFault};
+use pig_words::{Verb, read_words};
+use std::alloc::Global;
+
+/// The limit on the inputs that a run reads, in bytes.
+const MOST_INPUT: u64 = 67_108_864;
+
+/// An input that is there: its path, and the lengths of its pieces in order.
+#[derive(Drop)]
+pub struct Size {
+    pub path: Text,
+    pub lengths: Lengths,
+}
+
+/// Inputs that are there, each path once.
+pub type Sizes = Seq<Size>;
+
+/// The fault that an error of the depot is, in the commit of that STORE or before.
+pub fn depot_fault(error: OutsideError, store: Option<u32>) -> RunFault
+    ensures { result ≡ depot_fault_of error store }
+{
+    match error {
+        OutsideError::Failed => RunFault::DepotFault { store },
+        OutsideError::OutOfMemory => RunFault::OutOfMemory,
+    }
+}
+
+/// The path of the script that the words name.
+fn read_path(alloc: Global, line: &CommandLine) -> Result<Text, RunFault>
+    ensures found { IfOk result (λ path. AreWords (line_of line.now) path) }
+    ensures usage { IfErr result (λ f. ((f ≡ fault.Usage) × (¬ HasWords (line_of line.now)))
+        ⊎ (f ≡ fault.OutOfMemory)) }
+{
+    match read_words(alloc, line.words, line.hosts) {
+        Ok(command) => match command.verb {
+            Verb::Run => Ok(command.operand),
+            _ => Err(RunFault::Usage),
+        },
+        Err(WordFault::Usage) => Err(RunFault::Usage),
+        Err(WordFault::OutOfMemory) => Err(RunFault::OutOfMemory),
+    }
+}
+
+/// The bytes of the script at a path, or more than the limit of them where it is longer.
+fn script_bytes<D: Depot>(alloc: Global, depot: &mut D, path: &str) -> Result<Vec<u8>, RunFault>
+    ensures told { ForSome (D.shelf depot.old) (λ s. LooksForScript path.now s
+        (λ bytes. bytes.items) result) }
+    ensures fault { IfErr result IsPlanFault }
+    ensures shelf { D.shelf depot.new ≡ D.shelf depot.old }
+    ensures cause { DepotCause (D.faults depot.old) (D.faults depot.new) result }
+    ensures stores { D.store_faults depot.new ≡ D.store_faults depot.old }
+    ensures asked { Asked (call method.Script path.now ∷ []) (D.calls depot.old)
+        (D.calls depot.new) }
+{
+    let mut script = Vec::new(alloc);
+    match depot.script(path, MOST_SCRIPT + 1, &mut script) {
+        Ok(true) => Ok(script),
+        Ok(false) => Err(RunFault::NoScript),
+        Err(error) => Err(depot_fault(error, None)),
+    }
+}
+
+/// The plan of the script at a path.
+fn load_plan<D: Depot>(alloc: Global, depot: &mut D, path: &str) -> Result<Plan, RunFault>
+    ensures told { ForSome (D.shelf depot.old) (λ s. Step (ScriptDue path.now s)
+        (λ plan. InputsDue (plan_of plan) s) (D.calls depot.old) (D.calls depot.new) result) }
+    ensures fault { IfErr result IsPlanFault }
+    ensures shelf { D.shelf depot.new ≡ D.shelf depot.old }
+    ensures cause { DepotCause (D.faults depot.old) (D.faults depot.new) result }
+    ensures stores { D.store_faults depot.new ≡ D.store_faults depot.old }
+{
+    a_script_has_one_plan();
+    let script = script_bytes(alloc, depot, path)?;
+    read_script(alloc, script.as_slice())
+}
+
+/// The lengths of the pieces of the input at a path.
+fn find_input<D: Depot>(alloc: Global, depot: &mut D, path: &Text) -> Result<Lengths, RunFault>
+    ensures told { ForSome (D.shelf depot.old) (λ s. LooksForInput path.now s result) }
+    ensures fault { IfErr result IsPlanFault }
+    ensures shelf { D.shelf depot.new ≡ D.shelf depot.old }
+    ensures cause { DepotCause (D.faults depot.old) (D.faults depot.new) result }
+    ensures stores { D.store_faults depot.new ≡ D.store_faults depot.old }
+    ensures asked { Asked (call method.Pieces path.now ∷ []) (D.calls depot.old)
+        (D.calls depot.new) }
+{
+    match depot.pieces(path.as_str()) {
+        Ok(Some(lengths)) => Ok(lengths),
+        Ok(None) => Err(RunFault::NoInput {
+            path: path.copy(alloc)?,
+        }),
+        Err(error) => Err(depot_fault(error, None)),
+    }
+}
+
+/// Adds the size of the input at a path.
+fn add_size<D: Depot>(
+    alloc: Global,
+    depot: &mut D,
+    path: &Text,
+    sizes: &mut Sizes,
+) -> Result<(), RunFault>
+    ensures told { ForSome (D.shelf depot.old) (λ s. LooksForSize path.now s sizes.old sizes.new
+        result) }
+    ensures fault { IfErr result IsPlanFault }
+    ensures paths { OnOk result (map (λ size. size.path) sizes.new
+        ≡ map (λ size. size.path) sizes.old ++ path.now ∷ []) }
+    ensures shelf { D.shelf depot.new ≡ D.shelf depot.old }
+    ensures cause { DepotCause (D.faults depot.old) (D.faults depot.new) result }
+    ensures stores { D.store_faults depot.new ≡ D.store_faults depot.old }
+    ensures asked { Asked (call method.Pieces path.now ∷ []) (D.calls depot.old)
+        (D.calls depot.new) }
+{
+    let lengths = find_input(alloc, depot, path)?;
+    let path = path.copy(alloc)?;
+    sizes.push(Size { path, lengths })?;
+    Ok(())
+}
+
+/// The inputs of a plan, each path once, in the order of the statements.
+fn find_inputs<D: Depot>(alloc: Global, depot: &mut D, plan: &Plan) -> Result<Sizes, RunFault>
+    ensures told { ForSome (D.shelf depot.old) (λ s. Step (InputsDue (plan_of plan.now) s)
+        (λ sizes. SizeDue (plan_of plan.now) s) (D.calls depot.old) (D.calls depot.new) result) }
+    ensures sizes { IfOk result (λ sizes. map (λ size. size.path) sizes
+        ≡ live_paths (plan_of plan.now)) }
+    ensures lengths { ForSome (D.shelf depot.old)
+        (λ s. IfOk result (AllByRecursion (HasSize s))) }
+    ensures fault { IfErr result IsPlanFault }
+    ensures shelf { D.shelf depot.new ≡ D.shelf depot.old }
+    ensures cause { DepotCause (D.faults depot.old) (D.faults depot.new) result }
+    ensures stores { D.store_faults depot.new ≡ D.store_faults depot.old }
+{
+    let paths = live_paths(alloc, plan)?;
+    let mut sizes = Sizes::new(alloc);
+    let paths = paths.as_slice();
+    for place in 0..paths.len() {
+        add_size(alloc, depot, &paths[place], &mut sizes)?;
+    }
+    Ok(sizes)
+}
+
+/// The sum of lengths, as far as it can be counted.
+fn length_sum(lengths: &Lengths) -> u64
+    ensures { result ≡ min (sum_by (λ n. n) lengths.now) (2 ^ 64 - 1) }
+{
+    let mut sum: u64 = 0;
+    let mut left = lengths.as_slice();
+    while let [length, rest @ ..] = left {
+        sum = sum.saturating_add(*length);
+        left = rest;
+    }
+    sum
+}
+
+/// The sum of the lengths of inputs, as far as it can be counted.
+fn size_sum(sizes: &Sizes) -> u64
+    ensures { result ≡ min (total_of sizes.now) (2 ^ 64 - 1) }
+{
+    let mut sum: u64 = 0;
+    let mut left = sizes.as_slice();
+    while let [size, rest @ ..] = left {
+        sum = sum.saturating_add(length_sum(&size.lengths));
+        left = rest;
+    }
+    sum
+}
+
+/// Refuses inputs that are too large in all.
+fn check_size(sizes: &Sizes) -> Result<(), RunFault>
+    ensures { MatchResult result (λ _. total_of sizes.now ≤ 2 ^ 26)
+        (λ f. (f ≡ fault.TooLarge large.Input) × (2 ^ 26 < total_of sizes.now)) }
+{
+    if size_sum(sizes) > MOST_INPUT {
+        return Err(RunFault::TooLarge {
+            which: TooLarge::Input,
+        });
+    }
+    Ok(())
+}
+
+/// Refuses an output that is there.
+fn check_output<D: Depot>(alloc: Global, depot: &mut D, dir: &Text) -> Result<(), RunFault>
+    ensures told { ForSome (D.shelf depot.old) (λ s. LooksForOutput dir.now s result) }
+    ensures fault { IfErr result IsPlanFault }
+    ensures shelf { D.shelf depot.new ≡ D.shelf depot.old }
+    ensures cause { DepotCause (D.faults depot.old) (D.faults depot.new) result }
+    ensures stores { D.store_faults depot.new ≡ D.store_faults depot.old }
+    ensures asked { Asked (call method.Exists dir.now ∷ []) (D.calls depot.old)
+        (D.calls depot.new) }
+{
+    match depot.exists(dir.as_str()) {
+        Ok(false) => Ok(()),
+        Ok(true) => Err(RunFault::OutputExists {
+            dir: dir.copy(alloc)?,
+        }),
+        Err(error) => Err(depot_fault(error, None)),
+    }
+}
+
+/// Refuses the first output that is there.
+fn check_outputs<D: Depot>(alloc: Global, depot: &mut D, stores: &Stores) -> Result<(), RunFault>
+    ensures told { ForSome (D.shelf depot.old) (λ s. (plan : List PlanNode)
+        → stores.now ≡ stores_of plan → Step (OutputsDue plan s)
+        (λ _. RunDue plan) (D.calls depot.old) (D.calls depot.new) result) }
+    ensures absent { ForSome (D.shelf depot.old)
+        (λ s. IfOk result (λ _. AllByRecursion (IsAbsentIn s) stores.now)) }
+    ensures fault { IfErr result IsPlanFault }
+    ensures shelf { D.shelf depot.new ≡ D.shelf depot.old }
+    ensures cause { DepotCause (D.faults depot.old) (D.faults depot.new) result }
+    ensures stores { D.store_faults depot.new ≡ D.store_faults depot.old }
+{
+    let stores = stores.as_slice();
+    for place in 0..stores.len() {
+        check_output(alloc, depot, &stores[place].dir)?;
+    }
+    Ok(())
+}
+
+/// Whether each STORE has a directory of its own.
+fn are_apart(stores: &Stores) -> bool
+    ensures { result ≡ are_apart stores.now }
+{
+    let mut left = stores.as_slice();
+    while let [store, rest @ ..] = left {
+        if is_stored_in(&store.dir, rest) {
+            return false;
+        }
+        left = rest;
+    }
+    true
+}
+
+/// Whether one of the STOREs has the directory.
+fn is_stored_in(dir: &Text, stores: &[Store]) -> bool
+    ensures { result ≡ is_stored_in dir.now stores.now }
+{
+    let mut left = stores;
+    while let [store, rest @ ..] = left {
+        if store.dir.as_bytes() == dir.as_bytes() {
+            return true;
+        }
+        left = rest;
+    }
+    false
+}
+
+/// A plan that may be run: its inputs are there, and the directories of its STOREs are not.
+#[derive(Drop)]
+pub struct Prepared {
+    pub plan: Plan,
+    pub sizes: Sizes,
+    pub stores: Stores,
+}
+
+/// The inputs and outputs of a plan, where nothing stands in the way of its run.
+fn look<D: Depot>(alloc: Global, depot: &mut D, plan: Plan) -> Result<Prepared, RunFault>
+    ensures told { ForSome (D.shelf depot.old) (λ s. Step (InputsDue (plan_of plan) s)
+        (λ p. RunDue (plan_of p.plan)) (D.calls depot.old) (D.calls depot.new) result) }
+    ensures ready { ForSome (D.shelf depot.old) (λ s. IfOk result (IsReady s)) }
+    ensures prepared { IfOk result IsPrepared }
+    ensures fault { IfErr result IsPlanFault }
+    ensures shelf { D.shelf depot.new ≡ D.shelf depot.old }
+    ensures cause { DepotCause (D.faults depot.old) (D.faults depot.new) result }
+    ensures stores { D.store_faults depot.new ≡ D.store_faults depot.old }
+{
+    let sizes = find_inputs(alloc, depot, &plan)?;
+    check_size(&sizes)?;
+    let stores = stores(alloc, &plan)?;
+    check_outputs(alloc, depot, &stores)?;
+    // The checker lets no two STOREs have one directory.
+    if !are_apart(&stores) {
+        return Err(RunFault::OutOfMemory);
+    }
+    Ok(Prepared {
+        plan,
+        sizes,
+        stores,
+    })
+}
+
+/// What is to be run: the plan of the script that the words name, where nothing stands in its way.
+pub fn prepare<D: Depot>(
+    alloc: Global,
+    line: &CommandLine,
+    depot: &mut D,
+) -> Result<Prepared, RunFault>
+    ensures told { ForSome (D.shelf depot.old) (λ s. Step (IsDue (line_of line.now) s)
+        (λ p. RunDue (plan_of p.plan)) (D.calls depot.old) (D.calls depot.new) result) }
+    ensures ready { ForSome (D.shelf depot.old) (λ s. IfOk result (IsReady s)) }
+    ensures prepared { IfOk result IsPrepared }
+    ensures words { MatchResult result (λ _. HasWords (line_of line.now))
+        (SaysWords (line_of line.now)) }
+    ensures fault { IfErr result (λ f. (f ≡ fault.Usage) ⊎ IsPlanFault f) }
+    ensures shelf { D.shelf depot.new ≡ D.shelf depot.old }
+    ensures cause { DepotCause (D.faults depot.old) (D.faults depot.new) result }
+    ensures stores { D.store_faults depot.new ≡ D.store_faults depot.old }
+{
+    let path = read_path(alloc, line)?;
+    let plan = load_plan(alloc, depot, path.as_str())?;
+    look(alloc, depot, plan)
+}

@@ -1,0 +1,186 @@
+ghost use Rattle.std.specs.Prelude.{◌≡◌, ◌++◌, ◌∷◌, [], map, codes, decimal, IfOk, OnOk};
+ghost use Rattle.pig_run.specs.Texts.{done_line, fault_text, kind_name, large_name, stored_line};
+ghost use Rattle.std.specs.List.{flat_map};
+ghost use Rattle.pig_run.specs.Running.{noted_line};
+ghost use Rattle.pig_run.specs.declared.outcome.RunFault.TheVariants as fault;
+
+use crate::progress::Notes;
+use crate::{Counts, RunFault, TooLarge};
+use itoa::Buffer;
+use pig_typing::CheckKind;
+use std::alloc::{AllocError, Global};
+
+/// The parts of a line, joined, with an LF behind them.
+fn line_of_parts(
+    alloc: Global,
+    first: &[u8],
+    second: &[u8],
+    third: &[u8],
+    fourth: &[u8],
+) -> Result<Vec<u8>, AllocError>
+    ensures { IfOk result (λ line. line.items
+        ≡ first.now ++ second.now ++ third.now ++ fourth.now ++ 10 ∷ []) }
+{
+    let mut line = Vec::from_slice(alloc, first)?;
+    line.extend_from_slice(second)?;
+    line.extend_from_slice(third)?;
+    line.extend_from_slice(fourth)?;
+    line.push(10)?;
+    Ok(line)
+}
+
+/// A line of a number between two parts.
+fn number_line(
+    alloc: Global,
+    before: &[u8],
+    number: u64,
+    behind: &[u8],
+    end: &[u8],
+) -> Result<Vec<u8>, AllocError>
+    ensures { IfOk result (λ line. line.items
+        ≡ before.now ++ decimal number ++ behind.now ++ end.now ++ 10 ∷ []) }
+{
+    let mut buffer = Buffer::new();
+    line_of_parts(alloc, before, buffer.format(number).as_bytes(), behind, end)
+}
+
+/// The name of a kind of refusal.
+fn kind_name(kind: CheckKind) -> &'static str
+    ensures { result.now ≡ kind_name kind }
+{
+    match kind {
+        CheckKind::UnknownAlias => "UnknownAlias",
+        CheckKind::UnknownField => "UnknownField",
+        CheckKind::AmbiguousField => "AmbiguousField",
+        CheckKind::PositionOut => "PositionOut",
+        CheckKind::TypeMismatch => "TypeMismatch",
+        CheckKind::BadKey => "BadKey",
+        CheckKind::FloatType => "FloatType",
+        CheckKind::UnknownFunction => "UnknownFunction",
+        CheckKind::WrongArguments => "WrongArguments",
+        CheckKind::SchemaMismatch => "SchemaMismatch",
+        CheckKind::OutputTwice => "OutputTwice",
+        CheckKind::SelfLoad => "SelfLoad",
+        CheckKind::Compressed => "Compressed",
+        CheckKind::Unsupported => "Unsupported",
+        CheckKind::TooWide => "TooWide",
+        CheckKind::TooDeep => "TooDeep",
+    }
+}
+
+/// The name of what is too large.
+fn large_name(which: TooLarge) -> &'static str
+    ensures { result.now ≡ large_name which }
+{
+    match which {
+        TooLarge::Script => "script",
+        TooLarge::Statements => "statements",
+        TooLarge::Depth => "depth",
+        TooLarge::Input => "input",
+    }
+}
+
+/// A line of one part, or of two.
+fn line_of(alloc: Global, first: &[u8], second: &[u8]) -> Result<Vec<u8>, AllocError>
+    ensures { IfOk result (λ line. line.items ≡ first.now ++ second.now ++ 10 ∷ []) }
+{
+    line_of_parts(alloc, first, second, b"", b"")
+}
+
+const USAGE: &str = "usage: pig run|explain|check SCRIPT | demo N \
+    [--workers N] [--reducers N] [--split BYTES]";
+
+/// The text of a fault.
+pub fn fault_bytes(alloc: Global, fault: &RunFault) -> Result<Vec<u8>, AllocError>
+    ensures { IfOk result (λ text. text.items ≡ fault_text fault.now) }
+{
+    match fault {
+        RunFault::Usage => line_of(alloc, USAGE.as_bytes(), b""),
+        RunFault::NoScript => line_of(alloc, b"pig: no script", b""),
+        RunFault::Lex { offset } => {
+            number_line(alloc, b"pig: offset ", *offset, b": no token", b"")
+        }
+        RunFault::Syntax { statement } => {
+            let statement = u64::from(*statement);
+            number_line(alloc, b"pig: statement ", statement, b": syntax", b"")
+        }
+        RunFault::Check { statement, kind } => {
+            let statement = u64::from(*statement);
+            let kind = kind_name(*kind).as_bytes();
+            number_line(alloc, b"pig: statement ", statement, b": ", kind)
+        }
+        RunFault::NoInput { path } => line_of(alloc, b"pig: no input ", path.as_bytes()),
+        RunFault::OutputExists { dir } => line_of(alloc, b"pig: output exists ", dir.as_bytes()),
+        RunFault::DepotFault { store } => depot_bytes(alloc, *store),
+        RunFault::HostFault => line_of(alloc, b"pig: host failed", b""),
+        RunFault::OutOfMemory => line_of(alloc, b"pig: out of memory", b""),
+        RunFault::ConsoleFault => Ok(Vec::new(alloc)),
+        RunFault::TooLarge { which } => {
+            line_of(alloc, b"pig: too large: ", large_name(*which).as_bytes())
+        }
+    }
+}
+
+/// The text of a depot's fault.
+fn depot_bytes(alloc: Global, store: Option<u32>) -> Result<Vec<u8>, AllocError>
+    ensures { IfOk result (λ text. text.items ≡ fault_text (fault.DepotFault store)) }
+{
+    match store {
+        Some(statement) => {
+            let statement = u64::from(statement);
+            number_line(
+                alloc,
+                b"pig: storage failed at statement ",
+                statement,
+                b"",
+                b"",
+            )
+        }
+        None => line_of(alloc, b"pig: storage failed", b""),
+    }
+}
+
+/// Adds a part, a number and the byte behind it.
+fn add_number(out: &mut Vec<u8>, before: &[u8], number: u64, behind: u8) -> Result<(), AllocError>
+    ensures { OnOk result (out.new.items
+        ≡ out.old.items ++ before.now ++ decimal number ++ behind ∷ []) }
+{
+    let mut buffer = Buffer::new();
+    out.extend_from_slice(before)?;
+    out.extend_from_slice(buffer.format(number).as_bytes())?;
+    out.push(behind)?;
+    Ok(())
+}
+
+/// Adds the line of a STORE.
+fn add_stored(out: &mut Vec<u8>, dir: &[u8], lines: u64) -> Result<(), AllocError>
+    ensures { OnOk result (out.new.items ≡ out.old.items ++ stored_line (record { dir = dir.now; bytes = []; lines = lines })) }
+{
+    out.extend_from_slice(b"stored ")?;
+    out.extend_from_slice(dir)?;
+    add_number(out, b" ", lines, 10)
+}
+
+/// Adds the last line of a run.
+fn add_done(out: &mut Vec<u8>, counts: &Counts) -> Result<(), AllocError>
+    ensures { OnOk result (out.new.items ≡ out.old.items ++ done_line counts.now) }
+{
+    add_number(out, b"done ", counts.read, 32)?;
+    add_number(out, b"", counts.shuffled, 32)?;
+    add_number(out, b"", counts.stored, 10)
+}
+
+/// The text of a run that made these directories.
+pub fn done_bytes(alloc: Global, notes: &Notes, counts: &Counts) -> Result<Vec<u8>, AllocError>
+    ensures { IfOk result (λ text. text.items
+        ≡ flat_map noted_line notes.now ++ done_line counts.now) }
+{
+    let mut out = Vec::new(alloc);
+    let mut left = notes.as_slice();
+    while let [note, rest @ ..] = left {
+        add_stored(&mut out, note.dir.as_bytes(), note.lines)?;
+        left = rest;
+    }
+    add_done(&mut out, counts)?;
+    Ok(out)
+}

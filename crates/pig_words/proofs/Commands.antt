@@ -1,0 +1,142 @@
+-- How what was given makes a command, and that words are at most one.
+use Rattle.std.proofs.Common.{◌≡◌, ◌∙◌, ◌==◌, ◌≤◌, ℕ, cond, true, refl, sym, ap, subst, List, [], ◌∷◌, length, drop, min, Option, Some, None, is_some, option_and_then, true≢false, unwrap_or, slice_index_or}
+use Rattle.std.specs.Str.Parse.{digits_value}
+use Rattle.pig_words.specs.declared.words.Command.{Command}
+use Rattle.pig_words.specs.declared.words.Verb.{Verb}
+use Rattle.pig_words.specs.declared.words.Verb.TheVariants as verbs
+use Rattle.pig_words.specs.CommandWords.{Given, Gives, finished, operand, joined, apart, dashes, operand_last, IsCommand, IsCount, IsSet, IsOptionWord, Makes, Setting, Workers, Reducers, Split, Word, nothing_given, verb_word, with_operand, with_value}
+use Rattle.pig_words.specs.ClapWords.{AreRead, AreValues, number_at, numbers_at, setting_at, takes}
+use Rattle.pig_words.proofs.ClapFinds.{one_given}
+use Rattle.pig_words.proofs.WordNumbers.{number_set, set_number, set_setting, setting_set}
+
+-- ---- what was given, and the numbers that it sets
+
+abbrev Three : Type 0
+Three = ℕ × ℕ × ℕ
+
+each_some : (a b c : Option ℕ) (x y z : ℕ) → option_and_then (λ n. option_and_then (λ m. option_and_then (λ k. let t : Three = (n, m, k) in Some t) c) b) a ≡ Some (x, y, z)
+    → (a ≡ Some x) × (b ≡ Some y) × (c ≡ Some z)
+each_some None b c x y z e = cc
+each_some (Some n) None c x y z e = cc
+each_some (Some n) (Some m) None x y z e = cc
+each_some (Some n) (Some m) (Some k) x y z e =
+    (ap (λ (o : Option Three). Some (unwrap_or o (0, 0, 0)).0) e, ap (λ (o : Option Three). Some (unwrap_or o (0, 0, 0)).1) e, ap (λ (o : Option Three). Some (unwrap_or o (0, 0, 0)).2) e)
+
+pub are_values : (g : Given) → ((v : Word) → g.workers ≡ Some v → IsOptionWord v) → ((v : Word) → g.reducers ≡ Some v → IsOptionWord v) → ((v : Word) → g.split ≡ Some v → IsOptionWord v) → AreValues g
+are_values g a b c Workers = a
+are_values g a b c Reducers = b
+are_values g a b c Split = c
+
+takes_count : (v : Verb) (word : Word) → takes v word ≡ true → v ≡ verbs.Demo → IsCount word
+takes_count verbs.Run word t e = cc
+takes_count verbs.Explain word t e = cc
+takes_count verbs.Check word t e = cc
+takes_count verbs.Demo word t e = go (number_at 100000 word) refl t
+  where
+    go : (o : Option ℕ) → number_at 100000 word ≡ o → is_some o ≡ true → IsCount word
+    go None f t = absurd (true≢false (sym t))
+    go (Some n) f t =
+        let s = number_set word 0 100000 n f in
+        record { value = s.0; some = subst (λ k. 1 ≤ k) s.1.0 s.1.1; few = subst (λ k. k ≤ 100000) s.1.0 s.1.2 }
+
+count_taken : (v : Verb) (word : Word) → (v ≡ verbs.Demo → IsCount word) → takes v word ≡ true
+count_taken verbs.Run word h = refl
+count_taken verbs.Explain word h = refl
+count_taken verbs.Check word h = refl
+count_taken verbs.Demo word h =
+    let count = h refl in
+    ap is_some (set_number word 0 100000 (digits_value 10 word) count.value (refl, count.some, count.few))
+
+-- what the numbers are read from makes the command
+pub made : (hosts : ℕ) (v : Verb) (g : Given) (word : Word) (w r s : ℕ) → takes v word ≡ true → g.operand ≡ Some word → numbers_at hosts g ≡ Some (w, r, s)
+    → AreValues g × Makes hosts g (record { verb = v; operand = word; workers = w; reducers = r; split = s })
+unfolding numbers_at
+made hosts v g word w r s t o e =
+    let parts = each_some (setting_at (min 4 hosts) hosts g.workers) (setting_at 4 256 g.reducers) (setting_at 1048576 67108864 g.split) w r s e in
+    let workers = setting_set g.workers (min 4 hosts) hosts w parts.0 in
+    let reducers = setting_set g.reducers 4 256 r parts.1 in
+    let split = setting_set g.split 1048576 67108864 s parts.2 in
+    (are_values g workers.1 reducers.1 split.1, record { operand = o; workers = workers.0; reducers = reducers.0; split = split.0; count = takes_count v word t })
+
+-- and a command that is made has its numbers
+pub numbers_of_made : (hosts : ℕ) (g : Given) (c : Command) → AreValues g → Makes hosts g c → numbers_at hosts g ≡ Some (c.workers, c.reducers, c.split)
+unfolding numbers_at
+numbers_of_made hosts g c values m =
+    rw (
+      set_setting g.workers (min 4 hosts) hosts c.workers (values Workers) m.workers,
+      set_setting g.reducers 4 256 c.reducers (values Reducers) m.reducers,
+      set_setting g.split 1048576 67108864 c.split (values Split) m.split,
+    ) refl
+
+pub taken_of_made : (hosts : ℕ) (g : Given) (c : Command) (word : Word) → g.operand ≡ Some word → Makes hosts g c → takes c.verb word ≡ true
+taken_of_made hosts g c word o m =
+    let same : c.operand ≡ word = ap (λ (x : Option Word). unwrap_or x word) (sym m.operand ∙ o) in
+    count_taken c.verb word (λ e. subst IsCount same (m.count e))
+
+-- ---- words are one command
+
+-- no two verbs have words of the same length
+verb_of_length : ℕ → Verb
+verb_of_length n = cond (n == 3) verbs.Run (cond (n == 7) verbs.Explain (cond (n == 5) verbs.Check verbs.Demo))
+
+verb_back : (v : Verb) → verb_of_length (length (verb_word v)) ≡ v
+unfolding verb_of_length
+verb_back verbs.Run = refl
+verb_back verbs.Explain = refl
+verb_back verbs.Check = refl
+verb_back verbs.Demo = refl
+
+pub same_verb : (v w : Verb) (xs ys : List Word) → verb_word v ∷ xs ≡ verb_word w ∷ ys → v ≡ w
+same_verb v w xs ys e = sym (verb_back v) ∙ ap (λ zs. verb_of_length (length (slice_index_or zs 0 []))) e ∙ verb_back w
+
+pub same_rest : (v w : Verb) (xs ys : List Word) → verb_word v ∷ xs ≡ verb_word w ∷ ys → xs ≡ ys
+same_rest v w xs ys e = ap (drop 1) e
+
+set_once : (value : Option Word) (default most n m : ℕ) → IsSet value default most n → IsSet value default most m → n ≡ m
+set_once None default most n m h k = h ∙ sym k
+set_once (Some word) default most n m h k = h.0 ∙ sym k.0
+
+pub made_once : (hosts : ℕ) (g : Given) (c d : Command) → c.verb ≡ d.verb → Makes hosts g c → Makes hosts g d → c ≡ d
+made_once hosts g c d v m n =
+    let o : c.operand ≡ d.operand = ap (λ (x : Option Word). unwrap_or x c.operand) (sym m.operand ∙ n.operand) in
+    let w = set_once g.workers (min 4 hosts) hosts c.workers d.workers m.workers n.workers in
+    let r = set_once g.reducers 4 256 c.reducers d.reducers m.reducers n.reducers in
+    let s = set_once g.split 1048576 67108864 c.split d.split m.split n.split in
+    λ i. record { verb = v i; operand = o i; workers = w i; reducers = r i; split = s i }
+
+pub one_command : (hosts : ℕ) (words : List Word) (c d : Command) → IsCommand hosts words c → IsCommand hosts words d → c ≡ d
+one_command hosts words c d h k =
+    let same = sym h.begins ∙ k.begins in
+    let rest = same_rest c.verb d.verb h.rest k.rest same in
+    let given = one_given k.rest h.given k.given (subst (λ xs. Gives nothing_given xs h.given) rest h.gives) k.gives in
+    made_once hosts k.given c d (same_verb c.verb d.verb h.rest k.rest same) (subst (λ g. Makes hosts g c) given h.makes) k.makes
+
+-- ---- what words give has values
+
+this_one : (value w : Word) → IsOptionWord value → Some value ≡ Some w → IsOptionWord w
+this_one value w v e = subst IsOptionWord (ap (λ (x : Option Word). unwrap_or x value) e) v
+
+with_one : (g : Given) (s : Setting) (value : Word) → IsOptionWord value → AreValues g → AreValues (with_value s value g)
+with_one g Workers value v h = are_values (with_value Workers value g) (λ w e. this_one value w v e) (h Reducers) (h Split)
+with_one g Reducers value v h = are_values (with_value Reducers value g) (h Workers) (λ w e. this_one value w v e) (h Split)
+with_one g Split value v h = are_values (with_value Split value g) (h Workers) (h Reducers) (λ w e. this_one value w v e)
+
+pub values_given : {g end : Given} {words : List Word} → Gives g words end → AreValues g → AreValues end
+values_given finished h = h
+values_given (operand {g = g} {word = word} plain free more) h = values_given more (are_values (with_operand word g) (h Workers) (h Reducers) (h Split))
+values_given (joined {g = g} s value is v free more) h = values_given more (with_one g s value v h)
+values_given (apart {g = g} {value = value} s is v free more) h = values_given more (with_one g s value v h)
+values_given (dashes is) h = h
+values_given (operand_last {g = g} {last = last} is free) h = are_values (with_operand last g) (h Workers) (h Reducers) (h Split)
+
+pub none_given : AreValues nothing_given
+none_given = are_values nothing_given (λ v e. cc) (λ v e. cc) (λ v e. cc)
+
+-- a command of words whose options were read is made of what was read
+pub made_of_read : (hosts : ℕ) (words : List Word) (v : Verb) (g : Given) (c : Command) → words ≡ verb_word v ∷ drop 1 words → AreRead (drop 1 words) g → IsCommand hosts words c
+    → (c.verb ≡ v) × AreValues g × Makes hosts g c
+made_of_read hosts words v g c begins read is =
+    let same = sym is.begins ∙ begins in
+    let gives = subst (λ xs. Gives nothing_given xs is.given) (same_rest c.verb v is.rest (drop 1 words) same) is.gives in
+    let given = read.only is.given gives in
+    (same_verb c.verb v is.rest (drop 1 words) same, subst AreValues given (values_given gives none_given), subst (λ x. Makes hosts x c) given is.makes)

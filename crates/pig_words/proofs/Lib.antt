@@ -1,0 +1,7 @@
+mod ClapRows
+mod ClapTurns
+mod ClapReads
+mod ClapFinds
+mod WordNumbers
+pub mod Commands
+pub mod Decisions

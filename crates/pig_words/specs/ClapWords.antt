@@ -1,0 +1,83 @@
+-- The command that clap reads the words by, and what it finds.
+use Rattle.std.specs.Prelude.{◌≡◌, ◌&&◌, ℕ, Bool, true, List, length, nat_le, if◌then◌else◌, min, is_some, Option, Some, None, option_map, option_and_then, codes}
+use Rattle.std.specs.Char.{is_ascii_digit}
+use Rattle.std.specs.List.{list_all}
+use Rattle.std.specs.Str.Parse.{digits_value}
+use Rattle.clap.specs.Words.{App, Rule, new_app, new_rule, with_rule}
+use Rattle.clap.specs.Simple.{on_top}
+use Rattle.clap.specs.declared.builder.action.ArgAction.TheVariants.{Set}
+use Rattle.pig_words.specs.CommandWords.{Given, Gives, IsOptionWord, Setting, Workers, Reducers, Split, Word, nothing_given, option_of}
+use Rattle.pig_words.specs.declared.words.Found.{Found}
+use Rattle.pig_words.specs.declared.words.Verb.{Verb}
+use Rattle.pig_words.specs.declared.words.Verb.TheVariants as verbs
+
+-- the name under which clap keeps the value of an option, which is the option's long name
+abbrev pub name_of : Setting → Word
+name_of Workers = codes "workers"
+name_of Reducers = codes "reducers"
+name_of Split = codes "split"
+
+abbrev pub operand_rule : Rule
+operand_rule = record (new_rule (codes "operand")) { required = true; action = Some Set }
+
+abbrev pub option_rule : Word → Rule
+option_rule name = record (new_rule name) { long = Some name; action = Some Set }
+
+-- no flag for help or the version
+abbrev pub bare_pig : App
+bare_pig = on_top (λ s. record s { disable_help_flag = true; disable_version_flag = true }) (new_app (codes "pig"))
+
+-- a command with one operand and three options
+abbrev pub pig : App
+pig = with_rule (with_rule (with_rule (with_rule bare_pig operand_rule)
+    (option_rule (name_of Workers))) (option_rule (name_of Reducers))) (option_rule (name_of Split))
+
+-- what clap found, as what was given
+abbrev pub given_of : Found → Given
+given_of f = record {
+  operand = Some f.operand.now;
+  workers = option_map (λ s. s.now) f.workers;
+  reducers = option_map (λ s. s.now) f.reducers;
+  split = option_map (λ s. s.now) f.split;
+}
+
+-- each option that was given has a value
+abbrev pub AreValues : Given → Type 0
+AreValues g = (s : Setting) (v : Word) → option_of s g ≡ Some v → IsOptionWord v
+
+-- the words give just this, and do give it where the options have values
+pub record AreRead (words : List Word) (g : Given) : Type 0 where
+  pub gives : AreValues g → Gives nothing_given words g
+  pub only : (end : Given) → Gives nothing_given words end → end ≡ g
+
+-- what the words give, if anything, has no operand
+abbrev pub LackOperand : List Word → Type 0
+LackOperand words = (end : Given) → Gives nothing_given words end → end.operand ≡ None
+
+abbrev pub is_value : Word → Bool
+is_value word = nat_le 1 (length word) && nat_le (length word) 9 && list_all is_ascii_digit word
+
+-- the number of a value from 1 to `most`
+abbrev pub number_at : ℕ → Word → Option ℕ
+number_at most word = if is_value word && nat_le 1 (digits_value 10 word) && nat_le (digits_value 10 word) most then Some (digits_value 10 word) else None
+
+abbrev pub setting_at : ℕ → ℕ → Option Word → Option ℕ
+setting_at default most None = Some default
+setting_at default most (Some word) = number_at most word
+
+infixl 10 ◌>>=◌
+abbrev pub ◌>>=◌ : {A B : Type 0} → Option A → (A → Option B) → Option B
+o >>= f = option_and_then f o
+
+-- the numbers of workers and of reduce tasks, and the length of a split
+unfoldable pub numbers_at : ℕ → Given → Option (ℕ × ℕ × ℕ)
+numbers_at hosts g = do
+  workers ← setting_at (min 4 hosts) hosts g.workers
+  reducers ← setting_at 4 256 g.reducers
+  split ← setting_at 1048576 67108864 g.split
+  Some (workers, reducers, split)
+
+-- `demo` takes a count
+abbrev pub takes : Verb → Word → Bool
+takes verbs.Demo word = is_some (number_at 100000 word)
+takes _ word = true

@@ -1,0 +1,2 @@
+-- Compressed files are left out.
+a = LOAD 'a.gz' AS (x:int);

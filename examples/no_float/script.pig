@@ -1,0 +1,2 @@
+-- Floating numbers are left out.
+a = LOAD 'a' AS (x:double);

@@ -1,0 +1,3 @@
+-- There is nothing at the path `b`.
+b = LOAD 'b' AS (x:int);
+STORE b INTO 'c';

@@ -1,1 +1,0 @@
-x = FILTER nope BY @;

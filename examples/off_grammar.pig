@@ -1,2 +1,0 @@
-y = LOAD 'marks' AS (k:int);
-x = ;
