@@ -75,6 +75,107 @@ fn commits_fail_in_turn(rt: HostRuntime) -> Result<(), Fail> {
     Ok(())
 }
 
+const WORD_COUNT: &str = "a = LOAD 'a' AS (line:chararray);
+w = FOREACH a GENERATE FLATTEN(TOKENIZE(line)) AS word;
+g = GROUP w BY word;
+c = FOREACH g GENERATE group AS word, COUNT(w) AS n;
+o = ORDER c BY n DESC, word;
+STORE o INTO 'p';";
+
+const COUNTED: &str = "0 kept 0\nstored p 2\ndone 2 0 2\np whole the\t2\ncat\t1\n\nq none\n";
+
+const STORE: &str = "6 kept 0\npig: storage failed at statement 6\n";
+
+/// What is left of a word count by each call of each device.
+#[test]
+fn a_word_count_fails_in_turn(rt: HostRuntime) -> Result<(), Fail> {
+    let alloc = rt.alloc();
+    for (method, number, head, rest) in [
+        (Method::Script, 1, LOOK_UP, ""),
+        (Method::Pieces, 1, LOOK_UP, ""),
+        (Method::Exists, 1, LOOK_UP, ""),
+        (Method::Exists, 2, COUNTED, ""),
+        (
+            Method::Read,
+            1,
+            "7 kept 0\npig: host failed\np none\nq none\n",
+            "",
+        ),
+        (Method::Create, 1, STORE, "p none\nq none\n"),
+        (Method::Put, 1, STORE, "p open\nq none\n"),
+        (
+            Method::Finish,
+            1,
+            STORE,
+            "p open the\t2\ncat\t1\n\nq none\n",
+        ),
+        (
+            Method::Write,
+            1,
+            "10 kept 0\n",
+            "p whole the\t2\ncat\t1\n\nq none\n",
+        ),
+        (Method::Write, 2, COUNTED, ""),
+    ] {
+        let call = Some((method, number));
+        let got = told(&rt, alloc, &RUN, WORD_COUNT, "the cat\nthe\n", "", call)?;
+        let want = format!(in alloc; "{head}{rest}")?;
+        assert_eq!(rt; got.as_str(), want.as_str(), "at {method:?} {number}");
+    }
+    Ok(())
+}
+
+/// So many statements that are nothing, of so many bytes in all.
+fn empty_statements(alloc: Global, count: usize, bytes: usize) -> Result<String, AllocError> {
+    let mut script = String::new(alloc);
+    for _ in 0..count {
+        script.push_str(";")?;
+    }
+    for _ in count..bytes {
+        script.push_str(" ")?;
+    }
+    Ok(script)
+}
+
+/// The limits on a script: the last size that is taken, and one more.
+#[test]
+fn limits_are_where_they_are(rt: HostRuntime) -> Result<(), Fail> {
+    let alloc = rt.alloc();
+    let done = "0 kept 0\ndone 0 0 0\np none\nq none\n";
+    for (count, bytes, want) in [
+        (4096, 4096, done),
+        (
+            4097,
+            4097,
+            "11 kept 0\npig: too large: statements\np none\nq none\n",
+        ),
+        (1, 1_048_576, done),
+        (
+            1,
+            1_048_577,
+            "11 kept 0\npig: too large: script\np none\nq none\n",
+        ),
+    ] {
+        let script = empty_statements(alloc, count, bytes)?;
+        let got = told(&rt, alloc, &RUN, script.as_str(), "", "", None)?;
+        assert_eq!(rt; got.as_str(), want, "at {count} of {bytes}");
+    }
+    let got = told(
+        &rt,
+        alloc,
+        &RUN,
+        nested(alloc, 64)?.as_str(),
+        "2\n",
+        "",
+        None,
+    )?;
+    assert_eq!(rt;
+        got.as_str(),
+        "0 kept 0\nstored p 1\ndone 1 0 1\np whole 2\n\nq none\n"
+    );
+    Ok(())
+}
+
 /// A script with a condition in so many parentheses.
 fn nested(alloc: Global, depth: usize) -> Result<String, AllocError> {
     let mut script = String::from_str(alloc, "a = LOAD 'a' AS (x:int); b = FILTER a BY ")?;
