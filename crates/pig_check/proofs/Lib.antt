@@ -10,3 +10,5 @@ mod Filters
 mod Unites
 mod Sound
 mod Steps
+mod Within
+mod Apart

@@ -1,7 +1,7 @@
 -- What stands before a statement: what the aliases mean, and the nodes so far; and what a statement adds to that.
 -- (Pig Latin Basics: "Relations, Bags, Tuples, Fields".)
-use Rattle.std.specs.Prelude.{⊤, ◌≡◌, ◌<◌, ◌++◌, ℕ, Bool, true, false, List, [], ◌∷◌, map}
-use Rattle.std.specs.List.{AllByRecursion, list_any}
+use Rattle.std.specs.Prelude.{⊤, ◌≡◌, ◌<◌, ◌++◌, ℕ, Bool, true, false, List, [], ◌∷◌, map, Option, Some, None, bytes_eq}
+use Rattle.std.specs.List.{AllByRecursion, IsDistinct, filter_map, list_any}
 use Rattle.pig_schema.specs.FieldTrees.{FieldTree}
 use Rattle.pig_plan.specs.Plans.{Plan, PlanNode, PlanOp, p_load, p_store}
 use Rattle.pig_plan.specs.NodeKinds.{kinds_at}
@@ -70,3 +70,22 @@ is_loaded path nodes = list_any (λ node. loads_beside path node.op) nodes
 
 abbrev pub is_stored : List ℕ → Plan → Bool
 is_stored path nodes = list_any (λ node. stores_beside path node.op) nodes
+
+-- ---- the STOREs of a plan
+
+-- the path of a STORE
+abbrev pub stored_path : PlanOp → Option (List ℕ)
+stored_path (p_store input path delimiter) = Some path
+stored_path o = None
+
+-- the paths of a plan's STOREs, in order
+abbrev pub stored_paths : Plan → List (List ℕ)
+stored_paths plan = filter_map (λ node. stored_path node.op) plan
+
+-- no two STOREs have one path
+abbrev pub StoresAreApart : Plan → Type 0
+StoresAreApart plan = IsDistinct bytes_eq (stored_paths plan)
+
+-- nor is the path of one within that of another
+abbrev pub NoStoresCollide : Plan → Type 0
+NoStoresCollide plan = IsDistinct collide (stored_paths plan)

@@ -5,7 +5,8 @@
 //!
 //! `specs/Statements` has the typing of statements as a relation, one case for each form, beside the condition of each kind of refusal;
 //! `specs/Operators`, `specs/Splits`, `specs/Unions` and `specs/Paths` its parts, and `specs/Scripts` what the plan of a script is.
-//! [`a_script_has_one_plan`] says that a script has one plan or a first refusal, and never both.
+//! [`a_script_has_one_plan`] says that a script has one plan or a first refusal, and never both; [`stores_are_apart`] that no two
+//! STOREs of a plan have one path.
 #![tactic(auto)]
 
 mod checking;
@@ -22,4 +23,4 @@ mod unions;
 
 pub use checking::check;
 pub use faults::CheckFault;
-pub use laws::a_script_has_one_plan;
+pub use laws::{a_script_has_one_plan, stores_are_apart};

@@ -79,7 +79,7 @@ fn stores_beside(path: &Text, op: &NodeOp) -> bool
     ensures { result ≡ stores_beside path.now (op_of op.now) }
 {
     match op {
-        NodeOp::Store { path: other, .. } => collide(path.as_bytes(), other.as_bytes()),
+        NodeOp::Store { path: other, .. } => collide(path.as_str(), other.as_str()),
         _ => false,
     }
 }

@@ -107,27 +107,20 @@ fn ends_so(path: &str, ending: &str) -> bool
 }
 
 /// Whether two paths are equal, or the components of one begin with those of the other.
-pub fn collide(path: &[u8], other: &[u8]) -> bool
+pub fn collide(path: &str, other: &str) -> bool
     ensures { result ≡ collide path.now other.now }
 {
     is_within(path, other) || is_within(other, path)
 }
 
-fn is_within(path: &[u8], other: &[u8]) -> bool
+// Texts are compared many bytes at a time: each STORE's path meets all earlier ones.
+fn is_within(path: &str, other: &str) -> bool
     ensures { result ≡ is_within path.now other.now }
 {
-    let mut left = path;
-    let mut behind = other;
-    while let [a, path_rest @ ..] = left {
-        match behind {
-            [b, other_rest @ ..] if a == b => {
-                left = path_rest;
-                behind = other_rest;
-            }
-            _ => return false,
-        }
+    match other.strip_prefix(path) {
+        Some(behind) => is_end(behind.as_bytes()),
+        None => false,
     }
-    is_end(behind)
 }
 
 fn is_end(behind: &[u8]) -> bool

@@ -88,7 +88,7 @@ fn loads_beside(path: &Text, op: &NodeOp) -> bool
     ensures { result ≡ loads_beside path.now (op_of op.now) }
 {
     match op {
-        NodeOp::Load { path: other, .. } => collide(path.as_bytes(), other.as_bytes()),
+        NodeOp::Load { path: other, .. } => collide(path.as_str(), other.as_str()),
         _ => false,
     }
 }
