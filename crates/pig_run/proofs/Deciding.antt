@@ -20,10 +20,10 @@ use Rattle.pig_run.specs.Reading.{IsFound, Refuses, Runs, Verdict}
 use Rattle.pig_run.specs.Refusals.{Refusal, no_command, no_input, no_script, output_there, too_large}
 use Rattle.pig_run.proofs.Readings.{PlanLaws, one_found, some_found}
 
-just : {A : Type 0} {x y : A} → Some x ≡ Some y → x ≡ y
+pub just : {A : Type 0} {x y : A} → Some x ≡ Some y → x ≡ y
 just e = cc
 
-not_none : {A B : Type 0} {x : A} → None ≡ Some x → B
+pub not_none : {A B : Type 0} {x : A} → None ≡ Some x → B
 not_none e = absurd (cc)
 
 -- the same is due and asked
@@ -74,7 +74,7 @@ module _ (is_so : List ℕ → Bool) (refusal : List ℕ → Refusal) (m : Metho
   some_looks some = by_find (find is_so paths) refl
     where
       by_find : (o : Option (List ℕ)) → find is_so paths ≡ o → IsSome (Looks is_so refusal m paths next)
-      by_find None e = (map (call m) paths ++ some.0, some.1.0, passed e some.1.1)
+      by_find None e = (map (call m) paths ++ some.0, some.1, passed e some.2)
       by_find (Some path) e = (map (call m) (through is_so paths), Refuses (refusal path), stopped e)
 
 one_size : (plan : Plan) (s : Shelf) → IsOne (SizeDue plan s)
@@ -89,7 +89,7 @@ some_outputs plan s = some_looks (λ dir. has_dir dir s) output_there method.Exi
 some_size : (plan : Plan) (s : Shelf) → IsSome (SizeDue plan s)
 some_size plan s = elim (cases_lt (2 ^ 26) (sum_by (size_of s) (live_paths plan))) [
   | inl big ↦ ([], Refuses (too_large large.Input), too_big big)
-  | inr few ↦ (let rest = some_outputs plan s in (rest.0, rest.1.0, small few rest.1.1))
+  | inr few ↦ (let rest = some_outputs plan s in (rest.0, rest.1, small few rest.2))
 ]
 
 one_inputs : (plan : Plan) (s : Shelf) → IsOne (InputsDue plan s)
@@ -122,7 +122,7 @@ module _ (laws : PlanLaws) (path : List ℕ) (s : Shelf) where
     where
       by_verdict : (script : List ℕ) (v : Verdict) → script_of path s ≡ Some script → IsFound script v → IsSome (ScriptDue path s)
       by_verdict script (Refuses r) h is = (call method.Script path ∷ [], Refuses r, script_refused h is)
-      by_verdict script (Runs plan) h is = let rest = some_inputs plan s in (call method.Script path ∷ rest.0, rest.1.0, script_found h is rest.1.1)
+      by_verdict script (Runs plan) h is = let rest = some_inputs plan s in (call method.Script path ∷ rest.0, rest.1, script_found h is rest.2)
 
       by_script : (o : Option (List ℕ)) → script_of path s ≡ o → IsSome (ScriptDue path s)
       by_script None e = (call method.Script path ∷ [], Refuses no_script, script_missing e)
@@ -138,6 +138,6 @@ module _ (laws : PlanLaws) (line : Line) (s : Shelf) where
 
   pub some_due : IsSome (IsDue line s)
   some_due = elim (words_decided line) [
-    | inl words ↦ (let rest = some_script laws words.0 s in (rest.0, rest.1.0, with_words words.1 rest.1.1))
+    | inl words ↦ (let rest = some_script laws words.0 s in (rest.0, rest.1, with_words words.1 rest.2))
     | inr none ↦ ([], Refuses no_command, no_words none)
   ]

@@ -1,11 +1,12 @@
 -- From how the steps ended to what a call says of a shelf that is told.
 use Rattle.std.proofs.Common.{◌≡◌, ◌<◌, ◌≤◌, ◌+◌, ◌++◌, ◌%◌, ◌^◌, ℕ, zero, suc, Bool, true, false, List, [], ◌∷◌, length, map, Option, Some, None, Result, Ok, Err, refl, sym, ◌∙◌, ap, subst, arith, inl, inr, ◌⊎◌, cond}
 use Rattle.std.specs.List.{flat_map, sum_by}
-use Rattle.std.specs.Option.{option_map}
+use Rattle.std.specs.Option.{ForSome, option_map}
 use Rattle.std.proofs.lemmas.Bool.{cases_Bool}
 use Rattle.std.proofs.lemmas.List.{append_assoc, append-nil}
-use Rattle.std.proofs.lemmas.List.Concat.{flat_map-map}
+use Rattle.std.proofs.lemmas.List.Folds.{flat_map-map}
 use Rattle.std.proofs.lemmas.List.Sums.{sum_by-cons}
+use Rattle.std.specs.Result.{is_ok}
 use Rattle.pig_value.specs.declared.inputs.Input.{Input}
 use Rattle.pig_value.specs.declared.outcomes.Kept.{Kept}
 use Rattle.pig_value.specs.Trees.{Tree, rows_tree}
@@ -20,15 +21,16 @@ use Rattle.pig_run.specs.declared.outcome.Counts.{Counts}
 use Rattle.pig_run.specs.declared.outcome.RunFault.{RunFault}
 use Rattle.pig_run.specs.declared.outcome.RunFault.TheVariants as fault
 use Rattle.pig_run.specs.declared.progress.Progress.{Progress}
+use Rattle.pig_run.specs.declared.running.Found.{Found}
 use Rattle.pig_run.specs.Due.{IsDue, Line, RunDue, runs, store_calls}
 use Rattle.pig_run.specs.Ends.{Ends, done, host_failed, lookup_failed, no_memory, no_memory_at, no_memory_behind, refused, store_failed}
 use Rattle.pig_run.specs.Outputs.{AreCounts, AreOutputsOf, AreStored, IsStopped, IsUntouched, IsWhole, Left, LeftOpen, Output, with_outputs}
 use Rattle.pig_run.specs.Reading.{Refuses, Runs, Verdict}
 use Rattle.pig_run.specs.Refusals.{Names, by_depot, by_host, by_memory, cause_of}
-use Rattle.pig_run.specs.Running.{AskedFor, IsBrokenAt, IsNotBegun, Relation, RunEnd, RunsEnd, counts_in, found_in, is_done, kept_in, note_of, noted_line, output_of, outputs_of}
+use Rattle.pig_run.specs.Running.{AskedFor, IsBrokenAt, IsFoundOver, IsNotBegun, Relation, RunEnd, RunsEnd, counts_in, found_in, kept_in, note_of, noted_line, output_of, outputs_of}
 use Rattle.pig_run.specs.Steps.{IsCommitFault, IsHostStep, IsLookFault, Passes, Stops}
 use Rattle.pig_run.specs.Texts.{done_line, done_text}
-use Rattle.pig_run.specs.Told.{CountsAre, EndsEarly, IsAsked}
+use Rattle.pig_run.specs.Told.{CountsAre, EndsEarly, IsAsked, Tells, TellsOf}
 use Rattle.pig_run.proofs.Deciding.{some_due}
 use Rattle.pig_run.proofs.Found.{outputs_are, relations_are}
 use Rattle.pig_run.proofs.Readings.{PlanLaws}
@@ -79,13 +81,13 @@ module _ (laws : PlanLaws) (line : Line) (s : Shelf) (tells : Type 0) (old new :
     | inr e ↦
         let due = some_due laws line s in
         record {
-          verdict = due.1.0;
+          verdict = due.1;
           calls = due.0;
-          due = due.1.1;
+          due = due.2;
           outs = [];
-          state = left_look due.1.0 f e.free;
-          asked = record { made = stops.made; asked = stops.asked; first = e.first due.0 due.1.0 due.1.1; all = λ early. absurd (early (early_look f e.free)) };
-          numbers = no_numbers tells due.1.0 s [] (counts_in progress) f;
+          state = left_look due.1 f e.free;
+          asked = record { made = stops.made; asked = stops.asked; first = e.first due.0 due.1 due.2; all = λ early. absurd (early (early_look f e.free)) };
+          numbers = no_numbers tells due.1 s [] (counts_in progress) f;
           text = tt;
         }
   ]
@@ -109,6 +111,25 @@ told_runs line s tells plan old mid new shelf progress result passes told = reco
   numbers = told.numbers;
   text = told.text;
 }
+
+-- ---- what was found over the inputs that the host tells
+
+-- they are those of the shelf
+told_inputs : (shelf : Option Shelf) (s : Shelf) (i : List Input) → shelf ≡ Some s → option_map (λ s. s.inputs) shelf ≡ Some i → i ≡ s.inputs
+told_inputs shelf s i told is = let e = sym is ∙ ap (option_map (λ s. s.inputs)) told in cc
+
+module _ (plan : Plan) (s : Shelf) (shelf : Option Shelf) (told : shelf ≡ Some s) (inputs : Option (List Input)) (of : TellsOf shelf inputs) (found : Found)
+    (over : ForSome inputs (λ i. IsFoundOver plan i found)) where
+  over_shelf : Tells inputs → IsFoundOver plan s.inputs found
+  over_shelf (i, is) = subst (λ j. IsFoundOver plan j found) (told_inputs shelf s i told (of i is)) (over i is)
+
+  pub answers_over : (kept : List Kept) (relations : List Relation) → kept ≡ found.answers.kept → relations ≡ found.answers.stores → Tells inputs → IsAnswer plan s.inputs kept (map rows_tree relations)
+  answers_over kept relations kept_is relations_are tells =
+      subst (λ k. IsAnswer plan s.inputs k (map rows_tree relations)) (sym kept_is)
+      (subst (λ rs. IsAnswer plan s.inputs found.answers.kept (map rows_tree rs)) (sym relations_are) (over_shelf tells).answer)
+
+  pub read_over : (read : ℕ) → read ≡ found.read → Tells inputs → read ≡ lines_read plan s.inputs % 2 ^ 64
+  read_over read is tells = is ∙ (over_shelf tells).read
 
 -- ---- the run's own steps
 

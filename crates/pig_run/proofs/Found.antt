@@ -75,7 +75,7 @@ stored_names (p_rank input keys dense) k h = absurd (cc)
 module _ (plan : Plan) (valid : IsPlan plan) where
   store_lives : (n k : ℕ) (path : List ℕ) (delim statement : ℕ) → slice_get plan n ≡ Some (record { op = p_store k path delim; statement = statement }) → is_live plan k ≡ true
   store_lives n k path delim statement at =
-      let node = record { op = p_store k path delim; statement = statement } in
+      let node : PlanNode = record { op = p_store k path delim; statement = statement } in
       let lives : is_live plan n ≡ true = ap (λ o. option_map_or (λ node. is_store node.op || is_used n (n + 1) (drop (n + 1) plan)) o false) at in
       named_lives plan n node at lives k (names_lower plan valid n node at).0 (ap (λ b. b || false) ((Decides-eqb k k).1 refl))
 
@@ -92,7 +92,7 @@ module _ (plan : Plan) (valid : IsPlan plan) where
       by_stored (Some k) e rest =
           let is = stored_names node.op k e in
           let here : slice_get plan n ≡ Some node = let z : n + 0 ≡ n = omega arith in ap (slice_get plan) (sym z) ∙ h zero node refl in
-          (store_lives n k is.0 is.1.0 node.statement (here ∙ ap (λ o. Some (record { op = o; statement = node.statement })) is.1.1), rest)
+          (store_lives n k is.0 is.1 node.statement (here ∙ ap (λ o. Some (record { op = o; statement = node.statement })) is.2), rest)
 
   pub relations_live : AllByRecursion (λ k. is_live plan k ≡ true) (stored_relations plan)
   relations_live = each_lives 0 plan (λ m v at. let z : 0 + m ≡ m = omega arith in ap (slice_get plan) z ∙ at)

@@ -1,3 +1,4 @@
+mod Apart
 mod Deciding
 mod Ending
 mod Found

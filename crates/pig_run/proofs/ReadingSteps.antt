@@ -1,5 +1,5 @@
 -- The steps of the reading of a script.
-use Rattle.std.proofs.Common.{◌≡◌, ◌+◌, ◌<◌, ◌≤◌, ◌^◌, ℕ, suc, refl, arith, List, [], ◌∷◌, ◌++◌, length, take, get_or, Option, Some, None, MatchOption, Result, Ok, Err, sym, ◌∙◌, ap, subst, inl, inr, add-one}
+use Rattle.std.proofs.Common.{◌≡◌, ◌+◌, ◌<◌, ◌≤◌, ◌^◌, ℕ, suc, refl, arith, List, [], ◌∷◌, ◌++◌, length, take, get_or, Option, Some, None, MatchOption, Result, Ok, Err, sym, ◌∙◌, ap, subst, inl, inr, ◌⊎◌, add-one}
 use Rattle.std.specs.List.{All}
 use Rattle.std.proofs.Math.Seq.{take-suc}
 use Rattle.std.proofs.lemmas.List.{take_all}
@@ -7,11 +7,14 @@ use Rattle.std.proofs.lemmas.List.Elements.{All-append, All-cons, All-nil}
 use Rattle.pig_syntax.specs.declared.cutting.Piece.{Piece}
 use Rattle.pig_syntax.specs.declared.tokens.Token.{Token}
 use Rattle.pig_syntax.specs.declared.trees.Stmt.{Stmt}
-use Rattle.pig_parser.specs.Parsing.{AreTrees, no_trees, trees}
+use Rattle.pig_parser.specs.Parsing.{AreTrees, IsFirstOff, no_trees, trees}
+use Rattle.pig_syntax.specs.Tokens.{IsBadAt}
 use Rattle.pig_run.specs.declared.outcome.RunFault.{RunFault}
 use Rattle.pig_plan.specs.declared.plan.Plan.{Plan}
 use Rattle.pig_plan.specs.Plans.{plan_of}
-use Rattle.pig_run.specs.Reading.{Verdict, Refuses, Runs}
+use Rattle.pig_run.specs.declared.outcome.RunFault.TheVariants as fault
+use Rattle.pig_run.specs.Reading.{IsLexed, IsParsed, Verdict, Refuses, Runs, bad_place, no_tree}
+use Rattle.pig_run.specs.Refusals.{Names, Refusal, no_token, off_grammar}
 use Rattle.pig_run.specs.Steps.{TellsPlan}
 
 -- what a stage finds, the stage before it finds
@@ -19,6 +22,13 @@ pub tells_weaker : (P Q : Verdict → Type 0) → ((v : Verdict) → P v → Q v
 tells_weaker P Q weaker (Ok plan) h = weaker (Runs (plan_of plan)) h
 tells_weaker P Q weaker (Err f) (inl h) = inl (h.0, weaker (Refuses h.0) h.1, h.2)
 tells_weaker P Q weaker (Err f) (inr h) = inr h
+
+-- a refusal that the reading found
+pub off_told : (ts : List Token) (ps : List Piece) {n : ℕ} → IsFirstOff ts ps n → ((refusal : Refusal) × IsParsed ts ps (Refuses refusal) × Names refusal (fault.Syntax n)) ⊎ (fault.Syntax n ≡ fault.OutOfMemory)
+off_told ts ps {n = n} off = inl (off_grammar n, no_tree off, refl)
+
+pub bad_told : (script : List ℕ) {n : ℕ} → IsBadAt script n → ((refusal : Refusal) × IsLexed script (Refuses refusal) × Names refusal (fault.Lex n)) ⊎ (fault.Lex n ≡ fault.OutOfMemory)
+bad_told script {n = n} bad = inl (no_token n, bad_place bad, refl)
 
 -- one more member passes
 pub passes_more : {X : Type 0} (P : X → Type 0) (xs : List X) (i : ℕ) (x : X) → i < length xs → x ≡ get_or xs i x → P x → All P (take i xs) → All P (take (i + 1) xs)

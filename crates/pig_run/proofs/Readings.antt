@@ -73,7 +73,7 @@ module _ (laws : PlanLaws) where
   some_checked : (ss : List Stmt) → (v : Verdict) × IsChecked ss v
   some_checked ss = elim (laws.some ss) [
     | inl plan ↦ (Runs plan.0, checked plan.1)
-    | inr none ↦ (Refuses (untyped ss none.0), no_typing none.1.1)
+    | inr none ↦ (Refuses (untyped ss none.0), no_typing none.2)
   ]
 
   some_parsed : (ts : List Token) (ps : List Piece) → (v : Verdict) × IsParsed ts ps v

@@ -3,12 +3,12 @@ use Rattle.std.proofs.Common.{◌≡◌, ◌≢◌, ◌<◌, ◌≤◌, ◌+◌,
 use Rattle.std.specs.List.{AllByRecursion, flat_map}
 use Rattle.std.specs.Option.{is_some, option_map}
 use Rattle.std.proofs.Math.Seq.{take-suc}
-use Rattle.std.proofs.lemmas.List.{append_assoc, append-nil, drop_more, length-take, map-append, take_all, take-append-drop}
+use Rattle.std.proofs.lemmas.List.{append_assoc, append-nil, drop_more, get_or-map, length-take, map-append, take_all, take-append-drop}
 use Rattle.std.proofs.lemmas.List.Concat.{flat_map-append}
 use Rattle.std.specs.Str.{bytes_eq}
 use Rattle.pig_outside.proofs.ShelfLaws.{bytes_eq-same, state_of-set_dir_other}
 use Rattle.pig_outside.specs.Calls.{DepotCall}
-use Rattle.pig_outside.specs.Shelf.{Shelf, has_dir, state_of, whole_state, with_dir}
+use Rattle.pig_outside.specs.Shelf.{CanCreate, Shelf, has_dir, state_of, whole_state, with_dir}
 use Rattle.pig_outside.specs.declared.contents.DirState.{DirState}
 use Rattle.pig_reach.specs.declared.storing.Store.{Store}
 use Rattle.pig_run.specs.declared.outcome.RunFault.{RunFault}
@@ -43,12 +43,9 @@ absent_after : (s : Shelf) (t : Store) (state : DirState) (ts : List Store) → 
 absent_after s t state [] apart h = tt
 absent_after s t state (u ∷ ts) apart h =
     let both = either_false (bytes_eq u.dir t.dir) (is_stored_in t.dir ts) apart in (
-      ap is_some (ap (option_map (λ x. x)) (same u.dir (other_dir u.dir t.dir both.0))) ∙ h.0,
+      ap is_some (state_of-set_dir_other u.dir t.dir state s.dirs (other_dir u.dir t.dir both.0)) ∙ h.0,
       absent_after s t state ts both.1 h.1,
     )
-  where
-    same : (q : List ℕ) → q ≢ t.dir → option_map (λ x. x) (state_of q (with_dir t.dir state s).dirs) ≡ option_map (λ x. x) (state_of q s.dirs)
-    same q h = ap (option_map (λ x. x)) (state_of-set_dir_other q t.dir state s.dirs h)
 
 -- the directory of a STORE is not there when its turn comes
 pub absent_now : (s : Shelf) (stores : List Store) (relations : List Relation) (place : ℕ) (store d : Store) → length relations ≡ length stores → AllByRecursion (IsAbsentIn s) stores
@@ -62,6 +59,23 @@ absent_now s (t ∷ ts) (r ∷ rs) (suc place) store d each h apart within at =
     let out = output_of t r in
     absent_now (with_dir out.dir (whole_state (out.bytes ∷ [])) s) ts rs place store d (omega (arith, each))
     (absent_after s t (whole_state (out.bytes ∷ [])) ts (not_true (is_stored_in t.dir ts) both.0) h.1) both.1 (omega (arith, within)) at
+
+pub dir_at : (stores : List Store) (place : ℕ) (store d : Store) → place < length stores → store ≡ get_or stores place d → store.dir ≡ get_or (map (λ store. store.dir) stores) place []
+dir_at stores place store d within at = ap (λ store. store.dir) at ∙ sym (get_or-map (λ store. store.dir) stores place d [] within)
+
+nothing_there : (o : Option DirState) → is_some o ≡ false → o ≡ None
+nothing_there None h = refl
+nothing_there (Some state) h = absurd (cc)
+
+-- so it may be made
+pub may_create : (old now : Option Shelf) (stores : List Store) (relations : List Relation) (place : ℕ) (store d : Store) → now ≡ option_map (with_outputs (outputs_of (take place stores) (take place relations))) old
+    → length relations ≡ length stores → ((s : Shelf) → old ≡ Some s → AllByRecursion (IsAbsentIn s) stores) → are_apart stores ≡ true → place < length stores
+    → store ≡ get_or stores place d → (x : Shelf) → now ≡ Some x → CanCreate store.dir x
+may_create None now stores relations place store d is each absent apart within at x told = absurd (let e = sym is ∙ told in cc)
+may_create (Some s) now stores relations place store d is each absent apart within at x told =
+    let same : with_outputs (outputs_of (take place stores) (take place relations)) s ≡ x = (let e = sym is ∙ told in cc) in
+    nothing_there (state_of store.dir x.dirs)
+    (subst (λ y. has_dir store.dir y ≡ false) same (absent_now s stores relations place store d each (absent s refl) apart within at))
 
 -- ---- outputs
 
@@ -89,7 +103,7 @@ pub record StoredSoFar (stores : List Store) (relations : List Relation) (place 
   pub asked : Asked (flat_map store_calls (map (λ store. store.dir) (take place stores))) calls_old calls_now
   pub notes : notes_now ≡ notes_old ++ map note_of (outputs_of (take place stores) (take place relations))
 
-taken : {X : Type 0} (xs : List X) (place : ℕ) (x d : X) → place < length xs → x ≡ get_or xs place d → take (place + 1) xs ≡ take place xs ++ x ∷ []
+pub taken : {X : Type 0} (xs : List X) (place : ℕ) (x d : X) → place < length xs → x ≡ get_or xs place d → take (place + 1) xs ≡ take place xs ++ x ∷ []
 taken xs place x d within at = ap (λ n. take n xs) (add-one place) ∙ take-suc xs place d within ∙ ap (λ y. take place xs ++ y ∷ []) (sym at)
 
 module _ (stores : List Store) (relations : List Relation) (each : length relations ≡ length stores) (place : ℕ) (store d : Store) (rows e : Relation)
@@ -157,7 +171,7 @@ module _ (stores : List Store) (relations : List Relation) (each : length relati
         ap (λ xs. flat_map store_calls (map (λ store. store.dir) xs)) split_stores
             ∙ ap (flat_map store_calls) (map-append (λ store. store.dir) (take place stores) (store ∷ drop (place + 1) stores))
             ∙ flat_map-append store_calls (map (λ store. store.dir) (take place stores)) (store.dir ∷ map (λ store. store.dir) (drop (place + 1) stores))
-            ∙ ap (λ xs. front ++ xs ++ rest) behind.1
+            ∙ ap (λ xs. front ++ (xs ++ rest)) behind.1
             ∙ ap (λ xs. front ++ xs) (append_assoc made behind.0 rest)
             ∙ sym (append_assoc front made (behind.0 ++ rest)),
       )

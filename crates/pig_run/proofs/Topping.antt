@@ -1,6 +1,8 @@
 -- From a run, and from what the console made of its text, to what the top call says.
-use Rattle.std.proofs.Common.{◌≡◌, ◌<◌, ◌≤◌, ℕ, List, [], ◌∷◌, length, map, drop, get_or, Option, Some, None, Result, Ok, Err, MatchResult, IfErr, IsErrOf, refl, sym, ◌∙◌, ap, subst, arith, inl, inr, ◌⊎◌}
+use Rattle.std.proofs.Common.{◌≡◌, ◌<◌, ◌≤◌, ℕ, List, [], ◌∷◌, length, map, drop, get_or, slice_set, Option, Some, None, Result, Ok, Err, MatchResult, IfErr, IsErrOf, refl, sym, ◌∙◌, ap, subst, arith, inl, inr, ◌⊎◌}
+use Rattle.std.specs.Result.{is_ok}
 use Rattle.pig_value.specs.declared.inputs.Input.{Input}
+use Rattle.pig_outside.specs.Calls.{DepotCall}
 use Rattle.pig_outside.specs.Shelf.{Shelf}
 use Rattle.pig_run.specs.declared.outcome.Counts.{Counts}
 use Rattle.pig_run.specs.declared.outcome.Outcome.{Outcome}
@@ -12,10 +14,10 @@ use Rattle.pig_run.specs.Ends.{Console, Ends, Fails, Shown, counts_shown, cut_sh
 use Rattle.pig_run.specs.Outputs.{Left}
 use Rattle.pig_run.specs.Reading.{Verdict, Refuses, Runs}
 use Rattle.pig_run.specs.Refusals.{Cause, by_depot, by_host, cause_of}
-use Rattle.pig_run.specs.Running.{RunEnd, counts_in, end_text, found_in, is_done, kept_in}
+use Rattle.pig_run.specs.Running.{RunEnd, RunTold, counts_in, end_text, found_in, kept_in}
 use Rattle.pig_run.specs.Steps.{DepotCause, HostCause, IsNotUsage, SaysWords, StoreCause}
-use Rattle.pig_run.specs.Texts.{answer_text}
-use Rattle.pig_run.specs.Told.{IsCaused, IsRight, Seen, SomeFailed, Told}
+use Rattle.pig_run.specs.Texts.{answer_text, fault_text}
+use Rattle.pig_run.specs.Told.{FirstTells, IsCaused, IsRight, Seen, SomeFailed, Tells, Told, first_of, line_of}
 
 -- ---- faults by their causes
 
@@ -84,7 +86,7 @@ text_is line s tells old new progress (Err f) r = refl
 
 pub told_all : (line : Line) (s : Shelf) (tells : Type 0) (old new : Seen) (outcome : Outcome) (progress : Progress) (result : Result (List ℕ) RunFault)
     → RunEnd line s tells old.calls new.calls new.shelf progress result
-    → Shown (end_text result) old.console new.console (found_in result) outcome.fault → outcome.kept ≡ kept_in (is_done result) progress
+    → Shown (end_text result) old.console new.console (found_in result) outcome.fault → outcome.kept ≡ kept_in (is_ok result) progress
     → outcome.counts ≡ counts_shown outcome.fault (counts_in progress) → DepotCause old.depot_faults new.depot_faults result → HostCause old.host_faults new.host_faults result
     → Told line s tells old new outcome
 told_all line s tells old new outcome progress result r shown kept counts depot host =
@@ -103,8 +105,37 @@ told_all line s tells old new outcome progress result r shown kept counts depot 
       text = subst (λ t. Shown t old.console new.console (found_in result) outcome.fault) (text_is line s tells old new progress result r) shown;
       counted = counts;
       complete = λ none. shown_right r.verdict (end_text result) old new (found_in result) outcome.fault shown none
-          (found_right tells s (record { outs = r.outs; kept = kept_in (is_done result) progress; shelf = new.shelf }) old new r.verdict (found_in result) r.state cause none);
+          (found_right tells s (record { outs = r.outs; kept = kept_in (is_ok result) progress; shelf = new.shelf }) old new r.verdict (found_in result) r.state cause none);
     }
+
+-- what a run told of each end
+pub run_told : (line : Line) (s : Shelf) (tells : Type 0) (old new : Option (List DepotCall)) (shelf : Option Shelf) (progress : Progress) (result : Result (List ℕ) RunFault)
+    → RunTold line s tells old new shelf progress result → RunEnd line s tells old new shelf progress result
+run_told line s tells old new shelf progress (Ok text) h = h
+run_told line s tells old new shelf progress (Err f) h = h
+
+-- so it is over the first of the hosts
+module _ {X : Type 0} (inputs : X → Option (List Input)) (faults : X → ℕ) where
+  pub told_over : (xs : List X) (x y d : X) → 1 ≤ length xs → x ≡ get_or xs 0 d → (words : List (List ℕ)) (hosts : ℕ) → hosts ≡ length xs → (s : Shelf) (old new : Seen)
+      → old.host_faults ≡ first_of faults xs → new.host_faults ≡ first_of faults (slice_set xs 0 y) → (outcome : Outcome) (progress : Progress) (result : Result (List ℕ) RunFault)
+      → RunEnd (record { hosts = hosts; words = words }) s (Tells (inputs x)) old.calls new.calls new.shelf progress result
+      → Shown (end_text result) old.console new.console (found_in result) outcome.fault → outcome.kept ≡ kept_in (is_ok result) progress
+      → outcome.counts ≡ counts_shown outcome.fault (counts_in progress) → DepotCause old.depot_faults new.depot_faults result → HostCause (faults x) (faults y) result
+      → Told (line_of xs words) s (FirstTells inputs xs) old new outcome
+  told_over [] x y d within at words hosts is s old new before now outcome progress result run shown kept counts depot host = absurd (omega (arith, within))
+  told_over (z ∷ zs) x y d within at words hosts is s old new before now outcome progress result run shown kept counts depot host =
+      let first : HostCause (faults z) (faults y) result = subst (λ w. HostCause (faults w) (faults y) result) at host in
+      let over : RunEnd (record { hosts = hosts; words = words }) s (Tells (inputs z)) old.calls new.calls new.shelf progress result =
+      subst (λ w. RunEnd (record { hosts = hosts; words = words }) s (Tells (inputs w)) old.calls new.calls new.shelf progress result) at run in
+      told_all (line_of (z ∷ zs) words) s (Tells (inputs z)) old new outcome progress result
+      (subst (λ n. RunEnd (record { hosts = n; words = words }) s (Tells (inputs z)) old.calls new.calls new.shelf progress result) is over)
+      shown kept counts depot
+      (subst (λ n. HostCause n new.host_faults result) (sym before) (subst (λ n. HostCause (faults z) n result) (sym now) first))
+
+  pub first_blamed : (xs : List X) (x y d : X) → 1 ≤ length xs → x ≡ get_or xs 0 d → (result : Result (List ℕ) RunFault) → HostCause (faults x) (faults y) result
+      → HostCause (first_of faults xs) (first_of faults (slice_set xs 0 y)) result
+  first_blamed [] x y d within at result host = absurd (omega (arith, within))
+  first_blamed (z ∷ zs) x y d within at result host = subst (λ w. HostCause (faults w) (faults y) result) at host
 
 -- ---- the causes of what is answered
 
@@ -193,3 +224,14 @@ module _ (text : List ℕ) (old new : Console) (result : Result (List ℕ) RunFa
       by_result (Err f) e (inl h) = by_shown f (ap found_in (sym e)) (inl h.0)
       by_result (Err f) e (inr (h, inl words)) = absurd (none words)
       by_result (Err f) e (inr (h, inr wants)) = by_shown f (ap found_in (sym e)) (inr wants)
+
+-- ---- where memory was wanting for the text of a fault
+
+-- what was printed in its place is that of want of memory
+pub without_memory : (text : List ℕ) (old new : Console) (f : RunFault) (final : Option RunFault) → Shown (fault_text fault.OutOfMemory) old new (Some fault.OutOfMemory) final → Shown text old new (Some f) final
+without_memory text old new f _ (printed sound is) = no_text sound is
+without_memory text old new f _ (failed fails is) = no_text_failed fails is
+without_memory text old new f _ (cut_short sound is) = no_text_cut sound is
+without_memory text old new f _ (no_text sound is) = no_text sound is
+without_memory text old new f _ (no_text_failed fails is) = no_text_failed fails is
+without_memory text old new f _ (no_text_cut sound is) = no_text_cut sound is

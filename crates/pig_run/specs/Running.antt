@@ -2,6 +2,7 @@
 use Rattle.std.specs.Prelude.{◌≡◌, ◌≤◌, ◌<◌, ◌++◌, ◌%◌, ◌^◌, ℕ, Bool, true, false, List, [], ◌∷◌, length, map, Option, Some, None, Result, Ok, Err, IfOk, MatchResult, if◌then◌else◌}
 use Rattle.std.specs.List.{AllByRecursion, flat_map, sum_by}
 use Rattle.std.specs.Option.{option_map, unwrap_or}
+use Rattle.std.specs.Result.{is_ok}
 use Rattle.pig_value.specs.declared.inputs.Input.{Input}
 use Rattle.pig_value.specs.declared.outcomes.Kept.{Kept}
 use Rattle.pig_value.specs.Texts.{rows_text}
@@ -98,15 +99,11 @@ abbrev pub end_text : Result (List ℕ) RunFault → List ℕ
 end_text (Ok text) = text
 end_text (Err found) = fault_text found
 
-abbrev pub is_done : {T : Type 0} → Result T RunFault → Bool
-is_done (Ok _) = true
-is_done (Err _) = false
-
 -- What the run of a plan says of a shelf that is told.
 pub record RunsEnd (plan : Plan) (shelf : Shelf) (tells : Type 0) (calls_old calls_new : Option (List DepotCall)) (new : Option Shelf) (progress : Progress)
     (result : Result (List ℕ) RunFault) : Type 0 where
   pub outs : List Output
-  pub state : Ends tells shelf (record { outs = outs; kept = kept_in (is_done result) progress; shelf = new }) (Runs plan) (found_in result)
+  pub state : Ends tells shelf (record { outs = outs; kept = kept_in (is_ok result) progress; shelf = new }) (Runs plan) (found_in result)
   pub asked : IsAsked (flat_map store_calls (dirs_of plan)) (found_in result) calls_old calls_new
   pub numbers : CountsAre tells (Runs plan) shelf outs (counts_in progress) (found_in result)
   pub text : IfOk result (λ text. text ≡ done_text outs (counts_in progress))
@@ -118,7 +115,7 @@ pub record RunEnd (line : Line) (shelf : Shelf) (tells : Type 0) (calls_old call
   pub calls : List DepotCall
   pub due : IsDue line shelf calls verdict
   pub outs : List Output
-  pub state : Ends tells shelf (record { outs = outs; kept = kept_in (is_done result) progress; shelf = new }) verdict (found_in result)
+  pub state : Ends tells shelf (record { outs = outs; kept = kept_in (is_ok result) progress; shelf = new }) verdict (found_in result)
   pub asked : IsAsked calls (found_in result) calls_old calls_new
   pub numbers : CountsAre tells verdict shelf outs (counts_in progress) (found_in result)
   pub text : IfOk result (λ text. text ≡ done_text outs (counts_in progress))

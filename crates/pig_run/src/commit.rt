@@ -78,6 +78,7 @@ fn store_rows<D: Depot>(
     ensures kept { progress.new.kept ≡ progress.old.kept }
     ensures read { progress.new.read ≡ progress.old.read }
     ensures begun { IsNotBegun progress.new.begun result (D.shelf depot.old) (D.shelf depot.new) }
+    ensures before { progress.new.begun ≡ false → progress.old.begun ≡ false }
 {
     let bytes = rows_bytes(alloc, rows, store.delim)?;
     progress.note(alloc, &store.dir, rows.len())?;

@@ -4,8 +4,9 @@ ghost use Rattle.std.specs.List.{AllByRecursion, sum_by};
 ghost use Rattle.pig_outside.specs.declared.failing.Method.TheVariants as method;
 ghost use Rattle.pig_plan.specs.Plans.{PlanNode, plan_of};
 ghost use Rattle.pig_reach.specs.Reach.{live_paths, stores_of};
+ghost use Rattle.pig_check.specs.States.{StoresAreApart};
 ghost use Rattle.pig_run.specs.Due.{AreWords, HasWords, InputsDue, IsDue, OutputsDue, RunDue, ScriptDue, SizeDue, call};
-ghost use Rattle.pig_run.specs.Looking.{HasSize, IsAbsentIn, IsPrepared, IsReady, LooksForInput, LooksForOutput, LooksForScript, LooksForSize, are_apart, is_stored_in, line_of, total_of};
+ghost use Rattle.pig_run.specs.Looking.{HasSize, IsAbsentIn, IsPrepared, IsReady, LooksForInput, LooksForOutput, LooksForScript, LooksForSize, line_of, total_of};
 ghost use Rattle.pig_run.specs.Steps.{DepotCause, IsPlanFault, SaysWords, Step, depot_fault_of};
 ghost use Rattle.pig_run.specs.Told.{Asked};
 ghost use Rattle.pig_run.specs.declared.outcome.RunFault.TheVariants as fault;
@@ -17,7 +18,7 @@ use crate::{RunFault, TooLarge};
 use pig_check::a_script_has_one_plan;
 use pig_outside::{Depot, OutsideError};
 use pig_plan::Plan;
-use pig_reach::{Store, Stores, live_paths, stores};
+use pig_reach::{Stores, live_paths, stores};
 use pig_value::{Lengths, Seq, Text, WordFault};
 use pig_words::{Verb, read_words};
 use std::alloc::Global;
@@ -84,6 +85,7 @@ fn script_bytes<D: Depot>(alloc: Global, depot: &mut D, path: &str) -> Result<Ve
 fn load_plan<D: Depot>(alloc: Global, depot: &mut D, path: &str) -> Result<Plan, RunFault>
     ensures told { ForSome (D.shelf depot.old) (λ s. Step (ScriptDue path.now s)
         (λ plan. InputsDue (plan_of plan) s) (D.calls depot.old) (D.calls depot.new) result) }
+    ensures apart { IfOk result (λ plan. StoresAreApart (plan_of plan)) }
     ensures fault { IfErr result IsPlanFault }
     ensures shelf { D.shelf depot.new ≡ D.shelf depot.old }
     ensures cause { DepotCause (D.faults depot.old) (D.faults depot.new) result }
@@ -236,34 +238,6 @@ fn check_outputs<D: Depot>(alloc: Global, depot: &mut D, stores: &Stores) -> Res
     Ok(())
 }
 
-/// Whether each STORE has a directory of its own.
-fn are_apart(stores: &Stores) -> bool
-    ensures { result ≡ are_apart stores.now }
-{
-    let mut left = stores.as_slice();
-    while let [store, rest @ ..] = left {
-        if is_stored_in(&store.dir, rest) {
-            return false;
-        }
-        left = rest;
-    }
-    true
-}
-
-/// Whether one of the STOREs has the directory.
-fn is_stored_in(dir: &Text, stores: &[Store]) -> bool
-    ensures { result ≡ is_stored_in dir.now stores.now }
-{
-    let mut left = stores;
-    while let [store, rest @ ..] = left {
-        if store.dir.as_bytes() == dir.as_bytes() {
-            return true;
-        }
-        left = rest;
-    }
-    false
-}
-
 /// A plan that may be run: its inputs are there, and the directories of its STOREs are not.
 #[derive(Drop)]
 pub struct Prepared {
@@ -274,6 +248,7 @@ pub struct Prepared {
 
 /// The inputs and outputs of a plan, where nothing stands in the way of its run.
 fn look<D: Depot>(alloc: Global, depot: &mut D, plan: Plan) -> Result<Prepared, RunFault>
+    requires apart { StoresAreApart (plan_of plan) }
     ensures told { ForSome (D.shelf depot.old) (λ s. Step (InputsDue (plan_of plan) s)
         (λ p. RunDue (plan_of p.plan)) (D.calls depot.old) (D.calls depot.new) result) }
     ensures ready { ForSome (D.shelf depot.old) (λ s. IfOk result (IsReady s)) }
@@ -287,10 +262,6 @@ fn look<D: Depot>(alloc: Global, depot: &mut D, plan: Plan) -> Result<Prepared, 
     check_size(&sizes)?;
     let stores = stores(alloc, &plan)?;
     check_outputs(alloc, depot, &stores)?;
-    // The checker lets no two STOREs have one directory.
-    if !are_apart(&stores) {
-        return Err(RunFault::OutOfMemory);
-    }
     Ok(Prepared {
         plan,
         sizes,

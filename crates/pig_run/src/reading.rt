@@ -1,13 +1,15 @@
-ghost use Rattle.std.specs.Prelude.{◌≡◌, ◌<◌, ◌≤◌, ◌^◌, ◌↔◌, length, IsTrue, IfErr, All};
+ghost use Rattle.std.specs.Prelude.{◌≡◌, ◌<◌, ◌≤◌, ◌^◌, ◌↔◌, length, IsTrue, IfErr, IfOk, All};
 ghost use Rattle.pig_syntax.specs.Cutting.{AreStatements, IsWithin};
 ghost use Rattle.pig_parser.specs.Parsing.{IsShallow};
 ghost use Rattle.pig_syntax.specs.Formed.{StmtFormed};
 ghost use Rattle.pig_syntax.specs.Tokens.{HoldsNoLf};
+ghost use Rattle.pig_plan.specs.Plans.{plan_of};
+ghost use Rattle.pig_check.specs.States.{StoresAreApart};
 ghost use Rattle.pig_run.specs.Reading.{IsChecked, IsParsed, IsMeasured, IsLexed, IsFound};
 ghost use Rattle.pig_run.specs.Steps.{IsReadFault, TellsPlan};
 
 use crate::{RunFault, TooLarge};
-use pig_check::{CheckFault, check};
+use pig_check::{CheckFault, check, stores_are_apart};
 use pig_parser::{SyntaxFault, parse};
 use pig_plan::Plan;
 use pig_syntax::{
@@ -29,8 +31,10 @@ const MOST_DEPTH: u32 = 64;
 fn plan_of_trees(alloc: Global, statements: &Stmts) -> Result<Plan, RunFault>
     requires { All StmtFormed statements.now }
     ensures told { TellsPlan (IsChecked statements.now) result }
+    ensures apart { IfOk result (λ plan. StoresAreApart (plan_of plan)) }
     ensures fault { IfErr result IsReadFault }
 {
+    stores_are_apart();
     match check(alloc, statements) {
         Ok(plan) => Ok(plan),
         Err(CheckFault::Check { statement, kind }) => Err(RunFault::Check { statement, kind }),
@@ -46,6 +50,7 @@ fn plan_of_statements(alloc: Global, tokens: &Tokens, pieces: &Pieces) -> Result
     requires texts { All (λ token. HoldsNoLf token.form) tokens.now }
     requires shallow { All (IsShallow tokens.now) pieces.now }
     ensures told { TellsPlan (IsParsed tokens.now pieces.now) result }
+    ensures apart { IfOk result (λ plan. StoresAreApart (plan_of plan)) }
     ensures fault { IfErr result IsReadFault }
 {
     match parse(alloc, tokens, pieces) {
@@ -87,6 +92,7 @@ fn plan_of_pieces(alloc: Global, tokens: &Tokens, pieces: &Pieces) -> Result<Pla
     requires few { length tokens.now < 2 ^ 32 }
     requires texts { All (λ token. HoldsNoLf token.form) tokens.now }
     ensures told { TellsPlan (IsMeasured tokens.now pieces.now) result }
+    ensures apart { IfOk result (λ plan. StoresAreApart (plan_of plan)) }
     ensures fault { IfErr result IsReadFault }
 {
     if pieces.len() > MOST_STATEMENTS {
@@ -106,6 +112,7 @@ fn plan_of_pieces(alloc: Global, tokens: &Tokens, pieces: &Pieces) -> Result<Pla
 fn plan_of_script(alloc: Global, script: &[u8]) -> Result<Plan, RunFault>
     requires { length script.now ≤ 2 ^ 20 }
     ensures told { TellsPlan (IsLexed script.now) result }
+    ensures apart { IfOk result (λ plan. StoresAreApart (plan_of plan)) }
     ensures fault { IfErr result IsReadFault }
 {
     a_script_has_one_reading();
@@ -122,6 +129,7 @@ fn plan_of_script(alloc: Global, script: &[u8]) -> Result<Plan, RunFault>
 /// The plan of a script, or the first refusal that it meets.
 pub fn read_script(alloc: Global, script: &[u8]) -> Result<Plan, RunFault>
     ensures told { TellsPlan (IsFound script.now) result }
+    ensures apart { IfOk result (λ plan. StoresAreApart (plan_of plan)) }
     ensures fault { IfErr result IsReadFault }
 {
     if script.len() as u64 > MOST_SCRIPT {

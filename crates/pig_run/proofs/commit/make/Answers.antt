@@ -49,8 +49,8 @@ returns-clause-ok g c =
     put ∙ ap (option_map (with_part c.args.dir.now c.args.bytes.now)) created ∙ part_added c.args.dir.now c.args.bytes.now (open_state []) old in
     marked ∙ ap (option_map (with_mark c.args.dir.now)) both ∙ mark_set c.args.dir.now (open_state (c.args.bytes.now ∷ [])) old
 
-pub returns-in-Err-create-clause-asked : goal.returns-in-Err-create-clause-asked
-returns-in-Err-create-clause-asked g c = record {
+pub returns-in-Err-clause-asked : goal.returns-in-Err-clause-asked
+returns-in-Err-clause-asked g c = record {
   made = call method.Create c.args.dir.now ∷ [];
   asked = c.create.ensures.calls;
   first = (call method.Put c.args.dir.now ∷ call method.Finish c.args.dir.now ∷ [], refl);

@@ -1,4 +1,4 @@
-use Rattle.std.proofs.Common.{rules, refl, ◌≡◌, ◌⊎◌, None, MatchResult}
+use Rattle.std.proofs.Common.{rules, refl, sym, subst, ◌≡◌, ◌⊎◌, None, MatchResult}
 use Rattle.std.proofs.lemmas.Result.{MatchResult-weaker}
 use Rattle.pig_outside.specs.Shelf.{script_of}
 use Rattle.pig_plan.specs.Plans.{plan_of}
@@ -25,7 +25,9 @@ pub returns-clause-told : goal.returns-clause-told
 returns-clause-told g c s told =
     let law = c.a_script_has_one_plan.ensures in
     let laws : PlanLaws = record { one = law.one; some = law.some; never_both = law.never_both; one_statement = law.one_statement } in
-    let read : IsRead 1048576 (script_of c.args.path.now s) c.as_slice.result.now = search rules in
+    let items : IsRead 1048576 (script_of c.args.path.now s) c.in_ok-script.script.items = c.in_ok-script.ensures.told s told in
+    let same : c.as_slice.result.now ≡ c.in_ok-script.script.items = search rules in
+    let read = subst (IsRead 1048576 (script_of c.args.path.now s)) (sym same) items in
     script_step laws c.args.path.now s (g.D.Depot.calls c.args.depot.now) (g.D.Depot.calls c.script_bytes.new.depot) c.script_bytes.ensures.asked 1048576 refl
     c.as_slice.result.now read c.read_script.result c.read_script.ensures.told
 

@@ -6,7 +6,8 @@ use Rattle.pig_reach.specs.Reach.{live_paths, stores_of}
 use Rattle.pig_run.specs.declared.outcome.RunFault.TheVariants as fault
 use Rattle.pig_run.specs.declared.outcome.TooLarge.TheVariants as large
 use Rattle.pig_run.specs.Due.{InputsDue, OutputsDue, RunDue, SizeDue}
-use Rattle.pig_run.specs.Looking.{HasSize, total_of}
+use Rattle.pig_run.specs.Looking.{HasSize, are_apart, total_of}
+use Rattle.pig_run.proofs.Apart.{stores_apart}
 use Rattle.pig_run.specs.Steps.{Passes, Stops}
 use Rattle.pig_run.proofs.Sizes.{size_passes, size_stops}
 use Rattle.pig_run.proofs.Stages.{passes_both, stops_both, wants}
@@ -67,3 +68,9 @@ returns-clause-told g c s told =
     let both = passes_both (InputsDue plan s) (SizeDue plan s) old mid first mid (OutputsDue plan s) (size_passes plan s c.in_ok-sizes.sizes paths have mid few) in
     let last : Passes (OutputsDue (plan_of c.args.plan) s) (RunDue (plan_of c.args.plan)) (g.D.Depot.calls c.find_inputs.new.depot) (g.D.Depot.calls c.check_outputs.new.depot) = search rules in
     passes_both (InputsDue plan s) (OutputsDue plan s) old mid both new (RunDue plan) last
+
+pub returns-clause-prepared : goal.returns-clause-prepared
+returns-clause-prepared g c =
+    let paths : map (λ size. size.path) c.in_ok-sizes.sizes ≡ live_paths (plan_of c.args.plan) = search rules in
+    let stores : c.in_ok-stores.stores ≡ stores_of (plan_of c.args.plan) = search rules in
+    record { paths = paths; stores = stores; apart = ap are_apart stores ∙ stores_apart (plan_of c.args.plan) c.requires.apart }

@@ -1,10 +1,9 @@
-use Rattle.std.proofs.Common.{rules, refl, inl}
+use Rattle.std.proofs.Common.{rules}
 use Rattle.pig_syntax.specs.Cutting.{AreStatements}
-use Rattle.pig_syntax.specs.Tokens.{AreTokens, IsBadAt}
-use Rattle.pig_run.specs.Reading.{IsMeasured, IsLexed, bad_place, lexed}
-use Rattle.pig_run.specs.Refusals.{no_token}
+use Rattle.pig_syntax.specs.Tokens.{AreTokens}
+use Rattle.pig_run.specs.Reading.{IsMeasured, IsLexed, lexed}
 use Rattle.pig_run.specs.Steps.{TellsPlan}
-use Rattle.pig_run.proofs.ReadingSteps.{tells_weaker}
+use Rattle.pig_run.proofs.ReadingSteps.{bad_told, tells_weaker}
 use Rattle.pig_run.proofs.reading.plan_of_script.Goals as goal
 
 pub returns-in_ok-pieces-in-Ok-clause-told : goal.returns-in_ok-pieces-in-Ok-clause-told
@@ -15,6 +14,4 @@ returns-in_ok-pieces-in-Ok-clause-told c =
     tells_weaker (IsMeasured c.in-Ok.tokens c.in_ok-pieces-in-Ok.pieces) (IsLexed c.args.script.now) (λ v h. lexed tokens statements h) c.plan_of_pieces.result told
 
 pub returns-in-Err-Bad-clause-told : goal.returns-in-Err-Bad-clause-told
-returns-in-Err-Bad-clause-told c =
-    let bad : IsBadAt c.args.script.now c.in-Err-Bad.offset = search rules in
-    inl (no_token c.in-Err-Bad.offset, bad_place bad, refl)
+returns-in-Err-Bad-clause-told c = bad_told c.args.script.now (search rules)

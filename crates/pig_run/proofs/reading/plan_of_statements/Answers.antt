@@ -1,9 +1,8 @@
-use Rattle.std.proofs.Common.{rules, refl, inl}
-use Rattle.pig_parser.specs.Parsing.{AreTrees, IsFirstOff}
-use Rattle.pig_run.specs.Reading.{IsChecked, IsParsed, no_tree, parsed}
-use Rattle.pig_run.specs.Refusals.{off_grammar}
+use Rattle.std.proofs.Common.{rules}
+use Rattle.pig_parser.specs.Parsing.{AreTrees}
+use Rattle.pig_run.specs.Reading.{IsChecked, IsParsed, parsed}
 use Rattle.pig_run.specs.Steps.{TellsPlan}
-use Rattle.pig_run.proofs.ReadingSteps.{tells_weaker}
+use Rattle.pig_run.proofs.ReadingSteps.{off_told, tells_weaker}
 use Rattle.pig_run.proofs.reading.plan_of_statements.Goals as goal
 
 pub returns-in-Ok-clause-told : goal.returns-in-Ok-clause-told
@@ -13,6 +12,4 @@ returns-in-Ok-clause-told c =
     tells_weaker (IsChecked c.in-Ok.trees) (IsParsed c.args.tokens.now c.args.pieces.now) (λ v h. parsed trees h) c.plan_of_trees.result told
 
 pub returns-in-Err-Syntax-clause-told : goal.returns-in-Err-Syntax-clause-told
-returns-in-Err-Syntax-clause-told c =
-    let off : IsFirstOff c.args.tokens.now c.args.pieces.now c.in-Err-Syntax.statement = search rules in
-    inl (off_grammar c.in-Err-Syntax.statement, no_tree off, refl)
+returns-in-Err-Syntax-clause-told c = off_told c.args.tokens.now c.args.pieces.now (search rules)

@@ -14,3 +14,6 @@ pub returns-in-Err-Check-clause-told : goal.returns-in-Err-Check-clause-told
 returns-in-Err-Check-clause-told c =
     let none : IsFirstUntyped c.args.statements.now c.in-Err-Check.statement c.in-Err-Check.kind = search rules in
     inl (untyped c.args.statements.now c.in-Err-Check.statement, no_typing none, (c.in-Err-Check.kind, none, refl))
+
+pub returns-in-Ok-clause-apart : goal.returns-in-Ok-clause-apart
+returns-in-Ok-clause-apart c = c.stores_are_apart.ensures.apart c.args.statements.now (plan_of c.in-Ok.plan) (search rules)

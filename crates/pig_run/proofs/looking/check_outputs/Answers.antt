@@ -1,0 +1,88 @@
+use Rattle.std.proofs.Common.{rules, refl, ◌≡◌, ◌≤◌, ◌<◌, ◌⊎◌, ◌∷◌, [], Some, MatchResult, true, false, length, map, take, get_or, sym, ◌∙◌, ap, subst}
+use Rattle.std.proofs.lemmas.List.{length-map, take_all}
+use Rattle.std.proofs.lemmas.Result.{MatchResult-weaker}
+use Rattle.std.specs.List.{AllByRecursion}
+use Rattle.pig_value.proofs.list_laws.Listing.{each-append}
+use Rattle.pig_outside.specs.Shelf.{has_dir}
+use Rattle.pig_outside.specs.declared.failing.Method.TheVariants as method
+use Rattle.pig_reach.specs.Reach.{dirs_of}
+use Rattle.pig_reach.specs.declared.storing.Store.{Store}
+use Rattle.pig_run.specs.declared.outcome.RunFault.TheVariants as fault
+use Rattle.pig_run.specs.Due.{Looks, OutputsDue, RunDue, call}
+use Rattle.pig_run.specs.Looking.{IsAbsentIn}
+use Rattle.pig_run.specs.Refusals.{output_there}
+use Rattle.pig_run.specs.Steps.{IsLookFault, Passes}
+use Rattle.pig_run.specs.Told.{Asked}
+use Rattle.pig_run.proofs.LookUps.{looks_end, looks_on}
+use Rattle.pig_run.proofs.Sizes.{output_stops}
+use Rattle.pig_run.proofs.Storing.{dir_at, taken}
+use Rattle.pig_run.proofs.looking.check_outputs.Goals as goal
+
+pub loop-place-preserved : goal.loop-place-preserved
+loop-place-preserved g c =
+    let stores = c.as_slice-stores.result.now in
+    let store = c.index-stores-place.result in
+    let dirs = map (λ store. store.dir) c.as_slice-stores.result.now in
+    let place = c.loop-place.place in
+    let old = g.D.Depot.calls c.args.depot.now in
+    let now = g.D.Depot.calls c.loop-place.depot in
+    let new = g.D.Depot.calls c.check_output.new.depot in
+    let within : c.loop-place.place < length c.as_slice-stores.result.now = search rules in
+    let at = c.index-stores-place.is in
+    let asked : Asked (call method.Exists c.index-stores-place.result.dir ∷ []) (g.D.Depot.calls c.loop-place.depot) (g.D.Depot.calls c.check_output.new.depot) = search rules in
+    let same : g.D.Depot.shelf c.check_output.new.depot ≡ g.D.Depot.shelf c.args.depot.now = search rules in
+    let later : g.D.Depot.faults c.args.depot.now ≤ g.D.Depot.faults c.check_output.new.depot = search rules in
+    let still : g.D.Depot.store_faults c.check_output.new.depot ≡ g.D.Depot.store_faults c.args.depot.now = search rules in
+    let below : place < length dirs = subst (λ n. place < n) (sym (length-map stores (λ store. store.dir))) within in (
+      same,
+      later,
+      still,
+      λ s told plan.
+          let both = c.loop-place.invariant.3 s told plan in
+          let told_now : g.D.Depot.shelf c.loop-place.depot ≡ Some s = c.loop-place.invariant.0 ∙ told in
+          let absent : has_dir c.index-stores-place.result.dir s ≡ false = search rules in (
+            looks_on (λ dir. has_dir dir s) output_there method.Exists dirs (RunDue plan) place store.dir [] old now new both.0 below (dir_at stores place store store within at) asked absent,
+            subst (AllByRecursion (IsAbsentIn s)) (sym (taken stores place store store within at))
+                (each-append (IsAbsentIn s) (take place stores) (store ∷ []) both.1 (absent, tt)),
+          ),
+    )
+
+pub returns-in_err-check_output-clause-told : goal.returns-in_err-check_output-clause-told
+returns-in_err-check_output-clause-told g c s told plan is =
+    let stores = c.as_slice-stores.result.now in
+    let store = c.index-stores-place.result in
+    let dirs = map (λ store. store.dir) c.as_slice-stores.result.now in
+    let place = c.loop-place.place in
+    let old = g.D.Depot.calls c.args.depot.now in
+    let now = g.D.Depot.calls c.loop-place.depot in
+    let new = g.D.Depot.calls c.check_output.new.depot in
+    let told_now : g.D.Depot.shelf c.loop-place.depot ≡ Some s = c.loop-place.invariant.0 ∙ told in
+    let within : c.loop-place.place < length c.as_slice-stores.result.now = search rules in
+    let at = c.index-stores-place.is in
+    let asked : Asked (call method.Exists c.index-stores-place.result.dir ∷ []) (g.D.Depot.calls c.loop-place.depot) (g.D.Depot.calls c.check_output.new.depot) = search rules in
+    let below : place < length dirs = subst (λ n. place < n) (sym (length-map stores (λ store. store.dir))) within in
+    let same : c.as_slice-stores.result.now ≡ c.args.stores.now = search rules in
+    let refused : MatchResult c.from_residual.result (λ _. Passes (OutputsDue plan s) (RunDue plan) (g.D.Depot.calls c.args.depot.now) (g.D.Depot.calls c.check_output.new.depot))
+    (λ f. ((f ≡ fault.OutputExists c.index-stores-place.result.dir) × (has_dir c.index-stores-place.result.dir s ≡ true)) ⊎ IsLookFault f) = search rules in
+    MatchResult-weaker c.from_residual.result refused (λ _ h. h)
+    (λ f h. output_stops plan s dirs (ap (map (λ store. store.dir)) (same ∙ is)) place store.dir [] old now new (c.loop-place.invariant.3 s told plan).0 below
+    (dir_at stores place store store within at) asked f h)
+
+pub returns-clause-told : goal.returns-clause-told
+returns-clause-told g c s told plan is =
+    let stores = c.as_slice-stores.result.now in
+    let dirs = map (λ store. store.dir) c.as_slice-stores.result.now in
+    let place = c.loop-place.place in
+    let old = g.D.Depot.calls c.args.depot.now in
+    let now = g.D.Depot.calls c.loop-place.depot in
+    let end : length c.as_slice-stores.result.now ≤ c.loop-place.place = search rules in
+    let same : c.as_slice-stores.result.now ≡ c.args.stores.now = search rules in
+    subst (λ ds. Passes (Looks (λ dir. has_dir dir s) output_there method.Exists ds (RunDue plan)) (RunDue plan) old now) (ap (map (λ store. store.dir)) (same ∙ is))
+    (looks_end (λ dir. has_dir dir s) output_there method.Exists dirs (RunDue plan) place old now (c.loop-place.invariant.3 s told plan).0
+    (subst (λ n. n ≤ place) (sym (length-map stores (λ store. store.dir))) end))
+
+pub returns-clause-absent : goal.returns-clause-absent
+returns-clause-absent g c s told =
+    let end : length c.as_slice-stores.result.now ≤ c.loop-place.place = search rules in
+    let same : c.as_slice-stores.result.now ≡ c.args.stores.now = search rules in
+    subst (AllByRecursion (IsAbsentIn s)) (take_all c.loop-place.place c.as_slice-stores.result.now end ∙ same) (c.loop-place.invariant.3 s told []).1
