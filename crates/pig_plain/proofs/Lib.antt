@@ -4,5 +4,6 @@ mod Keying
 mod Marking
 mod PlanFacts
 mod Ranks
+mod SortedRows
 mod Steps
 mod Tables

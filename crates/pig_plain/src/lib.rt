@@ -8,8 +8,10 @@ mod keyed;
 mod loading;
 mod operating;
 mod ranking;
+mod releasing;
 mod rowwise;
 mod sorted;
+mod sorting;
 mod table;
 mod uses;
 
