@@ -6,4 +6,5 @@ mod PlanFacts
 mod Ranks
 mod SortedRows
 mod Steps
+mod StoredLines
 mod Tables

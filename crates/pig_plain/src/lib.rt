@@ -1,10 +1,12 @@
 //! The plain answer: what a plan means over inputs, node by node, on one thread.
 //!
-//! [`answer`] gives the rows of each STORE, and what each bare LIMIT kept.
+//! [`answer`] gives the rows of each STORE, and what each bare LIMIT kept. [`answers_are_stored_lines`] says that their texts
+//! are lines.
 #![tactic(auto)]
 
 mod answering;
 mod keyed;
+mod laws;
 mod loading;
 mod operating;
 mod ranking;
@@ -16,3 +18,4 @@ mod table;
 mod uses;
 
 pub use answering::{Answers, Relations, answer};
+pub use laws::answers_are_stored_lines;
