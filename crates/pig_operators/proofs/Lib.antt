@@ -7,3 +7,4 @@ pub mod Apart
 pub mod Sides
 pub mod Adding
 pub mod Singles
+pub mod SortEntries

@@ -1,8 +1,11 @@
 -- What the operators by key give of a run with a node's entries: the node's results over these entries.
 use Rattle.std.specs.Prelude.{◌≡◌, ℕ, List, map, length}
 use Rattle.std.specs.List.{AllByRecursion}
+use Rattle.pig_value.specs.declared.operators.Dir.{Dir}
 use Rattle.pig_value.specs.Trees.{Tree, v_tuple, fields_of}
+use Rattle.pig_typed.specs.declared.blocks.SortKey.{SortKey}
 use Rattle.pig_plan.specs.ByKey.{Entry, cogroup_of, group_of, join_of, outer_of}
+use Rattle.pig_plan.specs.Operators.{key_fields}
 use Rattle.pig_runs.specs.Entries.{InDirections, Keyed}
 use Rattle.pig_operators.specs.declared.by_key.Gathering.{Gathering}
 use Rattle.pig_operators.specs.declared.by_key.Gathering.TheVariants as how
@@ -27,3 +30,17 @@ run_rows run = map (λ e. e.row) run.entries
 -- the key of each entry is its row, as that of DISTINCT is
 abbrev pub AreKeyedByRow : List Keyed → Type 0
 AreKeyedByRow es = AllByRecursion (λ e. e.key ≡ v_tuple (fields_of e.row)) es
+
+-- ---- ORDER
+
+-- the directions of the keys to sort by, and a row under its fields to sort by
+abbrev pub dirs_of : List SortKey → List Dir
+dirs_of keys = map (λ key. key.dir) keys
+
+abbrev pub sort_entry : List SortKey → List Tree → Keyed
+sort_entry keys row = record { key = v_tuple (fields_of (key_fields keys row)); input = 0; row = row }
+
+-- a run with entries of ORDER by these keys
+pub record IsOrdering (keys : List SortKey) (run : InDirections) : Type 0 where
+  pub dirs : run.dirs ≡ dirs_of keys
+  pub entries : AllByRecursion (λ e. e ≡ sort_entry keys e.row) run.entries

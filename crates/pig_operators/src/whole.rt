@@ -1,8 +1,10 @@
-ghost use Rattle.std.specs.Prelude.{◌≡◌, [], IfOk};
+ghost use Rattle.std.specs.Prelude.{◌≡◌, List, [], IfOk};
 ghost use Rattle.pig_value.specs.Orders.{row_cmp};
 ghost use Rattle.pig_value.specs.Sorts.{distinct};
 ghost use Rattle.pig_value.specs.Trees.{rows_tree};
-ghost use Rattle.pig_operators.specs.Given.{AreKeyedByRow, run_rows};
+ghost use Rattle.pig_typed.specs.declared.blocks.SortKey.{SortKey};
+ghost use Rattle.pig_plan.specs.Operators.{order_rows};
+ghost use Rattle.pig_operators.specs.Given.{AreKeyedByRow, IsOrdering, run_rows};
 
 use crate::groups::group_end;
 use pig_runs::Run;
@@ -12,8 +14,10 @@ use std::alloc::{AllocError, Global};
 /// The rows of ORDER, whose keys are the fields to sort by: those of the entries in their order.
 ///
 /// A refusal gives up the run.
-pub fn ungrouped(alloc: Global, run: Run) -> Result<Rows, AllocError>
-    ensures { IfOk result (λ rows. rows_tree rows ≡ run_rows run) }
+pub fn ordered(alloc: Global, run: Run) -> Result<Rows, AllocError>
+    ensures rows { IfOk result (λ rows. rows_tree rows ≡ run_rows run) }
+    ensures order { (keys : List SortKey) → IsOrdering keys run
+        → IfOk result (λ rows. rows_tree rows ≡ order_rows keys (run_rows run)) }
 {
     let mut rows = Rows::with_capacity(alloc, run.len())?;
     for at in 0..run.len() {

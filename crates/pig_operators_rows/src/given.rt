@@ -1,7 +1,9 @@
 //! Runs of the rows of lines, and the lines of rows.
-ghost use Rattle.std.specs.Prelude.{◌≡◌, [], IfOk};
+ghost use Rattle.std.specs.Prelude.{◌≡◌, [], ◌∷◌, IfOk};
+ghost use Rattle.pig_value.specs.declared.operators.Dir.TheVariants.{Desc};
 ghost use Rattle.pig_value.specs.Trees.{fields_of, row_tree, tree, v_tuple};
 ghost use Rattle.pig_value.specs.Valid.{IsRow, IsValue};
+ghost use Rattle.pig_keycode.specs.Keys.{IsKey};
 ghost use Rattle.pig_operators.specs.Given.{AreKeyedByRow};
 
 use pig_keycode::{decode, decode_row, encode, encode_row};
@@ -38,11 +40,11 @@ fn sound_row(alloc: Global, row: &Tuple) -> Result<Tuple, AllocError>
     }
 }
 
-// The first field of a row, read back from its code.
-fn first_field(alloc: Global, row: &Tuple) -> Result<Value, AllocError>
+// A field of a row, read back from its code.
+fn field(alloc: Global, row: &Tuple, position: u32) -> Result<Value, AllocError>
     ensures { IfOk result (λ key. IsValue (tree key)) }
 {
-    let Some(field) = field_at(row, 0) else {
+    let Some(field) = field_at(row, position) else {
         return Ok(Value::Null);
     };
     let mut bytes = Vec::new(alloc);
@@ -70,7 +72,7 @@ fn add_first(
     requires row { IsRow (row_tree row.now) }
     ensures { builder.new.dirs ≡ [] }
 {
-    builder.add(&first_field(alloc, row)?, input, row)
+    builder.add(&field(alloc, row, 0)?, input, row)
 }
 
 // Adds the rows of an input's lines, each under its first field.
@@ -150,6 +152,42 @@ pub fn by_row(alloc: Global, inputs: &[&[u8]]) -> Result<Run, AllocError>
     for text in inputs {
         add_rows(alloc, &mut builder, input, text)?;
         input = input.saturating_add(1);
+    }
+    Ok(builder.finish())
+}
+
+fn second_down(alloc: Global) -> Result<Dirs, AllocError>
+    ensures { IfOk result (λ dirs. dirs ≡ Desc ∷ []) }
+{
+    let mut dirs = Seq::new(alloc);
+    dirs.push(Dir::Desc)?;
+    Ok(dirs)
+}
+
+// The second field of a row alone, as the key of one direction.
+fn second_field(alloc: Global, row: &Tuple) -> Result<Value, AllocError>
+    ensures { IfOk result (λ key. IsKey (Desc ∷ []) (tree key)) }
+{
+    let mut fields = Seq::new(alloc);
+    fields.push(field(alloc, row, 1)?)?;
+    Ok(Value::Tuple(fields))
+}
+
+fn add_second(alloc: Global, builder: &mut RunBuilder, row: &Tuple) -> Result<(), AllocError>
+    requires down { builder.old.dirs ≡ Desc ∷ [] }
+    requires row { IsRow (row_tree row.now) }
+    ensures { builder.new.dirs ≡ Desc ∷ [] }
+{
+    builder.add(&second_field(alloc, row)?, 0, row)
+}
+
+/// The run of lines by their second fields, downwards.
+pub fn by_second(alloc: Global, text: &[u8]) -> Result<Run, AllocError> {
+    let mut builder = RunBuilder::new(alloc, second_down(alloc)?);
+    let mut from = 0;
+    while let Some(span) = next_line(text, from) {
+        add_second(alloc, &mut builder, &line(alloc, &text[from..span.to])?)?;
+        from = span.next;
     }
     Ok(builder.finish())
 }

@@ -1,8 +1,8 @@
 //! What each operator gives of lines.
 ghost use Rattle.std.specs.Prelude.{◌≡◌, []};
 
-use crate::given::{by_field, by_row, lines_of};
-use pig_operators::{Gathering, distinct_keys, gather, ungrouped};
+use crate::given::{by_field, by_row, by_second, lines_of};
+use pig_operators::{Gathering, distinct_keys, gather, ordered};
 use pig_runs::Run;
 use pig_value::{Seq, Side};
 use std::alloc::{AllocError, Global};
@@ -135,7 +135,19 @@ fn rows_once_and_rows_in_order(rt: HostRuntime) -> Result<(), Fail> {
     let rows = distinct_keys(rt.alloc(), by_row(rt.alloc(), inputs)?)?;
     assert_eq!(rt; lines_of(rt.alloc(), &rows)?.as_slice(), once, "once");
     let all: &[u8] = b"\ty\n\ty\n1\tz\n2\t\n2\tx\n2\tx\n";
-    let rows = ungrouped(rt.alloc(), by_row(rt.alloc(), inputs)?)?;
+    let rows = ordered(rt.alloc(), by_row(rt.alloc(), inputs)?)?;
     assert_eq!(rt; lines_of(rt.alloc(), &rows)?.as_slice(), all, "in order");
+    Ok(())
+}
+
+// Down by the second field: nulls stand last, and ties by the whole row.
+#[test]
+fn rows_by_a_field_downwards(rt: HostRuntime) -> Result<(), Fail> {
+    let text = b"2\tx\n\tz\n1\tx\n3\t\n\tx\n2\tz\n1\t\n1\tx\n\t\n";
+    let sorted: &[u8] = b"\tz\n2\tz\n\tx\n1\tx\n1\tx\n2\tx\n\t\n1\t\n3\t\n";
+    let rows = ordered(rt.alloc(), by_second(rt.alloc(), text)?)?;
+    assert_eq!(rt; lines_of(rt.alloc(), &rows)?.as_slice(), sorted, "down");
+    let rows = ordered(rt.alloc(), by_second(rt.alloc(), b"")?)?;
+    assert_eq!(rt; rows.len(), 0, "none");
     Ok(())
 }

@@ -4,5 +4,7 @@ mod Keying
 mod Marking
 mod PlanFacts
 mod Ranks
+mod SortedRows
 mod Steps
+mod StoredLines
 mod Tables

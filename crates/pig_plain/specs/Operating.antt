@@ -7,7 +7,7 @@ use Rattle.pig_value.specs.Sorts.{distinct}
 use Rattle.pig_value.specs.declared.values.Value.{Value}
 use Rattle.pig_value.specs.declared.operators.Side.{Side}
 use Rattle.pig_value.specs.Valid.{AreRows}
-use Rattle.pig_value.specs.Trees.{Tree, rows_tree, v_chars}
+use Rattle.pig_value.specs.Trees.{Tree, fields_of, rows_tree, v_chars, v_tuple}
 use Rattle.pig_typed.specs.Blocks.{foreach_all}
 use Rattle.pig_plan.specs.ByKey.{gathered, key_of, outer_of}
 use Rattle.pig_plan.specs.Nodes.{sorts}
@@ -59,6 +59,10 @@ brought_together (Some how) inputs rows = gathered (made how) (keyed_entries 0 i
 -- rows under the one key of GROUP ALL
 abbrev pub all_rows_keyed : List (List Tree) → List RunEntry
 all_rows_keyed rows = map (λ row. record { key = v_chars (codes "all"); input = 0; row = row }) rows
+
+-- a row under itself
+abbrev pub row_entry : List Tree → RunEntry
+row_entry row = record { key = v_tuple (fields_of row); input = 0; row = row }
 
 -- a JOIN that keeps a side, of two inputs
 abbrev pub outer_rows : Side → (ℕ → ℕ) → List Keyed → (ℕ → List (List Tree)) → List (List Tree)

@@ -14,7 +14,8 @@ ghost use Rattle.pig_plain.specs.SoFar.{IsSoFar};
 ghost use Rattle.pig_plain.specs.Kinds.{kind_in, limit_kind};
 ghost use Rattle.pig_plain.specs.Uses.{AreUses};
 
-use crate::operating::{found, release_inputs};
+use crate::operating::found;
+use crate::releasing::release_inputs;
 use crate::sorted::{is_marked, sorted_nodes};
 use crate::table::copied;
 use crate::uses::{Uses, uses_of};

@@ -11,8 +11,9 @@ ghost use Rattle.pig_plan.specs.Operators.{group_all, group_rows, join_rows, key
 ghost use Rattle.pig_plan.specs.Plans.{keyed_of, plan_of};
 ghost use Rattle.pig_runs.specs.Entries.{and_entries, no_entries_in};
 ghost use Rattle.pig_operators.specs.Given.{made};
-ghost use Rattle.pig_plain.specs.Operating.{AreValues, all_keyed, all_rows_keyed, brought_together, keyed_rows, outer_rows, table_rows};
+ghost use Rattle.pig_plain.specs.Operating.{AreValues, LaterStand, all_keyed, all_rows_keyed, brought_together, keyed_rows, outer_rows, table_rows};
 
+use crate::releasing::{release, release_keyed};
 use crate::table::rows_at;
 use pig_eval::{eval, look, value};
 use pig_operators::{Gathering, gather};
@@ -23,11 +24,24 @@ use pig_value::{Dirs, Rows, Seq, Side, Text, Tuple, Value};
 use std::alloc::{AllocError, Global};
 
 /// GROUP ALL: one row with the bag of all rows, or none.
-pub fn all_grouped(alloc: Global, rows: &[Tuple]) -> Result<Rows, AllocError>
-    requires { AreRows (rows_tree rows.now) }
-    ensures { IfOk result (λ made. rows_tree made ≡ group_all (rows_tree rows.now)) }
+///
+/// Here and below, rows whose last use this is are let go when the run holds them, before it is sorted.
+pub fn all_grouped(
+    alloc: Global,
+    table: &mut Vec<Rows>,
+    ends: &[usize],
+    number: usize,
+    input: u32,
+) -> Result<Rows, AllocError>
+    requires values { AreValues table.old.items }
+    ensures rows { IfOk result (λ made. rows_tree made
+        ≡ group_all (table_rows table.old.items input)) }
+    ensures size { length table.new.items ≡ length table.old.items }
+    ensures values { AreValues table.new.items }
+    ensures kept { LaterStand ends.now number table.old.items table.new.items }
 {
-    let builder = all_entries(alloc, rows)?;
+    let builder = all_entries(alloc, rows_at(table.as_slice(), input))?;
+    release(alloc, table, ends, number, input);
     gather(alloc, &Gathering::Group, builder.finish())
 }
 
@@ -71,14 +85,23 @@ fn add_under(
 }
 
 /// GROUP and COGROUP.
-pub fn grouped(alloc: Global, inputs: &[KeyedInput], table: &[Rows]) -> Result<Rows, AllocError>
-    requires rows { AreValues table.now }
+pub fn grouped(
+    alloc: Global,
+    inputs: &[KeyedInput],
+    table: &mut Vec<Rows>,
+    ends: &[usize],
+    number: usize,
+) -> Result<Rows, AllocError>
+    requires rows { AreValues table.old.items }
     requires literals { KeyLiteralsAre IsValue (map keyed_of inputs.now) }
-    ensures { IfOk result (λ made. rows_tree made
-        ≡ group_rows (map keyed_of inputs.now) (table_rows table.now)) }
+    ensures rows { IfOk result (λ made. rows_tree made
+        ≡ group_rows (map keyed_of inputs.now) (table_rows table.old.items)) }
+    ensures size { length table.new.items ≡ length table.old.items }
+    ensures values { AreValues table.new.items }
+    ensures kept { LaterStand ends.now number table.old.items table.new.items }
 {
     let how = grouping(alloc, inputs)?;
-    brought(alloc, &how, inputs, table)
+    brought(alloc, &how, inputs, table, ends, number)
 }
 
 fn grouping(alloc: Global, inputs: &[KeyedInput]) -> Result<Gathering, AllocError>
@@ -118,16 +141,21 @@ pub fn joined(
     plan: &Plan,
     inputs: &[KeyedInput],
     side: Side,
-    table: &[Rows],
+    table: &mut Vec<Rows>,
+    ends: &[usize],
+    number: usize,
 ) -> Result<Rows, AllocError>
-    requires rows { AreValues table.now }
+    requires rows { AreValues table.old.items }
     requires literals { KeyLiteralsAre IsValue (map keyed_of inputs.now) }
-    ensures { IfOk result (λ made. rows_tree made
+    ensures rows { IfOk result (λ made. rows_tree made
         ≡ join_rows side (width_at (plan_of plan.now)) (map keyed_of inputs.now)
-        (table_rows table.now)) }
+        (table_rows table.old.items)) }
+    ensures size { length table.new.items ≡ length table.old.items }
+    ensures values { AreValues table.new.items }
+    ensures kept { LaterStand ends.now number table.old.items table.new.items }
 {
     match joining(plan, inputs, side) {
-        Some(how) => brought(alloc, &how, inputs, table),
+        Some(how) => brought(alloc, &how, inputs, table, ends, number),
         None => Ok(Rows::new(alloc)),
     }
 }
@@ -177,15 +205,21 @@ fn brought(
     alloc: Global,
     how: &Gathering,
     inputs: &[KeyedInput],
-    table: &[Rows],
+    table: &mut Vec<Rows>,
+    ends: &[usize],
+    number: usize,
 ) -> Result<Rows, AllocError>
-    requires rows { AreValues table.now }
+    requires rows { AreValues table.old.items }
     requires literals { KeyLiteralsAre IsValue (map keyed_of inputs.now) }
-    ensures { IfOk result (λ rows. rows_tree rows
+    ensures rows { IfOk result (λ rows. rows_tree rows
         ≡ gathered (made how.now) (keyed_entries 0 (map keyed_of inputs.now)
-        (table_rows table.now))) }
+        (table_rows table.old.items))) }
+    ensures size { length table.new.items ≡ length table.old.items }
+    ensures values { AreValues table.new.items }
+    ensures kept { LaterStand ends.now number table.old.items table.new.items }
 {
-    let builder = entries(alloc, inputs, table)?;
+    let builder = entries(alloc, inputs, table.as_slice())?;
+    release_keyed(alloc, table, ends, number, inputs);
     gather(alloc, how, builder.finish())
 }
 

@@ -1,16 +1,21 @@
 //! The plain answer: what a plan means over inputs, node by node, on one thread.
 //!
-//! [`answer`] gives the rows of each STORE, and what each bare LIMIT kept.
+//! [`answer`] gives the rows of each STORE, and what each bare LIMIT kept. [`answers_are_stored_lines`] says that their texts
+//! are lines.
 #![tactic(auto)]
 
 mod answering;
 mod keyed;
+mod laws;
 mod loading;
 mod operating;
 mod ranking;
+mod releasing;
 mod rowwise;
 mod sorted;
+mod sorting;
 mod table;
 mod uses;
 
 pub use answering::{Answers, Relations, answer};
+pub use laws::answers_are_stored_lines;

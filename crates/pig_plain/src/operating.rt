@@ -1,4 +1,4 @@
-ghost use Rattle.std.specs.Prelude.{◌≡◌, ◌≢◌, ◌+◌, ◌==◌, ℕ, get_or, length, IfOk};
+ghost use Rattle.std.specs.Prelude.{◌≡◌, length, IfOk};
 ghost use Rattle.pig_value.specs.Trees.{rows_tree};
 ghost use Rattle.pig_value.specs.Valid.{AreRows, IsValue};
 ghost use Rattle.pig_typed.specs.Typed.{typed};
@@ -11,10 +11,11 @@ ghost use Rattle.pig_plain.specs.Operating.{AreValues, LaterStand, found_rows, t
 use crate::keyed::{all_grouped, grouped, joined};
 use crate::loading::loaded;
 use crate::ranking::ranked;
+use crate::releasing::{is_last, own_input};
 use crate::rowwise::{first_copies, generated, passing, passing_copies, united};
-use crate::table::{own_rows, rows_at, take_rows};
-use pig_nested::{distinct_rows, sort_by_keys};
-use pig_plan::{KeyedInput, NodeOp, Plan};
+use crate::sorting::{in_order, once};
+use crate::table::rows_at;
+use pig_plan::{NodeOp, Plan};
 use pig_typed::TExpr;
 use pig_value::{Input, Rows};
 use std::alloc::{AllocError, Global};
@@ -74,21 +75,16 @@ fn made(
         NodeOp::Foreach { input, block } => {
             generated(alloc, block, rows_at(table.as_slice(), *input))
         }
-        NodeOp::GroupAll { input } => all_grouped(alloc, rows_at(table.as_slice(), *input)),
-        NodeOp::Group { inputs: keyed } => grouped(alloc, keyed.as_slice(), table.as_slice()),
+        NodeOp::GroupAll { input } => all_grouped(alloc, table, ends, number, *input),
+        NodeOp::Group { inputs: keyed } => grouped(alloc, keyed.as_slice(), table, ends, number),
         NodeOp::Join {
             inputs: keyed,
             side,
             ..
-        } => joined(alloc, plan, keyed.as_slice(), *side, table.as_slice()),
+        } => joined(alloc, plan, keyed.as_slice(), *side, table, ends, number),
         NodeOp::Union { inputs: numbers } => united(alloc, table.as_slice(), numbers.as_slice()),
-        NodeOp::Distinct { input } => {
-            Ok(distinct_rows(own_input(alloc, table, ends, number, *input)?))
-        }
-        NodeOp::Order { input, keys } => Ok(sort_by_keys(
-            own_input(alloc, table, ends, number, *input)?,
-            keys,
-        )),
+        NodeOp::Distinct { input } => once(alloc, own_input(alloc, table, ends, number, *input)?),
+        NodeOp::Order { input, keys } => in_order(alloc, keys, table, ends, number, *input),
         NodeOp::Limit { input, count } => {
             first_copies(alloc, rows_at(table.as_slice(), *input), *count)
         }
@@ -121,104 +117,4 @@ fn filtered(
     }
     let rows = own_input(alloc, table, ends, number, input)?;
     passing(alloc, cond, rows)
-}
-
-/// The rows of a node to keep: those that stand there where this is their last use, and else copies.
-fn own_input(
-    alloc: Global,
-    table: &mut Vec<Rows>,
-    ends: &[usize],
-    number: usize,
-    input: u32,
-) -> Result<Rows, AllocError>
-    requires values { AreValues table.old.items }
-    ensures rows { IfOk result (λ rows. rows_tree rows ≡ table_rows table.old.items input) }
-    ensures size { length table.new.items ≡ length table.old.items }
-    ensures values { AreValues table.new.items }
-    ensures kept { LaterStand ends.now number table.old.items table.new.items }
-{
-    let last = is_last(ends, input, number);
-    own_rows(alloc, table, input, last)
-}
-
-fn is_last(ends: &[usize], input: u32, number: usize) -> bool
-    ensures { result ≡ (get_or ends.now input 0 == number + 1) }
-{
-    match ends.get(input as usize) {
-        Some(end) => *end > number && *end - 1 == number,
-        None => false,
-    }
-}
-
-/// Lets the rows of a node's inputs go that no later node looks at.
-pub fn release_inputs(
-    alloc: Global,
-    table: &mut Vec<Rows>,
-    ends: &[usize],
-    number: usize,
-    op: &NodeOp,
-)
-    requires values { AreValues table.old.items }
-    ensures size { length table.new.items ≡ length table.old.items }
-    ensures values { AreValues table.new.items }
-    ensures kept { LaterStand ends.now number table.old.items table.new.items }
-{
-    match op {
-        NodeOp::Load { .. } => {}
-        NodeOp::Filter { input, .. } => release(alloc, table, ends, number, *input),
-        NodeOp::Foreach { input, .. } => release(alloc, table, ends, number, *input),
-        NodeOp::GroupAll { input } => release(alloc, table, ends, number, *input),
-        NodeOp::Group { inputs } => release_keyed(alloc, table, ends, number, inputs.as_slice()),
-        NodeOp::Join { inputs, .. } => release_keyed(alloc, table, ends, number, inputs.as_slice()),
-        NodeOp::Union { inputs } => release_each(alloc, table, ends, number, inputs.as_slice()),
-        NodeOp::Distinct { input } => release(alloc, table, ends, number, *input),
-        NodeOp::Order { input, .. } => release(alloc, table, ends, number, *input),
-        NodeOp::Limit { input, .. } => release(alloc, table, ends, number, *input),
-        NodeOp::Store { input, .. } => release(alloc, table, ends, number, *input),
-        NodeOp::Assert { input, .. } => release(alloc, table, ends, number, *input),
-        NodeOp::Rank { input, .. } => release(alloc, table, ends, number, *input),
-    }
-}
-
-fn release_keyed(
-    alloc: Global,
-    table: &mut Vec<Rows>,
-    ends: &[usize],
-    number: usize,
-    inputs: &[KeyedInput],
-)
-    requires values { AreValues table.old.items }
-    ensures size { length table.new.items ≡ length table.old.items }
-    ensures values { AreValues table.new.items }
-    ensures kept { LaterStand ends.now number table.old.items table.new.items }
-{
-    let mut left = inputs;
-    'inputs: while let [input, rest @ ..] = left {
-        release(alloc, table, ends, number, input.input);
-        left = rest;
-    }
-}
-
-fn release_each(alloc: Global, table: &mut Vec<Rows>, ends: &[usize], number: usize, inputs: &[u32])
-    requires values { AreValues table.old.items }
-    ensures size { length table.new.items ≡ length table.old.items }
-    ensures values { AreValues table.new.items }
-    ensures kept { LaterStand ends.now number table.old.items table.new.items }
-{
-    let mut left = inputs;
-    'inputs: while let [input, rest @ ..] = left {
-        release(alloc, table, ends, number, *input);
-        left = rest;
-    }
-}
-
-fn release(alloc: Global, table: &mut Vec<Rows>, ends: &[usize], number: usize, input: u32)
-    requires values { AreValues table.old.items }
-    ensures size { length table.new.items ≡ length table.old.items }
-    ensures values { AreValues table.new.items }
-    ensures kept { LaterStand ends.now number table.old.items table.new.items }
-{
-    if is_last(ends, input, number) {
-        take_rows(alloc, table, input);
-    }
 }

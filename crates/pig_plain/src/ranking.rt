@@ -132,10 +132,11 @@ fn add_before(
     if !stands_before(keys, other, row) {
         return Ok(());
     }
-    made.push(fields_of(alloc, keys, other)?)
+    made.push(key_values(alloc, keys, other)?)
 }
 
-fn fields_of(alloc: Global, keys: &SortKeys, row: &Tuple) -> Result<Tuple, AllocError>
+/// Copies of the fields that keys name; one that the row lacks is null.
+pub fn key_values(alloc: Global, keys: &SortKeys, row: &Tuple) -> Result<Tuple, AllocError>
     ensures { IfOk result (λ made. row_tree made ≡ key_fields keys.now (row_tree row.now)) }
 {
     let mut made = Tuple::with_capacity(alloc, keys.len())?;

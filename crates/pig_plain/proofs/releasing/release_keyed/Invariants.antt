@@ -1,6 +1,6 @@
 use Rattle.std.proofs.Common.{◌≡◌, ◌≢◌, ◌+◌, ℕ, get_or, length}
 use Rattle.pig_plain.specs.Operating.{AreValues, table_rows}
-use Rattle.pig_plain.proofs.operating.release_each.Given as goal
+use Rattle.pig_plain.proofs.releasing.release_keyed.Given as goal
 
 abbrev pub invariant-inputs : goal.invariant-inputs
 invariant-inputs l = (length l.table.items ≡ length l.fn.table.items) × AreValues l.table.items

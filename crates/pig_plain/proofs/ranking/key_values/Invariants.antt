@@ -1,7 +1,7 @@
 use Rattle.std.proofs.Common.{◌≡◌, ◌++◌, drop}
 use Rattle.pig_value.specs.Trees.{row_tree}
 use Rattle.pig_plan.specs.Operators.{key_fields}
-use Rattle.pig_plain.proofs.ranking.fields_of.Given as goal
+use Rattle.pig_plain.proofs.ranking.key_values.Given as goal
 
 abbrev pub invariant-loop-key : goal.invariant-loop-key
 invariant-loop-key l = row_tree l.made ++ key_fields (drop l.key-index l.keys) (row_tree l.row) ≡ key_fields l.keys (row_tree l.row)

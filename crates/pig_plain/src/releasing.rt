@@ -1,0 +1,111 @@
+ghost use Rattle.std.specs.Prelude.{◌≡◌, ◌+◌, ◌==◌, get_or, length, IfOk};
+ghost use Rattle.pig_value.specs.Trees.{rows_tree};
+ghost use Rattle.pig_plain.specs.Operating.{AreValues, LaterStand, table_rows};
+
+use crate::table::{own_rows, take_rows};
+use pig_plan::{KeyedInput, NodeOp};
+use pig_value::Rows;
+use std::alloc::{AllocError, Global};
+
+/// The rows of a node to keep: those that stand there where this is their last use, and else copies.
+pub fn own_input(
+    alloc: Global,
+    table: &mut Vec<Rows>,
+    ends: &[usize],
+    number: usize,
+    input: u32,
+) -> Result<Rows, AllocError>
+    requires values { AreValues table.old.items }
+    ensures rows { IfOk result (λ rows. rows_tree rows ≡ table_rows table.old.items input) }
+    ensures size { length table.new.items ≡ length table.old.items }
+    ensures values { AreValues table.new.items }
+    ensures kept { LaterStand ends.now number table.old.items table.new.items }
+{
+    let last = is_last(ends, input, number);
+    own_rows(alloc, table, input, last)
+}
+
+/// Whether this is a node's last use.
+pub fn is_last(ends: &[usize], input: u32, number: usize) -> bool
+    ensures { result ≡ (get_or ends.now input 0 == number + 1) }
+{
+    match ends.get(input as usize) {
+        Some(end) => *end > number && *end - 1 == number,
+        None => false,
+    }
+}
+
+/// Lets the rows of a node's inputs go that no later node looks at.
+pub fn release_inputs(
+    alloc: Global,
+    table: &mut Vec<Rows>,
+    ends: &[usize],
+    number: usize,
+    op: &NodeOp,
+)
+    requires values { AreValues table.old.items }
+    ensures size { length table.new.items ≡ length table.old.items }
+    ensures values { AreValues table.new.items }
+    ensures kept { LaterStand ends.now number table.old.items table.new.items }
+{
+    match op {
+        NodeOp::Load { .. } => {}
+        NodeOp::Filter { input, .. } => release(alloc, table, ends, number, *input),
+        NodeOp::Foreach { input, .. } => release(alloc, table, ends, number, *input),
+        NodeOp::GroupAll { input } => release(alloc, table, ends, number, *input),
+        NodeOp::Group { inputs } => release_keyed(alloc, table, ends, number, inputs.as_slice()),
+        NodeOp::Join { inputs, .. } => release_keyed(alloc, table, ends, number, inputs.as_slice()),
+        NodeOp::Union { inputs } => release_each(alloc, table, ends, number, inputs.as_slice()),
+        NodeOp::Distinct { input } => release(alloc, table, ends, number, *input),
+        NodeOp::Order { input, .. } => release(alloc, table, ends, number, *input),
+        NodeOp::Limit { input, .. } => release(alloc, table, ends, number, *input),
+        NodeOp::Store { input, .. } => release(alloc, table, ends, number, *input),
+        NodeOp::Assert { input, .. } => release(alloc, table, ends, number, *input),
+        NodeOp::Rank { input, .. } => release(alloc, table, ends, number, *input),
+    }
+}
+
+/// Lets go the rows of inputs by key that no later node looks at.
+pub fn release_keyed(
+    alloc: Global,
+    table: &mut Vec<Rows>,
+    ends: &[usize],
+    number: usize,
+    inputs: &[KeyedInput],
+)
+    requires values { AreValues table.old.items }
+    ensures size { length table.new.items ≡ length table.old.items }
+    ensures values { AreValues table.new.items }
+    ensures kept { LaterStand ends.now number table.old.items table.new.items }
+{
+    let mut left = inputs;
+    'inputs: while let [input, rest @ ..] = left {
+        release(alloc, table, ends, number, input.input);
+        left = rest;
+    }
+}
+
+fn release_each(alloc: Global, table: &mut Vec<Rows>, ends: &[usize], number: usize, inputs: &[u32])
+    requires values { AreValues table.old.items }
+    ensures size { length table.new.items ≡ length table.old.items }
+    ensures values { AreValues table.new.items }
+    ensures kept { LaterStand ends.now number table.old.items table.new.items }
+{
+    let mut left = inputs;
+    'inputs: while let [input, rest @ ..] = left {
+        release(alloc, table, ends, number, *input);
+        left = rest;
+    }
+}
+
+/// Lets go the rows of a node that no later node looks at.
+pub fn release(alloc: Global, table: &mut Vec<Rows>, ends: &[usize], number: usize, input: u32)
+    requires values { AreValues table.old.items }
+    ensures size { length table.new.items ≡ length table.old.items }
+    ensures values { AreValues table.new.items }
+    ensures kept { LaterStand ends.now number table.old.items table.new.items }
+{
+    if is_last(ends, input, number) {
+        take_rows(alloc, table, input);
+    }
+}

@@ -1,0 +1,116 @@
+ghost use Rattle.std.specs.Prelude.{◌≡◌, [], ◌∷◌, length, map, IfOk, OnOk};
+ghost use Rattle.pig_value.specs.Orders.{row_cmp};
+ghost use Rattle.pig_value.specs.Sorts.{distinct};
+ghost use Rattle.pig_value.specs.Trees.{row_tree, rows_tree};
+ghost use Rattle.pig_value.specs.Valid.{AreRows, IsRow};
+ghost use Rattle.pig_plan.specs.Operators.{order_rows};
+ghost use Rattle.pig_runs.specs.Entries.{and_entries, no_entries_in};
+ghost use Rattle.pig_operators.specs.Given.{dirs_of, sort_entry};
+ghost use Rattle.pig_plain.specs.Operating.{AreValues, LaterStand, row_entry, table_rows};
+
+use crate::ranking::key_values;
+use crate::releasing::release;
+use crate::table::rows_at;
+use pig_operators::{distinct_keys, ordered};
+use pig_runs::RunBuilder;
+use pig_typed::SortKeys;
+use pig_value::{Dirs, Rows, Seq, Tuple, Value};
+use std::alloc::{AllocError, Global};
+
+/// ORDER: rows by their keys, each in its direction, and then by the order of rows.
+///
+/// They are sorted as bytes. The rows themselves are let go before, where this is their last use.
+pub fn in_order(
+    alloc: Global,
+    keys: &SortKeys,
+    table: &mut Vec<Rows>,
+    ends: &[usize],
+    number: usize,
+    input: u32,
+) -> Result<Rows, AllocError>
+    requires values { AreValues table.old.items }
+    ensures rows { IfOk result (λ rows. rows_tree rows
+        ≡ order_rows keys.now (table_rows table.old.items input)) }
+    ensures size { length table.new.items ≡ length table.old.items }
+    ensures values { AreValues table.new.items }
+    ensures kept { LaterStand ends.now number table.old.items table.new.items }
+{
+    let builder = sort_entries(alloc, keys, rows_at(table.as_slice(), input))?;
+    release(alloc, table, ends, number, input);
+    ordered(alloc, builder.finish())
+}
+
+/// Rows under their fields to sort by, in the directions of the keys.
+fn sort_entries(alloc: Global, keys: &SortKeys, rows: &[Tuple]) -> Result<RunBuilder, AllocError>
+    requires { AreRows (rows_tree rows.now) }
+    ensures { IfOk result (λ builder. builder
+        ≡ and_entries (map (sort_entry keys.now) (rows_tree rows.now))
+        (no_entries_in (dirs_of keys.now))) }
+{
+    let mut builder = RunBuilder::new(alloc, directions(alloc, keys)?);
+    let mut left = rows;
+    'rows: while let [row, rest @ ..] = left {
+        add_sorting(alloc, keys, row, &mut builder)?;
+        left = rest;
+    }
+    Ok(builder)
+}
+
+fn directions(alloc: Global, keys: &SortKeys) -> Result<Dirs, AllocError>
+    ensures { IfOk result (λ dirs. dirs ≡ dirs_of keys.now) }
+{
+    let mut dirs = Seq::with_capacity(alloc, keys.len())?;
+    for key in keys.as_slice() {
+        dirs.push(key.dir)?;
+    }
+    Ok(dirs)
+}
+
+fn add_sorting(
+    alloc: Global,
+    keys: &SortKeys,
+    row: &Tuple,
+    builder: &mut RunBuilder,
+) -> Result<(), AllocError>
+    requires dirs { builder.old.dirs ≡ dirs_of keys.now }
+    requires row { IsRow (row_tree row.now) }
+    ensures { OnOk result (builder.new
+        ≡ and_entries (sort_entry keys.now (row_tree row.now) ∷ []) builder.old) }
+{
+    let key = Value::Tuple(key_values(alloc, keys, row)?);
+    builder.add(&key, 0, row)
+}
+
+/// DISTINCT: each row once, in ascending order. A row is let go as soon as a run holds it.
+pub fn once(alloc: Global, rows: Rows) -> Result<Rows, AllocError>
+    requires { AreRows (rows_tree rows) }
+    ensures { IfOk result (λ made. rows_tree made ≡ distinct row_cmp (rows_tree rows)) }
+{
+    let builder = row_entries(alloc, rows)?;
+    distinct_keys(alloc, builder.finish())
+}
+
+/// Rows under themselves.
+fn row_entries(alloc: Global, rows: Rows) -> Result<RunBuilder, AllocError>
+    requires { AreRows (rows_tree rows) }
+    ensures { IfOk result (λ builder. builder
+        ≡ and_entries (map row_entry (rows_tree rows)) (no_entries_in [])) }
+{
+    let mut builder = RunBuilder::new(alloc, Dirs::new(alloc));
+    for row in rows.into_vec() {
+        add_whole(row, &mut builder)?;
+    }
+    Ok(builder)
+}
+
+fn add_whole(row: Tuple, builder: &mut RunBuilder) -> Result<(), AllocError>
+    requires ascending { builder.old.dirs ≡ [] }
+    requires row { IsRow (row_tree row) }
+    ensures { OnOk result (builder.new ≡ and_entries (row_entry (row_tree row) ∷ []) builder.old) }
+{
+    let key = Value::Tuple(row);
+    match &key {
+        Value::Tuple(row) => builder.add(&key, 0, row),
+        _ => Ok(()),
+    }
+}
