@@ -154,7 +154,8 @@ fn add_number(out: &mut Vec<u8>, before: &[u8], number: u64, behind: u8) -> Resu
 
 /// Adds the line of a STORE.
 fn add_stored(out: &mut Vec<u8>, dir: &[u8], lines: u64) -> Result<(), AllocError>
-    ensures { OnOk result (out.new.items ≡ out.old.items ++ stored_line (record { dir = dir.now; bytes = []; lines = lines })) }
+    ensures { OnOk result (out.new.items ≡ out.old.items
+        ++ stored_line (record { dir = dir.now; bytes = []; lines = lines })) }
 {
     out.extend_from_slice(b"stored ")?;
     out.extend_from_slice(dir)?;

@@ -27,7 +27,8 @@ const NO_MEMORY: &str = "pig: out of memory\n";
 
 /// Prints the text of what was found, and answers what it then is.
 fn show<C: Console>(console: &mut C, text: &[u8], found: Option<RunFault>) -> Option<RunFault>
-    ensures shown { Shown text.now (record { text = C.text console.old; faults = C.faults console.old })
+    ensures shown { Shown text.now
+        (record { text = C.text console.old; faults = C.faults console.old })
         (record { text = C.text console.new; faults = C.faults console.new }) found result }
     ensures later { C.faults console.old ≤ C.faults console.new }
 {
