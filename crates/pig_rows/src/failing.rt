@@ -11,13 +11,14 @@ l = LIMIT a 2;
 STORE l INTO 'p';
 STORE l INTO 'q';";
 
-const DONE: &str = "0 kept 1\nstored p 2\nstored q 2\ndone 3 0 4\np whole 1\n2\n\nq whole 1\n2\n\n";
+const DONE: &str =
+    "0 kept 1\nstored p 2\nstored q 2\ndone 3 0 4\np whole\n1\n2\n\nq whole\n1\n2\n\n";
 
 const LOOK_UP: &str = "6 kept 0\npig: storage failed\np none\nq none\n";
 
 const FIRST: &str = "6 kept 1\npig: storage failed at statement 3\n";
 
-const SECOND: &str = "6 kept 1\npig: storage failed at statement 4\np whole 1\n2\n\n";
+const SECOND: &str = "6 kept 1\npig: storage failed at statement 4\np whole\n1\n2\n\n";
 
 /// What is left of the calls that look things up, or read, or show the text.
 #[test]
@@ -41,7 +42,7 @@ fn look_ups_fail_in_turn(rt: HostRuntime) -> Result<(), Fail> {
         (
             Method::Write,
             1,
-            "10 kept 1\np whole 1\n2\n\nq whole 1\n2\n\n",
+            "10 kept 1\np whole\n1\n2\n\nq whole\n1\n2\n\n",
         ),
         (Method::Write, 2, DONE),
     ] {
@@ -59,10 +60,10 @@ fn commits_fail_in_turn(rt: HostRuntime) -> Result<(), Fail> {
     for (method, number, head, rest) in [
         (Method::Create, 1, FIRST, "p none\nq none\n"),
         (Method::Put, 1, FIRST, "p open\nq none\n"),
-        (Method::Finish, 1, FIRST, "p open 1\n2\n\nq none\n"),
+        (Method::Finish, 1, FIRST, "p open\n1\n2\n\nq none\n"),
         (Method::Create, 2, SECOND, "q none\n"),
         (Method::Put, 2, SECOND, "q open\n"),
-        (Method::Finish, 2, SECOND, "q open 1\n2\n\n"),
+        (Method::Finish, 2, SECOND, "q open\n1\n2\n\n"),
         (Method::Create, 3, DONE, ""),
         (Method::Put, 3, DONE, ""),
         (Method::Finish, 3, DONE, ""),
@@ -82,7 +83,7 @@ c = FOREACH g GENERATE group AS word, COUNT(w) AS n;
 o = ORDER c BY n DESC, word;
 STORE o INTO 'p';";
 
-const COUNTED: &str = "0 kept 0\nstored p 2\ndone 2 0 2\np whole the\t2\ncat\t1\n\nq none\n";
+const COUNTED: &str = "0 kept 0\nstored p 2\ndone 2 0 2\np whole\nthe\t2\ncat\t1\n\nq none\n";
 
 const STORE: &str = "6 kept 0\npig: storage failed at statement 6\n";
 
@@ -107,13 +108,13 @@ fn a_word_count_fails_in_turn(rt: HostRuntime) -> Result<(), Fail> {
             Method::Finish,
             1,
             STORE,
-            "p open the\t2\ncat\t1\n\nq none\n",
+            "p open\nthe\t2\ncat\t1\n\nq none\n",
         ),
         (
             Method::Write,
             1,
             "10 kept 0\n",
-            "p whole the\t2\ncat\t1\n\nq none\n",
+            "p whole\nthe\t2\ncat\t1\n\nq none\n",
         ),
         (Method::Write, 2, COUNTED, ""),
     ] {
@@ -171,7 +172,7 @@ fn limits_are_where_they_are(rt: HostRuntime) -> Result<(), Fail> {
     )?;
     assert_eq!(rt;
         got.as_str(),
-        "0 kept 0\nstored p 1\ndone 1 0 1\np whole 2\n\nq none\n"
+        "0 kept 0\nstored p 1\ndone 1 0 1\np whole\n2\n\nq none\n"
     );
     Ok(())
 }

@@ -60,7 +60,7 @@ fn words_of(alloc: Global, words: &[&str]) -> Result<Words, AllocError> {
     Ok(texts)
 }
 
-/// What stands in a directory: `whole` or `open`, and its bytes.
+/// What stands in a directory: `whole` or `open`, and from the next line on its bytes.
 fn directory(alloc: Global, state: Option<&DirState>) -> Result<String, AllocError> {
     let mut told = String::new(alloc);
     let state = match state {
@@ -69,7 +69,7 @@ fn directory(alloc: Global, state: Option<&DirState>) -> Result<String, AllocErr
     };
     told.push_str(if state.marked { "whole" } else { "open" })?;
     for part in state.parts.as_slice() {
-        told.push_str(" ")?;
+        told.push_str("\n")?;
         told.push_str(&String::from_utf8_lossy(alloc, part.as_slice())?)?;
     }
     Ok(told)
