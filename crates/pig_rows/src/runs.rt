@@ -132,6 +132,12 @@ fn case(number: u32) -> Option<Case> {
             "",
             "0 kept 0\nstored p 1\ndone 2 0 1\np whole\ng\t0\t2\t\t\n\nq none\n",
         )),
+        _ => middle_case(number),
+    }
+}
+
+fn middle_case(number: u32) -> Option<Case> {
+    match number {
         5 => Some((
             "a = LOAD 'a' AS (a:int, b:int);
             o = FOREACH a GENERATE a+1, b/2, b%2, b/0, (long)a+1; STORE o INTO 'p';",
