@@ -28,9 +28,9 @@ use Rattle.pig_run.specs.Outputs.{AreCounts, AreOutputsOf, AreStored, IsStopped,
 use Rattle.pig_run.specs.Reading.{Refuses, Runs, Verdict}
 use Rattle.pig_run.specs.Refusals.{Names, by_depot, by_host, by_memory, cause_of}
 use Rattle.pig_run.specs.Running.{AskedFor, IsBrokenAt, IsFoundOver, IsNotBegun, Relation, RunEnd, RunsEnd, counts_in, found_in, kept_in, note_of, noted_line, output_of, outputs_of}
-use Rattle.pig_run.specs.Steps.{IsCommitFault, IsHostStep, IsLookFault, Passes, Stops}
+use Rattle.pig_run.specs.Steps.{IsCommitFault, IsHostStep, IsLookFault, Passes, StopsIn}
 use Rattle.pig_run.specs.Texts.{done_line, done_text}
-use Rattle.pig_run.specs.Told.{CountsAre, EndsEarly, IsAsked, Tells, TellsOf}
+use Rattle.pig_run.specs.Told.{CountsAre, EndsEarly, IsAsked, TellsInputs, TellsOf}
 use Rattle.pig_run.proofs.Deciding.{some_due}
 use Rattle.pig_run.proofs.Found.{outputs_are, relations_are}
 use Rattle.pig_run.proofs.Readings.{PlanLaws}
@@ -66,7 +66,7 @@ module _ (laws : PlanLaws) (line : Line) (s : Shelf) (tells : Type 0) (old new :
   left_look v f (inl is) = subst (λ g. Ends tells s (record { outs = []; kept = kept_in false progress; shelf = shelf }) v (Some g)) (sym is) (lookup_failed (untouched s shelf progress same idle))
   left_look v f (inr is) = subst (λ g. Ends tells s (record { outs = []; kept = kept_in false progress; shelf = shelf }) v (Some g)) (sym is) (no_memory (untouched s shelf progress same idle))
 
-  pub told_stopped : (f : RunFault) → Stops (IsDue line s) old new f → RunEnd line s tells old new shelf progress (Err f)
+  pub told_stopped : (f : RunFault) → StopsIn (IsDue line s) old new f → RunEnd line s tells old new shelf progress (Err f)
   told_stopped f stops = elim stops.ends [
     | inl e ↦ record {
       verdict = Refuses e.refusal;
@@ -120,15 +120,15 @@ told_inputs shelf s i told is = let e = sym is ∙ ap (option_map (λ s. s.input
 
 module _ (plan : Plan) (s : Shelf) (shelf : Option Shelf) (told : shelf ≡ Some s) (inputs : Option (List Input)) (of : TellsOf shelf inputs) (found : Found)
     (over : ForSome inputs (λ i. IsFoundOver plan i found)) where
-  over_shelf : Tells inputs → IsFoundOver plan s.inputs found
+  over_shelf : TellsInputs inputs → IsFoundOver plan s.inputs found
   over_shelf (i, is) = subst (λ j. IsFoundOver plan j found) (told_inputs shelf s i told (of i is)) (over i is)
 
-  pub answers_over : (kept : List Kept) (relations : List Relation) → kept ≡ found.answers.kept → relations ≡ found.answers.stores → Tells inputs → IsAnswer plan s.inputs kept (map rows_tree relations)
+  pub answers_over : (kept : List Kept) (relations : List Relation) → kept ≡ found.answers.kept → relations ≡ found.answers.stores → TellsInputs inputs → IsAnswer plan s.inputs kept (map rows_tree relations)
   answers_over kept relations kept_is relations_are tells =
       subst (λ k. IsAnswer plan s.inputs k (map rows_tree relations)) (sym kept_is)
       (subst (λ rs. IsAnswer plan s.inputs found.answers.kept (map rows_tree rs)) (sym relations_are) (over_shelf tells).answer)
 
-  pub read_over : (read : ℕ) → read ≡ found.read → Tells inputs → read ≡ lines_read plan s.inputs % 2 ^ 64
+  pub read_over : (read : ℕ) → read ≡ found.read → TellsInputs inputs → read ≡ lines_read plan s.inputs % 2 ^ 64
   read_over read is tells = is ∙ (over_shelf tells).read
 
 -- ---- the run's own steps

@@ -10,7 +10,7 @@ use Rattle.pig_run.specs.declared.outcome.RunFault.{RunFault}
 use Rattle.pig_run.specs.Due.{Looks, Stage, call, passed, stopped, through}
 use Rattle.pig_run.specs.Reading.{Verdict, Refuses}
 use Rattle.pig_run.specs.Refusals.{Refusal, Names}
-use Rattle.pig_run.specs.Steps.{EndsIn, HandsOn, IsBrokenIn, IsLookFault, IsRefusedBy, Passes, Stops}
+use Rattle.pig_run.specs.Steps.{EndsIn, HandsOn, IsBrokenIn, IsLookFault, IsRefusedBy, Passes, StopsIn}
 use Rattle.pig_run.specs.Told.{Asked, IsPrefix}
 use Rattle.pig_run.proofs.Stages.{asked_then}
 
@@ -56,7 +56,7 @@ module _ (is_so : List ℕ → Bool) (refusal : List ℕ → Refusal) (m : Metho
     }
 
     -- it is so, which is refused
-    pub looks_stop : (f : RunFault) → is_so path ≡ true → Names (refusal path) f → Stops (Looks is_so refusal m paths next) old new f
+    pub looks_stop : (f : RunFault) → is_so path ≡ true → Names (refusal path) f → StopsIn (Looks is_so refusal m paths next) old new f
     looks_stop f so names =
         let found : find is_so paths ≡ Some path = find_is ∙ ap (λ b. cond b (Some path) (find is_so (drop (place + 1) paths))) so in
         let calls : through is_so paths ≡ take (place + 1) paths = through_is ∙ ap (λ b. take place paths ++ path ∷ cond b [] (through is_so (drop (place + 1) paths))) so ∙ sym more in
@@ -87,7 +87,7 @@ module _ (is_so : List ℕ → Bool) (refusal : List ℕ → Refusal) (m : Metho
     first_of_due _ v (passed {asked = more} none due) = begins_all more
 
     -- the depot or memory failed
-    pub looks_broken : (f : RunFault) → IsLookFault f → Stops (Looks is_so refusal m paths next) old new f
+    pub looks_broken : (f : RunFault) → IsLookFault f → StopsIn (Looks is_so refusal m paths next) old new f
     looks_broken f free = record { made = map (call m) (take (place + 1) paths); asked = asked_now; ends = inr (record { free = free; first = first_of_due }) }
 
   -- none was so

@@ -15,7 +15,7 @@ use Rattle.pig_run.specs.Due.{InputsDue, ScriptDue, call, script_found, script_m
 use Rattle.pig_run.specs.Looking.{IsRead}
 use Rattle.pig_run.specs.Reading.{IsFound, Refuses, Runs, Verdict, too_long}
 use Rattle.pig_run.specs.Refusals.{Refusal, Names, no_script, too_large}
-use Rattle.pig_run.specs.Steps.{DepotCause, IsLookFault, IsPlanFault, IsReadFault, Passes, Step, Stops, TellsPlan}
+use Rattle.pig_run.specs.Steps.{DepotCause, IsLookFault, IsPlanFault, IsReadFault, Passes, Step, StopsIn, TellsPlan}
 use Rattle.pig_run.specs.Told.{Asked, IsPrefix}
 use Rattle.pig_run.proofs.Deciding.{just, not_none}
 use Rattle.pig_run.proofs.Readings.{PlanLaws, one_found}
@@ -54,10 +54,10 @@ module _ (laws : PlanLaws) (path : List ℕ) (s : Shelf) where
   begins _ v (script_found {asked = more} h is due) = (more, refl)
 
   module _ (old new : Option (List DepotCall)) (asked : Asked (call method.Script path ∷ []) old new) where
-    pub script_broken : (f : RunFault) → IsLookFault f → Stops (ScriptDue path s) old new f
+    pub script_broken : (f : RunFault) → IsLookFault f → StopsIn (ScriptDue path s) old new f
     script_broken f free = record { made = call method.Script path ∷ []; asked = asked; ends = inr (record { free = free; first = begins }) }
 
-    pub script_gone : script_of path s ≡ None → Stops (ScriptDue path s) old new fault.NoScript
+    pub script_gone : script_of path s ≡ None → StopsIn (ScriptDue path s) old new fault.NoScript
     script_gone none = record { made = call method.Script path ∷ []; asked = asked; ends = inl (record { refusal = no_script; due = script_missing none; names = refl }) }
 
     script_is : (script : List ℕ) → script_of path s ≡ Some script → (plan : List PlanNode) → IsFound script (Runs plan) → Passes (ScriptDue path s) (InputsDue plan s) old new
@@ -88,8 +88,8 @@ module _ (laws : PlanLaws) (path : List ℕ) (s : Shelf) where
     script_step n limit bytes r (Err f) (inr h) = script_broken f (inr h)
 
     -- the bytes could not be had
-    pub script_stops : (f : RunFault) → ((f ≡ fault.NoScript) × (script_of path s ≡ None)) ⊎ IsLookFault f → Stops (ScriptDue path s) old new f
-    script_stops f (inl (is, none)) = subst (λ g. Stops (ScriptDue path s) old new g) (sym is) (script_gone none)
+    pub script_stops : (f : RunFault) → ((f ≡ fault.NoScript) × (script_of path s ≡ None)) ⊎ IsLookFault f → StopsIn (ScriptDue path s) old new f
+    script_stops f (inl (is, none)) = subst (λ g. StopsIn (ScriptDue path s) old new g) (sym is) (script_gone none)
     script_stops f (inr free) = script_broken f free
 
 -- a fault of reading is one of the steps before the run, and blames no device

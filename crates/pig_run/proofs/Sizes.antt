@@ -18,7 +18,7 @@ use Rattle.pig_run.specs.Due.{InputsDue, Looks, OutputsDue, RunDue, SizeDue, cal
 use Rattle.pig_run.specs.Looking.{HasLengths, HasSize, total_of}
 use Rattle.pig_run.specs.Refusals.{no_input, output_there, too_large}
 use Rattle.pig_run.specs.Reading.{Verdict}
-use Rattle.pig_run.specs.Steps.{IsLookFault, Passes, Stops}
+use Rattle.pig_run.specs.Steps.{IsLookFault, Passes, StopsIn}
 use Rattle.pig_run.specs.Told.{Asked}
 use Rattle.pig_run.proofs.Stages.{passes_itself, refuses}
 use Rattle.pig_run.proofs.LookUps.{LookedAt, looks_broken, looks_on, looks_stop}
@@ -72,25 +72,25 @@ there_of s path lengths h = by_option (pieces_of path s.inputs) h
 -- an input that is missing, or that the depot did not tell of
 pub input_stops : (plan : List PlanNode) (s : Shelf) (paths : List (List ℕ)) → paths ≡ live_paths plan → (place : ℕ) (path d : List ℕ) (old now new : Option (List DepotCall))
     → LookedAt (is_missing s) no_input method.Pieces paths (SizeDue plan s) place old now → place < length paths → path ≡ get_or paths place d
-    → Asked (call method.Pieces path ∷ []) now new → (f : RunFault) → ((f ≡ fault.NoInput path) × (lengths_at path s ≡ None)) ⊎ IsLookFault f → Stops (InputsDue plan s) old new f
+    → Asked (call method.Pieces path ∷ []) now new → (f : RunFault) → ((f ≡ fault.NoInput path) × (lengths_at path s ≡ None)) ⊎ IsLookFault f → StopsIn (InputsDue plan s) old new f
 input_stops plan s paths are place path d old now new so_far within at asked f (inl (is, none)) =
-    subst (λ f. Stops (InputsDue plan s) old new f) (sym is)
-    (subst (λ ps. Stops (Looks (is_missing s) no_input method.Pieces ps (SizeDue plan s)) old new (fault.NoInput path)) are
+    subst (λ f. StopsIn (InputsDue plan s) old new f) (sym is)
+    (subst (λ ps. StopsIn (Looks (is_missing s) no_input method.Pieces ps (SizeDue plan s)) old new (fault.NoInput path)) are
     (looks_stop (is_missing s) no_input method.Pieces paths (SizeDue plan s) place path d old now new so_far within at asked (fault.NoInput path) (missing_of s path none) refl))
 input_stops plan s paths are place path d old now new so_far within at asked f (inr free) =
-    subst (λ ps. Stops (Looks (is_missing s) no_input method.Pieces ps (SizeDue plan s)) old new f) are
+    subst (λ ps. StopsIn (Looks (is_missing s) no_input method.Pieces ps (SizeDue plan s)) old new f) are
     (looks_broken (is_missing s) no_input method.Pieces paths (SizeDue plan s) place path d old now new so_far within at asked f free)
 
 -- an output that is there, or that the depot did not tell of
 pub output_stops : (plan : List PlanNode) (s : Shelf) (dirs : List (List ℕ)) → dirs ≡ dirs_of plan → (place : ℕ) (dir d : List ℕ) (old now new : Option (List DepotCall))
     → LookedAt (λ dir. has_dir dir s) output_there method.Exists dirs (RunDue plan) place old now → place < length dirs → dir ≡ get_or dirs place d
-    → Asked (call method.Exists dir ∷ []) now new → (f : RunFault) → ((f ≡ fault.OutputExists dir) × (has_dir dir s ≡ true)) ⊎ IsLookFault f → Stops (OutputsDue plan s) old new f
+    → Asked (call method.Exists dir ∷ []) now new → (f : RunFault) → ((f ≡ fault.OutputExists dir) × (has_dir dir s ≡ true)) ⊎ IsLookFault f → StopsIn (OutputsDue plan s) old new f
 output_stops plan s dirs are place dir d old now new so_far within at asked f (inl (is, there)) =
-    subst (λ f. Stops (OutputsDue plan s) old new f) (sym is)
-    (subst (λ ds. Stops (Looks (λ dir. has_dir dir s) output_there method.Exists ds (RunDue plan)) old new (fault.OutputExists dir)) are
+    subst (λ f. StopsIn (OutputsDue plan s) old new f) (sym is)
+    (subst (λ ds. StopsIn (Looks (λ dir. has_dir dir s) output_there method.Exists ds (RunDue plan)) old new (fault.OutputExists dir)) are
     (looks_stop (λ dir. has_dir dir s) output_there method.Exists dirs (RunDue plan) place dir d old now new so_far within at asked (fault.OutputExists dir) there refl))
 output_stops plan s dirs are place dir d old now new so_far within at asked f (inr free) =
-    subst (λ ds. Stops (Looks (λ dir. has_dir dir s) output_there method.Exists ds (RunDue plan)) old new f) are
+    subst (λ ds. StopsIn (Looks (λ dir. has_dir dir s) output_there method.Exists ds (RunDue plan)) old new f) are
     (looks_broken (λ dir. has_dir dir s) output_there method.Exists dirs (RunDue plan) place dir d old now new so_far within at asked f free)
 
 -- an input that is there
@@ -120,7 +120,7 @@ module _ (plan : List PlanNode) (s : Shelf) (sizes : List Size) (paths : map (λ
       let bound : sum_by (size_of s) (live_paths plan) ≤ 2 ^ 26 = let e = sum_is in omega (arith, few, e) in
       passes_itself (SizeDue plan s) (OutputsDue plan s) now now refl (λ asked v due. small bound due) (size_back plan s bound)
 
-  pub size_stops : (f : RunFault) → (f ≡ fault.TooLarge large.Input) × (2 ^ 26 < total_of sizes) → Stops (SizeDue plan s) now now f
+  pub size_stops : (f : RunFault) → (f ≡ fault.TooLarge large.Input) × (2 ^ 26 < total_of sizes) → StopsIn (SizeDue plan s) now now f
   size_stops f h =
       let big : 2 ^ 26 < sum_by (size_of s) (live_paths plan) = let e = sum_is in let m = h.1 in omega (arith, m, e) in
       refuses (SizeDue plan s) now now refl f (too_large large.Input) h.0 (too_big big)

@@ -8,7 +8,7 @@ use Rattle.pig_run.specs.declared.outcome.RunFault.TheVariants as fault
 use Rattle.pig_run.specs.Due.{Stage}
 use Rattle.pig_run.specs.Reading.{Verdict, Refuses}
 use Rattle.pig_run.specs.Refusals.{Refusal, Names}
-use Rattle.pig_run.specs.Steps.{EndsIn, HandsOn, IsBrokenIn, IsLookFault, IsRefusedBy, Passes, Stops}
+use Rattle.pig_run.specs.Steps.{EndsIn, HandsOn, IsBrokenIn, IsLookFault, IsRefusedBy, Passes, StopsIn}
 use Rattle.pig_run.specs.Told.{Asked, IsPrefix}
 
 both_asked : (first more : List DepotCall) (old : Option (List DepotCall)) → option_map (λ xs. xs ++ more) (option_map (λ xs. xs ++ first) old) ≡ option_map (λ xs. xs ++ (first ++ more)) old
@@ -55,7 +55,7 @@ module _ (R S : Stage) (old mid : Option (List DepotCall)) (before : Passes R S 
     hands = hands_both R S before.made before.hands T h.made h.hands;
   }
 
-  pub stops_both : (f : RunFault) → Stops S mid new f → Stops R old new f
+  pub stops_both : (f : RunFault) → StopsIn S mid new f → StopsIn R old new f
   stops_both f h = record {
     made = before.made ++ h.made;
     asked = asked_then before.made h.made old mid new before.asked h.asked;
@@ -72,7 +72,7 @@ passes_itself R S old new same on back = record {
 }
 
 -- memory was wanting, with nothing asked
-pub wants : (R : Stage) (old new : Option (List DepotCall)) → new ≡ old → (f : RunFault) → f ≡ fault.OutOfMemory → Stops R old new f
+pub wants : (R : Stage) (old new : Option (List DepotCall)) → new ≡ old → (f : RunFault) → f ≡ fault.OutOfMemory → StopsIn R old new f
 wants R old new same f is = record {
   made = [];
   asked = asked_nothing old new same;
@@ -80,5 +80,5 @@ wants R old new same f is = record {
 }
 
 -- what is due is refused, with nothing asked
-pub refuses : (R : Stage) (old new : Option (List DepotCall)) → new ≡ old → (f : RunFault) (r : Refusal) → Names r f → R [] (Refuses r) → Stops R old new f
+pub refuses : (R : Stage) (old new : Option (List DepotCall)) → new ≡ old → (f : RunFault) (r : Refusal) → Names r f → R [] (Refuses r) → StopsIn R old new f
 refuses R old new same f r names due = record { made = []; asked = asked_nothing old new same; ends = inl (record { refusal = r; due = due; names = names }) }

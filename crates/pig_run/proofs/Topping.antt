@@ -15,9 +15,9 @@ use Rattle.pig_run.specs.Outputs.{Left}
 use Rattle.pig_run.specs.Reading.{Verdict, Refuses, Runs}
 use Rattle.pig_run.specs.Refusals.{Cause, by_depot, by_host, cause_of}
 use Rattle.pig_run.specs.Running.{RunEnd, RunTold, counts_in, end_text, found_in, kept_in}
-use Rattle.pig_run.specs.Steps.{DepotCause, HostCause, IsNotUsage, SaysWords, StoreCause}
+use Rattle.pig_run.specs.Steps.{DepotCause, HostCause, IsNotUsage, SaysWords, StoreBlame}
 use Rattle.pig_run.specs.Texts.{answer_text, fault_text}
-use Rattle.pig_run.specs.Told.{FirstTells, IsCaused, IsRight, Seen, SomeFailed, Tells, Told, first_of, line_of}
+use Rattle.pig_run.specs.Told.{FirstTells, IsCaused, IsRight, Seen, SomeFailed, TellsInputs, Told, first_of, line_of}
 
 -- ---- faults by their causes
 
@@ -118,17 +118,17 @@ run_told line s tells old new shelf progress (Err f) h = h
 module _ {X : Type 0} (inputs : X → Option (List Input)) (faults : X → ℕ) where
   pub told_over : (xs : List X) (x y d : X) → 1 ≤ length xs → x ≡ get_or xs 0 d → (words : List (List ℕ)) (hosts : ℕ) → hosts ≡ length xs → (s : Shelf) (old new : Seen)
       → old.host_faults ≡ first_of faults xs → new.host_faults ≡ first_of faults (slice_set xs 0 y) → (outcome : Outcome) (progress : Progress) (result : Result (List ℕ) RunFault)
-      → RunEnd (record { hosts = hosts; words = words }) s (Tells (inputs x)) old.calls new.calls new.shelf progress result
+      → RunEnd (record { hosts = hosts; words = words }) s (TellsInputs (inputs x)) old.calls new.calls new.shelf progress result
       → Shown (end_text result) old.console new.console (found_in result) outcome.fault → outcome.kept ≡ kept_in (is_ok result) progress
       → outcome.counts ≡ counts_shown outcome.fault (counts_in progress) → DepotCause old.depot_faults new.depot_faults result → HostCause (faults x) (faults y) result
       → Told (line_of xs words) s (FirstTells inputs xs) old new outcome
   told_over [] x y d within at words hosts is s old new before now outcome progress result run shown kept counts depot host = absurd (omega (arith, within))
   told_over (z ∷ zs) x y d within at words hosts is s old new before now outcome progress result run shown kept counts depot host =
       let first : HostCause (faults z) (faults y) result = subst (λ w. HostCause (faults w) (faults y) result) at host in
-      let over : RunEnd (record { hosts = hosts; words = words }) s (Tells (inputs z)) old.calls new.calls new.shelf progress result =
-      subst (λ w. RunEnd (record { hosts = hosts; words = words }) s (Tells (inputs w)) old.calls new.calls new.shelf progress result) at run in
-      told_all (line_of (z ∷ zs) words) s (Tells (inputs z)) old new outcome progress result
-      (subst (λ n. RunEnd (record { hosts = n; words = words }) s (Tells (inputs z)) old.calls new.calls new.shelf progress result) is over)
+      let over : RunEnd (record { hosts = hosts; words = words }) s (TellsInputs (inputs z)) old.calls new.calls new.shelf progress result =
+      subst (λ w. RunEnd (record { hosts = hosts; words = words }) s (TellsInputs (inputs w)) old.calls new.calls new.shelf progress result) at run in
+      told_all (line_of (z ∷ zs) words) s (TellsInputs (inputs z)) old new outcome progress result
+      (subst (λ n. RunEnd (record { hosts = n; words = words }) s (TellsInputs (inputs z)) old.calls new.calls new.shelf progress result) is over)
       shown kept counts depot
       (subst (λ n. HostCause n new.host_faults result) (sym before) (subst (λ n. HostCause (faults z) n result) (sym now) first))
 
@@ -189,10 +189,10 @@ module _ (text : List ℕ) (old new : Console) (result : Result (List ℕ) RunFa
   pub depot_blamed : (before now : ℕ) → DepotCause before now result → (store : Option ℕ) → final ≡ Some (fault.DepotFault store) → before < now
   depot_blamed before now cause store is = cause.failed store (was_found (fault.DepotFault store) (λ e. absurd (cc)) (λ e. absurd (cc)) is)
 
-  pub store_blamed : (before now : ℕ) → StoreCause before now result → (store : ℕ) → final ≡ Some (fault.DepotFault (Some store)) → before < now
+  pub store_blamed : (before now : ℕ) → StoreBlame before now result → (store : ℕ) → final ≡ Some (fault.DepotFault (Some store)) → before < now
   store_blamed before now cause store is = cause.store store (was_found (fault.DepotFault (Some store)) (λ e. absurd (cc)) (λ e. absurd (cc)) is)
 
-  pub lookup_blamed : (before now : ℕ) → StoreCause before now result → final ≡ Some (fault.DepotFault None) → now ≡ before
+  pub lookup_blamed : (before now : ℕ) → StoreBlame before now result → final ≡ Some (fault.DepotFault None) → now ≡ before
   lookup_blamed before now cause is = cause.lookup (was_found (fault.DepotFault None) (λ e. absurd (cc)) (λ e. absurd (cc)) is)
 
   pub host_blamed : (before now : ℕ) → HostCause before now result → final ≡ Some fault.HostFault → before < now

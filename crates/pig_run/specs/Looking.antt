@@ -14,8 +14,8 @@ use Rattle.pig_run.specs.declared.outcome.RunFault.TheVariants as fault
 use Rattle.pig_run.specs.Due.{Line}
 use Rattle.pig_run.specs.Steps.{IsLookFault}
 
-abbrev pub line_of : CommandLine → Line
-line_of line = record { hosts = line.hosts; words = line.words.now }
+abbrev pub line_given : CommandLine → Line
+line_given line = record { hosts = line.hosts; words = line.words.now }
 
 -- ---- the script
 

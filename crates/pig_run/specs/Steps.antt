@@ -53,14 +53,14 @@ pub record Passes (stage next : Stage) (old new : Option (List DepotCall)) : Typ
   pub hands : HandsOn stage next made
 
 -- a call ends in a stage
-pub record Stops (stage : Stage) (old new : Option (List DepotCall)) (found : RunFault) : Type 0 where
+pub record StopsIn (stage : Stage) (old new : Option (List DepotCall)) (found : RunFault) : Type 0 where
   pub made : List DepotCall
   pub asked : Asked made old new
   pub ends : EndsIn stage made found
 
 -- a step goes from a stage to the next one, or ends in it
 abbrev pub Step : {T : Type 0} → Stage → (T → Stage) → Option (List DepotCall) → Option (List DepotCall) → Result T RunFault → Type 0
-Step stage next old new result = MatchResult result (λ x. Passes stage (next x) old new) (Stops stage old new)
+Step stage next old new result = MatchResult result (λ x. Passes stage (next x) old new) (StopsIn stage old new)
 
 -- reading a script finds this, or memory was wanting
 abbrev pub TellsPlan : (Verdict → Type 0) → Result Plan RunFault → Type 0
@@ -76,7 +76,7 @@ pub record DepotCause {T : Type 0} (before now : ℕ) (result : Result T RunFaul
 
 -- The count of the depot's failures at making a directory has not fallen, has risen where a STORE is blamed, and stands still where the
 -- depot is blamed without one.
-pub record StoreCause {T : Type 0} (before now : ℕ) (result : Result T RunFault) : Type 0 where
+pub record StoreBlame {T : Type 0} (before now : ℕ) (result : Result T RunFault) : Type 0 where
   pub later : before ≤ now
   pub store : (number : ℕ) → IsErrOf result (fault.DepotFault (Some number)) → before < now
   pub lookup : IsErrOf result (fault.DepotFault None) → now ≡ before

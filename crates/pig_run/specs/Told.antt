@@ -93,8 +93,8 @@ abbrev pub TellsOf : Option Shelf → Option (List Input) → Type 0
 TellsOf shelf inputs = ForSome inputs (λ told. option_map (λ s. s.inputs) shelf ≡ Some told)
 
 -- it tells its inputs
-abbrev pub Tells : Option (List Input) → Type 0
-Tells inputs = (told : List Input) × (inputs ≡ Some told)
+abbrev pub TellsInputs : Option (List Input) → Type 0
+TellsInputs inputs = (told : List Input) × (inputs ≡ Some told)
 
 -- the first of the numbers, as the count of the first host's failures
 abbrev pub first_of : {X : Type 0} → (X → ℕ) → List X → ℕ
@@ -108,4 +108,4 @@ line_of hosts words = record { hosts = length hosts; words = words }
 -- the first of them tells its inputs
 abbrev pub FirstTells : {X : Type 0} → (X → Option (List Input)) → List X → Type 0
 FirstTells inputs [] = Unit {0}
-FirstTells inputs (x ∷ _) = Tells (inputs x)
+FirstTells inputs (x ∷ _) = TellsInputs (inputs x)

@@ -8,7 +8,7 @@ ghost use Rattle.pig_run.specs.Due.{store_calls};
 ghost use Rattle.pig_run.specs.Looking.{IsAbsentIn, are_apart};
 ghost use Rattle.pig_run.specs.Outputs.{LeftOpen, with_outputs};
 ghost use Rattle.pig_run.specs.Running.{AskedFor, IsBrokenAt, IsNotBegun, note_of, output_of, outputs_of};
-ghost use Rattle.pig_run.specs.Steps.{DepotCause, IsCommitFault, StoreCause};
+ghost use Rattle.pig_run.specs.Steps.{DepotCause, IsCommitFault, StoreBlame};
 
 use crate::RunFault;
 use crate::looking::depot_fault;
@@ -40,7 +40,7 @@ fn make<D: Depot>(depot: &mut D, dir: &str, bytes: &[u8], store: u32) -> Result<
     ensures err { OnErr result (LeftOpen dir.now (D.shelf depot.old) (D.shelf depot.new)) }
     ensures fault { IfErr result (IsCommitFault store) }
     ensures cause { DepotCause (D.faults depot.old) (D.faults depot.new) result }
-    ensures stores { StoreCause (D.store_faults depot.old) (D.store_faults depot.new) result }
+    ensures stores { StoreBlame (D.store_faults depot.old) (D.store_faults depot.new) result }
     ensures asked { AskedFor (store_calls dir.now) result (D.calls depot.old)
         (D.calls depot.new) }
 {
@@ -70,7 +70,7 @@ fn store_rows<D: Depot>(
     ensures err { OnErr result (LeftOpen store.now.dir (D.shelf depot.old) (D.shelf depot.new)) }
     ensures fault { IfErr result (IsCommitFault store.now.statement) }
     ensures cause { DepotCause (D.faults depot.old) (D.faults depot.new) result }
-    ensures stores { StoreCause (D.store_faults depot.old) (D.store_faults depot.new) result }
+    ensures stores { StoreBlame (D.store_faults depot.old) (D.store_faults depot.new) result }
     ensures asked { AskedFor (store_calls store.now.dir) result (D.calls depot.old)
         (D.calls depot.new) }
     ensures notes { OnOk result (progress.new.notes
@@ -102,7 +102,7 @@ pub fn store_all<D: Depot>(
     ensures err { IfErr result (λ f. IsBrokenAt stores.now relations.now f
         (D.shelf depot.old) (D.shelf depot.new)) }
     ensures cause { DepotCause (D.faults depot.old) (D.faults depot.new) result }
-    ensures stores { StoreCause (D.store_faults depot.old) (D.store_faults depot.new) result }
+    ensures stores { StoreBlame (D.store_faults depot.old) (D.store_faults depot.new) result }
     ensures asked { AskedFor (flat_map store_calls (map (λ store. store.dir) stores.now)) result
         (D.calls depot.old) (D.calls depot.new) }
     ensures notes { OnOk result (progress.new.notes

@@ -6,7 +6,7 @@ ghost use Rattle.pig_plan.specs.Plans.{PlanNode, plan_of};
 ghost use Rattle.pig_reach.specs.Reach.{live_paths, stores_of};
 ghost use Rattle.pig_check.specs.States.{StoresAreApart};
 ghost use Rattle.pig_run.specs.Due.{AreWords, HasWords, InputsDue, IsDue, OutputsDue, RunDue, ScriptDue, SizeDue, call};
-ghost use Rattle.pig_run.specs.Looking.{HasSize, IsAbsentIn, IsPrepared, IsReady, LooksForInput, LooksForOutput, LooksForScript, LooksForSize, line_of, total_of};
+ghost use Rattle.pig_run.specs.Looking.{HasSize, IsAbsentIn, IsPrepared, IsReady, LooksForInput, LooksForOutput, LooksForScript, LooksForSize, line_given, total_of};
 ghost use Rattle.pig_run.specs.Steps.{DepotCause, IsPlanFault, SaysWords, Step, depot_fault_of};
 ghost use Rattle.pig_run.specs.Told.{Asked};
 ghost use Rattle.pig_run.specs.declared.outcome.RunFault.TheVariants as fault;
@@ -48,8 +48,8 @@ pub fn depot_fault(error: OutsideError, store: Option<u32>) -> RunFault
 
 /// The path of the script that the words name.
 fn read_path(alloc: Global, line: &CommandLine) -> Result<Text, RunFault>
-    ensures found { IfOk result (λ path. AreWords (line_of line.now) path) }
-    ensures usage { IfErr result (λ f. ((f ≡ fault.Usage) × (¬ HasWords (line_of line.now)))
+    ensures found { IfOk result (λ path. AreWords (line_given line.now) path) }
+    ensures usage { IfErr result (λ f. ((f ≡ fault.Usage) × (¬ HasWords (line_given line.now)))
         ⊎ (f ≡ fault.OutOfMemory)) }
 {
     match read_words(alloc, line.words, line.hosts) {
@@ -275,12 +275,12 @@ pub fn prepare<D: Depot>(
     line: &CommandLine,
     depot: &mut D,
 ) -> Result<Prepared, RunFault>
-    ensures told { ForSome (D.shelf depot.old) (λ s. Step (IsDue (line_of line.now) s)
+    ensures told { ForSome (D.shelf depot.old) (λ s. Step (IsDue (line_given line.now) s)
         (λ p. RunDue (plan_of p.plan)) (D.calls depot.old) (D.calls depot.new) result) }
     ensures ready { ForSome (D.shelf depot.old) (λ s. IfOk result (IsReady s)) }
     ensures prepared { IfOk result IsPrepared }
-    ensures words { MatchResult result (λ _. HasWords (line_of line.now))
-        (SaysWords (line_of line.now)) }
+    ensures words { MatchResult result (λ _. HasWords (line_given line.now))
+        (SaysWords (line_given line.now)) }
     ensures fault { IfErr result (λ f. (f ≡ fault.Usage) ⊎ IsPlanFault f) }
     ensures shelf { D.shelf depot.new ≡ D.shelf depot.old }
     ensures cause { DepotCause (D.faults depot.old) (D.faults depot.new) result }

@@ -3,10 +3,10 @@ ghost use Rattle.std.specs.Option.{ForSome};
 ghost use Rattle.std.specs.List.{AllByRecursion, sum_by};
 ghost use Rattle.pig_plan.specs.Plans.{plan_of};
 ghost use Rattle.pig_run.specs.Due.{HasWords};
-ghost use Rattle.pig_run.specs.Looking.{HasLengths, IsPrepared, IsReady, line_of};
+ghost use Rattle.pig_run.specs.Looking.{HasLengths, IsPrepared, IsReady, line_given};
 ghost use Rattle.pig_run.specs.Running.{IsFoundOver, RunTold, RunsTold, counts_in};
-ghost use Rattle.pig_run.specs.Steps.{DepotCause, HostCause, IsHostStep, IsRunFault, SaysWords, StoreCause};
-ghost use Rattle.pig_run.specs.Told.{Tells, TellsOf};
+ghost use Rattle.pig_run.specs.Steps.{DepotCause, HostCause, IsHostStep, IsRunFault, SaysWords, StoreBlame};
+ghost use Rattle.pig_run.specs.Told.{TellsInputs, TellsOf};
 ghost use Rattle.pig_run.specs.declared.outcome.RunFault.TheVariants as fault;
 
 use crate::commit::store_all;
@@ -78,11 +78,11 @@ fn perform<D: Depot, H: Host>(
     requires notes { progress.old.notes ≡ [] }
     requires begun { progress.old.begun ≡ false }
     ensures told { ForSome (D.shelf depot.old) (λ s. RunsTold (plan_of prepared.now.plan) s
-        (Tells (H.inputs host.old)) (D.calls depot.old) (D.calls depot.new) (D.shelf depot.new)
-        progress.new result) }
+        (TellsInputs (H.inputs host.old)) (D.calls depot.old) (D.calls depot.new)
+        (D.shelf depot.new) progress.new result) }
     ensures fault { IfErr result IsRunFault }
     ensures depot { DepotCause (D.faults depot.old) (D.faults depot.new) result }
-    ensures stores { StoreCause (D.store_faults depot.old) (D.store_faults depot.new) result }
+    ensures stores { StoreBlame (D.store_faults depot.old) (D.store_faults depot.new) result }
     ensures host { HostCause (H.faults host.old) (H.faults host.new) result }
     ensures inputs { H.inputs host.new ≡ H.inputs host.old }
 {
@@ -126,14 +126,14 @@ pub fn run<D: Depot, H: Host>(
     requires tells { TellsOf (D.shelf depot.old) (H.inputs host.old) }
     requires notes { progress.old.notes ≡ [] }
     requires begun { progress.old.begun ≡ false }
-    ensures told { ForSome (D.shelf depot.old) (λ s. RunTold (line_of line.now) s
-        (Tells (H.inputs host.old)) (D.calls depot.old) (D.calls depot.new) (D.shelf depot.new)
-        progress.new result) }
+    ensures told { ForSome (D.shelf depot.old) (λ s. RunTold (line_given line.now) s
+        (TellsInputs (H.inputs host.old)) (D.calls depot.old) (D.calls depot.new)
+        (D.shelf depot.new) progress.new result) }
     ensures fault { IfErr result (λ f. f ≢ fault.ConsoleFault) }
-    ensures words { MatchResult result (λ _. HasWords (line_of line.now))
-        (SaysWords (line_of line.now)) }
+    ensures words { MatchResult result (λ _. HasWords (line_given line.now))
+        (SaysWords (line_given line.now)) }
     ensures depot { DepotCause (D.faults depot.old) (D.faults depot.new) result }
-    ensures stores { StoreCause (D.store_faults depot.old) (D.store_faults depot.new) result }
+    ensures stores { StoreBlame (D.store_faults depot.old) (D.store_faults depot.new) result }
     ensures host { HostCause (H.faults host.old) (H.faults host.new) result }
     ensures inputs { H.inputs host.new ≡ H.inputs host.old }
 {

@@ -8,7 +8,7 @@ use Rattle.pig_run.specs.declared.outcome.TooLarge.TheVariants as large
 use Rattle.pig_run.specs.Due.{InputsDue, OutputsDue, RunDue, SizeDue}
 use Rattle.pig_run.specs.Looking.{HasSize, are_apart, total_of}
 use Rattle.pig_run.proofs.Apart.{stores_apart}
-use Rattle.pig_run.specs.Steps.{Passes, Stops}
+use Rattle.pig_run.specs.Steps.{Passes, StopsIn}
 use Rattle.pig_run.proofs.Sizes.{size_passes, size_stops}
 use Rattle.pig_run.proofs.Stages.{passes_both, stops_both, wants}
 use Rattle.pig_run.proofs.looking.look.Goals as goal
@@ -50,7 +50,7 @@ returns-in_err-check_outputs-clause-told g c s told =
     let few : total_of c.in_ok-sizes.sizes ≤ 2 ^ 26 = search rules in
     let both = passes_both (InputsDue plan s) (SizeDue plan s) old mid first mid (OutputsDue plan s) (size_passes plan s c.in_ok-sizes.sizes paths have mid few) in
     let stopped : MatchResult c.from_residual-in_err-check_outputs.result (λ p. Passes (InputsDue (plan_of c.args.plan) s) (RunDue (plan_of p.plan)) (g.D.Depot.calls c.args.depot.now) (g.D.Depot.calls c.check_outputs.new.depot))
-    (Stops (OutputsDue (plan_of c.args.plan) s) (g.D.Depot.calls c.find_inputs.new.depot) (g.D.Depot.calls c.check_outputs.new.depot)) = search rules in
+    (StopsIn (OutputsDue (plan_of c.args.plan) s) (g.D.Depot.calls c.find_inputs.new.depot) (g.D.Depot.calls c.check_outputs.new.depot)) = search rules in
     MatchResult-weaker c.from_residual-in_err-check_outputs.result stopped (λ p h. h)
     (λ f h. stops_both (InputsDue plan s) (OutputsDue plan s) old mid both new f h)
 

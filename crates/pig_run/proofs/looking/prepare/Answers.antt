@@ -3,38 +3,38 @@ use Rattle.std.proofs.lemmas.Result.{MatchResult-weaker}
 use Rattle.pig_plan.specs.Plans.{plan_of}
 use Rattle.pig_run.specs.declared.outcome.RunFault.TheVariants as fault
 use Rattle.pig_run.specs.Due.{AreWords, HasWords, InputsDue, IsDue, RunDue, ScriptDue}
-use Rattle.pig_run.specs.Looking.{line_of}
-use Rattle.pig_run.specs.Steps.{Passes, Stops}
+use Rattle.pig_run.specs.Looking.{line_given}
+use Rattle.pig_run.specs.Steps.{Passes, StopsIn}
 use Rattle.pig_run.proofs.Stages.{passes_both, stops_both}
 use Rattle.pig_run.proofs.Wording.{words_pass, words_stop}
 use Rattle.pig_run.proofs.looking.prepare.Goals as goal
 
 pub returns-in_err-path-clause-told : goal.returns-in_err-path-clause-told
 returns-in_err-path-clause-told g c s told =
-    let refused : MatchResult c.from_residual.result (λ p. Passes (IsDue (line_of c.args.line.now) s) (RunDue (plan_of p.plan)) (g.D.Depot.calls c.args.depot.now) (g.D.Depot.calls c.args.depot.now))
-    (λ f. ((f ≡ fault.Usage) × (¬ HasWords (line_of c.args.line.now))) ⊎ (f ≡ fault.OutOfMemory)) = search rules in
-    MatchResult-weaker c.from_residual.result refused (λ p h. h) (λ f h. words_stop (line_of c.args.line.now) s (g.D.Depot.calls c.args.depot.now) f h)
+    let refused : MatchResult c.from_residual.result (λ p. Passes (IsDue (line_given c.args.line.now) s) (RunDue (plan_of p.plan)) (g.D.Depot.calls c.args.depot.now) (g.D.Depot.calls c.args.depot.now))
+    (λ f. ((f ≡ fault.Usage) × (¬ HasWords (line_given c.args.line.now))) ⊎ (f ≡ fault.OutOfMemory)) = search rules in
+    MatchResult-weaker c.from_residual.result refused (λ p h. h) (λ f h. words_stop (line_given c.args.line.now) s (g.D.Depot.calls c.args.depot.now) f h)
 
 pub returns-in_err-plan-clause-told : goal.returns-in_err-plan-clause-told
 returns-in_err-plan-clause-told g c s told =
-    let line = line_of c.args.line.now in
+    let line = line_given c.args.line.now in
     let old = g.D.Depot.calls c.args.depot.now in
     let new = g.D.Depot.calls c.load_plan.new.depot in
-    let read : AreWords (line_of c.args.line.now) c.in_ok-path.path = search rules in
+    let read : AreWords (line_given c.args.line.now) c.in_ok-path.path = search rules in
     let same : c.as_str.result.now ≡ c.in_ok-path.path = search rules in
     let first = words_pass line s c.as_str.result.now (subst (AreWords line) (sym same) read) old in
-    let stopped : MatchResult c.from_residual-in_err-plan.result (λ p. Passes (IsDue (line_of c.args.line.now) s) (RunDue (plan_of p.plan)) (g.D.Depot.calls c.args.depot.now) (g.D.Depot.calls c.load_plan.new.depot))
-    (Stops (ScriptDue c.as_str.result.now s) (g.D.Depot.calls c.args.depot.now) (g.D.Depot.calls c.load_plan.new.depot)) = search rules in
+    let stopped : MatchResult c.from_residual-in_err-plan.result (λ p. Passes (IsDue (line_given c.args.line.now) s) (RunDue (plan_of p.plan)) (g.D.Depot.calls c.args.depot.now) (g.D.Depot.calls c.load_plan.new.depot))
+    (StopsIn (ScriptDue c.as_str.result.now s) (g.D.Depot.calls c.args.depot.now) (g.D.Depot.calls c.load_plan.new.depot)) = search rules in
     MatchResult-weaker c.from_residual-in_err-plan.result stopped (λ p h. h) (λ f h. stops_both (IsDue line s) (ScriptDue c.as_str.result.now s) old old first new f h)
 
 pub returns-clause-told : goal.returns-clause-told
 returns-clause-told g c s told =
-    let line = line_of c.args.line.now in
+    let line = line_given c.args.line.now in
     let old = g.D.Depot.calls c.args.depot.now in
     let mid = g.D.Depot.calls c.load_plan.new.depot in
     let new = g.D.Depot.calls c.look.new.depot in
     let told_mid : g.D.Depot.shelf c.load_plan.new.depot ≡ Some s = c.load_plan.ensures.shelf ∙ told in
-    let read : AreWords (line_of c.args.line.now) c.in_ok-path.path = search rules in
+    let read : AreWords (line_given c.args.line.now) c.in_ok-path.path = search rules in
     let same : c.as_str.result.now ≡ c.in_ok-path.path = search rules in
     let first = words_pass line s c.as_str.result.now (subst (AreWords line) (sym same) read) old in
     let second : Passes (ScriptDue c.as_str.result.now s) (InputsDue (plan_of c.in_ok-plan.plan) s) (g.D.Depot.calls c.args.depot.now) (g.D.Depot.calls c.load_plan.new.depot) = search rules in

@@ -9,7 +9,7 @@ use Rattle.pig_run.specs.Outputs.{with_outputs}
 use Rattle.pig_run.specs.Running.{IsBrokenAt, IsNotBegun, RunsEnd, counts_in, note_of, noted_line, outputs_of}
 use Rattle.pig_run.specs.Steps.{IsHostStep}
 use Rattle.pig_run.specs.Texts.{done_line}
-use Rattle.pig_run.specs.Told.{Tells}
+use Rattle.pig_run.specs.Told.{TellsInputs}
 use Rattle.pig_run.proofs.Ending.{answers_over, read_over, told_broken, told_done, told_unread, told_untold}
 use Rattle.pig_run.proofs.running.perform.Goals as goal
 
@@ -17,9 +17,9 @@ pub returns-in_err-found-clause-told : goal.returns-in_err-found-clause-told
 returns-in_err-found-clause-told g c s told =
     let plan = plan_of c.args.prepared.now.plan in
     let calls = g.D.Depot.calls c.args.depot.now in
-    let tells = Tells (g.H.Host.inputs c.args.host.now) in
+    let tells = TellsInputs (g.H.Host.inputs c.args.host.now) in
     let broke : MatchResult c.from_residual.result
-    (λ text. RunsEnd (plan_of c.args.prepared.now.plan) s (Tells (g.H.Host.inputs c.args.host.now)) (g.D.Depot.calls c.args.depot.now) (g.D.Depot.calls c.args.depot.now) (g.D.Depot.shelf c.args.depot.now) c.args.progress.now (Ok text))
+    (λ text. RunsEnd (plan_of c.args.prepared.now.plan) s (TellsInputs (g.H.Host.inputs c.args.host.now)) (g.D.Depot.calls c.args.depot.now) (g.D.Depot.calls c.args.depot.now) (g.D.Depot.shelf c.args.depot.now) c.args.progress.now (Ok text))
     IsHostStep = search rules in
     MatchResult-weaker c.from_residual.result broke (λ text h. h)
     (λ f h. told_unread plan s tells calls calls (g.D.Depot.shelf c.args.depot.now) c.args.progress.now told c.requires.begun refl f h)
@@ -41,14 +41,14 @@ returns-in_err-store_all-clause-told g c s told =
     let answers = answers_over plan s (g.D.Depot.shelf c.args.depot.now) told inputs c.requires.tells c.in_ok-found.found c.in_ok-found.ensures.found progress.kept relations kept relations_are in
     let f = c.in_err-store_all.field-0.0 in
     let is : MatchResult c.from_residual-in_err-store_all.result
-    (λ text. RunsEnd (plan_of c.args.prepared.now.plan) s (Tells (g.H.Host.inputs c.args.host.now)) (g.D.Depot.calls c.args.depot.now) (g.D.Depot.calls c.store_all.new.depot)
+    (λ text. RunsEnd (plan_of c.args.prepared.now.plan) s (TellsInputs (g.H.Host.inputs c.args.host.now)) (g.D.Depot.calls c.args.depot.now) (g.D.Depot.calls c.store_all.new.depot)
     (g.D.Depot.shelf c.store_all.new.depot) c.store_all.new.progress (Ok text))
     (λ f. f ≡ c.in_err-store_all.field-0.0) = search rules in
-    let end = told_broken plan s (Tells inputs) old new shelf progress stores stores_are relations each answers f
+    let end = told_broken plan s (TellsInputs inputs) old new shelf progress stores stores_are relations each answers f
     (subst (λ o. IsBrokenAt stores relations f o shelf) told c.in_err-store_all.ensures.err)
     (subst (λ o. IsNotBegun {T = Unit {0}} progress.begun (Err f) o shelf) told c.in_err-store_all.ensures.begun) c.in_err-store_all.ensures.asked in
     MatchResult-weaker c.from_residual-in_err-store_all.result is (λ text h. h)
-    (λ e h. subst (λ e. RunsEnd plan s (Tells inputs) old new shelf progress (Err e)) (sym h) end)
+    (λ e h. subst (λ e. RunsEnd plan s (TellsInputs inputs) old new shelf progress (Err e)) (sym h) end)
 
 pub returns-in_err-text-clause-told : goal.returns-in_err-text-clause-told
 returns-in_err-text-clause-told g c s told =
@@ -67,11 +67,11 @@ returns-in_err-text-clause-told g c s told =
     let answers = answers_over plan s (g.D.Depot.shelf c.args.depot.now) told inputs c.requires.tells c.in_ok-found.found c.in_ok-found.ensures.found progress.kept relations kept relations_are in
     let made : g.D.Depot.shelf c.store_all.new.depot ≡ Some (with_outputs (outputs_of stores relations) s) = c.in_ok-store_all.ensures.ok ∙ ap (option_map (with_outputs (outputs_of stores relations))) told in
     let is : MatchResult c.from_residual-in_err-text.result
-    (λ text. RunsEnd (plan_of c.args.prepared.now.plan) s (Tells (g.H.Host.inputs c.args.host.now)) (g.D.Depot.calls c.args.depot.now) (g.D.Depot.calls c.store_all.new.depot)
+    (λ text. RunsEnd (plan_of c.args.prepared.now.plan) s (TellsInputs (g.H.Host.inputs c.args.host.now)) (g.D.Depot.calls c.args.depot.now) (g.D.Depot.calls c.store_all.new.depot)
     (g.D.Depot.shelf c.store_all.new.depot) c.store_all.new.progress (Ok text))
     (λ f. f ≡ fault.OutOfMemory) = search rules in
     MatchResult-weaker c.from_residual-in_err-text.result is (λ text h. h)
-    (λ f h. told_untold plan s (Tells inputs) old new shelf progress stores stores_are relations each answers made c.in_ok-store_all.ensures.asked f h
+    (λ f h. told_untold plan s (TellsInputs inputs) old new shelf progress stores stores_are relations each answers made c.in_ok-store_all.ensures.asked f h
     (subst (λ o. IsNotBegun {T = Unit {0}} progress.begun (Ok tt) o shelf) told c.in_ok-store_all.ensures.begun))
 
 pub returns-clause-told : goal.returns-clause-told
@@ -94,5 +94,5 @@ returns-clause-told g c s told =
     c.in_ok-store_all.ensures.notes ∙ ap (λ ns. ns ++ map note_of (outputs_of stores relations)) c.requires.notes in
     let read : c.store_all.new.progress.read ≡ c.in_ok-found.found.read = search rules in
     let is : c.from_vec.result ≡ flat_map noted_line c.store_all.new.progress.notes ++ done_line (counts_in c.store_all.new.progress) = search rules in
-    told_done plan s (Tells inputs) old new shelf progress stores stores_are relations each answers made c.in_ok-store_all.ensures.asked c.from_vec.result notes
+    told_done plan s (TellsInputs inputs) old new shelf progress stores stores_are relations each answers made c.in_ok-store_all.ensures.asked c.from_vec.result notes
     (read_over plan s (g.D.Depot.shelf c.args.depot.now) told inputs c.requires.tells c.in_ok-found.found c.in_ok-found.ensures.found progress.read read) is

@@ -5,7 +5,7 @@ use Rattle.pig_run.specs.Due.{HasWords}
 use Rattle.pig_run.specs.Ends.{counts_shown}
 use Rattle.pig_run.specs.Running.{counts_in, found_in, kept_in}
 use Rattle.pig_run.specs.Steps.{SaysWords}
-use Rattle.pig_run.specs.Told.{Seen, Tells, first_of, line_of}
+use Rattle.pig_run.specs.Told.{Seen, TellsInputs, first_of, line_of}
 use Rattle.pig_run.proofs.Topping.{answers_none, console_blamed, depot_blamed, first_blamed, host_blamed, lookup_blamed, off_words, run_told, store_blamed, told_over, usage_blamed}
 use Rattle.pig_run.proofs.top.pig_main.Goals as goal
 
@@ -31,7 +31,7 @@ returns-clause-told g c s told =
     let counts : c.counts_shown-counts.result ≡ counts_shown c.show_end-fault.result (counts_in c.run-end.new.progress) = search rules in
     told_over g.H.Host.inputs g.H.Host.faults c.args.hosts.now.items c.index_mut.result.now c.run-end.new.host c.index_mut.result.now c.requires.some_hosts (search rules)
     c.args.words.now c.len.result hosts s old new refl refl outcome c.run-end.new.progress c.run-end.result
-    (run_told _ s (Tells (g.H.Host.inputs c.index_mut.result.now)) old.calls new.calls new.shelf c.run-end.new.progress c.run-end.result (c.run-end.ensures.told s told))
+    (run_told _ s (TellsInputs (g.H.Host.inputs c.index_mut.result.now)) old.calls new.calls new.shelf c.run-end.new.progress c.run-end.result (c.run-end.ensures.told s told))
     c.show_end-fault.ensures.shown kept counts c.run-end.ensures.depot c.run-end.ensures.host
 
 pub returns-clause-usage : goal.returns-clause-usage
