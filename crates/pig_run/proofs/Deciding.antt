@@ -1,5 +1,5 @@
 -- One thing is due and no other, and for it one list of calls.
-use Rattle.std.proofs.Common.{◌≡◌, ◌≤◌, ◌<◌, ◌^◌, ◌++◌, ℕ, Bool, List, [], ◌∷◌, map, Option, Some, None, refl, sym, ◌∙◌, ap, subst, arith, inl, inr, ◌⊎◌}
+use Rattle.std.proofs.Common.{◌≡◌, ◌^◌, ◌++◌, ℕ, Bool, List, [], ◌∷◌, map, Option, Some, None, refl, sym, ◌∙◌, ap, subst, arith, inl, inr, ◌⊎◌}
 use Rattle.std.specs.List.{find, flat_map, sum_by}
 use Rattle.std.proofs.lemmas.Bool.{cases_lt}
 use Rattle.pig_outside.specs.Calls.{DepotCall}
@@ -8,8 +8,6 @@ use Rattle.pig_outside.specs.declared.failing.Method.{Method}
 use Rattle.pig_outside.specs.declared.failing.Method.TheVariants as method
 use Rattle.pig_plan.specs.Plans.{Plan}
 use Rattle.pig_reach.specs.Reach.{dirs_of, live_paths}
-use Rattle.pig_words.specs.CommandWords.{IsCommand}
-use Rattle.pig_words.specs.declared.words.Command.{Command}
 use Rattle.pig_words.specs.declared.words.Verb.{Verb}
 use Rattle.pig_words.specs.declared.words.Verb.TheVariants as verbs
 use Rattle.pig_words.proofs.Commands.{one_command}

@@ -1,20 +1,19 @@
 -- From how the steps ended to what a call says of a shelf that is told.
-use Rattle.std.proofs.Common.{◌≡◌, ◌<◌, ◌≤◌, ◌+◌, ◌++◌, ◌%◌, ◌^◌, ℕ, zero, suc, Bool, true, false, List, [], ◌∷◌, length, map, Option, Some, None, Result, Ok, Err, refl, sym, ◌∙◌, ap, subst, arith, inl, inr, ◌⊎◌, cond}
+use Rattle.std.proofs.Common.{◌≡◌, ◌++◌, ◌%◌, ◌^◌, ℕ, true, false, List, [], ◌∷◌, length, map, Option, Some, None, Result, Ok, Err, refl, sym, ◌∙◌, ap, subst, arith, inl, inr, cond}
 use Rattle.std.specs.List.{flat_map, sum_by}
 use Rattle.std.specs.Option.{ForSome, option_map}
 use Rattle.std.proofs.lemmas.Bool.{cases_Bool}
 use Rattle.std.proofs.lemmas.List.{append_assoc, append-nil}
 use Rattle.std.proofs.lemmas.List.Folds.{flat_map-map}
 use Rattle.std.proofs.lemmas.List.Sums.{sum_by-cons}
-use Rattle.std.specs.Result.{is_ok}
 use Rattle.pig_value.specs.declared.inputs.Input.{Input}
 use Rattle.pig_value.specs.declared.outcomes.Kept.{Kept}
-use Rattle.pig_value.specs.Trees.{Tree, rows_tree}
+use Rattle.pig_value.specs.Trees.{rows_tree}
 use Rattle.pig_outside.specs.Calls.{DepotCall}
 use Rattle.pig_outside.specs.Shelf.{Shelf}
 use Rattle.pig_plan.specs.Plans.{Plan}
 use Rattle.pig_plan.specs.Meaning.{IsKept}
-use Rattle.pig_plain.specs.Answering.{EachAnswers, IsAnswer, stored_relations}
+use Rattle.pig_plain.specs.Answering.{EachAnswers, IsAnswer}
 use Rattle.pig_reach.specs.Reach.{dirs_of, lines_read, stores_of}
 use Rattle.pig_reach.specs.declared.storing.Store.{Store}
 use Rattle.pig_run.specs.declared.outcome.Counts.{Counts}
@@ -24,12 +23,11 @@ use Rattle.pig_run.specs.declared.progress.Progress.{Progress}
 use Rattle.pig_run.specs.declared.running.Found.{Found}
 use Rattle.pig_run.specs.Due.{IsDue, Line, RunDue, runs, store_calls}
 use Rattle.pig_run.specs.Ends.{Ends, done, host_failed, lookup_failed, no_memory, no_memory_at, no_memory_behind, refused, store_failed}
-use Rattle.pig_run.specs.Outputs.{AreCounts, AreOutputsOf, AreStored, IsStopped, IsUntouched, IsWhole, Left, LeftOpen, Output, with_outputs}
+use Rattle.pig_run.specs.Outputs.{AreOutputsOf, IsStopped, IsUntouched, IsWhole, Output, with_outputs}
 use Rattle.pig_run.specs.Reading.{Refuses, Runs, Verdict}
-use Rattle.pig_run.specs.Refusals.{Names, by_depot, by_host, by_memory, cause_of}
-use Rattle.pig_run.specs.Running.{AskedFor, IsBrokenAt, IsFoundOver, IsNotBegun, Relation, RunEnd, RunsEnd, counts_in, found_in, kept_in, note_of, noted_line, output_of, outputs_of}
+use Rattle.pig_run.specs.Running.{AskedFor, IsBrokenAt, IsFoundOver, IsNotBegun, Relation, RunEnd, RunsEnd, counts_in, kept_in, note_of, noted_line, outputs_of}
 use Rattle.pig_run.specs.Steps.{IsCommitFault, IsHostStep, IsLookFault, Passes, StopsIn}
-use Rattle.pig_run.specs.Texts.{done_line, done_text}
+use Rattle.pig_run.specs.Texts.{done_line}
 use Rattle.pig_run.specs.Told.{CountsAre, EndsEarly, IsAsked, TellsInputs, TellsOf}
 use Rattle.pig_run.proofs.Deciding.{some_due}
 use Rattle.pig_run.proofs.Found.{outputs_are, relations_are}

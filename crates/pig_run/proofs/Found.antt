@@ -1,6 +1,6 @@
 -- What a plan means over the inputs that were read is what it means over all that are told, and it is what the STOREs store.
-use Rattle.std.proofs.Common.{◌≡◌, ◌<◌, ◌+◌, ◌%◌, ◌^◌, ◌||◌, ◌==◌, ℕ, zero, suc, Bool, true, false, List, [], ◌∷◌, length, map, Option, Some, None, slice_get, drop, refl, sym, ◌∙◌, ap, subst, arith, inl, inr, cond}
-use Rattle.std.specs.List.{AllByRecursion, cons_option, filter_map, find, list_any}
+use Rattle.std.proofs.Common.{◌≡◌, ◌+◌, ◌||◌, ℕ, zero, suc, Bool, true, false, List, [], ◌∷◌, length, map, Option, Some, None, slice_get, drop, refl, sym, ◌∙◌, ap, arith, inl, inr, cond}
+use Rattle.std.specs.List.{AllByRecursion, cons_option, filter_map, find}
 use Rattle.std.specs.Option.{option_map, option_map_or, unwrap_or}
 use Rattle.std.specs.Str.{bytes_eq}
 use Rattle.std.proofs.lemmas.Bool.{cases_Bool}
@@ -12,19 +12,18 @@ use Rattle.pig_value.specs.declared.outcomes.Kept.{Kept}
 use Rattle.pig_value.specs.Orders.{bag_of}
 use Rattle.pig_value.specs.Trees.{Tree, row_tree, rows_tree}
 use Rattle.pig_outside.specs.Shelf.{pieces_of as pieces_told}
-use Rattle.pig_plan.specs.Nodes.{is_list, is_live, is_store, is_used}
+use Rattle.pig_plan.specs.Nodes.{is_live, is_store, is_used}
 use Rattle.pig_plan.specs.Operators.{pieces_of}
 use Rattle.pig_plan.specs.Plans.{Plan, PlanNode, PlanOp, p_load, p_filter, p_foreach, p_group_all, p_group, p_join, p_union, p_distinct, p_order, p_limit, p_store, p_assert, p_rank}
-use Rattle.pig_plan.specs.Meaning.{meaning}
 use Rattle.pig_plan.specs.Valid.{IsPlan}
 use Rattle.pig_plan.proofs.Lower.{names_lower}
-use Rattle.pig_plain.specs.Answering.{AnswersFor, EachAnswers, IsAnswer, stored_of, stored_relations}
+use Rattle.pig_plain.specs.Answering.{EachAnswers, IsAnswer, stored_of, stored_relations}
 use Rattle.pig_reach.specs.Paths.{is_among}
 use Rattle.pig_reach.specs.Reach.{lines_read, live_paths, store_of, stores_of}
 use Rattle.pig_reach.specs.declared.storing.Store.{Store}
 use Rattle.pig_reach.proofs.Enough.{Agree, kept_agrees, lines_agree, meanings_agree, named_lives}
-use Rattle.pig_run.specs.Outputs.{AreOutputsOf, IsOutputOf}
-use Rattle.pig_run.specs.Running.{Relation, inputs_at, output_of, outputs_of}
+use Rattle.pig_run.specs.Outputs.{AreOutputsOf}
+use Rattle.pig_run.specs.Running.{Relation, inputs_at, outputs_of}
 
 true_not_false : {A : Type 0} → true ≡ false → A
 true_not_false e = absurd (cc)

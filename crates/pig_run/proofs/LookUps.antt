@@ -1,16 +1,15 @@
 -- Look-ups in turn: what was asked so far, and how it goes on.
-use Rattle.std.proofs.Common.{◌≡◌, ◌<◌, ◌≤◌, ◌+◌, ◌++◌, ℕ, Bool, true, false, List, [], ◌∷◌, length, map, take, drop, get_or, Option, Some, None, refl, sym, ◌∙◌, ap, subst, inl, inr, ◌⊎◌, cond, add-one}
+use Rattle.std.proofs.Common.{◌≡◌, ◌<◌, ◌≤◌, ◌+◌, ◌++◌, ℕ, Bool, true, false, List, [], ◌∷◌, length, map, take, drop, get_or, Option, Some, None, refl, sym, ◌∙◌, ap, subst, inl, inr, cond, add-one}
 use Rattle.std.specs.List.{find}
-use Rattle.std.specs.Option.{option_map}
 use Rattle.std.proofs.Math.Seq.{take-suc}
-use Rattle.std.proofs.lemmas.List.{append_assoc, append-nil, drop_all, drop_more, map-append, take_all, take-append-drop}
+use Rattle.std.proofs.lemmas.List.{append_assoc, drop_all, drop_more, map-append, take_all, take-append-drop}
 use Rattle.pig_outside.specs.Calls.{DepotCall}
 use Rattle.pig_outside.specs.declared.failing.Method.{Method}
 use Rattle.pig_run.specs.declared.outcome.RunFault.{RunFault}
 use Rattle.pig_run.specs.Due.{Looks, Stage, call, passed, stopped, through}
 use Rattle.pig_run.specs.Reading.{Verdict, Refuses}
 use Rattle.pig_run.specs.Refusals.{Refusal, Names}
-use Rattle.pig_run.specs.Steps.{EndsIn, HandsOn, IsBrokenIn, IsLookFault, IsRefusedBy, Passes, StopsIn}
+use Rattle.pig_run.specs.Steps.{IsLookFault, Passes, StopsIn}
 use Rattle.pig_run.specs.Told.{Asked, IsPrefix}
 use Rattle.pig_run.proofs.Stages.{asked_then}
 
@@ -23,9 +22,6 @@ module _ (is_so : List ℕ → Bool) (refusal : List ℕ → Refusal) (m : Metho
     pub asked : Asked (map (call m) (take place paths)) old now
     pub found : find is_so paths ≡ find is_so (drop place paths)
     pub calls : through is_so paths ≡ take place paths ++ through is_so (drop place paths)
-
-  pub looks_first : (old now : Option (List DepotCall)) → now ≡ option_map (λ xs. xs ++ []) old → LookedAt 0 old now
-  looks_first old now same = record { asked = same; found = refl; calls = refl }
 
   module _ (place : ℕ) (path d : List ℕ) (old now new : Option (List DepotCall)) (so_far : LookedAt place old now) (within : place < length paths)
       (at : path ≡ get_or paths place d) (asked : Asked (call m path ∷ []) now new) where

@@ -1,13 +1,12 @@
 -- The steps of the reading of a script.
-use Rattle.std.proofs.Common.{◌≡◌, ◌+◌, ◌<◌, ◌≤◌, ◌^◌, ℕ, suc, refl, arith, List, [], ◌∷◌, ◌++◌, length, take, get_or, Option, Some, None, MatchOption, Result, Ok, Err, sym, ◌∙◌, ap, subst, inl, inr, ◌⊎◌, add-one}
+use Rattle.std.proofs.Common.{◌≡◌, ◌+◌, ◌<◌, ◌≤◌, ℕ, refl, List, [], ◌∷◌, ◌++◌, length, take, get_or, Result, Ok, Err, sym, ◌∙◌, ap, subst, inl, inr, ◌⊎◌, add-one}
 use Rattle.std.specs.List.{All}
 use Rattle.std.proofs.Math.Seq.{take-suc}
 use Rattle.std.proofs.lemmas.List.{take_all}
 use Rattle.std.proofs.lemmas.List.Elements.{All-append, All-cons, All-nil}
 use Rattle.pig_syntax.specs.declared.cutting.Piece.{Piece}
 use Rattle.pig_syntax.specs.declared.tokens.Token.{Token}
-use Rattle.pig_syntax.specs.declared.trees.Stmt.{Stmt}
-use Rattle.pig_parser.specs.Parsing.{AreTrees, IsFirstOff, no_trees, trees}
+use Rattle.pig_parser.specs.Parsing.{IsFirstOff}
 use Rattle.pig_syntax.specs.Tokens.{IsBadAt}
 use Rattle.pig_run.specs.declared.outcome.RunFault.{RunFault}
 use Rattle.pig_plan.specs.declared.plan.Plan.{Plan}
@@ -39,11 +38,3 @@ passes_more P xs i x within at h sofar =
 -- all have passed
 pub all_passed : {X : Type 0} (P : X → Type 0) (xs ys : List X) (i : ℕ) → ys ≡ xs → length ys ≤ i → All P (take i ys) → All P xs
 all_passed P xs ys i same ended h = subst (All P) (take_all i ys ended ∙ same) h
-
--- as many trees as statements
-pub as_many : (ts : List Token) (ps : List Piece) (ss : List Stmt) → AreTrees ts ps ss → length ss ≡ length ps
-as_many ts _ _ no_trees = refl
-as_many ts _ _ (trees {ps = ps} {ss = ss} is more) = ap suc (as_many ts ps ss more)
-
-pub few_trees : (ts : List Token) (ps : List Piece) (ss : List Stmt) → AreTrees ts ps ss → length ps ≤ 4096 → length ss < 2 ^ 32
-few_trees ts ps ss h few = let same = as_many ts ps ss h in omega (arith, same, few)

@@ -1,5 +1,5 @@
 -- What the bytes that were read of a script say of it, where one byte more than the limit is asked for.
-use Rattle.std.proofs.Common.{◌≡◌, Result, Ok, Err, IfErr, ℕ, Bool, ◌+◌, ◌<◌, ◌≤◌, ◌^◌, true, false, List, [], ◌∷◌, ◌++◌, Option, Some, None, take, length, refl, sym, ◌∙◌, ap, subst, arith, inl, inr, ◌⊎◌}
+use Rattle.std.proofs.Common.{◌≡◌, Result, Ok, Err, IfErr, ℕ, ◌+◌, ◌<◌, ◌≤◌, ◌^◌, true, false, List, [], ◌∷◌, ◌++◌, Option, Some, None, take, length, refl, sym, ◌∙◌, subst, arith, inl, inr, ◌⊎◌}
 use Rattle.std.specs.Option.{is_some, unwrap_or}
 use Rattle.std.proofs.lemmas.Bool.{cases_lt}
 use Rattle.std.proofs.lemmas.List.{length-take, take_all}
@@ -14,7 +14,7 @@ use Rattle.pig_run.specs.declared.outcome.TooLarge.TheVariants as large
 use Rattle.pig_run.specs.Due.{InputsDue, ScriptDue, call, script_found, script_missing, script_refused}
 use Rattle.pig_run.specs.Looking.{IsRead}
 use Rattle.pig_run.specs.Reading.{IsFound, Refuses, Runs, Verdict, too_long}
-use Rattle.pig_run.specs.Refusals.{Refusal, Names, no_script, too_large}
+use Rattle.pig_run.specs.Refusals.{no_script, too_large}
 use Rattle.pig_run.specs.Steps.{DepotCause, IsLookFault, IsPlanFault, IsReadFault, Passes, Step, StopsIn, TellsPlan}
 use Rattle.pig_run.specs.Told.{Asked, IsPrefix}
 use Rattle.pig_run.proofs.Deciding.{just, not_none}

@@ -1,10 +1,9 @@
 -- The sizes of inputs, and how they are looked for.
-use Rattle.std.proofs.Common.{◌≡◌, ◌<◌, ◌≤◌, ◌+◌, ◌^◌, ◌++◌, ℕ, Bool, true, false, List, [], ◌∷◌, length, map, take, get_or, Option, Some, None, refl, sym, ◌∙◌, ap, subst, arith, inl, inr, ◌⊎◌}
+use Rattle.std.proofs.Common.{◌≡◌, ◌<◌, ◌≤◌, ◌+◌, ◌^◌, ◌++◌, ℕ, true, false, List, [], ◌∷◌, length, map, get_or, Option, Some, None, refl, sym, ◌∙◌, ap, subst, arith, inl, inr, ◌⊎◌}
 use Rattle.std.specs.List.{AllByRecursion, sum_by}
 use Rattle.std.specs.Option.{is_none, option_map, unwrap_or}
 use Rattle.std.proofs.lemmas.List.Sums.{sum_by-cons}
-use Rattle.pig_value.specs.declared.inputs.Input.{Input}
-use Rattle.pig_value.proofs.list_laws.Listing.{each-append, each_weaker}
+use Rattle.pig_value.proofs.list_laws.Listing.{each-append}
 use Rattle.pig_outside.specs.Calls.{DepotCall}
 use Rattle.pig_outside.specs.Shelf.{Shelf, has_dir, lengths_at, lengths_of, pieces_of}
 use Rattle.pig_outside.specs.declared.failing.Method.TheVariants as method
@@ -15,7 +14,7 @@ use Rattle.pig_run.specs.declared.outcome.RunFault.{RunFault}
 use Rattle.pig_run.specs.declared.outcome.RunFault.TheVariants as fault
 use Rattle.pig_run.specs.declared.outcome.TooLarge.TheVariants as large
 use Rattle.pig_run.specs.Due.{InputsDue, Looks, OutputsDue, RunDue, SizeDue, call, is_missing, size_of, small, too_big}
-use Rattle.pig_run.specs.Looking.{HasLengths, HasSize, total_of}
+use Rattle.pig_run.specs.Looking.{HasSize, total_of}
 use Rattle.pig_run.specs.Refusals.{no_input, output_there, too_large}
 use Rattle.pig_run.specs.Reading.{Verdict}
 use Rattle.pig_run.specs.Steps.{IsLookFault, Passes, StopsIn}
@@ -44,16 +43,6 @@ total_is s (size ∷ sizes) h =
     let one = one_size (pieces_of size.path s.inputs) size.lengths h.0 in
     let more = total_is s sizes h.1 in
     omega (arith, a, b, one, more)
-
-pieces_behind : (o : Option (List (List ℕ))) (lengths : List ℕ) → option_map lengths_of o ≡ Some lengths → (pieces : List (List ℕ)) × (o ≡ Some pieces) × (lengths ≡ lengths_of pieces)
-pieces_behind None lengths h = absurd (cc)
-pieces_behind (Some pieces) lengths h = (pieces, refl, cc)
-
--- a host that tells the shelf's inputs has them
-pub have_lengths : (s : Shelf) (i : List Input) → s.inputs ≡ i → (sizes : List Size) → AllByRecursion (HasSize s) sizes → AllByRecursion (HasLengths i) sizes
-have_lengths s i same sizes h = each_weaker (HasSize s) (HasLengths i) (λ size is.
-    let behind = pieces_behind (pieces_of size.path s.inputs) size.lengths is in
-    record { pieces = behind.0; there = ap (pieces_of size.path) (sym same) ∙ behind.1; lengths = behind.2 }) sizes h
 
 missing_of : (s : Shelf) (path : List ℕ) → lengths_at path s ≡ None → is_missing s path ≡ true
 missing_of s path h = by_option (pieces_of path s.inputs) h

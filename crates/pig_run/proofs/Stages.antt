@@ -1,5 +1,5 @@
 -- Stages hand on, one after the other.
-use Rattle.std.proofs.Common.{◌≡◌, ◌++◌, ℕ, List, [], ◌∷◌, Option, Some, None, Result, Ok, Err, refl, sym, ◌∙◌, ap, subst, inl, inr, ◌⊎◌}
+use Rattle.std.proofs.Common.{◌≡◌, ◌++◌, List, [], Option, Some, None, refl, sym, ◌∙◌, ap, subst, inl, inr}
 use Rattle.std.proofs.lemmas.List.{append_assoc, append-nil}
 use Rattle.std.specs.Option.{option_map}
 use Rattle.pig_outside.specs.Calls.{DepotCall}
@@ -8,8 +8,8 @@ use Rattle.pig_run.specs.declared.outcome.RunFault.TheVariants as fault
 use Rattle.pig_run.specs.Due.{Stage}
 use Rattle.pig_run.specs.Reading.{Verdict, Refuses}
 use Rattle.pig_run.specs.Refusals.{Refusal, Names}
-use Rattle.pig_run.specs.Steps.{EndsIn, HandsOn, IsBrokenIn, IsLookFault, IsRefusedBy, Passes, StopsIn}
-use Rattle.pig_run.specs.Told.{Asked, IsPrefix}
+use Rattle.pig_run.specs.Steps.{EndsIn, HandsOn, Passes, StopsIn}
+use Rattle.pig_run.specs.Told.{Asked}
 
 both_asked : (first more : List DepotCall) (old : Option (List DepotCall)) → option_map (λ xs. xs ++ more) (option_map (λ xs. xs ++ first) old) ≡ option_map (λ xs. xs ++ (first ++ more)) old
 both_asked first more None = refl

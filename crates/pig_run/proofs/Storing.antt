@@ -1,9 +1,9 @@
 -- STOREs in turn: what was stored so far, and how it goes on.
-use Rattle.std.proofs.Common.{◌≡◌, ◌≢◌, ◌<◌, ◌≤◌, ◌+◌, ◌++◌, ◌&&◌, ◌||◌, ℕ, zero, suc, Bool, true, false, not, List, [], ◌∷◌, length, map, take, drop, get_or, Option, Some, None, refl, sym, ◌∙◌, ap, subst, arith, inl, inr, ◌⊎◌, cond, add-one}
+use Rattle.std.proofs.Common.{◌≡◌, ◌≢◌, ◌<◌, ◌+◌, ◌++◌, ◌&&◌, ◌||◌, ℕ, zero, suc, Bool, true, false, not, List, [], ◌∷◌, length, map, take, drop, get_or, Option, Some, None, refl, sym, ◌∙◌, ap, subst, arith, add-one}
 use Rattle.std.specs.List.{AllByRecursion, flat_map}
 use Rattle.std.specs.Option.{is_some, option_map}
 use Rattle.std.proofs.Math.Seq.{take-suc}
-use Rattle.std.proofs.lemmas.List.{append_assoc, append-nil, drop_more, get_or-map, length-take, map-append, take_all, take-append-drop}
+use Rattle.std.proofs.lemmas.List.{append_assoc, append-nil, drop_more, get_or-map, length-take, map-append, take-append-drop}
 use Rattle.std.proofs.lemmas.List.Concat.{flat_map-append}
 use Rattle.std.specs.Str.{bytes_eq}
 use Rattle.pig_outside.proofs.ShelfLaws.{bytes_eq-same, state_of-set_dir_other}
@@ -16,7 +16,7 @@ use Rattle.pig_run.specs.declared.progress.Noted.{Noted}
 use Rattle.pig_run.specs.Due.{store_calls}
 use Rattle.pig_run.specs.Looking.{IsAbsentIn, are_apart, is_stored_in}
 use Rattle.pig_run.specs.Outputs.{LeftOpen, Output, with_outputs}
-use Rattle.pig_run.specs.Running.{AskedFor, IsBrokenAt, Relation, note_of, output_of, outputs_of}
+use Rattle.pig_run.specs.Running.{IsBrokenAt, Relation, note_of, output_of, outputs_of}
 use Rattle.pig_run.specs.Steps.{IsCommitFault}
 use Rattle.pig_run.specs.Told.{Asked, IsPrefix}
 use Rattle.pig_run.proofs.Stages.{asked_then}

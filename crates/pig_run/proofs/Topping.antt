@@ -1,10 +1,9 @@
 -- From a run, and from what the console made of its text, to what the top call says.
-use Rattle.std.proofs.Common.{◌≡◌, ◌<◌, ◌≤◌, ℕ, List, [], ◌∷◌, length, map, drop, get_or, slice_set, Option, Some, None, Result, Ok, Err, MatchResult, IfErr, IsErrOf, refl, sym, ◌∙◌, ap, subst, arith, inl, inr, ◌⊎◌}
+use Rattle.std.proofs.Common.{◌≡◌, ◌<◌, ◌≤◌, ℕ, List, [], ◌∷◌, length, get_or, slice_set, Option, Some, None, Result, Ok, Err, MatchResult, IfErr, refl, sym, ◌∙◌, ap, subst, arith, inl, inr, ◌⊎◌}
 use Rattle.std.specs.Result.{is_ok}
 use Rattle.pig_value.specs.declared.inputs.Input.{Input}
 use Rattle.pig_outside.specs.Calls.{DepotCall}
 use Rattle.pig_outside.specs.Shelf.{Shelf}
-use Rattle.pig_run.specs.declared.outcome.Counts.{Counts}
 use Rattle.pig_run.specs.declared.outcome.Outcome.{Outcome}
 use Rattle.pig_run.specs.declared.outcome.RunFault.{RunFault}
 use Rattle.pig_run.specs.declared.outcome.RunFault.TheVariants as fault
@@ -12,10 +11,10 @@ use Rattle.pig_run.specs.declared.progress.Progress.{Progress}
 use Rattle.pig_run.specs.Due.{HasWords, Line}
 use Rattle.pig_run.specs.Ends.{Console, Ends, Fails, Shown, counts_shown, cut_short, done, failed, host_failed, lookup_failed, no_memory, no_memory_at, no_memory_behind, no_text, no_text_cut, no_text_failed, printed, refused, store_failed, unshown}
 use Rattle.pig_run.specs.Outputs.{Left}
-use Rattle.pig_run.specs.Reading.{Verdict, Refuses, Runs}
-use Rattle.pig_run.specs.Refusals.{Cause, by_depot, by_host, cause_of}
+use Rattle.pig_run.specs.Reading.{Verdict}
+use Rattle.pig_run.specs.Refusals.{by_depot, by_host, cause_of}
 use Rattle.pig_run.specs.Running.{RunEnd, RunTold, counts_in, end_text, found_in, kept_in}
-use Rattle.pig_run.specs.Steps.{DepotCause, HostCause, IsNotUsage, SaysWords, StoreBlame}
+use Rattle.pig_run.specs.Steps.{DepotCause, HostCause, SaysWords, StoreBlame}
 use Rattle.pig_run.specs.Texts.{answer_text, fault_text}
 use Rattle.pig_run.specs.Told.{FirstTells, IsCaused, IsRight, Seen, SomeFailed, TellsInputs, Told, first_of, line_of}
 

@@ -1,5 +1,5 @@
 -- What is due of the words and the shelf, stage by stage in the order of the refusals, and what the depot is asked for it.
-use Rattle.std.specs.Prelude.{◌≡◌, ◌<◌, ◌≤◌, ◌^◌, ℕ, Bool, not, List, [], ◌∷◌, ◌++◌, length, map, Option, Some, None, is_none, unwrap_or, if◌then◌else◌}
+use Rattle.std.specs.Prelude.{◌≡◌, ◌<◌, ◌≤◌, ◌^◌, ℕ, Bool, List, [], ◌∷◌, ◌++◌, length, map, Some, None, is_none, unwrap_or, if◌then◌else◌}
 use Rattle.std.specs.List.{find, flat_map, sum_by}
 use Rattle.pig_outside.specs.Calls.{DepotCall}
 use Rattle.pig_outside.specs.declared.failing.Method.{Method}

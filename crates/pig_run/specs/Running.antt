@@ -1,6 +1,6 @@
 -- How the steps of a run speak of each other.
-use Rattle.std.specs.Prelude.{◌≡◌, ◌≤◌, ◌<◌, ◌++◌, ◌%◌, ◌^◌, ℕ, Bool, true, false, List, [], ◌∷◌, length, map, Option, Some, None, Result, Ok, Err, IfOk, MatchResult, if◌then◌else◌}
-use Rattle.std.specs.List.{AllByRecursion, flat_map, sum_by}
+use Rattle.std.specs.Prelude.{◌≡◌, ◌++◌, ◌%◌, ◌^◌, ℕ, Bool, false, List, [], ◌∷◌, length, map, Option, Some, None, Result, Ok, Err, IfOk, MatchResult, if◌then◌else◌}
+use Rattle.std.specs.List.{flat_map, sum_by}
 use Rattle.std.specs.Option.{option_map, unwrap_or}
 use Rattle.std.specs.Result.{is_ok}
 use Rattle.pig_value.specs.declared.inputs.Input.{Input}
@@ -22,8 +22,8 @@ use Rattle.pig_run.specs.declared.progress.Progress.{Progress}
 use Rattle.pig_run.specs.declared.running.Found.{Found}
 use Rattle.pig_run.specs.Due.{IsDue, Line, store_calls}
 use Rattle.pig_run.specs.Ends.{Ends}
-use Rattle.pig_run.specs.Outputs.{Left, LeftOpen, Output, with_outputs}
-use Rattle.pig_run.specs.Reading.{Verdict, Refuses, Runs}
+use Rattle.pig_run.specs.Outputs.{LeftOpen, Output, with_outputs}
+use Rattle.pig_run.specs.Reading.{Verdict, Runs}
 use Rattle.pig_run.specs.Steps.{IsCommitFault}
 use Rattle.pig_run.specs.Texts.{done_text, fault_text, stored_line}
 use Rattle.pig_run.specs.Told.{Asked, CountsAre, IsAsked, IsPrefix}

@@ -1,5 +1,5 @@
 -- What the steps before a run find, and how each may end.
-use Rattle.std.specs.Prelude.{◌≡◌, ◌≤◌, ◌<◌, ◌⊎◌, ◌++◌, ℕ, List, map, Option, Some, None, Result, MatchResult, IsErrOf}
+use Rattle.std.specs.Prelude.{◌≡◌, ◌≤◌, ◌<◌, ◌⊎◌, ◌++◌, ℕ, List, Option, Some, None, Result, MatchResult, IsErrOf}
 use Rattle.pig_outside.specs.Calls.{DepotCall}
 use Rattle.pig_outside.specs.declared.faults.OutsideError.{OutsideError}
 use Rattle.pig_outside.specs.declared.faults.OutsideError.TheVariants as outside
@@ -7,7 +7,7 @@ use Rattle.pig_run.specs.declared.outcome.RunFault.{RunFault}
 use Rattle.pig_run.specs.declared.outcome.RunFault.TheVariants as fault
 use Rattle.pig_run.specs.Due.{HasWords, Line, Stage}
 use Rattle.pig_run.specs.Reading.{Verdict, Refuses, Runs}
-use Rattle.pig_run.specs.Refusals.{Refusal, Names, by_depot, by_host, by_console, by_refusal, by_memory, cause_of}
+use Rattle.pig_run.specs.Refusals.{Refusal, Names}
 use Rattle.pig_run.specs.Told.{Asked, IsPrefix}
 use Rattle.pig_plan.specs.declared.plan.Plan.{Plan}
 use Rattle.pig_plan.specs.Plans.{plan_of}

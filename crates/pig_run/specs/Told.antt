@@ -10,7 +10,7 @@ use Rattle.pig_run.specs.declared.outcome.RunFault.{RunFault}
 use Rattle.pig_run.specs.declared.outcome.RunFault.TheVariants as fault
 use Rattle.pig_run.specs.Due.{IsDue, Line}
 use Rattle.pig_run.specs.Ends.{Console, Ends, Fails, Shown, counts_shown}
-use Rattle.pig_run.specs.Outputs.{AreCounts, Left, Output}
+use Rattle.pig_run.specs.Outputs.{AreCounts, Output}
 use Rattle.pig_run.specs.Reading.{Verdict, Refuses, Runs}
 use Rattle.pig_run.specs.Refusals.{Names, by_depot, by_host, by_memory, cause_of}
 use Rattle.pig_run.specs.Texts.{answer_text}

@@ -1,10 +1,9 @@
-use Rattle.std.proofs.Common.{rules, refl, ◌≡◌, ◌≤◌, ◌<◌, ◌++◌, Some, IfErr, IfOk, MatchResult, false, length, map, take, sym, ◌∙◌, ap, subst}
+use Rattle.std.proofs.Common.{rules, ◌≡◌, ◌≤◌, ◌<◌, ◌++◌, IfErr, MatchResult, length, map, take, ◌∙◌, subst}
 use Rattle.std.proofs.lemmas.Result.{IfErr-weaker, IfOk-from_err}
 use Rattle.std.specs.List.{flat_map}
 use Rattle.pig_run.specs.declared.outcome.RunFault.TheVariants as fault
 use Rattle.pig_run.specs.Due.{store_calls}
 use Rattle.pig_run.specs.Outputs.{LeftOpen}
-use Rattle.pig_run.specs.Running.{AskedFor}
 use Rattle.pig_run.specs.Steps.{IsCommitFault}
 use Rattle.pig_run.specs.Told.{Asked}
 use Rattle.pig_run.proofs.Storing.{asked_broken, broken_here, first_made, may_create, stored_on}

@@ -1,4 +1,4 @@
-use Rattle.std.proofs.Common.{◌≡◌, ◌≤◌, true, false}
+use Rattle.std.proofs.Common.{◌≡◌, ◌≤◌, false}
 use Rattle.pig_run.proofs.Storing.{StoredSoFar}
 use Rattle.pig_run.proofs.commit.store_all.Given as goal
 

@@ -1,12 +1,10 @@
-use Rattle.std.proofs.Common.{rules, refl, ◌≡◌, ◌≤◌, ◌<◌, ◌⊎◌, ◌∷◌, [], Some, MatchResult, true, false, length, map, take, get_or, sym, ◌∙◌, ap, subst}
+use Rattle.std.proofs.Common.{rules, ◌≡◌, ◌≤◌, ◌<◌, ◌⊎◌, ◌∷◌, [], Some, MatchResult, true, false, length, map, take, sym, ◌∙◌, ap, subst}
 use Rattle.std.proofs.lemmas.List.{length-map, take_all}
 use Rattle.std.proofs.lemmas.Result.{MatchResult-weaker}
 use Rattle.std.specs.List.{AllByRecursion}
 use Rattle.pig_value.proofs.list_laws.Listing.{each-append}
 use Rattle.pig_outside.specs.Shelf.{has_dir}
 use Rattle.pig_outside.specs.declared.failing.Method.TheVariants as method
-use Rattle.pig_reach.specs.Reach.{dirs_of}
-use Rattle.pig_reach.specs.declared.storing.Store.{Store}
 use Rattle.pig_run.specs.declared.outcome.RunFault.TheVariants as fault
 use Rattle.pig_run.specs.Due.{Looks, OutputsDue, RunDue, call}
 use Rattle.pig_run.specs.Looking.{IsAbsentIn}

@@ -1,4 +1,4 @@
-use Rattle.std.proofs.Common.{◌≡◌, ◌≤◌, List, ℕ, Some, map, take}
+use Rattle.std.proofs.Common.{◌≡◌, ◌≤◌, List, Some, map, take}
 use Rattle.std.specs.List.{AllByRecursion}
 use Rattle.pig_outside.specs.Shelf.{Shelf, has_dir}
 use Rattle.pig_outside.specs.declared.failing.Method.TheVariants as method

@@ -1,4 +1,4 @@
-use Rattle.std.proofs.Common.{rules, refl, ℕ, List, ◌≡◌, ◌≤◌, ◌<◌, ◌⊎◌, ◌++◌, ◌∷◌, [], Some, None, MatchResult, length, map, take, get_or, sym, ◌∙◌, ap, subst}
+use Rattle.std.proofs.Common.{rules, refl, ℕ, List, ◌≡◌, ◌≤◌, ◌<◌, ◌⊎◌, ◌++◌, ◌∷◌, [], Some, None, MatchResult, length, map, sym, ◌∙◌, ap, subst}
 use Rattle.std.proofs.lemmas.Result.{MatchResult-weaker}
 use Rattle.pig_outside.specs.Shelf.{lengths_at}
 use Rattle.pig_outside.specs.declared.failing.Method.TheVariants as method

@@ -1,4 +1,4 @@
-use Rattle.std.proofs.Common.{rules, refl, ◌≡◌, ◌≤◌, ◌<◌, ◌⊎◌, ◌^◌, Some, None, MatchResult, map, sym, ◌∙◌, ap, subst}
+use Rattle.std.proofs.Common.{rules, refl, ◌≡◌, ◌≤◌, ◌<◌, ◌^◌, Some, MatchResult, map, ◌∙◌, ap}
 use Rattle.std.proofs.lemmas.Result.{MatchResult-weaker}
 use Rattle.std.specs.List.{AllByRecursion}
 use Rattle.pig_plan.specs.Plans.{plan_of}

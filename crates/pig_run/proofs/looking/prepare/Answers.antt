@@ -1,4 +1,4 @@
-use Rattle.std.proofs.Common.{rules, refl, ◌≡◌, ◌⊎◌, Some, None, MatchResult, sym, ◌∙◌, subst, inl, inr}
+use Rattle.std.proofs.Common.{rules, ◌≡◌, ◌⊎◌, Some, MatchResult, sym, ◌∙◌, subst}
 use Rattle.std.proofs.lemmas.Result.{MatchResult-weaker}
 use Rattle.pig_plan.specs.Plans.{plan_of}
 use Rattle.pig_run.specs.declared.outcome.RunFault.TheVariants as fault

@@ -1,7 +1,7 @@
-use Rattle.std.proofs.Common.{rules, ◌≡◌, ◌+◌, ◌++◌, [], true, false, take}
+use Rattle.std.proofs.Common.{rules, ◌≡◌, ◌+◌, ◌++◌, [], true, take}
 use Rattle.std.specs.Option.{is_some, unwrap_or}
 use Rattle.pig_outside.specs.Shelf.{script_of}
-use Rattle.pig_run.proofs.Scripts.{is_missing, is_read}
+use Rattle.pig_run.proofs.Scripts.{is_read}
 use Rattle.pig_run.proofs.looking.script_bytes.Goals as goal
 
 pub returns-in-Ok-true-clause-told : goal.returns-in-Ok-true-clause-told

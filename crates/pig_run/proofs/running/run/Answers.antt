@@ -1,9 +1,9 @@
-use Rattle.std.proofs.Common.{rules, refl, ◌≡◌, Some, None, Ok, Err, MatchResult, sym, ◌∙◌, ap, subst}
+use Rattle.std.proofs.Common.{rules, ◌≡◌, Some, Ok, Err, MatchResult, ◌∙◌}
 use Rattle.std.proofs.lemmas.Result.{MatchResult-weaker}
 use Rattle.pig_plan.specs.Plans.{plan_of}
 use Rattle.pig_run.specs.Due.{IsDue, RunDue}
 use Rattle.pig_run.specs.Looking.{line_given}
-use Rattle.pig_run.specs.Running.{RunEnd, RunsEnd}
+use Rattle.pig_run.specs.Running.{RunEnd}
 use Rattle.pig_run.specs.Steps.{Passes, StopsIn}
 use Rattle.pig_run.specs.Told.{TellsInputs}
 use Rattle.pig_run.proofs.Ending.{told_runs, told_stopped}

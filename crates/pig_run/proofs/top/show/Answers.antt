@@ -1,4 +1,4 @@
-use Rattle.std.proofs.Common.{rules, ◌≡◌, ◌<◌, Some, subst, sym}
+use Rattle.std.proofs.Common.{rules, ◌<◌, Some, subst, sym}
 use Rattle.pig_run.specs.Ends.{Console, Printed, PrintedPart, Shown, cut_short, failed, printed}
 use Rattle.pig_run.proofs.top.show.Goals as goal
 
