@@ -1,6 +1,7 @@
 //! What a job takes and refuses.
 
 use pig_job::{Core, Event, JobFault};
+use std::process::Abort;
 use std::test::Fail;
 
 const NOT_NOW: Result<(), JobFault> = Err(JobFault::NotNow);
@@ -90,10 +91,8 @@ fn two_workers(rt: HostRuntime) -> Result<(), Fail> {
     Ok(())
 }
 
-// Each kind of step, taken and refused for each of its reasons but the bound of the total.
-#[test]
-fn each_condition(rt: HostRuntime) -> Result<(), Fail> {
-    let mut core = Core::open(rt.alloc(), 2, 2)?;
+// Task 0 is won by worker 1, and worker 0 comes late.
+fn win_first(rt: &impl Abort, core: &mut Core) -> Result<(), Fail> {
     let cases = [
         // There is no worker 2.
         (draw(2), NOT_NOW),
@@ -120,6 +119,16 @@ fn each_condition(rt: HostRuntime) -> Result<(), Fail> {
         (commit(0, 0, 1), NOT_NOW),
         (late(0, 0, 1), Ok(())),
         (late(0, 0, 1), NOT_NOW),
+    ];
+    for (event, answer) in cases {
+        assert_eq!(rt; core.step(&event), answer, "at {event:?}");
+    }
+    Ok(())
+}
+
+// Task 1 fails four times at worker 0, and worker 1 leaves.
+fn fail_second(rt: &impl Abort, core: &mut Core) -> Result<(), Fail> {
+    let cases = [
         // Task 1 has neither a winner nor four failures until the fourth.
         (leave(1), NOT_NOW),
         (begin(0, 1), Ok(())),
@@ -133,6 +142,16 @@ fn each_condition(rt: HostRuntime) -> Result<(), Fail> {
         (begin(0, 1), Ok(())),
         (fail(0, 1, 3), Ok(())),
         (leave(1), Ok(())),
+    ];
+    for (event, answer) in cases {
+        assert_eq!(rt; core.step(&event), answer, "at {event:?}");
+    }
+    Ok(())
+}
+
+// Worker 1 has left, and worker 0 aborts.
+fn end_both(rt: &impl Abort, core: &mut Core) -> Result<(), Fail> {
+    let cases = [
         // Worker 1 has left, and worker 0 has attempts under way.
         (draw(1), NOT_NOW),
         (begin(1, 1), NOT_NOW),
@@ -155,4 +174,13 @@ fn each_condition(rt: HostRuntime) -> Result<(), Fail> {
         assert_eq!(rt; core.step(&event), answer, "at {event:?}");
     }
     Ok(())
+}
+
+// Each kind of step, taken and refused for each of its reasons but the bound of the total.
+#[test]
+fn each_condition(rt: HostRuntime) -> Result<(), Fail> {
+    let mut core = Core::open(rt.alloc(), 2, 2)?;
+    win_first(&rt, &mut core)?;
+    fail_second(&rt, &mut core)?;
+    end_both(&rt, &mut core)
 }
