@@ -127,7 +127,8 @@ impl Plan {
 /// Adds what a node gives behind `count` others, and answers the node's number; where memory is wanting, nothing is
 /// added.
 fn give(alloc: Global, count: usize, given: &mut Vec<Given>, op: &NodeOp) -> Result<u32, AllocError>
-    ensures ok { OnOk result (map kinds_of_given given.new.items ≡ map kinds_of_given given.old.items
+    ensures ok { OnOk result (map kinds_of_given given.new.items
+        ≡ map kinds_of_given given.old.items
         ++ unwrap_or (node_gives (before_of given.old.items) (op_of op.now)) None ∷ []) }
     ensures taken { OnOk result ((last : Given)
         × (given.new.items ≡ given.old.items ++ last ∷ [])) }
