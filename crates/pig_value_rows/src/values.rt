@@ -175,6 +175,54 @@ fn bags_are_sorted(rt: HostRuntime) -> Result<(), Fail> {
     Ok(())
 }
 
+/// More rows than are sorted one by another at once.
+const MANY: u16 = 300;
+
+// A value of a form that grows with the number.
+fn grown(alloc: Global, form: u8, number: u16) -> Result<Value, AllocError> {
+    let [high, low] = number.to_be_bytes();
+    match form {
+        b'i' => Ok(Value::Int(i32::from(number).wrapping_sub(150))),
+        b'l' => Ok(Value::Long(i64::from(number).wrapping_sub(150))),
+        b'y' => Ok(Value::Bytes(Blob::from_slice(alloc, &[high, low])?)),
+        // Characters of two bytes and more, whose codes go like their numbers.
+        _ => {
+            let mut text = String::new(alloc);
+            text.push(char::from_u32(u32::from(number).wrapping_add(1950)).unwrap_or('?'))?;
+            Ok(Value::Chars(Text::from_string(text)))
+        }
+    }
+}
+
+fn grown_row(alloc: Global, form: u8, number: u16) -> Result<Tuple, AllocError> {
+    let mut row = Seq::new(alloc);
+    row.push(Value::Int(1))?;
+    row.push(grown(alloc, form, number)?)?;
+    Ok(row)
+}
+
+#[test]
+fn long_bags_are_sorted(rt: HostRuntime) -> Result<(), Fail> {
+    for form in b"ilyc" {
+        let mut before = Seq::new(rt.alloc());
+        for place in 0..MANY {
+            // Each number once, since 7 and 300 have no divisor in common.
+            let number = place.wrapping_mul(7) % MANY;
+            before.push(grown_row(rt.alloc(), *form, number)?)?;
+        }
+        let sorted = bag(before);
+        for number in 0..MANY {
+            let expected = grown_row(rt.alloc(), *form, number)?;
+            let found = sorted.get(usize::from(number));
+            assert!(rt;
+                found.is_some_and(|row| order_rows(row, &expected) == Ordering::Equal),
+                "form {form}, number {number}"
+            );
+        }
+    }
+    Ok(())
+}
+
 #[test]
 fn kinds_cast(rt: HostRuntime) -> Result<(), Fail> {
     // The kinds that each kind casts to.
