@@ -13,7 +13,7 @@ use Rattle.pig_outside.specs.Calls.{DepotCall}
 use Rattle.pig_outside.specs.Shelf.{Shelf}
 use Rattle.pig_plan.specs.Plans.{Plan}
 use Rattle.pig_plan.specs.Meaning.{IsKept}
-use Rattle.pig_plain.specs.Answering.{EachAnswers, IsAnswer}
+use Rattle.pig_plain.specs.Answering.{EachAnswers}
 use Rattle.pig_reach.specs.Reach.{dirs_of, lines_read, stores_of}
 use Rattle.pig_reach.specs.declared.storing.Store.{Store}
 use Rattle.pig_run.specs.declared.outcome.Counts.{Counts}
@@ -25,7 +25,7 @@ use Rattle.pig_run.specs.Due.{IsDue, Line, RunDue, runs, store_calls}
 use Rattle.pig_run.specs.Ends.{Ends, done, host_failed, lookup_failed, no_memory, no_memory_at, no_memory_behind, refused, store_failed}
 use Rattle.pig_run.specs.Outputs.{AreOutputsOf, IsStopped, IsUntouched, IsWhole, Output, with_outputs}
 use Rattle.pig_run.specs.Reading.{Refuses, Runs, Verdict}
-use Rattle.pig_run.specs.Running.{AskedFor, IsBrokenAt, IsFoundOver, IsNotBegun, Relation, RunEnd, RunsEnd, counts_in, kept_in, note_of, noted_line, outputs_of}
+use Rattle.pig_run.specs.Running.{AskedFor, EachStored, IsAnswered, IsBrokenAt, IsFoundOver, IsNotBegun, Relation, RunEnd, RunsEnd, counts_in, kept_in, note_of, noted_line, outputs_of}
 use Rattle.pig_run.specs.Steps.{IsCommitFault, IsHostStep, IsLookFault, Passes, StopsIn}
 use Rattle.pig_run.specs.Texts.{done_line}
 use Rattle.pig_run.specs.Told.{CountsAre, EndsEarly, IsAsked, TellsInputs, TellsOf}
@@ -121,10 +121,10 @@ module _ (plan : Plan) (s : Shelf) (shelf : Option Shelf) (told : shelf ≡ Some
   over_shelf : TellsInputs inputs → IsFoundOver plan s.inputs found
   over_shelf (i, is) = subst (λ j. IsFoundOver plan j found) (told_inputs shelf s i told (of i is)) (over i is)
 
-  pub answers_over : (kept : List Kept) (relations : List Relation) → kept ≡ found.answers.kept → relations ≡ found.answers.stores → TellsInputs inputs → IsAnswer plan s.inputs kept (map rows_tree relations)
+  pub answers_over : (kept : List Kept) (relations : List Relation) → kept ≡ found.answers.kept → relations ≡ found.answers.stores → TellsInputs inputs → IsAnswered plan s.inputs kept (map rows_tree relations)
   answers_over kept relations kept_is relations_are tells =
-      subst (λ k. IsAnswer plan s.inputs k (map rows_tree relations)) (sym kept_is)
-      (subst (λ rs. IsAnswer plan s.inputs found.answers.kept (map rows_tree rs)) (sym relations_are) (over_shelf tells).answer)
+      subst (λ k. IsAnswered plan s.inputs k (map rows_tree relations)) (sym kept_is)
+      (subst (λ rs. IsAnswered plan s.inputs found.answers.kept (map rows_tree rs)) (sym relations_are) (over_shelf tells).answer)
 
   pub read_over : (read : ℕ) → read ≡ found.read → TellsInputs inputs → read ≡ lines_read plan s.inputs % 2 ^ 64
   read_over read is tells = is ∙ (over_shelf tells).read
@@ -144,6 +144,13 @@ each_first plan i kept [] behind (r ∷ first) last each h = absurd (omega (arit
 each_first plan i kept (store ∷ before) behind [] last each h = absurd (omega (arith, each))
 each_first plan i kept (store ∷ before) behind (r ∷ first) last each h = (h.0, each_first plan i kept before behind first last (omega (arith, each)) h.1)
 
+stored_first : (plan : Plan) (i : List Input) (kept : List Kept) (before behind : List Store) (first last : List Relation) → length first ≡ length before
+    → EachStored plan i kept (before ++ behind) (map rows_tree (first ++ last)) → EachStored plan i kept before (map rows_tree first)
+stored_first plan i kept [] behind [] last each h = tt
+stored_first plan i kept [] behind (r ∷ first) last each h = absurd (omega (arith, each))
+stored_first plan i kept (store ∷ before) behind [] last each h = absurd (omega (arith, each))
+stored_first plan i kept (store ∷ before) behind (r ∷ first) last each h = (h.0, stored_first plan i kept before behind first last (omega (arith, each)) h.1)
+
 module _ (plan : Plan) (s : Shelf) (tells : Type 0) (old new : Option (List DepotCall)) (shelf : Option Shelf) (progress : Progress) where
   -- reading or answering ended it
   pub told_unread : shelf ≡ Some s → progress.begun ≡ false → new ≡ old → (f : RunFault) → IsHostStep f → RunsEnd plan s tells old new shelf progress (Err f)
@@ -160,9 +167,12 @@ module _ (plan : Plan) (s : Shelf) (tells : Type 0) (old new : Option (List Depo
       left (inr is) = subst (λ g. Ends tells s (record { outs = []; kept = kept_in false progress; shelf = shelf }) (Runs plan) (Some g)) (sym is) (no_memory (untouched s shelf progress same idle))
 
   module _ (stores : List Store) (stores_are : stores ≡ stores_of plan) (relations : List Relation) (each : length relations ≡ length stores)
-      (answers : tells → IsAnswer plan s.inputs progress.kept (map rows_tree relations)) where
+      (answers : tells → IsAnswered plan s.inputs progress.kept (map rows_tree relations)) where
     answers_are : tells → EachAnswers plan s.inputs progress.kept (map (λ store. store.relation) stores) (map rows_tree relations)
-    answers_are t = subst (λ ns. EachAnswers plan s.inputs progress.kept ns (map rows_tree relations)) (relations_are plan ∙ ap (map (λ store. store.relation)) (sym stores_are)) (answers t).stores
+    answers_are t = subst (λ ns. EachAnswers plan s.inputs progress.kept ns (map rows_tree relations)) (relations_are plan ∙ ap (map (λ store. store.relation)) (sym stores_are)) (answers t).answer.stores
+
+    stored_are : tells → EachStored plan s.inputs progress.kept stores (map rows_tree relations)
+    stored_are t = subst (λ xs. EachStored plan s.inputs progress.kept xs (map rows_tree relations)) (sym stores_are) (answers t).stored
 
     dirs_are : flat_map store_calls (map (λ store. store.dir) stores) ≡ flat_map store_calls (dirs_of plan)
     dirs_are = ap (λ xs. flat_map store_calls (map (λ store. store.dir) xs)) stores_are
@@ -184,10 +194,13 @@ module _ (plan : Plan) (s : Shelf) (tells : Type 0) (old new : Option (List Depo
                 (outputs_are plan s.inputs progress.kept broken.before broken.first
                 (each_first plan s.inputs progress.kept broken.before (broken.store ∷ broken.behind) broken.first broken.last broken.each
                 (subst (λ rs. EachAnswers plan s.inputs progress.kept (map (λ store. store.relation) (broken.before ++ broken.store ∷ broken.behind)) (map rows_tree rs)) broken.rows_are
-                (subst (λ xs. EachAnswers plan s.inputs progress.kept (map (λ store. store.relation) xs) (map rows_tree relations)) broken.are (answers_are t)))));
+                (subst (λ xs. EachAnswers plan s.inputs progress.kept (map (λ store. store.relation) xs) (map rows_tree relations)) broken.are (answers_are t))))
+                (stored_first plan s.inputs progress.kept broken.before (broken.store ∷ broken.behind) broken.first broken.last broken.each
+                (subst (λ rs. EachStored plan s.inputs progress.kept (broken.before ++ broken.store ∷ broken.behind) (map rows_tree rs)) broken.rows_are
+                (subst (λ xs. EachStored plan s.inputs progress.kept xs (map rows_tree relations)) broken.are (stored_are t)))));
           };
           opened = broken.left;
-          kept = λ t. subst (λ k. IsKept plan s.inputs k) (sym kept) (answers t).kept;
+          kept = λ t. subst (λ k. IsKept plan s.inputs k) (sym kept) (answers t).answer.kept;
         }
 
     pub told_broken : (f : RunFault) → IsBrokenAt stores relations f (Some s) shelf → IsNotBegun {T = Unit {0}} progress.begun (Err f) (Some s) shelf
@@ -231,10 +244,10 @@ module _ (plan : Plan) (s : Shelf) (tells : Type 0) (old new : Option (List Depo
         stored = record {
           dirs = dirs_same stores relations each ∙ ap (map (λ store. store.dir)) stores_are;
           are = λ t. subst (λ k. AreOutputsOf plan s.inputs k (stores_of plan) (outputs_of stores relations)) (sym same)
-              (subst (λ xs. AreOutputsOf plan s.inputs progress.kept xs (outputs_of stores relations)) stores_are (outputs_are plan s.inputs progress.kept stores relations (answers_are t)));
+              (subst (λ xs. AreOutputsOf plan s.inputs progress.kept xs (outputs_of stores relations)) stores_are (outputs_are plan s.inputs progress.kept stores relations (answers_are t) (stored_are t)));
         };
         made = made;
-        kept = λ t. subst (λ k. IsKept plan s.inputs k) (sym same) (answers t).kept;
+        kept = λ t. subst (λ k. IsKept plan s.inputs k) (sym same) (answers t).answer.kept;
       }
 
       all_asked : (found : Option RunFault) → IsAsked (flat_map store_calls (dirs_of plan)) found old new

@@ -1,5 +1,5 @@
 -- What a plan means over the inputs that were read is what it means over all that are told, and it is what the STOREs store.
-use Rattle.std.proofs.Common.{◌≡◌, ◌+◌, ◌||◌, ℕ, zero, suc, Bool, true, false, List, [], ◌∷◌, length, map, Option, Some, None, slice_get, drop, refl, sym, ◌∙◌, ap, arith, inl, inr, cond}
+use Rattle.std.proofs.Common.{◌≡◌, ◌≢◌, ◌+◌, ◌||◌, ℕ, zero, suc, Bool, true, false, List, [], ◌∷◌, length, map, Option, Some, None, slice_get, drop, refl, sym, ◌∙◌, ap, subst, arith, inl, inr, cond}
 use Rattle.std.specs.List.{AllByRecursion, cons_option, filter_map, find}
 use Rattle.std.specs.Option.{option_map, option_map_or, unwrap_or}
 use Rattle.std.specs.Str.{bytes_eq}
@@ -10,20 +10,26 @@ use Rattle.std.proofs.lemmas.Slice.Eq.{bytes_eq-Decides}
 use Rattle.pig_value.specs.declared.inputs.Input.{Input}
 use Rattle.pig_value.specs.declared.outcomes.Kept.{Kept}
 use Rattle.pig_value.specs.Orders.{bag_of}
+use Rattle.pig_value.specs.Texts.{rows_text}
 use Rattle.pig_value.specs.Trees.{Tree, row_tree, rows_tree}
+use Rattle.pig_value.specs.Valid.{IsValue}
 use Rattle.pig_outside.specs.Shelf.{pieces_of as pieces_told}
+use Rattle.pig_plan.specs.Laws.{AreOfBytes, PlanLiteralsAre}
+use Rattle.pig_plan.specs.Meaning.{IsKept}
 use Rattle.pig_plan.specs.Nodes.{is_live, is_store, is_used}
 use Rattle.pig_plan.specs.Operators.{pieces_of}
 use Rattle.pig_plan.specs.Plans.{Plan, PlanNode, PlanOp, p_load, p_filter, p_foreach, p_group_all, p_group, p_join, p_union, p_distinct, p_order, p_limit, p_store, p_assert, p_rank}
+use Rattle.pig_plan.specs.Stored.{StoresBag, StoresList}
 use Rattle.pig_plan.specs.Valid.{IsPlan}
 use Rattle.pig_plan.proofs.Lower.{names_lower}
-use Rattle.pig_plain.specs.Answering.{EachAnswers, IsAnswer, stored_of, stored_relations}
+use Rattle.pig_plain.specs.Answering.{AnswersFor, EachAnswers, IsAnswer, stored_of, stored_relations}
+use Rattle.pig_plain.specs.StoredLines.{AnswersAreStoredLines, StoresMeaning}
 use Rattle.pig_reach.specs.Paths.{is_among}
 use Rattle.pig_reach.specs.Reach.{lines_read, live_paths, store_of, stores_of}
 use Rattle.pig_reach.specs.declared.storing.Store.{Store}
 use Rattle.pig_reach.proofs.Enough.{Agree, kept_agrees, lines_agree, meanings_agree, named_lives}
 use Rattle.pig_run.specs.Outputs.{AreOutputsOf}
-use Rattle.pig_run.specs.Running.{Relation, inputs_at, outputs_of}
+use Rattle.pig_run.specs.Running.{EachStored, IsAnswered, Relation, inputs_at, outputs_of}
 
 true_not_false : {A : Type 0} → true ≡ false → A
 true_not_false e = absurd (cc)
@@ -149,14 +155,47 @@ relations_are (node ∷ plan) =
     mapped (Some store) stores = refl
 
 pub outputs_are : (plan : Plan) (i : List Input) (kept : List Kept) (stores : List Store) (relations : List Relation)
-    → EachAnswers plan i kept (map (λ store. store.relation) stores) (map rows_tree relations) → AreOutputsOf plan i kept stores (outputs_of stores relations)
-outputs_are plan i kept [] [] h = tt
-outputs_are plan i kept [] (r ∷ relations) h = absurd h
-outputs_are plan i kept (store ∷ stores) [] h = absurd h
-outputs_are plan i kept (store ∷ stores) (r ∷ relations) h = (
-  record { rows = rows_tree r; answer = h.0; bytes = refl; lines = sym (length-map r row_tree) },
-  outputs_are plan i kept stores relations h.1,
+    → EachAnswers plan i kept (map (λ store. store.relation) stores) (map rows_tree relations) → EachStored plan i kept stores (map rows_tree relations)
+    → AreOutputsOf plan i kept stores (outputs_of stores relations)
+outputs_are plan i kept [] [] h l = tt
+outputs_are plan i kept [] (r ∷ relations) h l = absurd h
+outputs_are plan i kept (store ∷ stores) [] h l = absurd h
+outputs_are plan i kept (store ∷ stores) (r ∷ relations) h l = (
+  record { rows = rows_tree r; answer = h.0; bytes = refl; stored = l.0; lines = sym (length-map r row_tree) },
+  outputs_are plan i kept stores relations h.1 l.1,
 )
+
+-- ---- what their bytes are as lines
+
+module _ (laws : AnswersAreStoredLines) (plan : Plan) (valid : IsPlan plan) (literals : PlanLiteralsAre IsValue plan) (i : List Input)
+    (bytes : AreOfBytes (inputs_at i (live_paths plan))) (kept : List Kept) (is_kept : IsKept plan (inputs_at i (live_paths plan)) kept) where
+  stores_told : (k delim : ℕ) (rows : List (List Tree)) → is_live plan k ≡ true → delim ≢ 10 → AnswersFor plan (inputs_at i (live_paths plan)) kept k rows
+      → StoresMeaning plan i kept k delim (rows_text delim rows)
+  stores_told k delim rows live other answers =
+      let same = meanings_agree plan valid (inputs_at i (live_paths plan)) i (agrees plan i) kept k live in
+      let read = laws plan (inputs_at i (live_paths plan)) kept valid literals bytes is_kept k live rows answers delim other in
+      record {
+        bag = subst (StoresBag delim (rows_text delim rows)) same read.bag;
+        list = λ listed. subst (StoresList delim (rows_text delim rows)) same (read.list listed);
+      }
+
+  each_stored : (stores : List Store) (rows : List (List (List Tree))) → AllByRecursion (λ store. store.delim ≢ 10) stores
+      → AllByRecursion (λ k. is_live plan k ≡ true) (map (λ store. store.relation) stores)
+      → EachAnswers plan (inputs_at i (live_paths plan)) kept (map (λ store. store.relation) stores) rows → EachStored plan i kept stores rows
+  each_stored [] [] others live h = tt
+  each_stored [] (r ∷ rows) others live h = h
+  each_stored (store ∷ stores) [] others live h = h
+  each_stored (store ∷ stores) (r ∷ rows) others live h =
+      (stores_told store.relation store.delim r live.0 others.0 h.0, each_stored stores rows others.1 live.1 h.1)
+
+  -- rows that answer over the inputs that were read
+  pub answered : (rows : List (List (List Tree))) → AllByRecursion (λ store. store.delim ≢ 10) (stores_of plan)
+      → IsAnswer plan (inputs_at i (live_paths plan)) kept rows → IsAnswered plan i kept rows
+  answered rows others h = record {
+    answer = answer_told plan valid i kept rows h;
+    stored = each_stored (stores_of plan) rows others (subst (AllByRecursion (λ k. is_live plan k ≡ true)) (relations_are plan) (relations_live plan valid))
+        (subst (λ ns. EachAnswers plan (inputs_at i (live_paths plan)) kept ns rows) (relations_are plan) h.stores);
+  }
 
 -- as many relations as STOREs
 pub as_many : (plan : Plan) (i : List Input) (kept : List Kept) (ns : List ℕ) (rows : List (List (List Tree))) → EachAnswers plan i kept ns rows → length rows ≡ length ns

@@ -11,10 +11,8 @@ use Rattle.pig_run.specs.Reading.{Verdict, Refuses}
 use Rattle.pig_run.specs.Refusals.{Refusal, Names}
 use Rattle.pig_run.specs.Steps.{IsLookFault, Passes, StopsIn}
 use Rattle.pig_run.specs.Told.{Asked, IsPrefix}
+use Rattle.pig_run.proofs.Deciding.{not_none}
 use Rattle.pig_run.proofs.Stages.{asked_then}
-
-none_some : {A B : Type 0} {x : A} → None ≡ Some x → B
-none_some e = absurd (cc)
 
 module _ (is_so : List ℕ → Bool) (refusal : List ℕ → Refusal) (m : Method) (paths : List (List ℕ)) (next : Stage) where
   -- those before a place were asked for, and none was so
@@ -97,5 +95,5 @@ module _ (is_so : List ℕ → Bool) (refusal : List ℕ → Refusal) (m : Metho
       }
     where
       behind : find is_so paths ≡ None → (asked : List DepotCall) (v : Verdict) → Looks is_so refusal m paths next asked v → (more : List DepotCall) × (asked ≡ map (call m) paths ++ more) × next more v
-      behind none _ _ (stopped found) = none_some (sym none ∙ found)
+      behind none _ _ (stopped found) = not_none (sym none ∙ found)
       behind none _ v (passed {asked = more} is due) = (more, refl, due)

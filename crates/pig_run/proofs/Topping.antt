@@ -17,6 +17,7 @@ use Rattle.pig_run.specs.Running.{RunEnd, RunTold, counts_in, end_text, found_in
 use Rattle.pig_run.specs.Steps.{DepotCause, HostCause, SaysWords, StoreBlame}
 use Rattle.pig_run.specs.Texts.{answer_text, fault_text}
 use Rattle.pig_run.specs.Told.{FirstTells, IsCaused, IsRight, Seen, SomeFailed, TellsInputs, Told, first_of, line_of}
+use Rattle.pig_run.proofs.Deciding.{just}
 
 -- ---- faults by their causes
 
@@ -137,9 +138,6 @@ module _ {X : Type 0} (inputs : X → Option (List Input)) (faults : X → ℕ) 
   first_blamed (z ∷ zs) x y d within at result host = subst (λ w. HostCause (faults w) (faults y) result) at host
 
 -- ---- the causes of what is answered
-
-just : {A : Type 0} {x y : A} → Some x ≡ Some y → x ≡ y
-just e = cc
 
 -- an answer is want of memory, that of the console, or what was found
 pub answered : (text : List ℕ) (old new : Console) (found final : Option RunFault) → Shown text old new found final → (f : RunFault) → final ≡ Some f

@@ -11,6 +11,7 @@ use Rattle.pig_outside.specs.Shelf.{Shelf, LeftUnmarked, whole_state, with_dir}
 use Rattle.pig_plan.specs.Meaning.{IsKept}
 use Rattle.pig_plan.specs.Plans.{Plan}
 use Rattle.pig_plain.specs.Answering.{AnswersFor}
+use Rattle.pig_plain.specs.StoredLines.{StoresMeaning}
 use Rattle.pig_reach.specs.Reach.{lines_read, stores_of}
 use Rattle.pig_reach.specs.declared.storing.Store.{Store}
 use Rattle.pig_run.specs.declared.outcome.Counts.{Counts}
@@ -27,11 +28,12 @@ with_outputs [] shelf = shelf
 with_outputs (out ∷ outs) shelf = with_outputs outs (with_dir out.dir (whole_state (out.bytes ∷ [])) shelf)
 
 -- The output is that of a STORE: its bytes are the texts of rows that answer for the relation that it stores, as a list where that is
--- a list, and else as a bag.
+-- a list, and else as a bag. Cut at LF alone, the bytes are the lines of what the relation means.
 pub record IsOutputOf (plan : Plan) (inputs : List Input) (kept : List Kept) (store : Store) (out : Output) : Type 0 where
   pub rows : List (List Tree)
   pub answer : AnswersFor plan inputs kept store.relation rows
   pub bytes : out.bytes ≡ rows_text store.delim rows
+  pub stored : StoresMeaning plan inputs kept store.relation store.delim out.bytes
   pub lines : out.lines ≡ length rows
 
 -- so it is of each STORE in turn

@@ -1,17 +1,18 @@
 -- How the steps of a run speak of each other.
-use Rattle.std.specs.Prelude.{◌≡◌, ◌++◌, ◌%◌, ◌^◌, ℕ, Bool, false, List, [], ◌∷◌, length, map, Option, Some, None, Result, Ok, Err, IfOk, MatchResult, if◌then◌else◌}
+use Rattle.std.specs.Prelude.{◌≡◌, ◌++◌, ◌%◌, ◌^◌, ⊤, ℕ, Bool, false, List, [], ◌∷◌, length, map, Option, Some, None, Result, Ok, Err, IfOk, MatchResult, if◌then◌else◌}
 use Rattle.std.specs.List.{flat_map, sum_by}
 use Rattle.std.specs.Option.{option_map, unwrap_or}
 use Rattle.std.specs.Result.{is_ok}
 use Rattle.pig_value.specs.declared.inputs.Input.{Input}
 use Rattle.pig_value.specs.declared.outcomes.Kept.{Kept}
 use Rattle.pig_value.specs.Texts.{rows_text}
-use Rattle.pig_value.specs.Trees.{rows_tree}
+use Rattle.pig_value.specs.Trees.{Tree, rows_tree}
 use Rattle.pig_outside.specs.Calls.{DepotCall}
 use Rattle.pig_outside.specs.Shelf.{Shelf, pieces_of}
 use Rattle.pig_plain.specs.Answering.{IsAnswer}
+use Rattle.pig_plain.specs.StoredLines.{StoresMeaning}
 use Rattle.pig_plan.specs.Plans.{Plan}
-use Rattle.pig_reach.specs.Reach.{dirs_of, lines_read}
+use Rattle.pig_reach.specs.Reach.{dirs_of, lines_read, stores_of}
 use Rattle.pig_reach.specs.declared.storing.Store.{Store}
 use Rattle.pig_value.specs.declared.values.Value.{Value}
 use Rattle.pig_run.specs.declared.outcome.Counts.{Counts}
@@ -32,9 +33,21 @@ use Rattle.pig_run.specs.Told.{Asked, CountsAre, IsAsked, IsPrefix}
 abbrev pub inputs_at : List Input → List (List ℕ) → List Input
 inputs_at inputs paths = map (λ path. record { path = path; pieces = unwrap_or (pieces_of path inputs) [] }) paths
 
+-- the texts of rows, each with an LF behind it, store what each STORE's relation means
+abbrev pub EachStored : Plan → List Input → List Kept → List Store → List (List (List Tree)) → Type 0
+EachStored plan inputs kept [] [] = ⊤
+EachStored plan inputs kept (store ∷ stores) (rows ∷ more) =
+    StoresMeaning plan inputs kept store.relation store.delim (rows_text store.delim rows) × EachStored plan inputs kept stores more
+EachStored plan inputs kept stores more = ⊥
+
+-- rows of a plan's STOREs: they answer for it, and their texts store what it means
+pub record IsAnswered (plan : Plan) (inputs : List Input) (kept : List Kept) (rows : List (List (List Tree))) : Type 0 where
+  pub answer : IsAnswer plan inputs kept rows
+  pub stored : EachStored plan inputs kept (stores_of plan) rows
+
 -- what a plan means was found, and the lines were counted
 pub record IsFoundOver (plan : Plan) (inputs : List Input) (found : Found) : Type 0 where
-  pub answer : IsAnswer plan inputs found.answers.kept (map rows_tree found.answers.stores)
+  pub answer : IsAnswered plan inputs found.answers.kept (map rows_tree found.answers.stores)
   pub read : found.read ≡ lines_read plan inputs % 2 ^ 64
 
 -- ---- storing

@@ -1,6 +1,8 @@
 ghost use Rattle.std.specs.Prelude.{◌≡◌, ◌≢◌, ◌<◌, ◌≤◌, ◌⊎◌, ◌%◌, ◌^◌, [], length, false, IfOk, IfErr, MatchResult};
 ghost use Rattle.std.specs.Option.{ForSome};
 ghost use Rattle.std.specs.List.{AllByRecursion, sum_by};
+ghost use Rattle.pig_value.specs.Leaves.{AreBytes};
+ghost use Rattle.pig_plan.specs.Laws.{AreOfBytes};
 ghost use Rattle.pig_plan.specs.Plans.{plan_of};
 ghost use Rattle.pig_run.specs.Due.{HasWords};
 ghost use Rattle.pig_run.specs.Looking.{HasLengths, IsPrepared, IsReady, line_given};
@@ -18,9 +20,9 @@ use crate::texts::done_bytes;
 use crate::{Counts, RunFault};
 use pig_check::a_script_has_one_plan;
 use pig_outside::{Depot, Host};
-use pig_plain::{Answers, answer};
-use pig_reach::lines_read;
-use pig_value::Blob;
+use pig_plain::{Answers, answer, answers_are_stored_lines};
+use pig_reach::{Store, lines_read};
+use pig_value::{Blob, Input};
 use std::alloc::Global;
 
 /// What a plan means, and the number of lines that were read for it.
@@ -43,12 +45,41 @@ fn find<H: Host>(alloc: Global, host: &mut H, prepared: &Prepared) -> Result<Fou
     ensures inputs { H.inputs host.new ≡ H.inputs host.old }
     ensures cause { HostCause (H.faults host.old) (H.faults host.new) result }
 {
-    // That the plan is valid is known of its nodes.
+    answers_are_stored_lines();
+    // That the plan is valid is known of its nodes, and what a byte is of each delimiter and piece.
     prepared.plan.nodes();
+    know_delimiters(prepared.stores.as_slice());
     let inputs = read_inputs(alloc, host, &prepared.sizes)?;
+    know_bytes(inputs.as_slice());
     let read = lines_read(alloc, &prepared.plan, &inputs)?;
     let answers = answer(alloc, &prepared.plan, &inputs)?;
     Ok(Found { answers, read })
+}
+
+/// That no STORE's delimiter is an LF, as its type says.
+fn know_delimiters(stores: &[Store])
+    ensures { AllByRecursion (λ store. store.delim ≢ 10) stores.now }
+{
+    for store in stores {
+        store.delim.byte();
+    }
+}
+
+/// That the pieces of inputs are of bytes, as their type says.
+fn know_bytes(inputs: &[Input])
+    ensures { AreOfBytes inputs.now }
+{
+    for input in inputs {
+        know_pieces(input.pieces.as_slice());
+    }
+}
+
+fn know_pieces(pieces: &[Blob])
+    ensures { AllByRecursion AreBytes pieces.now }
+{
+    for piece in pieces {
+        piece.as_slice();
+    }
 }
 
 /// The number of lines of all directories, modulo 2 to the 64.
