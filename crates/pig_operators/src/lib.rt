@@ -10,4 +10,4 @@ mod outer;
 mod whole;
 
 pub use by_key::{Gathering, gather};
-pub use whole::{distinct_keys, ordered};
+pub use whole::{distinct_keys, limited, ordered};

@@ -1,4 +1,4 @@
-ghost use Rattle.std.specs.Prelude.{◌≡◌, List, [], IfOk};
+ghost use Rattle.std.specs.Prelude.{◌≡◌, ◌≤◌, List, [], length, map, take, IfOk};
 ghost use Rattle.pig_value.specs.Orders.{row_cmp};
 ghost use Rattle.pig_value.specs.Sorts.{distinct};
 ghost use Rattle.pig_value.specs.Trees.{rows_tree};
@@ -19,8 +19,29 @@ pub fn ordered(alloc: Global, run: Run) -> Result<Rows, AllocError>
     ensures order { (keys : List SortKey) → IsOrdering keys run
         → IfOk result (λ rows. rows_tree rows ≡ order_rows keys (run_rows run)) }
 {
-    let mut rows = Rows::with_capacity(alloc, run.len())?;
-    for at in 0..run.len() {
+    first_rows(alloc, &run, run.len())
+}
+
+/// The rows of LIMIT over those of ORDER: the first so many. No other row is made.
+///
+/// A refusal gives up the run.
+pub fn limited(alloc: Global, run: Run, count: u64) -> Result<Rows, AllocError>
+    ensures rows { IfOk result (λ rows. rows_tree rows ≡ take count (run_rows run)) }
+    ensures order { (keys : List SortKey) → IsOrdering keys run
+        → IfOk result (λ rows. rows_tree rows ≡ take count (order_rows keys (run_rows run))) }
+{
+    let end = run.len().min(count as usize);
+    first_rows(alloc, &run, end)
+}
+
+// The rows of the entries up to a place, in their order.
+fn first_rows(alloc: Global, run: &Run, end: usize) -> Result<Rows, AllocError>
+    requires within { end ≤ length run.now.entries }
+    ensures { IfOk result (λ rows. rows_tree rows
+        ≡ map (λ e. e.row) (take end run.now.entries)) }
+{
+    let mut rows = Rows::with_capacity(alloc, end)?;
+    for at in 0..end {
         rows.push(run.row(alloc, at)?)?;
     }
     Ok(rows)
