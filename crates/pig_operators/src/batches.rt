@@ -1,4 +1,4 @@
-ghost use Rattle.std.specs.Prelude.{◌≡◌, ◌<◌, ◌≤◌, [], ◌++◌, IfOk};
+ghost use Rattle.std.specs.Prelude.{◌≡◌, ◌<◌, ◌≤◌, [], ◌++◌, IfOk, OnErr};
 ghost use Rattle.pig_value.specs.Sorts.{Ascends};
 ghost use Rattle.pig_value.specs.Trees.{rows_tree};
 ghost use Rattle.pig_plan.specs.ByKey.{gathered};
@@ -51,9 +51,12 @@ impl Gatherer {
     }
 
     /// The rows of the next groups, some hundred at once. Where there are none, none are still to come.
+    ///
+    /// Where memory is wanting, all of them are still to come.
     pub fn next_batch(&mut self, alloc: Global) -> Result<Rows, AllocError>
         ensures rows { IfOk result (λ rows. self.old ≡ rows_tree rows ++ self.new) }
         ensures end { IfOk result (λ rows. rows_tree rows ≡ [] → self.new ≡ []) }
+        ensures err { OnErr result (self.new ≡ self.old) }
     {
         let mut rows = Rows::new(alloc);
         self.from = add_batch(alloc, &self.how, &self.run, self.from, &mut rows)?;
