@@ -1,11 +1,14 @@
-ghost use Rattle.std.specs.Prelude.{◌≡◌, ◌<◌, ◌≤◌, [], ◌++◌, IfOk, OnErr};
+ghost use Rattle.std.specs.Prelude.{◌≡◌, ◌<◌, ◌≤◌, List, [], ◌++◌, IfOk, OnErr};
 ghost use Rattle.pig_value.specs.Sorts.{Ascends};
 ghost use Rattle.pig_value.specs.Trees.{rows_tree};
+ghost use Rattle.pig_typed.specs.declared.blocks.SortKey.{SortKey};
 ghost use Rattle.pig_plan.specs.ByKey.{gathered};
+ghost use Rattle.pig_plan.specs.Operators.{order_rows};
 ghost use Rattle.pig_runs.specs.Entries.{run_cmp};
-ghost use Rattle.pig_operators.specs.Given.{entries_in, made, to_come};
+ghost use Rattle.pig_operators.specs.Given.{IsOrdering, entries_in, made, run_rows, to_come};
 
 use crate::by_key::{Gathering, add_next};
+use crate::groups::rows_between;
 use pig_runs::Run;
 use pig_value::Rows;
 use std::alloc::{AllocError, Global};
@@ -39,6 +42,58 @@ impl Model for Gatherer {
     ghost view = { λ g. to_come g.how g.run g.from };
 
     ghost invariant = { λ g. g.run.dirs ≡ [] };
+}
+
+/// The rows of ORDER over the entries of a run, some hundred at a time.
+///
+/// Contracts see the rows that are still to come.
+#[derive(Debug, Drop)]
+pub struct Orderer {
+    run: Run,
+    // The place of the first entry whose row is still to come.
+    from: usize,
+}
+
+impl Model for Orderer {
+    ghost use Rattle.std.specs.Prelude.{◌≤◌, List, drop, length};
+    ghost use Rattle.std.specs.Coded.{coded_list};
+    ghost use Rattle.pig_value.specs.Trees.{Tree};
+    ghost use Rattle.pig_value.specs.TreeCode.{coded_tree};
+    ghost use Rattle.pig_operators.specs.Given.{run_rows};
+
+    ghost Value = { List (List Tree) };
+
+    ghost coded = { coded_list (coded_list coded_tree) };
+
+    ghost view = { λ o. drop o.from (run_rows o.run) };
+
+    ghost invariant = { λ o. o.from ≤ length o.run.entries };
+}
+
+impl Orderer {
+    /// All rows of ORDER are still to come. This takes no memory.
+    pub fn new(run: Run) -> Orderer
+        ensures rows { result ≡ run_rows run }
+        ensures order { (keys : List SortKey) → IsOrdering keys run
+            → result ≡ order_rows keys (run_rows run) }
+    {
+        run.len();
+        Orderer { run, from: 0 }
+    }
+
+    /// The next rows, some hundred at once. Where there are none, none are still to come.
+    ///
+    /// Where memory is wanting, all of them are still to come.
+    pub fn next_batch(&mut self, alloc: Global) -> Result<Rows, AllocError>
+        ensures rows { IfOk result (λ rows. self.old ≡ rows_tree rows ++ self.new) }
+        ensures end { IfOk result (λ rows. rows_tree rows ≡ [] → self.new ≡ []) }
+        ensures err { OnErr result (self.new ≡ self.old) }
+    {
+        let end = self.from + (self.run.len() - self.from).min(BATCH_ROWS);
+        let rows = rows_between(alloc, &self.run, self.from, end)?;
+        self.from = end;
+        Ok(rows)
+    }
 }
 
 impl Gatherer {

@@ -10,6 +10,6 @@ mod nulls;
 mod outer;
 mod whole;
 
-pub use batches::Gatherer;
+pub use batches::{Gatherer, Orderer};
 pub use by_key::{Gathering, gather};
 pub use whole::{distinct_keys, limited, ordered};
