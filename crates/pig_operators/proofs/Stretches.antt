@@ -1,6 +1,6 @@
 -- A group of a sorted run: its entries have one key, and what stands behind it has greater ones.
-use Rattle.std.proofs.Common.{◌≡◌, ◌+◌, ℕ, false, List, [], ◌∷◌, ◌++◌, map, drop, refl, sym, ◌∙◌, ap, subst, arith, rules}
-use Rattle.std.specs.Prelude.{⊤, Some, option_map, slice_get}
+use Rattle.std.proofs.Common.{◌≡◌, ◌+◌, ℕ, false, List, [], ◌∷◌, ◌++◌, length, map, take, drop, refl, sym, ◌∙◌, ap, subst, arith, rules}
+use Rattle.std.specs.Prelude.{⊤, min, Some, option_map, slice_get}
 use Rattle.std.specs.Cmp.{IsTotalOrder}
 use Rattle.std.specs.List.{AllByRecursion, flat_map}
 use Rattle.std.specs.Ordering.{is_gt}
@@ -8,7 +8,7 @@ use Rattle.std.specs.declared.cmp.Ordering.{Ordering}
 use Rattle.std.specs.declared.cmp.Ordering.TheVariants.{Less}
 use Rattle.std.proofs.Math.Logic.{∥∥₁_elim}
 use Rattle.std.proofs.lemmas.Cmp.{on_total}
-use Rattle.std.proofs.lemmas.List.{map-append}
+use Rattle.std.proofs.lemmas.List.{map-append, take-map, take_all, take_min}
 use Rattle.pig_value.specs.declared.operators.Dir.{Dir}
 use Rattle.pig_value.specs.Gathering.{HaveKey, HaveGreater}
 use Rattle.pig_value.specs.Orders.{row_cmp, tree_cmp}
@@ -25,7 +25,7 @@ use Rattle.pig_keycode.proofs.KeyOrder.{key_total, key_same}
 use Rattle.pig_plan.specs.ByKey.{gathered, rows_of}
 use Rattle.pig_runs.specs.Entries.{InDirections, Keyed, key_at, run_cmp}
 use Rattle.pig_runs.proofs.Order.{run_total}
-use Rattle.pig_operators.specs.Given.{AreKeyedByRow, plan_entry}
+use Rattle.pig_operators.specs.Given.{AreKeyedByRow, plan_entry, run_rows}
 use Rattle.pig_operators.specs.Groups.{IsGroup, between, first_key, group_entries}
 use Rattle.pig_operators.proofs.Between.{ascends_before, ascends_behind, between_more, between_none, between_parts, between_rest, each_behind, each_between, first_behind}
 use Rattle.pig_operators.proofs.Sorted.{all_above, ascends_where, behind_key, first_not_greater, less_is, same_key_order}
@@ -157,3 +157,12 @@ sorted_out ds es h = ∥∥₁_elim h (ascends_prop (run_cmp ds) es) (λ s. s)
 -- the entries of a group stand by input, and then by row
 pub group_sorted : (run : InDirections) (from end : ℕ) → IsGroup run from end → ∥ Ascends (run_cmp run.dirs) run.entries ∥₁ → Ascends behind_key (between from end run.entries)
 group_sorted run from end group up = group_ascends run from end group (sorted_out run.dirs run.entries up)
+
+-- all rows, and the first so many of them
+pub all_rows : (run : InDirections) (n : ℕ) → n ≡ length run.entries → map (λ e. e.row) (take n run.entries) ≡ run_rows run
+all_rows run n all = ap (map (λ e. e.row)) (take_all n run.entries (omega (arith, all)))
+
+pub first_rows : (run : InDirections) (count size end : ℕ) → size ≡ length run.entries → end ≡ min size count → map (λ e. e.row) (take end run.entries) ≡ take count (run_rows run)
+first_rows run count size end all least =
+    let least_of : end ≡ min count (length run.entries) = omega (arith, all, least) in
+    ap (λ n. map (λ e. e.row) (take n run.entries)) least_of ∙ (ap (map (λ e. e.row)) (take_min count run.entries) ∙ sym (take-map (λ e. e.row) count run.entries))

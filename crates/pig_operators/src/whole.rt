@@ -1,4 +1,4 @@
-ghost use Rattle.std.specs.Prelude.{◌≡◌, List, [], IfOk};
+ghost use Rattle.std.specs.Prelude.{◌≡◌, List, [], take, IfOk};
 ghost use Rattle.pig_value.specs.Orders.{row_cmp};
 ghost use Rattle.pig_value.specs.Sorts.{distinct};
 ghost use Rattle.pig_value.specs.Trees.{rows_tree};
@@ -6,7 +6,7 @@ ghost use Rattle.pig_typed.specs.declared.blocks.SortKey.{SortKey};
 ghost use Rattle.pig_plan.specs.Operators.{order_rows};
 ghost use Rattle.pig_operators.specs.Given.{AreKeyedByRow, IsOrdering, run_rows};
 
-use crate::groups::group_end;
+use crate::groups::{group_end, rows_between};
 use pig_runs::Run;
 use pig_value::Rows;
 use std::alloc::{AllocError, Global};
@@ -19,11 +19,19 @@ pub fn ordered(alloc: Global, run: Run) -> Result<Rows, AllocError>
     ensures order { (keys : List SortKey) → IsOrdering keys run
         → IfOk result (λ rows. rows_tree rows ≡ order_rows keys (run_rows run)) }
 {
-    let mut rows = Rows::with_capacity(alloc, run.len())?;
-    for at in 0..run.len() {
-        rows.push(run.row(alloc, at)?)?;
-    }
-    Ok(rows)
+    rows_between(alloc, &run, 0, run.len())
+}
+
+/// The rows of LIMIT over those of ORDER: the first so many. No other row is made.
+///
+/// A refusal gives up the run.
+pub fn limited(alloc: Global, run: Run, count: u64) -> Result<Rows, AllocError>
+    ensures rows { IfOk result (λ rows. rows_tree rows ≡ take count (run_rows run)) }
+    ensures order { (keys : List SortKey) → IsOrdering keys run
+        → IfOk result (λ rows. rows_tree rows ≡ take count (order_rows keys (run_rows run))) }
+{
+    let end = run.len().min(count as usize);
+    rows_between(alloc, &run, 0, end)
 }
 
 /// The rows of DISTINCT, each once and in ascending order: the key of an entry is its row.

@@ -2,7 +2,7 @@
 ghost use Rattle.std.specs.Prelude.{◌≡◌, []};
 
 use crate::given::{by_field, by_row, by_second, lines_of};
-use pig_operators::{Gathering, distinct_keys, gather, ordered};
+use pig_operators::{Gathering, distinct_keys, gather, limited, ordered};
 use pig_runs::Run;
 use pig_value::{Seq, Side};
 use std::alloc::{AllocError, Global};
@@ -149,5 +149,27 @@ fn rows_by_a_field_downwards(rt: HostRuntime) -> Result<(), Fail> {
     assert_eq!(rt; lines_of(rt.alloc(), &rows)?.as_slice(), sorted, "down");
     let rows = ordered(rt.alloc(), by_second(rt.alloc(), b"")?)?;
     assert_eq!(rt; rows.len(), 0, "none");
+    Ok(())
+}
+
+// The first rows of these, and all where there are fewer.
+#[test]
+fn first_rows_in_order(rt: HostRuntime) -> Result<(), Fail> {
+    let text = b"2\tx\n\tz\n1\tx\n3\t\n\tx\n2\tz\n1\t\n1\tx\n\t\n";
+    let sorted: &[u8] = b"\tz\n2\tz\n\tx\n1\tx\n1\tx\n2\tx\n\t\n1\t\n3\t\n";
+    let cases: [(u64, &[u8]); 4] = [
+        (0, b""),
+        (4, b"\tz\n2\tz\n\tx\n1\tx\n"),
+        (9, sorted),
+        (u64::MAX, sorted),
+    ];
+    for (count, expected) in cases {
+        let rows = limited(rt.alloc(), by_second(rt.alloc(), text)?, count)?;
+        assert_eq!(rt;
+            lines_of(rt.alloc(), &rows)?.as_slice(),
+            expected,
+            "LIMIT {count}"
+        );
+    }
     Ok(())
 }
