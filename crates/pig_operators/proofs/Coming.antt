@@ -11,8 +11,9 @@ use Rattle.pig_operators.proofs.Between.{between_rest}
 use Rattle.pig_operators.proofs.Stretches.{gathered_group, sorted_out}
 
 -- those of the first group, and then those of the others
-pub group_first : (operator : Gathering) (run : InDirections) (from end : ℕ) → IsGroup run from end → run.dirs ≡ [] → ∥ Ascends (run_cmp run.dirs) run.entries ∥₁
-    → (old new : List (List Tree)) → new ≡ old ++ made operator (first_key run from) (bags_at run from end) → old ++ to_come operator run from ≡ new ++ to_come operator run end
+pub group_first : (operator : Gathering) (run : InDirections) (from end : ℕ) → IsGroup run from end → run.dirs ≡ []
+    → ∥ Ascends (run_cmp run.dirs) run.entries ∥₁ → (old new : List (List Tree)) → new ≡ old ++ made operator (first_key run from) (bags_at run from end)
+    → old ++ to_come operator run from ≡ new ++ to_come operator run end
 group_first operator run from end group none up old new is =
     let here = made operator (first_key run from) (bags_at run from end) in
     let rest = to_come operator run end in

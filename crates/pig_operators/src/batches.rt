@@ -105,9 +105,9 @@ impl Gatherer {
         Gatherer { how, run, from: 0 }
     }
 
-    /// The rows of the next groups, some hundred at once. Where there are none, none are still to come.
+    /// The rows of the next groups, some hundred at once.
     ///
-    /// Where memory is wanting, all of them are still to come.
+    /// Where there are none, none are still to come. Where memory is wanting, all of them are.
     pub fn next_batch(&mut self, alloc: Global) -> Result<Rows, AllocError>
         ensures rows { IfOk result (λ rows. self.old ≡ rows_tree rows ++ self.new) }
         ensures end { IfOk result (λ rows. rows_tree rows ≡ [] → self.new ≡ []) }
@@ -119,7 +119,7 @@ impl Gatherer {
     }
 }
 
-// Adds the rows of groups from a place on, until there are enough, and says where the next group begins.
+// Adds the rows of groups from a place on until there are enough, and says where the next begins.
 fn add_batch(
     alloc: Global,
     how: &Gathering,

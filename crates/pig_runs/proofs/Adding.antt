@@ -26,8 +26,8 @@ second_part bytes key row =
     ∙ (ap (take (length row)) (sym (append-nil row)) ∙ take-append_seam row [])
 
 -- the slot of an entry whose codes end the bytes
-pub slot_last : (bytes key row whole : List ℕ) (at middle input : ℕ) → at ≡ length bytes → middle ≡ length bytes + length key → whole ≡ bytes ++ (key ++ row)
-    → slot_of at (part whole at (middle - at)) (drop middle whole) input ≡ slot_of (length bytes) key row input
+pub slot_last : (bytes key row whole : List ℕ) (at middle input : ℕ) → at ≡ length bytes → middle ≡ length bytes + length key
+    → whole ≡ bytes ++ (key ++ row) → slot_of at (part whole at (middle - at)) (drop middle whole) input ≡ slot_of (length bytes) key row input
 slot_last bytes key row whole at middle input begins ends is =
     let len : middle - at ≡ length key = omega (arith, begins, ends) in
     let first : part whole at (middle - at) ≡ key = (λ i. part (is i) (begins i) (len i)) ∙ first_part bytes key row in

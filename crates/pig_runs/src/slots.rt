@@ -1,4 +1,5 @@
-// Where an entry stands in the bytes of its run: the code of its key, and right behind it that of its row.
+// Where an entry stands in the bytes of its run: the code of its key, and right behind it that of
+// its row.
 #[derive(Debug, Clone, Copy, Drop)]
 pub(crate) struct Slot {
     // The fronts of the codes of its key and of its row.
