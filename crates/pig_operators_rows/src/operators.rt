@@ -2,9 +2,9 @@
 ghost use Rattle.std.specs.Prelude.{◌≡◌, []};
 
 use crate::given::{by_field, by_row, by_second, lines_of};
-use pig_operators::{Gathering, distinct_keys, gather, limited, ordered};
+use pig_operators::{Gatherer, Gathering, Orderer, distinct_keys, gather, limited, ordered};
 use pig_runs::Run;
-use pig_value::{Seq, Side};
+use pig_value::{Seq, Side, Tuple, Value, field_at};
 use std::alloc::{AllocError, Global};
 use std::test::Fail;
 
@@ -170,6 +170,68 @@ fn first_rows_in_order(rt: HostRuntime) -> Result<(), Fail> {
             expected,
             "LIMIT {count}"
         );
+    }
+    Ok(())
+}
+
+/// More rows than two batches hold.
+const MANY: u32 = 1100;
+
+// Lines of the numbers below MANY, each once, and in no order.
+fn numbers(alloc: Global) -> Result<Vec<u8>, AllocError> {
+    let mut text = Vec::new(alloc);
+    for place in 0..MANY {
+        // 7 and 1,100 have no divisor in common.
+        let number = place.wrapping_mul(7) % MANY;
+        for unit in [1000, 100, 10, 1] {
+            text.push(b'0'.wrapping_add((number / unit % 10) as u8))?;
+        }
+        text.extend_from_slice(b"\tx\n")?;
+    }
+    Ok(text)
+}
+
+fn first_number(row: &Tuple) -> Option<i32> {
+    match field_at(row, 0) {
+        Some(Value::Int(number)) => Some(*number),
+        _ => None,
+    }
+}
+
+// How many rows each batch has: the last ones are behind the end.
+const BATCHES: [usize; 5] = [512, 512, 76, 0, 0];
+
+#[test]
+fn groups_come_in_batches(rt: HostRuntime) -> Result<(), Fail> {
+    let text = numbers(rt.alloc())?;
+    let run = by_field(rt.alloc(), &[text.as_slice()])?;
+    let mut gatherer = Gatherer::new(Gathering::Group, run);
+    let mut number: i32 = 0;
+    for size in BATCHES {
+        let rows = gatherer.next_batch(rt.alloc())?;
+        assert_eq!(rt; rows.len(), size, "behind {number}");
+        for row in rows.as_slice() {
+            assert!(rt; first_number(row) == Some(number), "group {number}");
+            number = number.wrapping_add(1);
+        }
+    }
+    Ok(())
+}
+
+// The second fields are all the same, so the rows go up.
+#[test]
+fn ordered_rows_come_in_batches(rt: HostRuntime) -> Result<(), Fail> {
+    let text = numbers(rt.alloc())?;
+    let run = by_second(rt.alloc(), text.as_slice())?;
+    let mut orderer = Orderer::new(run);
+    let mut number: i32 = 0;
+    for size in BATCHES {
+        let rows = orderer.next_batch(rt.alloc())?;
+        assert_eq!(rt; rows.len(), size, "behind {number}");
+        for row in rows.as_slice() {
+            assert!(rt; first_number(row) == Some(number), "row {number}");
+            number = number.wrapping_add(1);
+        }
     }
     Ok(())
 }
