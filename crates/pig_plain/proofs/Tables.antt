@@ -9,24 +9,31 @@ use Rattle.std.specs.declared.result.Result.TheVariants.{Ok, Err}
 use Rattle.std.specs.Option.{option_map, unwrap_or}
 use Rattle.pig_value.specs.declared.values.Value.{Value}
 use Rattle.pig_value.specs.Trees.{row_tree, rows_tree}
-use Rattle.pig_plain.specs.Operating.{AreValues, table_rows}
+use Rattle.pig_plain.specs.Coming.{relation_rows}
+use Rattle.pig_plain.specs.declared.relation.Relation.{Relation}
+use Rattle.pig_plain.specs.declared.relation.Relation.TheVariants.{Standing}
+use Rattle.pig_plain.specs.Operating.{AllStand, AreValues, OthersStand, table_rows}
 use Rattle.pig_value.specs.Valid.{AreRows}
 
-unwrap_map : (o : Option (List (List Value))) → unwrap_or (option_map rows_tree o) [] ≡ rows_tree (unwrap_or o [])
+unwrap_map : (o : Option Relation) → unwrap_or (option_map relation_rows o) [] ≡ relation_rows (unwrap_or o (Standing []))
 unwrap_map None = refl
 unwrap_map (Some x) = refl
 
-pub table_is : (table : List (List (List Value))) (k : ℕ) → table_rows table k ≡ rows_tree (get_or table k [])
-table_is table k = ap (λ o. unwrap_or o []) (slice_get-map rows_tree table k) ∙ unwrap_map (slice_get table k) ∙ ap rows_tree (unwrap_or-slice_get table k [])
+pub table_is : (table : List Relation) (k : ℕ) → table_rows table k ≡ relation_rows (get_or table k (Standing []))
+table_is table k = ap (λ o. unwrap_or o []) (slice_get-map relation_rows table k) ∙ unwrap_map (slice_get table k) ∙ ap relation_rows (unwrap_or-slice_get table k (Standing []))
 
-pub others_stand : (table : List (List (List Value))) (i k : ℕ) (rows : List (List Value)) → k ≢ i → table_rows (slice_set table i rows) k ≡ table_rows table k
-others_stand table i k rows other = table_is (slice_set table i rows) k ∙ ap rows_tree (get_or-set_other table i k rows [] other) ∙ sym (table_is table k)
+pub others_stand : (table : List Relation) (i k : ℕ) (rows : Relation) → k ≢ i → table_rows (slice_set table i rows) k ≡ table_rows table k
+others_stand table i k rows other =
+    table_is (slice_set table i rows) k ∙ ap relation_rows (get_or-set_other table i k rows (Standing []) other) ∙ sym (table_is table k)
 
-pub none_past : (table : List (List (List Value))) (k : ℕ) → length table ≤ k → table_rows table k ≡ []
-none_past table k h = ap (λ o. unwrap_or o []) (slice_get-map rows_tree table k ∙ ap (option_map rows_tree) (slice_get_past table k h))
+pub none_past : (table : List Relation) (k : ℕ) → length table ≤ k → table_rows table k ≡ []
+none_past table k h = ap (λ o. unwrap_or o []) (slice_get-map relation_rows table k ∙ ap (option_map relation_rows) (slice_get_past table k h))
 
-pub taken_is : (table : List (List (List Value))) (i : ℕ) (rows : List (List Value)) → i < length table → rows ≡ [] → table_rows (slice_set table i rows) i ≡ []
-taken_is table i rows h none = table_is (slice_set table i rows) i ∙ ap rows_tree (get_or-set_same table i rows [] h ∙ none)
+pub put_is : (table : List Relation) (i : ℕ) (rows : Relation) → i < length table → table_rows (slice_set table i rows) i ≡ relation_rows rows
+put_is table i rows h = table_is (slice_set table i rows) i ∙ ap relation_rows (get_or-set_same table i rows (Standing []) h)
+
+pub taken_is : (table : List Relation) (i : ℕ) (rows : List (List Value)) → i < length table → rows ≡ [] → table_rows (slice_set table i (Standing rows)) i ≡ []
+taken_is table i rows h none = put_is table i (Standing rows) h ∙ ap rows_tree none
 
 pub first_is : (rows : List (List Value)) (count end : ℕ) → end ≡ min (length rows) count → rows_tree (take end rows) ≡ take count (rows_tree rows)
 first_is rows count end e = ap (λ n. rows_tree (take n rows)) e ∙ by_min
@@ -35,11 +42,24 @@ first_is rows count end e = ap (λ n. rows_tree (take n rows)) e ∙ by_min
     by_min = ap (λ n. rows_tree (take n rows)) (let c : min (length rows) count ≡ min count (length rows) = omega arith in c)
         ∙ ap rows_tree (take_min count rows) ∙ sym (take-map row_tree count rows)
 
-pub values_stand : (table : List (List (List Value))) (i : ℕ) (rows : List (List Value)) → i < length table → rows ≡ [] → AreValues table → AreValues (slice_set table i rows)
+pub values_stand : (table : List Relation) (i : ℕ) (rows : List (List Value)) → i < length table → rows ≡ [] → AreValues table → AreValues (slice_set table i (Standing rows))
 values_stand table i rows h none values k = elim (eqb_tells k i) [
-  | inl same ↦ subst AreRows (sym (ap (table_rows (slice_set table i rows)) same.1 ∙ taken_is table i rows h none)) tt
-  | inr other ↦ subst AreRows (sym (others_stand table i k rows other.1)) (values k)
+  | inl same ↦ subst AreRows (sym (ap (table_rows (slice_set table i (Standing rows))) same.1 ∙ taken_is table i rows h none)) tt
+  | inr other ↦ subst AreRows (sym (others_stand table i k (Standing rows) other.1)) (values k)
 ]
+
+-- rows that were taken, and are put back as they were made, are the same
+pub same_put : (table others : List Relation) (i : ℕ) (made : Relation) → i < length table → length others ≡ length table → OthersStand i table others
+    → relation_rows made ≡ table_rows table i → AllStand table (slice_set others i made)
+same_put table others i made h size stand same k = elim (eqb_tells k i) [
+  | inl here ↦
+      ap (table_rows (slice_set others i made)) here.1 ∙ put_is others i made (omega (arith, h, size)) ∙ same ∙ sym (ap (table_rows table) here.1)
+  | inr other ↦ others_stand others i k made other.1 ∙ stand k other.1
+]
+
+-- rows of values are so in each table that has the same
+pub values_go_on : (old new : List Relation) → AllStand old new → AreValues old → AreValues new
+values_go_on old new same values k = subst AreRows (sym (same k)) (values k)
 
 -- what holds of an answer gives another thing of it
 pub if_ok : {T E : Type 0} {P Q : T → Type 0} (r : Result T E) → IfOk r P → ((x : T) → P x → Q x) → IfOk r Q

@@ -11,10 +11,14 @@ ghost use Rattle.pig_plan.specs.Operators.{group_all, group_rows, join_rows, key
 ghost use Rattle.pig_plan.specs.Plans.{keyed_of, plan_of};
 ghost use Rattle.pig_runs.specs.Entries.{and_entries, no_entries_in};
 ghost use Rattle.pig_operators.specs.Given.{made};
-ghost use Rattle.pig_plain.specs.Operating.{AreValues, LaterStand, all_keyed, all_rows_keyed, brought_together, keyed_rows, outer_rows, table_rows};
+ghost use Rattle.pig_plain.specs.Coming.{coming, seen_rows};
+ghost use Rattle.pig_plain.specs.Operating.{AreValues, LaterStand, all_keyed, all_rows_keyed};
+ghost use Rattle.pig_plain.specs.Operating.{brought_together, keyed_rows, outer_rows, table_rows};
 
+use crate::relation::{Relation, Seen};
 use crate::releasing::{release, release_keyed};
-use crate::table::rows_at;
+use crate::table::seen_at;
+use crate::walking::Walk;
 use pig_eval::{eval, look, value};
 use pig_operators::{Gathering, gather};
 use pig_plan::{KeyedInput, Plan};
@@ -28,7 +32,7 @@ use std::alloc::{AllocError, Global};
 /// Here and below, rows whose last use this is are let go when the run holds them, before it is sorted.
 pub fn all_grouped(
     alloc: Global,
-    table: &mut Vec<Rows>,
+    table: &mut Vec<Relation>,
     ends: &[usize],
     number: usize,
     input: u32,
@@ -40,25 +44,81 @@ pub fn all_grouped(
     ensures values { AreValues table.new.items }
     ensures kept { LaterStand ends.now number table.old.items table.new.items }
 {
-    let builder = all_entries(alloc, rows_at(table.as_slice(), input))?;
+    let seen = seen_at(alloc, table.as_slice(), input)?;
+    let builder = all_entries(alloc, seen)?;
     release(alloc, table, ends, number, input);
     gather(alloc, &Gathering::Group, builder.finish())
 }
 
 /// Rows under one key.
-fn all_entries(alloc: Global, rows: &[Tuple]) -> Result<RunBuilder, AllocError>
-    requires { AreRows (rows_tree rows.now) }
+fn all_entries(alloc: Global, seen: Seen) -> Result<RunBuilder, AllocError>
+    requires { AreRows (seen_rows seen) }
     ensures { IfOk result (λ builder. builder
-        ≡ and_entries (all_rows_keyed (rows_tree rows.now)) (no_entries_in [])) }
+        ≡ and_entries (all_rows_keyed (seen_rows seen.entry)) (no_entries_in [])) }
 {
     let key = all_key(alloc)?;
     let mut builder = RunBuilder::new(alloc, Dirs::new(alloc));
+    add_all_seen(alloc, &key, seen, &mut builder)?;
+    Ok(builder)
+}
+
+fn add_all_seen(
+    alloc: Global,
+    key: &Value,
+    seen: Seen,
+    builder: &mut RunBuilder,
+) -> Result<(), AllocError>
+    requires ascending { builder.old.dirs ≡ [] }
+    requires key { tree key.now ≡ v_chars (codes "all") }
+    requires valid { IsValue (tree key.now) }
+    requires rows { AreRows (seen_rows seen) }
+    ensures { OnOk result (builder.new
+        ≡ and_entries (all_rows_keyed (seen_rows seen.entry)) builder.old) }
+{
+    match seen {
+        Seen::Whole(rows) => add_all_rows(key, rows, builder),
+        Seen::Walked(walk) => add_all_coming(alloc, key, walk, builder),
+    }
+}
+
+fn add_all_rows(key: &Value, rows: &[Tuple], builder: &mut RunBuilder) -> Result<(), AllocError>
+    requires ascending { builder.old.dirs ≡ [] }
+    requires key { tree key.now ≡ v_chars (codes "all") }
+    requires valid { IsValue (tree key.now) }
+    requires rows { AreRows (rows_tree rows.now) }
+    ensures { OnOk result (builder.new
+        ≡ and_entries (all_rows_keyed (rows_tree rows.now)) builder.old) }
+{
     let mut left = rows;
     'rows: while let [row, rest @ ..] = left {
-        add_under(&key, 0, row, &mut builder)?;
+        add_under(key, 0, row, builder)?;
         left = rest;
     }
-    Ok(builder)
+    Ok(())
+}
+
+/// Here and below, rows that come go batch by batch into the run, and are let go.
+fn add_all_coming(
+    alloc: Global,
+    key: &Value,
+    walk: Walk,
+    builder: &mut RunBuilder,
+) -> Result<(), AllocError>
+    requires ascending { builder.old.dirs ≡ [] }
+    requires key { tree key.now ≡ v_chars (codes "all") }
+    requires valid { IsValue (tree key.now) }
+    requires rows { AreRows (coming walk) }
+    ensures { OnOk result (builder.new
+        ≡ and_entries (all_rows_keyed (coming walk.entry)) builder.old) }
+{
+    let mut walk = walk;
+    'batches: loop {
+        let rows = walk.next_batch(alloc)?;
+        if rows.is_empty() {
+            return Ok(());
+        }
+        add_all_rows(key, rows.as_slice(), builder)?;
+    }
 }
 
 fn all_key(alloc: Global) -> Result<Value, AllocError>
@@ -88,7 +148,7 @@ fn add_under(
 pub fn grouped(
     alloc: Global,
     inputs: &[KeyedInput],
-    table: &mut Vec<Rows>,
+    table: &mut Vec<Relation>,
     ends: &[usize],
     number: usize,
 ) -> Result<Rows, AllocError>
@@ -141,7 +201,7 @@ pub fn joined(
     plan: &Plan,
     inputs: &[KeyedInput],
     side: Side,
-    table: &mut Vec<Rows>,
+    table: &mut Vec<Relation>,
     ends: &[usize],
     number: usize,
 ) -> Result<Rows, AllocError>
@@ -205,7 +265,7 @@ fn brought(
     alloc: Global,
     how: &Gathering,
     inputs: &[KeyedInput],
-    table: &mut Vec<Rows>,
+    table: &mut Vec<Relation>,
     ends: &[usize],
     number: usize,
 ) -> Result<Rows, AllocError>
@@ -224,7 +284,11 @@ fn brought(
 }
 
 /// The entries of all inputs, each row under its key.
-fn entries(alloc: Global, inputs: &[KeyedInput], table: &[Rows]) -> Result<RunBuilder, AllocError>
+fn entries(
+    alloc: Global,
+    inputs: &[KeyedInput],
+    table: &[Relation],
+) -> Result<RunBuilder, AllocError>
     requires rows { AreValues table.now }
     requires literals { KeyLiteralsAre IsValue (map keyed_of inputs.now) }
     ensures { IfOk result (λ builder. builder
@@ -253,7 +317,7 @@ fn add_input(
     alloc: Global,
     input: &KeyedInput,
     number: u32,
-    table: &[Rows],
+    table: &[Relation],
     builder: &mut RunBuilder,
 ) -> Result<(), AllocError>
     requires ascending { builder.old.dirs ≡ [] }
@@ -263,8 +327,51 @@ fn add_input(
         ≡ and_entries (keyed_rows (map typed input.now.keys) number
         (table_rows table.now input.now.input)) builder.old) }
 {
-    let rows = rows_at(table, input.input);
-    add_rows(alloc, input.keys.as_slice(), number, rows, builder)
+    let seen = seen_at(alloc, table, input.input)?;
+    add_seen(alloc, input.keys.as_slice(), number, seen, builder)
+}
+
+fn add_seen(
+    alloc: Global,
+    keys: &[TExpr],
+    number: u32,
+    seen: Seen,
+    builder: &mut RunBuilder,
+) -> Result<(), AllocError>
+    requires ascending { builder.old.dirs ≡ [] }
+    requires rows { AreRows (seen_rows seen) }
+    requires literals { AllByRecursion (LiteralsAre IsValue) (map typed keys.now) }
+    ensures { OnOk result (builder.new
+        ≡ and_entries (keyed_rows (map typed keys.now) number (seen_rows seen.entry))
+        builder.old) }
+{
+    match seen {
+        Seen::Whole(rows) => add_rows(alloc, keys, number, rows, builder),
+        Seen::Walked(walk) => add_coming(alloc, keys, number, walk, builder),
+    }
+}
+
+fn add_coming(
+    alloc: Global,
+    keys: &[TExpr],
+    number: u32,
+    walk: Walk,
+    builder: &mut RunBuilder,
+) -> Result<(), AllocError>
+    requires ascending { builder.old.dirs ≡ [] }
+    requires rows { AreRows (coming walk) }
+    requires literals { AllByRecursion (LiteralsAre IsValue) (map typed keys.now) }
+    ensures { OnOk result (builder.new
+        ≡ and_entries (keyed_rows (map typed keys.now) number (coming walk.entry)) builder.old) }
+{
+    let mut walk = walk;
+    'batches: loop {
+        let rows = walk.next_batch(alloc)?;
+        if rows.is_empty() {
+            return Ok(());
+        }
+        add_rows(alloc, keys, number, rows.as_slice(), builder)?;
+    }
 }
 
 fn add_rows(

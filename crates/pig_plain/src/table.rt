@@ -1,45 +1,59 @@
-ghost use Rattle.std.specs.Prelude.{◌≡◌, ◌≢◌, ◌++◌, ℕ, [], length, false, IfOk, OnOk};
-ghost use Rattle.pig_value.specs.Trees.{rows_tree};
-ghost use Rattle.pig_plain.specs.Operating.{AreValues, OthersStand, table_rows};
+ghost use Rattle.std.specs.Prelude.{◌≡◌, ◌≢◌, ℕ, [], length, false, IfOk, OnOk};
+ghost use Rattle.pig_plain.specs.Coming.{relation_rows, seen_rows};
+ghost use Rattle.pig_plain.specs.Operating.{AreValues, AllStand, OthersStand, table_rows};
 
-use pig_value::{Rows, Tuple, copy_row};
+use crate::relation::{Relation, Seen};
+use pig_value::Rows;
 use std::alloc::{AllocError, Global};
 use std::mem;
 
 /// The rows of a node, and none where it is not among them.
-pub fn rows_at(table: &[Rows], node: u32) -> &[Tuple]
-    ensures { rows_tree result.now ≡ table_rows table.now node }
+pub fn seen_at<'t, 'p>(
+    alloc: Global,
+    table: &'t [Relation<'p>],
+    node: u32,
+) -> Result<Seen<'t, 'p>, AllocError>
+    ensures { IfOk result (λ seen. seen_rows seen ≡ table_rows table.now node) }
 {
     match table.get(node as usize) {
-        Some(rows) => rows.as_slice(),
-        None => &[],
+        Some(relation) => relation.seen(alloc),
+        None => Ok(Seen::Whole(&[])),
     }
 }
 
-/// The rows of a node to keep: those that stand there where this is the last use, and else copies.
-pub fn own_rows(
+/// The rows of a node to keep: its own where this is the last use, and else the same once more.
+pub fn own_relation<'p>(
     alloc: Global,
-    table: &mut Vec<Rows>,
+    table: &mut Vec<Relation<'p>>,
     node: u32,
     last: bool,
-) -> Result<Rows, AllocError>
-    ensures rows { IfOk result (λ rows. rows_tree rows ≡ table_rows table.old.items node) }
+) -> Result<Relation<'p>, AllocError>
+    ensures rows { IfOk result (λ made. relation_rows made ≡ table_rows table.old.items node) }
     ensures size { length table.new.items ≡ length table.old.items }
     ensures others { OthersStand node table.old.items table.new.items }
     ensures values { AreValues table.old.items → AreValues table.new.items }
     ensures kept { last ≡ false → table.new.items ≡ table.old.items }
 {
     if last {
-        Ok(take_rows(alloc, table, node))
+        Ok(take_relation(alloc, table, node))
     } else {
-        copied(alloc, rows_at(table.as_slice(), node))
+        again(alloc, table.as_slice(), node)
+    }
+}
+
+fn again<'p>(alloc: Global, table: &[Relation<'p>], node: u32) -> Result<Relation<'p>, AllocError>
+    ensures { IfOk result (λ made. relation_rows made ≡ table_rows table.now node) }
+{
+    match table.get(node as usize) {
+        Some(relation) => relation.again(alloc),
+        None => Ok(Relation::Standing(Rows::new(alloc))),
     }
 }
 
 /// Takes the rows of a node, of which none are left.
 #[tactic(auto, using(crate::proofs::Tables::taken_is, crate::proofs::Tables::others_stand, crate::proofs::Tables::none_past, crate::proofs::Tables::values_stand))]
-pub fn take_rows(alloc: Global, table: &mut Vec<Rows>, node: u32) -> Rows
-    ensures rows { rows_tree result ≡ table_rows table.old.items node }
+pub fn take_relation<'p>(alloc: Global, table: &mut Vec<Relation<'p>>, node: u32) -> Relation<'p>
+    ensures rows { relation_rows result ≡ table_rows table.old.items node }
     ensures size { length table.new.items ≡ length table.old.items }
     ensures taken { table_rows table.new.items node ≡ [] }
     ensures values { AreValues table.old.items → AreValues table.new.items }
@@ -47,26 +61,22 @@ pub fn take_rows(alloc: Global, table: &mut Vec<Rows>, node: u32) -> Rows
 {
     let at = node as usize;
     if at >= table.len() {
-        return Rows::new(alloc);
+        return Relation::Standing(Rows::new(alloc));
     }
-    mem::replace(&mut table[at], Rows::new(alloc))
+    mem::replace(&mut table[at], Relation::Standing(Rows::new(alloc)))
 }
 
-/// Copies of rows, in order.
-pub fn copied(alloc: Global, rows: &[Tuple]) -> Result<Rows, AllocError>
-    ensures { IfOk result (λ made. rows_tree made ≡ rows_tree rows.now) }
+/// Makes the rows of a node that do not stand yet.
+pub fn settle(alloc: Global, table: &mut Vec<Relation>, node: u32) -> Result<(), AllocError>
+    ensures size { OnOk result (length table.new.items ≡ length table.old.items) }
+    ensures same { OnOk result (AllStand table.old.items table.new.items) }
 {
-    let mut made = Rows::with_capacity(alloc, rows.len())?;
-    add_copies(alloc, rows, &mut made)?;
-    Ok(made)
-}
-
-/// Adds copies of rows behind others.
-pub fn add_copies(alloc: Global, rows: &[Tuple], made: &mut Rows) -> Result<(), AllocError>
-    ensures { OnOk result (rows_tree made.new ≡ rows_tree made.old ++ rows_tree rows.now) }
-{
-    for row in rows {
-        made.push(copy_row(alloc, row)?)?;
+    let at = node as usize;
+    if at >= table.len() {
+        return Ok(());
     }
+    let relation = take_relation(alloc, table, node);
+    let rows = relation.into_rows(alloc)?;
+    table[at] = Relation::Standing(rows);
     Ok(())
 }
