@@ -2,6 +2,7 @@ pub mod Between
 pub mod Sorted
 pub mod Inputs
 pub mod Stretches
+pub mod Coming
 pub mod Products
 pub mod Apart
 pub mod Sides

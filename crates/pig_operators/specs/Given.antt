@@ -1,10 +1,10 @@
 -- What the operators by key give of a run with a node's entries: the node's results over these entries.
-use Rattle.std.specs.Prelude.{◌≡◌, ℕ, List, map, length}
+use Rattle.std.specs.Prelude.{◌≡◌, ℕ, List, map, length, drop}
 use Rattle.std.specs.List.{AllByRecursion}
 use Rattle.pig_value.specs.declared.operators.Dir.{Dir}
 use Rattle.pig_value.specs.Trees.{Tree, v_tuple, fields_of}
 use Rattle.pig_typed.specs.declared.blocks.SortKey.{SortKey}
-use Rattle.pig_plan.specs.ByKey.{Entry, cogroup_of, group_of, join_of, outer_of}
+use Rattle.pig_plan.specs.ByKey.{Entry, cogroup_of, gathered, group_of, join_of, outer_of}
 use Rattle.pig_plan.specs.Operators.{key_fields}
 use Rattle.pig_runs.specs.Entries.{InDirections, Keyed}
 use Rattle.pig_operators.specs.declared.by_key.Gathering.{Gathering}
@@ -23,6 +23,10 @@ plan_entry e = record { key = e.key; input = e.input; row = e.row }
 
 abbrev pub entries_in : InDirections → List Entry
 entries_in run = map plan_entry run.entries
+
+-- what an operator gives of the entries from a place on
+abbrev pub to_come : Gathering → InDirections → ℕ → List (List Tree)
+to_come operator run from = gathered (made operator) (map plan_entry (drop from run.entries))
 
 abbrev pub run_rows : InDirections → List (List Tree)
 run_rows run = map (λ e. e.row) run.entries

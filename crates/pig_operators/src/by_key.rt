@@ -1,9 +1,9 @@
-ghost use Rattle.std.specs.Prelude.{◌≡◌, [], ◌∷◌, ◌++◌, IfOk, OnOk};
+ghost use Rattle.std.specs.Prelude.{◌≡◌, ◌<◌, ◌≤◌, [], ◌∷◌, ◌++◌, length, IfOk, OnOk};
 ghost use Rattle.pig_value.specs.Sorts.{Ascends};
 ghost use Rattle.pig_value.specs.Trees.{row_tree, rows_tree, tree};
 ghost use Rattle.pig_plan.specs.ByKey.{as_bag, gathered, join_of};
 ghost use Rattle.pig_runs.specs.Entries.{run_cmp};
-ghost use Rattle.pig_operators.specs.Given.{entries_in, made};
+ghost use Rattle.pig_operators.specs.Given.{entries_in, made, to_come};
 ghost use Rattle.pig_operators.specs.Groups.{IsGroup, bags_at, first_key};
 
 use crate::cogrouping::add_cogrouped;
@@ -44,11 +44,30 @@ pub fn gather(alloc: Global, how: &Gathering, run: Run) -> Result<Rows, AllocErr
     let mut rows = Rows::new(alloc);
     let mut from = 0;
     'groups: while from < run.len() {
-        let end = group_end(&run, from);
-        add_group(alloc, how, &run, from, end, &mut rows)?;
-        from = end;
+        from = add_next(alloc, how, &run, from, &mut rows)?;
     }
     Ok(rows)
+}
+
+// Adds the rows of the group that begins at a place, and says where it ends.
+pub(crate) fn add_next(
+    alloc: Global,
+    how: &Gathering,
+    run: &Run,
+    from: usize,
+    rows: &mut Rows,
+) -> Result<usize, AllocError>
+    requires ascending { run.now.dirs ≡ [] }
+    requires sorted { ∥ Ascends (run_cmp run.now.dirs) run.now.entries ∥₁ }
+    requires within { from < length run.now.entries }
+    ensures rows { IfOk result (λ end. rows_tree rows.old ++ to_come how.now run.now from
+        ≡ rows_tree rows.new ++ to_come how.now run.now end) }
+    ensures order { IfOk result (λ end. from < end) }
+    ensures within { IfOk result (λ end. end ≤ length run.now.entries) }
+{
+    let end = group_end(run, from);
+    add_group(alloc, how, run, from, end, rows)?;
+    Ok(end)
 }
 
 // Adds the rows of a group.

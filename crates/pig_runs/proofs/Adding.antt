@@ -1,5 +1,5 @@
 -- Bytes of more entries behind those of others, and what the slots then find.
-use Rattle.std.proofs.Common.{◌≡◌, ◌≤◌, ◌+◌, ℕ, List, [], ◌∷◌, ◌++◌, map, length, take, drop, refl, sym, ◌∙◌, ap, subst, arith}
+use Rattle.std.proofs.Common.{◌≡◌, ◌≤◌, ◌+◌, ◌-◌, ℕ, List, [], ◌∷◌, ◌++◌, map, length, take, drop, refl, sym, ◌∙◌, ap, subst, arith}
 use Rattle.std.specs.Prelude.{OnOk, OnErr, Result, Ok, Err}
 use Rattle.std.specs.List.{AllByRecursion}
 use Rattle.std.proofs.Math.Logic.{∥∥₁_map₂}
@@ -10,7 +10,7 @@ use Rattle.pig_value.proofs.list_laws.Listing.{each-append, each_weaker}
 use Rattle.pig_runs.specs.declared.slots.Slot.{Slot}
 use Rattle.pig_runs.specs.Entries.{Keyed, IsEntry, AreKeyed, InDirections, and_entries}
 use Rattle.pig_runs.specs.Fronts.{front}
-use Rattle.pig_runs.specs.Packed.{Packed, packed, part, found_at, slot_of, moved, IsPlaced, Held, held_prop}
+use Rattle.pig_runs.specs.Packed.{Packed, packed, part, found_at, row_at, slot_of, moved, IsPlaced, Held, held_prop}
 
 part_kept : (bytes more : List ℕ) (at len : ℕ) → at + len ≤ length bytes → part (bytes ++ more) at len ≡ part bytes at len
 part_kept bytes more at len h =
@@ -25,10 +25,19 @@ second_part bytes key row =
     ap (take (length row)) (drop-append-add bytes (key ++ row) (length key) ∙ drop-append_seam key row)
     ∙ (ap (take (length row)) (sym (append-nil row)) ∙ take-append_seam row [])
 
+-- the slot of an entry whose codes end the bytes
+pub slot_last : (bytes key row whole : List ℕ) (at middle input : ℕ) → at ≡ length bytes → middle ≡ length bytes + length key
+    → whole ≡ bytes ++ (key ++ row) → slot_of at (part whole at (middle - at)) (drop middle whole) input ≡ slot_of (length bytes) key row input
+slot_last bytes key row whole at middle input begins ends is =
+    let len : middle - at ≡ length key = omega (arith, begins, ends) in
+    let first : part whole at (middle - at) ≡ key = (λ i. part (is i) (begins i) (len i)) ∙ first_part bytes key row in
+    let second : drop middle whole ≡ row = (λ i. drop (ends i) (is i)) ∙ (drop-append-add bytes (key ++ row) (length key) ∙ drop-append_seam key row) in
+    λ i. slot_of (begins i) (first i) (second i) input
+
 found_kept : (bytes more : List ℕ) (s : Slot) → IsPlaced bytes s → found_at (bytes ++ more) s ≡ found_at bytes s
 found_kept bytes more s h =
-    let key = part_kept bytes more s.key_at s.key_len h.within.key in
-    let row = part_kept bytes more s.row_at s.row_len h.within.row in
+    let key = part_kept bytes more s.at s.key_len h.within.key in
+    let row = part_kept bytes more (row_at s) s.row_len h.within.row in
     λ i. record { key = key i; input = s.input; row = row i }
 
 pub all_kept : (bytes more : List ℕ) (slots : List Slot) → AllByRecursion (IsPlaced bytes) slots → map (found_at (bytes ++ more)) slots ≡ map (found_at bytes) slots
@@ -45,11 +54,16 @@ found_new bytes key row input =
 moved_part : (bytes more : List ℕ) (at len : ℕ) → part (bytes ++ more) (length bytes + at) len ≡ part more at len
 moved_part bytes more at len = ap (take len) (drop-append-add bytes more at)
 
+moved_row : (bytes more : List ℕ) (s : Slot) → part (bytes ++ more) (row_at (moved (length bytes) s)) s.row_len ≡ part more (row_at s) s.row_len
+moved_row bytes more s =
+    let place : length bytes + s.at + s.key_len ≡ length bytes + (s.at + s.key_len) = omega arith in
+    ap (λ at. part (bytes ++ more) at s.row_len) place ∙ moved_part bytes more (row_at s) s.row_len
+
 pub all_moved : (bytes more : List ℕ) (slots : List Slot) → map (found_at (bytes ++ more)) (map (moved (length bytes)) slots) ≡ map (found_at more) slots
 all_moved bytes more [] = refl
 all_moved bytes more (s ∷ slots) =
-    let key = moved_part bytes more s.key_at s.key_len in
-    let row = moved_part bytes more s.row_at s.row_len in
+    let key = moved_part bytes more s.at s.key_len in
+    let row = moved_row bytes more s in
     let rest = all_moved bytes more slots in
     λ i. record { key = key i; input = s.input; row = row i } ∷ rest i
 
@@ -59,8 +73,8 @@ one_moved bytes more s h =
     record {
       within = record { key = omega (arith, h.within.key, longer); row = omega (arith, h.within.row, longer) };
       fronts = record {
-        key = h.fronts.key ∙ ap front (sym (moved_part bytes more s.key_at s.key_len));
-        row = h.fronts.row ∙ ap front (sym (moved_part bytes more s.row_at s.row_len));
+        key = h.fronts.key ∙ ap front (sym (moved_part bytes more s.at s.key_len));
+        row = h.fronts.row ∙ ap front (sym (moved_row bytes more s));
       };
     }
 
@@ -74,8 +88,8 @@ one_kept bytes more s h =
     record {
       within = record { key = omega (arith, h.within.key, longer); row = omega (arith, h.within.row, longer) };
       fronts = record {
-        key = h.fronts.key ∙ ap front (sym (part_kept bytes more s.key_at s.key_len h.within.key));
-        row = h.fronts.row ∙ ap front (sym (part_kept bytes more s.row_at s.row_len h.within.row));
+        key = h.fronts.key ∙ ap front (sym (part_kept bytes more s.at s.key_len h.within.key));
+        row = h.fronts.row ∙ ap front (sym (part_kept bytes more (row_at s) s.row_len h.within.row));
       };
     }
 

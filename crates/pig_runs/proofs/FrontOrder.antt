@@ -11,7 +11,7 @@ use Rattle.pig_value.specs.Leaves.{AreBytes}
 use Rattle.pig_value.specs.Orders.{text_cmp}
 use Rattle.pig_keycode.proofs.NumberOrder.{digits_cmp}
 use Rattle.pig_keycode.proofs.TextOrder.{then_assoc}
-use Rattle.pig_runs.specs.Fronts.{first_bytes, behind_cmp, Fronted, fronted_cmp}
+use Rattle.pig_runs.specs.Fronts.{first_bytes, behind_cmp, fronted_cmp}
 
 unit_above : (k : ℕ) → 0 < 256 ^ k
 unit_above k = pow-le-pow_right {n = 256} (omega arith) {i = 0} {j = k} (omega arith)

@@ -14,7 +14,7 @@ use Rattle.pig_value.proofs.list_laws.Bags.{ascends_from_sorted, sort_is}
 use Rattle.pig_value.proofs.list_laws.Listing.{each-take, each-drop}
 use Rattle.pig_runs.specs.declared.slots.Slot.{Slot}
 use Rattle.pig_runs.specs.Fronts.{front, fronted_cmp, behind_cmp}
-use Rattle.pig_runs.specs.Packed.{found_at, fronted_at, fronted_entry_cmp, packed_cmp, part, IsPlaced}
+use Rattle.pig_runs.specs.Packed.{found_at, fronted_at, fronted_entry_cmp, packed_cmp, part, row_at, IsPlaced}
 use Rattle.pig_runs.proofs.FrontOrder.{front_order, fronted_total}
 use Rattle.pig_runs.proofs.Order.{packed_total, packed_same}
 use Rattle.pig_runs.proofs.SortedSlots.{placed_sorted}
@@ -31,8 +31,8 @@ module _ (bytes : List ℕ) (small : AreBytes bytes) where
 
   pub one_order : (s t : Slot) → IsPlaced bytes s → IsPlaced bytes t → fronted_entry_cmp (fronted_at bytes s) (fronted_at bytes t) ≡ packed_cmp (found_at bytes s) (found_at bytes t)
   one_order s t h k =
-      let key = text_fronted s.key_front t.key_front (part bytes s.key_at s.key_len) (part bytes t.key_at t.key_len) h.fronts.key k.fronts.key (part_bytes s.key_at s.key_len) (part_bytes t.key_at t.key_len) in
-      let row = text_fronted s.row_front t.row_front (part bytes s.row_at s.row_len) (part bytes t.row_at t.row_len) h.fronts.row k.fronts.row (part_bytes s.row_at s.row_len) (part_bytes t.row_at t.row_len) in
+      let key = text_fronted s.key_front t.key_front (part bytes s.at s.key_len) (part bytes t.at t.key_len) h.fronts.key k.fronts.key (part_bytes s.at s.key_len) (part_bytes t.at t.key_len) in
+      let row = text_fronted s.row_front t.row_front (part bytes (row_at s) s.row_len) (part bytes (row_at t) t.row_len) h.fronts.row k.fronts.row (part_bytes (row_at s) s.row_len) (part_bytes (row_at t) t.row_len) in
       λ i. ordering_then (key i) (ordering_then (nat_cmp s.input t.input) (row i))
 
   pub ascends_found : (slots : List Slot) → AllByRecursion (IsPlaced bytes) slots → Ascends fronted_entry_cmp (map (fronted_at bytes) slots) → Ascends packed_cmp (map (found_at bytes) slots)

@@ -1,9 +1,9 @@
 -- Sorted lists of slots over bytes that are joined.
 use Rattle.std.proofs.Common.{◌≡◌, ◌<◌, ◌≤◌, ◌+◌, ℕ, List, [], ◌∷◌, ◌++◌, map, length, take, get_or, refl, sym, ◌∙◌, ap, subst}
 use Rattle.std.specs.Prelude.{Result, Ok, Err, OnOk}
-use Rattle.std.specs.List.{AllByRecursion, flat_map}
+use Rattle.std.specs.List.{AllByRecursion}
 use Rattle.std.specs.Ordering.{is_gt}
-use Rattle.std.proofs.Math.Logic.{∥∥₁_map, ∥∥₁_map₂, ∥∥₁_elim}
+use Rattle.std.proofs.Math.Logic.{∥∥₁_map₂, ∥∥₁_elim}
 use Rattle.std.proofs.lemmas.Grind.{flat_map-append}
 use Rattle.std.proofs.lemmas.List.{append-nil, map-append, take_all}
 use Rattle.std.proofs.lemmas.Option.{slice_get_read}
@@ -14,7 +14,7 @@ use Rattle.pig_value.proofs.list_laws.Indexing.{more_taken}
 use Rattle.pig_value.proofs.list_laws.Listing.{each-append, each_at, each_weaker}
 use Rattle.pig_runs.specs.declared.slots.Slot.{Slot}
 use Rattle.pig_runs.specs.Cutting.{HaveDirections}
-use Rattle.pig_runs.specs.Entries.{Keyed, IsEntry, AreKeyed, InDirections, entries_of_all, run_cmp, run_of}
+use Rattle.pig_runs.specs.Entries.{Keyed, IsEntry, AreKeyed, InDirections, entries_of_all, run_cmp}
 use Rattle.pig_runs.specs.Packed.{Packed, packed, packed_cmp, found_at, joined, moved, IsPart, IsPlaced, Held, Joins, Stand, held_prop}
 use Rattle.pig_runs.proofs.Adding.{all_kept, all_moved, moved_placed, placed_more}
 use Rattle.pig_runs.proofs.Lending.{stand_sorted}

@@ -1,13 +1,12 @@
 -- Sorted lists of slots that are merged by the kit's k-way merge.
-use Rattle.std.proofs.Common.{◌≡◌, Vec, Global, ℕ, List, [], ◌∷◌, ◌++◌, map, true, refl, sym, ◌∙◌, ap, subst}
+use Rattle.std.proofs.Common.{◌≡◌, Vec, Global, ℕ, List, [], ◌∷◌, ◌++◌, map, true, sym, ◌∙◌, ap, subst}
 use Rattle.std.specs.Prelude.{Bool, All, Option, Result, Ok, Err, IfOk, IsPermutation}
-use Rattle.std.specs.Cmp.{IsStrictWeakOrder}
 use Rattle.std.specs.Iterator.{AlwaysYields, DrainsIf}
 use Rattle.std.specs.Iterator.Runs.{Run, WholeRun, YieldsRun}
 use Rattle.std.specs.declared.vec.IntoIter.{IntoIter}
 use Rattle.std.proofs.IntoIterSteps.{takes, taken, All-taken}
 use Rattle.itertools.specs.KMerge.{SourcesGive}
-use Rattle.std.specs.List.{AllByRecursion, flat_map}
+use Rattle.std.specs.List.{AllByRecursion}
 use Rattle.std.specs.List.Sorted.{IsSortedBy}
 use Rattle.std.specs.Ordering.{is_gt, is_lt}
 use Rattle.std.proofs.lemmas.List.{append-nil}

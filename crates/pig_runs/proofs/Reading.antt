@@ -18,7 +18,7 @@ use Rattle.pig_runs.specs.declared.entries.Entry.{Entry}
 use Rattle.pig_runs.specs.declared.lent.Lent.{Lent}
 use Rattle.pig_runs.specs.declared.slots.Slot.{Slot}
 use Rattle.pig_runs.specs.Entries.{Keyed, keyed, IsEntry, AreKeyed}
-use Rattle.pig_runs.specs.Packed.{packed, packed_lent, part, found_at, Held}
+use Rattle.pig_runs.specs.Packed.{packed, packed_lent, part, found_at, row_at, Held}
 
 some_same : {X : Type 0} {x y : X} → Some x ≡ Some y → x ≡ y
 some_same h = cc
@@ -48,7 +48,7 @@ module _ (ds : List Dir) (bytes : List ℕ) (slots : List Slot) (held : Held ds 
       ap (option_map (packed ds)) found.1 ∙ ap Some (found.2 ∙ sym is)
 
   pub row_read : {E : Type 0} (at : ℕ) (s : Slot) (r : Result (List Value) E) → slice_get slots at ≡ Some s
-      → ((row : List Tree) → IsCodeOfRow (part bytes s.row_at s.row_len) row → IfOk r (λ found. row_tree found ≡ row)) → IfOk r (λ found. option_map (λ e. e.row) (slice_get held.0 at) ≡ Some (row_tree found))
+      → ((row : List Tree) → IsCodeOfRow (part bytes (row_at s) s.row_len) row → IfOk r (λ found. row_tree found ≡ row)) → IfOk r (λ found. option_map (λ e. e.row) (slice_get held.0 at) ≡ Some (row_tree found))
   row_read at s (Err fault) here told = tt
   row_read at s (Ok row) here told =
       let found = at_slot at s here in
@@ -59,7 +59,7 @@ module _ (ds : List Dir) (bytes : List ℕ) (slots : List Slot) (held : Held ds 
       ap (option_map (λ e. e.row)) found.1 ∙ ap Some (sym is)
 
   pub key_read : {E : Type 0} (at : ℕ) (s : Slot) (r : Result Value E) → ds ≡ [] → slice_get slots at ≡ Some s
-      → ((key : Tree) → IsCodeOf (part bytes s.key_at s.key_len) key → IfOk r (λ found. tree found ≡ key)) → IfOk r (λ found. option_map (λ e. e.key) (slice_get held.0 at) ≡ Some (tree found))
+      → ((key : Tree) → IsCodeOf (part bytes s.at s.key_len) key → IfOk r (λ found. tree found ≡ key)) → IfOk r (λ found. option_map (λ e. e.key) (slice_get held.0 at) ≡ Some (tree found))
   key_read at s (Err fault) none here told = tt
   key_read at s (Ok key) none here told =
       let found = at_slot at s here in
@@ -74,14 +74,14 @@ module _ (ds : List Dir) (bytes : List ℕ) (slots : List Slot) (held : Held ds 
 
   -- two keys are the same where their bytes are
   pub same_keys : (at other : ℕ) (s t : Slot) (r : Bool) → slice_get slots at ≡ Some s → slice_get slots other ≡ Some t
-      → Decides r (part bytes s.key_at s.key_len ≡ part bytes t.key_at t.key_len) → Decides r (option_map (λ e. e.key) (slice_get held.0 at) ≡ option_map (λ e. e.key) (slice_get held.0 other))
+      → Decides r (part bytes s.at s.key_len ≡ part bytes t.at t.key_len) → Decides r (option_map (λ e. e.key) (slice_get held.0 at) ≡ option_map (λ e. e.key) (slice_get held.0 other))
   same_keys at other s t r here there d =
       let a = at_slot at s here in
       let b = at_slot other t there in
       let left : option_map (λ e. e.key) (slice_get held.0 at) ≡ Some a.0.key = ap (option_map (λ e. e.key)) a.1 in
       let right : option_map (λ e. e.key) (slice_get held.0 other) ≡ Some b.0.key = ap (option_map (λ e. e.key)) b.1 in
-      let a_code : key_code ds a.0.key ≡ part bytes s.key_at s.key_len = ap (λ p. p.key) a.2 in
-      let b_code : key_code ds b.0.key ≡ part bytes t.key_at t.key_len = ap (λ p. p.key) b.2 in (
+      let a_code : key_code ds a.0.key ≡ part bytes s.at s.key_len = ap (λ p. p.key) a.2 in
+      let b_code : key_code ds b.0.key ≡ part bytes t.at t.key_len = ap (λ p. p.key) b.2 in (
         λ yes.
             let codes : key_code ds a.0.key ≡ key_code ds b.0.key = a_code ∙ (d.0 yes ∙ sym b_code) in
             let keys : a.0.key ≡ b.0.key =

@@ -40,18 +40,21 @@ packed_cmp p q = ordering_then (text_cmp p.key q.key) (ordering_then (nat_cmp p.
 abbrev pub part : List ℕ → ℕ → ℕ → List ℕ
 part bytes at len = take len (drop at bytes)
 
+-- where the code of a slot's row begins: right behind that of its key
+abbrev pub row_at : Slot → ℕ
+row_at s = s.at + s.key_len
+
 -- what a slot finds in the bytes
 abbrev pub found_at : List ℕ → Slot → Packed
-found_at bytes s = record { key = part bytes s.key_at s.key_len; input = s.input; row = part bytes s.row_at s.row_len }
+found_at bytes s = record { key = part bytes s.at s.key_len; input = s.input; row = part bytes (row_at s) s.row_len }
 
 -- the slot of an entry whose bytes are appended to so many
 abbrev pub slot_of : ℕ → List ℕ → List ℕ → ℕ → Slot
 slot_of size key row input = record {
   key_front = front key;
   row_front = front row;
-  key_at = size;
+  at = size;
   key_len = length key;
-  row_at = size + length key;
   row_len = length row;
   input = input;
 }
@@ -61,22 +64,21 @@ abbrev pub moved : ℕ → Slot → Slot
 moved base s = record {
   key_front = s.key_front;
   row_front = s.row_front;
-  key_at = base + s.key_at;
+  at = base + s.at;
   key_len = s.key_len;
-  row_at = base + s.row_at;
   row_len = s.row_len;
   input = s.input;
 }
 
 -- both places of a slot lie within so many bytes
 pub record IsWithin (size : ℕ) (s : Slot) : Type 0 where
-  pub key : s.key_at + s.key_len ≤ size
-  pub row : s.row_at + s.row_len ≤ size
+  pub key : s.at + s.key_len ≤ size
+  pub row : row_at s + s.row_len ≤ size
 
 -- the fronts of a slot are those of what it finds
 pub record HasFronts (bytes : List ℕ) (s : Slot) : Type 0 where
-  pub key : s.key_front ≡ front (part bytes s.key_at s.key_len)
-  pub row : s.row_front ≡ front (part bytes s.row_at s.row_len)
+  pub key : s.key_front ≡ front (part bytes s.at s.key_len)
+  pub row : s.row_front ≡ front (part bytes (row_at s) s.row_len)
 
 -- a slot of the bytes
 pub record IsPlaced (bytes : List ℕ) (s : Slot) : Type 0 where
@@ -103,9 +105,9 @@ fronted_entry_cmp p q = ordering_then (fronted_cmp p.key q.key) (ordering_then (
 
 abbrev pub fronted_at : List ℕ → Slot → FrontedEntry
 fronted_at bytes s = record {
-  key = record { front = s.key_front; text = part bytes s.key_at s.key_len };
+  key = record { front = s.key_front; text = part bytes s.at s.key_len };
   input = s.input;
-  row = record { front = s.row_front; text = part bytes s.row_at s.row_len };
+  row = record { front = s.row_front; text = part bytes (row_at s) s.row_len };
 }
 
 -- ---- the bytes tell the entries

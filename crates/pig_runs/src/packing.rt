@@ -1,4 +1,4 @@
-ghost use Rattle.std.specs.Prelude.{◌≡◌, ◌<◌, ◌≤◌, ◌^◌, ◌++◌, ◌∷◌, [], ◌+◌, List, Some, slice_get, length, map, OnOk, OnErr, IfOk, IsPermutation};
+ghost use Rattle.std.specs.Prelude.{◌≡◌, ◌<◌, ◌≤◌, ◌^◌, ◌++◌, ◌∷◌, [], ◌+◌, ◌-◌, List, Some, slice_get, length, map, drop, OnOk, OnErr, IfOk, IsPermutation};
 ghost use Rattle.std.specs.Bool.{Decides};
 ghost use Rattle.std.specs.List.{AllByRecursion};
 ghost use Rattle.std.specs.Ordering.{ordering_then, nat_cmp};
@@ -8,7 +8,7 @@ ghost use Rattle.pig_keycode.specs.Codable.{IsCodeOf, IsCodeOfRow};
 ghost use Rattle.pig_keycode.specs.Keys.{key_code};
 ghost use Rattle.pig_keycode.specs.Reading.{row_code};
 ghost use Rattle.pig_runs.specs.Fronts.{fronted_cmp};
-ghost use Rattle.pig_runs.specs.Packed.{part, found_at, fronted_at, fronted_entry_cmp, packed_cmp, packed_lent, slot_of, moved, IsPlaced};
+ghost use Rattle.pig_runs.specs.Packed.{part, found_at, fronted_at, fronted_entry_cmp, packed_cmp, packed_lent, row_at, slot_of, moved, IsPlaced};
 
 use crate::fronts::{compare_fronted, front};
 use crate::lent::{Lent, compare_lent};
@@ -31,12 +31,37 @@ pub(crate) fn part(bytes: &[u8], at: usize, len: usize) -> &[u8]
     }
 }
 
+// The bytes from a place on.
+fn from_place(bytes: &[u8], at: usize) -> &[u8]
+    ensures { result.now ≡ drop at bytes.now }
+{
+    match bytes.get(at..) {
+        Some(rest) => rest,
+        None => &[],
+    }
+}
+
+// The code of a slot's key.
+fn key_of<'r>(bytes: &'r [u8], slot: &Slot) -> &'r [u8]
+    ensures { result.now ≡ part bytes.now slot.now.at slot.now.key_len }
+{
+    part(bytes, slot.at, slot.key_len as usize)
+}
+
+// The code of a slot's row, which stands right behind that of its key.
+fn row_of<'r>(bytes: &'r [u8], slot: &Slot) -> &'r [u8]
+    ensures { result.now ≡ part bytes.now (row_at slot.now) slot.now.row_len }
+{
+    let behind = from_place(bytes, slot.at);
+    part(behind, slot.key_len as usize, slot.row_len as usize)
+}
+
 // How two entries stand, by their keys, their inputs and their rows, of which the fronts are compared first.
 pub(crate) fn compare(bytes: &[u8], a: &Slot, b: &Slot) -> Ordering
     ensures { result ≡ fronted_entry_cmp (fronted_at bytes.now a.now) (fronted_at bytes.now b.now) }
 {
-    let key = part(bytes, a.key_at, a.key_len);
-    let other = part(bytes, b.key_at, b.key_len);
+    let key = key_of(bytes, a);
+    let other = key_of(bytes, b);
     match compare_fronted(a.key_front, key, b.key_front, other) {
         Ordering::Equal => compare_rows(bytes, a, b),
         found => found,
@@ -49,59 +74,93 @@ fn compare_rows(bytes: &[u8], a: &Slot, b: &Slot) -> Ordering
 {
     match a.input.cmp(&b.input) {
         Ordering::Equal => {
-            let row = part(bytes, a.row_at, a.row_len);
-            let other = part(bytes, b.row_at, b.row_len);
+            let row = row_of(bytes, a);
+            let other = row_of(bytes, b);
             compare_fronted(a.row_front, row, b.row_front, other)
         }
         found => found,
     }
 }
 
-// Appends the bytes of an entry. Where memory is wanting, the bytes stay as they were.
-fn write_entry(
-    dirs: &Dirs,
-    bytes: &mut Vec<u8>,
-    key: &Value,
-    input: u32,
-    row: &Tuple,
-) -> Result<Slot, AllocError>
-    ensures bytes { OnOk result (bytes.new.items
-        ≡ bytes.old.items ++ (key_code dirs.now (tree key.now) ++ row_code (row_tree row.now))) }
-    ensures slot { IfOk result (λ slot. slot ≡ slot_of (length bytes.old.items)
-        (key_code dirs.now (tree key.now)) (row_code (row_tree row.now)) input) }
-    ensures err { OnErr result (bytes.new.items ≡ bytes.old.items) }
+// A length as slots keep it. For a longer code there is no memory.
+fn narrow(len: usize) -> Result<u32, AllocError>
+    ensures same { IfOk result (λ narrow. narrow ≡ len) }
+    ensures long { OnErr result (2 ^ 32 ≤ len) }
 {
-    let key_at = bytes.len();
-    encode_key(key, dirs, bytes)?;
-    let row_at = bytes.len();
-    match encode_row(row, bytes) {
-        Ok(()) => {
-            let key_len = row_at - key_at;
-            let row_len = bytes.len() - row_at;
-            let written = bytes.as_slice();
-            Ok(Slot {
-                key_front: front(part(written, key_at, key_len)),
-                row_front: front(part(written, row_at, row_len)),
-                key_at,
-                key_len,
-                row_at,
-                row_len,
-                input,
-            })
-        }
-        Err(fault) => {
-            bytes.truncate(key_at);
-            Err(fault)
-        }
+    match u32::try_from(len) {
+        Ok(len) => Ok(len),
+        Err(_) => Err(AllocError),
     }
 }
 
-fn push_slot(slot: Slot, slots: &mut Vec<Slot>) -> Result<(), AllocError>
-    ensures ok { OnOk result (slots.new.items ≡ slots.old.items ++ slot ∷ []) }
+// Adds the slot of an entry whose codes begin at a place.
+fn push_slot(
+    at: usize,
+    key: &[u8],
+    row: &[u8],
+    input: u32,
+    slots: &mut Vec<Slot>,
+) -> Result<(), AllocError>
+    ensures ok { OnOk result (slots.new.items
+        ≡ slots.old.items ++ slot_of at key.now row.now input ∷ []) }
     ensures err { OnErr result (slots.new.items ≡ slots.old.items) }
 {
-    slots.push(slot)?;
+    let key_len = narrow(key.len())?;
+    let row_len = narrow(row.len())?;
+    slots.push(Slot {
+        key_front: front(key),
+        row_front: front(row),
+        at,
+        key_len,
+        row_len,
+        input,
+    })?;
     Ok(())
+}
+
+// Adds the slot of an entry whose codes end the bytes, that of its row from the second place on.
+fn push_last(
+    bytes: &[u8],
+    at: usize,
+    middle: usize,
+    input: u32,
+    slots: &mut Vec<Slot>,
+) -> Result<(), AllocError>
+    requires { at ≤ middle }
+    ensures ok { OnOk result (slots.new.items
+        ≡ slots.old.items ++ slot_of at (part bytes.now at (middle - at))
+        (drop middle bytes.now) input ∷ []) }
+    ensures err { OnErr result (slots.new.items ≡ slots.old.items) }
+{
+    let key = part(bytes, at, middle - at);
+    push_slot(at, key, from_place(bytes, middle), input, slots)
+}
+
+// Appends the codes of an entry, and says where that of its row begins.
+//
+// Where memory is wanting, the bytes stay as they were.
+fn write_codes(
+    dirs: &Dirs,
+    bytes: &mut Vec<u8>,
+    key: &Value,
+    row: &Tuple,
+) -> Result<usize, AllocError>
+    ensures bytes { OnOk result (bytes.new.items
+        ≡ bytes.old.items ++ (key_code dirs.now (tree key.now) ++ row_code (row_tree row.now))) }
+    ensures place { IfOk result (λ middle. middle
+        ≡ length bytes.old.items + length (key_code dirs.now (tree key.now))) }
+    ensures err { OnErr result (bytes.new.items ≡ bytes.old.items) }
+{
+    let at = bytes.len();
+    encode_key(key, dirs, bytes)?;
+    let middle = bytes.len();
+    match encode_row(row, bytes) {
+        Ok(()) => Ok(middle),
+        Err(fault) => {
+            bytes.truncate(at);
+            Err(fault)
+        }
+    }
 }
 
 // Appends an entry and its slot. Where memory is wanting, both stay as they were.
@@ -122,8 +181,8 @@ pub(crate) fn add_entry(
     ensures err_slots { OnErr result (slots.new.items ≡ slots.old.items) }
 {
     let start = bytes.len();
-    let slot = write_entry(dirs, bytes, key, input, row)?;
-    match push_slot(slot, slots) {
+    let middle = write_codes(dirs, bytes, key, row)?;
+    match push_last(bytes.as_slice(), start, middle, input, slots) {
         Ok(()) => Ok(()),
         Err(fault) => {
             bytes.truncate(start);
@@ -151,10 +210,10 @@ pub(crate) fn slot_at(slots: &[Slot], at: usize) -> Slot
 
 // The row of a slot.
 pub(crate) fn read_row(alloc: Global, bytes: &[u8], slot: Slot) -> Result<Tuple, AllocError>
-    ensures { (row : List Tree) → IsCodeOfRow (part bytes.now slot.row_at slot.row_len) row
+    ensures { (row : List Tree) → IsCodeOfRow (part bytes.now (row_at slot) slot.row_len) row
         → IfOk result (λ found. row_tree found ≡ row) }
 {
-    match decode_row(alloc, part(bytes, slot.row_at, slot.row_len)) {
+    match decode_row(alloc, row_of(bytes, &slot)) {
         Ok(Some(row)) => Ok(row),
         Ok(None) => Ok(Seq::new(alloc)),
         Err(fault) => Err(fault),
@@ -163,10 +222,10 @@ pub(crate) fn read_row(alloc: Global, bytes: &[u8], slot: Slot) -> Result<Tuple,
 
 // The key of a slot.
 pub(crate) fn read_key(alloc: Global, bytes: &[u8], slot: Slot) -> Result<Value, AllocError>
-    ensures { (key : Tree) → IsCodeOf (part bytes.now slot.key_at slot.key_len) key
+    ensures { (key : Tree) → IsCodeOf (part bytes.now slot.at slot.key_len) key
         → IfOk result (λ found. tree found ≡ key) }
 {
-    match decode(alloc, part(bytes, slot.key_at, slot.key_len)) {
+    match decode(alloc, key_of(bytes, &slot)) {
         Ok(Some(key)) => Ok(key),
         Ok(None) => Ok(Value::Null),
         Err(fault) => Err(fault),
@@ -175,13 +234,11 @@ pub(crate) fn read_key(alloc: Global, bytes: &[u8], slot: Slot) -> Result<Value,
 
 // A slot whose bytes are moved behind others.
 fn moved(slot: Slot, base: usize) -> Slot
-    requires key { base + slot.key_at < 2 ^ 64 }
-    requires row { base + slot.row_at < 2 ^ 64 }
+    requires { base + slot.at < 2 ^ 64 }
     ensures { result ≡ moved base slot }
 {
     Slot {
-        key_at: base + slot.key_at,
-        row_at: base + slot.row_at,
+        at: base + slot.at,
         ..slot
     }
 }
@@ -193,7 +250,7 @@ fn all_moved(
     base: usize,
     end: usize,
 ) -> Result<Vec<Slot>, AllocError>
-    requires { AllByRecursion (λ s. (base + s.key_at ≤ end) × (base + s.row_at ≤ end)) slots.now }
+    requires { AllByRecursion (λ s. base + s.at ≤ end) slots.now }
     ensures { IfOk result (λ all. all.items ≡ map (moved base) slots.now) }
 {
     let mut all = Vec::with_capacity(alloc, slots.len())?;
@@ -250,7 +307,7 @@ fn push_moved(
     base: usize,
     end: usize,
 ) -> Result<(), AllocError>
-    requires { AllByRecursion (λ s. (base + s.key_at ≤ end) × (base + s.row_at ≤ end)) more.now }
+    requires { AllByRecursion (λ s. base + s.at ≤ end) more.now }
     ensures ok { OnOk result (slots.new.items ≡ slots.old.items ++ map (moved base) more.now) }
     ensures err { OnErr result (slots.new.items ≡ slots.old.items) }
 {
@@ -281,10 +338,9 @@ pub(crate) fn join_slots(
 
 // Whether the keys of two slots have the same bytes.
 pub(crate) fn same_key_bytes(bytes: &[u8], a: Slot, b: Slot) -> bool
-    ensures { Decides result (part bytes.now a.key_at a.key_len
-        ≡ part bytes.now b.key_at b.key_len) }
+    ensures { Decides result (part bytes.now a.at a.key_len ≡ part bytes.now b.at b.key_len) }
 {
-    part(bytes, a.key_at, a.key_len) == part(bytes, b.key_at, b.key_len)
+    key_of(bytes, &a) == key_of(bytes, &b)
 }
 
 // What a slot finds.
@@ -292,9 +348,9 @@ pub(crate) fn lend(bytes: &[u8], slot: Slot) -> Lent<'_>
     ensures { packed_lent result ≡ found_at bytes.now slot }
 {
     Lent {
-        key: part(bytes, slot.key_at, slot.key_len),
+        key: key_of(bytes, &slot),
         input: slot.input,
-        row: part(bytes, slot.row_at, slot.row_len),
+        row: row_of(bytes, &slot),
     }
 }
 
@@ -321,28 +377,17 @@ pub(crate) fn sort_lent(all: &mut Vec<Lent>)
 }
 
 // Appends the bytes of an entry that is lent. Where memory is wanting, the bytes stay as they were.
-fn write_lent(bytes: &mut Vec<u8>, lent: Lent) -> Result<Slot, AllocError>
-    ensures bytes { OnOk result (bytes.new.items
+fn write_lent(bytes: &mut Vec<u8>, lent: Lent) -> Result<(), AllocError>
+    ensures ok { OnOk result (bytes.new.items
         ≡ bytes.old.items ++ (lent.entry.key.now ++ lent.entry.row.now)) }
-    ensures slot { IfOk result (λ slot. slot ≡ slot_of
-        (length bytes.old.items) lent.entry.key.now lent.entry.row.now lent.entry.input) }
     ensures err { OnErr result (bytes.new.items ≡ bytes.old.items) }
 {
-    let key_at = bytes.len();
+    let start = bytes.len();
     extend_bytes(bytes, lent.key)?;
-    let row_at = bytes.len();
     match extend_bytes(bytes, lent.row) {
-        Ok(()) => Ok(Slot {
-            key_front: front(lent.key),
-            row_front: front(lent.row),
-            key_at,
-            key_len: lent.key.len(),
-            row_at,
-            row_len: lent.row.len(),
-            input: lent.input,
-        }),
+        Ok(()) => Ok(()),
         Err(fault) => {
-            bytes.truncate(key_at);
+            bytes.truncate(start);
             Err(fault)
         }
     }
@@ -362,8 +407,8 @@ pub(crate) fn add_lent(
     ensures err_slots { OnErr result (slots.new.items ≡ slots.old.items) }
 {
     let start = bytes.len();
-    let slot = write_lent(bytes, lent)?;
-    match push_slot(slot, slots) {
+    write_lent(bytes, lent)?;
+    match push_slot(start, lent.key, lent.row, lent.input, slots) {
         Ok(()) => Ok(()),
         Err(fault) => {
             bytes.truncate(start);

@@ -12,4 +12,4 @@ returns c =
     (same_keys c.self.inside.dirs c.self.inside.bytes.items c.self.inside.slots.items c.self.inside.held c.args.at c.args.other c.slot_at.result c.slot_at-2.result c.same_key_bytes.result
     (subst (λ l. slice_get l c.args.at ≡ Some c.slot_at.result) c.as_slice-slots.ensures.value c.slot_at.ensures)
     (subst (λ l. slice_get l c.args.other ≡ Some c.slot_at-2.result) c.as_slice-slots.ensures.value c.slot_at-2.ensures)
-    (subst (λ b. Decides c.same_key_bytes.result (part b c.slot_at.result.key_at c.slot_at.result.key_len ≡ part b c.slot_at-2.result.key_at c.slot_at-2.result.key_len)) c.as_slice.ensures.value c.same_key_bytes.ensures))
+    (subst (λ b. Decides c.same_key_bytes.result (part b c.slot_at.result.at c.slot_at.result.key_len ≡ part b c.slot_at-2.result.at c.slot_at-2.result.key_len)) c.as_slice.ensures.value c.same_key_bytes.ensures))
