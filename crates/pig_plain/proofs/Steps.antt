@@ -22,7 +22,7 @@ use Rattle.pig_plan.specs.Plans.{Plan, PlanNode, PlanOp, p_load, p_filter, p_for
 use Rattle.pig_plan.specs.Valid.{IsPlan}
 use Rattle.pig_plain.proofs.FoundRows.{answers_node, bare_answers, first_are_kept}
 use Rattle.pig_plain.proofs.PlanFacts.{names_no_store, no_twin}
-use Rattle.pig_plain.proofs.Tables.{none_past, table_is, values_go_on}
+use Rattle.pig_plain.proofs.Tables.{none_past, table_is}
 use Rattle.pig_plain.specs.Answering.{AnswersFor, EachAnswers, IsAnswer, stored_of, stored_relations}
 use Rattle.pig_plain.specs.declared.answering.Kind.{Kind}
 use Rattle.pig_plain.specs.declared.answering.Kind.TheVariants.{Stored, Standing}
@@ -408,19 +408,6 @@ same_so_far plan inputs i table new_table kept new_kept stores new_stores a b c 
     subst (λ t. IsSoFar plan inputs i t new_kept new_stores) (sym a)
     (subst (λ k. IsSoFar plan inputs i table k new_stores) (sym b)
     (subst (λ s. IsSoFar plan inputs i table kept s) (sym c) h))
-
--- rows of inputs that are made where they would come are the same
-pub settled_so_far : (plan : Plan) (inputs : List Input) (i : ℕ) (table new_table : List Relation) (kept : List Kept) (stores : List (List (List Tree)))
-    → length new_table ≡ length table → AllStand table new_table → IsSoFar plan inputs i table kept stores → IsSoFar plan inputs i new_table kept stores
-settled_so_far plan inputs i table new_table kept stores size same h = record {
-  size = size ∙ h.size;
-  values = values_go_on table new_table same h.values;
-  each = λ more k n node below from found live named.
-      subst (AnswersFor plan inputs (kept ++ more) k) (sym (same k)) (h.each more k n node below from found live named);
-  stored = h.stored;
-  limits = h.limits;
-  entries = h.entries;
-}
 
 -- nothing stands before the first node
 pub begun : (plan : Plan) (inputs : List Input) (table : List Relation) (kept : List Kept) (stores : List (List (List Tree)))

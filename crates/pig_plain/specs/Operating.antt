@@ -17,9 +17,10 @@ use Rattle.pig_typed.specs.Typed.{Typed}
 use Rattle.pig_operators.specs.declared.by_key.Gathering.{Gathering}
 use Rattle.pig_operators.specs.Given.{made}
 use Rattle.pig_plan.specs.Results.{at_place, results}
-use Rattle.pig_plain.specs.Coming.{relation_rows}
+use Rattle.pig_plain.specs.Coming.{coming, relation_rows, rows_standing}
 use Rattle.pig_plain.specs.declared.relation.Relation.{Relation}
 use Rattle.pig_plain.specs.declared.relation.Relation.TheVariants.{Standing}
+use Rattle.pig_plain.specs.declared.walking.Walk.{Walk}
 
 -- the rows as they come, on inputs, on nodes that are so wide, and on the rows of the nodes before
 abbrev pub found_rows : List Input → (ℕ → ℕ) → PlanOp → (ℕ → List (List Tree)) → List (List Tree)
@@ -48,6 +49,15 @@ no_rows = Standing []
 -- the rows of each node before, and none of another
 abbrev pub table_rows : List Relation → ℕ → List (List Tree)
 table_rows table = at_place [] (map relation_rows table)
+
+-- those of each node before that stand
+abbrev pub standing_rows : List Relation → ℕ → List (List Tree)
+standing_rows table = at_place [] (map rows_standing table)
+
+-- the rows of a walk that was taken, or else those of a node that stand
+abbrev pub taken_rows : Option Walk → List Relation → ℕ → List (List Tree)
+taken_rows (Some walk) table k = coming walk
+taken_rows None table k = standing_rows table k
 
 -- rows of the input numbered i under their keys, and those of all inputs from that number on
 abbrev pub keyed_rows : List Typed → ℕ → List (List Tree) → List RunEntry

@@ -15,10 +15,10 @@ ghost use Rattle.pig_plain.specs.SoFar.{IsSoFar};
 ghost use Rattle.pig_plain.specs.Kinds.{kind_in, limit_kind};
 ghost use Rattle.pig_plain.specs.Uses.{AreUses};
 
+use crate::copies::copied;
 use crate::operating::found;
 use crate::relation::Relation;
 use crate::releasing::release_inputs;
-use crate::settling::settle_inputs;
 use crate::sorted::{is_marked, sorted_nodes};
 use crate::uses::{Uses, uses_of};
 use pig_plan::{Node, NodeOp, Plan};
@@ -122,8 +122,6 @@ impl<'p> Running<'p> {
     {
         let live = uses.is_live(number);
         if live {
-            let ends = uses.ends.as_slice();
-            settle_inputs(alloc, &mut self.table, ends, number, &node.op)?;
             return self.take_live(alloc, plan, inputs, uses, sorted, number, node);
         }
         self.put(Relation::Standing(Rows::new(alloc)))
@@ -193,19 +191,21 @@ impl<'p> Running<'p> {
         statement: u32,
         made: Relation<'p>,
     ) -> Result<(), AllocError>
-        ensures table { OnOk result (self.new.table.items
-            ≡ self.old.table.items ++ made.entry ∷ []) }
+        ensures table { OnOk result ((rows : Relation)
+            × (relation_rows rows ≡ relation_rows made.entry)
+            × (self.new.table.items ≡ self.old.table.items ++ rows ∷ [])) }
         ensures kept { OnOk result ((k : Kept) × (k.statement ≡ statement)
             × (rows_tree k.rows ≡ relation_rows made.entry)
             × (self.new.kept ≡ self.old.kept ++ k ∷ [])) }
         ensures stores { self.new.stores ≡ self.old.stores }
     {
-        let copies = made.again(alloc)?.into_rows(alloc)?;
+        let rows = made.into_rows(alloc)?;
+        let copies = copied(alloc, rows.as_slice())?;
         self.kept.push(Kept {
             statement,
             rows: copies,
         })?;
-        self.put(made)
+        self.put(Relation::Standing(rows))
     }
 }
 

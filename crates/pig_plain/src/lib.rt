@@ -16,7 +16,6 @@ mod reading;
 mod relation;
 mod releasing;
 mod rowwise;
-mod settling;
 mod sorted;
 mod sorting;
 mod table;

@@ -1,4 +1,4 @@
-ghost use Rattle.std.specs.Prelude.{◌≡◌, length, IfOk};
+ghost use Rattle.std.specs.Prelude.{◌≡◌, length, IfOk, OnOk};
 ghost use Rattle.pig_value.specs.Valid.{AreRows, IsValue};
 ghost use Rattle.pig_plan.specs.Laws.{AreOfBytes, OpLiteralsAre};
 ghost use Rattle.pig_plan.specs.Meaning.{width_at};
@@ -19,7 +19,7 @@ use std::alloc::{AllocError, Global};
 
 /// What a node's operator gives of the rows of the nodes before it, as they come; a LIMIT gives the first of them.
 ///
-/// The rows of LOAD, and of FILTER and FOREACH on rows that come, are made where they are used. `ends` has one more than
+/// The rows of LOAD, GROUP, COGROUP and JOIN, and of FILTER and FOREACH on them, are made where they are used. `ends` has one more than
 /// the number of each node's last use: rows that are used here for the last time are taken where that saves a copy.
 pub fn found<'p>(
     alloc: Global,
@@ -37,9 +37,9 @@ pub fn found<'p>(
         ≡ found_rows inputs.now (width_at (plan_of plan.now)) (op_of op.now)
         (table_rows table.old.items)) }
     ensures valid { IfOk result (λ made. AreRows (relation_rows made)) }
-    ensures size { length table.new.items ≡ length table.old.items }
-    ensures values { AreValues table.new.items }
-    ensures kept { LaterStand ends.now number table.old.items table.new.items }
+    ensures size { OnOk result (length table.new.items ≡ length table.old.items) }
+    ensures values { OnOk result (AreValues table.new.items) }
+    ensures kept { OnOk result (LaterStand ends.now number table.old.items table.new.items) }
 {
     made(alloc, plan, inputs, op, table, ends, number)
 }
@@ -58,9 +58,9 @@ fn made<'p>(
     ensures rows { IfOk result (λ made. relation_rows made
         ≡ found_rows inputs.now (width_at (plan_of plan.now)) (op_of op.now)
         (table_rows table.old.items)) }
-    ensures size { length table.new.items ≡ length table.old.items }
-    ensures values { AreValues table.new.items }
-    ensures kept { LaterStand ends.now number table.old.items table.new.items }
+    ensures size { OnOk result (length table.new.items ≡ length table.old.items) }
+    ensures values { OnOk result (AreValues table.new.items) }
+    ensures kept { OnOk result (LaterStand ends.now number table.old.items table.new.items) }
 {
     match op {
         NodeOp::Load {
@@ -69,24 +69,19 @@ fn made<'p>(
             columns,
         } => Ok(Relation::Coming(loaded(alloc, inputs, path, *delim, columns))),
         NodeOp::Filter { input, cond } => filtered(alloc, cond, table, ends, number, *input),
-        NodeOp::Foreach { input, block } => foreached(alloc, block, table.as_slice(), *input),
-        NodeOp::GroupAll { input } => {
-            let rows = all_grouped(alloc, table, ends, number, *input)?;
-            Ok(Relation::Standing(rows))
-        }
-        NodeOp::Group { inputs: keyed } => {
-            let rows = grouped(alloc, keyed.as_slice(), table, ends, number)?;
-            Ok(Relation::Standing(rows))
-        }
+        NodeOp::Foreach { input, block } => {
+            foreached(alloc, block, table, ends, number, *input)
+        },
+        NodeOp::GroupAll { input } => all_grouped(alloc, table, ends, number, *input),
+        NodeOp::Group { inputs: keyed } => grouped(alloc, keyed.as_slice(), table, ends, number),
         NodeOp::Join {
             inputs: keyed,
             side,
             ..
-        } => {
-            let rows = joined(alloc, plan, keyed.as_slice(), *side, table, ends, number)?;
-            Ok(Relation::Standing(rows))
+        } => joined(alloc, plan, keyed.as_slice(), *side, table, ends, number),
+        NodeOp::Union { inputs: numbers } => {
+            united(alloc, table, ends, number, numbers.as_slice())
         }
-        NodeOp::Union { inputs: numbers } => united(alloc, table.as_slice(), numbers.as_slice()),
         NodeOp::Distinct { input } => {
             let rows = once(alloc, own_input(alloc, table, ends, number, *input)?)?;
             Ok(Relation::Standing(rows))
@@ -95,11 +90,11 @@ fn made<'p>(
             let rows = in_order(alloc, keys, table, ends, number, *input)?;
             Ok(Relation::Standing(rows))
         }
-        NodeOp::Limit { input, count } => limited(alloc, table.as_slice(), *input, *count),
+        NodeOp::Limit { input, count } => { limited(alloc, table, ends, number, *input, *count) },
         NodeOp::Store { input, .. } => own_input(alloc, table, ends, number, *input),
         NodeOp::Assert { input, .. } => own_input(alloc, table, ends, number, *input),
         NodeOp::Rank { input, keys, dense } => {
-            ranked(alloc, table.as_slice(), *input, keys, *dense)
+            ranked(alloc, table, ends, number, *input, keys, *dense)
         }
     }
 }

@@ -5,9 +5,10 @@ ghost use Rattle.pig_value.specs.Functions.{long_of};
 ghost use Rattle.pig_value.specs.Trees.{at, row_tree, rows_tree, tree};
 ghost use Rattle.pig_plan.specs.Operators.{key_fields, rank_of, rank_rows, sort_keys_cmp, stand_before};
 ghost use Rattle.pig_plain.specs.Coming.{coming, relation_rows, seen_rows};
-ghost use Rattle.pig_plain.specs.Operating.{table_rows};
+ghost use Rattle.pig_plain.specs.Operating.{AreValues, LaterStand, table_rows};
 
 use crate::relation::{Relation, Seen, collected};
+use crate::releasing::take_input;
 use crate::table::seen_at;
 use crate::walking::Walk;
 use pig_nested::{compare_by_keys, distinct_rows};
@@ -19,15 +20,23 @@ use std::cmp::Ordering;
 /// RANK: each row behind its rank.
 pub fn ranked<'p>(
     alloc: Global,
-    table: &[Relation<'p>],
+    table: &mut Vec<Relation<'p>>,
+    ends: &[usize],
+    number: usize,
     input: u32,
     keys: &SortKeys,
     dense: bool,
 ) -> Result<Relation<'p>, AllocError>
-    ensures { IfOk result (λ made. relation_rows made
-        ≡ rank_rows keys.now dense (table_rows table.now input)) }
+    requires values { AreValues table.old.items }
+    ensures rows { IfOk result (λ made. relation_rows made
+        ≡ rank_rows keys.now dense (table_rows table.old.items input)) }
+    ensures size { OnOk result (length table.new.items ≡ length table.old.items) }
+    ensures values { OnOk result (AreValues table.new.items) }
+    ensures kept { OnOk result (LaterStand ends.now number table.old.items table.new.items) }
 {
-    let rows = ranked_seen(alloc, seen_at(alloc, table, input)?, keys, dense)?;
+    let taken = take_input(alloc, table, ends, number, input)?;
+    let seen = seen_at(table.as_slice(), input, taken);
+    let rows = ranked_seen(alloc, seen, keys, dense)?;
     Ok(Relation::Standing(rows))
 }
 

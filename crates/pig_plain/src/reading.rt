@@ -5,6 +5,7 @@ ghost use Rattle.pig_value.specs.Lines.{lines};
 ghost use Rattle.pig_value.specs.Trees.{rows_tree};
 ghost use Rattle.pig_plain.specs.Coming.{lines_left, rows_left};
 
+use pig_operators::Gatherer;
 use pig_storage::{line_row, next_line};
 use pig_value::{Blob, Columns, Delim, Rows};
 use std::alloc::{AllocError, Global};
@@ -12,29 +13,27 @@ use std::alloc::{AllocError, Global};
 /// So many lines are read at once.
 const BATCH_LINES: usize = 256;
 
-/// The lines of pieces that are not read yet.
+/// The lines of pieces that are not read yet, and the columns at which they are rows.
 #[derive(Drop)]
 pub struct Lines<'p> {
     /// What is left of the piece that is read.
     piece: &'p [u8],
     /// The pieces behind it.
     pieces: &'p [Blob],
+    delim: Delim,
+    columns: &'p Columns,
 }
 
 impl<'p> Lines<'p> {
-    pub fn of(pieces: &'p [Blob]) -> Lines<'p>
-        ensures { lines_left result ≡ flat_map lines pieces.now }
-    {
-        Lines { piece: &[], pieces }
-    }
-
-    /// The same lines.
-    pub fn again(&self) -> Lines<'p>
-        ensures { result ≡ self.now }
+    pub fn of(pieces: &'p [Blob], delim: Delim, columns: &'p Columns) -> Lines<'p>
+        ensures { rows_left result
+            ≡ map (row_of columns.now delim) (flat_map lines pieces.now) }
     {
         Lines {
-            piece: self.piece,
-            pieces: self.pieces,
+            piece: &[],
+            pieces,
+            delim,
+            columns,
         }
     }
 
@@ -44,6 +43,8 @@ impl<'p> Lines<'p> {
             ≡ line.now ∷ lines_left self.new) }
         ensures none { IsNone result → lines_left self.old ≡ [] }
         ensures end { IsNone result → lines_left self.new ≡ [] }
+        ensures delim { self.new.delim ≡ self.old.delim }
+        ensures columns { self.new.columns ≡ self.old.columns }
     {
         'pieces: loop {
             let piece = self.piece;
@@ -60,27 +61,6 @@ impl<'p> Lines<'p> {
             }
         }
     }
-}
-
-/// Lines that are not read yet, and the columns at which they are rows.
-#[derive(Drop)]
-pub struct Reading<'p> {
-    pub lines: Lines<'p>,
-    pub delim: Delim,
-    pub columns: &'p Columns,
-}
-
-impl<'p> Reading<'p> {
-    /// The same rows.
-    pub fn again(&self) -> Reading<'p>
-        ensures { result ≡ self.now }
-    {
-        Reading {
-            lines: self.lines.again(),
-            delim: self.delim,
-            columns: self.columns,
-        }
-    }
 
     /// The rows of the next lines, and none only where all are read.
     pub fn next_rows(&mut self, alloc: Global) -> Result<Rows, AllocError>
@@ -90,11 +70,20 @@ impl<'p> Reading<'p> {
     {
         let mut rows = Rows::with_capacity(alloc, BATCH_LINES)?;
         'lines: while rows.len() < BATCH_LINES {
-            match self.lines.next() {
+            match self.next() {
                 Some(line) => rows.push(line_row(alloc, line, self.delim, self.columns)?)?,
                 None => return Ok(rows),
             }
         }
         Ok(rows)
     }
+}
+
+/// Where rows come from.
+#[derive(Drop)]
+pub enum Source<'p> {
+    /// Lines that are not read yet.
+    Read(Lines<'p>),
+    /// The groups of a run.
+    Groups(Gatherer),
 }

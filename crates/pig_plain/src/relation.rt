@@ -2,7 +2,7 @@ ghost use Rattle.std.specs.Prelude.{◌≡◌, ◌++◌, IfOk, OnOk};
 ghost use Rattle.pig_value.specs.Trees.{rows_tree};
 ghost use Rattle.pig_plain.specs.Coming.{coming, relation_rows, seen_rows};
 
-use crate::copies::{add_copies, copied};
+use crate::copies::add_copies;
 use crate::walking::Walk;
 use pig_value::{Rows, Tuple};
 use std::alloc::{AllocError, Global};
@@ -22,26 +22,6 @@ pub enum Seen<'t, 'p> {
 }
 
 impl<'p> Relation<'p> {
-    /// The rows, to be gone through.
-    pub fn seen<'t>(&'t self, alloc: Global) -> Result<Seen<'t, 'p>, AllocError>
-        ensures { IfOk result (λ seen. seen_rows seen ≡ relation_rows self.now) }
-    {
-        match self {
-            Relation::Standing(rows) => Ok(Seen::Whole(rows.as_slice())),
-            Relation::Coming(walk) => Ok(Seen::Walked(walk.again(alloc)?)),
-        }
-    }
-
-    /// Copies of rows that stand; others are made once more.
-    pub fn again(&self, alloc: Global) -> Result<Relation<'p>, AllocError>
-        ensures { IfOk result (λ made. relation_rows made ≡ relation_rows self.now) }
-    {
-        match self {
-            Relation::Standing(rows) => Ok(Relation::Standing(copied(alloc, rows.as_slice())?)),
-            Relation::Coming(walk) => Ok(Relation::Coming(walk.again(alloc)?)),
-        }
-    }
-
     /// The rows, all of them made.
     pub fn into_rows(self, alloc: Global) -> Result<Rows, AllocError>
         ensures { IfOk result (λ rows. rows_tree rows ≡ relation_rows self.entry) }

@@ -1,9 +1,10 @@
-ghost use Rattle.std.specs.Prelude.{◌≡◌, ◌+◌, ◌==◌, get_or, length, IfOk};
+ghost use Rattle.std.specs.Prelude.{◌≡◌, ◌+◌, ◌==◌, get_or, length, IfOk, OnOk};
 ghost use Rattle.pig_plain.specs.Coming.{relation_rows};
-ghost use Rattle.pig_plain.specs.Operating.{AreValues, LaterStand, table_rows};
+ghost use Rattle.pig_plain.specs.Operating.{AreValues, LaterStand, table_rows, taken_rows};
 
 use crate::relation::Relation;
-use crate::table::{own_relation, take_relation};
+use crate::table::{own_relation, take_coming, take_relation};
+use crate::walking::Walk;
 use pig_plan::{KeyedInput, NodeOp};
 use std::alloc::{AllocError, Global};
 
@@ -17,12 +18,31 @@ pub fn own_input<'p>(
 ) -> Result<Relation<'p>, AllocError>
     requires values { AreValues table.old.items }
     ensures rows { IfOk result (λ made. relation_rows made ≡ table_rows table.old.items input) }
-    ensures size { length table.new.items ≡ length table.old.items }
-    ensures values { AreValues table.new.items }
-    ensures kept { LaterStand ends.now number table.old.items table.new.items }
+    ensures size { OnOk result (length table.new.items ≡ length table.old.items) }
+    ensures values { OnOk result (AreValues table.new.items) }
+    ensures kept { OnOk result (LaterStand ends.now number table.old.items table.new.items) }
 {
     let last = is_last(ends, input, number);
     own_relation(alloc, table, input, last)
+}
+
+/// The walk of a node whose last use this is. Of another node the rows stand from now on.
+pub fn take_input<'p>(
+    alloc: Global,
+    table: &mut Vec<Relation<'p>>,
+    ends: &[usize],
+    number: usize,
+    input: u32,
+) -> Result<Option<Walk<'p>>, AllocError>
+    requires values { AreValues table.old.items }
+    ensures rows { IfOk result (λ taken. taken_rows taken table.new.items input
+        ≡ table_rows table.old.items input) }
+    ensures size { OnOk result (length table.new.items ≡ length table.old.items) }
+    ensures values { OnOk result (AreValues table.new.items) }
+    ensures kept { OnOk result (LaterStand ends.now number table.old.items table.new.items) }
+{
+    let last = is_last(ends, input, number);
+    take_coming(alloc, table, input, last)
 }
 
 /// Whether this is a node's last use.

@@ -1,17 +1,17 @@
-ghost use Rattle.std.specs.Prelude.{◌≡◌, length, take, IfOk};
-ghost use Rattle.std.specs.List.{flat_map};
+ghost use Rattle.std.specs.Prelude.{◌≡◌, ◌+◌, ◌==◌, ◌++◌, true, false, get_or, length, take, IfOk, OnOk};
+ghost use Rattle.std.specs.List.{flat_map, list_any};
 ghost use Rattle.pig_value.specs.Trees.{rows_tree};
 ghost use Rattle.pig_typed.specs.Blocks.{foreach_all};
 ghost use Rattle.pig_typed.specs.Typed.{block_typed, typed};
 ghost use Rattle.pig_plan.specs.Operators.{filter_rows};
 ghost use Rattle.pig_plain.specs.Coming.{coming, relation_rows, seen_rows};
-ghost use Rattle.pig_plain.specs.Operating.{AreValues, LaterStand, table_rows};
+ghost use Rattle.pig_plain.specs.Operating.{AllStand, AreValues, LaterStand, OthersStand, table_rows};
 
 use crate::copies::copied;
 use crate::each_row::{generated, passing, passing_copies};
 use crate::relation::{Relation, Seen, add_seen, collected};
-use crate::releasing::is_last;
-use crate::table::{seen_at, take_relation};
+use crate::releasing::{is_last, take_input};
+use crate::table::{rows_at, seen_at, settle, take_coming, take_relation};
 use crate::walking::{RowStep, Walk};
 use pig_typed::{Block, TExpr};
 use pig_value::{Rows, Tuple};
@@ -31,29 +31,16 @@ pub fn filtered<'p>(
     requires values { AreValues table.old.items }
     ensures rows { IfOk result (λ made. relation_rows made
         ≡ filter_rows (typed cond.now) (table_rows table.old.items input)) }
-    ensures size { length table.new.items ≡ length table.old.items }
-    ensures values { AreValues table.new.items }
-    ensures kept { LaterStand ends.now number table.old.items table.new.items }
+    ensures size { OnOk result (length table.new.items ≡ length table.old.items) }
+    ensures values { OnOk result (AreValues table.new.items) }
+    ensures kept { OnOk result (LaterStand ends.now number table.old.items table.new.items) }
 {
-    if !is_last(ends, input, number) {
-        return passing_seen(alloc, cond, seen_at(alloc, table.as_slice(), input)?);
+    if is_last(ends, input, number) {
+        return passing_own(alloc, cond, take_relation(alloc, table, input));
     }
-    let relation = take_relation(alloc, table, input);
-    passing_own(alloc, cond, relation)
-}
-
-fn passing_seen<'p>(
-    alloc: Global,
-    cond: &'p TExpr,
-    seen: Seen<'_, 'p>,
-) -> Result<Relation<'p>, AllocError>
-    ensures { IfOk result (λ made. relation_rows made
-        ≡ filter_rows (typed cond.now) (seen_rows seen.entry)) }
-{
-    match seen {
-        Seen::Whole(rows) => Ok(Relation::Standing(passing_copies(alloc, cond, rows)?)),
-        Seen::Walked(walk) => Ok(Relation::Coming(walk.then(RowStep::Filter(cond))?)),
-    }
+    settle(alloc, table, input)?;
+    let rows = passing_copies(alloc, cond, rows_at(table.as_slice(), input))?;
+    Ok(Relation::Standing(rows))
 }
 
 fn passing_own<'p>(
@@ -74,13 +61,21 @@ fn passing_own<'p>(
 pub fn foreached<'p>(
     alloc: Global,
     block: &'p Block,
-    table: &[Relation<'p>],
+    table: &mut Vec<Relation<'p>>,
+    ends: &[usize],
+    number: usize,
     input: u32,
 ) -> Result<Relation<'p>, AllocError>
-    ensures { IfOk result (λ made. relation_rows made
-        ≡ foreach_all (block_typed block.now) (table_rows table.now input)) }
+    requires values { AreValues table.old.items }
+    ensures rows { IfOk result (λ made. relation_rows made
+        ≡ foreach_all (block_typed block.now) (table_rows table.old.items input)) }
+    ensures size { OnOk result (length table.new.items ≡ length table.old.items) }
+    ensures values { OnOk result (AreValues table.new.items) }
+    ensures kept { OnOk result (LaterStand ends.now number table.old.items table.new.items) }
 {
-    generated_seen(alloc, block, seen_at(alloc, table, input)?)
+    let taken = take_input(alloc, table, ends, number, input)?;
+    let seen = seen_at(table.as_slice(), input, taken);
+    generated_seen(alloc, block, seen)
 }
 
 fn generated_seen<'p>(
@@ -100,29 +95,87 @@ fn generated_seen<'p>(
 /// UNION: the rows of all inputs.
 pub fn united<'p>(
     alloc: Global,
-    table: &[Relation<'p>],
+    table: &mut Vec<Relation<'p>>,
+    ends: &[usize],
+    number: usize,
     inputs: &[u32],
 ) -> Result<Relation<'p>, AllocError>
-    ensures { IfOk result (λ made. relation_rows made
-        ≡ flat_map (table_rows table.now) inputs.now) }
+    requires values { AreValues table.old.items }
+    ensures rows { IfOk result (λ made. relation_rows made
+        ≡ flat_map (table_rows table.old.items) inputs.now) }
+    ensures size { OnOk result (length table.new.items ≡ length table.old.items) }
+    ensures values { OnOk result (AreValues table.new.items) }
+    ensures kept { OnOk result (LaterStand ends.now number table.old.items table.new.items) }
 {
     let mut made = Rows::new(alloc);
-    for input in inputs {
-        add_seen(alloc, seen_at(alloc, table, *input)?, &mut made)?;
+    let mut left = inputs;
+    'inputs: while let [input, rest @ ..] = left {
+        let last = is_last_of(ends, *input, number, rest);
+        add_input(alloc, table, *input, last, &mut made)?;
+        left = rest;
     }
     Ok(Relation::Standing(made))
+}
+
+/// Whether this is a node's last use, and it is not among those that are still to be used here.
+fn is_last_of(ends: &[usize], input: u32, number: usize, rest: &[u32]) -> bool
+    ensures last { result ≡ true → get_or ends.now input 0 ≡ number + 1 }
+    ensures named { result ≡ true → list_any (λ i. i == input) rest.now ≡ false }
+{
+    is_last(ends, input, number) && !is_named(rest, input)
+}
+
+fn is_named(inputs: &[u32], node: u32) -> bool
+    ensures { result ≡ list_any (λ i. i == node) inputs.now }
+{
+    let mut left = inputs;
+    while let [input, rest @ ..] = left {
+        if *input == node {
+            return true;
+        }
+        left = rest;
+    }
+    false
+}
+
+fn add_input(
+    alloc: Global,
+    table: &mut Vec<Relation>,
+    input: u32,
+    last: bool,
+    made: &mut Rows,
+) -> Result<(), AllocError>
+    ensures rows { OnOk result (rows_tree made.new
+        ≡ rows_tree made.old ++ table_rows table.old.items input) }
+    ensures size { OnOk result (length table.new.items ≡ length table.old.items) }
+    ensures others { OnOk result (OthersStand input table.old.items table.new.items) }
+    ensures values { AreValues table.old.items → OnOk result (AreValues table.new.items) }
+    ensures kept { last ≡ false → OnOk result (AllStand table.old.items table.new.items) }
+{
+    let taken = take_coming(alloc, table, input, last)?;
+    let seen = seen_at(table.as_slice(), input, taken);
+    add_seen(alloc, seen, made)
 }
 
 /// LIMIT: the first rows.
 pub fn limited<'p>(
     alloc: Global,
-    table: &[Relation<'p>],
+    table: &mut Vec<Relation<'p>>,
+    ends: &[usize],
+    number: usize,
     input: u32,
     count: u64,
 ) -> Result<Relation<'p>, AllocError>
-    ensures { IfOk result (λ made. relation_rows made ≡ take count (table_rows table.now input)) }
+    requires values { AreValues table.old.items }
+    ensures rows { IfOk result (λ made. relation_rows made
+        ≡ take count (table_rows table.old.items input)) }
+    ensures size { OnOk result (length table.new.items ≡ length table.old.items) }
+    ensures values { OnOk result (AreValues table.new.items) }
+    ensures kept { OnOk result (LaterStand ends.now number table.old.items table.new.items) }
 {
-    let rows = first_rows(alloc, seen_at(alloc, table, input)?, count)?;
+    let taken = take_input(alloc, table, ends, number, input)?;
+    let seen = seen_at(table.as_slice(), input, taken);
+    let rows = first_rows(alloc, seen, count)?;
     Ok(Relation::Standing(rows))
 }
 

@@ -11,7 +11,7 @@ ghost use Rattle.pig_plain.specs.Operating.{AreValues, LaterStand, row_entry, ta
 
 use crate::ranking::key_values;
 use crate::relation::{Relation, Seen};
-use crate::releasing::release;
+use crate::releasing::{release, take_input};
 use crate::table::seen_at;
 use crate::walking::Walk;
 use pig_operators::{distinct_keys, ordered};
@@ -34,11 +34,12 @@ pub fn in_order(
     requires values { AreValues table.old.items }
     ensures rows { IfOk result (λ rows. rows_tree rows
         ≡ order_rows keys.now (table_rows table.old.items input)) }
-    ensures size { length table.new.items ≡ length table.old.items }
-    ensures values { AreValues table.new.items }
-    ensures kept { LaterStand ends.now number table.old.items table.new.items }
+    ensures size { OnOk result (length table.new.items ≡ length table.old.items) }
+    ensures values { OnOk result (AreValues table.new.items) }
+    ensures kept { OnOk result (LaterStand ends.now number table.old.items table.new.items) }
 {
-    let seen = seen_at(alloc, table.as_slice(), input)?;
+    let taken = take_input(alloc, table, ends, number, input)?;
+    let seen = seen_at(table.as_slice(), input, taken);
     let builder = sort_entries(alloc, keys, seen)?;
     release(alloc, table, ends, number, input);
     ordered(alloc, builder.finish())

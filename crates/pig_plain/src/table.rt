@@ -1,27 +1,79 @@
-ghost use Rattle.std.specs.Prelude.{◌≡◌, ◌≢◌, ℕ, [], length, false, IfOk, OnOk};
+ghost use Rattle.std.specs.Prelude.{◌≡◌, ◌≢◌, ℕ, [], length, false, slice_set, IfOk, OnOk};
+ghost use Rattle.pig_value.specs.Trees.{rows_tree};
 ghost use Rattle.pig_plain.specs.Coming.{relation_rows, seen_rows};
-ghost use Rattle.pig_plain.specs.Operating.{AreValues, AllStand, OthersStand, table_rows};
+ghost use Rattle.pig_plain.specs.declared.relation.Relation.TheVariants.{Standing};
+ghost use Rattle.pig_plain.specs.Operating.{AreValues, AllStand, OthersStand};
+ghost use Rattle.pig_plain.specs.Operating.{standing_rows, table_rows, taken_rows};
 
+use crate::copies::copied;
 use crate::relation::{Relation, Seen};
-use pig_value::Rows;
+use crate::walking::Walk;
+use pig_value::{Rows, Tuple};
 use std::alloc::{AllocError, Global};
 use std::mem;
 
-/// The rows of a node, and none where it is not among them.
-pub fn seen_at<'t, 'p>(
-    alloc: Global,
-    table: &'t [Relation<'p>],
-    node: u32,
-) -> Result<Seen<'t, 'p>, AllocError>
-    ensures { IfOk result (λ seen. seen_rows seen ≡ table_rows table.now node) }
+/// The rows of a node that stand.
+pub fn rows_at<'t>(table: &'t [Relation], node: u32) -> &'t [Tuple]
+    ensures { rows_tree result.now ≡ standing_rows table.now node }
 {
     match table.get(node as usize) {
-        Some(relation) => relation.seen(alloc),
-        None => Ok(Seen::Whole(&[])),
+        Some(Relation::Standing(rows)) => rows.as_slice(),
+        _ => &[],
     }
 }
 
-/// The rows of a node to keep: its own where this is the last use, and else the same once more.
+/// The rows of a node, to be gone through: those of the walk that was taken, or else those that stand.
+pub fn seen_at<'t, 'p>(
+    table: &'t [Relation<'p>],
+    node: u32,
+    taken: Option<Walk<'p>>,
+) -> Seen<'t, 'p>
+    ensures { seen_rows result ≡ taken_rows taken.entry table.now node }
+{
+    match taken {
+        Some(walk) => Seen::Walked(walk),
+        None => Seen::Whole(rows_at(table, node)),
+    }
+}
+
+/// The walk of a node, taken where this is its last use. Otherwise the rows stand from now on.
+pub fn take_coming<'p>(
+    alloc: Global,
+    table: &mut Vec<Relation<'p>>,
+    node: u32,
+    last: bool,
+) -> Result<Option<Walk<'p>>, AllocError>
+    ensures rows { IfOk result (λ taken. taken_rows taken table.new.items node
+        ≡ table_rows table.old.items node) }
+    ensures size { OnOk result (length table.new.items ≡ length table.old.items) }
+    ensures others { OnOk result (OthersStand node table.old.items table.new.items) }
+    ensures values { AreValues table.old.items → OnOk result (AreValues table.new.items) }
+    ensures kept { last ≡ false → OnOk result (AllStand table.old.items table.new.items) }
+{
+    if last {
+        return Ok(take_walk(alloc, table, node));
+    }
+    settle(alloc, table, node)?;
+    Ok(None)
+}
+
+/// Takes the walk of a node, and leaves rows that stand.
+fn take_walk<'p>(alloc: Global, table: &mut Vec<Relation<'p>>, node: u32) -> Option<Walk<'p>>
+    ensures rows { taken_rows result table.new.items node ≡ table_rows table.old.items node }
+    ensures size { length table.new.items ≡ length table.old.items }
+    ensures others { OthersStand node table.old.items table.new.items }
+    ensures values { AreValues table.old.items → AreValues table.new.items }
+{
+    match take_relation(alloc, table, node) {
+        Relation::Standing(rows) => {
+            put_rows(table, node, rows);
+            None
+        }
+        Relation::Coming(walk) => Some(walk),
+    }
+}
+
+/// The rows of a node to keep: its own where this is the last use, and else copies.
 pub fn own_relation<'p>(
     alloc: Global,
     table: &mut Vec<Relation<'p>>,
@@ -29,25 +81,17 @@ pub fn own_relation<'p>(
     last: bool,
 ) -> Result<Relation<'p>, AllocError>
     ensures rows { IfOk result (λ made. relation_rows made ≡ table_rows table.old.items node) }
-    ensures size { length table.new.items ≡ length table.old.items }
-    ensures others { OthersStand node table.old.items table.new.items }
-    ensures values { AreValues table.old.items → AreValues table.new.items }
-    ensures kept { last ≡ false → table.new.items ≡ table.old.items }
+    ensures size { OnOk result (length table.new.items ≡ length table.old.items) }
+    ensures others { OnOk result (OthersStand node table.old.items table.new.items) }
+    ensures values { AreValues table.old.items → OnOk result (AreValues table.new.items) }
+    ensures kept { last ≡ false → OnOk result (AllStand table.old.items table.new.items) }
 {
     if last {
-        Ok(take_relation(alloc, table, node))
-    } else {
-        again(alloc, table.as_slice(), node)
+        return Ok(take_relation(alloc, table, node));
     }
-}
-
-fn again<'p>(alloc: Global, table: &[Relation<'p>], node: u32) -> Result<Relation<'p>, AllocError>
-    ensures { IfOk result (λ made. relation_rows made ≡ table_rows table.now node) }
-{
-    match table.get(node as usize) {
-        Some(relation) => relation.again(alloc),
-        None => Ok(Relation::Standing(Rows::new(alloc))),
-    }
+    settle(alloc, table, node)?;
+    let rows = copied(alloc, rows_at(table.as_slice(), node))?;
+    Ok(Relation::Standing(rows))
 }
 
 /// Takes the rows of a node, of which none are left.
@@ -68,15 +112,24 @@ pub fn take_relation<'p>(alloc: Global, table: &mut Vec<Relation<'p>>, node: u32
 
 /// Makes the rows of a node that do not stand yet.
 pub fn settle(alloc: Global, table: &mut Vec<Relation>, node: u32) -> Result<(), AllocError>
+    ensures rows { OnOk result (standing_rows table.new.items node
+        ≡ table_rows table.old.items node) }
     ensures size { OnOk result (length table.new.items ≡ length table.old.items) }
     ensures same { OnOk result (AllStand table.old.items table.new.items) }
+    ensures values { AreValues table.old.items → OnOk result (AreValues table.new.items) }
 {
-    let at = node as usize;
-    if at >= table.len() {
-        return Ok(());
-    }
     let relation = take_relation(alloc, table, node);
     let rows = relation.into_rows(alloc)?;
-    table[at] = Relation::Standing(rows);
+    put_rows(table, node, rows);
     Ok(())
+}
+
+/// Puts rows where those of a node were taken.
+fn put_rows(table: &mut Vec<Relation>, node: u32, rows: Rows)
+    ensures { table.new.items ≡ slice_set table.old.items node (Standing rows) }
+{
+    let at = node as usize;
+    if at < table.len() {
+        table[at] = Relation::Standing(rows);
+    }
 }

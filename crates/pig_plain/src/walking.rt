@@ -3,16 +3,17 @@ ghost use Rattle.std.specs.List.{flat_map};
 ghost use Rattle.pig_value.specs.FieldRows.{row_of};
 ghost use Rattle.pig_value.specs.Lines.{lines};
 ghost use Rattle.pig_value.specs.Trees.{rows_tree};
-ghost use Rattle.pig_plain.specs.Coming.{coming, rows_left, step_rows, steps_rows};
+ghost use Rattle.pig_plain.specs.Coming.{coming, source_rows, step_rows, steps_rows};
 
 use crate::each_row::{generated, passing};
-use crate::reading::{Lines, Reading};
+use crate::reading::{Lines, Source};
+use pig_operators::Gatherer;
 use pig_typed::{Block, TExpr};
-use pig_value::{Blob, Columns, Delim, Rows};
+use pig_value::{Blob, Column, Columns, Delim, Rows};
 use std::alloc::{AllocError, Global};
 
 /// What is made of each row of a list.
-#[derive(Clone, Copy, Drop)]
+#[derive(Drop)]
 pub enum RowStep<'p> {
     /// The rows of which the condition is true.
     Filter(&'p TExpr),
@@ -20,10 +21,10 @@ pub enum RowStep<'p> {
     Foreach(&'p Block),
 }
 
-/// Rows that are made as they are asked for: those of lines, taken through the steps.
+/// Rows that are made as they are asked for: those of a source, taken through the steps.
 #[derive(Drop)]
 pub struct Walk<'p> {
-    source: Reading<'p>,
+    source: Source<'p>,
     steps: Vec<RowStep<'p>>,
 }
 
@@ -32,26 +33,18 @@ impl<'p> Walk<'p> {
     pub fn of(alloc: Global, pieces: &'p [Blob], delim: Delim, columns: &'p Columns) -> Walk<'p>
         ensures { coming result ≡ map (row_of columns.now delim) (flat_map lines pieces.now) }
     {
-        let lines = Lines::of(pieces);
-        let source = Reading {
-            lines,
-            delim,
-            columns,
-        };
+        let source = Source::Read(Lines::of(pieces, delim, columns));
         let steps = Vec::new(alloc);
         Walk { source, steps }
     }
 
-    /// The same rows, to be made once more.
-    pub fn again(&self, alloc: Global) -> Result<Walk<'p>, AllocError>
-        ensures { IfOk result (λ walk. coming walk ≡ coming self.now) }
+    /// The rows of the groups of a run.
+    pub fn of_groups(alloc: Global, groups: Gatherer) -> Walk<'p>
+        ensures { coming result ≡ groups }
     {
-        let mut steps = Vec::with_capacity(alloc, self.steps.len())?;
-        add_steps(self.steps.as_slice(), &mut steps)?;
-        Ok(Walk {
-            source: self.source.again(),
-            steps,
-        })
+        let source = Source::Groups(groups);
+        let steps = Vec::new(alloc);
+        Walk { source, steps }
     }
 
     /// One step more behind the others.
@@ -68,8 +61,10 @@ impl<'p> Walk<'p> {
         ensures rows { IfOk result (λ rows. coming self.old ≡ rows_tree rows ++ coming self.new) }
         ensures end { IfOk result (λ rows. rows_tree rows ≡ [] → coming self.new ≡ []) }
     {
+        let _pieces: &[Blob] = &[];
+        let _columns: &[Column] = &[];
         'reads: loop {
-            let rows = self.source.next_rows(alloc)?;
+            let rows = self.next_rows(alloc)?;
             let done = rows.is_empty();
             let made = stepped(alloc, self.steps.as_slice(), rows)?;
             if done || !made.is_empty() {
@@ -77,15 +72,20 @@ impl<'p> Walk<'p> {
             }
         }
     }
-}
 
-fn add_steps<'p>(steps: &[RowStep<'p>], made: &mut Vec<RowStep<'p>>) -> Result<(), AllocError>
-    ensures { OnOk result (made.new.items ≡ made.old.items ++ steps.now) }
-{
-    for step in steps {
-        made.push(*step)?;
+    /// The next rows of the source, and none only where no more come.
+    fn next_rows(&mut self, alloc: Global) -> Result<Rows, AllocError>
+        ensures rows { IfOk result (λ rows. source_rows self.old.source
+            ≡ rows_tree rows ++ source_rows self.new.source) }
+        ensures end { IfOk result (λ rows. rows_tree rows ≡ []
+            → source_rows self.new.source ≡ []) }
+        ensures steps { self.new.steps ≡ self.old.steps }
+    {
+        match &mut self.source {
+            Source::Read(lines) => lines.next_rows(alloc),
+            Source::Groups(groups) => groups.next_batch(alloc),
+        }
     }
-    Ok(())
 }
 
 /// Rows, taken through the steps one after another.

@@ -5,7 +5,7 @@ use Rattle.pig_plan.specs.Nodes.{is_live}
 use Rattle.pig_plan.specs.Plans.{node_of, plan_of}
 use Rattle.pig_plain.specs.declared.relation.Relation.TheVariants.{Standing}
 use Rattle.pig_plain.specs.Operating.{no_rows}
-use Rattle.pig_plain.proofs.Steps.{dead_step, same_so_far, settled_so_far}
+use Rattle.pig_plain.proofs.Steps.{dead_step, same_so_far}
 use Rattle.pig_plain.proofs.Tables.{on_ok}
 use Rattle.pig_plain.proofs.answering.Running.take_on.Goals as goal
 
@@ -23,10 +23,3 @@ returns c =
     same_so_far plan c.args.inputs.now (i + 1) (table ++ no_rows ∷ []) c.put.new.self.table.items kept c.put.new.self.kept stores (map rows_tree c.put.new.self.stores)
     (t ∙ ap (λ rows. table ++ Standing rows ∷ []) c.new.ensures) c.put.ensures.kept (ap (map rows_tree) c.put.ensures.stores)
     (dead_step plan c.requires.valid c.args.inputs.now i node c.requires.node c.args.uses.now.live.items c.args.uses.now.ends.items c.requires.uses table kept stores c.requires.so_far dead))
-
-pub take_live-requires-clause-so_far : goal.take_live-requires-clause-so_far
-take_live-requires-clause-so_far c =
-    let self = c.args.self.now in
-    let told = c.in_ok-settle_inputs.ensures in
-    settled_so_far (plan_of c.args.plan.now) c.args.inputs.now c.args.number self.table.items c.settle_inputs.new.table.items self.kept (map rows_tree self.stores)
-    told.size told.same c.requires.so_far

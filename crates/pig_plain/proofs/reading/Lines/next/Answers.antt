@@ -6,4 +6,4 @@ use Rattle.pig_plain.proofs.reading.Lines.next.Goals as goal
 
 pub returns-in-Some-clause-line : goal.returns-in-Some-clause-line
 returns-in-Some-clause-line c =
-    c.pieces.invariant ∙ line_read c.pieces.self.piece.now (flat_map lines c.pieces.self.pieces.now) c.in-Some.span c.in-Some.ensures.line
+    c.pieces.invariant.0 ∙ line_read c.pieces.self.piece.now (flat_map lines c.pieces.self.pieces.now) c.in-Some.span c.in-Some.ensures.line
