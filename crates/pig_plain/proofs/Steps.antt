@@ -29,7 +29,7 @@ use Rattle.pig_plain.specs.declared.answering.Kind.TheVariants.{Stored, Standing
 use Rattle.pig_plain.specs.Kinds.{kind_in, limit_kind}
 use Rattle.pig_plain.specs.Coming.{relation_rows}
 use Rattle.pig_plain.specs.declared.relation.Relation.{Relation}
-use Rattle.pig_plain.specs.Operating.{AllStand, AreValues, found_rows, no_rows, table_rows}
+use Rattle.pig_plain.specs.Operating.{AreValues, found_rows, no_rows, table_rows}
 use Rattle.pig_plain.specs.SoFar.{IsSoFar, bare_before}
 use Rattle.pig_plain.specs.Uses.{AreUses}
 

@@ -61,8 +61,8 @@ impl<'p> Walk<'p> {
         ensures rows { IfOk result (λ rows. coming self.old ≡ rows_tree rows ++ coming self.new) }
         ensures end { IfOk result (λ rows. rows_tree rows ≡ [] → coming self.new ≡ []) }
     {
-        let _pieces: &[Blob] = &[];
-        let _columns: &[Column] = &[];
+        // Types behind an enum, of which the check of this loop has to be told.
+        let (_pieces, _columns): (&[Blob], &[Column]) = (&[], &[]);
         'reads: loop {
             let rows = self.next_rows(alloc)?;
             let done = rows.is_empty();
