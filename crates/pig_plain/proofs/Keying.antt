@@ -1,8 +1,8 @@
 -- Rows under their keys, brought together by a sorted run.
-use Rattle.std.specs.Prelude.{◌≡◌, ◌≢◌, ◌+◌, ◌≤◌, ℕ, Bool, List, [], ◌∷◌, ◌++◌, map, length, get_or, codes, refl}
-use Rattle.std.specs.List.{AllByRecursion}
-use Rattle.std.proofs.Common.{ap, sym, arith, ◌∙◌}
-use Rattle.std.proofs.lemmas.List.{length-map, map-append}
+use Rattle.std.specs.Prelude.{◌≡◌, ◌≢◌, ◌+◌, ◌≤◌, ◌-◌, ◌==◌, ℕ, Bool, true, List, [], ◌∷◌, ◌++◌, map, length, drop, take, get_or, codes, refl}
+use Rattle.std.specs.List.{AllByRecursion, list_any}
+use Rattle.std.proofs.Common.{ap, sym, subst, arith, ◌∙◌}
+use Rattle.std.proofs.lemmas.List.{append_assoc, length-map, map-append, take_all}
 use Rattle.std.proofs.lemmas.List.Sorted.{IsPermutation-map, IsPermutation-sym}
 use Rattle.pig_value.proofs.list_laws.Bags.{sort_permutes}
 use Rattle.pig_eval.proofs.Evaluated.{a_value}
@@ -11,14 +11,16 @@ use Rattle.pig_value.specs.Sorts.{sort}
 use Rattle.pig_value.specs.Valid.{IsRow, IsValue}
 use Rattle.pig_typed.specs.Literals.{LiteralsAre}
 use Rattle.pig_value.specs.Trees.{Tree, v_chars}
-use Rattle.pig_typed.specs.Typed.{Typed}
+use Rattle.pig_typed.specs.Typed.{Typed, typed}
 use Rattle.pig_plan.proofs.Gathered.{gathered_same}
 use Rattle.pig_plan.specs.ByKey.{cogroup_of, entries_of_input, gathered, group_of, key_of, outer_of}
+use Rattle.pig_plan.specs.Laws.{KeyLiteralsAre}
 use Rattle.pig_plan.specs.Operators.{group_all, group_rows, keyed_entries, keys_of}
 use Rattle.pig_plan.specs.Plans.{Keyed, keyed_of}
 use Rattle.pig_plan.specs.declared.nodes.KeyedInput.{KeyedInput}
 use Rattle.pig_runs.specs.Entries.{Keyed as RunEntry, run_cmp, run_of}
 use Rattle.pig_operators.specs.Given.{entries_in, plan_entry}
+use Rattle.pig_plain.proofs.Tables.{first_named, named_behind}
 use Rattle.pig_plain.specs.Operating.{all_keyed, all_rows_keyed, keyed_rows, outer_rows}
 
 -- a run gives what its entries give
@@ -81,3 +83,33 @@ cogroup_is inputs inner other is rows =
 pub keys_valid : (keys : List Typed) (row : List Tree) → AllByRecursion (LiteralsAre IsValue) keys → IsRow row → IsRow (keys_of keys row)
 keys_valid [] row ok h = tt
 keys_valid (e ∷ keys) row ok h = (a_value e row [] ok.0 h tt, keys_valid keys row ok.1 h)
+
+-- ---- entries go by the rows of the nodes that are named
+
+pub keyed_named : (place : ℕ) (inputs : List Keyed) (f g : ℕ → List (List Tree)) → ((k : ℕ) → list_any (λ i. i == k) (map (λ i. i.input) inputs) ≡ true → f k ≡ g k)
+    → all_keyed place inputs f ≡ all_keyed place inputs g
+keyed_named place [] f g same = refl
+keyed_named place (input ∷ inputs) f g same =
+    (λ i. keyed_rows input.keys place (same input.input (first_named input.input (map (λ x. x.input) inputs)) i)
+    ++ keyed_named (place + 1) inputs f g (λ k named. same k (named_behind input.input k (map (λ x. x.input) inputs) named)) i)
+
+-- the entries of one input more
+pub entries_go_on : (left : List KeyedInput) (input : KeyedInput) → 1 ≤ length left → input ≡ get_or left 0 input → (f g : ℕ → List (List Tree)) (place next : ℕ) → next ≡ place + 1
+    → (done more whole : List RunEntry) → more ≡ done ++ keyed_rows (map typed input.keys) place (f input.input) → done ++ all_keyed place (map keyed_of left) f ≡ whole
+    → ((k : ℕ) → list_any (λ i. i == k) (map (λ i. i.input) (map keyed_of (take (length left - 1) (drop 1 left)))) ≡ true → g k ≡ f k)
+    → more ++ all_keyed next (map keyed_of (take (length left - 1) (drop 1 left))) g ≡ whole
+entries_go_on [] input some is f g place next after done more whole told so_far same = absurd (omega (arith, some))
+entries_go_on (x ∷ left) input some is f g place next after done more whole told so_far same =
+    let rest : List Keyed = map keyed_of (take (length (x ∷ left) - 1) left) in
+    let all : rest ≡ map keyed_of left = ap (map keyed_of) (take_all (length (x ∷ left) - 1) left (omega arith)) in
+    (λ i. told i ++ all_keyed (after i) rest g)
+    ∙ append_assoc done (keyed_rows (map typed input.keys) place (f input.input)) (all_keyed (place + 1) rest g)
+    ∙ ap (λ es. done ++ (keyed_rows (map typed input.keys) place (f input.input) ++ es)) (keyed_named (place + 1) rest g f same ∙ ap (λ ks. all_keyed (place + 1) ks f) all)
+    ∙ ap (λ (k : KeyedInput). done ++ (keyed_rows (map typed k.keys) place (f k.input) ++ all_keyed (place + 1) (map keyed_of left) f)) is
+    ∙ so_far
+
+pub literals_behind : (left : List KeyedInput) → 1 ≤ length left → KeyLiteralsAre IsValue (map keyed_of left)
+    → KeyLiteralsAre IsValue (map keyed_of (take (length left - 1) (drop 1 left)))
+literals_behind [] some h = tt
+literals_behind (x ∷ left) some h =
+    subst (λ xs. KeyLiteralsAre IsValue (map keyed_of xs)) (sym (take_all (length (x ∷ left) - 1) left (omega arith))) h.1

@@ -1,6 +1,7 @@
 mod FoundRows
 mod FoundValues
 mod Keying
+mod LinesLeft
 mod Marking
 mod PlanFacts
 mod Ranks
@@ -8,3 +9,4 @@ mod SortedRows
 mod Steps
 mod StoredLines
 mod Tables
+mod Walks

@@ -11,7 +11,6 @@ use Rattle.std.proofs.lemmas.Option.{slice_get_within}
 use Rattle.std.proofs.Math.Seq.{get_or-append_seam}
 use Rattle.pig_value.specs.declared.inputs.Input.{Input}
 use Rattle.pig_value.specs.declared.outcomes.Kept.{Kept}
-use Rattle.pig_value.specs.declared.values.Value.{Value}
 use Rattle.pig_value.proofs.list_laws.Indexing.{more_taken}
 use Rattle.pig_value.proofs.list_laws.Permutations.{IsPermutation-same}
 use Rattle.pig_value.specs.Trees.{Tree, rows_tree}
@@ -28,7 +27,9 @@ use Rattle.pig_plain.specs.Answering.{AnswersFor, EachAnswers, IsAnswer, stored_
 use Rattle.pig_plain.specs.declared.answering.Kind.{Kind}
 use Rattle.pig_plain.specs.declared.answering.Kind.TheVariants.{Stored, Standing}
 use Rattle.pig_plain.specs.Kinds.{kind_in, limit_kind}
-use Rattle.pig_plain.specs.Operating.{AreValues, found_rows, table_rows}
+use Rattle.pig_plain.specs.Coming.{relation_rows}
+use Rattle.pig_plain.specs.declared.relation.Relation.{Relation}
+use Rattle.pig_plain.specs.Operating.{AreValues, found_rows, no_rows, table_rows}
 use Rattle.pig_plain.specs.SoFar.{IsSoFar, bare_before}
 use Rattle.pig_plain.specs.Uses.{AreUses}
 
@@ -68,18 +69,18 @@ one_more a (suc n) =
 
 -- ---- a further entry of a table
 
-at_front : (table : List (List (List Value))) (rows : List (List Value)) (k : ℕ) → k < length table → table_rows (table ++ rows ∷ []) k ≡ table_rows table k
-at_front table rows k h = table_is (table ++ rows ∷ []) k ∙ ap rows_tree (get_or_append_left table (rows ∷ []) [] k h) ∙ sym (table_is table k)
+at_front : (table : List Relation) (rows : Relation) (k : ℕ) → k < length table → table_rows (table ++ rows ∷ []) k ≡ table_rows table k
+at_front table rows k h = table_is (table ++ rows ∷ []) k ∙ ap relation_rows (get_or_append_left table (rows ∷ []) no_rows k h) ∙ sym (table_is table k)
 
-at_end : (table : List (List (List Value))) (rows : List (List Value)) (i : ℕ) → length table ≡ i → table_rows (table ++ rows ∷ []) i ≡ rows_tree rows
-at_end table rows i long = ap (table_rows (table ++ rows ∷ [])) (sym long) ∙ table_is (table ++ rows ∷ []) (length table) ∙ ap rows_tree (get_or-append_seam table rows [] [])
+at_end : (table : List Relation) (rows : Relation) (i : ℕ) → length table ≡ i → table_rows (table ++ rows ∷ []) i ≡ relation_rows rows
+at_end table rows i long = ap (table_rows (table ++ rows ∷ [])) (sym long) ∙ table_is (table ++ rows ∷ []) (length table) ∙ ap relation_rows (get_or-append_seam table rows [] no_rows)
 
-past_end : (table : List (List (List Value))) (rows : List (List Value)) (k : ℕ) → length table < k → table_rows (table ++ rows ∷ []) k ≡ []
+past_end : (table : List Relation) (rows : Relation) (k : ℕ) → length table < k → table_rows (table ++ rows ∷ []) k ≡ []
 past_end table rows k h =
     let long = length-append table (rows ∷ []) in
     none_past (table ++ rows ∷ []) k (omega (arith, h, long))
 
-all_values : (table : List (List (List Value))) (rows : List (List Value)) → AreValues table → AreRows (rows_tree rows) → AreValues (table ++ rows ∷ [])
+all_values : (table : List Relation) (rows : Relation) → AreValues table → AreRows (relation_rows rows) → AreValues (table ++ rows ∷ [])
 all_values table rows h g k = elim (cases_lt k (length table)) [
   | inl front ↦ subst AreRows (sym (at_front table rows k front)) (h k)
   | inr from ↦ elim (eq-or-lt_of_le from) [
@@ -186,7 +187,7 @@ pub record IsLooked (plan : Plan) (i k : ℕ) : Type 0 where
 
 module _ (plan : Plan) (valid : IsPlan plan) (inputs : List Input) (i : ℕ) (node : PlanNode) (at : slice_get plan i ≡ Some node)
     (marks : List Bool) (ends : List ℕ) (uses : AreUses plan 0 marks ends)
-    (table : List (List (List Value))) (kept : List Kept) (stores : List (List (List Tree))) (so_far : IsSoFar plan inputs i table kept stores) where
+    (table : List Relation) (kept : List Kept) (stores : List (List (List Tree))) (so_far : IsSoFar plan inputs i table kept stores) where
   abbrev Looked : ℕ → Type 0
   Looked = IsLooked plan i
 
@@ -197,7 +198,7 @@ module _ (plan : Plan) (valid : IsPlan plan) (inputs : List Input) (i : ℕ) (no
   unstored_more h =
       stored_more plan i node at ∙ ap (λ o. stored_relations (take i plan) ++ cons_option o []) (unstored node.op h) ∙ append-nil (stored_relations (take i plan))
 
-  module _ (next : List (List (List Value))) (new : List Kept) (stored : List (List (List Tree))) (size : length next ≡ i + 1) (values : AreValues next)
+  module _ (next : List Relation) (new : List Kept) (stored : List (List (List Tree))) (size : length next ≡ i + 1) (values : AreValues next)
       (front : (k : ℕ) → k < i → Looked k → table_rows next k ≡ table_rows table k)
       (own : (more : List Kept) → Looked i → AnswersFor plan inputs (kept ++ (new ++ more)) i (table_rows next i))
       (each_stored : (more : List Kept) → EachAnswers plan inputs (kept ++ (new ++ more)) (stored_relations (take (i + 1) plan)) stored)
@@ -231,33 +232,33 @@ module _ (plan : Plan) (valid : IsPlan plan) (inputs : List Input) (i : ℕ) (no
     }
 
   -- a dead node is looked at by none
-  pub dead_step : is_live plan i ≡ false → IsSoFar plan inputs (i + 1) (table ++ [] ∷ []) kept stores
+  pub dead_step : is_live plan i ≡ false → IsSoFar plan inputs (i + 1) (table ++ no_rows ∷ []) kept stores
   dead_step dead =
       let none : bare_of plan i ≡ [] = bare_dead plan i dead in
-      subst (λ ks. IsSoFar plan inputs (i + 1) (table ++ [] ∷ []) ks stores) (append-nil kept)
-      (advance (table ++ [] ∷ []) [] stores (length-append table ([] ∷ []) ∙ ap (λ n. n + 1) so_far.size) (all_values table [] so_far.values tt)
-      (λ k before l. at_front table [] k (let s = so_far.size in omega (arith, before, s)))
+      subst (λ ks. IsSoFar plan inputs (i + 1) (table ++ no_rows ∷ []) ks stores) (append-nil kept)
+      (advance (table ++ no_rows ∷ []) [] stores (length-append table (no_rows ∷ []) ∙ ap (λ n. n + 1) so_far.size) (all_values table no_rows so_far.values tt)
+      (λ k before l. at_front table no_rows k (let s = so_far.size in omega (arith, before, s)))
       (λ more l. absurd (true≢false (sym (uses.named l.n i l.other (omega arith) l.after l.found l.live l.named) ∙ dead)))
       (λ more. subst (λ ks. EachAnswers plan inputs (kept ++ more) ks stores) (sym (unstored_more (dead_store plan i node at dead))) (so_far.stored more))
       (λ more statement input count is live unsorted. absurd (true≢false (sym live ∙ dead)))
       (ap (map (λ k. k.statement)) (append-nil kept) ∙ so_far.entries ∙ sym (ap (map (λ n. n.statement)) (ap (λ ns. bare_before plan i ++ ns) none ∙ append-nil (bare_before plan i)))))
 
   -- the rows of a live node, found on the rows of the nodes before
-  module _ (live : is_live plan i ≡ true) (rest : List (List (List Value))) (size : length rest ≡ length table) (values : AreValues rest)
+  module _ (live : is_live plan i ≡ true) (rest : List Relation) (size : length rest ≡ length table) (values : AreValues rest)
       (stays : (k : ℕ) → get_or ends k 0 ≢ i + 1 → table_rows rest k ≡ table_rows table k)
-      (rows : List (List Value)) (is : rows_tree rows ≡ found_rows inputs (width_at plan) node.op (table_rows table)) (valid_rows : AreRows (rows_tree rows)) where
+      (rows : Relation) (is : relation_rows rows ≡ found_rows inputs (width_at plan) node.op (table_rows table)) (valid_rows : AreRows (relation_rows rows)) where
     inputs_answer : (more : List Kept) → AllByRecursion (λ k. AnswersFor plan inputs (kept ++ more) k (table_rows table k)) (inputs_of node.op)
     inputs_answer more =
         both_of (λ k. k < i) (λ k. names node.op k ≡ true) (λ k. AnswersFor plan inputs (kept ++ more) k (table_rows table k)) (inputs_of node.op)
         (λ k below named. so_far.each more k i node below (omega arith) at live named) (names_lower plan valid i node at) (each_named (λ k. names node.op k ≡ true) (inputs_of node.op) (λ k h. h))
 
-    longer : (last : List (List Value)) → length (rest ++ last ∷ []) ≡ i + 1
+    longer : (last : Relation) → length (rest ++ last ∷ []) ≡ i + 1
     longer last = length-append rest (last ∷ []) ∙ ap (λ n. n + 1) (size ∙ so_far.size)
 
     end : length rest ≡ i
     end = size ∙ so_far.size
 
-    front : (last : List (List Value)) (k : ℕ) → k < i → Looked k → table_rows (rest ++ last ∷ []) k ≡ table_rows table k
+    front : (last : Relation) (k : ℕ) → k < i → Looked k → table_rows (rest ++ last ∷ []) k ≡ table_rows table k
     front last k before l = at_front rest last k (omega (arith, before, end)) ∙ stays k (not_last k l)
 
     -- most nodes: their rows stand for later nodes
@@ -267,28 +268,28 @@ module _ (plan : Plan) (valid : IsPlan plan) (inputs : List Input) (i : ℕ) (no
         subst (λ ks. IsSoFar plan inputs (i + 1) (rest ++ rows ∷ []) ks stores) (append-nil kept)
         (advance (rest ++ rows ∷ []) [] stores (longer rows) (all_values rest rows values valid_rows) (front rows)
         (λ more l. subst (AnswersFor plan inputs (kept ++ more) i) (sym (at_end rest rows i end))
-        (answers_node plan valid i node at inputs (kept ++ more) (table_rows table) (rows_tree rows) is (inputs_answer more) full))
+        (answers_node plan valid i node at inputs (kept ++ more) (table_rows table) (relation_rows rows) is (inputs_answer more) full))
         (λ more. subst (λ ks. EachAnswers plan inputs (kept ++ more) ks stores) (sym (unstored_more kind)) (so_far.stored more))
         (λ more statement input count same alive unsorted.
         absurd (true≢false (sym (ap not unsorted) ∙ sym (ap (λ n. is_bare (is_sorted plan) n.op) same) ∙ full)))
         (ap (map (λ k. k.statement)) (append-nil kept) ∙ so_far.entries ∙ sym (ap (map (λ n. n.statement)) (ap (λ ns. bare_before plan i ++ ns) none ∙ append-nil (bare_before plan i)))))
 
     -- a STORE: its rows are stored, and no node looks at it
-    pub store_step : (input : ℕ) (path : List ℕ) (delim : ℕ) → node.op ≡ p_store input path delim → IsSoFar plan inputs (i + 1) (rest ++ [] ∷ []) kept (stores ++ rows_tree rows ∷ [])
+    pub store_step : (input : ℕ) (path : List ℕ) (delim : ℕ) → node.op ≡ p_store input path delim → IsSoFar plan inputs (i + 1) (rest ++ no_rows ∷ []) kept (stores ++ relation_rows rows ∷ [])
     store_step input path delim kind =
         let full : is_bare (is_sorted plan) node.op ≡ false = ap (is_bare (is_sorted plan)) kind in
         let none : bare_of plan i ≡ [] = bare_none plan i node at full in
         let relations : stored_relations (take (i + 1) plan) ≡ stored_relations (take i plan) ++ input ∷ [] =
         stored_more plan i node at ∙ ap (λ o. stored_relations (take i plan) ++ cons_option (stored_of o) []) kind in
-        let found : rows_tree rows ≡ table_rows table input = is ∙ ap (λ o. found_rows inputs (width_at plan) o (table_rows table)) kind in
-        subst (λ ks. IsSoFar plan inputs (i + 1) (rest ++ [] ∷ []) ks (stores ++ rows_tree rows ∷ [])) (append-nil kept)
-        (advance (rest ++ [] ∷ []) [] (stores ++ rows_tree rows ∷ []) (longer []) (all_values rest [] values tt) (front [])
+        let found : relation_rows rows ≡ table_rows table input = is ∙ ap (λ o. found_rows inputs (width_at plan) o (table_rows table)) kind in
+        subst (λ ks. IsSoFar plan inputs (i + 1) (rest ++ no_rows ∷ []) ks (stores ++ relation_rows rows ∷ [])) (append-nil kept)
+        (advance (rest ++ no_rows ∷ []) [] (stores ++ relation_rows rows ∷ []) (longer no_rows) (all_values rest no_rows values tt) (front no_rows)
         (λ more l. absurd (unlooked input path delim kind l))
         (λ more.
         let source : AnswersFor plan inputs (kept ++ more) input (table_rows table input) =
         (subst (λ o. AllByRecursion (λ k. AnswersFor plan inputs (kept ++ more) k (table_rows table k)) (inputs_of o)) kind (inputs_answer more)).0 in
-        subst (λ ks. EachAnswers plan inputs (kept ++ more) ks (stores ++ rows_tree rows ∷ [])) (sym relations)
-        (each_more plan inputs (kept ++ more) (stored_relations (take i plan)) stores input (rows_tree rows) (so_far.stored more) (subst (AnswersFor plan inputs (kept ++ more) input) (sym found) source)))
+        subst (λ ks. EachAnswers plan inputs (kept ++ more) ks (stores ++ relation_rows rows ∷ [])) (sym relations)
+        (each_more plan inputs (kept ++ more) (stored_relations (take i plan)) stores input (relation_rows rows) (so_far.stored more) (subst (AnswersFor plan inputs (kept ++ more) input) (sym found) source)))
         (λ more statement from count same alive unsorted. absurd (no_limit input path delim from count (sym kind ∙ ap (λ n. n.op) same)))
         (ap (map (λ k. k.statement)) (append-nil kept) ∙ so_far.entries ∙ sym (ap (map (λ n. n.statement)) (ap (λ ns. bare_before plan i ++ ns) none ∙ append-nil (bare_before plan i)))))
       where
@@ -300,14 +301,14 @@ module _ (plan : Plan) (valid : IsPlan plan) (inputs : List Input) (i : ℕ) (no
         unlooked input path delim kind l = names_no_store plan valid i node at (ap is_store kind) l.n l.other l.after l.found l.named
 
     -- a bare LIMIT: the first rows are kept
-    pub keep_step : (k : Kept) (input count : ℕ) → node.op ≡ p_limit input count → is_sorted plan input ≡ false → k.statement ≡ node.statement → rows_tree k.rows ≡ rows_tree rows
+    pub keep_step : (k : Kept) (input count : ℕ) → node.op ≡ p_limit input count → is_sorted plan input ≡ false → k.statement ≡ node.statement → rows_tree k.rows ≡ relation_rows rows
         → IsSoFar plan inputs (i + 1) (rest ++ rows ∷ []) (kept ++ k ∷ []) stores
     keep_step k input count kind unsorted statement same =
         let whole : slice_get plan i ≡ Some (record { op = p_limit input count; statement = node.statement }) = at ∙ (λ j. Some (record { op = kind j; statement = node.statement })) in
         let bare : is_bare (is_sorted plan) node.op ≡ true = ap (is_bare (is_sorted plan)) kind ∙ ap not unsorted in
         let one : bare_of plan i ≡ node ∷ [] = bare_one plan i node at live bare in
-        let found : rows_tree rows ≡ take count (table_rows table input) = is ∙ ap (λ o. found_rows inputs (width_at plan) o (table_rows table)) kind in
-        let kept_rows : (more : List Kept) → kept_at (kept ++ (k ∷ more)) node.statement ≡ rows_tree rows =
+        let found : relation_rows rows ≡ take count (table_rows table input) = is ∙ ap (λ o. found_rows inputs (width_at plan) o (table_rows table)) kind in
+        let kept_rows : (more : List Kept) → kept_at (kept ++ (k ∷ more)) node.statement ≡ relation_rows rows =
         λ more. no_statement kept node.statement (new_statement kind) (k ∷ more)
         ∙ ap (λ b. option_map_or (λ (x : Kept). rows_tree x.rows) (if b then Some k else find (λ x. x.statement == node.statement) more) []) (eq-eqb k.statement node.statement statement) ∙ same in
         advance (rest ++ rows ∷ []) (k ∷ []) stores (longer rows) (all_values rest rows values valid_rows) (front rows)
@@ -401,7 +402,7 @@ standing_kind sorted (p_rank input keys dense) h = (refl, refl)
 
 -- ---- the same under other names
 
-pub same_so_far : (plan : Plan) (inputs : List Input) (i : ℕ) (table new_table : List (List (List Value))) (kept new_kept : List Kept) (stores new_stores : List (List (List Tree)))
+pub same_so_far : (plan : Plan) (inputs : List Input) (i : ℕ) (table new_table : List Relation) (kept new_kept : List Kept) (stores new_stores : List (List (List Tree)))
     → new_table ≡ table → new_kept ≡ kept → new_stores ≡ stores → IsSoFar plan inputs i table kept stores → IsSoFar plan inputs i new_table new_kept new_stores
 same_so_far plan inputs i table new_table kept new_kept stores new_stores a b c h =
     subst (λ t. IsSoFar plan inputs i t new_kept new_stores) (sym a)
@@ -409,7 +410,7 @@ same_so_far plan inputs i table new_table kept new_kept stores new_stores a b c 
     (subst (λ s. IsSoFar plan inputs i table kept s) (sym c) h))
 
 -- nothing stands before the first node
-pub begun : (plan : Plan) (inputs : List Input) (table : List (List (List Value))) (kept : List Kept) (stores : List (List (List Tree)))
+pub begun : (plan : Plan) (inputs : List Input) (table : List Relation) (kept : List Kept) (stores : List (List (List Tree)))
     → table ≡ [] → kept ≡ [] → stores ≡ [] → IsSoFar plan inputs 0 table kept stores
 begun plan inputs table kept stores a b c = same_so_far plan inputs 0 [] table [] kept [] stores a b c (record {
   size = refl;
@@ -422,7 +423,7 @@ begun plan inputs table kept stores a b c = same_so_far plan inputs 0 [] table [
 
 -- ---- the end
 
-pub ended : (plan : Plan) (inputs : List Input) (table : List (List (List Value))) (kept : List Kept) (stores : List (List (List Tree)))
+pub ended : (plan : Plan) (inputs : List Input) (table : List Relation) (kept : List Kept) (stores : List (List (List Tree)))
     → IsSoFar plan inputs (length plan) table kept stores → IsAnswer plan inputs kept stores
 ended plan inputs table kept stores h = record {
   kept = record {

@@ -1,5 +1,5 @@
 -- Rows that answer for a live node are written as the lines of its meaning.
-use Rattle.std.proofs.Common.{◌≡◌, ◌≢◌, ℕ, List, true, map, sym, ◌∙◌, ap, subst}
+use Rattle.std.proofs.Common.{◌≡◌, ◌≢◌, ℕ, List, map, sym, ◌∙◌, ap, subst}
 use Rattle.std.specs.List.Sorted.{IsPermutation}
 use Rattle.std.proofs.lemmas.List.Sorted.{All-permutation, IsPermutation-map}
 use Rattle.pig_value.specs.declared.inputs.Input.{Input}

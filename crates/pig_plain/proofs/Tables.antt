@@ -1,32 +1,56 @@
 -- The rows of nodes, taken and put.
-use Rattle.std.specs.Prelude.{◌≡◌, ◌≢◌, ◌<◌, ◌≤◌, ℕ, List, [], length, min, take, slice_get, slice_set, Option, Some, None, get_or, IfOk, OnOk, refl}
-use Rattle.std.proofs.Common.{ap, sym, subst, arith, inl, inr, ◌∙◌}
+use Rattle.std.specs.Prelude.{◌≡◌, ◌≢◌, ◌<◌, ◌≤◌, ◌+◌, ◌==◌, ◌||◌, ℕ, Bool, true, false, List, [], ◌∷◌, ◌++◌, ◌-◌, drop, length, min, take, slice_get, slice_set}
+use Rattle.std.specs.Prelude.{Option, Some, None, get_or, IfOk, OnOk, refl}
+use Rattle.std.proofs.Common.{ap, sym, subst, arith, inl, inr, ◌∙◌, true≢false}
+use Rattle.std.specs.List.{flat_map, list_any}
+use Rattle.std.proofs.lemmas.Bool.{cases_lt, eq-eqb}
 use Rattle.std.proofs.lemmas.Bool.Decides.{eqb_tells}
-use Rattle.std.proofs.lemmas.List.{get_or-set_other, get_or-set_same, take_min, take-map}
+use Rattle.std.proofs.lemmas.List.{append_assoc, get_or-set_other, get_or-set_same, length-set, take_all, take_min, take-map}
 use Rattle.std.proofs.lemmas.Option.{slice_get_past, slice_get-map, unwrap_or-slice_get}
 use Rattle.std.specs.declared.result.Result.{Result}
 use Rattle.std.specs.declared.result.Result.TheVariants.{Ok, Err}
 use Rattle.std.specs.Option.{option_map, unwrap_or}
 use Rattle.pig_value.specs.declared.values.Value.{Value}
-use Rattle.pig_value.specs.Trees.{row_tree, rows_tree}
-use Rattle.pig_plain.specs.Operating.{AreValues, table_rows}
+use Rattle.pig_value.specs.Trees.{Tree, row_tree, rows_tree}
+use Rattle.pig_plain.specs.Coming.{relation_rows, rows_standing}
+use Rattle.pig_plain.specs.declared.relation.Relation.{Relation}
+use Rattle.pig_plain.specs.declared.relation.Relation.TheVariants.{Standing}
+use Rattle.pig_plain.specs.Operating.{AllStand, AreValues, LaterStand, OthersStand, standing_rows, table_rows}
 use Rattle.pig_value.specs.Valid.{AreRows}
 
-unwrap_map : (o : Option (List (List Value))) → unwrap_or (option_map rows_tree o) [] ≡ rows_tree (unwrap_or o [])
+-- ---- names
+
+or_true : (b : Bool) → (b || true) ≡ true
+or_true true = refl
+or_true false = refl
+
+pub first_named : (x : ℕ) (xs : List ℕ) → list_any (λ i. i == x) (x ∷ xs) ≡ true
+first_named x xs = ap (λ b. b || list_any (λ i. i == x) xs) (eq-eqb x x refl)
+
+pub named_behind : (x k : ℕ) (xs : List ℕ) → list_any (λ i. i == k) xs ≡ true → list_any (λ i. i == k) (x ∷ xs) ≡ true
+named_behind x k xs named = ap (λ b. (x == k) || b) named ∙ or_true (x == k)
+
+-- ---- tables
+
+unwrap_map : (o : Option Relation) → unwrap_or (option_map relation_rows o) [] ≡ relation_rows (unwrap_or o (Standing []))
 unwrap_map None = refl
 unwrap_map (Some x) = refl
 
-pub table_is : (table : List (List (List Value))) (k : ℕ) → table_rows table k ≡ rows_tree (get_or table k [])
-table_is table k = ap (λ o. unwrap_or o []) (slice_get-map rows_tree table k) ∙ unwrap_map (slice_get table k) ∙ ap rows_tree (unwrap_or-slice_get table k [])
+pub table_is : (table : List Relation) (k : ℕ) → table_rows table k ≡ relation_rows (get_or table k (Standing []))
+table_is table k = ap (λ o. unwrap_or o []) (slice_get-map relation_rows table k) ∙ unwrap_map (slice_get table k) ∙ ap relation_rows (unwrap_or-slice_get table k (Standing []))
 
-pub others_stand : (table : List (List (List Value))) (i k : ℕ) (rows : List (List Value)) → k ≢ i → table_rows (slice_set table i rows) k ≡ table_rows table k
-others_stand table i k rows other = table_is (slice_set table i rows) k ∙ ap rows_tree (get_or-set_other table i k rows [] other) ∙ sym (table_is table k)
+pub others_stand : (table : List Relation) (i k : ℕ) (rows : Relation) → k ≢ i → table_rows (slice_set table i rows) k ≡ table_rows table k
+others_stand table i k rows other =
+    table_is (slice_set table i rows) k ∙ ap relation_rows (get_or-set_other table i k rows (Standing []) other) ∙ sym (table_is table k)
 
-pub none_past : (table : List (List (List Value))) (k : ℕ) → length table ≤ k → table_rows table k ≡ []
-none_past table k h = ap (λ o. unwrap_or o []) (slice_get-map rows_tree table k ∙ ap (option_map rows_tree) (slice_get_past table k h))
+pub none_past : (table : List Relation) (k : ℕ) → length table ≤ k → table_rows table k ≡ []
+none_past table k h = ap (λ o. unwrap_or o []) (slice_get-map relation_rows table k ∙ ap (option_map relation_rows) (slice_get_past table k h))
 
-pub taken_is : (table : List (List (List Value))) (i : ℕ) (rows : List (List Value)) → i < length table → rows ≡ [] → table_rows (slice_set table i rows) i ≡ []
-taken_is table i rows h none = table_is (slice_set table i rows) i ∙ ap rows_tree (get_or-set_same table i rows [] h ∙ none)
+pub put_is : (table : List Relation) (i : ℕ) (rows : Relation) → i < length table → table_rows (slice_set table i rows) i ≡ relation_rows rows
+put_is table i rows h = table_is (slice_set table i rows) i ∙ ap relation_rows (get_or-set_same table i rows (Standing []) h)
+
+pub taken_is : (table : List Relation) (i : ℕ) (rows : List (List Value)) → i < length table → rows ≡ [] → table_rows (slice_set table i (Standing rows)) i ≡ []
+taken_is table i rows h none = put_is table i (Standing rows) h ∙ ap rows_tree none
 
 pub first_is : (rows : List (List Value)) (count end : ℕ) → end ≡ min (length rows) count → rows_tree (take end rows) ≡ take count (rows_tree rows)
 first_is rows count end e = ap (λ n. rows_tree (take n rows)) e ∙ by_min
@@ -35,11 +59,86 @@ first_is rows count end e = ap (λ n. rows_tree (take n rows)) e ∙ by_min
     by_min = ap (λ n. rows_tree (take n rows)) (let c : min (length rows) count ≡ min count (length rows) = omega arith in c)
         ∙ ap rows_tree (take_min count rows) ∙ sym (take-map row_tree count rows)
 
-pub values_stand : (table : List (List (List Value))) (i : ℕ) (rows : List (List Value)) → i < length table → rows ≡ [] → AreValues table → AreValues (slice_set table i rows)
+pub values_stand : (table : List Relation) (i : ℕ) (rows : List (List Value)) → i < length table → rows ≡ [] → AreValues table → AreValues (slice_set table i (Standing rows))
 values_stand table i rows h none values k = elim (eqb_tells k i) [
-  | inl same ↦ subst AreRows (sym (ap (table_rows (slice_set table i rows)) same.1 ∙ taken_is table i rows h none)) tt
-  | inr other ↦ subst AreRows (sym (others_stand table i k rows other.1)) (values k)
+  | inl same ↦ subst AreRows (sym (ap (table_rows (slice_set table i (Standing rows))) same.1 ∙ taken_is table i rows h none)) tt
+  | inr other ↦ subst AreRows (sym (others_stand table i k (Standing rows) other.1)) (values k)
 ]
+
+standing_map : (o : Option Relation) → unwrap_or (option_map rows_standing o) [] ≡ rows_standing (unwrap_or o (Standing []))
+standing_map None = refl
+standing_map (Some x) = refl
+
+standing_is : (table : List Relation) (k : ℕ) → standing_rows table k ≡ rows_standing (get_or table k (Standing []))
+standing_is table k = ap (λ o. unwrap_or o []) (slice_get-map rows_standing table k) ∙ standing_map (slice_get table k)
+    ∙ ap rows_standing (unwrap_or-slice_get table k (Standing []))
+
+none_standing : (table : List Relation) (k : ℕ) → length table ≤ k → standing_rows table k ≡ []
+none_standing table k h = ap (λ o. unwrap_or o []) (slice_get-map rows_standing table k ∙ ap (option_map rows_standing) (slice_get_past table k h))
+
+-- rows that were taken, and are put back as they were made, are the same, and stand
+module _ (table others : List Relation) (i : ℕ) (rows : List (List Value)) (size : length others ≡ length table) (stand : OthersStand i table others)
+    (same : rows_tree rows ≡ table_rows table i) where
+  longer : length table ≤ i → length (slice_set others i (Standing rows)) ≤ i
+  longer past = let e = length-set others i (Standing rows) in omega (arith, e, size, past)
+
+  at_node : table_rows (slice_set others i (Standing rows)) i ≡ table_rows table i
+  at_node = elim (cases_lt i (length table)) [
+    | inl within ↦ put_is others i (Standing rows) (omega (arith, within, size)) ∙ same
+    | inr past ↦ none_past (slice_set others i (Standing rows)) i (longer past) ∙ sym (none_past table i past)
+  ]
+
+  pub put_back : AllStand table (slice_set others i (Standing rows))
+  put_back k = elim (eqb_tells k i) [
+    | inl here ↦ ap (table_rows (slice_set others i (Standing rows))) here.1 ∙ at_node ∙ sym (ap (table_rows table) here.1)
+    | inr other ↦ others_stand others i k (Standing rows) other.1 ∙ stand k other.1
+  ]
+
+  pub put_stands : standing_rows (slice_set others i (Standing rows)) i ≡ table_rows table i
+  put_stands = elim (cases_lt i (length table)) [
+    | inl within ↦
+        standing_is (slice_set others i (Standing rows)) i ∙ ap rows_standing (get_or-set_same others i (Standing rows) (Standing []) (omega (arith, within, size))) ∙ same
+    | inr past ↦ none_standing (slice_set others i (Standing rows)) i (longer past) ∙ sym (none_past table i past)
+  ]
+
+-- after a use of a node's rows those of another node are as before, and its own where the use is not the last
+pub stands_at : (old new : List Relation) (last : Bool) (node k : ℕ) → OthersStand node old new → (last ≡ false → AllStand old new) → (last ≡ true → k ≢ node)
+    → table_rows new k ≡ table_rows old k
+stands_at old new true node k others all other = others k (other refl)
+stands_at old new false node k others all other = all refl k
+
+pub later_stand : (ends : List ℕ) (number : ℕ) (old new : List Relation) (last : Bool) (node : ℕ) → (last ≡ true → get_or ends node 0 ≡ number + 1)
+    → OthersStand node old new → (last ≡ false → AllStand old new) → LaterStand ends number old new
+later_stand ends number old new last node is_last others all k later =
+    stands_at old new last node k others all (λ e same. later (ap (λ m. get_or ends m 0) same ∙ is_last e))
+
+-- those that are named later here are so too
+pub named_stand : (old new : List Relation) (last : Bool) (node : ℕ) (rest : List ℕ) → (last ≡ true → list_any (λ i. i == node) rest ≡ false)
+    → OthersStand node old new → (last ≡ false → AllStand old new) → (k : ℕ) → list_any (λ i. i == k) rest ≡ true → table_rows new k ≡ table_rows old k
+named_stand old new last node rest unnamed others all k named =
+    stands_at old new last node k others all (λ e same. true≢false (sym named ∙ ap (λ m. list_any (λ i. i == m) rest) same ∙ unnamed e))
+
+-- rows of relations go by those that are named
+pub flat_map_named : (f g : ℕ → List (List Tree)) (xs : List ℕ) → ((k : ℕ) → list_any (λ i. i == k) xs ≡ true → f k ≡ g k) → flat_map f xs ≡ flat_map g xs
+flat_map_named f g [] same = refl
+flat_map_named f g (x ∷ xs) same = (λ i. same x (first_named x xs) i ++ flat_map_named f g xs (λ k named. same k (named_behind x k xs named)) i)
+
+-- the rows of one relation more
+pub union_goes_on : (left : List ℕ) → 1 ≤ length left → (f g : ℕ → List (List Tree)) (done more whole : List (List Tree)) → more ≡ done ++ f (get_or left 0 0)
+    → done ++ flat_map f left ≡ whole → ((k : ℕ) → list_any (λ i. i == k) (take (length left - 1) (drop 1 left)) ≡ true → g k ≡ f k)
+    → more ++ flat_map g (take (length left - 1) (drop 1 left)) ≡ whole
+union_goes_on [] some f g done more whole told so_far same = absurd (omega (arith, some))
+union_goes_on (x ∷ left) some f g done more whole told so_far same =
+    let rest : List ℕ = take (length (x ∷ left) - 1) left in
+    let all : rest ≡ left = take_all (length (x ∷ left) - 1) left (omega arith) in
+    (λ i. told i ++ flat_map g rest)
+    ∙ append_assoc done (f x) (flat_map g rest)
+    ∙ ap (λ rows. done ++ (f x ++ rows)) (flat_map_named g f rest same ∙ ap (flat_map f) all)
+    ∙ so_far
+
+-- rows of values are so in each table that has the same
+pub values_go_on : (old new : List Relation) → AllStand old new → AreValues old → AreValues new
+values_go_on old new same values k = subst AreRows (sym (same k)) (values k)
 
 -- what holds of an answer gives another thing of it
 pub if_ok : {T E : Type 0} {P Q : T → Type 0} (r : Result T E) → IfOk r P → ((x : T) → P x → Q x) → IfOk r Q
@@ -50,3 +149,16 @@ if_ok (Err e) h f = h
 pub on_ok : {T E : Type 0} {P Q R : Type 0} (r : Result T E) → OnOk r P → OnOk r Q → (P → Q → R) → OnOk r R
 on_ok (Ok x) h g f = f h g
 on_ok (Err e) h g f = h
+
+-- a test that is passed tells
+pub told_equal : (b : Bool) (m n : ℕ) → b ≡ (m == n) → b ≡ true → m ≡ n
+told_equal b m n is passed = elim (eqb_tells m n) [
+  | inl same ↦ same.1
+  | inr other ↦ absurd (true≢false (sym passed ∙ is ∙ other.0))
+]
+
+-- what an answer leaves of the rows that are looked at later
+pub later_ok : {T E : Type 0} (r : Result T E) (ends : List ℕ) (number : ℕ) (old new : List Relation) (last : Bool) (node : ℕ) → last ≡ (get_or ends node 0 == number + 1)
+    → OnOk r (OthersStand node old new) → (last ≡ false → OnOk r (AllStand old new)) → OnOk r (LaterStand ends number old new)
+later_ok (Ok x) ends number old new last node is others all = later_stand ends number old new last node (told_equal last (get_or ends node 0) (number + 1) is) others all
+later_ok (Err e) ends number old new last node is others all = others

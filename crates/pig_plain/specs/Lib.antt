@@ -1,4 +1,5 @@
 pub mod Answering
+pub mod Coming
 pub mod Kinds
 pub mod Operating
 pub mod SoFar

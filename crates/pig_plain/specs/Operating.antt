@@ -4,10 +4,9 @@ use Rattle.std.specs.List.{flat_map}
 use Rattle.pig_value.specs.declared.inputs.Input.{Input}
 use Rattle.pig_value.specs.Orders.{row_cmp}
 use Rattle.pig_value.specs.Sorts.{distinct}
-use Rattle.pig_value.specs.declared.values.Value.{Value}
 use Rattle.pig_value.specs.declared.operators.Side.{Side}
 use Rattle.pig_value.specs.Valid.{AreRows}
-use Rattle.pig_value.specs.Trees.{Tree, fields_of, rows_tree, v_chars, v_tuple}
+use Rattle.pig_value.specs.Trees.{Tree, fields_of, v_chars, v_tuple}
 use Rattle.pig_typed.specs.Blocks.{foreach_all}
 use Rattle.pig_plan.specs.ByKey.{gathered, key_of, outer_of}
 use Rattle.pig_plan.specs.Nodes.{sorts}
@@ -18,6 +17,10 @@ use Rattle.pig_typed.specs.Typed.{Typed}
 use Rattle.pig_operators.specs.declared.by_key.Gathering.{Gathering}
 use Rattle.pig_operators.specs.Given.{made}
 use Rattle.pig_plan.specs.Results.{at_place, results}
+use Rattle.pig_plain.specs.Coming.{coming, relation_rows, rows_standing}
+use Rattle.pig_plain.specs.declared.relation.Relation.{Relation}
+use Rattle.pig_plain.specs.declared.relation.Relation.TheVariants.{Standing}
+use Rattle.pig_plain.specs.declared.walking.Walk.{Walk}
 
 -- the rows as they come, on inputs, on nodes that are so wide, and on the rows of the nodes before
 abbrev pub found_rows : List Input → (ℕ → ℕ) → PlanOp → (ℕ → List (List Tree)) → List (List Tree)
@@ -39,9 +42,22 @@ found_rows inputs width (p_rank input keys dense) rows = rank_rows keys dense (r
 abbrev pub sorted_list : Plan → List Bool
 sorted_list plan = results (λ k node. sorts node.op) false plan
 
+-- no rows, as they stand
+abbrev pub no_rows : Relation
+no_rows = Standing []
+
 -- the rows of each node before, and none of another
-abbrev pub table_rows : List (List (List Value)) → ℕ → List (List Tree)
-table_rows table = at_place [] (map rows_tree table)
+abbrev pub table_rows : List Relation → ℕ → List (List Tree)
+table_rows table = at_place [] (map relation_rows table)
+
+-- those of each node before that stand
+abbrev pub standing_rows : List Relation → ℕ → List (List Tree)
+standing_rows table = at_place [] (map rows_standing table)
+
+-- the rows of a walk that was taken, or else those of a node that stand
+abbrev pub taken_rows : Option Walk → List Relation → ℕ → List (List Tree)
+taken_rows (Some walk) table k = coming walk
+taken_rows None table k = standing_rows table k
 
 -- rows of the input numbered i under their keys, and those of all inputs from that number on
 abbrev pub keyed_rows : List Typed → ℕ → List (List Tree) → List RunEntry
@@ -70,12 +86,15 @@ outer_rows s width (a ∷ b ∷ inputs) rows = gathered (outer_of s (width a.inp
 outer_rows s width inputs rows = []
 
 -- all rows of nodes are of values
-abbrev pub AreValues : List (List (List Value)) → Type 0
+abbrev pub AreValues : List Relation → Type 0
 AreValues table = (i : ℕ) → AreRows (table_rows table i)
 
--- the rows of other nodes stand as before, and those of nodes that are looked at later
-abbrev pub OthersStand : ℕ → List (List (List Value)) → List (List (List Value)) → Type 0
+-- the rows of all nodes are as before, those of other nodes, and those of nodes that are looked at later
+abbrev pub AllStand : List Relation → List Relation → Type 0
+AllStand old new = (k : ℕ) → table_rows new k ≡ table_rows old k
+
+abbrev pub OthersStand : ℕ → List Relation → List Relation → Type 0
 OthersStand node old new = (k : ℕ) → k ≢ node → table_rows new k ≡ table_rows old k
 
-abbrev pub LaterStand : List ℕ → ℕ → List (List (List Value)) → List (List (List Value)) → Type 0
+abbrev pub LaterStand : List ℕ → ℕ → List Relation → List Relation → Type 0
 LaterStand ends number old new = (k : ℕ) → get_or ends k 0 ≢ number + 1 → table_rows new k ≡ table_rows old k

@@ -3,12 +3,12 @@ use Rattle.std.specs.Prelude.{◌≡◌, ◌<◌, ◌≤◌, ℕ, true, false, L
 use Rattle.std.specs.List.{filter, filter_map, range_with_len}
 use Rattle.pig_value.specs.declared.inputs.Input.{Input}
 use Rattle.pig_value.specs.declared.outcomes.Kept.{Kept}
-use Rattle.pig_value.specs.declared.values.Value.{Value}
 use Rattle.pig_value.specs.Trees.{Tree}
 use Rattle.pig_plan.specs.Meaning.{AreKept, kept_at, meaning}
 use Rattle.pig_plan.specs.Nodes.{is_bare, is_live, is_sorted, names}
 use Rattle.pig_plan.specs.Plans.{Plan, PlanNode, p_limit}
 use Rattle.pig_plain.specs.Answering.{AnswersFor, EachAnswers, stored_relations}
+use Rattle.pig_plain.specs.declared.relation.Relation.{Relation}
 use Rattle.pig_plain.specs.Operating.{AreValues, table_rows}
 
 -- the live bare LIMITs among the first i nodes
@@ -16,7 +16,7 @@ abbrev pub bare_before : Plan → ℕ → Plan
 bare_before plan i = filter (λ node. is_bare (is_sorted plan) node.op) (filter_map (slice_get plan) (filter (is_live plan) (range_with_len 0 i)))
 
 -- Whatever more is kept later, the rows of the first i nodes answer for them, where a live node from i on names them.
-pub record IsSoFar (plan : Plan) (inputs : List Input) (i : ℕ) (table : List (List (List Value))) (kept : List Kept) (stores : List (List (List Tree))) : Type 0 where
+pub record IsSoFar (plan : Plan) (inputs : List Input) (i : ℕ) (table : List Relation) (kept : List Kept) (stores : List (List (List Tree))) : Type 0 where
   pub size : length table ≡ i
   pub values : AreValues table
   pub each : (more : List Kept) (k n : ℕ) (node : PlanNode) → k < i → i ≤ n → slice_get plan n ≡ Some node → is_live plan n ≡ true → names node.op k ≡ true

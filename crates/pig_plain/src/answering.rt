@@ -9,15 +9,17 @@ ghost use Rattle.pig_plan.specs.Plans.{node_of, op_of, plan_of};
 ghost use Rattle.pig_plan.specs.Results.{at_place};
 ghost use Rattle.pig_plan.specs.Valid.{IsPlan};
 ghost use Rattle.pig_plain.specs.Answering.{IsAnswer};
-ghost use Rattle.pig_plain.specs.Operating.{sorted_list};
+ghost use Rattle.pig_plain.specs.Coming.{relation_rows};
+ghost use Rattle.pig_plain.specs.Operating.{no_rows, sorted_list};
 ghost use Rattle.pig_plain.specs.SoFar.{IsSoFar};
 ghost use Rattle.pig_plain.specs.Kinds.{kind_in, limit_kind};
 ghost use Rattle.pig_plain.specs.Uses.{AreUses};
 
+use crate::copies::copied;
 use crate::operating::found;
+use crate::relation::Relation;
 use crate::releasing::release_inputs;
 use crate::sorted::{is_marked, sorted_nodes};
-use crate::table::copied;
 use crate::uses::{Uses, uses_of};
 use pig_plan::{Node, NodeOp, Plan};
 use pig_value::{Blob, Input, Inputs, Kept, KeptList, Rows, Seq};
@@ -89,23 +91,23 @@ fn know_pieces(pieces: &[Blob])
 
 /// What stands after the nodes before one: their rows, what was kept, and what is stored.
 #[derive(Drop)]
-struct Running {
-    table: Vec<Rows>,
+struct Running<'p> {
+    table: Vec<Relation<'p>>,
     kept: KeptList,
     stores: Relations,
 }
 
-impl Running {
+impl<'p> Running<'p> {
     /// Goes on by one node.
     fn take_on(
         &mut self,
         alloc: Global,
         plan: &Plan,
-        inputs: &[Input],
+        inputs: &'p [Input],
         uses: &Uses,
         sorted: &[bool],
         number: usize,
-        node: &Node,
+        node: &'p Node,
     ) -> Result<(), AllocError>
         requires bytes { AreOfBytes inputs.now }
         requires valid { IsPlan (plan_of plan.now) }
@@ -122,7 +124,7 @@ impl Running {
         if live {
             return self.take_live(alloc, plan, inputs, uses, sorted, number, node);
         }
-        self.put(Rows::new(alloc))
+        self.put(Relation::Standing(Rows::new(alloc)))
     }
 
     /// Goes on by a live node.
@@ -130,11 +132,11 @@ impl Running {
         &mut self,
         alloc: Global,
         plan: &Plan,
-        inputs: &[Input],
+        inputs: &'p [Input],
         uses: &Uses,
         sorted: &[bool],
         number: usize,
-        node: &Node,
+        node: &'p Node,
     ) -> Result<(), AllocError>
         requires bytes { AreOfBytes inputs.now }
         requires valid { IsPlan (plan_of plan.now) }
@@ -149,48 +151,61 @@ impl Running {
             self.new.table.items self.new.kept (map rows_tree self.new.stores)) }
     {
         let ends = uses.ends.as_slice();
-        let rows = found(alloc, plan, inputs, &node.op, &mut self.table, ends, number)?;
+        let made = found(alloc, plan, inputs, &node.op, &mut self.table, ends, number)?;
         release_inputs(alloc, &mut self.table, ends, number, &node.op);
         match kind_of(&node.op, sorted) {
-            Kind::Stored => self.put_stored(alloc, rows),
-            Kind::Kept => self.put_kept(alloc, node.statement, rows),
-            Kind::Standing => self.put(rows),
+            Kind::Stored => self.put_stored(alloc, made),
+            Kind::Kept => self.put_kept(alloc, node.statement, made),
+            Kind::Standing => self.put(made),
         }
     }
 
     /// The rows stand for later nodes.
-    fn put(&mut self, rows: Rows) -> Result<(), AllocError>
-        ensures table { OnOk result (self.new.table.items ≡ self.old.table.items ++ rows ∷ []) }
+    fn put(&mut self, made: Relation<'p>) -> Result<(), AllocError>
+        ensures table { OnOk result (self.new.table.items
+            ≡ self.old.table.items ++ made.entry ∷ []) }
         ensures kept { self.new.kept ≡ self.old.kept }
         ensures stores { self.new.stores ≡ self.old.stores }
     {
-        self.table.push(rows)?;
+        self.table.push(made)?;
         Ok(())
     }
 
     /// The rows of a STORE are looked at by no node.
-    fn put_stored(&mut self, alloc: Global, rows: Rows) -> Result<(), AllocError>
-        ensures table { OnOk result (self.new.table.items ≡ self.old.table.items ++ [] ∷ []) }
+    fn put_stored(&mut self, alloc: Global, made: Relation<'p>) -> Result<(), AllocError>
+        ensures table { OnOk result (self.new.table.items
+            ≡ self.old.table.items ++ no_rows ∷ []) }
         ensures kept { self.new.kept ≡ self.old.kept }
-        ensures stores { OnOk result (self.new.stores ≡ self.old.stores ++ rows ∷ []) }
+        ensures stores { OnOk result (map rows_tree self.new.stores
+            ≡ map rows_tree self.old.stores ++ relation_rows made.entry ∷ []) }
     {
+        let rows = made.into_rows(alloc)?;
         self.stores.push(rows)?;
-        self.put(Rows::new(alloc))
+        self.put(Relation::Standing(Rows::new(alloc)))
     }
 
     /// The rows of a bare LIMIT stand, and copies are kept.
-    fn put_kept(&mut self, alloc: Global, statement: u32, rows: Rows) -> Result<(), AllocError>
-        ensures table { OnOk result (self.new.table.items ≡ self.old.table.items ++ rows ∷ []) }
+    fn put_kept(
+        &mut self,
+        alloc: Global,
+        statement: u32,
+        made: Relation<'p>,
+    ) -> Result<(), AllocError>
+        ensures table { OnOk result ((rows : Relation)
+            × (relation_rows rows ≡ relation_rows made.entry)
+            × (self.new.table.items ≡ self.old.table.items ++ rows ∷ [])) }
         ensures kept { OnOk result ((k : Kept) × (k.statement ≡ statement)
-            × (rows_tree k.rows ≡ rows_tree rows) × (self.new.kept ≡ self.old.kept ++ k ∷ [])) }
+            × (rows_tree k.rows ≡ relation_rows made.entry)
+            × (self.new.kept ≡ self.old.kept ++ k ∷ [])) }
         ensures stores { self.new.stores ≡ self.old.stores }
     {
+        let rows = made.into_rows(alloc)?;
         let copies = copied(alloc, rows.as_slice())?;
         self.kept.push(Kept {
             statement,
             rows: copies,
         })?;
-        self.put(rows)
+        self.put(Relation::Standing(rows))
     }
 }
 

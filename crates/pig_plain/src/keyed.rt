@@ -1,5 +1,6 @@
-ghost use Rattle.std.specs.Prelude.{◌≡◌, ◌≢◌, ◌+◌, [], ◌∷◌, ℕ, List, codes, length, map, IfOk, OnOk};
-ghost use Rattle.std.specs.List.{AllByRecursion};
+ghost use Rattle.std.specs.Prelude.{◌≡◌, ◌≢◌, ◌+◌, ◌==◌, [], ◌∷◌, ℕ, List, true, false, codes};
+ghost use Rattle.std.specs.Prelude.{get_or, length, map, IfOk, OnOk};
+ghost use Rattle.std.specs.List.{AllByRecursion, list_any};
 ghost use Rattle.pig_value.specs.Trees.{Tree, fields_of, row_tree, rows_tree, tree, v_chars, v_tuple};
 ghost use Rattle.pig_value.specs.Valid.{AreRows, IsRow, IsValue};
 ghost use Rattle.pig_typed.specs.Literals.{LiteralsAre};
@@ -9,14 +10,18 @@ ghost use Rattle.pig_plan.specs.Laws.{KeyLiteralsAre};
 ghost use Rattle.pig_plan.specs.Meaning.{width_at};
 ghost use Rattle.pig_plan.specs.Operators.{group_all, group_rows, join_rows, keyed_entries, keys_of};
 ghost use Rattle.pig_plan.specs.Plans.{keyed_of, plan_of};
-ghost use Rattle.pig_runs.specs.Entries.{and_entries, no_entries_in};
-ghost use Rattle.pig_operators.specs.Given.{made};
-ghost use Rattle.pig_plain.specs.Operating.{AreValues, LaterStand, all_keyed, all_rows_keyed, brought_together, keyed_rows, outer_rows, table_rows};
+ghost use Rattle.pig_runs.specs.Entries.{and_entries, no_entries_in, run_of};
+ghost use Rattle.pig_operators.specs.Given.{entries_in, made};
+ghost use Rattle.pig_plain.specs.Coming.{coming, relation_rows, seen_rows};
+ghost use Rattle.pig_plain.specs.Operating.{AllStand, AreValues, LaterStand, OthersStand, all_keyed, all_rows_keyed};
+ghost use Rattle.pig_plain.specs.Operating.{brought_together, keyed_rows, outer_rows, table_rows};
 
-use crate::releasing::{release, release_keyed};
-use crate::table::rows_at;
+use crate::relation::{Relation, Seen};
+use crate::releasing::{is_last, release, release_keyed, take_input};
+use crate::table::{seen_at, take_coming};
+use crate::walking::Walk;
 use pig_eval::{eval, look, value};
-use pig_operators::{Gathering, gather};
+use pig_operators::{Gatherer, Gathering};
 use pig_plan::{KeyedInput, Plan};
 use pig_runs::RunBuilder;
 use pig_typed::TExpr;
@@ -26,39 +31,106 @@ use std::alloc::{AllocError, Global};
 /// GROUP ALL: one row with the bag of all rows, or none.
 ///
 /// Here and below, rows whose last use this is are let go when the run holds them, before it is sorted.
-pub fn all_grouped(
+pub fn all_grouped<'p>(
     alloc: Global,
-    table: &mut Vec<Rows>,
+    table: &mut Vec<Relation<'p>>,
     ends: &[usize],
     number: usize,
     input: u32,
-) -> Result<Rows, AllocError>
+) -> Result<Relation<'p>, AllocError>
     requires values { AreValues table.old.items }
-    ensures rows { IfOk result (λ made. rows_tree made
+    ensures rows { IfOk result (λ made. relation_rows made
         ≡ group_all (table_rows table.old.items input)) }
-    ensures size { length table.new.items ≡ length table.old.items }
-    ensures values { AreValues table.new.items }
-    ensures kept { LaterStand ends.now number table.old.items table.new.items }
+    ensures size { OnOk result (length table.new.items ≡ length table.old.items) }
+    ensures values { OnOk result (AreValues table.new.items) }
+    ensures kept { OnOk result (LaterStand ends.now number table.old.items table.new.items) }
 {
-    let builder = all_entries(alloc, rows_at(table.as_slice(), input))?;
+    let taken = take_input(alloc, table, ends, number, input)?;
+    let seen = seen_at(table.as_slice(), input, taken);
+    let builder = all_entries(alloc, seen)?;
     release(alloc, table, ends, number, input);
-    gather(alloc, &Gathering::Group, builder.finish())
+    Ok(groups(alloc, Gathering::Group, builder))
+}
+
+/// The rows of an operator by key over the entries of a builder are made where they are used.
+fn groups<'p>(alloc: Global, how: Gathering, builder: RunBuilder) -> Relation<'p>
+    requires { builder.dirs ≡ [] }
+    ensures { relation_rows result
+        ≡ gathered (made how) (entries_in (run_of builder.dirs builder.entries)) }
+{
+    let groups = Gatherer::new(how, builder.finish());
+    Relation::Coming(Walk::of_groups(alloc, groups))
 }
 
 /// Rows under one key.
-fn all_entries(alloc: Global, rows: &[Tuple]) -> Result<RunBuilder, AllocError>
-    requires { AreRows (rows_tree rows.now) }
+fn all_entries(alloc: Global, seen: Seen) -> Result<RunBuilder, AllocError>
+    requires { AreRows (seen_rows seen) }
     ensures { IfOk result (λ builder. builder
-        ≡ and_entries (all_rows_keyed (rows_tree rows.now)) (no_entries_in [])) }
+        ≡ and_entries (all_rows_keyed (seen_rows seen.entry)) (no_entries_in [])) }
 {
     let key = all_key(alloc)?;
     let mut builder = RunBuilder::new(alloc, Dirs::new(alloc));
+    add_all_seen(alloc, &key, seen, &mut builder)?;
+    Ok(builder)
+}
+
+fn add_all_seen(
+    alloc: Global,
+    key: &Value,
+    seen: Seen,
+    builder: &mut RunBuilder,
+) -> Result<(), AllocError>
+    requires ascending { builder.old.dirs ≡ [] }
+    requires key { tree key.now ≡ v_chars (codes "all") }
+    requires valid { IsValue (tree key.now) }
+    requires rows { AreRows (seen_rows seen) }
+    ensures { OnOk result (builder.new
+        ≡ and_entries (all_rows_keyed (seen_rows seen.entry)) builder.old) }
+{
+    match seen {
+        Seen::Whole(rows) => add_all_rows(key, rows, builder),
+        Seen::Walked(walk) => add_all_coming(alloc, key, walk, builder),
+    }
+}
+
+fn add_all_rows(key: &Value, rows: &[Tuple], builder: &mut RunBuilder) -> Result<(), AllocError>
+    requires ascending { builder.old.dirs ≡ [] }
+    requires key { tree key.now ≡ v_chars (codes "all") }
+    requires valid { IsValue (tree key.now) }
+    requires rows { AreRows (rows_tree rows.now) }
+    ensures { OnOk result (builder.new
+        ≡ and_entries (all_rows_keyed (rows_tree rows.now)) builder.old) }
+{
     let mut left = rows;
     'rows: while let [row, rest @ ..] = left {
-        add_under(&key, 0, row, &mut builder)?;
+        add_under(key, 0, row, builder)?;
         left = rest;
     }
-    Ok(builder)
+    Ok(())
+}
+
+/// Here and below, rows that come go batch by batch into the run, and are let go.
+fn add_all_coming(
+    alloc: Global,
+    key: &Value,
+    walk: Walk,
+    builder: &mut RunBuilder,
+) -> Result<(), AllocError>
+    requires ascending { builder.old.dirs ≡ [] }
+    requires key { tree key.now ≡ v_chars (codes "all") }
+    requires valid { IsValue (tree key.now) }
+    requires rows { AreRows (coming walk) }
+    ensures { OnOk result (builder.new
+        ≡ and_entries (all_rows_keyed (coming walk.entry)) builder.old) }
+{
+    let mut walk = walk;
+    'batches: loop {
+        let rows = walk.next_batch(alloc)?;
+        if rows.is_empty() {
+            return Ok(());
+        }
+        add_all_rows(key, rows.as_slice(), builder)?;
+    }
 }
 
 fn all_key(alloc: Global) -> Result<Value, AllocError>
@@ -85,23 +157,23 @@ fn add_under(
 }
 
 /// GROUP and COGROUP.
-pub fn grouped(
+pub fn grouped<'p>(
     alloc: Global,
     inputs: &[KeyedInput],
-    table: &mut Vec<Rows>,
+    table: &mut Vec<Relation<'p>>,
     ends: &[usize],
     number: usize,
-) -> Result<Rows, AllocError>
+) -> Result<Relation<'p>, AllocError>
     requires rows { AreValues table.old.items }
     requires literals { KeyLiteralsAre IsValue (map keyed_of inputs.now) }
-    ensures rows { IfOk result (λ made. rows_tree made
+    ensures rows { IfOk result (λ made. relation_rows made
         ≡ group_rows (map keyed_of inputs.now) (table_rows table.old.items)) }
-    ensures size { length table.new.items ≡ length table.old.items }
-    ensures values { AreValues table.new.items }
-    ensures kept { LaterStand ends.now number table.old.items table.new.items }
+    ensures size { OnOk result (length table.new.items ≡ length table.old.items) }
+    ensures values { OnOk result (AreValues table.new.items) }
+    ensures kept { OnOk result (LaterStand ends.now number table.old.items table.new.items) }
 {
     let how = grouping(alloc, inputs)?;
-    brought(alloc, &how, inputs, table, ends, number)
+    brought(alloc, how, inputs, table, ends, number)
 }
 
 fn grouping(alloc: Global, inputs: &[KeyedInput]) -> Result<Gathering, AllocError>
@@ -136,27 +208,27 @@ fn flags(alloc: Global, inputs: &[KeyedInput]) -> Result<Seq<bool>, AllocError>
 }
 
 /// JOIN.
-pub fn joined(
+pub fn joined<'p>(
     alloc: Global,
     plan: &Plan,
     inputs: &[KeyedInput],
     side: Side,
-    table: &mut Vec<Rows>,
+    table: &mut Vec<Relation<'p>>,
     ends: &[usize],
     number: usize,
-) -> Result<Rows, AllocError>
+) -> Result<Relation<'p>, AllocError>
     requires rows { AreValues table.old.items }
     requires literals { KeyLiteralsAre IsValue (map keyed_of inputs.now) }
-    ensures rows { IfOk result (λ made. rows_tree made
+    ensures rows { IfOk result (λ made. relation_rows made
         ≡ join_rows side (width_at (plan_of plan.now)) (map keyed_of inputs.now)
         (table_rows table.old.items)) }
-    ensures size { length table.new.items ≡ length table.old.items }
-    ensures values { AreValues table.new.items }
-    ensures kept { LaterStand ends.now number table.old.items table.new.items }
+    ensures size { OnOk result (length table.new.items ≡ length table.old.items) }
+    ensures values { OnOk result (AreValues table.new.items) }
+    ensures kept { OnOk result (LaterStand ends.now number table.old.items table.new.items) }
 {
     match joining(plan, inputs, side) {
-        Some(how) => brought(alloc, &how, inputs, table, ends, number),
-        None => Ok(Rows::new(alloc)),
+        Some(how) => brought(alloc, how, inputs, table, ends, number),
+        None => Ok(Relation::Standing(Rows::new(alloc))),
     }
 }
 
@@ -201,45 +273,78 @@ fn width(plan: &Plan, node: u32) -> usize
 }
 
 /// The rows of the inputs' entries, brought together.
-fn brought(
+fn brought<'p>(
     alloc: Global,
-    how: &Gathering,
+    how: Gathering,
     inputs: &[KeyedInput],
-    table: &mut Vec<Rows>,
+    table: &mut Vec<Relation<'p>>,
     ends: &[usize],
     number: usize,
-) -> Result<Rows, AllocError>
+) -> Result<Relation<'p>, AllocError>
     requires rows { AreValues table.old.items }
     requires literals { KeyLiteralsAre IsValue (map keyed_of inputs.now) }
-    ensures rows { IfOk result (λ rows. rows_tree rows
-        ≡ gathered (made how.now) (keyed_entries 0 (map keyed_of inputs.now)
+    ensures rows { IfOk result (λ rows. relation_rows rows
+        ≡ gathered (made how) (keyed_entries 0 (map keyed_of inputs.now)
         (table_rows table.old.items))) }
-    ensures size { length table.new.items ≡ length table.old.items }
-    ensures values { AreValues table.new.items }
-    ensures kept { LaterStand ends.now number table.old.items table.new.items }
+    ensures size { OnOk result (length table.new.items ≡ length table.old.items) }
+    ensures values { OnOk result (AreValues table.new.items) }
+    ensures kept { OnOk result (LaterStand ends.now number table.old.items table.new.items) }
 {
-    let builder = entries(alloc, inputs, table.as_slice())?;
+    let builder = entries(alloc, inputs, table, ends, number)?;
     release_keyed(alloc, table, ends, number, inputs);
-    gather(alloc, how, builder.finish())
+    Ok(groups(alloc, how, builder))
 }
 
 /// The entries of all inputs, each row under its key.
-fn entries(alloc: Global, inputs: &[KeyedInput], table: &[Rows]) -> Result<RunBuilder, AllocError>
-    requires rows { AreValues table.now }
+fn entries(
+    alloc: Global,
+    inputs: &[KeyedInput],
+    table: &mut Vec<Relation>,
+    ends: &[usize],
+    number: usize,
+) -> Result<RunBuilder, AllocError>
+    requires rows { AreValues table.old.items }
     requires literals { KeyLiteralsAre IsValue (map keyed_of inputs.now) }
-    ensures { IfOk result (λ builder. builder
-        ≡ and_entries (all_keyed 0 (map keyed_of inputs.now) (table_rows table.now))
+    ensures entries { IfOk result (λ builder. builder
+        ≡ and_entries (all_keyed 0 (map keyed_of inputs.now) (table_rows table.old.items))
         (no_entries_in [])) }
+    ensures size { OnOk result (length table.new.items ≡ length table.old.items) }
+    ensures values { OnOk result (AreValues table.new.items) }
+    ensures kept { OnOk result (LaterStand ends.now number table.old.items table.new.items) }
 {
     let mut builder = RunBuilder::new(alloc, Dirs::new(alloc));
-    let mut number = 0;
+    let mut place = 0;
     let mut left = inputs;
     'inputs: while let [input, rest @ ..] = left {
-        add_input(alloc, input, number, table, &mut builder)?;
-        number = next_number(number)?;
+        let last = is_last_of(ends, input.input, number, rest);
+        add_input(alloc, input, place, table, last, &mut builder)?;
+        place = next_number(place)?;
         left = rest;
     }
     Ok(builder)
+}
+
+/// Whether this is a node's last use, and none of the inputs that are still to be used here is the node.
+fn is_last_of(ends: &[usize], input: u32, number: usize, rest: &[KeyedInput]) -> bool
+    ensures last { result ≡ true → get_or ends.now input 0 ≡ number + 1 }
+    ensures named { result ≡ true → list_any (λ i. i == input)
+        (map (λ i. i.input) (map keyed_of rest.now)) ≡ false }
+{
+    is_last(ends, input, number) && !is_named(rest, input)
+}
+
+fn is_named(inputs: &[KeyedInput], node: u32) -> bool
+    ensures { result ≡ list_any (λ i. i == node)
+        (map (λ i. i.input) (map keyed_of inputs.now)) }
+{
+    let mut left = inputs;
+    while let [input, rest @ ..] = left {
+        if input.input == node {
+            return true;
+        }
+        left = rest;
+    }
+    false
 }
 
 /// The number of the next input, which an entry has room for.
@@ -252,19 +357,68 @@ fn next_number(number: u32) -> Result<u32, AllocError>
 fn add_input(
     alloc: Global,
     input: &KeyedInput,
-    number: u32,
-    table: &[Rows],
+    place: u32,
+    table: &mut Vec<Relation>,
+    last: bool,
     builder: &mut RunBuilder,
 ) -> Result<(), AllocError>
     requires ascending { builder.old.dirs ≡ [] }
-    requires rows { AreValues table.now }
+    requires rows { AreValues table.old.items }
     requires literals { AllByRecursion (LiteralsAre IsValue) (map typed input.now.keys) }
-    ensures { OnOk result (builder.new
-        ≡ and_entries (keyed_rows (map typed input.now.keys) number
-        (table_rows table.now input.now.input)) builder.old) }
+    ensures entries { OnOk result (builder.new
+        ≡ and_entries (keyed_rows (map typed input.now.keys) place
+        (table_rows table.old.items input.now.input)) builder.old) }
+    ensures size { OnOk result (length table.new.items ≡ length table.old.items) }
+    ensures others { OnOk result (OthersStand input.now.input table.old.items table.new.items) }
+    ensures values { OnOk result (AreValues table.new.items) }
+    ensures kept { last ≡ false → OnOk result (AllStand table.old.items table.new.items) }
 {
-    let rows = rows_at(table, input.input);
-    add_rows(alloc, input.keys.as_slice(), number, rows, builder)
+    let taken = take_coming(alloc, table, input.input, last)?;
+    let seen = seen_at(table.as_slice(), input.input, taken);
+    add_seen(alloc, input.keys.as_slice(), place, seen, builder)
+}
+
+fn add_seen(
+    alloc: Global,
+    keys: &[TExpr],
+    number: u32,
+    seen: Seen,
+    builder: &mut RunBuilder,
+) -> Result<(), AllocError>
+    requires ascending { builder.old.dirs ≡ [] }
+    requires rows { AreRows (seen_rows seen) }
+    requires literals { AllByRecursion (LiteralsAre IsValue) (map typed keys.now) }
+    ensures { OnOk result (builder.new
+        ≡ and_entries (keyed_rows (map typed keys.now) number (seen_rows seen.entry))
+        builder.old) }
+{
+    match seen {
+        Seen::Whole(rows) => add_rows(alloc, keys, number, rows, builder),
+        Seen::Walked(walk) => add_coming(alloc, keys, number, walk, builder),
+    }
+}
+
+fn add_coming(
+    alloc: Global,
+    keys: &[TExpr],
+    number: u32,
+    walk: Walk,
+    builder: &mut RunBuilder,
+) -> Result<(), AllocError>
+    requires ascending { builder.old.dirs ≡ [] }
+    requires rows { AreRows (coming walk) }
+    requires literals { AllByRecursion (LiteralsAre IsValue) (map typed keys.now) }
+    ensures { OnOk result (builder.new
+        ≡ and_entries (keyed_rows (map typed keys.now) number (coming walk.entry)) builder.old) }
+{
+    let mut walk = walk;
+    'batches: loop {
+        let rows = walk.next_batch(alloc)?;
+        if rows.is_empty() {
+            return Ok(());
+        }
+        add_rows(alloc, keys, number, rows.as_slice(), builder)?;
+    }
 }
 
 fn add_rows(

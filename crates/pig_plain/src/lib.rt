@@ -5,17 +5,22 @@
 #![tactic(auto)]
 
 mod answering;
+mod copies;
+mod each_row;
 mod keyed;
 mod laws;
 mod loading;
 mod operating;
 mod ranking;
+mod reading;
+mod relation;
 mod releasing;
 mod rowwise;
 mod sorted;
 mod sorting;
 mod table;
 mod uses;
+mod walking;
 
 pub use answering::{Answers, Relations, answer};
 pub use laws::answers_are_stored_lines;

@@ -4,15 +4,67 @@ ghost use Rattle.std.specs.Ordering.{is_lt};
 ghost use Rattle.pig_value.specs.Functions.{long_of};
 ghost use Rattle.pig_value.specs.Trees.{at, row_tree, rows_tree, tree};
 ghost use Rattle.pig_plan.specs.Operators.{key_fields, rank_of, rank_rows, sort_keys_cmp, stand_before};
+ghost use Rattle.pig_plain.specs.Coming.{coming, relation_rows, seen_rows};
+ghost use Rattle.pig_plain.specs.Operating.{AreValues, LaterStand, table_rows};
 
+use crate::relation::{Relation, Seen, collected};
+use crate::releasing::take_input;
+use crate::table::seen_at;
+use crate::walking::Walk;
 use pig_nested::{compare_by_keys, distinct_rows};
 use pig_typed::SortKeys;
 use pig_value::{Rows, Tuple, Value, copy, copy_row, field_at};
 use std::alloc::{AllocError, Global};
 use std::cmp::Ordering;
 
-/// RANK: each row behind its rank. For each row all are gone through.
-pub fn ranked(
+/// RANK: each row behind its rank.
+pub fn ranked<'p>(
+    alloc: Global,
+    table: &mut Vec<Relation<'p>>,
+    ends: &[usize],
+    number: usize,
+    input: u32,
+    keys: &SortKeys,
+    dense: bool,
+) -> Result<Relation<'p>, AllocError>
+    requires values { AreValues table.old.items }
+    ensures rows { IfOk result (λ made. relation_rows made
+        ≡ rank_rows keys.now dense (table_rows table.old.items input)) }
+    ensures size { OnOk result (length table.new.items ≡ length table.old.items) }
+    ensures values { OnOk result (AreValues table.new.items) }
+    ensures kept { OnOk result (LaterStand ends.now number table.old.items table.new.items) }
+{
+    let taken = take_input(alloc, table, ends, number, input)?;
+    let seen = seen_at(table.as_slice(), input, taken);
+    let rows = ranked_seen(alloc, seen, keys, dense)?;
+    Ok(Relation::Standing(rows))
+}
+
+fn ranked_seen(alloc: Global, seen: Seen, keys: &SortKeys, dense: bool) -> Result<Rows, AllocError>
+    ensures { IfOk result (λ made. rows_tree made
+        ≡ rank_rows keys.now dense (seen_rows seen.entry)) }
+{
+    match seen {
+        Seen::Whole(rows) => ranked_rows(alloc, rows, keys, dense),
+        Seen::Walked(walk) => ranked_coming(alloc, walk, keys, dense),
+    }
+}
+
+fn ranked_coming(
+    alloc: Global,
+    walk: Walk,
+    keys: &SortKeys,
+    dense: bool,
+) -> Result<Rows, AllocError>
+    ensures { IfOk result (λ made. rows_tree made
+        ≡ rank_rows keys.now dense (coming walk.entry)) }
+{
+    let rows = collected(alloc, walk)?;
+    ranked_rows(alloc, rows.as_slice(), keys, dense)
+}
+
+/// For each row all are gone through.
+fn ranked_rows(
     alloc: Global,
     rows: &[Tuple],
     keys: &SortKeys,

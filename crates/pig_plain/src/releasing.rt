@@ -1,28 +1,48 @@
-ghost use Rattle.std.specs.Prelude.{◌≡◌, ◌+◌, ◌==◌, get_or, length, IfOk};
-ghost use Rattle.pig_value.specs.Trees.{rows_tree};
-ghost use Rattle.pig_plain.specs.Operating.{AreValues, LaterStand, table_rows};
+ghost use Rattle.std.specs.Prelude.{◌≡◌, ◌+◌, ◌==◌, get_or, length, IfOk, OnOk};
+ghost use Rattle.pig_plain.specs.Coming.{relation_rows};
+ghost use Rattle.pig_plain.specs.Operating.{AreValues, LaterStand, table_rows, taken_rows};
 
-use crate::table::{own_rows, take_rows};
+use crate::relation::Relation;
+use crate::table::{own_relation, take_coming, take_relation};
+use crate::walking::Walk;
 use pig_plan::{KeyedInput, NodeOp};
-use pig_value::Rows;
 use std::alloc::{AllocError, Global};
 
-/// The rows of a node to keep: those that stand there where this is their last use, and else copies.
-pub fn own_input(
+/// The rows of a node to keep: its own where this is their last use, and else the same once more.
+pub fn own_input<'p>(
     alloc: Global,
-    table: &mut Vec<Rows>,
+    table: &mut Vec<Relation<'p>>,
     ends: &[usize],
     number: usize,
     input: u32,
-) -> Result<Rows, AllocError>
+) -> Result<Relation<'p>, AllocError>
     requires values { AreValues table.old.items }
-    ensures rows { IfOk result (λ rows. rows_tree rows ≡ table_rows table.old.items input) }
-    ensures size { length table.new.items ≡ length table.old.items }
-    ensures values { AreValues table.new.items }
-    ensures kept { LaterStand ends.now number table.old.items table.new.items }
+    ensures rows { IfOk result (λ made. relation_rows made ≡ table_rows table.old.items input) }
+    ensures size { OnOk result (length table.new.items ≡ length table.old.items) }
+    ensures values { OnOk result (AreValues table.new.items) }
+    ensures kept { OnOk result (LaterStand ends.now number table.old.items table.new.items) }
 {
     let last = is_last(ends, input, number);
-    own_rows(alloc, table, input, last)
+    own_relation(alloc, table, input, last)
+}
+
+/// The walk of a node whose last use this is. Of another node the rows stand from now on.
+pub fn take_input<'p>(
+    alloc: Global,
+    table: &mut Vec<Relation<'p>>,
+    ends: &[usize],
+    number: usize,
+    input: u32,
+) -> Result<Option<Walk<'p>>, AllocError>
+    requires values { AreValues table.old.items }
+    ensures rows { IfOk result (λ taken. taken_rows taken table.new.items input
+        ≡ table_rows table.old.items input) }
+    ensures size { OnOk result (length table.new.items ≡ length table.old.items) }
+    ensures values { OnOk result (AreValues table.new.items) }
+    ensures kept { OnOk result (LaterStand ends.now number table.old.items table.new.items) }
+{
+    let last = is_last(ends, input, number);
+    take_coming(alloc, table, input, last)
 }
 
 /// Whether this is a node's last use.
@@ -38,7 +58,7 @@ pub fn is_last(ends: &[usize], input: u32, number: usize) -> bool
 /// Lets the rows of a node's inputs go that no later node looks at.
 pub fn release_inputs(
     alloc: Global,
-    table: &mut Vec<Rows>,
+    table: &mut Vec<Relation>,
     ends: &[usize],
     number: usize,
     op: &NodeOp,
@@ -68,7 +88,7 @@ pub fn release_inputs(
 /// Lets go the rows of inputs by key that no later node looks at.
 pub fn release_keyed(
     alloc: Global,
-    table: &mut Vec<Rows>,
+    table: &mut Vec<Relation>,
     ends: &[usize],
     number: usize,
     inputs: &[KeyedInput],
@@ -85,7 +105,13 @@ pub fn release_keyed(
     }
 }
 
-fn release_each(alloc: Global, table: &mut Vec<Rows>, ends: &[usize], number: usize, inputs: &[u32])
+fn release_each(
+    alloc: Global,
+    table: &mut Vec<Relation>,
+    ends: &[usize],
+    number: usize,
+    inputs: &[u32],
+)
     requires values { AreValues table.old.items }
     ensures size { length table.new.items ≡ length table.old.items }
     ensures values { AreValues table.new.items }
@@ -99,13 +125,13 @@ fn release_each(alloc: Global, table: &mut Vec<Rows>, ends: &[usize], number: us
 }
 
 /// Lets go the rows of a node that no later node looks at.
-pub fn release(alloc: Global, table: &mut Vec<Rows>, ends: &[usize], number: usize, input: u32)
+pub fn release(alloc: Global, table: &mut Vec<Relation>, ends: &[usize], number: usize, input: u32)
     requires values { AreValues table.old.items }
     ensures size { length table.new.items ≡ length table.old.items }
     ensures values { AreValues table.new.items }
     ensures kept { LaterStand ends.now number table.old.items table.new.items }
 {
     if is_last(ends, input, number) {
-        take_rows(alloc, table, input);
+        take_relation(alloc, table, input);
     }
 }

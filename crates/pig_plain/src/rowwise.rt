@@ -1,89 +1,202 @@
-ghost use Rattle.std.specs.Prelude.{◌≡◌, ◌++◌, [], ◌∷◌, map, take, IfOk, OnOk};
-ghost use Rattle.std.specs.List.{filter, flat_map};
-ghost use Rattle.pig_value.specs.Trees.{row_tree, rows_tree};
+ghost use Rattle.std.specs.Prelude.{◌≡◌, ◌+◌, ◌==◌, ◌++◌, true, false, get_or, length, take, IfOk, OnOk};
+ghost use Rattle.std.specs.List.{flat_map, list_any};
+ghost use Rattle.pig_value.specs.Trees.{rows_tree};
 ghost use Rattle.pig_typed.specs.Blocks.{foreach_all};
-ghost use Rattle.pig_typed.specs.Evaluation.{passes};
 ghost use Rattle.pig_typed.specs.Typed.{block_typed, typed};
 ghost use Rattle.pig_plan.specs.Operators.{filter_rows};
-ghost use Rattle.pig_plain.specs.Operating.{table_rows};
+ghost use Rattle.pig_plain.specs.Coming.{coming, relation_rows, seen_rows};
+ghost use Rattle.pig_plain.specs.Operating.{AllStand, AreValues, LaterStand, OthersStand, table_rows};
 
-use crate::table::{add_copies, copied, rows_at};
-use pig_eval::holds;
-use pig_nested::foreach;
+use crate::copies::copied;
+use crate::each_row::{generated, passing, passing_copies};
+use crate::relation::{Relation, Seen, add_seen, collected};
+use crate::releasing::{is_last, take_input};
+use crate::table::{rows_at, seen_at, settle, take_coming, take_relation};
+use crate::walking::{RowStep, Walk};
 use pig_typed::{Block, TExpr};
-use pig_value::{Rows, Tuple, copy_row};
+use pig_value::{Rows, Tuple};
 use std::alloc::{AllocError, Global};
 
-/// FILTER of rows that others use too: copies of those of which the condition is true.
-pub fn passing_copies(alloc: Global, cond: &TExpr, rows: &[Tuple]) -> Result<Rows, AllocError>
-    ensures { IfOk result (λ kept. rows_tree kept
-        ≡ filter_rows (typed cond.now) (rows_tree rows.now)) }
+/// FILTER: the rows themselves where this is their last use, and else copies.
+///
+/// Here and in FOREACH a step is added to rows that are still to come.
+pub fn filtered<'p>(
+    alloc: Global,
+    cond: &'p TExpr,
+    table: &mut Vec<Relation<'p>>,
+    ends: &[usize],
+    number: usize,
+    input: u32,
+) -> Result<Relation<'p>, AllocError>
+    requires values { AreValues table.old.items }
+    ensures rows { IfOk result (λ made. relation_rows made
+        ≡ filter_rows (typed cond.now) (table_rows table.old.items input)) }
+    ensures size { OnOk result (length table.new.items ≡ length table.old.items) }
+    ensures values { OnOk result (AreValues table.new.items) }
+    ensures kept { OnOk result (LaterStand ends.now number table.old.items table.new.items) }
 {
-    let mut kept = Rows::new(alloc);
-    for row in rows {
-        copy_passing(alloc, cond, row, &mut kept)?;
+    if is_last(ends, input, number) {
+        return passing_own(alloc, cond, take_relation(alloc, table, input));
     }
-    Ok(kept)
+    settle(alloc, table, input)?;
+    let rows = passing_copies(alloc, cond, rows_at(table.as_slice(), input))?;
+    Ok(Relation::Standing(rows))
 }
 
-fn copy_passing(alloc: Global, cond: &TExpr, row: &Tuple, kept: &mut Rows) -> Result<(), AllocError>
-    ensures { OnOk result (rows_tree kept.new
-        ≡ rows_tree kept.old ++ filter_rows (typed cond.now) (row_tree row.now ∷ [])) }
+fn passing_own<'p>(
+    alloc: Global,
+    cond: &'p TExpr,
+    relation: Relation<'p>,
+) -> Result<Relation<'p>, AllocError>
+    ensures { IfOk result (λ made. relation_rows made
+        ≡ filter_rows (typed cond.now) (relation_rows relation.entry)) }
 {
-    if !holds(alloc, cond, row)? {
-        return Ok(());
+    match relation {
+        Relation::Standing(rows) => Ok(Relation::Standing(passing(alloc, cond, rows)?)),
+        Relation::Coming(walk) => Ok(Relation::Coming(walk.then(RowStep::Filter(cond))?)),
     }
-    kept.push(copy_row(alloc, row)?)
 }
 
-/// FILTER of rows that no other uses: those of which the condition is true.
-pub fn passing(alloc: Global, cond: &TExpr, rows: Rows) -> Result<Rows, AllocError>
-    ensures { IfOk result (λ kept. rows_tree kept
-        ≡ filter_rows (typed cond.now) (rows_tree rows)) }
+/// FOREACH: what the block generates of each row, of rows that come as they come.
+pub fn foreached<'p>(
+    alloc: Global,
+    block: &'p Block,
+    table: &mut Vec<Relation<'p>>,
+    ends: &[usize],
+    number: usize,
+    input: u32,
+) -> Result<Relation<'p>, AllocError>
+    requires values { AreValues table.old.items }
+    ensures rows { IfOk result (λ made. relation_rows made
+        ≡ foreach_all (block_typed block.now) (table_rows table.old.items input)) }
+    ensures size { OnOk result (length table.new.items ≡ length table.old.items) }
+    ensures values { OnOk result (AreValues table.new.items) }
+    ensures kept { OnOk result (LaterStand ends.now number table.old.items table.new.items) }
 {
-    let mut kept = Rows::new(alloc);
-    for row in rows.into_vec() {
-        keep_passing(alloc, cond, row, &mut kept)?;
-    }
-    Ok(kept)
+    let taken = take_input(alloc, table, ends, number, input)?;
+    let seen = seen_at(table.as_slice(), input, taken);
+    generated_seen(alloc, block, seen)
 }
 
-fn keep_passing(alloc: Global, cond: &TExpr, row: Tuple, kept: &mut Rows) -> Result<(), AllocError>
-    ensures { OnOk result (rows_tree kept.new
-        ≡ rows_tree kept.old ++ filter_rows (typed cond.now) (row_tree row ∷ [])) }
+fn generated_seen<'p>(
+    alloc: Global,
+    block: &'p Block,
+    seen: Seen<'_, 'p>,
+) -> Result<Relation<'p>, AllocError>
+    ensures { IfOk result (λ made. relation_rows made
+        ≡ foreach_all (block_typed block.now) (seen_rows seen.entry)) }
 {
-    if !holds(alloc, cond, &row)? {
-        return Ok(());
+    match seen {
+        Seen::Whole(rows) => Ok(Relation::Standing(generated(alloc, block, rows)?)),
+        Seen::Walked(walk) => Ok(Relation::Coming(walk.then(RowStep::Foreach(block))?)),
     }
-    kept.push(row)
 }
 
-/// FOREACH: what the block generates of each row.
-pub fn generated(alloc: Global, block: &Block, rows: &[Tuple]) -> Result<Rows, AllocError>
-    ensures { IfOk result (λ made. rows_tree made
-        ≡ foreach_all (block_typed block.now) (rows_tree rows.now)) }
+/// UNION: the rows of all inputs.
+pub fn united<'p>(
+    alloc: Global,
+    table: &mut Vec<Relation<'p>>,
+    ends: &[usize],
+    number: usize,
+    inputs: &[u32],
+) -> Result<Relation<'p>, AllocError>
+    requires values { AreValues table.old.items }
+    ensures rows { IfOk result (λ made. relation_rows made
+        ≡ flat_map (table_rows table.old.items) inputs.now) }
+    ensures size { OnOk result (length table.new.items ≡ length table.old.items) }
+    ensures values { OnOk result (AreValues table.new.items) }
+    ensures kept { OnOk result (LaterStand ends.now number table.old.items table.new.items) }
 {
     let mut made = Rows::new(alloc);
-    for row in rows {
-        made.extend(foreach(alloc, block, row)?)?;
+    let mut left = inputs;
+    'inputs: while let [input, rest @ ..] = left {
+        let last = is_last_of(ends, *input, number, rest);
+        add_input(alloc, table, *input, last, &mut made)?;
+        left = rest;
     }
-    Ok(made)
+    Ok(Relation::Standing(made))
 }
 
-/// UNION: copies of the rows of all inputs.
-pub fn united(alloc: Global, table: &[Rows], inputs: &[u32]) -> Result<Rows, AllocError>
-    ensures { IfOk result (λ made. rows_tree made
-        ≡ flat_map (table_rows table.now) inputs.now) }
+/// Whether this is a node's last use, and it is not among those that are still to be used here.
+fn is_last_of(ends: &[usize], input: u32, number: usize, rest: &[u32]) -> bool
+    ensures last { result ≡ true → get_or ends.now input 0 ≡ number + 1 }
+    ensures named { result ≡ true → list_any (λ i. i == input) rest.now ≡ false }
 {
-    let mut made = Rows::new(alloc);
-    for input in inputs {
-        add_copies(alloc, rows_at(table, *input), &mut made)?;
-    }
-    Ok(made)
+    is_last(ends, input, number) && !is_named(rest, input)
 }
 
-/// LIMIT: copies of the first rows.
-pub fn first_copies(alloc: Global, rows: &[Tuple], count: u64) -> Result<Rows, AllocError>
+fn is_named(inputs: &[u32], node: u32) -> bool
+    ensures { result ≡ list_any (λ i. i == node) inputs.now }
+{
+    let mut left = inputs;
+    while let [input, rest @ ..] = left {
+        if *input == node {
+            return true;
+        }
+        left = rest;
+    }
+    false
+}
+
+fn add_input(
+    alloc: Global,
+    table: &mut Vec<Relation>,
+    input: u32,
+    last: bool,
+    made: &mut Rows,
+) -> Result<(), AllocError>
+    ensures rows { OnOk result (rows_tree made.new
+        ≡ rows_tree made.old ++ table_rows table.old.items input) }
+    ensures size { OnOk result (length table.new.items ≡ length table.old.items) }
+    ensures others { OnOk result (OthersStand input table.old.items table.new.items) }
+    ensures values { AreValues table.old.items → OnOk result (AreValues table.new.items) }
+    ensures kept { last ≡ false → OnOk result (AllStand table.old.items table.new.items) }
+{
+    let taken = take_coming(alloc, table, input, last)?;
+    let seen = seen_at(table.as_slice(), input, taken);
+    add_seen(alloc, seen, made)
+}
+
+/// LIMIT: the first rows.
+pub fn limited<'p>(
+    alloc: Global,
+    table: &mut Vec<Relation<'p>>,
+    ends: &[usize],
+    number: usize,
+    input: u32,
+    count: u64,
+) -> Result<Relation<'p>, AllocError>
+    requires values { AreValues table.old.items }
+    ensures rows { IfOk result (λ made. relation_rows made
+        ≡ take count (table_rows table.old.items input)) }
+    ensures size { OnOk result (length table.new.items ≡ length table.old.items) }
+    ensures values { OnOk result (AreValues table.new.items) }
+    ensures kept { OnOk result (LaterStand ends.now number table.old.items table.new.items) }
+{
+    let taken = take_input(alloc, table, ends, number, input)?;
+    let seen = seen_at(table.as_slice(), input, taken);
+    let rows = first_rows(alloc, seen, count)?;
+    Ok(Relation::Standing(rows))
+}
+
+fn first_rows(alloc: Global, seen: Seen, count: u64) -> Result<Rows, AllocError>
+    ensures { IfOk result (λ made. rows_tree made ≡ take count (seen_rows seen.entry)) }
+{
+    match seen {
+        Seen::Whole(rows) => first_copies(alloc, rows, count),
+        Seen::Walked(walk) => first_coming(alloc, walk, count),
+    }
+}
+
+fn first_coming(alloc: Global, walk: Walk, count: u64) -> Result<Rows, AllocError>
+    ensures { IfOk result (λ made. rows_tree made ≡ take count (coming walk.entry)) }
+{
+    let rows = collected(alloc, walk)?;
+    first_copies(alloc, rows.as_slice(), count)
+}
+
+/// Copies of the first rows.
+fn first_copies(alloc: Global, rows: &[Tuple], count: u64) -> Result<Rows, AllocError>
     ensures { IfOk result (λ made. rows_tree made ≡ take count (rows_tree rows.now)) }
 {
     let end = rows.len().min(count as usize);

@@ -6,11 +6,14 @@ ghost use Rattle.pig_value.specs.Valid.{AreRows, IsRow};
 ghost use Rattle.pig_plan.specs.Operators.{order_rows};
 ghost use Rattle.pig_runs.specs.Entries.{and_entries, no_entries_in};
 ghost use Rattle.pig_operators.specs.Given.{dirs_of, sort_entry};
+ghost use Rattle.pig_plain.specs.Coming.{coming, relation_rows, seen_rows};
 ghost use Rattle.pig_plain.specs.Operating.{AreValues, LaterStand, row_entry, table_rows};
 
 use crate::ranking::key_values;
-use crate::releasing::release;
-use crate::table::rows_at;
+use crate::relation::{Relation, Seen};
+use crate::releasing::{release, take_input};
+use crate::table::seen_at;
+use crate::walking::Walk;
 use pig_operators::{distinct_keys, ordered};
 use pig_runs::RunBuilder;
 use pig_typed::SortKeys;
@@ -23,7 +26,7 @@ use std::alloc::{AllocError, Global};
 pub fn in_order(
     alloc: Global,
     keys: &SortKeys,
-    table: &mut Vec<Rows>,
+    table: &mut Vec<Relation>,
     ends: &[usize],
     number: usize,
     input: u32,
@@ -31,29 +34,84 @@ pub fn in_order(
     requires values { AreValues table.old.items }
     ensures rows { IfOk result (λ rows. rows_tree rows
         ≡ order_rows keys.now (table_rows table.old.items input)) }
-    ensures size { length table.new.items ≡ length table.old.items }
-    ensures values { AreValues table.new.items }
-    ensures kept { LaterStand ends.now number table.old.items table.new.items }
+    ensures size { OnOk result (length table.new.items ≡ length table.old.items) }
+    ensures values { OnOk result (AreValues table.new.items) }
+    ensures kept { OnOk result (LaterStand ends.now number table.old.items table.new.items) }
 {
-    let builder = sort_entries(alloc, keys, rows_at(table.as_slice(), input))?;
+    let taken = take_input(alloc, table, ends, number, input)?;
+    let seen = seen_at(table.as_slice(), input, taken);
+    let builder = sort_entries(alloc, keys, seen)?;
     release(alloc, table, ends, number, input);
     ordered(alloc, builder.finish())
 }
 
 /// Rows under their fields to sort by, in the directions of the keys.
-fn sort_entries(alloc: Global, keys: &SortKeys, rows: &[Tuple]) -> Result<RunBuilder, AllocError>
-    requires { AreRows (rows_tree rows.now) }
+fn sort_entries(alloc: Global, keys: &SortKeys, seen: Seen) -> Result<RunBuilder, AllocError>
+    requires { AreRows (seen_rows seen) }
     ensures { IfOk result (λ builder. builder
-        ≡ and_entries (map (sort_entry keys.now) (rows_tree rows.now))
+        ≡ and_entries (map (sort_entry keys.now) (seen_rows seen.entry))
         (no_entries_in (dirs_of keys.now))) }
 {
     let mut builder = RunBuilder::new(alloc, directions(alloc, keys)?);
+    add_sorting_seen(alloc, keys, seen, &mut builder)?;
+    Ok(builder)
+}
+
+fn add_sorting_seen(
+    alloc: Global,
+    keys: &SortKeys,
+    seen: Seen,
+    builder: &mut RunBuilder,
+) -> Result<(), AllocError>
+    requires dirs { builder.old.dirs ≡ dirs_of keys.now }
+    requires rows { AreRows (seen_rows seen) }
+    ensures { OnOk result (builder.new
+        ≡ and_entries (map (sort_entry keys.now) (seen_rows seen.entry)) builder.old) }
+{
+    match seen {
+        Seen::Whole(rows) => add_sorting_rows(alloc, keys, rows, builder),
+        Seen::Walked(walk) => add_sorting_coming(alloc, keys, walk, builder),
+    }
+}
+
+fn add_sorting_rows(
+    alloc: Global,
+    keys: &SortKeys,
+    rows: &[Tuple],
+    builder: &mut RunBuilder,
+) -> Result<(), AllocError>
+    requires dirs { builder.old.dirs ≡ dirs_of keys.now }
+    requires rows { AreRows (rows_tree rows.now) }
+    ensures { OnOk result (builder.new
+        ≡ and_entries (map (sort_entry keys.now) (rows_tree rows.now)) builder.old) }
+{
     let mut left = rows;
     'rows: while let [row, rest @ ..] = left {
-        add_sorting(alloc, keys, row, &mut builder)?;
+        add_sorting(alloc, keys, row, builder)?;
         left = rest;
     }
-    Ok(builder)
+    Ok(())
+}
+
+fn add_sorting_coming(
+    alloc: Global,
+    keys: &SortKeys,
+    walk: Walk,
+    builder: &mut RunBuilder,
+) -> Result<(), AllocError>
+    requires dirs { builder.old.dirs ≡ dirs_of keys.now }
+    requires rows { AreRows (coming walk) }
+    ensures { OnOk result (builder.new
+        ≡ and_entries (map (sort_entry keys.now) (coming walk.entry)) builder.old) }
+{
+    let mut walk = walk;
+    'batches: loop {
+        let rows = walk.next_batch(alloc)?;
+        if rows.is_empty() {
+            return Ok(());
+        }
+        add_sorting_rows(alloc, keys, rows.as_slice(), builder)?;
+    }
 }
 
 fn directions(alloc: Global, keys: &SortKeys) -> Result<Dirs, AllocError>
@@ -82,25 +140,68 @@ fn add_sorting(
 }
 
 /// DISTINCT: each row once, in ascending order. A row is let go as soon as a run holds it.
-pub fn once(alloc: Global, rows: Rows) -> Result<Rows, AllocError>
-    requires { AreRows (rows_tree rows) }
-    ensures { IfOk result (λ made. rows_tree made ≡ distinct row_cmp (rows_tree rows)) }
+pub fn once(alloc: Global, relation: Relation) -> Result<Rows, AllocError>
+    requires { AreRows (relation_rows relation) }
+    ensures { IfOk result (λ made. rows_tree made
+        ≡ distinct row_cmp (relation_rows relation.entry)) }
 {
-    let builder = row_entries(alloc, rows)?;
+    let builder = row_entries(alloc, relation)?;
     distinct_keys(alloc, builder.finish())
 }
 
 /// Rows under themselves.
-fn row_entries(alloc: Global, rows: Rows) -> Result<RunBuilder, AllocError>
-    requires { AreRows (rows_tree rows) }
+fn row_entries(alloc: Global, relation: Relation) -> Result<RunBuilder, AllocError>
+    requires { AreRows (relation_rows relation) }
     ensures { IfOk result (λ builder. builder
-        ≡ and_entries (map row_entry (rows_tree rows)) (no_entries_in [])) }
+        ≡ and_entries (map row_entry (relation_rows relation.entry)) (no_entries_in [])) }
 {
     let mut builder = RunBuilder::new(alloc, Dirs::new(alloc));
-    for row in rows.into_vec() {
-        add_whole(row, &mut builder)?;
-    }
+    add_whole_relation(alloc, relation, &mut builder)?;
     Ok(builder)
+}
+
+fn add_whole_relation(
+    alloc: Global,
+    relation: Relation,
+    builder: &mut RunBuilder,
+) -> Result<(), AllocError>
+    requires ascending { builder.old.dirs ≡ [] }
+    requires rows { AreRows (relation_rows relation) }
+    ensures { OnOk result (builder.new
+        ≡ and_entries (map row_entry (relation_rows relation.entry)) builder.old) }
+{
+    match relation {
+        Relation::Standing(rows) => add_whole_rows(rows, builder),
+        Relation::Coming(walk) => add_whole_coming(alloc, walk, builder),
+    }
+}
+
+fn add_whole_coming(alloc: Global, walk: Walk, builder: &mut RunBuilder) -> Result<(), AllocError>
+    requires ascending { builder.old.dirs ≡ [] }
+    requires rows { AreRows (coming walk) }
+    ensures { OnOk result (builder.new
+        ≡ and_entries (map row_entry (coming walk.entry)) builder.old) }
+{
+    let mut walk = walk;
+    'batches: loop {
+        let rows = walk.next_batch(alloc)?;
+        if rows.is_empty() {
+            return Ok(());
+        }
+        add_whole_rows(rows, builder)?;
+    }
+}
+
+fn add_whole_rows(rows: Rows, builder: &mut RunBuilder) -> Result<(), AllocError>
+    requires ascending { builder.old.dirs ≡ [] }
+    requires rows { AreRows (rows_tree rows) }
+    ensures { OnOk result (builder.new
+        ≡ and_entries (map row_entry (rows_tree rows)) builder.old) }
+{
+    for row in rows.into_vec() {
+        add_whole(row, builder)?;
+    }
+    Ok(())
 }
 
 fn add_whole(row: Tuple, builder: &mut RunBuilder) -> Result<(), AllocError>

@@ -238,7 +238,7 @@ fn bags(rt: HostRuntime) -> Result<(), Fail> {
 
 #[test]
 fn keys(rt: HostRuntime) -> Result<(), Fail> {
-    let cases: [(&str, &[u8]); 6] = [
+    let cases: [(&str, &[u8]); 8] = [
         ("ic=a g0 s1", b"\t{(,y),(,z)}\n1\t{(1,x)}\n.\n"),
         (
             "ic=a ic=b g01 s2",
@@ -251,6 +251,11 @@ fn keys(rt: HostRuntime) -> Result<(), Fail> {
         ),
         ("i=n a0 s1", b"all\t{(1),(2),(3)}\n.\n"),
         ("i=none a0 s1", b".\n"),
+        ("ic=a j00 s1", b"1\tx\t1\tx\n.\n"),
+        (
+            "i=two f0 g1 c2 f2 s4 s3",
+            b"2\t{(2)}\n3\t{(3)}\n.\n2\t1\n3\t1\n.\n",
+        ),
     ];
     meet(&rt, rt.alloc(), &cases, false)
 }

@@ -1,0 +1,25 @@
+use Rattle.std.proofs.Common.{◌∙◌, ap, subst, sym, map}
+use Rattle.pig_value.specs.Trees.{rows_tree}
+use Rattle.pig_value.specs.Valid.{AreRows}
+use Rattle.pig_typed.specs.Typed.{typed}
+use Rattle.pig_plan.specs.ByKey.{key_of}
+use Rattle.pig_plan.specs.Operators.{keys_of}
+use Rattle.pig_plain.specs.Operating.{keyed_rows}
+use Rattle.pig_runs.specs.Entries.{and_entries}
+use Rattle.pig_plain.specs.Coming.{coming}
+use Rattle.pig_plain.proofs.Walks.{batch_values, goes_on, rest_values}
+use Rattle.pig_plain.proofs.keyed.add_coming.Goals as goal
+
+pub add_rows-requires-clause-rows : goal.add_rows-requires-clause-rows
+add_rows-requires-clause-rows c =
+    subst (λ rows. AreRows (rows_tree rows)) (sym c.as_slice.ensures)
+    (batch_values (coming c.batches.walk) (rows_tree c.in_ok-rows.rows) (coming c.next_batch.new.self) c.in_ok-rows.ensures.rows c.batches.invariant.1)
+
+pub batches-preserved : goal.batches-preserved
+batches-preserved c =
+    let told = c.in_ok-add_rows.ensures ∙ ap (λ rows. and_entries (keyed_rows (map typed c.args.keys.now) c.args.number (rows_tree rows)) c.batches.builder) c.as_slice.ensures in (
+      ap (λ b. b.dirs) told ∙ c.batches.invariant.0,
+      rest_values (coming c.batches.walk) (rows_tree c.in_ok-rows.rows) (coming c.next_batch.new.self) c.in_ok-rows.ensures.rows c.batches.invariant.1,
+      goes_on (λ row. record { key = key_of (keys_of (map typed c.args.keys.now) row); input = c.args.number; row = row }) c.batches.builder.entries c.add_rows.new.builder.entries _ (coming c.batches.walk) (rows_tree c.in_ok-rows.rows)
+          (coming c.next_batch.new.self) c.in_ok-rows.ensures.rows (ap (λ b. b.entries) told) c.batches.invariant.2,
+    )

@@ -1,8 +1,0 @@
-use Rattle.std.proofs.Common.{◌≡◌, ◌++◌, drop}
-use Rattle.pig_value.specs.Trees.{rows_tree}
-use Rattle.pig_typed.specs.Typed.{typed}
-use Rattle.pig_plan.specs.Operators.{filter_rows}
-use Rattle.pig_plain.proofs.rowwise.passing_copies.Given as goal
-
-abbrev pub invariant-loop-row : goal.invariant-loop-row
-invariant-loop-row l = rows_tree l.kept ++ filter_rows (typed l.cond) (rows_tree (drop l.row-index l.rows)) ≡ filter_rows (typed l.cond) (rows_tree l.rows)

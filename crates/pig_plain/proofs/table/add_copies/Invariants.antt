@@ -1,6 +1,0 @@
-use Rattle.std.proofs.Common.{◌≡◌, ◌++◌, drop}
-use Rattle.pig_value.specs.Trees.{rows_tree}
-use Rattle.pig_plain.proofs.table.add_copies.Given as goal
-
-abbrev pub invariant-loop-row : goal.invariant-loop-row
-invariant-loop-row l = rows_tree l.made ++ rows_tree (drop l.row-index l.rows) ≡ rows_tree l.initial.made ++ rows_tree l.rows
