@@ -9,7 +9,7 @@ ghost use Rattle.pig_plain.specs.Operating.{AllStand, AreValues, LaterStand, Oth
 
 use crate::copies::copied;
 use crate::each_row::{generated, passing, passing_copies};
-use crate::relation::{Relation, Seen, add_seen, collected};
+use crate::relation::{Relation, Seen, add_seen};
 use crate::releasing::{is_last, take_input};
 use crate::table::{rows_at, seen_at, settle, take_coming, take_relation};
 use crate::walking::{RowStep, Walk};
@@ -191,8 +191,26 @@ fn first_rows(alloc: Global, seen: Seen, count: u64) -> Result<Rows, AllocError>
 fn first_coming(alloc: Global, walk: Walk, count: u64) -> Result<Rows, AllocError>
     ensures { IfOk result (λ made. rows_tree made ≡ take count (coming walk.entry)) }
 {
-    let rows = collected(alloc, walk)?;
-    first_copies(alloc, rows.as_slice(), count)
+    let mut rows = begun(alloc, walk, count as usize)?.into_vec();
+    rows.truncate(count as usize);
+    Ok(Rows::from_vec(rows))
+}
+
+/// The rows of the first batches: at least so many, or all.
+fn begun(alloc: Global, walk: Walk, count: usize) -> Result<Rows, AllocError>
+    ensures { IfOk result (λ made. take count (rows_tree made)
+        ≡ take count (coming walk.entry)) }
+{
+    let mut walk = walk;
+    let mut made = Rows::new(alloc);
+    'batches: while made.len() < count {
+        let rows = walk.next_batch(alloc)?;
+        if rows.is_empty() {
+            return Ok(made);
+        }
+        made.extend(rows)?;
+    }
+    Ok(made)
 }
 
 /// Copies of the first rows.

@@ -27,7 +27,36 @@ fn inputs(alloc: Global) -> Result<Inputs, AllocError> {
         }
         inputs.push(Input { path, pieces })?;
     }
+    inputs.push(many(alloc)?)?;
     Ok(inputs)
+}
+
+/// More lines than are read at once: the numbers below 600, each once, in two pieces without a last line end.
+fn many(alloc: Global) -> Result<Input, AllocError> {
+    let mut pieces = Seq::new(alloc);
+    pieces.push(numbers(alloc, 0, 400)?)?;
+    pieces.push(numbers(alloc, 400, 600)?)?;
+    Ok(Input {
+        path: Text::from_str(alloc, "many")?,
+        pieces,
+    })
+}
+
+fn numbers(alloc: Global, from: u32, to: u32) -> Result<Blob, AllocError> {
+    let mut text = Vec::new(alloc);
+    for place in from..to {
+        if place > from {
+            text.push(b'\n')?;
+        }
+        // 7 and 600 have no divisor in common.
+        let number = place.wrapping_mul(7) % 600;
+        for unit in [100, 10, 1] {
+            if number >= unit || unit == 1 {
+                text.push(b'0'.wrapping_add((number / unit % 10) as u8))?;
+            }
+        }
+    }
+    Ok(Blob::from_vec(text))
 }
 
 /// The digits behind a letter.
@@ -272,6 +301,22 @@ fn lists(rt: HostRuntime) -> Result<(), Fail> {
             "c=words t0 g1 c2 o310 s4",
             b"the\t3\ncat\t2\ndog\t1\nend\t1\n.\n",
         ),
+    ];
+    meet(&rt, rt.alloc(), &cases, true)
+}
+
+// Rows that come in several batches: each is counted once, by whatever looks at them, and the last use is none too late.
+#[test]
+fn many_rows(rt: HostRuntime) -> Result<(), Fail> {
+    let cases: [(&str, &[u8]); 8] = [
+        ("i=many a0 c1 s2", b"all\t600\n.\n"),
+        ("i=many f0 a1 c2 s3", b"all\t598\n.\n"),
+        ("i=many f0 g1 c2 a3 c4 s5", b"all\t598\n.\n"),
+        ("i=many d0 a1 c2 s3", b"all\t600\n.\n"),
+        ("i=many u00 a1 c2 s3", b"all\t1200\n.\n"),
+        ("i=many j00 a1 c2 s3", b"all\t600\n.\n"),
+        ("i=many f0 o10 l22 s3", b"599\n598\n.\n"),
+        ("i=many a0 c1 s2 f0 a4 c5 s6", b"all\t600\n.\nall\t598\n.\n"),
     ];
     meet(&rt, rt.alloc(), &cases, true)
 }
