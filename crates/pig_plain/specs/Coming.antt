@@ -15,7 +15,7 @@ use Rattle.pig_plain.specs.declared.relation.Seen.TheVariants.{Whole, Walked}
 use Rattle.pig_plain.specs.declared.walking.RowStep.{RowStep}
 use Rattle.pig_plain.specs.declared.walking.RowStep.TheVariants.{Filter, Foreach}
 use Rattle.pig_plain.specs.declared.reading.Source.{Source}
-use Rattle.pig_plain.specs.declared.reading.Source.TheVariants.{Read, Groups}
+use Rattle.pig_plain.specs.declared.reading.Source.TheVariants.{Read, Groups, Ordered}
 use Rattle.pig_plain.specs.declared.walking.Walk.{Walk}
 
 -- the lines of what is left of a piece, and of the pieces behind it
@@ -30,6 +30,7 @@ rows_left l = map (row_of l.columns.now l.delim) (lines_left l)
 abbrev pub source_rows : Source → List (List Tree)
 source_rows (Read lines) = rows_left lines
 source_rows (Groups groups) = groups
+source_rows (Ordered rows) = rows
 
 -- what a step makes of rows, and what the steps make of them in turn
 abbrev pub step_rows : RowStep → List (List Tree) → List (List Tree)

@@ -1,6 +1,4 @@
 ghost use Rattle.std.specs.Prelude.{◌≡◌, ◌+◌, [], ◌∷◌, ◌++◌, true, false, map, Some, slice_get, IfOk, OnOk};
-ghost use Rattle.std.specs.List.{AllByRecursion};
-ghost use Rattle.pig_value.specs.Leaves.{AreBytes};
 ghost use Rattle.pig_value.specs.Trees.{rows_tree};
 ghost use Rattle.pig_value.specs.Valid.{IsValue};
 ghost use Rattle.pig_plan.specs.Laws.{AreOfBytes, PlanLiteralsAre};
@@ -16,13 +14,14 @@ ghost use Rattle.pig_plain.specs.Kinds.{kind_in, limit_kind};
 ghost use Rattle.pig_plain.specs.Uses.{AreUses};
 
 use crate::copies::copied;
+use crate::laws::inputs_are_of_bytes;
 use crate::operating::found;
 use crate::relation::Relation;
 use crate::releasing::release_inputs;
 use crate::sorted::{is_marked, sorted_nodes};
 use crate::uses::{Uses, uses_of};
 use pig_plan::{Node, NodeOp, Plan};
-use pig_value::{Blob, Input, Inputs, Kept, KeptList, Rows, Seq};
+use pig_value::{Input, Inputs, Kept, KeptList, Rows, Seq};
 use std::alloc::{AllocError, Global};
 
 /// Rows of several relations.
@@ -46,7 +45,7 @@ pub fn answer(alloc: Global, plan: &Plan, inputs: &Inputs) -> Result<Answers, Al
 {
     let all = plan.nodes();
     let given = inputs.as_slice();
-    know_bytes(given);
+    inputs_are_of_bytes(given);
     let uses = uses_of(alloc, all)?;
     let sorted = sorted_nodes(alloc, all)?;
     let mut so_far = Running {
@@ -70,23 +69,6 @@ pub fn answer(alloc: Global, plan: &Plan, inputs: &Inputs) -> Result<Answers, Al
     }
     let Running { kept, stores, .. } = so_far;
     Ok(Answers { kept, stores })
-}
-
-/// That the pieces of inputs are of bytes, as their type says.
-fn know_bytes(inputs: &[Input])
-    ensures { AreOfBytes inputs.now }
-{
-    for input in inputs {
-        know_pieces(input.pieces.as_slice());
-    }
-}
-
-fn know_pieces(pieces: &[Blob])
-    ensures { AllByRecursion AreBytes pieces.now }
-{
-    for piece in pieces {
-        piece.as_slice();
-    }
 }
 
 /// What stands after the nodes before one: their rows, what was kept, and what is stored.

@@ -23,4 +23,4 @@ mod uses;
 mod walking;
 
 pub use answering::{Answers, Relations, answer};
-pub use laws::answers_are_stored_lines;
+pub use laws::{answers_are_stored_lines, inputs_are_of_bytes};

@@ -19,8 +19,9 @@ use std::alloc::{AllocError, Global};
 
 /// What a node's operator gives of the rows of the nodes before it, as they come; a LIMIT gives the first of them.
 ///
-/// The rows of LOAD, GROUP, COGROUP and JOIN, and of FILTER and FOREACH on them, are made where they are used. `ends` has one more than
-/// the number of each node's last use: rows that are used here for the last time are taken where that saves a copy.
+/// The rows of LOAD, GROUP, COGROUP, JOIN and ORDER, and of FILTER and FOREACH on them, are made where they are used. `ends`
+/// has one more than the number of each node's last use: rows that are used here for the last time are taken where that saves
+/// a copy.
 pub fn found<'p>(
     alloc: Global,
     plan: &Plan,
@@ -86,10 +87,7 @@ fn made<'p>(
             let rows = once(alloc, own_input(alloc, table, ends, number, *input)?)?;
             Ok(Relation::Standing(rows))
         }
-        NodeOp::Order { input, keys } => {
-            let rows = in_order(alloc, keys, table, ends, number, *input)?;
-            Ok(Relation::Standing(rows))
-        }
+        NodeOp::Order { input, keys } => in_order(alloc, keys, table, ends, number, *input),
         NodeOp::Limit { input, count } => { limited(alloc, table, ends, number, *input, *count) },
         NodeOp::Store { input, .. } => own_input(alloc, table, ends, number, *input),
         NodeOp::Assert { input, .. } => own_input(alloc, table, ends, number, *input),

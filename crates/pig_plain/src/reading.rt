@@ -5,7 +5,7 @@ ghost use Rattle.pig_value.specs.Lines.{lines};
 ghost use Rattle.pig_value.specs.Trees.{rows_tree};
 ghost use Rattle.pig_plain.specs.Coming.{lines_left, rows_left};
 
-use pig_operators::Gatherer;
+use pig_operators::{Gatherer, Orderer};
 use pig_storage::{line_row, next_line};
 use pig_value::{Blob, Columns, Delim, Rows};
 use std::alloc::{AllocError, Global};
@@ -86,4 +86,6 @@ pub enum Source<'p> {
     Read(Lines<'p>),
     /// The groups of a run.
     Groups(Gatherer),
+    /// The entries of ORDER, in their order.
+    Ordered(Orderer),
 }

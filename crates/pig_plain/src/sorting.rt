@@ -14,7 +14,7 @@ use crate::relation::{Relation, Seen};
 use crate::releasing::{release, take_input};
 use crate::table::seen_at;
 use crate::walking::Walk;
-use pig_operators::{distinct_keys, ordered};
+use pig_operators::{Orderer, distinct_keys};
 use pig_runs::RunBuilder;
 use pig_typed::SortKeys;
 use pig_value::{Dirs, Rows, Seq, Tuple, Value};
@@ -22,17 +22,18 @@ use std::alloc::{AllocError, Global};
 
 /// ORDER: rows by their keys, each in its direction, and then by the order of rows.
 ///
-/// They are sorted as bytes. The rows themselves are let go before, where this is their last use.
-pub fn in_order(
+/// They are sorted as bytes. The rows themselves are let go before, where this is their last use, and
+/// made anew where they are used.
+pub fn in_order<'p>(
     alloc: Global,
     keys: &SortKeys,
-    table: &mut Vec<Relation>,
+    table: &mut Vec<Relation<'p>>,
     ends: &[usize],
     number: usize,
     input: u32,
-) -> Result<Rows, AllocError>
+) -> Result<Relation<'p>, AllocError>
     requires values { AreValues table.old.items }
-    ensures rows { IfOk result (λ rows. rows_tree rows
+    ensures rows { IfOk result (λ made. relation_rows made
         ≡ order_rows keys.now (table_rows table.old.items input)) }
     ensures size { OnOk result (length table.new.items ≡ length table.old.items) }
     ensures values { OnOk result (AreValues table.new.items) }
@@ -42,7 +43,8 @@ pub fn in_order(
     let seen = seen_at(table.as_slice(), input, taken);
     let builder = sort_entries(alloc, keys, seen)?;
     release(alloc, table, ends, number, input);
-    ordered(alloc, builder.finish())
+    let rows = Orderer::new(builder.finish());
+    Ok(Relation::Coming(Walk::of_ordered(alloc, rows)))
 }
 
 /// Rows under their fields to sort by, in the directions of the keys.

@@ -7,7 +7,7 @@ ghost use Rattle.pig_plain.specs.Coming.{coming, source_rows, step_rows, steps_r
 
 use crate::each_row::{generated, passing};
 use crate::reading::{Lines, Source};
-use pig_operators::Gatherer;
+use pig_operators::{Gatherer, Orderer};
 use pig_typed::{Block, TExpr};
 use pig_value::{Blob, Column, Columns, Delim, Rows};
 use std::alloc::{AllocError, Global};
@@ -43,6 +43,15 @@ impl<'p> Walk<'p> {
         ensures { coming result ≡ groups }
     {
         let source = Source::Groups(groups);
+        let steps = Vec::new(alloc);
+        Walk { source, steps }
+    }
+
+    /// The rows of ORDER over a run.
+    pub fn of_ordered(alloc: Global, rows: Orderer) -> Walk<'p>
+        ensures { coming result ≡ rows }
+    {
+        let source = Source::Ordered(rows);
         let steps = Vec::new(alloc);
         Walk { source, steps }
     }
@@ -84,6 +93,7 @@ impl<'p> Walk<'p> {
         match &mut self.source {
             Source::Read(lines) => lines.next_rows(alloc),
             Source::Groups(groups) => groups.next_batch(alloc),
+            Source::Ordered(rows) => rows.next_batch(alloc),
         }
     }
 }

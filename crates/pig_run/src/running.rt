@@ -1,8 +1,6 @@
 ghost use Rattle.std.specs.Prelude.{◌≡◌, ◌≢◌, ◌<◌, ◌≤◌, ◌⊎◌, ◌%◌, ◌^◌, [], length, false, IfOk, IfErr, MatchResult};
 ghost use Rattle.std.specs.Option.{ForSome};
 ghost use Rattle.std.specs.List.{AllByRecursion, sum_by};
-ghost use Rattle.pig_value.specs.Leaves.{AreBytes};
-ghost use Rattle.pig_plan.specs.Laws.{AreOfBytes};
 ghost use Rattle.pig_plan.specs.Plans.{plan_of};
 ghost use Rattle.pig_run.specs.Due.{HasWords};
 ghost use Rattle.pig_run.specs.Looking.{HasLengths, IsPrepared, IsReady, line_given};
@@ -20,9 +18,9 @@ use crate::texts::done_bytes;
 use crate::{Counts, RunFault};
 use pig_check::a_script_has_one_plan;
 use pig_outside::{Depot, Host};
-use pig_plain::{Answers, answer, answers_are_stored_lines};
+use pig_plain::{Answers, answer, answers_are_stored_lines, inputs_are_of_bytes};
 use pig_reach::{Store, lines_read};
-use pig_value::{Blob, Input};
+use pig_value::Blob;
 use std::alloc::Global;
 
 /// What a plan means, and the number of lines that were read for it.
@@ -46,11 +44,11 @@ fn find<H: Host>(alloc: Global, host: &mut H, prepared: &Prepared) -> Result<Fou
     ensures cause { HostCause (H.faults host.old) (H.faults host.new) result }
 {
     answers_are_stored_lines();
-    // That the plan is valid is known of its nodes, and what a byte is of each delimiter and piece.
+    // That the plan is valid is known of its nodes, and of each delimiter that it is one.
     prepared.plan.nodes();
     know_delimiters(prepared.stores.as_slice());
     let inputs = read_inputs(alloc, host, &prepared.sizes)?;
-    know_bytes(inputs.as_slice());
+    inputs_are_of_bytes(inputs.as_slice());
     let read = lines_read(alloc, &prepared.plan, &inputs)?;
     let answers = answer(alloc, &prepared.plan, &inputs)?;
     Ok(Found { answers, read })
@@ -62,23 +60,6 @@ fn know_delimiters(stores: &[Store])
 {
     for store in stores {
         store.delim.byte();
-    }
-}
-
-/// That the pieces of inputs are of bytes, as their type says.
-fn know_bytes(inputs: &[Input])
-    ensures { AreOfBytes inputs.now }
-{
-    for input in inputs {
-        know_pieces(input.pieces.as_slice());
-    }
-}
-
-fn know_pieces(pieces: &[Blob])
-    ensures { AllByRecursion AreBytes pieces.now }
-{
-    for piece in pieces {
-        piece.as_slice();
     }
 }
 

@@ -1,6 +1,4 @@
-use Rattle.std.proofs.Common.{◌≡◌, ◌∙◌, ap, map, subst}
-use Rattle.std.specs.Prelude.{IfOk}
-use Rattle.pig_value.specs.Trees.{rows_tree}
+use Rattle.std.proofs.Common.{◌≡◌, ◌∙◌, ap, map}
 use Rattle.pig_runs.specs.Entries.{run_of}
 use Rattle.pig_operators.specs.Given.{dirs_of, run_rows, sort_entry}
 use Rattle.pig_operators.proofs.SortEntries.{ordering_rows}
@@ -15,5 +13,5 @@ returns-clause-rows c =
     let seen_is = c.seen_at-seen.ensures ∙ ap (λ t. taken_rows c.in_ok-taken.taken t c.args.input) c.as_slice.ensures.value ∙ c.in_ok-taken.ensures.rows in
     let run_is : c.finish.result ≡ run_of (dirs_of keys) (map (sort_entry keys) (seen_rows c.seen_at-seen.result)) =
     c.finish.ensures ∙ ap (λ b. run_of b.dirs b.entries) c.in_ok-builder.ensures in
-    subst (λ t. IfOk c.ordered.result (λ made. rows_tree made ≡ t))
-    (ap run_rows (run_is ∙ ap (λ rs. run_of (dirs_of keys) (map (sort_entry keys) rs)) seen_is) ∙ ordering_rows keys rows) c.ordered.ensures.rows
+    c.of_ordered.ensures ∙ c.new-rows.ensures.rows
+    ∙ ap run_rows (run_is ∙ ap (λ rs. run_of (dirs_of keys) (map (sort_entry keys) rs)) seen_is) ∙ ordering_rows keys rows

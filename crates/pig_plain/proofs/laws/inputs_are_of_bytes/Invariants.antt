@@ -1,6 +1,6 @@
 use Rattle.std.proofs.Common.{drop}
 use Rattle.pig_plan.specs.Laws.{AreOfBytes}
-use Rattle.pig_plain.proofs.answering.know_bytes.Given as goal
+use Rattle.pig_plain.proofs.laws.inputs_are_of_bytes.Given as goal
 
 abbrev pub invariant-loop-input : goal.invariant-loop-input
 invariant-loop-input l = AreOfBytes (drop l.input-index l.inputs) → AreOfBytes l.inputs

@@ -1,6 +1,0 @@
-use Rattle.std.proofs.Common.{drop}
-use Rattle.pig_plan.specs.Laws.{AreOfBytes}
-use Rattle.pig_run.proofs.running.know_bytes.Given as goal
-
-abbrev pub invariant-loop-input : goal.invariant-loop-input
-invariant-loop-input l = AreOfBytes (drop l.input-index l.inputs) → AreOfBytes l.inputs

@@ -1,7 +1,0 @@
-use Rattle.std.proofs.Common.{drop}
-use Rattle.std.specs.List.{AllByRecursion}
-use Rattle.pig_value.specs.Leaves.{AreBytes}
-use Rattle.pig_run.proofs.running.know_pieces.Given as goal
-
-abbrev pub invariant-loop-piece : goal.invariant-loop-piece
-invariant-loop-piece l = AllByRecursion AreBytes (drop l.piece-index l.pieces) → AllByRecursion AreBytes l.pieces
