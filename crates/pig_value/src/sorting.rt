@@ -57,7 +57,7 @@ fn number_front(number: i64) -> u64 {
     number.cast_unsigned() ^ (1 << 63)
 }
 
-// The first eight bytes as a number, and the length of a shorter text.
+// The first eight bytes as a number; of a shorter text the first four, two or one.
 fn text_front(text: &[u8]) -> u64 {
     match text {
         [a, b, c, d, e, f, g, h, ..] => u64::from_be_bytes([*a, *b, *c, *d, *e, *f, *g, *h]),
