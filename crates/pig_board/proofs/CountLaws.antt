@@ -38,13 +38,6 @@ steps_failed t k v h room =
     let c = settled_fails t (earliest t v.tried) Failed v is in
     omega arith
 
-pub steps_saw_winner : (t : ℕ) (o : Option ℕ) (v : View) → steps_of (saw_winner t o v) ≡ steps_of v
-steps_saw_winner t None v = refl
-steps_saw_winner t (Some a) v = refl
-
-pub steps_saw_count : (t c : ℕ) (v : View) → steps_of (saw_count t c v) ≡ steps_of v
-steps_saw_count t c v = refl
-
 -- a split and a join keep their sum
 pub steps_cut : (v : View) → steps_of (kept_half v) + steps_of (other_half v) ≡ steps_of v
 steps_cut v = omega arith
@@ -77,9 +70,6 @@ fails_began u t a v = let c = sum_by_push (λ z. cond {A = ℕ} (is_failure_of u
 pub wins_began : (u t a : ℕ) (v : View) → wins_of u (began t a v) ≡ wins_of u v
 wins_began u t a v = let c = sum_by_push (λ z. cond {A = ℕ} (is_win_of u z) 1 0) v.tried (attempt t a Unended) in omega arith
 
-pub fails_won : (u t a : ℕ) (v : View) → has_open t a v ≡ true → fails_of u (won t a v) ≡ fails_of u v
-fails_won u t a v h = swapped_alike (is_failure_of u) _ _ _ _ (Swaps-settle t a Won v.tried h) refl
-
 pub wins_won : (t a : ℕ) (v : View) → has_open t a v ≡ true → wins_of t (won t a v) ≡ wins_of t v + 1
 wins_won t a v h =
     let d = Swaps-settle t a Won v.tried h in
@@ -94,9 +84,6 @@ wins_won_other u t a v h n =
     let none : cond {A = ℕ} (t == u) 1 0 ≡ 0 = ap (λ c. cond {A = ℕ} c 1 0) (ne_eqb t u n) in
     omega arith
 
-pub fails_late : (u t a b : ℕ) (v : View) → has_open t a v ≡ true → fails_of u (came_late t a b v) ≡ fails_of u v
-fails_late u t a b v h = swapped_alike (is_failure_of u) _ _ _ _ (Swaps-settle t a Late v.tried h) refl
-
 pub wins_late : (u t a b : ℕ) (v : View) → has_open t a v ≡ true → wins_of u (came_late t a b v) ≡ wins_of u v
 wins_late u t a b v h = swapped_alike (is_win_of u) _ _ _ _ (Swaps-settle t a Late v.tried h) refl
 
@@ -107,19 +94,8 @@ fails_failed t k v h =
     let one : cond {A = ℕ} (t == t) 1 0 ≡ 1 = ap (λ c. cond {A = ℕ} c 1 0) (eq-eqb t t refl) in
     omega arith
 
-pub fails_failed_other : (u t k : ℕ) (v : View) → has_open_of t v ≡ true → t ≢ u → fails_of u (failed_at t k v) ≡ fails_of u v
-fails_failed_other u t k v h n =
-    let d = Swaps-settle t (earliest t v.tried) Failed v.tried (earliest-open t v.tried h) in
-    let p = d.sums (λ z. cond {A = ℕ} (is_failure_of u z) 1 0) in
-    let none : cond {A = ℕ} (t == u) 1 0 ≡ 0 = ap (λ c. cond {A = ℕ} c 1 0) (ne_eqb t u n) in
-    omega arith
-
 pub wins_failed : (u t k : ℕ) (v : View) → has_open_of t v ≡ true → wins_of u (failed_at t k v) ≡ wins_of u v
 wins_failed u t k v h = swapped_alike (is_win_of u) _ _ _ _ (Swaps-settle t (earliest t v.tried) Failed v.tried (earliest-open t v.tried h)) refl
-
--- a join adds them
-pub fails_both : (u : ℕ) (v w : View) → fails_of u (both v w) ≡ fails_of u v + fails_of u w
-fails_both u v w = sum_by-append (λ z. cond {A = ℕ} (is_failure_of u z) 1 0) v.tried w.tried
 
 pub wins_both : (u : ℕ) (v w : View) → wins_of u (both v w) ≡ wins_of u v + wins_of u w
 wins_both u v w = sum_by-append (λ z. cond {A = ℕ} (is_win_of u z) 1 0) v.tried w.tried

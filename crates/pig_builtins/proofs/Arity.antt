@@ -58,10 +58,6 @@ pub substring_one : (v : Tree) → substring_tree (v ∷ []) ≡ v_null
 substring_one (v_chars text) = refl
 substring_one v = refl
 
-pub substring_two : (v w : Tree) → substring_tree (v ∷ w ∷ []) ≡ v_null
-substring_two (v_chars text) (v_int start) = refl
-substring_two v w = refl
-
 substring_three : (v w u t : Tree) (vs : List Tree) → substring_tree (v ∷ w ∷ u ∷ t ∷ vs) ≡ v_null
 substring_three (v_chars text) (v_int start) (v_int stop) t vs = refl
 substring_three v w u t vs = refl

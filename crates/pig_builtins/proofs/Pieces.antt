@@ -79,10 +79,6 @@ uncut text none =
     slice_split_none is_separator text (All-from_get_or (λ x. is_separator x ≡ false) text 0
     (λ k h. not_passing (is_separator (get_or text k 0)) (prefix_len_passes (λ x. not (is_separator x)) text k 0 (omega arith))))
 
--- the rows of one piece, then those of the others
-pub piece_first : (piece : List ℕ) (pieces : List (List ℕ)) → piece_rows (piece ∷ pieces) ≡ piece_rows (piece ∷ []) ++ piece_rows pieces
-piece_first piece pieces = either_way (nat_lt 0 (length piece)) (λ e. rw e refl) (λ e. rw e refl)
-
 -- what a cut at a separator keeps on both sides holds of each piece
 module _ (Q : List ℕ → Type 0) (keeps : (text : List ℕ) (at : ℕ) → at < length text → is_separator (get_or text at 0) ≡ true → Q text → Q (take at text) × Q (drop (at + 1) text)) where
   by_length : (fuel : ℕ) (text : List ℕ) → length text < fuel → Q text → AllByRecursion Q (slice_split is_separator text)

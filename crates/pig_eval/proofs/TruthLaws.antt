@@ -90,11 +90,6 @@ compare_is r v_null b = refl
 compare_is r a v_null = refl
 compare_is r a b = refl
 
-pub compare_value : (r : Rel) (a b : Tree) → truth_tree (compare_truth r a b) ≡ compare_tree r a b
-compare_value r v_null b = refl
-compare_value r a v_null = refl
-compare_value r a b = refl
-
 holds_mirrored : (r : Rel) (o : Ordering) → rel_holds (mirror r) (ordering_reverse o) ≡ rel_holds r o
 holds_mirrored rel.Eq Less = refl
 holds_mirrored rel.Eq Equal = refl

@@ -46,24 +46,6 @@ none_by_tag tag content none v rest h =
     let whole : tag ∷ content ≡ rank v ∷ (content_of v ++ rest) = h.is ∙ ap (λ l. l ++ rest) (code_is v) in
     none v rest (sym (heads tag (rank v) content (content_of v ++ rest) whole)) h.good (tails tag (rank v) content (content_of v ++ rest) whole)
 
-low_rank : (v : Tree) → rank v < 10
-low_rank v_null = omega arith
-low_rank (v_bool b) = omega arith
-low_rank (v_int z) = omega arith
-low_rank (v_long z) = omega arith
-low_rank (v_chars text) = omega arith
-low_rank (v_bytes bytes) = omega arith
-low_rank (v_tuple vs) = omega arith
-low_rank (v_bag rs) = omega arith
-low_rank (v_listed rs) = omega arith
-low_rank (v_map ps) = omega arith
-
-pub none_high : (tag : ℕ) (content : List ℕ) → 10 ≤ tag → NoneFirst code IsValue (tag ∷ content)
-none_high tag content high = none_by_tag tag content (λ v rest e good is. let low = low_rank v in omega (arith, e, low))
-
-pub none_empty : NoneFirst code IsValue []
-none_empty v rest h = let e : 0 ≡ length (rank v ∷ (content_of v ++ rest)) = ap length (h.is ∙ ap (λ l. l ++ rest) (code_is v)) in omega (arith, e)
-
 -- lengths
 pub not_longer : {X : Type 0} (write : X → List ℕ) (Good : X → Type 0) (bytes : List ℕ) (x : X) (rest : List ℕ) → StandsFirst write Good bytes x rest → length rest ≤ length bytes
 not_longer write Good bytes x rest h =
@@ -87,13 +69,6 @@ none_int content none = none_by_tag 2 content by
   where
     by : (v : Tree) (rest : List ℕ) → rank v ≡ 2 → IsValue v → content ≡ content_of v ++ rest → ⊥
     by (v_int z) rest e good is = none z rest (record { is = is; good = good })
-    by v rest e good is = omega (arith, e)
-
-pub none_long : (content : List ℕ) → NoneFirst (λ z. to_be_bytes w64 (biased (2 ^ 63) z)) (FitsSigned w64) content → NoneFirst code IsValue (3 ∷ content)
-none_long content none = none_by_tag 3 content by
-  where
-    by : (v : Tree) (rest : List ℕ) → rank v ≡ 3 → IsValue v → content ≡ content_of v ++ rest → ⊥
-    by (v_long z) rest e good is = none z rest (record { is = is; good = good })
     by v rest e good is = omega (arith, e)
 
 pub none_chars : (content : List ℕ) → NoneFirst text_code IsUtf8 content → NoneFirst code IsValue (4 ∷ content)
@@ -302,9 +277,6 @@ stands_pair bytes after rest key v h k = record {
   is = h.is ∙ (ap (λ l. code (v_chars key) ++ l) k.is ∙ sym (append_assoc (code (v_chars key)) (code v) rest));
   good = (h.good, k.good);
 }
-
-pub none_key : (bytes : List ℕ) → NoneFirst (λ text. code (v_chars text)) IsUtf8 bytes → NoneFirst pair_code IsCodedPair bytes
-none_key bytes none p rest h = none p.0 (code p.1 ++ rest) (record { is = h.is ∙ append_assoc (code (v_chars p.0)) (code p.1) rest; good = h.good.0 })
 
 pub none_after : (bytes after : List ℕ) (key : List ℕ) → StandsFirst (λ text. code (v_chars text)) IsUtf8 bytes key after → NoneFirst code IsValue after → NoneFirst pair_code IsCodedPair bytes
 none_after bytes after key h none p rest k =

@@ -87,10 +87,6 @@ pub byte_apart : (x : ℕ) (s t : List ℕ) → escaped_byte x ++ s ≡ (0 ∷ 0
 byte_apart zero s t e = let wrong = heads 255 0 s t (tails 0 0 (255 ∷ s) (0 ∷ t) e) in omega (arith, wrong)
 byte_apart (suc x) s t e = let wrong = heads (suc x) 0 s (0 ∷ t) e in omega (arith, wrong)
 
-pub byte_shorter : (b : ℕ) (rest left : List ℕ) → rest ≡ escaped_byte b ++ left → length left < length rest
-byte_shorter zero rest left e = let long : length rest ≡ length (0 ∷ 255 ∷ left) = ap length e in omega (arith, long)
-byte_shorter (suc b) rest left e = let long : length rest ≡ length (suc b ∷ left) = ap length e in omega (arith, long)
-
 -- what the loop keeps
 abbrev pub TextGoes : List ℕ → List ℕ → List ℕ → Type 0
 TextGoes = Goes escaped_byte (0 ∷ 0 ∷ []) (λ b. b < 256)

@@ -105,14 +105,6 @@ module _ (i : ℕ) (bag : List (List Tree)) where
       ((λ m. kept_where (not (is_empty (is m)) && all_there inner 0 (alone_is rows is m)) (bags_of (length inner) k (alone_is rows is m)))
       ∙ ap (λ b. kept_where b (bags_of (length inner) k (rows_alone i bag))) (kept_test inner))
 
--- a key that holds a null, and one that doesn't
-pub cogroup_apart : (inner : List Bool) (k : Tree) (rows : ℕ → List (List Tree)) → holds_null k ≡ true → cogroup_of inner (length inner) k rows ≡ apart_rows inner k rows (length inner)
-cogroup_apart inner k rows h = λ m. if h m then apart_rows inner k rows (length inner) else kept_where (all_there inner 0 rows) (bags_of (length inner) k rows)
-
-pub cogroup_together : (inner : List Bool) (k : Tree) (rows : ℕ → List (List Tree)) → holds_null k ≡ false
-    → cogroup_of inner (length inner) k rows ≡ kept_where (all_there inner 0 rows) (bags_of (length inner) k rows)
-cogroup_together inner k rows h = λ m. if h m then apart_rows inner k rows (length inner) else kept_where (all_there inner 0 rows) (bags_of (length inner) k rows)
-
 -- the row of an input alone, where it has one
 module _ {X : Type 0} (f : X → List Tree) (xs : List X) (inner : List Bool) (k : Tree) (i from end : ℕ) (order : from ≤ end) (within : end ≤ length xs) (own : Bool) (told : own ≡ (not (from == end) && no_other inner 0 i)) where
   abbrev bag : List (List Tree)

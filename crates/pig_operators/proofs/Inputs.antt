@@ -80,9 +80,6 @@ remains_all es from end h = record {
   rest = λ j low. refl;
 }
 
-less_numbers : (i j : ℕ) → nat_cmp i j ≡ Less → i < j
-less_numbers i j h = search rules
-
 -- the entries of a group behind those of an input are of greater ones
 all_greater : (i : ℕ) (fs : List Keyed) → AllByRecursion (from_input i) fs → Ascends by_input fs → ((e : Keyed) → slice_get fs 0 ≡ Some e → e.input ≡ i → ⊥) → AllByRecursion (from_input (i + 1)) fs
 all_greater i [] h up other = tt

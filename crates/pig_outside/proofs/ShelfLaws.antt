@@ -69,15 +69,6 @@ set_dir-new path state (d ∷ ds) is =
           simp e (ap (λ es. d ∷ es) (set_dir-new path state ds none))
     ]
 
--- No state is there where none was found.
-none_from_absent : (state : Option DirState) → is_some state ≡ false → state ≡ None
-none_from_absent None absent = refl
-none_from_absent (Some state) absent = cc
-
--- A directory that isn't there can be made.
-pub can_create : (path : List ℕ) (shelf : Shelf) → has_dir path shelf ≡ false → CanCreate path shelf
-can_create path shelf absent = none_from_absent (state_of path shelf.dirs) absent
-
 -- Of two states that are given to a directory, the last one stands.
 pub with_dir-twice : (path : List ℕ) (before after : DirState) (shelf : Shelf) → with_dir path after (with_dir path before shelf) ≡ with_dir path after shelf
 with_dir-twice path before after shelf = ap (λ ds. record shelf { dirs = ds }) (set_dir-twice path before after shelf.dirs)

@@ -44,15 +44,7 @@ pub batch_is : (steps : List RowStep) (all first rest made : List (List Tree)) �
     → steps_rows steps all ≡ made ++ steps_rows steps rest
 batch_is steps all first rest made whole is = ap (steps_rows steps) whole ∙ steps-append steps first rest ∙ ap (λ rows. rows ++ steps_rows steps rest) (sym is)
 
--- where nothing is read any more, nothing comes
-pub none_come : (steps : List RowStep) (rows : List (List Tree)) → rows ≡ [] → steps_rows steps rows ≡ []
-none_come steps rows none = ap (steps_rows steps) none ∙ steps_none steps
-
 -- ---- batches
-
--- a batch of rows makes those that come fewer
-pub fewer_come : (all batch rest : List (List Tree)) → all ≡ batch ++ rest → 0 < length batch → length rest < length all
-fewer_come all batch rest whole some = let e = ap length whole ∙ length-append batch rest in omega (arith, e, some)
 
 each_first : (P : List Tree → Type 0) (xs ys : List (List Tree)) → AllByRecursion P (xs ++ ys) → AllByRecursion P xs
 each_first P [] ys h = tt

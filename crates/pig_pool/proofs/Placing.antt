@@ -32,9 +32,6 @@ placing-starts is_right n places outputs long each right = record {
   right = right;
 }
 
-pub placing-ends : {O : Type 0} (is_right : ℕ → O → Type 0) (n : ℕ) (places : List (Option O)) (ahead : List (ℕ × O)) → ahead ≡ [] → ArePlacing is_right n places ahead → ArePlaced is_right n places
-placing-ends is_right n places ahead e p = record { placed = λ t l. p.there t l (ap (outputs_of t) e) }
-
 -- the first output ahead is of one of the tasks
 pub placing-below : {O : Type 0} (is_right : ℕ → O → Type 0) (n : ℕ) (places : List (Option O)) (ahead rest : List (ℕ × O)) (o : ℕ × O) → ahead ≡ o ∷ rest → ArePlacing is_right n places ahead → o.0 < n
 placing-below {O} is_right n places ahead rest o e p =
@@ -87,17 +84,6 @@ pub record AreTaken {O : Type 0} (is_right : ℕ → O → Type 0) (n t : ℕ) (
   pub there : (k : ℕ) → t ≤ k → k < n → (o : O) × (slice_get places k ≡ Some (Some o)) × is_right k o
   pub count : length list ≡ t
   pub right : (k : ℕ) (o : O) → slice_get list k ≡ Some o → is_right k o
-
-pub taken-starts : {O : Type 0} (is_right : ℕ → O → Type 0) (n : ℕ) (places : List (Option O)) (list : List O) → length places ≡ n → list ≡ [] → ArePlaced is_right n places → AreTaken is_right n 0 places list
-taken-starts {O} is_right n places list long e p = subst (AreTaken is_right n 0 places) (sym e) (record {
-  long = long;
-  there = λ k l m. p.placed k m;
-  count = refl;
-  right = λ k o is. absurd (none_there k o is);
-})
-  where
-    none_there : (k : ℕ) (o : O) → slice_get {X = O} [] k ≡ Some o → ⊥
-    none_there k o is = cc
 
 push_get : {O : Type 0} (is_right : ℕ → O → Type 0) (at : ℕ) (list : List O) (x : O) → ((k : ℕ) (o : O) → slice_get list k ≡ Some o → is_right (at + k) o) → is_right (at + length list) x → (k : ℕ) (o : O) → slice_get (list ++ x ∷ []) k ≡ Some o → is_right (at + k) o
 push_get {O} is_right at [] x each here zero o is = subst (λ (z : O). is_right (at + 0) z) (same x o is) here
@@ -158,6 +144,3 @@ pub taken-at : {O : Type 0} (is_right : ℕ → O → Type 0) (n t : ℕ) (place
 taken-at is_right n t places list x below is p =
     let there = taken-there is_right n t places list x below p in
     there.2 ∙ ap Some (sym (is ∙ there.1))
-
-pub taken-ends : {O : Type 0} (is_right : ℕ → O → Type 0) (n t : ℕ) (places : List (Option O)) (list outs : List O) → t ≡ n → outs ≡ list → AreTaken is_right n t places list → AreOutputs is_right n outs
-taken-ends is_right n t places list outs whole e p = subst (AreOutputs is_right n) (sym e) (record { count = p.count ∙ whole; right = p.right })

@@ -108,11 +108,6 @@ pub works-offer : (b : Bool) (t a f g : ℕ) (v w : View) → has_open t a v ≡
 works-offer true t a f g v w h l e = subst (λ z. Works v z f g) (sym e) (works_won t a f g v h l)
 works-offer false t a f g v w h l e = subst (λ z. Works v z f g) (sym e.view) (works_late t a e.winner f g v h l)
 
--- the room after it
-pub room-offer : (b : Bool) (t a : ℕ) (v w : View) → MatchBool b (w ≡ won t a v) (IsLate t a v w) → w.room ≡ v.room
-room-offer true t a v w e = ap (λ (z : View). z.room) e
-room-offer false t a v w e = ap (λ (z : View). z.room) e.view
-
 -- outputs stay those of the wins
 pub won-calm : {O : Type 0} (r : ℕ → O → Type 0) (v w : View) (os : List (ℕ × O)) → ((u : ℕ) → wins_of u w ≡ wins_of u v) → HasWon r v os → HasWon r w os
 won-calm r v w os e h = record { each = λ t. h.each t ∙ sym (e t); right = h.right }
@@ -159,16 +154,6 @@ pub known-offer : (b : Bool) (t a : ℕ) (v w : View) → has_open t a v ≡ tru
 known-offer true t a v w h e = ap (knows_winner t) e ∙ own_win t a v h
 known-offer false t a v w h e = ap (knows_winner t) e.view ∙ noted_winner t e.winner (record v { tried = settle t a Late v.tried })
 
-pub known-closed : (t b : ℕ) (v w : View) → w ≡ saw_winner t (Some b) v → knows_winner t w ≡ true
-known-closed t b v w e = ap (knows_winner t) e ∙ noted_winner t b v
-
--- a count that is not below the limit was noted
-pub limit-failures : (t c : ℕ) (v w : View) → failure_limit ≤ c → w ≡ saw_count t c v → saw_limit w ≡ true
-limit-failures t c v w l e = ap saw_limit e ∙ any_last (λ p. nat_le failure_limit p.1) v.counts (t, c) (le-leb failure_limit c l)
-
-pub limit-failed : (t c : ℕ) (v w : View) → failure_limit ≤ c → w ≡ failed_at t c v → saw_limit w ≡ true
-limit-failed t c v w l e = ap saw_limit e ∙ any_last (λ p. nat_le failure_limit p.1) v.counts (t, c) (le-leb failure_limit c l)
-
 -- an attempt that was begun is under way
 pub open-begin : (t a : ℕ) (v w : View) → w ≡ began t a v → has_open t a w ≡ true
 open-begin t a v w e = ap (has_open t a) e ∙ began-open t a v
@@ -182,9 +167,6 @@ own-failed t c v w h e = ap (fails_of t) e ∙ fails_failed t c v h
 
 pub wins-failed : (t c : ℕ) (v w : View) → has_open_of t v ≡ true → w ≡ failed_at t c v → (u : ℕ) → wins_of u w ≡ wins_of u v
 wins-failed t c v w h e u = ap (wins_of u) e ∙ wins_failed u t c v h
-
-pub room-failed : (t c : ℕ) (v w : View) → w ≡ failed_at t c v → w.room ≡ v.room - 1
-room-failed t c v w e = ap (λ (z : View). z.room) e
 
 pub room-begin : (t a : ℕ) (v w : View) → w ≡ began t a v → w.room ≡ v.room - 1
 room-begin t a v w e = ap (λ (z : View). z.room) e
@@ -236,14 +218,6 @@ drawn-some n t v w d = elim (cases_lt d.number n) as (λ _. IsDrawn n t v w) [
   | inr m ↦
       let is : ◌≡◌ {A = Option ℕ} (Some t) None = d.answer_is ∙ ap (λ b. cond {A = Option ℕ} b (Some d.number) None) (le-ltb d.number n m) in
       absurd (cc)
-]
-
-pub drawn-none : (n : ℕ) (v w : View) → IsDraw n v w None → n ≤ w.known
-drawn-none n v w d = elim (cases_lt d.number n) as (λ _. n ≤ w.known) [
-  | inl l ↦
-      let is : ◌≡◌ {A = Option ℕ} None (Some d.number) = d.answer_is ∙ ap (λ b. cond {A = Option ℕ} b (Some d.number) None) (lt-ltb d.number n l) in
-      absurd (cc)
-  | inr m ↦ let known = ap (λ (z : View). z.known) d.view in omega arith
 ]
 
 -- one task more that the pass knows to be won

@@ -96,10 +96,6 @@ few_faults (Ok r) k n f g failed rise few = failed
 few_faults (Err (TaskFailed t ends)) k n f g failed rise few = let p = some_failures t ends failed.least in absurd (omega arith)
 few_faults (Err OutOfMemory) k n f g failed rise few = refl
 
--- a wave that has run out of memory shows no failure
-pub no_failures : (f g : ℕ) → f ≤ g → f + failures_of OutOfMemory ≤ g
-no_failures f g l = omega arith
-
 -- the first pass is ready for eight halvings
 pub ready_fresh : (b : Board) (p : Pass) → OnBoard b p → view_of p ≡ fresh → IsReady b 8 p
 ready_fresh b p on is = record {

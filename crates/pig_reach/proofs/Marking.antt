@@ -100,19 +100,6 @@ then_marked i stores inputs old mid new lower live size each size_again again = 
       ∙ sym (ap (λ b. (b && list_any (λ j. j == k) inputs) || get_or old k false) live);
 }
 
--- a dead one: nothing changes
-pub not_marked : (i : ℕ) (stores : Bool) (inputs : List ℕ) (old : List Bool) → (stores || get_or old i false) ≡ false → IsMarked i stores inputs old old
-not_marked i stores inputs old dead = record {
-  size = refl;
-  own = both_false stores (get_or old i false) dead ∙ sym dead;
-  behind = λ k above. refl;
-  before = λ k below. sym (ap (λ b. (b && list_any (λ j. j == k) inputs) || get_or old k false) dead);
-}
-  where
-    both_false : (a b : Bool) → (a || b) ≡ false → b ≡ false
-    both_false true b h = absurd (cc)
-    both_false false b h = h
-
 -- ---- the numbers that are marked
 
 pub range_more : (a n : ℕ) → range_with_len a (n + 1) ≡ range_with_len a n ++ (a + n) ∷ []

@@ -128,10 +128,6 @@ comes_on plan numbers place number seen new within at is =
     by_node (Some node) e = goes_on plan number (drop (place + 1) numbers) seen node e
         ∙ ap (Comes plan (drop (place + 1) numbers)) (sym (is ∙ ap (λ o. option_map_or (with_path seen) o seen) e))
 
--- at the end of the list
-pub all_came : (plan : Plan) (numbers : List ℕ) (place : ℕ) (seen : List (List ℕ)) → length numbers ≤ place → Comes plan (drop place numbers) seen ≡ seen
-all_came plan numbers place seen end = ap (λ ns. Comes plan ns seen) (drop_all place numbers end) ∙ ends plan seen
-
 -- before the first
 pub comes_first : (plan : Plan) (numbers : List ℕ) → numbers ≡ live plan → Comes plan (drop 0 numbers) [] ≡ live_paths plan
 comes_first plan numbers are = begins plan numbers ∙ ap (λ ns. once (paths_at plan ns)) are

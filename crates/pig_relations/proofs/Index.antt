@@ -65,7 +65,3 @@ index_behind given n old new h e name = by (bytes_eq name n.alias) refl
     by false w =
         let at : new name ≡ old name = e name ∙ ap (λ b. if b then Some (length given) else old name) w in
         rw (at) (earlier given n (old name) (h name).1 ∙ (h name).0 ∙ sym (means false w), within given n (old name) (h name).1)
-
--- the same list and the same places are an index too
-pub index_same : (given same : List Named) (old new : List ℕ → Option ℕ) → same ≡ given → ((name : List ℕ) → new name ≡ old name) → IsIndex given old → IsIndex same new
-index_same given same old new e places h name = rw (places name, e) (h name)

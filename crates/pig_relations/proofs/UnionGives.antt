@@ -20,9 +20,6 @@ use Rattle.pig_relations.proofs.TogetherHolds.{columns_given, kinds_given, rows_
 
 -- ---- the block that widens
 
-later_field : (k : KindTree) (ks : List KindTree) (n : ℕ) → slice_get (k ∷ ks) (suc n) ≡ slice_get ks n
-later_field k ks n = refl
-
 -- the fields of a row from a place on
 abbrev StandFrom : List KindTree → ℕ → List KindTree → Type 0
 StandFrom row n [] = ⊤

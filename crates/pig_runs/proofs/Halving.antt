@@ -63,14 +63,6 @@ none_behind : {X : Type 0} (P : X → Type 0) (xs : List X) → AllByRecursion P
 none_behind P [] = tt
 none_behind P (x ∷ xs) = none_behind P xs
 
-pub halved_first : (ds : List Dir) (es fs : List Keyed) (there count : ℕ) → count ≡ length es → IsHalved ds es fs there 0 count
-halved_first ds es fs there count is = record {
-  order = omega arith;
-  within = omega (arith, is);
-  first = λ f here. tt;
-  rest = λ f here. subst (λ n. AllByRecursion (λ e. is_lt (run_cmp ds e f) ≡ false) (drop n es)) (sym is) (none_behind (λ e. is_lt (run_cmp ds e f) ≡ false) es);
-}
-
 pub halved_all : (ds : List Dir) (es fs : List Keyed) (there low high : ℕ) → IsHalved ds es fs there low high → high ≤ low
     → (f : Keyed) → slice_get fs there ≡ Some f → Divides (λ e. is_lt (run_cmp ds e f)) es low
 halved_all ds es fs there low high h done f here =

@@ -76,9 +76,6 @@ lent_before ds es fs at there p q r good well is_p is_q told e f here found =
 
 -- ---- the entries of runs, one run after another
 
-pub none_stand : (ds : List Dir) → Stand ds [] []
-none_stand ds = record { good = ∣ tt ∣₁; told = refl }
-
 pub one_run_lent : (ds : List Dir) (runs : List InDirections) (i : ℕ) (run lent : InDirections) (ps qs : List Packed) → HaveDirections ds runs → i < length runs → run ≡ get_or runs i run → lent ≡ run
     → ∥ AreKeyed lent.dirs lent.entries ∥₁ → Stand ds (entries_of_all (take i runs)) ps → qs ≡ ps ++ map (packed lent.dirs) lent.entries → Stand ds (entries_of_all (take (i + 1) runs)) qs
 one_run_lent ds runs i run lent ps qs alike within at same good so_far grown =

@@ -29,9 +29,6 @@ drop_none (suc n) (x ∷ xs) h = drop_none n xs (omega (arith, h))
 pub none_between : {X : Type 0} (from end : ℕ) (xs : List X) → end ≤ from → drop from (take end xs) ≡ []
 none_between from end xs h = drop_none from (take end xs) (let size = length-take end xs in omega (arith, size, h))
 
-pub none_copied : (from : ℕ) (es : List Keyed) (b : InDirections) → b ≡ and_entries (drop from (take from es)) b
-none_copied from es b = ap (λ l. record { dirs = b.dirs; entries = l }) (sym (append-nil b.entries) ∙ ap (λ l. b.entries ++ l) (sym (none_between from from es (omega arith))))
-
 pub one_copied : (from at : ℕ) (es : List Keyed) (b s new : InDirections) → from ≤ at → at < length es → s ≡ and_entries (drop from (take at es)) b
     → new ≡ and_entries (take 1 (drop at es)) s → new ≡ and_entries (drop from (take (at + 1) es)) b
 one_copied from at es b s new above within so_far grown =

@@ -49,10 +49,6 @@ same_test P true b h k = sym (k.1 (h.0 refl))
 same_test P false true h k = h.1 (k.0 refl)
 same_test P false false h k = refl
 
--- the name is all of the full name, a proper end of it, or no end
-pub whole_fits : (full before name : List ℕ) → full ≡ before ++ name → before ≡ [] → true ≡ fits full name
-whole_fits full before name e none = sym ((fit_is full name).1 (inl (e ∙ ap (λ b. b ++ name) none)))
-
 pub end_fits : (full before name : List ℕ) (taken : List ℕ) (r : Bool) → full ≡ before ++ name → (before ≡ [] → ⊥) → ((r ≡ true → before ≡ taken ++ colons) × ((front : List ℕ) → before ≡ front ++ colons → r ≡ true)) → r ≡ fits full name
 end_fits full before name taken r e more told = same_test (Fits full name) r (fits full name) (there, back) (fit_is full name)
   where

@@ -45,25 +45,9 @@ pub inner_back : (columns : List FieldTree) → inner_list (inner_of columns) �
 inner_back [] = refl
 inner_back (c ∷ columns) = ap (λ cs. c ∷ cs) (inner_back columns)
 
--- the latest of three
-pub later_assoc : {A : Type 0} (a b c : Option A) → later_or (later_or a b) c ≡ later_or a (later_or b c)
-later_assoc (Some x) b c = refl
-later_assoc None b c = refl
-
 pub later_none : {A : Type 0} (a : Option A) → later_or a None ≡ a
 later_none (Some x) = refl
 later_none None = refl
-
--- one field of a written schema more
-pub written_one : (p : List ℕ × Option TypeForm) (ps : List (List ℕ × Option TypeForm))
-    → written_fields (field_forms (p ∷ ps)) ≡ option_and_then (λ c. option_map (λ inner. c ∷ inner) (written_fields (field_forms ps))) (written_field p)
-written_one (name, Some type) ps = by (written type)
-  where
-    by : (o : Option FieldTree) → option_and_then (λ c. option_map (λ inner. with_name name c ∷ inner) (written_fields (field_forms ps))) o
-        ≡ option_and_then (λ c. option_map (λ inner. c ∷ inner) (written_fields (field_forms ps))) (option_map (with_name name) o)
-    by None = refl
-    by (Some c) = refl
-written_one (name, None) ps = refl
 
 -- a row's fields in turn have its kinds
 fields_kinds_from : (before kinds : List KindTree) → args_kinds (args_of (fields_from (length before) (length kinds))) (before ++ kinds) [] ≡ Some kinds
@@ -123,14 +107,3 @@ call_kind_is f g by ps kinds found e1 e2 e3 e4 =
     let named : called f ps ≡ g = cc in
     let is : function_kind (called f ps) (cast_kinds f ps) ≡ function_kind g kinds = cc in
     ap (λ k. Ok k) is ∙ e4
-
--- a call, by steps
-pub call_typing_is : (f g : Function) (by : Casting) (ps : List Typing) (k : KindTree) (args : List Typed) (e : Typed) (c : FieldTree) (p : Typing)
-    → by ≡ casting f (kinds_as_given ps) → ◌≡◌ {A = Checked Function} (Ok (sized f (kinds_as_given ps))) (Ok g)
-    → args ≡ map (λ p. cast_maybe (cast_by by (kind_in p)) (typed_of p)) ps → e ≡ x_call g (args_of args) → c ≡ given f k (map typed_column ps)
-    → p ≡ typing e c → ◌≡◌ {A = Checked Typing} (Ok (call_typing f ps k)) (Ok p)
-call_typing_is f g by ps k args e c p e1 e2 e3 e4 e5 e6 =
-    let as_cast : args ≡ cast_args f ps = e3 ∙ ap (λ b. map (λ p. cast_maybe (cast_by b (kind_in p)) (typed_of p)) ps) e1 in
-    let named : called f ps ≡ g = cc in
-    let whole : typing (x_call (called f ps) (args_of (cast_args f ps))) (given f k (map typed_column ps)) ≡ p = cc in
-    ap (λ q. Ok q) whole
