@@ -1,7 +1,7 @@
 -- Texts compare as their fronts and then what is behind these.
-use Rattle.std.proofs.Common.{◌≡◌, ◌<◌, ◌≤◌, ◌+◌, ◌*◌, ◌^◌, ℕ, zero, suc, List, [], ◌∷◌, length, take, drop, refl, arith, sym, ◌∙◌, ap, pow-suc, mul_comm}
+use Rattle.std.proofs.Common.{◌≡◌, ◌<◌, ◌≤◌, ◌+◌, ◌*◌, ◌^◌, ℕ, zero, suc, List, [], ◌∷◌, length, take, drop, refl, arith, sym, ◌∙◌, ap, pow-suc, mul_comm, mul_assoc, zero-mul, zero-add, suc-add, add-mul}
 use Rattle.std.proofs.Math.Nat.{pow-le-pow_right}
-use Rattle.std.proofs.lemmas.Nat.{mul-le}
+use Rattle.std.proofs.lemmas.Nat.{mul-le, pow-add}
 use Rattle.std.specs.Cmp.{IsTotalOrder, nat_cmp_is}
 use Rattle.std.specs.Ordering.{ordering_then, nat_cmp, MatchOrdering}
 use Rattle.std.specs.declared.cmp.Ordering.{Ordering}
@@ -9,9 +9,10 @@ use Rattle.std.specs.declared.cmp.Ordering.TheVariants.{Less, Equal, Greater}
 use Rattle.std.proofs.lemmas.Cmp.{ranked, nat_cmp_total, lists_total, then_total, on_total}
 use Rattle.pig_value.specs.Leaves.{AreBytes}
 use Rattle.pig_value.specs.Orders.{text_cmp}
+use Rattle.pig_value.proofs.list_laws.Listing.{each-drop}
 use Rattle.pig_keycode.proofs.NumberOrder.{digits_cmp}
 use Rattle.pig_keycode.proofs.TextOrder.{then_assoc}
-use Rattle.pig_runs.specs.Fronts.{first_bytes, behind_cmp, fronted_cmp}
+use Rattle.pig_runs.specs.Fronts.{first_bytes, front, front_cmp, front_len, behind_cmp, fronted_cmp}
 
 unit_above : (k : ℕ) → 0 < 256 ^ k
 unit_above k = pow-le-pow_right {n = 256} (omega arith) {i = 0} {j = k} (omega arith)
@@ -49,19 +50,57 @@ suc_cmp m n = sym (nat_cmp_is (suc m) (suc n) (nat_cmp m n) (bumped m n (nat_cmp
 behind_more : (k b c : ℕ) (s t : List ℕ) → behind_cmp (suc k) (b ∷ s) (c ∷ t) ≡ behind_cmp k s t
 behind_more k b c s t = ap (λ o. ordering_then o (text_cmp (drop k s) (drop k t))) (suc_cmp (length (take k s)) (length (take k t)))
 
-pub front_order : (k : ℕ) (s t : List ℕ) → AreBytes s → AreBytes t → ordering_then (nat_cmp (first_bytes k s) (first_bytes k t)) (behind_cmp k s t) ≡ text_cmp s t
-front_order zero s t h l = refl
-front_order (suc k) [] [] h l = refl
-front_order (suc k) [] (c ∷ t) h l = none_first (first_bytes (suc k) (c ∷ t)) (length (take k t)) (text_cmp [] (drop k t))
-front_order (suc k) (b ∷ s) [] h l = none_last (first_bytes (suc k) (b ∷ s)) (length (take k s)) (text_cmp (drop k s) [])
-front_order (suc k) (b ∷ s) (c ∷ t) h l =
+bytes_order : (k : ℕ) (s t : List ℕ) → AreBytes s → AreBytes t → ordering_then (nat_cmp (first_bytes k s) (first_bytes k t)) (behind_cmp k s t) ≡ text_cmp s t
+bytes_order zero s t h l = refl
+bytes_order (suc k) [] [] h l = refl
+bytes_order (suc k) [] (c ∷ t) h l = none_first (first_bytes (suc k) (c ∷ t)) (length (take k t)) (text_cmp [] (drop k t))
+bytes_order (suc k) (b ∷ s) [] h l = none_last (first_bytes (suc k) (b ∷ s)) (length (take k s)) (text_cmp (drop k s) [])
+bytes_order (suc k) (b ∷ s) (c ∷ t) h l =
     ap (ordering_then (nat_cmp (b * 256 ^ k + first_bytes k s) (c * 256 ^ k + first_bytes k t))) (behind_more k b c s t)
     ∙ (ap (λ o. ordering_then o (behind_cmp k s t)) (sym (digits_cmp (256 ^ k) b c (first_bytes k s) (first_bytes k t) (first_below k s h.1) (first_below k t l.1)))
     ∙ (then_assoc (nat_cmp b c) (nat_cmp (first_bytes k s) (first_bytes k t)) (behind_cmp k s t)
-    ∙ ap (ordering_then (nat_cmp b c)) (front_order k s t h.1 l.1)))
+    ∙ ap (ordering_then (nat_cmp b c)) (bytes_order k s t h.1 l.1)))
+
+first_of_none : (k : ℕ) → first_bytes k [] ≡ 0
+first_of_none zero = refl
+first_of_none (suc k) = refl
+
+-- the first bytes are those up to a place, and then those behind it
+first_split : (j k : ℕ) (s : List ℕ) → first_bytes (j + k) s ≡ first_bytes j s * 256 ^ k + first_bytes k (drop j s)
+first_split zero k s =
+    let whole : first_bytes (0 + k) s ≡ first_bytes k s = ap (λ n. first_bytes n s) (zero-add k) in
+    let same : first_bytes k (drop 0 s) ≡ first_bytes k s = refl in
+    let none = zero-mul (256 ^ k) in
+    omega (arith, whole, same, none)
+first_split (suc j) k [] =
+    let whole = first_of_none (suc j + k) in
+    let none = zero-mul (256 ^ k) in
+    let behind : first_bytes k (drop (suc j) []) ≡ 0 = first_of_none k in
+    omega (arith, whole, none, behind)
+first_split (suc j) k (b ∷ s) =
+    let whole : first_bytes (suc j + k) (b ∷ s) ≡ b * 256 ^ (j + k) + first_bytes (j + k) s = ap (λ n. first_bytes n (b ∷ s)) (suc-add j k) in
+    let first : first_bytes (suc j) (b ∷ s) ≡ b * 256 ^ j + first_bytes j s = refl in
+    let behind : first_bytes k (drop (suc j) (b ∷ s)) ≡ first_bytes k (drop j s) = refl in
+    let rest = first_split j k s in
+    let unit : b * 256 ^ (j + k) ≡ b * 256 ^ j * 256 ^ k = ap (λ u. b * u) (pow-add 256 j k) ∙ sym (mul_assoc b (256 ^ j) (256 ^ k)) in
+    let apart : (b * 256 ^ j + first_bytes j s) * 256 ^ k ≡ b * 256 ^ j * 256 ^ k + first_bytes j s * 256 ^ k = add-mul (b * 256 ^ j) (first_bytes j s) (256 ^ k) in
+    omega (arith, whole, first, behind, rest, unit, apart)
+
+-- of texts whose fronts are right
+pub front_order : (s t : List ℕ) → AreBytes s → AreBytes t → ordering_then (front_cmp (front s) (front t)) (behind_cmp front_len s t) ≡ text_cmp s t
+front_order s t h l =
+    ap (λ o. ordering_then o (behind_cmp front_len s t)) (digits_cmp (256 ^ 8) (first_bytes 8 s) (first_bytes 8 t) (first_bytes 8 (drop 8 s)) (first_bytes 8 (drop 8 t)) (low_below s h) (low_below t l)
+    ∙ (λ i. nat_cmp (sym (first_split 8 8 s) i) (sym (first_split 8 8 t) i)))
+    ∙ bytes_order front_len s t h l
+  where
+    low_below : (u : List ℕ) → AreBytes u → first_bytes 8 (drop 8 u) < 256 ^ 8
+    low_below u g = first_below 8 (drop 8 u) (each-drop (λ b. b < 256) 8 u g)
 
 texts_total : IsTotalOrder text_cmp
 texts_total = lists_total nat_cmp_total
 
+fronts_total : IsTotalOrder front_cmp
+fronts_total = then_total (on_total (λ p. p.high) nat_cmp_total) (on_total (λ p. p.low) nat_cmp_total)
+
 pub fronted_total : IsTotalOrder fronted_cmp
-fronted_total = then_total (on_total (λ p. p.front) nat_cmp_total) (then_total (on_total (λ p. length (take 8 p.text)) nat_cmp_total) (on_total (λ p. drop 8 p.text) texts_total))
+fronted_total = then_total (on_total (λ p. p.front) fronts_total) (then_total (on_total (λ p. length (take front_len p.text)) nat_cmp_total) (on_total (λ p. drop front_len p.text) texts_total))

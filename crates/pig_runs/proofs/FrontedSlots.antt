@@ -12,8 +12,9 @@ use Rattle.pig_value.specs.Orders.{text_cmp}
 use Rattle.pig_value.specs.Sorts.{sort, Ascends}
 use Rattle.pig_value.proofs.list_laws.Bags.{ascends_from_sorted, sort_is}
 use Rattle.pig_value.proofs.list_laws.Listing.{each-take, each-drop}
+use Rattle.pig_runs.specs.declared.slots.Front.{Front}
 use Rattle.pig_runs.specs.declared.slots.Slot.{Slot}
-use Rattle.pig_runs.specs.Fronts.{front, fronted_cmp, behind_cmp}
+use Rattle.pig_runs.specs.Fronts.{front, front_cmp, front_len, fronted_cmp, behind_cmp}
 use Rattle.pig_runs.specs.Packed.{found_at, fronted_at, fronted_entry_cmp, packed_cmp, part, row_at, IsPlaced}
 use Rattle.pig_runs.proofs.FrontOrder.{front_order, fronted_total}
 use Rattle.pig_runs.proofs.Order.{packed_total, packed_same}
@@ -22,8 +23,8 @@ use Rattle.pig_runs.proofs.SortedSlots.{placed_sorted}
 pub fronted_entry_total : IsTotalOrder fronted_entry_cmp
 fronted_entry_total = then_total (on_total (λ p. p.key) fronted_total) (then_total (on_total (λ p. p.input) nat_cmp_total) (on_total (λ p. p.row) fronted_total))
 
-text_fronted : (f g : ℕ) (s t : List ℕ) → f ≡ front s → g ≡ front t → AreBytes s → AreBytes t → fronted_cmp (record { front = f; text = s }) (record { front = g; text = t }) ≡ text_cmp s t
-text_fronted f g s t is same h k = (λ i. ordering_then (nat_cmp (is i) (same i)) (behind_cmp 8 s t)) ∙ front_order 8 s t h k
+text_fronted : (f g : Front) (s t : List ℕ) → f ≡ front s → g ≡ front t → AreBytes s → AreBytes t → fronted_cmp (record { front = f; text = s }) (record { front = g; text = t }) ≡ text_cmp s t
+text_fronted f g s t is same h k = (λ i. ordering_then (front_cmp (is i) (same i)) (behind_cmp front_len s t)) ∙ front_order s t h k
 
 module _ (bytes : List ℕ) (small : AreBytes bytes) where
   part_bytes : (at len : ℕ) → AreBytes (part bytes at len)

@@ -1,11 +1,22 @@
 ghost use Rattle.std.specs.Prelude.{◌≡◌, drop, length, take};
-ghost use Rattle.pig_runs.specs.Fronts.{Fronted, behind_cmp, front as front_of, fronted_cmp};
+ghost use Rattle.pig_runs.specs.Fronts.{Fronted, behind_cmp, first_bytes, front as front_of, front_cmp, front_len, fronted_cmp};
 
+use crate::slots::Front;
 use std::cmp::Ordering;
 
-// The front of a text: its first eight bytes as a number, where those that are missing are 0.
-pub(crate) fn front(text: &[u8]) -> u64
+// The front of a text.
+pub(crate) fn front(text: &[u8]) -> Front
     ensures { result ≡ front_of text.now }
+{
+    Front {
+        high: first_eight(text),
+        low: first_eight(behind(text, 8)),
+    }
+}
+
+// The first eight bytes of a text as a number, where those that are missing are 0.
+fn first_eight(text: &[u8]) -> u64
+    ensures { result ≡ first_bytes 8 text.now }
 {
     match text {
         [a, b, c, d, e, f, g, h, ..] => u64::from_be_bytes([*a, *b, *c, *d, *e, *f, *g, *h]),
@@ -21,37 +32,46 @@ pub(crate) fn front(text: &[u8]) -> u64
 }
 
 // How two texts stand of which the fronts are known: the texts are looked at only where these are the same.
-pub(crate) fn compare_fronted(front: u64, text: &[u8], other: u64, with: &[u8]) -> Ordering
+pub(crate) fn compare_fronted(front: Front, text: &[u8], other: Front, with: &[u8]) -> Ordering
     ensures { result ≡ fronted_cmp (record { front = front; text = text.now })
         (record { front = other; text = with.now }) }
 {
-    match front.cmp(&other) {
+    match compare_fronts(front, other) {
         Ordering::Equal => compare_behind(text, with),
         found => found,
     }
 }
 
-fn compare_behind(text: &[u8], with: &[u8]) -> Ordering
-    ensures { result ≡ behind_cmp 8 text.now with.now }
+fn compare_fronts(front: Front, other: Front) -> Ordering
+    ensures { result ≡ front_cmp front other }
 {
-    match front_len(text).cmp(&front_len(with)) {
-        Ordering::Equal => behind(text).cmp(behind(with)),
+    match front.high.cmp(&other.high) {
+        Ordering::Equal => front.low.cmp(&other.low),
+        found => found,
+    }
+}
+
+fn compare_behind(text: &[u8], with: &[u8]) -> Ordering
+    ensures { result ≡ behind_cmp front_len text.now with.now }
+{
+    match fronted(text).cmp(&fronted(with)) {
+        Ordering::Equal => behind(text, 16).cmp(behind(with, 16)),
         found => found,
     }
 }
 
 // How many bytes the front is of.
-fn front_len(text: &[u8]) -> usize
-    ensures { result ≡ length (take 8 text.now) }
+fn fronted(text: &[u8]) -> usize
+    ensures { result ≡ length (take front_len text.now) }
 {
-    text.len().min(8)
+    text.len().min(16)
 }
 
-// The bytes behind the front.
-fn behind(text: &[u8]) -> &[u8]
-    ensures { result.now ≡ drop 8 text.now }
+// The bytes behind the first so many.
+fn behind(text: &[u8], count: usize) -> &[u8]
+    ensures { result.now ≡ drop count text.now }
 {
-    match text.get(8..) {
+    match text.get(count..) {
         Some(behind) => behind,
         None => &[],
     }

@@ -1,10 +1,17 @@
+// The front of a text: its first sixteen bytes as two numbers of eight, where those that are missing are 0.
+#[derive(Debug, Clone, Copy, Drop)]
+pub(crate) struct Front {
+    pub(crate) high: u64,
+    pub(crate) low: u64,
+}
+
 // Where an entry stands in the bytes of its run: the code of its key, and right behind it that of
 // its row.
 #[derive(Debug, Clone, Copy, Drop)]
 pub(crate) struct Slot {
     // The fronts of the codes of its key and of its row.
-    pub(crate) key_front: u64,
-    pub(crate) row_front: u64,
+    pub(crate) key_front: Front,
+    pub(crate) row_front: Front,
     // The place of the code of its key.
     pub(crate) at: usize,
     // The lengths of both codes.
