@@ -14,8 +14,11 @@ use pig_value::Rows;
 use std::alloc::{AllocError, Global};
 use std::marker::Model;
 
-/// A batch takes no further group where it has so many rows.
+/// A batch takes no further row where it has so many.
 const BATCH_ROWS: usize = 512;
+
+/// A batch with a row takes no further group where its groups have so many entries, whose rows stand in memory.
+const BATCH_ENTRIES: usize = 4_096;
 
 /// The rows of an operator by key over the entries of a run, some groups at a time.
 ///
@@ -119,7 +122,7 @@ impl Gatherer {
     }
 }
 
-// Adds the rows of groups from a place on until there are enough, and says where the next begins.
+// Adds the rows of groups from a place on until there are enough of them or of entries, and says where the next begins.
 fn add_batch(
     alloc: Global,
     how: &Gathering,
@@ -134,8 +137,13 @@ fn add_batch(
         → to_come how.now run.now next ≡ []) }
 {
     let mut next = from;
-    'groups: while next < run.len() && rows.len() < BATCH_ROWS {
+    'groups: while next < run.len() && (rows.is_empty() || has_room(rows.len(), next - from)) {
         next = add_next(alloc, how, run, next, rows)?;
     }
     Ok(next)
+}
+
+// Whether a batch takes a further group.
+fn has_room(rows: usize, entries: usize) -> bool {
+    rows < BATCH_ROWS && entries < BATCH_ENTRIES
 }
