@@ -44,7 +44,7 @@ pub all_kept : (bytes more : List ℕ) (slots : List Slot) → AllByRecursion (I
 all_kept bytes more [] h = refl
 all_kept bytes more (s ∷ slots) h = let one = found_kept bytes more s h.0 in let rest = all_kept bytes more slots h.1 in λ i. one i ∷ rest i
 
-found_new : (bytes key row : List ℕ) (input : ℕ) → found_at (bytes ++ (key ++ row)) (slot_of (length bytes) key row input) ≡ record { key = key; input = input; row = row }
+pub found_new : (bytes key row : List ℕ) (input : ℕ) → found_at (bytes ++ (key ++ row)) (slot_of (length bytes) key row input) ≡ record { key = key; input = input; row = row }
 found_new bytes key row input =
     let first = first_part bytes key row in
     let second = second_part bytes key row in

@@ -11,3 +11,4 @@ pub mod Lending
 pub mod Halving
 pub mod Sliced
 pub mod Parted
+mod InTurn

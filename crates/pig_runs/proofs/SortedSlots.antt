@@ -13,22 +13,22 @@ use Rattle.pig_runs.specs.Entries.{Keyed, IsEntry, InDirections, run_cmp, run_of
 use Rattle.pig_runs.specs.Packed.{packed, packed_cmp, found_at, IsPlaced, Held, held_prop, coded_packed}
 use Rattle.pig_runs.proofs.Order.{run_total, sorted_codes}
 
-module _ (ds : List Dir) (bytes : List ℕ) (slots done : List Slot) (held : Held ds (map (found_at bytes) slots))
-    (sorted : map (found_at bytes) done ≡ sort packed_cmp (map (found_at bytes) slots)) where
-  pub held_sorted : Held ds (map (found_at bytes) done)
+module _ (ds : List Dir) (bytes laid : List ℕ) (slots done : List Slot) (held : Held ds (map (found_at bytes) slots))
+    (sorted : map (found_at laid) done ≡ sort packed_cmp (map (found_at bytes) slots)) where
+  pub held_sorted : Held ds (map (found_at laid) done)
   held_sorted = (
     sort (run_cmp ds) held.0,
     (
       ∥∥₁_map held.1.0 (λ h. each-sort (run_cmp ds) (IsEntry ds) held.0 h),
-      ∥∥₁_elim held.1.0 (Coded-set (coded_list coded_packed) (map (packed ds) (sort (run_cmp ds) held.0)) (map (found_at bytes) done))
+      ∥∥₁_elim held.1.0 (Coded-set (coded_list coded_packed) (map (packed ds) (sort (run_cmp ds) held.0)) (map (found_at laid) done))
           (λ h. sym (sorted_codes ds held.0 h) ∙ (ap (sort packed_cmp) held.1.1 ∙ sym sorted)),
     ),
   )
 
-  pub seen_sorted : (given : Held ds (map (found_at bytes) done)) (b : InDirections) → b ≡ record { dirs = ds; entries = held.0 } → record { dirs = ds; entries = given.0 } ≡ run_of b.dirs b.entries
+  pub seen_sorted : (given : Held ds (map (found_at laid) done)) (b : InDirections) → b ≡ record { dirs = ds; entries = held.0 } → record { dirs = ds; entries = given.0 } ≡ run_of b.dirs b.entries
   unfolding held_sorted
   seen_sorted given b was =
-      let is : given.0 ≡ sort (run_cmp ds) held.0 = ap (λ h. h.0) (held_prop ds (map (found_at bytes) done) given held_sorted) in
+      let is : given.0 ≡ sort (run_cmp ds) held.0 = ap (λ h. h.0) (held_prop ds (map (found_at laid) done) given held_sorted) in
       ap (λ l. record { dirs = ds; entries = l }) is ∙ sym (ap (λ c. run_of c.dirs c.entries) was)
 
 -- what holds of each element holds of each in another order

@@ -3,3 +3,4 @@ pub mod Fronts
 pub mod Packed
 pub mod Parts
 pub mod Cutting
+pub mod InTurn

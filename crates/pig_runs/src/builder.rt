@@ -3,6 +3,7 @@ ghost use Rattle.std.specs.Prelude.{◌≡◌, ◌<◌, ◌≤◌, List, [], ◌
 ghost use Rattle.pig_runs.specs.Entries.{run_of};
 ghost use Rattle.pig_runs.specs.Packed.{found_at, packed, packed_lent, Held, held_prop, IsPlaced, Joins, Stand};
 
+use crate::laying::lay_out;
 use crate::lent::{Lent, stands_before};
 use crate::packing::{
     add_entry, add_lent, join_slots, lend, lend_slots, read_key, read_row, same_key_bytes, slot_at,
@@ -118,6 +119,7 @@ impl RunBuilder {
         ensures { self.new ≡ run_of self.old.dirs self.old.entries }
     {
         sort_slots(self.bytes.as_slice(), &mut self.slots);
+        lay_out(&mut self.bytes, &mut self.slots);
     }
 
     /// The number of entries.

@@ -7,6 +7,7 @@ mod entries;
 mod fronts;
 mod joining;
 mod laws;
+mod laying;
 mod lent;
 mod packing;
 mod parts;
