@@ -1,5 +1,5 @@
 -- Codes that are laid out in the order of their slots, and what the slots then find.
-use Rattle.std.proofs.Common.{◌≡◌, ◌<◌, ◌≤◌, ◌+◌, ℕ, suc, zero, List, [], ◌∷◌, ◌++◌, map, length, take, drop, refl, sym, ◌∙◌, ap, subst, arith}
+use Rattle.std.proofs.Common.{◌≡◌, ◌<◌, ◌≤◌, ◌+◌, ℕ, List, [], ◌∷◌, ◌++◌, map, length, take, drop, refl, sym, ◌∙◌, ap, subst, arith}
 use Rattle.std.specs.Prelude.{Some, slice_get, slice_set}
 use Rattle.std.specs.List.{AllByRecursion, flat_map}
 use Rattle.std.proofs.Math.Seq.{take-add}
@@ -7,7 +7,6 @@ use Rattle.std.proofs.lemmas.List.{append_assoc, append-nil, length-append, leng
 use Rattle.std.proofs.lemmas.List.Concat.{flat_map-append}
 use Rattle.pig_value.proofs.list_laws.Indexing.{drop-add, get-drop, more_taken}
 use Rattle.pig_runs.specs.declared.slots.Slot.{Slot}
-use Rattle.pig_runs.specs.Fronts.{front}
 use Rattle.pig_runs.specs.InTurn.{codes_at, codes_len, in_turn, put_at}
 use Rattle.pig_runs.specs.Packed.{found_at, part, row_at, slot_of, IsPlaced}
 use Rattle.pig_runs.proofs.Adding.{all_kept, found_new, new_placed, placed_more}
@@ -117,7 +116,8 @@ pub put_one : (old now : List Slot) (i at : ℕ) (s : Slot) → i < length now �
 put_one old now i at s low here h =
     let there : slice_get old i ≡ Some s = same_here old now i h.1.0 ∙ here in
     let place : at ≡ 0 + codes_len (take i old) = let is = h.1.1 in omega (arith, is) in (
-      take_more_set now i (put_at at s) low ∙ ((λ j. h.0 j ++ put_at (place j) s ∷ []) ∙ (sym (in_turn-append 0 (take i old) (s ∷ [])) ∙ ap (in_turn 0) (sym (more_taken old i s there)))), (
+      take_more_set now i (put_at at s) low ∙ ((λ j. h.0 j ++ put_at (place j) s ∷ []) ∙ (sym (in_turn-append 0 (take i old) (s ∷ [])) ∙ ap (in_turn 0) (sym (more_taken old i s there)))),
+      (
         drop-set-lt (i + 1) now i (put_at at s) (omega arith) ∙ (sym (drop-add now i 1) ∙ (ap (drop 1) h.1.0 ∙ drop-add old i 1)),
         (let more = codes_one_more old i s there in let is = h.1.1 in omega (arith, more, is)),
       ),

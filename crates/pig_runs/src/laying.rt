@@ -1,17 +1,18 @@
-ghost use Rattle.std.specs.Prelude.{◌≡◌, ◌+◌, ◌<◌, ◌^◌, length, map, IfOk};
+ghost use Rattle.std.specs.Prelude.{◌≡◌, map, IfOk};
 ghost use Rattle.std.specs.List.{AllByRecursion, flat_map};
 ghost use Rattle.pig_runs.specs.InTurn.{codes_at, codes_len, in_turn};
-ghost use Rattle.pig_runs.specs.Packed.{found_at, part, IsPlaced};
+ghost use Rattle.pig_runs.specs.Packed.{found_at, IsPlaced};
 
-use crate::packing::part as part_of;
+use crate::packing::part;
 use crate::slots::Slot;
 use std::alloc::{AllocError, Global};
 
-// The codes of more bytes stay where they are: a second copy of these would be too much.
+// More bytes than these stay where they are, since a copy takes as many again.
 const MOST_LAID: usize = 1 << 27;
 
-// Lays the codes of entries out in the order of their slots, where there is memory for a copy: entries that are read in turn
-// then stand side by side. What the slots find stays.
+// Lays the codes of entries out in the order of their slots, where there is memory for a copy.
+//
+// Entries that are read in turn then stand side by side. What the slots find stays.
 pub(crate) fn lay_out(bytes: &mut Vec<u8>, slots: &mut Vec<Slot>)
     requires { AllByRecursion (IsPlaced bytes.old.items) slots.old.items }
     ensures found { map (found_at bytes.new.items) slots.new.items
@@ -42,7 +43,7 @@ fn codes_in_turn(alloc: Global, bytes: &[u8], slots: &[Slot]) -> Result<Vec<u8>,
 fn codes_of<'r>(bytes: &'r [u8], slot: &Slot) -> &'r [u8]
     ensures { result.now ≡ codes_at bytes.now slot.now }
 {
-    part_of(
+    part(
         bytes,
         slot.at,
         slot.key_len as usize + slot.row_len as usize,

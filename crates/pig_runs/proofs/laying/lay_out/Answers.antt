@@ -1,6 +1,6 @@
-use Rattle.std.proofs.Common.{◌≡◌, length, map, sym, ◌∙◌, ap, rules, arith}
+use Rattle.std.proofs.Common.{◌≡◌, length, sym, ◌∙◌, ap, rules}
 use Rattle.std.specs.List.{flat_map}
-use Rattle.pig_runs.specs.InTurn.{codes_at, codes_len}
+use Rattle.pig_runs.specs.InTurn.{codes_at}
 use Rattle.pig_runs.proofs.InTurn.{laid_out, laid_size}
 use Rattle.pig_runs.proofs.laying.lay_out.Goals as goal
 

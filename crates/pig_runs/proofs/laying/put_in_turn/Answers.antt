@@ -1,5 +1,5 @@
-use Rattle.std.proofs.Common.{◌≡◌, ◌<◌, length, arith, rules}
-use Rattle.std.specs.Prelude.{Some, slice_get, slice_index_or}
+use Rattle.std.proofs.Common.{◌<◌, length, arith, rules}
+use Rattle.std.specs.Prelude.{slice_index_or}
 use Rattle.std.proofs.lemmas.Option.{slice_get-get_or}
 use Rattle.pig_runs.specs.declared.slots.Slot.{Slot}
 use Rattle.pig_runs.proofs.InTurn.{put_one, put_within}
@@ -12,7 +12,7 @@ pub overflow_add-at : goal.overflow_add-at
 overflow_add-at c =
     let low : c.loop-slot.slot-index < length c.loop-slot.slot-items = (let below = c.loop-slot-test.true in let size = c.loop-slot.auto.slot-items in search rules) in
     let within = put_within c.args.slots.now.items c.loop-slot.slot-items c.loop-slot.slot-index c.loop-slot.at (slice_index_or c.loop-slot.slot-items c.loop-slot.slot-index nowhere)
-        (slice_get-get_or c.loop-slot.slot-items c.loop-slot.slot-index nowhere low) c.loop-slot.invariant in
+    (slice_get-get_or c.loop-slot.slot-items c.loop-slot.slot-index nowhere low) c.loop-slot.invariant in
     let size = c.ranges.end.fits in
     let whole = c.requires in
     omega (arith, within, size, whole)
