@@ -1,63 +1,37 @@
 // Devices over files: which pieces a folder has, what is read, which files an output has, and what is a failure.
+//
+// A call that has to succeed ends the process where it doesn't: that drops nothing, so its proof is short.
 use pig_files::{FileDepot, FileHost};
 use pig_outside::{Depot, Host, OutsideError};
 use std::os::fd::AsRawFd;
 use std::os::unix::fs::symlink;
-use std::test::Fail;
+use std::process::Abort;
+use std::rt::Files;
 use std::{fs, io};
 
-#[test]
-fn a_folder_is_an_input_and_an_output(rt: HostRuntime) -> Result<(), Fail> {
-    let alloc = rt.alloc();
-    fs::create_dir_all(&rt, "in/nested.gz")?;
-    for (path, text) in [
-        ("in/b", "7\n"),
-        ("in/a", "5"),
-        ("in/_no", "1"),
-        ("in/.no", "2"),
-        ("in/nested.gz/c", "3"),
-    ] {
-        fs::write(&rt, path, text)?;
-    }
-    let mut depot = FileDepot::new(rt.clone()?, alloc);
-    let mut host = FileHost::new(rt.clone()?, alloc);
-    let lengths = depot.pieces("in")?.expect(&rt, "the folder");
-    assert_eq!(rt; lengths.as_slice(), [1, 2].as_slice());
-    assert!(rt; host.begin(0, 0, 0).is_ok());
-    let mut into = [0; 1];
-    for (piece, from, byte) in [(0, 0, b'5'), (1, 0, b'7'), (1, 1, b'\n')] {
-        host.read("in", piece, from, &mut into)?;
-        assert_eq!(rt; into, [byte]);
-    }
-    assert_eq!(rt; host.read("in", 1, 2, &mut into), Err(OutsideError::Failed));
-    assert_eq!(rt; host.read("in", 2, 0, &mut into), Err(OutsideError::Failed));
-    host.read("in/b", 0, 0, &mut into)?;
-    assert_eq!(rt; into, [b'7']);
-    assert!(rt; depot.pieces("no")?.is_none());
-    fs::write(&rt, "in/c.gz", "")?;
-    assert!(rt; depot.pieces("in").is_err());
+fn make_folder<R: Abort + Files>(rt: &R, path: &str) {
+    fs::create_dir_all(rt, path).expect(rt, "the folder");
+}
 
-    assert_eq!(rt; depot.exists("made/out"), Ok(false));
-    depot.create("made/out")?;
-    depot.put("made/out", 0, b"x\n")?;
-    depot.put("made/out", 1, b"")?;
-    depot.finish("made/out")?;
-    assert_eq!(rt; depot.exists("made/out"), Ok(true));
-    assert_eq!(rt; depot.create("made/out"), Err(OutsideError::Failed));
-    for (path, text) in [
-        ("made/out/part-00000", "x\n"),
-        ("made/out/part-00001", ""),
-        ("made/out/_SUCCESS", ""),
-    ] {
-        assert_eq!(rt; fs::read_to_string(&rt, path)?.as_str(), text);
-    }
+fn write<R: Abort + Files>(rt: &R, path: &str, text: &str) {
+    fs::write(rt, path, text).expect(rt, "the file");
+}
 
-    let mut script = Vec::new(alloc);
-    assert_eq!(rt; depot.script("no", 9, &mut script), Ok(false));
-    assert_eq!(rt; depot.script("in/b", 1, &mut script), Ok(true));
-    assert_eq!(rt; depot.script("in/b", 9, &mut script), Ok(true));
-    assert_eq!(rt; script.as_slice(), b"77\n".as_slice());
-    Ok(())
+fn link<R: Abort + Files>(rt: &R, to: &str, path: &str) {
+    symlink(rt, to, path).expect(rt, "the link");
+}
+
+/// Whether the pieces of a folder are so long.
+fn has_lengths<R: Abort, D: Depot>(rt: &R, depot: &mut D, path: &str, wanted: &[u64]) -> bool {
+    let found = depot.pieces(path).expect(rt, "the pieces");
+    let lengths = found.expect(rt, "the folder");
+    lengths.as_slice() == wanted
+}
+
+/// Whether there is no such input.
+fn is_absent<R: Abort, D: Depot>(rt: &R, depot: &mut D, path: &str) -> bool {
+    let found = depot.pieces(path).expect(rt, "an answer");
+    found.is_none()
 }
 
 /// Whether the depot fails at an input.
@@ -65,56 +39,130 @@ fn fails<D: Depot>(depot: &mut D, path: &str) -> bool {
     matches!(depot.pieces(path), Err(OutsideError::Failed))
 }
 
-#[test]
-fn what_is_no_file_is_a_failure(rt: HostRuntime) -> Result<(), Fail> {
-    let alloc = rt.alloc();
-    let mut depot = FileDepot::new(rt.clone()?, alloc);
-    let mut host = FileHost::new(rt.clone()?, alloc);
-    let (reader, _writer) = io::pipe(&rt)?;
-    let pipe = format!(in alloc; "/proc/self/fd/{}", reader.as_raw_fd())?;
-    for folder in ["device", "piped", "dangling", "left"] {
-        fs::create_dir_all(&rt, folder)?;
-    }
-    symlink(&rt, "/dev/null", "device/a")?;
-    symlink(&rt, pipe.as_str(), "piped/a")?;
-    symlink(&rt, "nowhere", "dangling/a")?;
-    symlink(&rt, "nowhere", "left/_a")?;
-    symlink(&rt, "/dev/null", "left/.a")?;
-    for path in ["/dev/null", pipe.as_str(), "device", "piped", "dangling"] {
-        assert!(rt; fails(&mut depot, path));
-    }
-    let left = depot.pieces("left")?.expect(&rt, "the folder");
-    assert_eq!(rt; left.len(), 0);
+/// The byte of a piece at a place.
+fn byte<R: Abort>(
+    rt: &R,
+    host: &mut FileHost<HostRuntime>,
+    path: &str,
+    piece: u32,
+    from: u64,
+) -> u8 {
     let mut into = [0; 1];
-    for path in [
-        "/dev/null",
-        pipe.as_str(),
-        "device",
-        "piped",
-        "dangling",
-        "left",
-    ] {
-        assert_eq!(rt; host.read(path, 0, 0, &mut into), Err(OutsideError::Failed));
-    }
-    Ok(())
+    let read = host.read(path, piece, from, &mut into);
+    read.expect(rt, "a byte");
+    into[0]
+}
+
+/// Whether the host fails at a byte of a piece.
+fn has_no_byte(host: &mut FileHost<HostRuntime>, path: &str, piece: u32, from: u64) -> bool {
+    let mut into = [0; 1];
+    host.read(path, piece, from, &mut into) == Err(OutsideError::Failed)
 }
 
 #[test]
-fn a_host_lists_a_folder_once(rt: HostRuntime) -> Result<(), Fail> {
-    let alloc = rt.alloc();
-    fs::create_dir_all(&rt, "listed")?;
-    fs::write(&rt, "listed/b", "b")?;
-    fs::write(&rt, "listed/c", "c")?;
-    let mut host = FileHost::new(rt.clone()?, alloc);
-    let mut into = [0; 1];
-    host.read("listed", 0, 0, &mut into)?;
-    assert_eq!(rt; into, [b'b']);
+fn a_folder_is_an_input(rt: HostRuntime) {
+    make_folder(&rt, "in/nested.gz");
+    write(&rt, "in/b", "7\n");
+    write(&rt, "in/a", "5");
+    write(&rt, "in/_no", "1");
+    write(&rt, "in/.no", "2");
+    write(&rt, "in/nested.gz/c", "3");
+    let mut depot = FileDepot::new(rt.clone().expect(&rt, "a handle"), rt.alloc());
+    assert!(rt; has_lengths(&rt, &mut depot, "in", &[1, 2]));
+    let mut host = FileHost::new(rt.clone().expect(&rt, "a handle"), rt.alloc());
+    assert!(rt; host.begin(0, 0, 0).is_ok());
+    assert!(rt; byte(&rt, &mut host, "in", 0, 0) == b'5');
+    assert!(rt; byte(&rt, &mut host, "in", 1, 0) == b'7');
+    assert!(rt; byte(&rt, &mut host, "in", 1, 1) == b'\n');
+    assert!(rt; has_no_byte(&mut host, "in", 1, 2));
+    assert!(rt; has_no_byte(&mut host, "in", 2, 0));
+    assert!(rt; byte(&rt, &mut host, "in/b", 0, 0) == b'7');
+    assert!(rt; is_absent(&rt, &mut depot, "no"));
+    write(&rt, "in/c.gz", "");
+    assert!(rt; depot.pieces("in").is_err());
+}
+
+/// What a file holds.
+fn text<R: Abort + Files + AllocGlobal>(rt: &R, path: &str) -> String {
+    fs::read_to_string(rt, path).expect(rt, "the text")
+}
+
+#[test]
+fn a_folder_is_an_output(rt: HostRuntime) {
+    let mut depot = FileDepot::new(rt.clone().expect(&rt, "a handle"), rt.alloc());
+    assert!(rt; depot.exists("made/out") == Ok(false));
+    depot.create("made/out").expect(&rt, "the output");
+    depot.put("made/out", 0, b"x\n").expect(&rt, "a part");
+    depot.put("made/out", 1, b"").expect(&rt, "a part");
+    depot.finish("made/out").expect(&rt, "the marker");
+    assert!(rt; depot.exists("made/out") == Ok(true));
+    assert!(rt; depot.create("made/out") == Err(OutsideError::Failed));
+    for (path, wanted) in [
+        ("made/out/part-00000", "x\n"),
+        ("made/out/part-00001", ""),
+        ("made/out/_SUCCESS", ""),
+    ] {
+        let found = text(&rt, path);
+        assert!(rt; found.as_str() == wanted);
+    }
+}
+
+#[test]
+fn a_script_is_a_file(rt: HostRuntime) {
+    make_folder(&rt, "in");
+    write(&rt, "in/b", "7\n");
+    let mut depot = FileDepot::new(rt.clone().expect(&rt, "a handle"), rt.alloc());
+    let mut script = Vec::new(rt.alloc());
+    assert!(rt; depot.script("no", 9, &mut script) == Ok(false));
+    assert!(rt; depot.script("in/b", 1, &mut script) == Ok(true));
+    assert!(rt; depot.script("in/b", 9, &mut script) == Ok(true));
+    assert_eq!(rt; script.as_slice(), b"77\n".as_slice());
+}
+
+#[test]
+fn what_is_no_file_is_a_failure(rt: HostRuntime) {
+    for folder in ["device", "dangling", "left"] {
+        make_folder(&rt, folder);
+    }
+    link(&rt, "/dev/null", "device/a");
+    link(&rt, "nowhere", "dangling/a");
+    link(&rt, "nowhere", "left/_a");
+    link(&rt, "/dev/null", "left/.a");
+    let mut depot = FileDepot::new(rt.clone().expect(&rt, "a handle"), rt.alloc());
+    let mut host = FileHost::new(rt.clone().expect(&rt, "a handle"), rt.alloc());
+    for path in ["/dev/null", "device", "dangling"] {
+        assert!(rt; fails(&mut depot, path));
+        assert!(rt; has_no_byte(&mut host, path, 0, 0));
+    }
+    assert!(rt; has_lengths(&rt, &mut depot, "left", &[]));
+    assert!(rt; has_no_byte(&mut host, "left", 0, 0));
+}
+
+#[test]
+fn a_pipe_is_a_failure(rt: HostRuntime) {
+    let (reader, _writer) = io::pipe(&rt).expect(&rt, "a pipe");
+    let pipe = format!(in rt.alloc(); "/proc/self/fd/{}", reader.as_raw_fd());
+    let pipe = pipe.expect(&rt, "memory");
+    make_folder(&rt, "piped");
+    link(&rt, pipe.as_str(), "piped/a");
+    let mut depot = FileDepot::new(rt.clone().expect(&rt, "a handle"), rt.alloc());
+    let mut host = FileHost::new(rt.clone().expect(&rt, "a handle"), rt.alloc());
+    for path in [pipe.as_str(), "piped"] {
+        assert!(rt; fails(&mut depot, path));
+        assert!(rt; has_no_byte(&mut host, path, 0, 0));
+    }
+}
+
+#[test]
+fn a_host_lists_a_folder_once(rt: HostRuntime) {
+    make_folder(&rt, "listed");
+    write(&rt, "listed/b", "b");
+    write(&rt, "listed/c", "c");
+    let mut before = FileHost::new(rt.clone().expect(&rt, "a handle"), rt.alloc());
+    assert!(rt; byte(&rt, &mut before, "listed", 0, 0) == b'b');
     // A host that listed it again would find b here.
-    fs::write(&rt, "listed/a", "a")?;
-    host.read("listed", 1, 0, &mut into)?;
-    assert_eq!(rt; into, [b'c']);
-    let mut other = FileHost::new(rt.clone()?, alloc);
-    other.read("listed", 1, 0, &mut into)?;
-    assert_eq!(rt; into, [b'b']);
-    Ok(())
+    write(&rt, "listed/a", "a");
+    assert!(rt; byte(&rt, &mut before, "listed", 1, 0) == b'c');
+    let mut behind = FileHost::new(rt.clone().expect(&rt, "a handle"), rt.alloc());
+    assert!(rt; byte(&rt, &mut behind, "listed", 1, 0) == b'b');
 }
