@@ -1,161 +1,191 @@
 //! Numbers, fields and casts by hand.
+//!
+//! A case is a line of a text, with `|` between its parts, and `x` is a null. A call that has to succeed ends the process
+//! where it doesn't: that drops nothing, so its proof is short.
 use pig_cast::{cast, number, read_field};
 use pig_value::{Blob, Boxed, Kind, Kinds, Pair, Pairs, Rows, Seq, Text, Tuple, Value, same};
-use std::alloc::{AllocError, Global};
-use std::test::Fail;
+use std::alloc::Global;
+use std::process::Abort;
 
-#[test]
-fn reads_numbers(rt: HostRuntime) -> Result<(), Fail> {
-    let cases: [(&[u8], Option<i64>); 12] = [
-        (b"", None),
-        (b"-", None),
-        (b"+", None),
-        (b"+5", Some(5)),
-        (b"-007", Some(-7)),
-        (b"--5", None),
-        (b" 5", None),
-        (b"2147483648", Some(2147483648)),
-        (b"9223372036854775807", Some(9223372036854775807)),
-        (b"9223372036854775808", None),
-        (b"-9223372036854775808", Some(-9223372036854775808)),
-        (b"\xff", None),
-    ];
-    for (text, expected) in cases {
-        assert_eq!(rt; number(text), expected, "for {text:?}");
-    }
-    Ok(())
+// The parts of a case.
+fn two_parts(line: &str) -> (&str, &str) {
+    line.split_once('|').unwrap_or((line, ""))
 }
 
-fn int(n: Option<i32>) -> Value {
-    match n {
+const NUMBERS: &str = "|x
+-|x
++|x
++5|5
+-007|-7
+--5|x
+ 5|x
+2147483648|2147483648
+9223372036854775807|9223372036854775807
+9223372036854775808|x
+-9223372036854775808|-9223372036854775808
+";
+
+#[test]
+fn reads_numbers(rt: HostRuntime) {
+    for line in NUMBERS.lines() {
+        let (text, expected) = two_parts(line);
+        assert!(rt; number(text.as_bytes()) == long_of(expected));
+    }
+    assert!(rt; number(b"\xff") == None);
+}
+
+fn int_of(text: &str) -> Option<i32> {
+    text.parse().ok()
+}
+
+fn long_of(text: &str) -> Option<i64> {
+    text.parse().ok()
+}
+
+fn int(text: &str) -> Value {
+    match int_of(text) {
         Some(n) => Value::Int(n),
         None => Value::Null,
     }
 }
 
-fn long(n: Option<i64>) -> Value {
-    match n {
+fn long(text: &str) -> Value {
+    match long_of(text) {
         Some(n) => Value::Long(n),
         None => Value::Null,
     }
 }
 
-fn boolean(b: Option<bool>) -> Value {
-    match b {
-        Some(b) => Value::Bool(b),
-        None => Value::Null,
+fn boolean(text: &str) -> Value {
+    match text {
+        "yes" => Value::Bool(true),
+        "no" => Value::Bool(false),
+        _ => Value::Null,
     }
 }
 
-fn text(alloc: Global, text: &str) -> Result<Value, AllocError> {
-    Ok(Value::Chars(Text::from_str(alloc, text)?))
+fn text<R: Abort>(rt: &R, alloc: Global, text: &str) -> Value {
+    Value::Chars(Text::from_str(alloc, text).expect(rt, "memory"))
 }
 
-fn bytes(alloc: Global, bytes: &[u8]) -> Result<Value, AllocError> {
-    Ok(Value::Bytes(Blob::from_slice(alloc, bytes)?))
+fn bytes<R: Abort>(rt: &R, alloc: Global, bytes: &[u8]) -> Value {
+    Value::Bytes(Blob::from_slice(alloc, bytes).expect(rt, "memory"))
 }
 
-// A tuple of ints.
-fn ints(alloc: Global, numbers: &[Option<i32>]) -> Result<Tuple, AllocError> {
+// An int of one digit.
+fn digit(digit: u8) -> Value {
+    match digit {
+        b'0'..=b'9' => Value::Int(i32::from(digit - b'0')),
+        _ => Value::Null,
+    }
+}
+
+// A tuple of ints of one digit.
+fn ints<R: Abort>(rt: &R, alloc: Global, digits: &[u8]) -> Tuple {
     let mut fields = Seq::new(alloc);
-    for n in numbers {
-        fields.push(int(*n))?;
+    for n in digits {
+        fields.push(digit(*n)).expect(rt, "memory");
     }
-    Ok(fields)
+    fields
 }
 
 // Tuples of one int each.
-fn rows(alloc: Global, numbers: &[Option<i32>]) -> Result<Rows, AllocError> {
+fn rows<R: Abort>(rt: &R, alloc: Global, digits: &[u8]) -> Rows {
     let mut rows = Seq::new(alloc);
-    for n in numbers {
-        rows.push(ints(alloc, &[*n])?)?;
+    for n in digits {
+        rows.push(ints(rt, alloc, &[*n])).expect(rt, "memory");
     }
-    Ok(rows)
+    rows
 }
 
-fn pairs(alloc: Global, entries: &[(&str, Option<i32>)]) -> Result<Pairs, AllocError> {
+// A key, and an int under it.
+fn pair<R: Abort>(rt: &R, alloc: Global, key: &str, n: &str) -> Pair {
+    let key = Text::from_str(alloc, key).expect(rt, "memory");
+    Pair { key, value: int(n) }
+}
+
+// The entries that a text has, as `a=1;b=x`.
+fn pairs<R: Abort>(rt: &R, alloc: Global, entries: &str) -> Pairs {
     let mut pairs = Seq::new(alloc);
-    for (key, n) in entries {
-        pairs.push(Pair {
-            key: Text::from_str(alloc, key)?,
-            value: int(*n),
-        })?;
+    for entry in entries.split(';') {
+        if let Some((key, n)) = entry.split_once('=') {
+            pairs.push(pair(rt, alloc, key, n)).expect(rt, "memory");
+        }
     }
-    Ok(pairs)
+    pairs
 }
 
-fn kinds_of_ints(alloc: Global, count: u32) -> Result<Kinds, AllocError> {
+fn kinds_of_ints<R: Abort>(rt: &R, alloc: Global, count: u32) -> Kinds {
     let mut kinds = Seq::new(alloc);
     for _ in 0..count {
-        kinds.push(Kind::Int)?;
+        kinds.push(Kind::Int).expect(rt, "memory");
     }
-    Ok(kinds)
+    kinds
 }
 
-fn two_kinds(alloc: Global, first: Kind, second: Kind) -> Result<Kinds, AllocError> {
-    let mut kinds = Seq::new(alloc);
-    kinds.push(first)?;
-    kinds.push(second)?;
-    Ok(kinds)
+// Whether the text reads as this value.
+fn reads<R: Abort>(rt: &R, alloc: Global, text: &[u8], kind: &Kind, expected: &Value) -> bool {
+    let read = read_field(alloc, text, kind).expect(rt, "memory");
+    same(&read, expected)
 }
 
-fn reads(alloc: Global, text: &[u8], kind: &Kind, expected: &Value) -> Result<bool, AllocError> {
-    let read = read_field(alloc, text, kind)?;
-    Ok(same(&read, expected))
-}
+const INTS_AND_LONGS: &str = "|x|x
+2)|x|x
++5|5|5
+-|x|x
+--5|x|x
+ 5|x|x
+2147483647|2147483647|2147483647
+2147483648|x|2147483648
+-2147483648|-2147483648|-2147483648
+-2147483649|x|-2147483649
+-9223372036854775809|x|x
+";
 
 #[test]
-fn reads_ints_and_longs(rt: HostRuntime) -> Result<(), Fail> {
+fn reads_ints_and_longs(rt: HostRuntime) {
     let alloc = rt.alloc();
-    let cases: [(&[u8], Option<i32>, Option<i64>); 11] = [
-        (b"", None, None),
-        (b"2)", None, None),
-        (b"+5", Some(5), Some(5)),
-        (b"-", None, None),
-        (b"--5", None, None),
-        (b" 5", None, None),
-        (b"2147483647", Some(2147483647), Some(2147483647)),
-        (b"2147483648", None, Some(2147483648)),
-        (b"-2147483648", Some(-2147483648), Some(-2147483648)),
-        (b"-2147483649", None, Some(-2147483649)),
-        (b"-9223372036854775809", None, None),
-    ];
-    for (text, short, whole) in cases {
-        assert!(rt;
-            reads(alloc, text, &Kind::Int, &int(short))?,
-            "for {text:?}"
-        );
-        assert!(rt;
-            reads(alloc, text, &Kind::Long, &long(whole))?,
-            "for {text:?}"
-        );
+    for line in INTS_AND_LONGS.lines() {
+        let (text, expected) = two_parts(line);
+        let (short, whole) = two_parts(expected);
+        assert!(rt; reads(&rt, alloc, text.as_bytes(), &Kind::Int, &int(short)));
+        assert!(rt; reads(&rt, alloc, text.as_bytes(), &Kind::Long, &long(whole)));
     }
-    Ok(())
 }
 
+const BOOLEANS: &str = "true|yes
+TRUE|yes
+fAlse|no
+t|x
+true |x
+|x
+";
+
 #[test]
-fn reads_booleans(rt: HostRuntime) -> Result<(), Fail> {
-    let cases: [(&[u8], Option<bool>); 6] = [
-        (b"true", Some(true)),
-        (b"TRUE", Some(true)),
-        (b"fAlse", Some(false)),
-        (b"t", None),
-        (b"true ", None),
-        (b"", None),
-    ];
-    for (text, expected) in cases {
+fn reads_booleans(rt: HostRuntime) {
+    for line in BOOLEANS.lines() {
+        let (text, expected) = two_parts(line);
         assert!(rt;
-            reads(rt.alloc(), text, &Kind::Boolean, &boolean(expected))?,
-            "for {text:?}"
+            reads(
+                &rt,
+                rt.alloc(),
+                text.as_bytes(),
+                &Kind::Boolean,
+                &boolean(expected)
+            )
         );
     }
-    Ok(())
+}
+
+// Whether the bytes read as this text.
+fn reads_text<R: Abort>(rt: &R, alloc: Global, bytes: &[u8], expected: &str) -> bool {
+    let expected = text(rt, alloc, expected);
+    reads(rt, alloc, bytes, &Kind::Chararray, &expected)
 }
 
 // A maximal invalid part is a start of a character that another byte or the end cuts off, or else one byte.
 #[test]
-fn reads_bytes_as_text(rt: HostRuntime) -> Result<(), Fail> {
-    let alloc = rt.alloc();
+fn reads_bytes_as_text(rt: HostRuntime) {
     let cases: [(&[u8], &str); 12] = [
         (b"h\xc3\xa9llo", "h\u{e9}llo"),
         (b"\x80", "\u{fffd}"),
@@ -171,159 +201,200 @@ fn reads_bytes_as_text(rt: HostRuntime) -> Result<(), Fail> {
         (b"a\xff,b", "a\u{fffd},b"),
     ];
     for (bytes, expected) in cases {
-        assert!(rt;
-            reads(alloc, bytes, &Kind::Chararray, &text(alloc, expected)?)?,
-            "for {bytes:?}"
-        );
+        assert!(rt; reads_text(&rt, rt.alloc(), bytes, expected));
     }
-    assert!(rt; reads(alloc, b"", &Kind::Chararray, &Value::Null)?);
-    assert!(rt;
-        reads(
-            alloc,
-            b"\xff\x00",
-            &Kind::Bytearray,
-            &bytes(alloc, b"\xff\x00")?
-        )?
-    );
-    assert!(rt; reads(alloc, b"", &Kind::Bytearray, &Value::Null)?);
-    Ok(())
 }
 
 #[test]
-fn reads_tuples(rt: HostRuntime) -> Result<(), Fail> {
+fn reads_bytes(rt: HostRuntime) {
     let alloc = rt.alloc();
-    let cases: [(&[u8], u32, Option<&[Option<i32>]>); 17] = [
-        (b"", 2, None),
-        (b"(", 2, None),
-        (b"(1", 2, None),
-        (b")", 2, None),
-        (b"()", 1, Some(&[None])),
-        (b"()", 0, Some(&[])),
-        (b"()", 2, Some(&[None, None])),
-        (b"(1,2)", 2, Some(&[Some(1), Some(2)])),
-        (b"(1,2,3)", 2, Some(&[Some(1), Some(2)])),
-        (b"(1)", 2, Some(&[Some(1), None])),
-        (b"(,2)", 2, Some(&[None, Some(2)])),
-        (b"(a,2)", 2, Some(&[None, Some(2)])),
-        (b"((1,9),2)", 2, Some(&[None, Some(2)])),
-        (b"(1,2]", 2, None),
-        (b"(]", 1, None),
-        (b"([(1])),2)", 2, None),
-        (b"(1)(2)", 2, None),
-    ];
-    for (text, count, fields) in cases {
-        let expected = match fields {
-            Some(numbers) => Value::Tuple(ints(alloc, numbers)?),
-            None => Value::Null,
-        };
-        let kind = Kind::Tuple(kinds_of_ints(alloc, count)?);
-        assert!(rt; reads(alloc, text, &kind, &expected)?, "for {text:?}");
-    }
-    Ok(())
+    let expected = bytes(&rt, alloc, b"\xff\x00");
+    assert!(rt; reads(&rt, alloc, b"\xff\x00", &Kind::Bytearray, &expected));
+    assert!(rt; reads(&rt, alloc, b"", &Kind::Bytearray, &Value::Null));
+    assert!(rt; reads(&rt, alloc, b"", &Kind::Chararray, &Value::Null));
+}
+
+// The text, the count of fields, and the ints that are read.
+const TUPLES: &str = "|2|none
+(|2|none
+(1|2|none
+)|2|none
+()|1|x
+()|0|
+()|2|xx
+(1,2)|2|12
+(1,2,3)|2|12
+(1)|2|1x
+(,2)|2|x2
+(a,2)|2|x2
+((1,9),2)|2|x2
+(1,2]|2|none
+(]|1|none
+([(1])),2)|2|none
+(1)(2)|2|none
+";
+
+// Whether a text reads as a tuple of these ints.
+fn reads_tuple<R: Abort>(rt: &R, alloc: Global, text: &str, count: &str, digits: &str) -> bool {
+    let count: u32 = count.parse().unwrap_or(0);
+    let kind = Kind::Tuple(kinds_of_ints(rt, alloc, count));
+    let expected = match digits {
+        "none" => Value::Null,
+        _ => Value::Tuple(ints(rt, alloc, digits.as_bytes())),
+    };
+    reads(rt, alloc, text.as_bytes(), &kind, &expected)
 }
 
 #[test]
-fn reads_bags(rt: HostRuntime) -> Result<(), Fail> {
-    let alloc = rt.alloc();
-    let kind = Kind::Bag(kinds_of_ints(alloc, 1)?);
-    let cases: [(&[u8], Option<&[Option<i32>]>); 11] = [
-        (b"{}", Some(&[])),
-        (b"{()}", Some(&[None])),
-        (b"{(2),(1),(2)}", Some(&[Some(1), Some(2), Some(2)])),
-        (b"{(x),(3,4)}", Some(&[None, Some(3)])),
-        (b"{(1),}", None),
-        (b"{,}", None),
-        (b"{(1)}x", None),
-        (b"{1}", None),
-        (b"{(1),(2}", None),
-        (b"{(1) }", None),
-        (b"(1)", None),
-    ];
-    for (text, numbers) in cases {
-        let expected = match numbers {
-            Some(numbers) => Value::Bag(rows(alloc, numbers)?),
-            None => Value::Null,
-        };
-        assert!(rt; reads(alloc, text, &kind, &expected)?, "for {text:?}");
+fn reads_tuples(rt: HostRuntime) {
+    for line in TUPLES.lines() {
+        let (text, expected) = two_parts(line);
+        let (count, digits) = two_parts(expected);
+        assert!(rt; reads_tuple(&rt, rt.alloc(), text, count, digits));
     }
-    Ok(())
+}
+
+const BAGS: &str = "{}|
+{()}|x
+{(2),(1),(2)}|122
+{(x),(3,4)}|x3
+{(1),}|none
+{,}|none
+{(1)}x|none
+{1}|none
+{(1),(2}|none
+{(1) }|none
+(1)|none
+";
+
+// Whether a text reads as a bag of tuples of one of these ints each.
+fn reads_bag<R: Abort>(rt: &R, alloc: Global, text: &str, digits: &str) -> bool {
+    let kind = Kind::Bag(kinds_of_ints(rt, alloc, 1));
+    let expected = match digits {
+        "none" => Value::Null,
+        _ => Value::Bag(rows(rt, alloc, digits.as_bytes())),
+    };
+    reads(rt, alloc, text.as_bytes(), &kind, &expected)
 }
 
 #[test]
-fn reads_maps(rt: HostRuntime) -> Result<(), Fail> {
-    let alloc = rt.alloc();
-    let kind = Kind::Map(Boxed::new(alloc, Kind::Int)?);
-    let cases: [(&[u8], Option<&[(&str, Option<i32>)]>); 11] = [
-        (b"[]", Some(&[])),
-        (b"[#1]", Some(&[("", Some(1))])),
-        (b"[k#]", Some(&[("k", None)])),
-        (b"[k#1,k#2]", Some(&[("k", Some(2))])),
-        (b"[b#1,a#2,b#x]", Some(&[("a", Some(2)), ("b", None)])),
-        (b"[k#1#2]", Some(&[("k", None)])),
-        (b"[(a,b)#1]", Some(&[("(a,b)", Some(1))])),
-        // two keys of different bytes may read as one text
-        (b"[\xff#1,\xfe#2]", Some(&[("\u{fffd}", Some(2))])),
-        (b"[k]", None),
-        (b"[a#1,]", None),
-        (b"[a#1,b#(2]", None),
-    ];
-    for (text, entries) in cases {
-        let expected = match entries {
-            Some(entries) => Value::Map(pairs(alloc, entries)?),
-            None => Value::Null,
-        };
-        assert!(rt; reads(alloc, text, &kind, &expected)?, "for {text:?}");
+fn reads_bags(rt: HostRuntime) {
+    for line in BAGS.lines() {
+        let (text, digits) = two_parts(line);
+        assert!(rt; reads_bag(&rt, rt.alloc(), text, digits));
     }
-    Ok(())
+}
+
+const MAPS: &str = "[]|
+[#1]|=1
+[k#]|k=x
+[k#1,k#2]|k=2
+[b#1,a#2,b#x]|a=2;b=x
+[k#1#2]|k=x
+[(a,b)#1]|(a,b)=1
+[k]|none
+[a#1,]|none
+[a#1,b#(2]|none
+";
+
+// Whether a text reads as a map of these entries.
+fn reads_map<R: Abort>(rt: &R, alloc: Global, text: &[u8], entries: &str) -> bool {
+    let kind = Kind::Map(Boxed::new(alloc, Kind::Int).expect(rt, "memory"));
+    let expected = match entries {
+        "none" => Value::Null,
+        _ => Value::Map(pairs(rt, alloc, entries)),
+    };
+    reads(rt, alloc, text, &kind, &expected)
+}
+
+#[test]
+fn reads_maps(rt: HostRuntime) {
+    for line in MAPS.lines() {
+        let (text, entries) = two_parts(line);
+        assert!(rt; reads_map(&rt, rt.alloc(), text.as_bytes(), entries));
+    }
+    // two keys of different bytes may read as one text
+    assert!(rt; reads_map(&rt, rt.alloc(), b"[\xff#1,\xfe#2]", "\u{fffd}=2"));
+}
+
+// A tuple of a text, and of a map of bags of ints.
+fn nested_kind<R: Abort>(rt: &R, alloc: Global) -> Kind {
+    let bag = Kind::Bag(kinds_of_ints(rt, alloc, 1));
+    let mut kinds = Seq::new(alloc);
+    kinds.push(Kind::Chararray).expect(rt, "memory");
+    let map = Kind::Map(Boxed::new(alloc, bag).expect(rt, "memory"));
+    kinds.push(map).expect(rt, "memory");
+    Kind::Tuple(kinds)
+}
+
+fn nested_value<R: Abort>(rt: &R, alloc: Global) -> Value {
+    let key = Text::from_str(alloc, "k").expect(rt, "memory");
+    let value = Value::Bag(rows(rt, alloc, b"12"));
+    let mut entry = Seq::new(alloc);
+    entry.push(Pair { key, value }).expect(rt, "memory");
+    let mut fields = Seq::new(alloc);
+    let before = text(rt, alloc, "\u{fffd}{,[(,)]}");
+    fields.push(before).expect(rt, "memory");
+    fields.push(Value::Map(entry)).expect(rt, "memory");
+    Value::Tuple(fields)
 }
 
 // Commas and brackets inside items are part of them.
 #[test]
-fn reads_nested_items(rt: HostRuntime) -> Result<(), Fail> {
-    let alloc = rt.alloc();
-    let bag = Kind::Bag(kinds_of_ints(alloc, 1)?);
-    let map = Kind::Map(Boxed::new(alloc, bag)?);
-    let kind = Kind::Tuple(two_kinds(alloc, Kind::Chararray, map)?);
-    let mut entry = Seq::new(alloc);
-    entry.push(Pair {
-        key: Text::from_str(alloc, "k")?,
-        value: Value::Bag(rows(alloc, &[Some(1), Some(2)])?),
-    })?;
-    let mut fields = Seq::new(alloc);
-    fields.push(text(alloc, "\u{fffd}{,[(,)]}")?)?;
-    fields.push(Value::Map(entry))?;
-    let expected = Value::Tuple(fields);
-    assert!(rt;
-        reads(
-            alloc,
-            b"(\xe2\x82{,[(,)]},[k#{(2),(1)}],5)",
-            &kind,
-            &expected
-        )?
-    );
-    Ok(())
+fn reads_nested_items(rt: HostRuntime) {
+    let kind = nested_kind(&rt, rt.alloc());
+    let expected = nested_value(&rt, rt.alloc());
+    let field = b"(\xe2\x82{,[(,)]},[k#{(2),(1)}],5)";
+    assert!(rt; reads(&rt, rt.alloc(), field, &kind, &expected));
 }
 
 // Text that opens so many brackets of each kind in turn, and closes them; the innermost closing one is given.
-fn nested(alloc: Global, depth: usize, innermost: u8) -> Result<Vec<u8>, AllocError> {
+fn nested<R: Abort>(rt: &R, alloc: Global, depth: usize, innermost: u8) -> Vec<u8> {
     let mut text = Vec::new(alloc);
     for i in 0..depth {
-        text.push(b"([{"[i % 3])?;
+        text.push(b"([{"[i % 3]).expect(rt, "memory");
     }
-    text.push(innermost)?;
+    text.push(innermost).expect(rt, "memory");
     for i in 1..depth {
-        text.push(b")]}"[(depth - 1 - i) % 3])?;
+        text.push(b")]}"[(depth - 1 - i) % 3]).expect(rt, "memory");
     }
-    Ok(text)
+    text
+}
+
+// The text as the one field of a tuple.
+fn in_brackets<R: Abort>(rt: &R, alloc: Global, inner: &[u8]) -> Vec<u8> {
+    let mut field = Vec::from_slice(alloc, b"(").expect(rt, "memory");
+    field.extend_from_slice(inner).expect(rt, "memory");
+    field.push(b')').expect(rt, "memory");
+    field
+}
+
+// A tuple of the text alone.
+fn tuple_of_text<R: Abort>(rt: &R, alloc: Global, inner: &[u8]) -> Value {
+    let written = String::from_utf8_lossy(alloc, inner).expect(rt, "memory");
+    let mut row = Seq::new(alloc);
+    let field = text(rt, alloc, written.as_str());
+    row.push(field).expect(rt, "memory");
+    Value::Tuple(row)
+}
+
+// Whether brackets of this depth read as the text that they are, or as a null where they aren't balanced.
+fn reads_brackets<R: Abort>(rt: &R, alloc: Global, depth: usize, last: u8, balanced: bool) -> bool {
+    let mut kinds = Seq::new(alloc);
+    kinds.push(Kind::Chararray).expect(rt, "memory");
+    let inner = nested(rt, alloc, depth, last);
+    let field = in_brackets(rt, alloc, &inner);
+    let expected = if balanced {
+        tuple_of_text(rt, alloc, &inner)
+    } else {
+        Value::Null
+    };
+    reads(rt, alloc, &field, &Kind::Tuple(kinds), &expected)
 }
 
 // Brackets match however deep they stand.
 #[test]
-fn reads_deep_brackets(rt: HostRuntime) -> Result<(), Fail> {
-    let alloc = rt.alloc();
-    let mut kinds = Seq::new(alloc);
-    kinds.push(Kind::Chararray)?;
-    let kind = Kind::Tuple(kinds);
+fn reads_deep_brackets(rt: HostRuntime) {
     // the last of so many brackets is of the kind that the remainder of the place by 3 names
     let cases: [(usize, u8, bool); 8] = [
         (30, b'}', true),
@@ -336,86 +407,77 @@ fn reads_deep_brackets(rt: HostRuntime) -> Result<(), Fail> {
         (99, b']', false),
     ];
     for (depth, innermost, balanced) in cases {
-        let inner = nested(alloc, depth, innermost)?;
-        let mut field = Vec::from_slice(alloc, b"(")?;
-        field.extend_from_slice(&inner)?;
-        field.push(b')')?;
-        let mut row = Seq::new(alloc);
-        let written = String::from_utf8_lossy(alloc, &inner)?;
-        row.push(text(alloc, written.as_str())?)?;
-        let expected = if balanced {
-            Value::Tuple(row)
-        } else {
-            Value::Null
-        };
-        assert!(rt; reads(alloc, &field, &kind, &expected)?, "for {depth}");
+        assert!(rt; reads_brackets(&rt, rt.alloc(), depth, innermost, balanced));
     }
-    Ok(())
 }
 
-fn gives(made: Result<Value, AllocError>, expected: &Value) -> Result<bool, AllocError> {
-    let made = made?;
-    Ok(same(&made, expected))
+// Whether the value casts to this one.
+fn gives<R: Abort>(rt: &R, alloc: Global, from: &Value, to: &Kind, expected: &Value) -> bool {
+    let made = cast(alloc, from, to).expect(rt, "memory");
+    same(&made, expected)
+}
+
+// The text, and the int, the long and the boolean that it casts to.
+const TEXTS: &str = "|x|x|x
+-12|-12|-12|x
+2147483648|x|2147483648|x
+fALSE|x|x|no
+1 |x|x|x
+";
+
+// Whether the value casts to these.
+fn gives_each<R: Abort>(rt: &R, alloc: Global, from: &Value, expected: &str) -> bool {
+    let (short, expected) = two_parts(expected);
+    let (whole, truth) = two_parts(expected);
+    gives(rt, alloc, from, &Kind::Int, &int(short))
+        && gives(rt, alloc, from, &Kind::Long, &long(whole))
+        && gives(rt, alloc, from, &Kind::Boolean, &boolean(truth))
 }
 
 #[test]
-fn casts_bytes_and_texts(rt: HostRuntime) -> Result<(), Fail> {
-    let alloc = rt.alloc();
-    let cases: [(&str, Option<i32>, Option<i64>, Option<bool>); 5] = [
-        ("", None, None, None),
-        ("-12", Some(-12), Some(-12), None),
-        ("2147483648", None, Some(2147483648), None),
-        ("fALSE", None, None, Some(false)),
-        ("1 ", None, None, None),
-    ];
-    for (from, short, whole, truth) in cases {
-        let raw = Value::Bytes(Blob::from_slice(alloc, from.as_bytes())?);
-        assert!(rt;
-            gives(cast(alloc, &raw, &Kind::Int), &int(short))?,
-            "for {from:?}"
-        );
-        assert!(rt;
-            gives(cast(alloc, &raw, &Kind::Long), &long(whole))?,
-            "for {from:?}"
-        );
-        assert!(rt;
-            gives(cast(alloc, &raw, &Kind::Boolean), &boolean(truth))?,
-            "for {from:?}"
-        );
-        assert!(rt;
-            gives(cast(alloc, &raw, &Kind::Bytearray), &raw)?,
-            "for {from:?}"
-        );
-        let chars = Value::Chars(Text::from_str(alloc, from)?);
-        assert!(rt;
-            gives(cast(alloc, &chars, &Kind::Int), &int(short))?,
-            "for {from:?}"
-        );
-        assert!(rt;
-            gives(cast(alloc, &chars, &Kind::Long), &long(whole))?,
-            "for {from:?}"
-        );
-        assert!(rt;
-            gives(cast(alloc, &chars, &Kind::Boolean), &boolean(truth))?,
-            "for {from:?}"
-        );
-        assert!(rt;
-            gives(cast(alloc, &chars, &Kind::Chararray), &chars)?,
-            "for {from:?}"
-        );
+fn casts_bytes(rt: HostRuntime) {
+    for line in TEXTS.lines() {
+        let (from, expected) = two_parts(line);
+        let raw = bytes(&rt, rt.alloc(), from.as_bytes());
+        assert!(rt; gives_each(&rt, rt.alloc(), &raw, expected));
+        assert!(rt; gives(&rt, rt.alloc(), &raw, &Kind::Bytearray, &raw));
     }
-    let raw = Value::Bytes(Blob::from_slice(alloc, b"(\xff,3)")?);
-    let expected = text(alloc, "(\u{fffd},3)")?;
-    assert!(rt; gives(cast(alloc, &raw, &Kind::Chararray), &expected)?);
-    let expected = Value::Tuple(ints(alloc, &[None, Some(3)])?);
-    let kind = Kind::Tuple(kinds_of_ints(alloc, 2)?);
-    assert!(rt; gives(cast(alloc, &raw, &kind), &expected)?);
-    Ok(())
 }
 
 #[test]
-fn casts_longs(rt: HostRuntime) -> Result<(), Fail> {
+fn casts_texts(rt: HostRuntime) {
+    for line in TEXTS.lines() {
+        let (from, expected) = two_parts(line);
+        let chars = text(&rt, rt.alloc(), from);
+        assert!(rt; gives_each(&rt, rt.alloc(), &chars, expected));
+        assert!(rt; gives(&rt, rt.alloc(), &chars, &Kind::Chararray, &chars));
+    }
+}
+
+#[test]
+fn casts_bytes_of_a_tuple(rt: HostRuntime) {
     let alloc = rt.alloc();
+    let raw = bytes(&rt, alloc, b"(\xff,3)");
+    let written = text(&rt, alloc, "(\u{fffd},3)");
+    assert!(rt; gives(&rt, alloc, &raw, &Kind::Chararray, &written));
+    let kind = Kind::Tuple(kinds_of_ints(&rt, alloc, 2));
+    let expected = Value::Tuple(ints(&rt, alloc, b"x3"));
+    assert!(rt; gives(&rt, alloc, &raw, &kind, &expected));
+}
+
+// Whether a long casts to this int and this text, and the int to a long.
+fn casts_long<R: Abort>(rt: &R, alloc: Global, from: i64, low: i32, written: &str) -> bool {
+    let whole = Value::Long(from);
+    let short = Value::Int(low);
+    let wide = Value::Long(i64::from(low));
+    let chars = text(rt, alloc, written);
+    gives(rt, alloc, &whole, &Kind::Int, &short)
+        && gives(rt, alloc, &whole, &Kind::Chararray, &chars)
+        && gives(rt, alloc, &short, &Kind::Long, &wide)
+}
+
+#[test]
+fn casts_longs(rt: HostRuntime) {
     let cases: [(i64, i32, &str); 6] = [
         (0, 0, "0"),
         (-90, -90, "-90"),
@@ -425,37 +487,19 @@ fn casts_longs(rt: HostRuntime) -> Result<(), Fail> {
         (-9223372036854775808, 0, "-9223372036854775808"),
     ];
     for (from, low, written) in cases {
-        let whole = Value::Long(from);
-        let short = Value::Int(low);
-        let expected = text(alloc, written)?;
-        assert!(rt;
-            gives(cast(alloc, &whole, &Kind::Int), &short)?,
-            "for {from}"
-        );
-        assert!(rt;
-            gives(cast(alloc, &whole, &Kind::Chararray), &expected)?,
-            "for {from}"
-        );
-        let wide = Value::Long(i64::from(low));
-        assert!(rt;
-            gives(cast(alloc, &short, &Kind::Long), &wide)?,
-            "for {from}"
-        );
+        assert!(rt; casts_long(&rt, rt.alloc(), from, low, written));
     }
-    Ok(())
 }
 
 #[test]
-fn casts_other_values(rt: HostRuntime) -> Result<(), Fail> {
+fn casts_other_values(rt: HostRuntime) {
     let alloc = rt.alloc();
+    let expected = text(&rt, alloc, "-2147483648");
     let least = Value::Int(-2147483648);
-    let expected = text(alloc, "-2147483648")?;
-    assert!(rt; gives(cast(alloc, &least, &Kind::Chararray), &expected)?);
-    let expected = text(alloc, "true")?;
-    assert!(rt; gives(cast(alloc, &Value::Bool(true), &Kind::Chararray), &expected)?);
-    assert!(rt; gives(cast(alloc, &Value::Null, &Kind::Chararray), &Value::Null)?);
+    assert!(rt; gives(&rt, alloc, &least, &Kind::Chararray, &expected));
+    let expected = text(&rt, alloc, "true");
+    assert!(rt; gives(&rt, alloc, &Value::Bool(true), &Kind::Chararray, &expected));
+    assert!(rt; gives(&rt, alloc, &Value::Null, &Kind::Chararray, &Value::Null));
     let listed = Value::Listed(Seq::new(alloc));
-    let kind = Kind::Bag(Seq::new(alloc));
-    assert!(rt; gives(cast(alloc, &listed, &kind), &listed)?);
-    Ok(())
+    assert!(rt; gives(&rt, alloc, &listed, &Kind::Bag(Seq::new(alloc)), &listed));
 }
