@@ -1,101 +1,105 @@
-//! pig_keycode: values by hand, in ascending order, against their codes, which are written out from the table.
+//! pig_keycode: values by hand, in ascending order, against their codes, which are written out from the table. Where
+//! memory is wanting the process ends: that drops nothing, so its proof is short.
 use pig_keycode::{decode, decode_row, encode, encode_key, encode_row, read_code};
 use pig_value::{Blob, Dir, Dirs, Pair, Pairs, Rows, Seq, Text, Tuple, Value, same};
-use std::alloc::{AllocError, Global};
-use std::test::Fail;
+use std::alloc::Global;
+use std::process::Abort;
 
-fn chars(alloc: Global, text: &str) -> Result<Value, AllocError> {
-    Ok(Value::Chars(Text::from_str(alloc, text)?))
+// Adds to a list.
+fn push<R: Abort, T: Drop>(rt: &R, list: &mut Seq<T>, item: T) {
+    list.push(item).expect(rt, "memory");
 }
 
-fn bytes(alloc: Global, bytes: &[u8]) -> Result<Value, AllocError> {
-    Ok(Value::Bytes(Blob::from_slice(alloc, bytes)?))
+fn chars<R: Abort>(rt: &R, alloc: Global, text: &str) -> Value {
+    Value::Chars(Text::from_str(alloc, text).expect(rt, "memory"))
 }
 
-fn booleans(alloc: Global, fields: &[bool]) -> Result<Tuple, AllocError> {
+fn bytes<R: Abort>(rt: &R, alloc: Global, bytes: &[u8]) -> Value {
+    Value::Bytes(Blob::from_slice(alloc, bytes).expect(rt, "memory"))
+}
+
+fn booleans<R: Abort>(rt: &R, alloc: Global, fields: &[bool]) -> Tuple {
     let mut row = Seq::new(alloc);
     for field in fields {
-        row.push(Value::Bool(*field))?;
+        push(rt, &mut row, Value::Bool(*field));
     }
-    Ok(row)
+    row
 }
 
 // Rows of one boolean each.
-fn rows(alloc: Global, fields: &[bool]) -> Result<Rows, AllocError> {
+fn rows<R: Abort>(rt: &R, alloc: Global, fields: &[bool]) -> Rows {
     let mut rows = Seq::new(alloc);
     for field in fields {
-        rows.push(booleans(alloc, &[*field])?)?;
+        push(rt, &mut rows, booleans(rt, alloc, &[*field]));
     }
-    Ok(rows)
+    rows
 }
 
 // Pairs that give each key the null.
-fn pairs(alloc: Global, keys: &[&str]) -> Result<Pairs, AllocError> {
+fn pairs<R: Abort>(rt: &R, alloc: Global, keys: &[&str]) -> Pairs {
     let mut pairs = Seq::new(alloc);
     for key in keys {
-        let key = Text::from_str(alloc, key)?;
-        pairs.push(Pair {
-            key,
-            value: Value::Null,
-        })?;
+        let key = Text::from_str(alloc, key).expect(rt, "memory");
+        let value = Value::Null;
+        push(rt, &mut pairs, Pair { key, value });
     }
-    Ok(pairs)
+    pairs
 }
 
 // An int, a null and a text with a zero byte.
-fn mixed(alloc: Global) -> Result<Value, AllocError> {
+fn mixed<R: Abort>(rt: &R, alloc: Global) -> Value {
     let mut row = Seq::new(alloc);
-    row.push(Value::Int(5))?;
-    row.push(Value::Null)?;
-    row.push(chars(alloc, "a\0")?)?;
-    Ok(Value::Tuple(row))
+    push(rt, &mut row, Value::Int(5));
+    push(rt, &mut row, Value::Null);
+    push(rt, &mut row, chars(rt, alloc, "a\0"));
+    Value::Tuple(row)
 }
 
 /// The number of values below.
 const VALUES: usize = 33;
 
 // The values in ascending order: first those without parts.
-fn value(alloc: Global, at: usize) -> Result<Value, AllocError> {
+fn value<R: Abort>(rt: &R, alloc: Global, at: usize) -> Value {
     match at {
-        0 => Ok(Value::Null),
-        1 => Ok(Value::Bool(false)),
-        2 => Ok(Value::Bool(true)),
-        3 => Ok(Value::Int(i32::MIN)),
-        4 => Ok(Value::Int(-1)),
-        5 => Ok(Value::Int(0)),
-        6 => Ok(Value::Int(i32::MAX)),
-        7 => Ok(Value::Long(i64::MIN)),
-        8 => Ok(Value::Long(-1)),
-        9 => Ok(Value::Long(258)),
-        10 => Ok(Value::Long(i64::MAX)),
-        11 => chars(alloc, ""),
-        12 => chars(alloc, "\0"),
-        13 => chars(alloc, "a"),
-        14 => chars(alloc, "a\0"),
-        15 => chars(alloc, "b"),
-        16 => chars(alloc, "\u{e9}"),
-        17 => bytes(alloc, b""),
-        18 => bytes(alloc, b"\x00\xff"),
-        19 => bytes(alloc, b"\xff"),
-        _ => nested(alloc, at),
+        0 => Value::Null,
+        1 => Value::Bool(false),
+        2 => Value::Bool(true),
+        3 => Value::Int(i32::MIN),
+        4 => Value::Int(-1),
+        5 => Value::Int(0),
+        6 => Value::Int(i32::MAX),
+        7 => Value::Long(i64::MIN),
+        8 => Value::Long(-1),
+        9 => Value::Long(258),
+        10 => Value::Long(i64::MAX),
+        11 => chars(rt, alloc, ""),
+        12 => chars(rt, alloc, "\0"),
+        13 => chars(rt, alloc, "a"),
+        14 => chars(rt, alloc, "a\0"),
+        15 => chars(rt, alloc, "b"),
+        16 => chars(rt, alloc, "\u{e9}"),
+        17 => bytes(rt, alloc, b""),
+        18 => bytes(rt, alloc, b"\x00\xff"),
+        19 => bytes(rt, alloc, b"\xff"),
+        _ => nested(rt, alloc, at),
     }
 }
 
-fn nested(alloc: Global, at: usize) -> Result<Value, AllocError> {
+fn nested<R: Abort>(rt: &R, alloc: Global, at: usize) -> Value {
     match at {
-        20 => Ok(Value::Tuple(Seq::new(alloc))),
-        21 => Ok(Value::Tuple(booleans(alloc, &[false])?)),
-        22 => Ok(Value::Tuple(booleans(alloc, &[false, true])?)),
-        23 => Ok(Value::Tuple(booleans(alloc, &[true])?)),
-        24 => mixed(alloc),
-        25 => Ok(Value::Bag(Seq::new(alloc))),
-        26 => Ok(Value::Bag(rows(alloc, &[false, true])?)),
-        27 => Ok(Value::Bag(rows(alloc, &[true])?)),
-        28 => Ok(Value::Listed(Seq::new(alloc))),
-        29 => Ok(Value::Listed(rows(alloc, &[true, false])?)),
-        30 => Ok(Value::Map(Seq::new(alloc))),
-        31 => Ok(Value::Map(pairs(alloc, &["a"])?)),
-        _ => Ok(Value::Map(pairs(alloc, &["a", "b"])?)),
+        20 => Value::Tuple(Seq::new(alloc)),
+        21 => Value::Tuple(booleans(rt, alloc, &[false])),
+        22 => Value::Tuple(booleans(rt, alloc, &[false, true])),
+        23 => Value::Tuple(booleans(rt, alloc, &[true])),
+        24 => mixed(rt, alloc),
+        25 => Value::Bag(Seq::new(alloc)),
+        26 => Value::Bag(rows(rt, alloc, &[false, true])),
+        27 => Value::Bag(rows(rt, alloc, &[true])),
+        28 => Value::Listed(Seq::new(alloc)),
+        29 => Value::Listed(rows(rt, alloc, &[true, false])),
+        30 => Value::Map(Seq::new(alloc)),
+        31 => Value::Map(pairs(rt, alloc, &["a"])),
+        _ => Value::Map(pairs(rt, alloc, &["a", "b"])),
     }
 }
 
@@ -144,152 +148,185 @@ fn nested_code(at: usize) -> &'static [u8] {
     }
 }
 
-#[test]
-fn values_are_written(rt: HostRuntime) -> Result<(), Fail> {
-    for i in 0..VALUES {
-        let value = value(rt.alloc(), i)?;
-        let expected = code(i);
-        let mut ascending = Vec::new(rt.alloc());
-        encode(&value, Dir::Asc, &mut ascending)?;
-        assert!(rt; ascending.as_slice() == expected, "value {i}");
-        let mut descending = Vec::new(rt.alloc());
-        encode(&value, Dir::Desc, &mut descending)?;
-        assert!(rt; descending.len() == expected.len(), "value {i}");
-        for (a, d) in expected.iter().zip(descending.as_slice()) {
-            assert!(rt; *d == 255 - *a, "value {i}");
+// The code of a value in a direction.
+fn written<R: Abort>(rt: &R, alloc: Global, value: &Value, dir: Dir) -> Vec<u8> {
+    let mut bytes = Vec::new(alloc);
+    encode(value, dir, &mut bytes).expect(rt, "memory");
+    bytes
+}
+
+// Whether each byte is the other's complement.
+fn are_opposite(descending: &[u8], ascending: &[u8]) -> bool {
+    for (d, a) in descending.iter().zip(ascending) {
+        if *d != 255 - *a {
+            return false;
         }
     }
-    Ok(())
+    descending.len() == ascending.len()
+}
+
+// Whether a value has this code, and the opposite one in the other direction.
+fn is_written<R: Abort>(rt: &R, alloc: Global, value: &Value, expected: &[u8]) -> bool {
+    let ascending = written(rt, alloc, value, Dir::Asc);
+    let descending = written(rt, alloc, value, Dir::Desc);
+    ascending.as_slice() == expected && are_opposite(descending.as_slice(), expected)
 }
 
 #[test]
-fn codes_are_read(rt: HostRuntime) -> Result<(), Fail> {
+fn values_are_written(rt: HostRuntime) {
     for i in 0..VALUES {
-        let expected = value(rt.alloc(), i)?;
+        let value = value(&rt, rt.alloc(), i);
+        assert!(rt; is_written(&rt, rt.alloc(), &value, code(i)), "value {i}");
+    }
+}
+
+// Whether bytes are the code of this value.
+fn is_read<R: Abort>(rt: &R, alloc: Global, bytes: &[u8], expected: &Value) -> bool {
+    match decode(alloc, bytes).expect(rt, "memory") {
+        Some(found) => same(&found, expected),
+        None => false,
+    }
+}
+
+// Whether bytes are the code of no value.
+fn is_no_code<R: Abort>(rt: &R, alloc: Global, bytes: &[u8]) -> bool {
+    let found = decode(alloc, bytes).expect(rt, "memory");
+    found.is_none()
+}
+
+#[test]
+fn codes_are_read(rt: HostRuntime) {
+    for i in 0..VALUES {
+        let expected = value(&rt, rt.alloc(), i);
         let bytes = code(i);
-        match decode(rt.alloc(), bytes)? {
-            Some(found) => assert!(rt; same(&found, &expected), "value {i}"),
-            None => panic!(rt; "value {i}"),
-        }
+        assert!(rt; is_read(&rt, rt.alloc(), bytes, &expected), "value {i}");
         let shorter = &bytes[..bytes.len().saturating_sub(1)];
-        assert!(rt; decode(rt.alloc(), shorter)?.is_none(), "value {i}");
+        assert!(rt; is_no_code(&rt, rt.alloc(), shorter), "value {i}");
     }
-    Ok(())
+}
+
+/// The number of codes below.
+const NO_CODES: usize = 14;
+
+// Bytes that are the code of no value.
+fn no_code(at: usize) -> &'static [u8] {
+    match at {
+        0 => b"",
+        // No tag, and no truth value.
+        1 => b"\x0a",
+        2 => b"\x01\x02",
+        // A byte behind a code.
+        3 => b"\x00\x00",
+        // A chararray that is not UTF-8, and a zero byte alone.
+        4 => b"\x04\xff\x00\x00",
+        5 => b"\x05\x00\x01\x00\x00",
+        // No mark before an item.
+        6 => b"\x06\x02\x00\x00",
+        // A bag that descends, and one of a null.
+        7 => b"\x07\x01\x06\x01\x01\x01\x00\x01\x06\x01\x01\x00\x00\x00",
+        8 => b"\x07\x01\x00\x00",
+        // Keys that descend, a key that is twice there, one that is a bytearray, and one that is not UTF-8.
+        9 => b"\x09\x01\x04b\x00\x00\x00\x01\x04a\x00\x00\x00\x00",
+        10 => b"\x09\x01\x04a\x00\x00\x00\x01\x04a\x00\x00\x00\x00",
+        11 => b"\x09\x01\x05a\x00\x00\x00\x00",
+        12 => b"\x09\x01\x04\xff\x00\x00\x00\x00",
+        // A descending code.
+        _ => b"\xfe\xff",
+    }
 }
 
 #[test]
-fn bytes_off_the_grammar(rt: HostRuntime) -> Result<(), Fail> {
-    let cases: [&[u8]; 14] = [
-        b"",
-        // No tag, and no truth value.
-        b"\x0a",
-        b"\x01\x02",
-        // A byte behind a code.
-        b"\x00\x00",
-        // A chararray that is not UTF-8, and a zero byte alone.
-        b"\x04\xff\x00\x00",
-        b"\x05\x00\x01\x00\x00",
-        // No mark before an item.
-        b"\x06\x02\x00\x00",
-        // A bag that descends, and one of a null.
-        b"\x07\x01\x06\x01\x01\x01\x00\x01\x06\x01\x01\x00\x00\x00",
-        b"\x07\x01\x00\x00",
-        // Keys that descend, a key that is twice there, one that is a bytearray, and one that is not UTF-8.
-        b"\x09\x01\x04b\x00\x00\x00\x01\x04a\x00\x00\x00\x00",
-        b"\x09\x01\x04a\x00\x00\x00\x01\x04a\x00\x00\x00\x00",
-        b"\x09\x01\x05a\x00\x00\x00\x00",
-        b"\x09\x01\x04\xff\x00\x00\x00\x00",
-        // A descending code.
-        b"\xfe\xff",
-    ];
-    for (i, bytes) in cases.iter().enumerate() {
-        assert!(rt; decode(rt.alloc(), bytes)?.is_none(), "case {i}");
+fn bytes_off_the_grammar(rt: HostRuntime) {
+    for i in 0..NO_CODES {
+        assert!(rt; is_no_code(&rt, rt.alloc(), no_code(i)), "case {i}");
     }
-    Ok(())
 }
 
 // The null inside so many tuples.
-fn nested_null(alloc: Global, tuples: usize) -> Result<Value, AllocError> {
+fn nested_null<R: Abort>(rt: &R, alloc: Global, tuples: usize) -> Value {
     let mut value = Value::Null;
     for _ in 0..tuples {
         let mut row = Seq::new(alloc);
-        row.push(value)?;
+        push(rt, &mut row, value);
         value = Value::Tuple(row);
     }
-    Ok(value)
+    value
 }
 
 #[test]
-fn values_nest_256_deep(rt: HostRuntime) -> Result<(), Fail> {
-    let deepest = nested_null(rt.alloc(), 255)?;
-    let mut bytes = Vec::new(rt.alloc());
-    encode(&deepest, Dir::Asc, &mut bytes)?;
-    match decode(rt.alloc(), bytes.as_slice())? {
-        Some(found) => assert!(rt; same(&found, &deepest), "the deepest value"),
-        None => panic!(rt; "the deepest value"),
+fn values_nest_256_deep(rt: HostRuntime) {
+    let deepest = nested_null(&rt, rt.alloc(), 255);
+    let bytes = written(&rt, rt.alloc(), &deepest, Dir::Asc);
+    assert!(rt; is_read(&rt, rt.alloc(), bytes.as_slice(), &deepest));
+    let deeper = nested_null(&rt, rt.alloc(), 256);
+    let bytes = written(&rt, rt.alloc(), &deeper, Dir::Asc);
+    assert!(rt; decode(rt.alloc(), bytes.as_slice()).is_err());
+}
+
+// Whether bytes are the code of just this row.
+fn is_row<R: Abort>(rt: &R, alloc: Global, bytes: &[u8], expected: &Value) -> bool {
+    match decode_row(alloc, bytes).expect(rt, "memory") {
+        Some(found) => same(&Value::Tuple(found), expected),
+        None => false,
     }
-    let deeper = nested_null(rt.alloc(), 256)?;
-    bytes.clear();
-    encode(&deeper, Dir::Asc, &mut bytes)?;
-    assert!(rt;
-        decode(rt.alloc(), bytes.as_slice()).is_err(),
-        "a deeper value"
-    );
-    Ok(())
+}
+
+fn is_no_row<R: Abort>(rt: &R, alloc: Global, bytes: &[u8]) -> bool {
+    let found = decode_row(alloc, bytes).expect(rt, "memory");
+    found.is_none()
 }
 
 #[test]
-fn rows_are_written_as_tuples_and_read(rt: HostRuntime) -> Result<(), Fail> {
-    let row = booleans(rt.alloc(), &[false, true])?;
-    let mut bytes = Vec::new(rt.alloc());
-    bytes.push(7)?;
-    encode_row(&row, &mut bytes)?;
+fn rows_are_written_as_tuples_and_read(rt: HostRuntime) {
+    let row = booleans(&rt, rt.alloc(), &[false, true]);
+    let mut bytes = Vec::from_slice(rt.alloc(), b"\x07").expect(&rt, "memory");
+    encode_row(&row, &mut bytes).expect(&rt, "memory");
     assert!(rt; bytes.as_slice() == b"\x07\x06\x01\x01\x00\x01\x01\x01\x00".as_slice());
-    match decode_row(rt.alloc(), &bytes.as_slice()[1..])? {
-        Some(found) => assert!(rt; same(&Value::Tuple(found), &Value::Tuple(row))),
-        None => panic!(rt; "no row"),
+    let row = Value::Tuple(row);
+    assert!(rt; is_row(&rt, rt.alloc(), b"\x06\x01\x01\x00\x01\x01\x01\x00", &row));
+    // The null is no row, and one without its end is none.
+    assert!(rt; is_no_row(&rt, rt.alloc(), b"\x00"));
+    assert!(rt; is_no_row(&rt, rt.alloc(), b"\x06"));
+}
+
+// Whether bytes begin with the code of this value, and then have these.
+fn begins<R: Abort>(rt: &R, alloc: Global, bytes: &[u8], value: &Value, behind: &[u8]) -> bool {
+    match read_code(alloc, bytes).expect(rt, "memory") {
+        Some((found, rest)) => same(&found, value) && rest == behind,
+        None => false,
     }
-    assert!(rt;
-        decode_row(rt.alloc(), b"\x00")?.is_none(),
-        "the null is no row"
-    );
-    assert!(rt;
-        decode_row(rt.alloc(), b"\x06")?.is_none(),
-        "a row without its end"
-    );
-    Ok(())
 }
 
 #[test]
-fn codes_are_read_from_the_front(rt: HostRuntime) -> Result<(), Fail> {
-    match read_code(rt.alloc(), b"\x04a\x00\xff\x00\x00\x01\x02")? {
-        Some((found, rest)) => {
-            assert!(rt; same(&found, &chars(rt.alloc(), "a\0")?), "the text");
-            assert!(rt; rest == b"\x01\x02".as_slice(), "what is behind it");
-        }
-        None => panic!(rt; "no code"),
-    }
-    assert!(rt; read_code(rt.alloc(), b"\x04a\x00\x01\x00\x00")?.is_none());
-    Ok(())
+fn codes_are_read_from_the_front(rt: HostRuntime) {
+    let text = chars(&rt, rt.alloc(), "a\0");
+    let bytes = b"\x04a\x00\xff\x00\x00\x01\x02";
+    assert!(rt; begins(&rt, rt.alloc(), bytes, &text, b"\x01\x02"));
+    let found = read_code(rt.alloc(), b"\x04a\x00\x01\x00\x00").expect(&rt, "memory");
+    assert!(rt; found.is_none());
+}
+
+// Whether a key has these bytes in the directions.
+fn is_key<R: Abort>(rt: &R, alloc: Global, key: &Value, dirs: &Dirs, expected: &[u8]) -> bool {
+    let mut bytes = Vec::new(alloc);
+    encode_key(key, dirs, &mut bytes).expect(rt, "memory");
+    bytes.as_slice() == expected
 }
 
 #[test]
-fn keys_are_written_in_directions(rt: HostRuntime) -> Result<(), Fail> {
-    let key = Value::Tuple(booleans(rt.alloc(), &[false, true])?);
+fn keys_are_written_in_directions(rt: HostRuntime) {
+    let key = Value::Tuple(booleans(&rt, rt.alloc(), &[false, true]));
     let mut dirs = Dirs::new(rt.alloc());
-    let mut bytes = Vec::new(rt.alloc());
-    encode_key(&key, &dirs, &mut bytes)?;
+    let ascending = b"\x06\x01\x01\x00\x01\x01\x01\x00";
     assert!(rt;
-        bytes.as_slice() == b"\x06\x01\x01\x00\x01\x01\x01\x00".as_slice(),
+        is_key(&rt, rt.alloc(), &key, &dirs, ascending),
         "no directions"
     );
-    dirs.push(Dir::Desc)?;
-    dirs.push(Dir::Asc)?;
-    bytes.clear();
-    encode_key(&key, &dirs, &mut bytes)?;
+    push(&rt, &mut dirs, Dir::Desc);
+    push(&rt, &mut dirs, Dir::Asc);
+    let mixed = b"\xfe\xff\x01\x01";
     assert!(rt;
-        bytes.as_slice() == b"\xfe\xff\x01\x01".as_slice(),
+        is_key(&rt, rt.alloc(), &key, &dirs, mixed),
         "descending, then ascending"
     );
-    Ok(())
 }
