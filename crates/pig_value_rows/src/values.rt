@@ -1,305 +1,352 @@
-//! Values by hand, in ascending order, against each call.
+//! Values by hand, in ascending order, against each call. Where memory is wanting the process ends: that drops nothing,
+//! so its proof is short.
 use pig_value::{
     Blob, Boxed, Function, Kind, Kinds, Pair, Pairs, Rows, Seq, Text, Tuple, Value, bag, casts_to,
     copy, copy_kind, copy_kinds, copy_row, field_at, holds_bag_or_map, is_of, kind_depth,
     kind_width, order, order_rows, same, same_kind,
 };
-use std::alloc::{AllocError, Global};
+use std::alloc::Global;
 use std::cmp::Ordering;
-use std::test::Fail;
+use std::process::Abort;
 
-fn chars(alloc: Global, text: &str) -> Result<Value, AllocError> {
-    Ok(Value::Chars(Text::from_str(alloc, text)?))
+// Adds to a list.
+fn push<R: Abort, T: Drop>(rt: &R, list: &mut Seq<T>, item: T) {
+    list.push(item).expect(rt, "memory");
 }
 
-fn ints(alloc: Global, numbers: &[i32]) -> Result<Tuple, AllocError> {
+fn chars<R: Abort>(rt: &R, alloc: Global, text: &str) -> Value {
+    Value::Chars(Text::from_str(alloc, text).expect(rt, "memory"))
+}
+
+fn ints<R: Abort>(rt: &R, alloc: Global, numbers: &[i32]) -> Tuple {
     let mut row = Seq::new(alloc);
     for number in numbers {
-        row.push(Value::Int(*number))?;
+        push(rt, &mut row, Value::Int(*number));
     }
-    Ok(row)
+    row
 }
 
 // Rows of one field each.
-fn rows(alloc: Global, numbers: &[i32]) -> Result<Rows, AllocError> {
+fn rows<R: Abort>(rt: &R, alloc: Global, numbers: &[i32]) -> Rows {
     let mut rows = Seq::new(alloc);
     for number in numbers {
-        rows.push(ints(alloc, &[*number])?)?;
+        push(rt, &mut rows, ints(rt, alloc, &[*number]));
     }
-    Ok(rows)
+    rows
 }
 
-fn pairs(alloc: Global, entries: &[(&str, i32)]) -> Result<Pairs, AllocError> {
+fn bytes<R: Abort>(rt: &R, alloc: Global, bytes: &[u8]) -> Value {
+    Value::Bytes(Blob::from_slice(alloc, bytes).expect(rt, "memory"))
+}
+
+fn pair<R: Abort>(rt: &R, alloc: Global, key: &str, number: i32) -> Pair {
+    let key = Text::from_str(alloc, key).expect(rt, "memory");
+    let value = Value::Int(number);
+    Pair { key, value }
+}
+
+// An entry alone.
+fn one_pair<R: Abort>(rt: &R, alloc: Global, key: &str, number: i32) -> Pairs {
     let mut pairs = Seq::new(alloc);
-    for (key, number) in entries {
-        pairs.push(Pair {
-            key: Text::from_str(alloc, key)?,
-            value: Value::Int(*number),
-        })?;
-    }
-    Ok(pairs)
+    push(rt, &mut pairs, pair(rt, alloc, key, number));
+    pairs
+}
+
+fn two_pairs<R: Abort>(rt: &R, alloc: Global) -> Pairs {
+    let mut pairs = one_pair(rt, alloc, "a", 1);
+    push(rt, &mut pairs, pair(rt, alloc, "b", 0));
+    pairs
 }
 
 /// The number of values below.
 const VALUES: usize = 24;
 
 // The values in ascending order: first those that hold no others.
-fn value(alloc: Global, at: usize) -> Result<Value, AllocError> {
+fn value<R: Abort>(rt: &R, alloc: Global, at: usize) -> Value {
     match at {
-        0 => Ok(Value::Null),
-        1 => Ok(Value::Bool(false)),
-        2 => Ok(Value::Bool(true)),
-        3 => Ok(Value::Int(-1)),
-        4 => Ok(Value::Int(2)),
-        5 => Ok(Value::Long(-5)),
-        6 => Ok(Value::Long(3)),
-        7 => chars(alloc, ""),
-        8 => chars(alloc, "ab"),
-        9 => chars(alloc, "b"),
-        10 => Ok(Value::Bytes(Blob::from_slice(alloc, b"a")?)),
-        11 => Ok(Value::Bytes(Blob::from_slice(alloc, b"\xff")?)),
-        _ => nested(alloc, at),
+        0 => Value::Null,
+        1 => Value::Bool(false),
+        2 => Value::Bool(true),
+        3 => Value::Int(-1),
+        4 => Value::Int(2),
+        5 => Value::Long(-5),
+        6 => Value::Long(3),
+        7 => chars(rt, alloc, ""),
+        8 => chars(rt, alloc, "ab"),
+        9 => chars(rt, alloc, "b"),
+        10 => bytes(rt, alloc, b"a"),
+        11 => bytes(rt, alloc, b"\xff"),
+        _ => nested(rt, alloc, at),
     }
 }
 
-fn bag_in_a_tuple(alloc: Global) -> Result<Value, AllocError> {
+fn bag_in_a_tuple<R: Abort>(rt: &R, alloc: Global) -> Value {
     let mut row = Seq::new(alloc);
-    row.push(Value::Bag(rows(alloc, &[1])?))?;
-    Ok(Value::Tuple(row))
+    push(rt, &mut row, Value::Bag(rows(rt, alloc, &[1])));
+    Value::Tuple(row)
 }
 
-fn nested(alloc: Global, at: usize) -> Result<Value, AllocError> {
+fn nested<R: Abort>(rt: &R, alloc: Global, at: usize) -> Value {
     match at {
-        12 => Ok(Value::Tuple(Seq::new(alloc))),
-        13 => Ok(Value::Tuple(ints(alloc, &[1])?)),
-        14 => Ok(Value::Tuple(ints(alloc, &[1, 0])?)),
-        15 => bag_in_a_tuple(alloc),
-        16 => Ok(Value::Bag(Seq::new(alloc))),
-        17 => Ok(Value::Bag(rows(alloc, &[1])?)),
-        18 => Ok(Value::Bag(rows(alloc, &[1, 1])?)),
-        19 => Ok(Value::Listed(Seq::new(alloc))),
-        20 => Ok(Value::Listed(rows(alloc, &[2, 1])?)),
-        21 => Ok(Value::Map(Seq::new(alloc))),
-        22 => Ok(Value::Map(pairs(alloc, &[("a", 1), ("b", 0)])?)),
-        _ => Ok(Value::Map(pairs(alloc, &[("a", 2)])?)),
+        12 => Value::Tuple(Seq::new(alloc)),
+        13 => Value::Tuple(ints(rt, alloc, &[1])),
+        14 => Value::Tuple(ints(rt, alloc, &[1, 0])),
+        15 => bag_in_a_tuple(rt, alloc),
+        16 => Value::Bag(Seq::new(alloc)),
+        17 => Value::Bag(rows(rt, alloc, &[1])),
+        18 => Value::Bag(rows(rt, alloc, &[1, 1])),
+        19 => Value::Listed(Seq::new(alloc)),
+        20 => Value::Listed(rows(rt, alloc, &[2, 1])),
+        21 => Value::Map(Seq::new(alloc)),
+        22 => Value::Map(two_pairs(rt, alloc)),
+        _ => Value::Map(one_pair(rt, alloc, "a", 2)),
     }
 }
 
 // A tuple of a bag of ints and a map of ints.
-fn deep_kind(alloc: Global) -> Result<Kind, AllocError> {
-    let mut kinds = one_kind(alloc, kind(alloc, b'g')?)?;
-    kinds.push(kind(alloc, b'm')?)?;
-    Ok(Kind::Tuple(copy_kinds(alloc, kinds.as_slice())?))
+fn deep_kind<R: Abort>(rt: &R, alloc: Global) -> Kind {
+    let mut kinds = one_kind(rt, alloc, kind(rt, alloc, b'g'));
+    push(rt, &mut kinds, kind(rt, alloc, b'm'));
+    Kind::Tuple(copy_kinds(alloc, kinds.as_slice()).expect(rt, "memory"))
 }
 
-fn one_kind(alloc: Global, kind: Kind) -> Result<Kinds, AllocError> {
+fn one_kind<R: Abort>(rt: &R, alloc: Global, kind: Kind) -> Kinds {
     let mut kinds = Seq::new(alloc);
-    kinds.push(kind)?;
-    Ok(kinds)
+    push(rt, &mut kinds, kind);
+    kinds
 }
 
 // The kind that a letter stands for; tuples, bags and maps are of ints.
-fn kind(alloc: Global, letter: u8) -> Result<Kind, AllocError> {
+fn kind<R: Abort>(rt: &R, alloc: Global, letter: u8) -> Kind {
     match letter {
-        b'b' => Ok(Kind::Boolean),
-        b'i' => Ok(Kind::Int),
-        b'l' => Ok(Kind::Long),
-        b'c' => Ok(Kind::Chararray),
-        b'y' => Ok(Kind::Bytearray),
-        b't' => Ok(Kind::Tuple(one_kind(alloc, Kind::Int)?)),
-        b'g' => Ok(Kind::Bag(one_kind(alloc, Kind::Int)?)),
-        _ => Ok(Kind::Map(Boxed::new(alloc, Kind::Int)?)),
+        b'b' => Kind::Boolean,
+        b'i' => Kind::Int,
+        b'l' => Kind::Long,
+        b'c' => Kind::Chararray,
+        b'y' => Kind::Bytearray,
+        b't' => Kind::Tuple(one_kind(rt, alloc, Kind::Int)),
+        b'g' => Kind::Bag(one_kind(rt, alloc, Kind::Int)),
+        _ => Kind::Map(Boxed::new(alloc, Kind::Int).expect(rt, "memory")),
     }
 }
 
+// Whether a value stands so to another, and whether they are the same only where they are equal.
+fn stand(a: &Value, b: &Value, wanted: Ordering) -> bool {
+    order(a, b) == wanted && same(a, b) == (wanted == Ordering::Equal)
+}
+
 #[test]
-fn values_ascend(rt: HostRuntime) -> Result<(), Fail> {
+fn values_ascend(rt: HostRuntime) {
     for i in 0..VALUES {
-        let a = copy(rt.alloc(), &value(rt.alloc(), i)?)?;
+        let given = value(&rt, rt.alloc(), i);
+        let a = copy(rt.alloc(), &given).expect(&rt, "memory");
         for j in 0..VALUES {
-            let b = value(rt.alloc(), j)?;
-            assert!(rt; order(&a, &b) == i.cmp(&j), "value {i} against {j}");
-            assert!(rt; same(&a, &b) == (i == j), "value {i} and {j}");
+            let b = value(&rt, rt.alloc(), j);
+            assert!(rt; stand(&a, &b, i.cmp(&j)), "value {i} against {j}");
         }
     }
-    Ok(())
+}
+
+// The kinds that each value is of, by their letters.
+fn kinds_of(at: usize) -> &'static [u8] {
+    match at {
+        0 => b"bilcytgm",
+        1 | 2 => b"b",
+        3 | 4 => b"i",
+        5 | 6 => b"l",
+        7 | 8 | 9 => b"c",
+        10 | 11 => b"y",
+        13 => b"t",
+        16 | 17 | 18 | 19 | 20 => b"g",
+        21 | 22 | 23 => b"m",
+        _ => b"",
+    }
 }
 
 #[test]
-fn kinds_of_values(rt: HostRuntime) -> Result<(), Fail> {
-    // The kinds that each value is of, by their letters.
-    let expected = [
-        "bilcytgm", "b", "b", "i", "i", "l", "l", "c", "c", "c", "y", "y", "", "t", "", "", "g",
-        "g", "g", "g", "g", "m", "m", "m",
-    ];
-    for (i, letters) in expected.iter().enumerate() {
-        let value = value(rt.alloc(), i)?;
+fn kinds_of_values(rt: HostRuntime) {
+    for i in 0..VALUES {
+        let value = value(&rt, rt.alloc(), i);
         for letter in b"bilcytgm" {
-            let is = letters.as_bytes().contains(letter);
-            let kind = kind(rt.alloc(), *letter)?;
+            let is = kinds_of(i).contains(letter);
+            let kind = kind(&rt, rt.alloc(), *letter);
             assert!(rt; is_of(&value, &kind) == is, "value {i}, kind {letter}");
         }
     }
-    Ok(())
 }
 
 #[test]
-fn kinds_differ(rt: HostRuntime) -> Result<(), Fail> {
+fn kinds_differ(rt: HostRuntime) {
     for a in b"bilcytgm" {
-        let copied = copy_kind(rt.alloc(), &kind(rt.alloc(), *a)?)?;
+        let given = kind(&rt, rt.alloc(), *a);
+        let copied = copy_kind(rt.alloc(), &given).expect(&rt, "memory");
         for b in b"bilcytgm" {
-            let other = kind(rt.alloc(), *b)?;
+            let other = kind(&rt, rt.alloc(), *b);
             assert!(rt; same_kind(&copied, &other) == (a == b), "kind {a} and {b}");
         }
     }
-    Ok(())
+}
+
+// Whether copies of rows are these, in the same order.
+fn are_rows<R: Abort>(rt: &R, alloc: Global, found: &Rows, expected: &Rows) -> bool {
+    for (a, b) in found.as_slice().iter().zip(expected.as_slice()) {
+        let copied = copy_row(alloc, a).expect(rt, "memory");
+        if order_rows(&copied, b) != Ordering::Equal {
+            return false;
+        }
+    }
+    found.len() == expected.len()
+}
+
+// Whether rows of one number each make a bag of these.
+fn sorts<R: Abort>(rt: &R, alloc: Global, before: &[i32], after: &[i32]) -> bool {
+    let sorted = bag(rows(rt, alloc, before));
+    let expected = rows(rt, alloc, after);
+    are_rows(rt, alloc, &sorted, &expected)
 }
 
 #[test]
-fn bags_are_sorted(rt: HostRuntime) -> Result<(), Fail> {
-    let cases: [(&[i32], &[i32]); 4] = [
-        (&[], &[]),
-        (&[7], &[7]),
-        (&[2, 2, 2], &[2, 2, 2]),
-        (&[3, -1, 2, -1, 3], &[-1, -1, 2, 3, 3]),
-    ];
-    for (before, after) in cases {
-        let sorted = bag(rows(rt.alloc(), before)?);
-        let expected = rows(rt.alloc(), after)?;
-        assert!(rt; sorted.len() == expected.len(), "{before:?}");
-        for (a, b) in sorted.as_slice().iter().zip(expected.as_slice()) {
-            let copied = copy_row(rt.alloc(), a)?;
-            assert!(rt; order_rows(&copied, b) == Ordering::Equal, "{before:?}");
-        }
-    }
-    Ok(())
+fn bags_are_sorted(rt: HostRuntime) {
+    let alloc = rt.alloc();
+    assert!(rt; sorts(&rt, alloc, &[], &[]));
+    assert!(rt; sorts(&rt, alloc, &[7], &[7]));
+    assert!(rt; sorts(&rt, alloc, &[2, 2, 2], &[2, 2, 2]));
+    assert!(rt; sorts(&rt, alloc, &[3, -1, 2, -1, 3], &[-1, -1, 2, 3, 3]));
 }
 
 /// More rows than are sorted one by another at once.
 const MANY: u16 = 300;
 
 // A value of a form that grows with the number.
-fn grown(alloc: Global, form: u8, number: u16) -> Result<Value, AllocError> {
-    let [high, low] = number.to_be_bytes();
+fn grown<R: Abort>(rt: &R, alloc: Global, form: u8, number: u16) -> Value {
     match form {
-        b'i' => Ok(Value::Int(i32::from(number).wrapping_sub(150))),
-        b'l' => Ok(Value::Long(i64::from(number).wrapping_sub(150))),
-        b'y' => Ok(Value::Bytes(Blob::from_slice(alloc, &[high, low])?)),
-        // Characters of two bytes and more, whose codes go like their numbers.
-        _ => {
-            let mut text = String::new(alloc);
-            text.push(char::from_u32(u32::from(number).wrapping_add(1950)).unwrap_or('?'))?;
-            Ok(Value::Chars(Text::from_string(text)))
-        }
+        b'i' => Value::Int(i32::from(number).wrapping_sub(150)),
+        b'l' => Value::Long(i64::from(number).wrapping_sub(150)),
+        b'y' => bytes(rt, alloc, &number.to_be_bytes()),
+        _ => grown_text(rt, alloc, number),
     }
 }
 
-fn grown_row(alloc: Global, form: u8, number: u16) -> Result<Tuple, AllocError> {
+// Characters of two bytes and more, whose codes go like their numbers.
+fn grown_text<R: Abort>(rt: &R, alloc: Global, number: u16) -> Value {
+    let code = u32::from(number).wrapping_add(1950);
+    let mut text = String::new(alloc);
+    text.push(char::from_u32(code).unwrap_or('?'))
+        .expect(rt, "memory");
+    Value::Chars(Text::from_string(text))
+}
+
+fn grown_row<R: Abort>(rt: &R, alloc: Global, form: u8, number: u16) -> Tuple {
     let mut row = Seq::new(alloc);
-    row.push(Value::Int(1))?;
-    row.push(grown(alloc, form, number)?)?;
-    Ok(row)
+    push(rt, &mut row, Value::Int(1));
+    push(rt, &mut row, grown(rt, alloc, form, number));
+    row
+}
+
+// Rows of each number once, in no order.
+fn mixed<R: Abort>(rt: &R, alloc: Global, form: u8) -> Rows {
+    let mut rows = Seq::new(alloc);
+    for place in 0..MANY {
+        // 7 and 300 have no divisor in common.
+        let number = place.wrapping_mul(7) % MANY;
+        push(rt, &mut rows, grown_row(rt, alloc, form, number));
+    }
+    rows
+}
+
+// Whether a row stands at the place of its number.
+fn stands<R: Abort>(rt: &R, alloc: Global, rows: &Rows, form: u8, number: u16) -> bool {
+    let expected = grown_row(rt, alloc, form, number);
+    match rows.get(usize::from(number)) {
+        Some(row) => order_rows(row, &expected) == Ordering::Equal,
+        None => false,
+    }
 }
 
 #[test]
-fn long_bags_are_sorted(rt: HostRuntime) -> Result<(), Fail> {
+fn long_bags_are_sorted(rt: HostRuntime) {
     for form in b"ilyc" {
-        let mut before = Seq::new(rt.alloc());
-        for place in 0..MANY {
-            // Each number once, since 7 and 300 have no divisor in common.
-            let number = place.wrapping_mul(7) % MANY;
-            before.push(grown_row(rt.alloc(), *form, number)?)?;
-        }
-        let sorted = bag(before);
+        let sorted = bag(mixed(&rt, rt.alloc(), *form));
         for number in 0..MANY {
-            let expected = grown_row(rt.alloc(), *form, number)?;
-            let found = sorted.get(usize::from(number));
             assert!(rt;
-                found.is_some_and(|row| order_rows(row, &expected) == Ordering::Equal),
+                stands(&rt, rt.alloc(), &sorted, *form, number),
                 "form {form}, number {number}"
             );
         }
     }
-    Ok(())
+}
+
+// The kinds that each kind casts to.
+fn casts_of(letter: u8) -> &'static [u8] {
+    match letter {
+        b'b' => b"bc",
+        b'i' | b'l' => b"ilc",
+        b'c' => b"bilc",
+        b'y' => b"bilcytgm",
+        b't' => b"t",
+        b'g' => b"g",
+        _ => b"m",
+    }
 }
 
 #[test]
-fn kinds_cast(rt: HostRuntime) -> Result<(), Fail> {
-    // The kinds that each kind casts to.
-    let expected: [(u8, &str); 8] = [
-        (b'b', "bc"),
-        (b'i', "ilc"),
-        (b'l', "ilc"),
-        (b'c', "bilc"),
-        (b'y', "bilcytgm"),
-        (b't', "t"),
-        (b'g', "g"),
-        (b'm', "m"),
-    ];
-    for (from, letters) in expected {
-        let kind_from = kind(rt.alloc(), from)?;
+fn kinds_cast(rt: HostRuntime) {
+    for from in b"bilcytgm" {
+        let kind_from = kind(&rt, rt.alloc(), *from);
         for to in b"bilcytgm" {
-            let is = letters.as_bytes().contains(to);
-            let kind_to = kind(rt.alloc(), *to)?;
+            let is = casts_of(*from).contains(to);
+            let kind_to = kind(&rt, rt.alloc(), *to);
             assert!(rt; casts_to(&kind_from, &kind_to) == is, "kind {from} to {to}");
         }
     }
-    Ok(())
+}
+
+// Whether a kind has this width and depth, and whether it holds a bag or a map.
+fn measures(kind: &Kind, width: usize, depth: usize, holds: bool) -> bool {
+    kind_width(kind) == width && kind_depth(kind) == depth && holds_bag_or_map(kind) == holds
 }
 
 #[test]
-fn kinds_are_measured(rt: HostRuntime) -> Result<(), Fail> {
-    // Each kind's width and depth, and whether it holds a bag or a map; 0 is the deep one.
-    let expected: [(u8, usize, usize, bool); 5] = [
-        (b'i', 1, 1, false),
-        (b't', 2, 2, false),
-        (b'g', 2, 2, true),
-        (b'm', 2, 2, true),
-        (0, 5, 3, true),
-    ];
-    for (letter, width, depth, holds) in expected {
-        let kind = if letter == 0 {
-            deep_kind(rt.alloc())?
-        } else {
-            kind(rt.alloc(), letter)?
-        };
-        assert!(rt; kind_width(&kind) == width, "kind {letter}");
-        assert!(rt; kind_depth(&kind) == depth, "kind {letter}");
-        assert!(rt; holds_bag_or_map(&kind) == holds, "kind {letter}");
+fn kinds_are_measured(rt: HostRuntime) {
+    let alloc = rt.alloc();
+    assert!(rt; measures(&Kind::Int, 1, 1, false));
+    assert!(rt; measures(&kind(&rt, alloc, b't'), 2, 2, false));
+    assert!(rt; measures(&kind(&rt, alloc, b'g'), 2, 2, true));
+    assert!(rt; measures(&kind(&rt, alloc, b'm'), 2, 2, true));
+    assert!(rt; measures(&deep_kind(&rt, alloc), 5, 3, true));
+}
+
+// Whether a field is this int.
+fn is_int(row: &Tuple, place: u32, number: i32) -> bool {
+    match field_at(row, place) {
+        Some(found) => same(found, &Value::Int(number)),
+        None => false,
     }
-    Ok(())
 }
 
 #[test]
-fn lists_grow(rt: HostRuntime) -> Result<(), Fail> {
-    let mut row: Tuple = Seq::with_capacity(rt.alloc(), 2)?;
-    row.push(Value::Int(7))?;
-    row.extend(ints(rt.alloc(), &[8, 9])?)?;
+fn lists_grow(rt: HostRuntime) {
+    let mut row: Tuple = Seq::with_capacity(rt.alloc(), 2).expect(&rt, "memory");
+    push(&rt, &mut row, Value::Int(7));
+    let more = ints(&rt, rt.alloc(), &[8, 9]);
+    row.extend(more).expect(&rt, "memory");
     assert!(rt; row.len() == 3, "pushed and extended");
-    for (place, number) in [(0, 7), (1, 8), (2, 9)] {
-        let found = field_at(&row, place);
-        assert!(rt;
-            found.is_some_and(|v| same(v, &Value::Int(number))),
-            "field {place}"
-        );
-    }
+    assert!(rt; is_int(&row, 0, 7) && is_int(&row, 1, 8) && is_int(&row, 2, 9));
     assert!(rt; field_at(&row, 3).is_none(), "no field");
-    let mut bytes = Blob::new(rt.alloc());
-    bytes.push(1)?;
-    bytes.extend_from_slice(&[2, 255])?;
-    assert!(rt;
-        bytes.copy(rt.alloc())?.as_slice() == [1, 2, 255].as_slice(),
-        "bytes"
-    );
-    assert!(rt;
-        bytes.get(2) == Some(255) && bytes.get(3).is_none(),
-        "bytes by place"
-    );
-    Ok(())
 }
 
 #[test]
-fn functions_have_names(rt: HostRuntime) -> Result<(), Fail> {
+fn bytes_grow(rt: HostRuntime) {
+    let mut bytes = Blob::new(rt.alloc());
+    bytes.push(1).expect(&rt, "memory");
+    bytes.extend_from_slice(&[2, 255]).expect(&rt, "memory");
+    let copied = bytes.copy(rt.alloc()).expect(&rt, "memory");
+    assert!(rt; copied.as_slice() == [1, 2, 255].as_slice(), "bytes");
+    assert!(rt; bytes.get(2) == Some(255) && bytes.get(3).is_none());
+}
+
+#[test]
+fn functions_have_names(rt: HostRuntime) {
     let names = "COUNT COUNT_STAR SUM MIN MAX SIZE CONCAT IsEmpty TOKENIZE SUBSTRING STARTSWITH \
                  ENDSWITH INDEXOF ABS TOTUPLE TOBAG";
     for name in names.split_ascii_whitespace() {
@@ -309,5 +356,4 @@ fn functions_have_names(rt: HostRuntime) -> Result<(), Fail> {
     for other in ["AVG", "count", "ISEMPTY", ""] {
         assert!(rt; Function::named(other).is_none(), "{other}");
     }
-    Ok(())
 }
