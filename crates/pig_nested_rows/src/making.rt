@@ -1,26 +1,33 @@
-//! Values, rows and blocks for tests.
+//! Values, rows and blocks for tests. Where memory is wanting the process ends: that drops nothing, so its proof is
+//! short.
 use pig_typed::{Block, BlockItem, BlockStep, SortKey, SortKeys, TExpr};
 use pig_value::{Boxed, Dir, Positions, Rows, Seq, Text, Tuple, Value, order_rows};
-use std::alloc::{AllocError, Global};
+use std::alloc::Global;
 use std::cmp::Ordering;
+use std::process::Abort;
 
-pub fn chars(alloc: Global, text: &str) -> Result<Value, AllocError> {
-    Ok(Value::Chars(Text::from_str(alloc, text)?))
+/// Adds to a list.
+pub fn push<R: Abort, T: Drop>(rt: &R, list: &mut Seq<T>, item: T) {
+    list.push(item).expect(rt, "memory");
+}
+
+pub fn chars<R: Abort>(rt: &R, alloc: Global, text: &str) -> Value {
+    Value::Chars(Text::from_str(alloc, text).expect(rt, "memory"))
 }
 
 /// A tuple of each number alone, where -1 stands for a null.
-pub fn singles(alloc: Global, numbers: &[i32]) -> Result<Rows, AllocError> {
+pub fn singles<R: Abort>(rt: &R, alloc: Global, numbers: &[i32]) -> Rows {
     let mut rows = Seq::new(alloc);
     for n in numbers {
-        rows.push(single(alloc, *n)?)?;
+        push(rt, &mut rows, single(rt, alloc, *n));
     }
-    Ok(rows)
+    rows
 }
 
-fn single(alloc: Global, n: i32) -> Result<Tuple, AllocError> {
+fn single<R: Abort>(rt: &R, alloc: Global, n: i32) -> Tuple {
     let mut row = Seq::new(alloc);
-    row.push(number(n))?;
-    Ok(row)
+    push(rt, &mut row, number(n));
+    row
 }
 
 /// A number, where -1 stands for a null.
@@ -32,12 +39,30 @@ pub fn number(n: i32) -> Value {
 }
 
 /// A row of numbers, where -1 stands for a null.
-pub fn numbers(alloc: Global, numbers: &[i32]) -> Result<Tuple, AllocError> {
+pub fn numbers<R: Abort>(rt: &R, alloc: Global, numbers: &[i32]) -> Tuple {
     let mut row = Seq::new(alloc);
     for n in numbers {
-        row.push(number(*n))?;
+        push(rt, &mut row, number(*n));
     }
-    Ok(row)
+    row
+}
+
+/// Rows of two numbers each.
+pub fn pairs<R: Abort>(rt: &R, alloc: Global, cells: &[i32]) -> Rows {
+    let mut rows = Seq::new(alloc);
+    for row in cells.chunks(2) {
+        push(rt, &mut rows, numbers(rt, alloc, row));
+    }
+    rows
+}
+
+/// Rows of three numbers each.
+pub fn triples<R: Abort>(rt: &R, alloc: Global, cells: &[i32]) -> Rows {
+    let mut rows = Seq::new(alloc);
+    for row in cells.chunks(3) {
+        push(rt, &mut rows, numbers(rt, alloc, row));
+    }
+    rows
 }
 
 pub fn plain(value: TExpr) -> BlockItem {
@@ -57,23 +82,23 @@ pub fn flat(value: TExpr, width: u32) -> BlockItem {
 }
 
 /// A projection of several fields of what is in the local of a step.
-pub fn part_of_local(alloc: Global, at: u32, fields: &[u32]) -> Result<TExpr, AllocError> {
+pub fn part_of_local<R: Abort>(rt: &R, alloc: Global, at: u32, fields: &[u32]) -> TExpr {
     let mut positions: Positions = Seq::new(alloc);
     for n in fields {
-        positions.push(*n)?;
+        push(rt, &mut positions, *n);
     }
-    let a = Boxed::new(alloc, TExpr::Local(at))?;
-    Ok(TExpr::Project {
+    let a = Boxed::new(alloc, TExpr::Local(at)).expect(rt, "memory");
+    TExpr::Project {
         a,
         fields: positions,
         single: false,
-    })
+    }
 }
 
-pub fn keys(alloc: Global, position: u32, dir: Dir) -> Result<SortKeys, AllocError> {
+pub fn keys<R: Abort>(rt: &R, alloc: Global, position: u32, dir: Dir) -> SortKeys {
     let mut keys = Seq::new(alloc);
-    keys.push(SortKey { position, dir })?;
-    Ok(keys)
+    push(rt, &mut keys, SortKey { position, dir });
+    keys
 }
 
 /// A block without steps.
@@ -85,11 +110,11 @@ pub fn generate(alloc: Global) -> Block {
 }
 
 /// A block of one step, which generates its bag.
-pub fn of_step(alloc: Global, step: BlockStep) -> Result<Block, AllocError> {
+pub fn of_step<R: Abort>(rt: &R, alloc: Global, step: BlockStep) -> Block {
     let mut block = generate(alloc);
-    block.steps.push(step)?;
-    block.items.push(plain(TExpr::Local(0)))?;
-    Ok(block)
+    push(rt, &mut block.steps, step);
+    push(rt, &mut block.items, plain(TExpr::Local(0)));
+    block
 }
 
 /// Whether the rows are the same, in the same order.
