@@ -1,10 +1,10 @@
 //! Kinds of the rows of blocks and of their copies.
-use crate::showing::show_all;
-use crate::writing::{row, written};
-use pig_typed::{Block, BlockItem, BlockStep, SortKey, TExpr, block_kinds, copy_block};
+use crate::showing::{add, show_all};
+use crate::writing::{push, row, written};
+use pig_typed::{Block, BlockItem, BlockStep, SortKey, SortKeys, block_kinds, copy_block};
 use pig_value::{Dir, Seq};
-use std::alloc::{AllocError, Global};
-use std::test::Fail;
+use std::alloc::Global;
+use std::process::Abort;
 
 // A line for each block: its steps, its items, and the kinds of its rows or `-`. A step is its form (`f` FILTER, `o`
 // ORDER, `l` LIMIT, `d` DISTINCT, `t` the bag alone), its bag, and after `:` its condition, or the positions that it
@@ -35,41 +35,41 @@ t6p *1L i
 t7 0 -
 ";
 
-fn step(alloc: Global, text: &str) -> Result<Option<BlockStep>, AllocError> {
-    let (form, rest) = match text.as_bytes() {
-        [form, rest @ ..] => (*form, rest),
-        [] => return Ok(None),
+fn step<R: Abort>(rt: &R, alloc: Global, text: &str) -> BlockStep {
+    let (form, argument) = text.split_once(':').unwrap_or((text, ""));
+    let (form, letters) = match form.as_bytes() {
+        [form, letters @ ..] => (*form, letters),
+        [] => (b't', form.as_bytes()),
     };
-    let mut parts = rest.split(|b| *b == b':');
-    let from = match parts.next() {
-        Some(letters) => written(alloc, letters)?,
-        None => None,
-    };
-    let Some(from) = from else {
-        return Ok(None);
-    };
-    let argument = parts.next().unwrap_or(&[]);
+    let from = written(rt, alloc, letters);
     match form {
-        b'f' => match written(alloc, argument)? {
-            Some(cond) => Ok(Some(BlockStep::Filter { from, cond })),
-            None => Ok(None),
+        b'f' => BlockStep::Filter {
+            from,
+            cond: written(rt, alloc, argument.as_bytes()),
         },
-        b'o' => Ok(Some(ordered(alloc, from, argument)?)),
-        b'l' => Ok(Some(BlockStep::Limit { from, count: 1 })),
-        b'd' => Ok(Some(BlockStep::Distinct { from })),
-        _ => Ok(Some(BlockStep::Take { from })),
+        b'o' => BlockStep::Order {
+            from,
+            keys: falling(rt, alloc, argument.as_bytes()),
+        },
+        b'l' => BlockStep::Limit { from, count: 1 },
+        b'd' => BlockStep::Distinct { from },
+        _ => BlockStep::Take { from },
     }
 }
 
-fn ordered(alloc: Global, from: TExpr, digits: &[u8]) -> Result<BlockStep, AllocError> {
+fn falling<R: Abort>(rt: &R, alloc: Global, digits: &[u8]) -> SortKeys {
     let mut keys = Seq::new(alloc);
     for digit in digits {
-        keys.push(SortKey {
-            position: number(*digit),
-            dir: Dir::Desc,
-        })?;
+        push(rt, &mut keys, key(number(*digit)));
     }
-    Ok(BlockStep::Order { from, keys })
+    keys
+}
+
+fn key(position: u32) -> SortKey {
+    SortKey {
+        position,
+        dir: Dir::Desc,
+    }
 }
 
 fn number(digit: u8) -> u32 {
@@ -79,62 +79,57 @@ fn number(digit: u8) -> u32 {
     }
 }
 
-fn item(alloc: Global, text: &str) -> Result<Option<BlockItem>, AllocError> {
+fn item<R: Abort>(rt: &R, alloc: Global, text: &str) -> BlockItem {
     let (flatten, width, letters) = match text.as_bytes() {
         [b'*', width, rest @ ..] => (true, number(*width), rest),
         letters => (false, 1, letters),
     };
-    match written(alloc, letters)? {
-        Some(value) => Ok(Some(BlockItem {
-            value,
-            flatten,
-            width,
-        })),
-        None => Ok(None),
+    BlockItem {
+        value: written(rt, alloc, letters),
+        flatten,
+        width,
     }
 }
 
-fn block(alloc: Global, steps: &str, items: &str) -> Result<Block, AllocError> {
+fn block<R: Abort>(rt: &R, alloc: Global, steps: &str, items: &str) -> Block {
     let mut block = Block {
         steps: Seq::new(alloc),
         items: Seq::new(alloc),
     };
     for text in steps.split(',') {
-        if let Some(step) = step(alloc, text)? {
-            block.steps.push(step)?;
+        if text != "." {
+            push(rt, &mut block.steps, step(rt, alloc, text));
         }
     }
     for text in items.split(',') {
-        if let Some(item) = item(alloc, text)? {
-            block.items.push(item)?;
-        }
+        push(rt, &mut block.items, item(rt, alloc, text));
     }
-    Ok(block)
+    block
 }
 
-fn show_row(alloc: Global, block: &Block, into: &mut String) -> Result<(), AllocError> {
-    let copied = copy_block(alloc, block)?;
-    match block_kinds(alloc, &copied, &row(alloc)?)? {
-        Some(kinds) => show_all(kinds.as_slice(), into),
-        None => into.push_str("-"),
+fn show_row<R: Abort>(rt: &R, alloc: Global, block: &Block, into: &mut String) {
+    let copied = copy_block(alloc, block).expect(rt, "memory");
+    let row = row(rt, alloc);
+    match block_kinds(alloc, &copied, &row).expect(rt, "memory") {
+        Some(kinds) => show_all(rt, kinds.as_slice(), into),
+        None => add(rt, into, "-"),
     }
 }
 
 #[test]
-fn blocks_have_their_kinds(rt: HostRuntime) -> Result<(), Fail> {
-    let alloc = rt.alloc();
-    let mut found = String::new(alloc);
+fn blocks_have_their_kinds(rt: HostRuntime) {
+    let mut found = String::new(rt.alloc());
     for line in BLOCKS.lines() {
         let mut parts = line.split(' ');
         let steps = parts.next().unwrap_or("");
         let items = parts.next().unwrap_or("");
-        found.push_str(steps)?;
-        found.push_str(" ")?;
-        found.push_str(items)?;
-        found.push_str(" ")?;
-        show_row(alloc, &block(alloc, steps, items)?, &mut found)?;
-        found.push_str("\n")?;
+        add(&rt, &mut found, steps);
+        add(&rt, &mut found, " ");
+        add(&rt, &mut found, items);
+        add(&rt, &mut found, " ");
+        let block = block(&rt, rt.alloc(), steps, items);
+        show_row(&rt, rt.alloc(), &block, &mut found);
+        add(&rt, &mut found, "\n");
     }
     assert_eq!(rt; found.as_str(), BLOCKS);
-    Ok(())
 }

@@ -4,12 +4,11 @@ use pig_typed::{
     TLinks,
 };
 use pig_value::Positions;
-use std::test::Fail;
 
 fn crosses<T: Send + Sync>() {}
 
 #[test]
-fn parts_cross_threads() -> Result<(), Fail> {
+fn parts_cross_threads() {
     crosses::<TExpr>();
     crosses::<TLink>();
     crosses::<TExprs>();
@@ -22,5 +21,4 @@ fn parts_cross_threads() -> Result<(), Fail> {
     crosses::<BlockItems>();
     crosses::<SortKey>();
     crosses::<SortKeys>();
-    Ok(())
 }

@@ -1,10 +1,10 @@
 //! Kinds of expressions and of their copies.
-use crate::showing::show;
+use crate::showing::{add, show};
 use crate::writing::{locals, row, written};
 use pig_typed::{TExpr, copy_expr, kind_of};
 use pig_value::Kind;
-use std::alloc::{AllocError, Global};
-use std::test::Fail;
+use std::alloc::Global;
+use std::process::Abort;
 
 // A line for each expression, as letters write it, and its kind, or `-` where it has none.
 const TABLE: &str = "n y
@@ -142,43 +142,35 @@ u -
 000J -
 ";
 
-// The kind, on the row and the local, of a copy of the expression.
-fn kind_of_copy(alloc: Global, e: &TExpr) -> Result<Option<Kind>, AllocError> {
-    let copied = copy_expr(alloc, e)?;
-    kind_on_row(alloc, &copied)
+fn kind_on_row<R: Abort>(rt: &R, alloc: Global, e: &TExpr) -> Option<Kind> {
+    let row = row(rt, alloc);
+    let locals = locals(rt, alloc);
+    kind_of(alloc, e, &row, &locals).expect(rt, "memory")
 }
 
-fn kind_on_row(alloc: Global, e: &TExpr) -> Result<Option<Kind>, AllocError> {
-    let row = row(alloc)?;
-    let locals = locals(alloc)?;
-    kind_of(alloc, e, &row, &locals)
-}
-
-fn show_found(found: Option<Kind>, into: &mut String) -> Result<(), AllocError> {
+fn show_found<R: Abort>(rt: &R, found: Option<Kind>, into: &mut String) {
     match found {
-        Some(kind) => show(&kind, into),
-        None => into.push_str("-"),
+        Some(kind) => show(rt, &kind, into),
+        None => add(rt, into, "-"),
     }
 }
 
-fn show_kind(alloc: Global, letters: &[u8], into: &mut String) -> Result<(), AllocError> {
-    match written(alloc, letters)? {
-        Some(e) => show_found(kind_of_copy(alloc, &e)?, into),
-        None => into.push_str("nothing written"),
-    }
+// The kind, on the row and the local, of a copy of the expression.
+fn show_kind<R: Abort>(rt: &R, alloc: Global, letters: &[u8], into: &mut String) {
+    let e = written(rt, alloc, letters);
+    let copied = copy_expr(alloc, &e).expect(rt, "memory");
+    show_found(rt, kind_on_row(rt, alloc, &copied), into);
 }
 
 #[test]
-fn expressions_have_their_kinds(rt: HostRuntime) -> Result<(), Fail> {
-    let alloc = rt.alloc();
-    let mut found = String::new(alloc);
+fn expressions_have_their_kinds(rt: HostRuntime) {
+    let mut found = String::new(rt.alloc());
     for line in TABLE.lines() {
         let letters = line.split(' ').next().unwrap_or("");
-        found.push_str(letters)?;
-        found.push_str(" ")?;
-        show_kind(alloc, letters.as_bytes(), &mut found)?;
-        found.push_str("\n")?;
+        add(&rt, &mut found, letters);
+        add(&rt, &mut found, " ");
+        show_kind(&rt, rt.alloc(), letters.as_bytes(), &mut found);
+        add(&rt, &mut found, "\n");
     }
     assert_eq!(rt; found.as_str(), TABLE);
-    Ok(())
 }

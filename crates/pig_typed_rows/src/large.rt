@@ -1,26 +1,24 @@
 //! Kinds of expressions that are long, deep or on wide rows.
-use crate::showing::show;
-use crate::writing::choose;
+use crate::showing::{add, show};
+use crate::writing::{choose, push};
 use pig_typed::{TExpr, TLink, copy_expr, kind_of};
 use pig_value::{Boxed, ChainOp, Kind, Kinds, Seq};
-use std::alloc::{AllocError, Global};
-use std::test::Fail;
+use std::alloc::Global;
+use std::process::Abort;
+
+fn link(op: ChainOp, a: TExpr) -> TLink {
+    TLink { op, a }
+}
 
 // So many links `+ 2`, and one more of a long.
-fn long_chain(alloc: Global, links: u32) -> Result<TExpr, AllocError> {
+fn long_chain<R: Abort>(rt: &R, alloc: Global, links: u32) -> TExpr {
     let mut rest = Seq::new(alloc);
     for _ in 0..links {
-        rest.push(TLink {
-            op: ChainOp::Add,
-            a: TExpr::Int(2),
-        })?;
+        push(rt, &mut rest, link(ChainOp::Add, TExpr::Int(2)));
     }
-    rest.push(TLink {
-        op: ChainOp::Sub,
-        a: TExpr::Long(3),
-    })?;
-    let first = Boxed::new(alloc, TExpr::Int(1))?;
-    Ok(TExpr::Chain { first, rest })
+    push(rt, &mut rest, link(ChainOp::Sub, TExpr::Long(3)));
+    let first = Boxed::new(alloc, TExpr::Int(1)).expect(rt, "memory");
+    TExpr::Chain { first, rest }
 }
 
 fn links(e: &TExpr) -> usize {
@@ -31,56 +29,55 @@ fn links(e: &TExpr) -> usize {
 }
 
 // `- (t ? 2 : - (t ? 2 : ..))`, so many levels of both.
-fn deep(alloc: Global, levels: u32) -> Result<TExpr, AllocError> {
+fn deep<R: Abort>(rt: &R, alloc: Global, levels: u32) -> TExpr {
     let mut e = TExpr::Int(2);
     for _ in 0..levels {
-        e = choose(alloc, TExpr::Bool(true), TExpr::Int(2), e)?;
-        e = TExpr::Minus(Boxed::new(alloc, e)?);
+        e = choose(rt, alloc, TExpr::Bool(true), TExpr::Int(2), e);
+        e = TExpr::Minus(Boxed::new(alloc, e).expect(rt, "memory"));
     }
-    Ok(e)
+    e
 }
 
 // A row of 511 ints and a chararray behind them.
-fn wide(alloc: Global) -> Result<Kinds, AllocError> {
+fn wide<R: Abort>(rt: &R, alloc: Global) -> Kinds {
     let mut wide = Seq::new(alloc);
     for _ in 0..511 {
-        wide.push(Kind::Int)?;
+        push(rt, &mut wide, Kind::Int);
     }
-    wide.push(Kind::Chararray)?;
-    Ok(wide)
+    push(rt, &mut wide, Kind::Chararray);
+    wide
 }
 
-fn is_kind(alloc: Global, e: &TExpr, row: &Kinds, shown: &str) -> Result<bool, AllocError> {
+fn is_kind<R: Abort>(rt: &R, alloc: Global, e: &TExpr, row: &Kinds, shown: &str) -> bool {
     let mut text = String::new(alloc);
-    match kind_of(alloc, e, row, &Seq::new(alloc))? {
-        Some(kind) => show(&kind, &mut text)?,
-        None => text.push_str("-")?,
+    match kind_of(alloc, e, row, &Seq::new(alloc)).expect(rt, "memory") {
+        Some(kind) => show(rt, &kind, &mut text),
+        None => add(rt, &mut text, "-"),
     }
-    Ok(text.as_str() == shown)
+    text.as_str() == shown
 }
 
 #[test]
-fn long_chains_have_kinds(rt: HostRuntime) -> Result<(), Fail> {
+fn long_chains_have_kinds(rt: HostRuntime) {
     let alloc = rt.alloc();
-    let chain = copy_expr(alloc, &long_chain(alloc, 100_000)?)?;
+    let long = long_chain(&rt, alloc, 100_000);
+    let chain = copy_expr(alloc, &long).expect(&rt, "memory");
     assert_eq!(rt; links(&chain), 100_001);
-    assert!(rt; is_kind(alloc, &chain, &Seq::new(alloc), "l")?);
-    Ok(())
+    assert!(rt; is_kind(&rt, alloc, &chain, &Seq::new(alloc), "l"));
 }
 
 #[test]
-fn deep_expressions_have_kinds(rt: HostRuntime) -> Result<(), Fail> {
+fn deep_expressions_have_kinds(rt: HostRuntime) {
     let alloc = rt.alloc();
-    let copied = copy_expr(alloc, &deep(alloc, 64)?)?;
-    assert!(rt; is_kind(alloc, &copied, &Seq::new(alloc), "i")?);
-    Ok(())
+    let deep = deep(&rt, alloc, 64);
+    let copied = copy_expr(alloc, &deep).expect(&rt, "memory");
+    assert!(rt; is_kind(&rt, alloc, &copied, &Seq::new(alloc), "i"));
 }
 
 #[test]
-fn fields_of_wide_rows_have_kinds(rt: HostRuntime) -> Result<(), Fail> {
+fn fields_of_wide_rows_have_kinds(rt: HostRuntime) {
     let alloc = rt.alloc();
-    let wide = wide(alloc)?;
-    assert!(rt; is_kind(alloc, &TExpr::Field(511), &wide, "c")?);
-    assert!(rt; is_kind(alloc, &TExpr::Field(512), &wide, "-")?);
-    Ok(())
+    let wide = wide(&rt, alloc);
+    assert!(rt; is_kind(&rt, alloc, &TExpr::Field(511), &wide, "c"));
+    assert!(rt; is_kind(&rt, alloc, &TExpr::Field(512), &wide, "-"));
 }

@@ -1,38 +1,42 @@
 //! Kinds as texts: `b` boolean, `i` int, `l` long, `c` chararray, `y` bytearray, `(..)` a tuple, `{..}` a bag and
 //! `[.]` a map.
 use pig_value::Kind;
-use std::alloc::AllocError;
+use std::process::Abort;
 
-#[cycle(show)]
-pub fn show_all(kinds: &[Kind], into: &mut String) -> Result<(), AllocError> {
-    for kind in kinds {
-        show(kind, into)?;
-    }
-    Ok(())
+/// Adds to a text.
+pub fn add<R: Abort>(rt: &R, into: &mut String, text: &str) {
+    into.push_str(text).expect(rt, "memory");
 }
 
 #[cycle(show)]
-pub fn show(kind: &Kind, into: &mut String) -> Result<(), AllocError> {
+pub fn show_all<R: Abort>(rt: &R, kinds: &[Kind], into: &mut String) {
+    for kind in kinds {
+        show(rt, kind, into);
+    }
+}
+
+#[cycle(show)]
+pub fn show<R: Abort>(rt: &R, kind: &Kind, into: &mut String) {
     match kind {
-        Kind::Boolean => into.push_str("b"),
-        Kind::Int => into.push_str("i"),
-        Kind::Long => into.push_str("l"),
-        Kind::Chararray => into.push_str("c"),
-        Kind::Bytearray => into.push_str("y"),
+        Kind::Boolean => add(rt, into, "b"),
+        Kind::Int => add(rt, into, "i"),
+        Kind::Long => add(rt, into, "l"),
+        Kind::Chararray => add(rt, into, "c"),
+        Kind::Bytearray => add(rt, into, "y"),
         Kind::Tuple(kinds) => {
-            into.push_str("(")?;
-            show_all(kinds.as_slice(), into)?;
-            into.push_str(")")
+            add(rt, into, "(");
+            show_all(rt, kinds.as_slice(), into);
+            add(rt, into, ")");
         }
         Kind::Bag(kinds) => {
-            into.push_str("{")?;
-            show_all(kinds.as_slice(), into)?;
-            into.push_str("}")
+            add(rt, into, "{");
+            show_all(rt, kinds.as_slice(), into);
+            add(rt, into, "}");
         }
         Kind::Map(of) => {
-            into.push_str("[")?;
-            show(of.get(), into)?;
-            into.push_str("]")
+            add(rt, into, "[");
+            show(rt, of.get(), into);
+            add(rt, into, "]");
         }
     }
 }

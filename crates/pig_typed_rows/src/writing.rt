@@ -7,16 +7,24 @@
 //! `T` TOKENIZE. Two: `+` `-` `x` `/` `%` `&` `|`; `=` `^` not equal, `<` `>`, `e` at most, `g` at least; `K` CONCAT, `W`
 //! TOTUPLE, `V` TOBAG, `R` TOBAG of tuples of 2 fields and `F` of 3, `X` INDEXOF, `P` STARTSWITH, `Q` ENDSWITH, `d` SIZE.
 //! Three: `?` and `J` SUBSTRING.
+//!
+//! Where memory or an operand is wanting the process ends: that drops nothing, so its proof is short.
 use pig_typed::{TExpr, TLink};
 use pig_value::{Boxed, ChainOp, Function, Kind, Kinds, Positions, Rel, Seq, Text};
-use std::alloc::{AllocError, Global};
+use std::alloc::Global;
+use std::process::Abort;
 
-pub fn kinds(alloc: Global, letters: &[u8]) -> Result<Kinds, AllocError> {
+/// Adds to a list.
+pub fn push<R: Abort, T: Drop>(rt: &R, list: &mut Seq<T>, item: T) {
+    list.push(item).expect(rt, "memory");
+}
+
+pub fn kinds<R: Abort>(rt: &R, alloc: Global, letters: &[u8]) -> Kinds {
     let mut kinds = Seq::new(alloc);
     for letter in letters {
-        kinds.push(scalar(*letter))?;
+        push(rt, &mut kinds, scalar(*letter));
     }
-    Ok(kinds)
+    kinds
 }
 
 fn scalar(letter: u8) -> Kind {
@@ -30,57 +38,56 @@ fn scalar(letter: u8) -> Kind {
 }
 
 /// The kinds of the row: `i l c y b (ic) {il} [i]`.
-pub fn row(alloc: Global) -> Result<Kinds, AllocError> {
-    let mut row = kinds(alloc, b"ilcyb")?;
-    row.push(Kind::Tuple(kinds(alloc, b"ic")?))?;
-    row.push(Kind::Bag(kinds(alloc, b"il")?))?;
-    row.push(Kind::Map(Boxed::new(alloc, Kind::Int)?))?;
-    Ok(row)
+pub fn row<R: Abort>(rt: &R, alloc: Global) -> Kinds {
+    let mut row = kinds(rt, alloc, b"ilcyb");
+    push(rt, &mut row, Kind::Tuple(kinds(rt, alloc, b"ic")));
+    push(rt, &mut row, Kind::Bag(kinds(rt, alloc, b"il")));
+    let ints = Boxed::new(alloc, Kind::Int).expect(rt, "memory");
+    push(rt, &mut row, Kind::Map(ints));
+    row
 }
 
 /// The kinds of the locals: `{i}`.
-pub fn locals(alloc: Global) -> Result<Kinds, AllocError> {
+pub fn locals<R: Abort>(rt: &R, alloc: Global) -> Kinds {
     let mut locals = Seq::new(alloc);
-    locals.push(Kind::Bag(kinds(alloc, b"i")?))?;
-    Ok(locals)
+    push(rt, &mut locals, Kind::Bag(kinds(rt, alloc, b"i")));
+    locals
 }
 
-/// The expression that the letters write, or none where they write none.
-pub fn written(alloc: Global, letters: &[u8]) -> Result<Option<TExpr>, AllocError> {
+/// The expression that the letters write.
+pub fn written<R: Abort>(rt: &R, alloc: Global, letters: &[u8]) -> TExpr {
     let mut stack = Vec::new(alloc);
     for letter in letters {
-        let made = match leaf(alloc, *letter)? {
-            Some(e) => Some(e),
-            None => applied(alloc, *letter, &mut stack)?,
-        };
-        match made {
-            Some(e) => stack.push(e)?,
-            None => return Ok(None),
-        }
+        let e = applied(rt, alloc, *letter, &mut stack);
+        stack.push(e).expect(rt, "memory");
     }
-    Ok(stack.pop())
+    operand(rt, &mut stack)
 }
 
-fn leaf(alloc: Global, letter: u8) -> Result<Option<TExpr>, AllocError> {
+fn operand<R: Abort>(rt: &R, stack: &mut Vec<TExpr>) -> TExpr {
+    stack.pop().expect(rt, "an operand")
+}
+
+fn leaf<R: Abort>(rt: &R, alloc: Global, letter: u8) -> TExpr {
     match letter {
-        b'0'..=b'9' => Ok(Some(TExpr::Field(u32::from(letter - b'0')))),
-        b'L' => Ok(Some(TExpr::Local(0))),
-        b'N' => Ok(Some(TExpr::Local(1))),
-        b'n' => Ok(Some(TExpr::Null)),
-        b't' => Ok(Some(TExpr::Bool(true))),
-        b'i' => Ok(Some(TExpr::Int(2))),
-        b'l' => Ok(Some(TExpr::Long(3))),
-        b'c' => Ok(Some(TExpr::Chars(Text::from_str(alloc, "x")?))),
-        b'u' => Ok(Some(TExpr::Call {
+        b'0'..=b'9' => TExpr::Field(u32::from(letter - b'0')),
+        b'L' => TExpr::Local(0),
+        b'N' => TExpr::Local(1),
+        b't' => TExpr::Bool(true),
+        b'i' => TExpr::Int(2),
+        b'l' => TExpr::Long(3),
+        b'c' => TExpr::Chars(Text::from_str(alloc, "x").expect(rt, "memory")),
+        b'u' => TExpr::Call {
             function: Function::ToTuple,
             args: Seq::new(alloc),
-        })),
-        _ => Ok(None),
+        },
+        _ => TExpr::Null,
     }
 }
 
 fn operands(letter: u8) -> usize {
     match letter {
+        b'0'..=b'9' | b'L' | b'N' | b'n' | b't' | b'i' | b'l' | b'c' | b'u' => 0,
         b'?' | b'J' => 3,
         b'+' | b'-' | b'x' | b'/' | b'%' | b'&' | b'|' => 2,
         b'=' | b'^' | b'<' | b'>' | b'e' | b'g' => 2,
@@ -89,44 +96,42 @@ fn operands(letter: u8) -> usize {
     }
 }
 
-fn applied(alloc: Global, letter: u8, stack: &mut Vec<TExpr>) -> Result<Option<TExpr>, AllocError> {
-    let Some(c) = stack.pop() else {
-        return Ok(None);
-    };
-    if operands(letter) == 1 {
-        return of_one(alloc, letter, c);
+fn applied<R: Abort>(rt: &R, alloc: Global, letter: u8, stack: &mut Vec<TExpr>) -> TExpr {
+    let count = operands(letter);
+    if count == 0 {
+        return leaf(rt, alloc, letter);
     }
-    let Some(b) = stack.pop() else {
-        return Ok(None);
-    };
-    if operands(letter) == 2 {
-        return Ok(Some(of_two(alloc, letter, b, c)?));
+    let c = operand(rt, stack);
+    if count == 1 {
+        return of_one(rt, alloc, letter, c);
     }
-    match stack.pop() {
-        Some(a) => Ok(Some(of_three(alloc, letter, a, b, c)?)),
-        None => Ok(None),
+    let b = operand(rt, stack);
+    if count == 2 {
+        return of_two(rt, alloc, letter, b, c);
+    }
+    let a = operand(rt, stack);
+    of_three(rt, alloc, letter, a, b, c)
+}
+
+fn of_one<R: Abort>(rt: &R, alloc: Global, letter: u8, a: TExpr) -> TExpr {
+    match function_of_one(letter) {
+        Some(function) => called(rt, alloc, function, a),
+        None => on_box(rt, alloc, letter, Boxed::new(alloc, a).expect(rt, "memory")),
     }
 }
 
-fn of_one(alloc: Global, letter: u8, a: TExpr) -> Result<Option<TExpr>, AllocError> {
-    if let Some(function) = function_of_one(letter) {
-        return Ok(Some(called(alloc, function, a)?));
-    }
-    let a = Boxed::new(alloc, a)?;
+fn on_box<R: Abort>(rt: &R, alloc: Global, letter: u8, a: Boxed<TExpr>) -> TExpr {
     match letter {
-        b'!' => Ok(Some(TExpr::Not(a))),
-        b'~' => Ok(Some(TExpr::Minus(a))),
-        b'z' | b'w' => Ok(Some(TExpr::IsNull {
-            a,
-            not: letter == b'w',
-        })),
-        b'I' | b'G' | b'C' | b'B' | b'Y' => Ok(Some(TExpr::Cast {
+        b'!' => TExpr::Not(a),
+        b'~' => TExpr::Minus(a),
+        b'z' => TExpr::IsNull { a, not: false },
+        b'w' => TExpr::IsNull { a, not: true },
+        b'I' | b'G' | b'C' | b'B' | b'Y' => TExpr::Cast {
             to: scalar(letter),
             a,
-        })),
-        b'#' => Ok(Some(look(alloc, a)?)),
-        b'p' | b'q' | b'r' | b's' | b'v' | b'o' => Ok(Some(projected(alloc, letter, a)?)),
-        _ => Ok(None),
+        },
+        b'#' => look(rt, alloc, a),
+        _ => projected(rt, alloc, letter, a),
     }
 }
 
@@ -145,45 +150,45 @@ fn function_of_one(letter: u8) -> Option<Function> {
     }
 }
 
-fn called(alloc: Global, function: Function, a: TExpr) -> Result<TExpr, AllocError> {
+fn called<R: Abort>(rt: &R, alloc: Global, function: Function, a: TExpr) -> TExpr {
     let mut args = Seq::new(alloc);
-    args.push(a)?;
-    Ok(TExpr::Call { function, args })
+    push(rt, &mut args, a);
+    TExpr::Call { function, args }
 }
 
-fn look(alloc: Global, a: Boxed<TExpr>) -> Result<TExpr, AllocError> {
-    let key = Text::from_str(alloc, "k")?;
-    Ok(TExpr::Look { a, key })
+fn look<R: Abort>(rt: &R, alloc: Global, a: Boxed<TExpr>) -> TExpr {
+    let key = Text::from_str(alloc, "k").expect(rt, "memory");
+    TExpr::Look { a, key }
 }
 
-fn projected(alloc: Global, letter: u8, a: Boxed<TExpr>) -> Result<TExpr, AllocError> {
-    let fields = positions(alloc, letter)?;
-    Ok(TExpr::Project {
+fn projected<R: Abort>(rt: &R, alloc: Global, letter: u8, a: Boxed<TExpr>) -> TExpr {
+    let fields = positions(rt, alloc, letter);
+    TExpr::Project {
         a,
         fields,
         single: letter != b'r',
-    })
+    }
 }
 
-fn positions(alloc: Global, letter: u8) -> Result<Positions, AllocError> {
+fn positions<R: Abort>(rt: &R, alloc: Global, letter: u8) -> Positions {
     let mut fields = Seq::new(alloc);
     if matches!(letter, b'p' | b'r' | b'v') {
-        fields.push(0)?;
+        push(rt, &mut fields, 0);
     }
     if matches!(letter, b'q' | b'r' | b'v') {
-        fields.push(1)?;
+        push(rt, &mut fields, 1);
     }
     if letter == b's' {
-        fields.push(2)?;
+        push(rt, &mut fields, 2);
     }
-    Ok(fields)
+    fields
 }
 
-fn of_two(alloc: Global, letter: u8, a: TExpr, b: TExpr) -> Result<TExpr, AllocError> {
+fn of_two<R: Abort>(rt: &R, alloc: Global, letter: u8, a: TExpr, b: TExpr) -> TExpr {
     match letter {
-        b'+' | b'-' | b'x' | b'/' | b'%' | b'&' | b'|' => chain(alloc, chain_op(letter), a, b),
-        b'=' | b'^' | b'<' | b'>' | b'e' | b'g' => compare(alloc, rel(letter), a, b),
-        _ => call_two(alloc, function_of_two(letter), a, b),
+        b'+' | b'-' | b'x' | b'/' | b'%' | b'&' | b'|' => chain(rt, alloc, chain_op(letter), a, b),
+        b'=' | b'^' | b'<' | b'>' | b'e' | b'g' => compare(rt, alloc, rel(letter), a, b),
+        _ => call_two(rt, alloc, function_of_two(letter), a, b),
     }
 }
 
@@ -224,49 +229,49 @@ fn function_of_two(letter: u8) -> Function {
     }
 }
 
-fn chain(alloc: Global, op: ChainOp, a: TExpr, b: TExpr) -> Result<TExpr, AllocError> {
+fn chain<R: Abort>(rt: &R, alloc: Global, op: ChainOp, a: TExpr, b: TExpr) -> TExpr {
     let mut rest = Seq::new(alloc);
-    rest.push(TLink { op, a: b })?;
-    let first = Boxed::new(alloc, a)?;
-    Ok(TExpr::Chain { first, rest })
+    push(rt, &mut rest, TLink { op, a: b });
+    let first = Boxed::new(alloc, a).expect(rt, "memory");
+    TExpr::Chain { first, rest }
 }
 
-fn compare(alloc: Global, op: Rel, a: TExpr, b: TExpr) -> Result<TExpr, AllocError> {
-    let a = Boxed::new(alloc, a)?;
-    let b = Boxed::new(alloc, b)?;
-    Ok(TExpr::Compare { op, a, b })
+fn compare<R: Abort>(rt: &R, alloc: Global, op: Rel, a: TExpr, b: TExpr) -> TExpr {
+    let a = Boxed::new(alloc, a).expect(rt, "memory");
+    let b = Boxed::new(alloc, b).expect(rt, "memory");
+    TExpr::Compare { op, a, b }
 }
 
-fn call_two(alloc: Global, function: Function, a: TExpr, b: TExpr) -> Result<TExpr, AllocError> {
+fn call_two<R: Abort>(rt: &R, alloc: Global, function: Function, a: TExpr, b: TExpr) -> TExpr {
     let mut args = Seq::new(alloc);
-    args.push(a)?;
-    args.push(b)?;
-    Ok(TExpr::Call { function, args })
+    push(rt, &mut args, a);
+    push(rt, &mut args, b);
+    TExpr::Call { function, args }
 }
 
-fn of_three(alloc: Global, letter: u8, a: TExpr, b: TExpr, c: TExpr) -> Result<TExpr, AllocError> {
+fn of_three<R: Abort>(rt: &R, alloc: Global, letter: u8, a: TExpr, b: TExpr, c: TExpr) -> TExpr {
     if letter == b'?' {
-        choose(alloc, a, b, c)
+        choose(rt, alloc, a, b, c)
     } else {
-        part(alloc, a, b, c)
+        part(rt, alloc, a, b, c)
     }
 }
 
 /// `(cond ? yes : no)`.
-pub fn choose(alloc: Global, cond: TExpr, yes: TExpr, no: TExpr) -> Result<TExpr, AllocError> {
-    let cond = Boxed::new(alloc, cond)?;
-    let yes = Boxed::new(alloc, yes)?;
-    let no = Boxed::new(alloc, no)?;
-    Ok(TExpr::Choose { cond, yes, no })
+pub fn choose<R: Abort>(rt: &R, alloc: Global, cond: TExpr, yes: TExpr, no: TExpr) -> TExpr {
+    let cond = Boxed::new(alloc, cond).expect(rt, "memory");
+    let yes = Boxed::new(alloc, yes).expect(rt, "memory");
+    let no = Boxed::new(alloc, no).expect(rt, "memory");
+    TExpr::Choose { cond, yes, no }
 }
 
-fn part(alloc: Global, a: TExpr, b: TExpr, c: TExpr) -> Result<TExpr, AllocError> {
+fn part<R: Abort>(rt: &R, alloc: Global, a: TExpr, b: TExpr, c: TExpr) -> TExpr {
     let mut args = Seq::new(alloc);
-    args.push(a)?;
-    args.push(b)?;
-    args.push(c)?;
-    Ok(TExpr::Call {
+    push(rt, &mut args, a);
+    push(rt, &mut args, b);
+    push(rt, &mut args, c);
+    TExpr::Call {
         function: Function::Substring,
         args,
-    })
+    }
 }
