@@ -1,7 +1,7 @@
 //! Nested blocks and items: each kind of refusal at the sorts of places where it can stand in a FOREACH, and blocks that are typed.
-use crate::shared::third;
-use std::alloc::{AllocError, Global};
-use std::test::Fail;
+use crate::shared::{add, copied, third_is};
+use std::alloc::Global;
+use std::process::Abort;
 
 // A relation r, and f with a second field `c`; the FOREACH that is tried is the third statement.
 const BEFORE: &str =
@@ -51,41 +51,37 @@ SchemaMismatch: GENERATE FLATTEN(a) AS (x, y);\n\
 UnknownField: { y = a; GENERATE y, z; };";
 
 #[test]
-fn types_each_block(rt: HostRuntime) -> Result<(), Fail> {
-    let alloc = rt.alloc();
+fn types_each_block(rt: HostRuntime) {
     for row in BLOCKS.lines() {
         let (wanted, block) = row.split_once(": ").unwrap_or(("none", ""));
-        let mut script = String::from_str(alloc, BEFORE)?;
-        script.push_str(block)?;
-        let found = third(alloc, script.as_str())?;
-        assert_eq!(rt; found.as_str(), wanted, "{block}");
+        let mut script = copied(&rt, rt.alloc(), BEFORE);
+        add(&rt, &mut script, block);
+        assert!(rt;
+            third_is(&rt, rt.alloc(), script.as_str(), wanted),
+            "{block}"
+        );
     }
-    Ok(())
 }
 
 // So many steps that each take the one before, and so many items.
-fn large(alloc: Global, steps: usize, items: usize) -> Result<String, AllocError> {
-    let mut script = String::from_str(alloc, BEFORE)?;
-    script.push_str("{ y = a; ")?;
+fn large<R: Abort>(rt: &R, alloc: Global, steps: usize, items: usize) -> String {
+    let mut script = copied(rt, alloc, BEFORE);
+    add(rt, &mut script, "{ y = a; ");
     for _ in 1..steps {
-        script.push_str("y = y; ")?;
+        add(rt, &mut script, "y = y; ");
     }
-    script.push_str("GENERATE key")?;
+    add(rt, &mut script, "GENERATE key");
     for _ in 1..items {
-        script.push_str(", y")?;
+        add(rt, &mut script, ", y");
     }
-    script.push_str("; };")?;
-    Ok(script)
+    add(rt, &mut script, "; };");
+    script
 }
 
 #[test]
-fn types_large_blocks(rt: HostRuntime) -> Result<(), Fail> {
-    let alloc = rt.alloc();
-    let script = large(alloc, 64, 512)?;
-    let typed = third(alloc, script.as_str())?;
-    assert_eq!(rt; typed.as_str(), "fine");
-    let script = large(alloc, 1, 513)?;
-    let refused = third(alloc, script.as_str())?;
-    assert_eq!(rt; refused.as_str(), "TooWide");
-    Ok(())
+fn types_large_blocks(rt: HostRuntime) {
+    let typed = large(&rt, rt.alloc(), 64, 512);
+    assert!(rt; third_is(&rt, rt.alloc(), typed.as_str(), "fine"));
+    let refused = large(&rt, rt.alloc(), 1, 513);
+    assert!(rt; third_is(&rt, rt.alloc(), refused.as_str(), "TooWide"));
 }

@@ -1,7 +1,7 @@
 //! Operators over several relations: each kind of refusal of their inputs and keys, and many inputs.
-use crate::shared::third;
-use std::alloc::{AllocError, Global};
-use std::test::Fail;
+use crate::shared::{add, copied, third_is};
+use std::alloc::Global;
+use std::process::Abort;
 
 // Two relations of four fields; what is tried is the third statement.
 const BEFORE: &str =
@@ -32,41 +32,37 @@ Unsupported: GROUP a ALL USING 'collected';\n\
 Unsupported: UNION ONSCHEMA a, b;";
 
 #[test]
-fn types_each_operator(rt: HostRuntime) -> Result<(), Fail> {
-    let alloc = rt.alloc();
+fn types_each_operator(rt: HostRuntime) {
     for row in OPERATORS.lines() {
         let (wanted, operator) = row.split_once(": ").unwrap_or(("none", ""));
-        let mut script = String::from_str(alloc, BEFORE)?;
-        script.push_str(operator)?;
-        let found = third(alloc, script.as_str())?;
-        assert_eq!(rt; found.as_str(), wanted, "{operator}");
+        let mut script = copied(&rt, rt.alloc(), BEFORE);
+        add(&rt, &mut script, operator);
+        assert!(rt;
+            third_is(&rt, rt.alloc(), script.as_str(), wanted),
+            "{operator}"
+        );
     }
-    Ok(())
 }
 
 // A JOIN, or a UNION, of so many inputs.
-fn many(alloc: Global, first: &str, further: &str, inputs: usize) -> Result<String, AllocError> {
-    let mut script = String::from_str(alloc, BEFORE)?;
-    script.push_str(first)?;
+fn many<R: Abort>(rt: &R, alloc: Global, first: &str, further: &str, inputs: usize) -> String {
+    let mut script = copied(rt, alloc, BEFORE);
+    add(rt, &mut script, first);
     for _ in 1..inputs {
-        script.push_str(further)?;
+        add(rt, &mut script, further);
     }
-    script.push_str(";")?;
-    Ok(script)
+    add(rt, &mut script, ";");
+    script
 }
 
 // A JOIN of 128 inputs of four fields has as many fields as a row may have.
 #[test]
-fn types_many_inputs(rt: HostRuntime) -> Result<(), Fail> {
+fn types_many_inputs(rt: HostRuntime) {
     let alloc = rt.alloc();
-    let script = many(alloc, "JOIN a BY k", ", b BY l", 128)?;
-    let joined = third(alloc, script.as_str())?;
-    assert_eq!(rt; joined.as_str(), "fine");
-    let script = many(alloc, "JOIN a BY k", ", b BY l", 129)?;
-    let refused = third(alloc, script.as_str())?;
-    assert_eq!(rt; refused.as_str(), "TooWide");
-    let script = many(alloc, "UNION a", ", b", 1000)?;
-    let united = third(alloc, script.as_str())?;
-    assert_eq!(rt; united.as_str(), "fine");
-    Ok(())
+    let joined = many(&rt, alloc, "JOIN a BY k", ", b BY l", 128);
+    assert!(rt; third_is(&rt, alloc, joined.as_str(), "fine"));
+    let refused = many(&rt, alloc, "JOIN a BY k", ", b BY l", 129);
+    assert!(rt; third_is(&rt, alloc, refused.as_str(), "TooWide"));
+    let united = many(&rt, alloc, "UNION a", ", b", 1000);
+    assert!(rt; third_is(&rt, alloc, united.as_str(), "fine"));
 }

@@ -1,7 +1,7 @@
 //! Each kind of refusal, at the sorts of places where it can stand: the statement and the kind by hand, and scripts that have a plan.
-use crate::shared::{Answer, checked};
-use std::alloc::{AllocError, Global};
-use std::test::Fail;
+use crate::shared::{add, copied, told};
+use std::alloc::Global;
+use std::process::Abort;
 
 // A line for each script: the number of its statement and the kind that is due, or `fine`.
 const SCRIPTS: &str = "\
@@ -51,64 +51,45 @@ fine: a = LOAD 'o' AS (x:int); STORE a INTO '/o'; STORE a INTO 'op'; b = LOAD 'o
 fine: a = LOAD '/d/i.gzip' USING PigStorage() AS (x:int); STORE a INTO 'd/o' USING PigStorage('\\t');\n\
 fine: ;; a = LOAD 'i' AS (x:int);";
 
-// What is answered, as a line of the table begins.
-fn shown(alloc: Global, script: &str) -> Result<String, AllocError> {
-    let found = checked(alloc, script)?;
-    let shown = match &found {
-        Answer::Plan(_) => return String::from_str(alloc, "fine"),
-        Answer::Refused { statement, kind } => format!(in alloc; "{statement} {kind:?}"),
-        Answer::NoTree => return String::from_str(alloc, "no tree"),
-    };
-    match shown {
-        Ok(text) => Ok(text),
-        Err(_) => Err(AllocError),
-    }
-}
-
 #[test]
-fn names_the_first_statement_and_a_kind(rt: HostRuntime) -> Result<(), Fail> {
-    let alloc = rt.alloc();
+fn names_the_first_statement_and_a_kind(rt: HostRuntime) {
     for row in SCRIPTS.lines() {
         let (wanted, script) = row.split_once(": ").unwrap_or(("none", ""));
-        let found = shown(alloc, script)?;
+        let found = told(&rt, rt.alloc(), script);
         assert_eq!(rt; found.as_str(), wanted, "{script}");
     }
-    Ok(())
 }
 
 // A LOAD of so many columns.
-fn wide_load(alloc: Global, columns: usize) -> Result<String, AllocError> {
-    let mut script = String::from_str(alloc, "a = LOAD 'i' AS (x")?;
+fn wide_load<R: Abort>(rt: &R, alloc: Global, columns: usize) -> String {
+    let mut script = copied(rt, alloc, "a = LOAD 'i' AS (x");
     for _ in 1..columns {
-        script.push_str(", x")?;
+        add(rt, &mut script, ", x");
     }
-    script.push_str(");")?;
-    Ok(script)
+    add(rt, &mut script, ");");
+    script
 }
 
 // A tuple around the field, so many times.
-fn deep_tuple(alloc: Global, depth: usize) -> Result<String, AllocError> {
-    let mut script = String::from_str(alloc, "a = LOAD 'i' AS (x:int);")?;
+fn deep_tuple<R: Abort>(rt: &R, alloc: Global, depth: usize) -> String {
+    let mut script = copied(rt, alloc, "a = LOAD 'i' AS (x:int);");
     for _ in 0..depth {
-        script.push_str("a = FOREACH a GENERATE TOTUPLE($0);")?;
+        add(rt, &mut script, "a = FOREACH a GENERATE TOTUPLE($0);");
     }
-    Ok(script)
+    script
+}
+
+// Whether this is told of a script.
+fn tells<R: Abort>(rt: &R, alloc: Global, script: &String, wanted: &str) -> bool {
+    let found = told(rt, alloc, script.as_str());
+    found.as_str() == wanted
 }
 
 #[test]
-fn keeps_the_limits(rt: HostRuntime) -> Result<(), Fail> {
+fn keeps_the_limits(rt: HostRuntime) {
     let alloc = rt.alloc();
-    let script = wide_load(alloc, 512)?;
-    let found = shown(alloc, script.as_str())?;
-    assert_eq!(rt; found.as_str(), "fine");
-    let script = wide_load(alloc, 513)?;
-    let found = shown(alloc, script.as_str())?;
-    assert_eq!(rt; found.as_str(), "1 TooWide");
-    let script = deep_tuple(alloc, 63)?;
-    let found = shown(alloc, script.as_str())?;
-    assert_eq!(rt; found.as_str(), "fine");
-    let script = deep_tuple(alloc, 64)?;
-    let found = shown(alloc, script.as_str())?;
-    assert_eq!(rt; found.as_str(), "65 TooDeep");
-    Ok(())
+    assert!(rt; tells(&rt, alloc, &wide_load(&rt, alloc, 512), "fine"));
+    assert!(rt; tells(&rt, alloc, &wide_load(&rt, alloc, 513), "1 TooWide"));
+    assert!(rt; tells(&rt, alloc, &deep_tuple(&rt, alloc, 63), "fine"));
+    assert!(rt; tells(&rt, alloc, &deep_tuple(&rt, alloc, 64), "65 TooDeep"));
 }

@@ -1,7 +1,8 @@
 //! The plans of worked scripts, node by node.
-use crate::shared::{Answer, checked, node_shown};
-use std::alloc::{AllocError, Global};
-use std::test::Fail;
+use crate::shared::{Answer, add, checked, node_shown};
+use pig_plan::Plan;
+use std::alloc::Global;
+use std::process::Abort;
 
 // A script on each line that doesn't begin with `- `, and behind it its nodes: the number of the statement, and the operator.
 const PLANS: &str = "\
@@ -91,35 +92,35 @@ a = LOAD 'a' AS (k:int, v:int); b = LOAD 'b' AS (k:int, w:int); j = JOIN a BY k 
 - 4: Filter { input: 2, cond: Chain { first: Compare { op: Gt, a: Field(1), b: Int(1) }, rest: [TLink { op: And, a: Compare { op: Gt, a: Field(3), b: Int(2) } }] } }\n\
 - 5: Store { input: 3, path: 'o', delim: Delim { byte: 9 } }\n";
 
-// The script and the nodes of its plan, as the table has them.
-fn shown(alloc: Global, script: &str) -> Result<String, AllocError> {
-    let mut text = String::from_str(alloc, script)?;
-    text.push_str("\n")?;
-    match checked(alloc, script)? {
-        Answer::Plan(plan) => {
-            for node in plan.nodes().as_slice() {
-                text.push_str("- ")?;
-                text.push_str(node_shown(alloc, node)?.as_str())?;
-                text.push_str("\n")?;
-            }
-        }
-        _ => text.push_str("no plan\n")?,
+// Adds the script and the nodes of its plan, as the table has them.
+fn add_shown<R: Abort>(rt: &R, alloc: Global, text: &mut String, script: &str) {
+    add(rt, text, script);
+    add(rt, text, "\n");
+    match checked(rt, alloc, script) {
+        Answer::Plan(plan) => add_nodes(rt, alloc, text, &plan),
+        _ => add(rt, text, "no plan\n"),
     }
-    Ok(text)
+}
+
+fn add_nodes<R: Abort>(rt: &R, alloc: Global, text: &mut String, plan: &Plan) {
+    for node in plan.nodes().as_slice() {
+        let shown = node_shown(rt, alloc, node);
+        add(rt, text, "- ");
+        add(rt, text, shown.as_str());
+        add(rt, text, "\n");
+    }
 }
 
 #[test]
-fn gives_the_nodes_of_scripts(rt: HostRuntime) -> Result<(), Fail> {
-    let alloc = rt.alloc();
-    let mut found = String::new(alloc);
+fn gives_the_nodes_of_scripts(rt: HostRuntime) {
+    let mut found = String::new(rt.alloc());
     for line in PLANS.lines() {
         if !line.starts_with("- ") {
-            found.push_str(shown(alloc, line)?.as_str())?;
+            add_shown(&rt, rt.alloc(), &mut found, line);
         }
     }
     for (found, wanted) in found.lines().zip(PLANS.lines()) {
         assert_eq!(rt; found, wanted);
     }
     assert_eq!(rt; found.as_str(), PLANS);
-    Ok(())
 }

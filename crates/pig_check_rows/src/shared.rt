@@ -1,21 +1,33 @@
-//! The plan of a script's text, or why it has none; and trees as they are shown.
+//! The plan of a script's text, or why it has none; and trees as they are shown. Where memory is wanting the process ends:
+//! that drops nothing, so its proof is short.
 ghost use Rattle.std.specs.Prelude.{◌<◌, ◌^◌, IsTrue, length};
 ghost use Rattle.std.specs.List.{All};
 ghost use Rattle.pig_parser.specs.Parsing.{IsShallow};
 ghost use Rattle.pig_syntax.specs.Cutting.{IsWithin};
 
 use pig_check::{CheckFault, check};
-use pig_parser::{SyntaxFault, parse};
+use pig_parser::parse;
 use pig_plan::{Node, Plan};
 use pig_syntax::{Pieces, Tokens, cut, depth, lex, statements_lie_within};
 use pig_typing::CheckKind;
-use std::alloc::{AllocError, Global};
+use std::alloc::Global;
+use std::process::Abort;
 
 #[derive(Drop)]
 pub enum Answer {
     Plan(Plan),
     Refused { statement: u32, kind: CheckKind },
     NoTree,
+}
+
+/// A text of its own.
+pub fn copied<R: Abort>(rt: &R, alloc: Global, text: &str) -> String {
+    String::from_str(alloc, text).expect(rt, "memory")
+}
+
+/// Adds to a text.
+pub fn add<R: Abort>(rt: &R, into: &mut String, text: &str) {
+    into.push_str(text).expect(rt, "memory");
 }
 
 // Whether the brackets of no statement nest more than 64 deep.
@@ -32,67 +44,86 @@ fn shallow(tokens: &Tokens, pieces: &Pieces) -> bool
     true
 }
 
-pub fn checked(alloc: Global, script: &str) -> Result<Answer, AllocError> {
+pub fn checked<R: Abort>(rt: &R, alloc: Global, script: &str) -> Answer {
     statements_lie_within();
     let Ok(tokens) = lex(alloc, script.as_bytes()) else {
-        return Ok(Answer::NoTree);
+        return Answer::NoTree;
     };
-    let pieces = cut(alloc, &tokens)?;
+    let Ok(pieces) = cut(alloc, &tokens) else {
+        return Answer::NoTree;
+    };
     if tokens.len() >= 1 << 32 || !shallow(&tokens, &pieces) {
-        return Ok(Answer::NoTree);
+        return Answer::NoTree;
     }
     match parse(alloc, &tokens, &pieces) {
-        Ok(trees) => match check(alloc, &trees) {
-            Ok(plan) => Ok(Answer::Plan(plan)),
-            Err(CheckFault::Check { statement, kind }) => Ok(Answer::Refused { statement, kind }),
-            Err(CheckFault::OutOfMemory) => Err(AllocError),
-        },
-        Err(SyntaxFault::Syntax { .. }) => Ok(Answer::NoTree),
-        Err(SyntaxFault::OutOfMemory) => Err(AllocError),
+        Ok(trees) => judged(rt, check(alloc, &trees)),
+        Err(_) => Answer::NoTree,
     }
 }
 
-// What is answered of a script's third statement, where those before it are typed: `fine`, or a kind.
-pub fn third(alloc: Global, script: &str) -> Result<String, AllocError> {
-    match checked(alloc, script)? {
-        Answer::Plan(_) => String::from_str(alloc, "fine"),
-        Answer::Refused { statement: 3, kind } => format!(in alloc; "{kind:?}"),
-        _ => String::from_str(alloc, "another statement"),
+fn judged<R: Abort>(rt: &R, found: Result<Plan, CheckFault>) -> Answer {
+    match found {
+        Ok(plan) => Answer::Plan(plan),
+        Err(CheckFault::Check { statement, kind }) => Answer::Refused { statement, kind },
+        Err(CheckFault::OutOfMemory) => panic!(rt; "memory"),
     }
 }
 
-// The number of a node's statement, and its operator.
-pub fn node_shown(alloc: Global, node: &Node) -> Result<String, AllocError> {
-    let Ok(shown) = format!(in alloc; "{}: {:?}", node.statement, node.op) else {
-        return Err(AllocError);
-    };
-    plain(alloc, shown.as_str())
+/// What is answered, as `fine`, or as the number of a statement and a kind.
+pub fn told<R: Abort>(rt: &R, alloc: Global, script: &str) -> String {
+    match checked(rt, alloc, script) {
+        Answer::Plan(_) => copied(rt, alloc, "fine"),
+        Answer::Refused { statement, kind } => refused(rt, alloc, statement, kind),
+        Answer::NoTree => copied(rt, alloc, "no tree"),
+    }
+}
+
+fn refused<R: Abort>(rt: &R, alloc: Global, statement: u32, kind: CheckKind) -> String {
+    format!(in alloc; "{statement} {kind:?}").expect(rt, "memory")
+}
+
+/// Whether this is answered of a script's third statement, where those before it are typed: `fine`, or a kind.
+pub fn third_is<R: Abort>(rt: &R, alloc: Global, script: &str, wanted: &str) -> bool {
+    let found = told(rt, alloc, script);
+    found.as_str() == wanted || found.as_str().strip_prefix("3 ") == Some(wanted)
+}
+
+/// The number of a node's statement, and its operator.
+pub fn node_shown<R: Abort>(rt: &R, alloc: Global, node: &Node) -> String {
+    let (statement, op) = (node.statement, &node.op);
+    let shown = format!(in alloc; "{statement}: {op:?}").expect(rt, "memory");
+    plain(rt, alloc, shown.as_str())
+}
+
+// A mark for each name of this kind, whose brace is to go.
+fn replaced<R: Abort>(rt: &R, alloc: Global, shown: &str, name: &str) -> String {
+    shown.replace(alloc, name, "\u{1}").expect(rt, "memory")
 }
 
 // Shown trees without the names of lists, boxes and texts, and with `'` for `"`.
-fn plain(alloc: Global, shown: &str) -> Result<String, AllocError> {
-    let shown = shown.replace(alloc, "Seq { items: ", "\u{1}")?;
-    let shown = shown.replace(alloc, "Text { text: ", "\u{1}")?;
-    let shown = shown.replace(alloc, "Boxed { inner: ", "\u{1}")?;
+fn plain<R: Abort>(rt: &R, alloc: Global, shown: &str) -> String {
+    let shown = replaced(rt, alloc, shown, "Seq { items: ");
+    let shown = replaced(rt, alloc, shown.as_str(), "Text { text: ");
+    let shown = replaced(rt, alloc, shown.as_str(), "Boxed { inner: ");
     let mut hidden = Vec::new(alloc);
     let mut text = String::new(alloc);
     for c in shown.chars() {
         match c {
-            '\u{1}' => hidden.push(true)?,
+            '\u{1}' => hidden.push(true).expect(rt, "memory"),
             '{' => {
-                hidden.push(false)?;
-                text.push(c)?;
+                hidden.push(false).expect(rt, "memory");
+                text.push(c).expect(rt, "memory");
             }
             '}' => {
                 if hidden.pop() == Some(true) {
                     text.pop();
                 } else {
-                    text.push(c)?;
+                    text.push(c).expect(rt, "memory");
                 }
             }
-            '"' => text.push('\'')?,
-            _ => text.push(c)?,
+            '"' => text.push('\'').expect(rt, "memory"),
+            _ => text.push(c).expect(rt, "memory"),
         }
     }
-    Ok(text)
+    text
 }
