@@ -5,9 +5,9 @@ use crate::shared::{
     equal_fields, equal_long, field, locals, looked_equal, not, part, plain, to_float,
 };
 use pig_syntax::{Expr, FieldRef};
-use pig_typing::{Scope, TypeFault, TypedExpr, type_expr};
-use std::alloc::{AllocError, Global};
-use std::test::Fail;
+use pig_typing::{Scope, TypedExpr, type_expr};
+use std::alloc::Global;
+use std::process::Abort;
 
 // Each expression, and what it is typed as: the typed expression, the name that it keeps, its kind. The columns are
 // a:int, b:bytearray, s:chararray, n:long, m:map[], t:(x:int, y:chararray), g:{(r:long)}, p::k:int, q::k:int; the
@@ -39,72 +39,70 @@ NOT b => Not(Cast { to: Boolean, a: Field(1) }) None Boolean\n\
 (float) a => Refused(FloatType)\n\
 (b ? a : 5L) => Choose { cond: Cast { to: Boolean, a: Field(1) }, yes: Cast { to: Long, a: Field(0) }, no: Long(5) } None Long";
 
-fn expression(alloc: Global, row: usize) -> Result<Expr, AllocError> {
+fn expression<R: Abort>(rt: &R, alloc: Global, row: usize) -> Expr {
     match row {
-        0 => add(alloc, "a", Expr::Int(1)),
-        1 => add_fields(alloc, "b", "a"),
-        2 => add(alloc, "a", Expr::Long(5)),
-        3 => equal_long(alloc, "a", 5),
-        4 => equal_fields(alloc, "s", "a"),
-        5 => field(alloc, "k"),
-        6 => field(alloc, "p::k"),
-        7 => field(alloc, "zz"),
-        8 => Ok(Expr::Field(FieldRef::Position(9))),
-        9 => field(alloc, "n"),
-        10 => Ok(Expr::Field(FieldRef::Position(3))),
-        11 => looked_equal(alloc, "x"),
-        12 => part(alloc, "t", "y"),
-        _ => call_or_cast(alloc, row),
+        0 => add(rt, alloc, "a", Expr::Int(1)),
+        1 => add_fields(rt, alloc, "b", "a"),
+        2 => add(rt, alloc, "a", Expr::Long(5)),
+        3 => equal_long(rt, alloc, "a", 5),
+        4 => equal_fields(rt, alloc, "s", "a"),
+        5 => field(rt, alloc, "k"),
+        6 => field(rt, alloc, "p::k"),
+        7 => field(rt, alloc, "zz"),
+        8 => Expr::Field(FieldRef::Position(9)),
+        9 => field(rt, alloc, "n"),
+        10 => Expr::Field(FieldRef::Position(3)),
+        11 => looked_equal(rt, alloc, "x"),
+        12 => part(rt, alloc, "t", "y"),
+        _ => call_or_cast(rt, alloc, row),
     }
 }
 
-fn call_or_cast(alloc: Global, row: usize) -> Result<Expr, AllocError> {
+fn call_or_cast<R: Abort>(rt: &R, alloc: Global, row: usize) -> Expr {
     match row {
-        13 => call_part(alloc, "SUM", "g", "r"),
-        14 => call(alloc, "AVG", "a"),
-        15 => call_two(alloc, "NOPE", "a", "s"),
-        16 => call_two(alloc, "COUNT", "a", "b"),
-        17 => call(alloc, "COUNT", "a"),
-        18 => call_two(alloc, "CONCAT", "s", "b"),
-        19 => call_two(alloc, "TOBAG", "t", "t"),
-        20 => call_long(alloc, "TOBAG", "a", 5),
-        21 => not(alloc, "b"),
-        22 => cast_look(alloc),
-        23 => to_float(alloc, "a"),
-        _ => choose(alloc),
+        13 => call_part(rt, alloc, "SUM", "g", "r"),
+        14 => call(rt, alloc, "AVG", "a"),
+        15 => call_two(rt, alloc, "NOPE", "a", "s"),
+        16 => call_two(rt, alloc, "COUNT", "a", "b"),
+        17 => call(rt, alloc, "COUNT", "a"),
+        18 => call_two(rt, alloc, "CONCAT", "s", "b"),
+        19 => call_two(rt, alloc, "TOBAG", "t", "t"),
+        20 => call_long(rt, alloc, "TOBAG", "a", 5),
+        21 => not(rt, alloc, "b"),
+        22 => cast_look(rt, alloc),
+        23 => to_float(rt, alloc, "a"),
+        _ => choose(rt, alloc),
     }
 }
 
-fn shown_typing(alloc: Global, typed: &TypedExpr) -> Result<String, AllocError> {
+fn shown_typing<R: Abort>(rt: &R, alloc: Global, typed: &TypedExpr) -> String {
     let expr = &typed.expr;
     let name = &typed.column.name;
     let kind = &typed.column.kind;
-    let shown = format!(in alloc; "{expr:?} {name:?} {kind:?}")?;
-    plain(alloc, shown.as_str())
+    let shown = format!(in alloc; "{expr:?} {name:?} {kind:?}").expect(rt, "memory");
+    plain(rt, alloc, shown.as_str())
 }
 
-fn shown(alloc: Global, row: usize, scope: &Scope) -> Result<String, AllocError> {
-    let expr = expression(alloc, row)?;
+fn shown<R: Abort>(rt: &R, alloc: Global, row: usize, scope: &Scope) -> String {
+    let expr = expression(rt, alloc, row);
     match type_expr(alloc, &expr, scope) {
-        Ok(typed) => shown_typing(alloc, &typed),
-        Err(TypeFault::Refused(kind)) => format!(in alloc; "Refused({kind:?})"),
-        Err(TypeFault::OutOfMemory) => String::from_str(alloc, "no memory"),
+        Ok(typed) => shown_typing(rt, alloc, &typed),
+        Err(fault) => format!(in alloc; "{fault:?}").expect(rt, "memory"),
     }
 }
 
 #[test]
-fn types_each_form(rt: HostRuntime) -> Result<(), Fail> {
+fn types_each_form(rt: HostRuntime) {
     let alloc = rt.alloc();
-    let columns = columns(alloc)?;
-    let locals = locals(alloc)?;
+    let columns = columns(&rt, alloc);
+    let locals = locals(&rt, alloc);
     let scope = Scope {
         columns: &columns,
         locals: &locals,
     };
     for (number, row) in ROWS.lines().enumerate() {
         let (expr, wanted) = row.split_once(" => ").unwrap_or(("", "none"));
-        let found = shown(alloc, number, &scope)?;
+        let found = shown(&rt, alloc, number, &scope);
         assert_eq!(rt; found.as_str(), wanted, "{expr}");
     }
-    Ok(())
 }

@@ -1,11 +1,13 @@
 //! What no clause says of `type_items`: that items of each form are typed with ample memory, or refused with the kind
 //! that is due.
-use crate::shared::{columns, field, locals, plain, text};
+use crate::shared::{columns, field, locals, plain, push, text};
+use pig_schema::{Field, Schema};
 use pig_syntax::{AsNames, Expr, FieldTree, Item, Items, TypeTree};
-use pig_typing::{Generated, Scope, TypeFault, type_items};
+use pig_typed::BlockItem;
+use pig_typing::{Generated, Scope, type_items};
 use pig_value::{Seq, Text};
-use std::alloc::{AllocError, Global};
-use std::test::Fail;
+use std::alloc::Global;
+use std::process::Abort;
 
 // The item of each row, and what it is typed as: its value, whether it is flattened, its width, and the names and
 // kinds of the fields that it gives. The columns and the nested alias are those of the tests of expressions.
@@ -51,46 +53,55 @@ fn kind_of(word: Written) -> Option<TypeTree> {
     }
 }
 
-fn item(alloc: Global, row: usize) -> Result<Item, AllocError> {
+fn item<R: Abort>(rt: &R, alloc: Global, row: usize) -> Item {
     match row {
-        0 => bare(alloc, "a", false),
-        1 => bare(alloc, "n", false),
-        2 => named(alloc, "a", false, "x", Written::Bare),
-        3 => named(alloc, "a", false, "x", Written::Long),
-        4 => named(alloc, "a", false, "x", Written::Int),
-        5 => listed(alloc, "a", "x"),
+        0 => bare(rt, alloc, "a", false),
+        1 => bare(rt, alloc, "n", false),
+        2 => named(rt, alloc, "a", false, "x", Written::Bare),
+        3 => named(rt, alloc, "a", false, "x", Written::Long),
+        4 => named(rt, alloc, "a", false, "x", Written::Int),
+        5 => listed(rt, alloc, "a", "x"),
         6 => pair(
+            rt,
             alloc,
             "a",
             false,
             ("x", Written::Bare),
             ("y", Written::Bare),
         ),
-        7 => named(alloc, "a", false, "x", Written::Float),
-        8 => named(alloc, "m", false, "x", Written::Int),
-        9 => literal(alloc, "k"),
-        10 => bare(alloc, "t", true),
-        11 => bare(alloc, "g", true),
-        12 => bare(alloc, "n", true),
-        _ => flattened(alloc, row),
+        7 => named(rt, alloc, "a", false, "x", Written::Float),
+        8 => named(rt, alloc, "m", false, "x", Written::Int),
+        9 => literal(rt, alloc, "k"),
+        10 => bare(rt, alloc, "t", true),
+        11 => bare(rt, alloc, "g", true),
+        12 => bare(rt, alloc, "n", true),
+        _ => flattened(rt, alloc, row),
     }
 }
 
-fn flattened(alloc: Global, row: usize) -> Result<Item, AllocError> {
+fn flattened<R: Abort>(rt: &R, alloc: Global, row: usize) -> Item {
     match row {
-        13 => bare(alloc, "a", true),
-        14 => bare(alloc, "m", true),
+        13 => bare(rt, alloc, "a", true),
+        14 => bare(rt, alloc, "m", true),
         15 => pair(
+            rt,
             alloc,
             "t",
             true,
             ("p", Written::Bare),
             ("q", Written::Chararray),
         ),
-        16 => pair(alloc, "t", true, ("p", Written::Long), ("q", Written::Bare)),
-        17 => named(alloc, "t", true, "p", Written::Bare),
-        18 => named(alloc, "g", true, "p", Written::Bare),
-        _ => named(alloc, "zz", false, "x", Written::Bare),
+        16 => pair(
+            rt,
+            alloc,
+            "t",
+            true,
+            ("p", Written::Long),
+            ("q", Written::Bare),
+        ),
+        17 => named(rt, alloc, "t", true, "p", Written::Bare),
+        18 => named(rt, alloc, "g", true, "p", Written::Bare),
+        _ => named(rt, alloc, "zz", false, "x", Written::Bare),
     }
 }
 
@@ -102,122 +113,131 @@ fn value(value: Expr, flatten: bool, names: Option<AsNames>) -> Item {
     }
 }
 
-fn literal(alloc: Global, of: &str) -> Result<Item, AllocError> {
-    Ok(value(text(alloc, of)?, false, None))
+fn literal<R: Abort>(rt: &R, alloc: Global, of: &str) -> Item {
+    value(text(rt, alloc, of), false, None)
 }
 
-fn bare(alloc: Global, of: &str, flatten: bool) -> Result<Item, AllocError> {
-    Ok(value(field(alloc, of)?, flatten, None))
+fn bare<R: Abort>(rt: &R, alloc: Global, of: &str, flatten: bool) -> Item {
+    value(field(rt, alloc, of), flatten, None)
 }
 
-fn named(
+fn named<R: Abort>(
+    rt: &R,
     alloc: Global,
     of: &str,
     flatten: bool,
     name: &str,
     kind: Written,
-) -> Result<Item, AllocError> {
-    let names = AsNames::One(name_of(alloc, name, kind)?);
-    Ok(value(field(alloc, of)?, flatten, Some(names)))
+) -> Item {
+    let names = AsNames::One(name_of(rt, alloc, name, kind));
+    value(field(rt, alloc, of), flatten, Some(names))
 }
 
-fn listed(alloc: Global, of: &str, name: &str) -> Result<Item, AllocError> {
+fn listed<R: Abort>(rt: &R, alloc: Global, of: &str, name: &str) -> Item {
     let mut fields = Seq::new(alloc);
-    fields.push(name_of(alloc, name, Written::Bare)?)?;
-    let value_of = field(alloc, of)?;
-    Ok(value(value_of, false, Some(AsNames::Several(fields))))
+    push(rt, &mut fields, name_of(rt, alloc, name, Written::Bare));
+    let value_of = field(rt, alloc, of);
+    value(value_of, false, Some(AsNames::Several(fields)))
 }
 
-fn pair(
+fn pair<R: Abort>(
+    rt: &R,
     alloc: Global,
     of: &str,
     flatten: bool,
     first: (&str, Written),
     second: (&str, Written),
-) -> Result<Item, AllocError> {
+) -> Item {
     let mut fields = Seq::new(alloc);
-    fields.push(name_of(alloc, first.0, first.1)?)?;
-    fields.push(name_of(alloc, second.0, second.1)?)?;
-    let value_of = field(alloc, of)?;
-    Ok(value(value_of, flatten, Some(AsNames::Several(fields))))
+    push(rt, &mut fields, name_of(rt, alloc, first.0, first.1));
+    push(rt, &mut fields, name_of(rt, alloc, second.0, second.1));
+    let value_of = field(rt, alloc, of);
+    value(value_of, flatten, Some(AsNames::Several(fields)))
 }
 
-fn name_of(alloc: Global, name: &str, kind: Written) -> Result<FieldTree, AllocError> {
-    let name = Text::from_str(alloc, name)?;
+fn name_of<R: Abort>(rt: &R, alloc: Global, name: &str, kind: Written) -> FieldTree {
+    let name = Text::from_str(alloc, name).expect(rt, "memory");
     let kind = kind_of(kind);
-    Ok(FieldTree { name, kind })
+    FieldTree { name, kind }
 }
 
-fn shown_columns(alloc: Global, found: &Generated) -> Result<String, AllocError> {
+fn add_item<R: Abort>(rt: &R, alloc: Global, text: &mut String, item: &BlockItem) {
+    let value = &item.value;
+    let flatten = item.flatten;
+    let width = item.width;
+    let part = format!(in alloc; "{value:?} {flatten} {width}:").expect(rt, "memory");
+    text.push_str(part.as_str()).expect(rt, "memory");
+}
+
+fn add_column<R: Abort>(rt: &R, alloc: Global, text: &mut String, column: &Field) {
+    let name = &column.name;
+    let kind = &column.kind;
+    let part = format!(in alloc; " {name:?} {kind:?}").expect(rt, "memory");
+    text.push_str(part.as_str()).expect(rt, "memory");
+}
+
+fn shown_columns<R: Abort>(rt: &R, alloc: Global, found: &Generated) -> String {
     let mut text = String::new(alloc);
     for item in found.items.as_slice() {
-        let value = &item.value;
-        let flatten = item.flatten;
-        let width = item.width;
-        let part = format!(in alloc; "{value:?} {flatten} {width}:")?;
-        text.push_str(part.as_str())?;
+        add_item(rt, alloc, &mut text, item);
     }
     for column in found.columns.as_slice() {
-        let name = &column.name;
-        let kind = &column.kind;
-        let part = format!(in alloc; " {name:?} {kind:?}")?;
-        text.push_str(part.as_str())?;
+        add_column(rt, alloc, &mut text, column);
     }
-    plain(alloc, text.as_str())
+    plain(rt, alloc, text.as_str())
 }
 
-fn shown(alloc: Global, row: usize, scope: &Scope) -> Result<String, AllocError> {
+fn shown<R: Abort>(rt: &R, alloc: Global, row: usize, scope: &Scope) -> String {
     let mut items: Items = Seq::new(alloc);
-    items.push(item(alloc, row)?)?;
+    push(rt, &mut items, item(rt, alloc, row));
     match type_items(alloc, items.as_slice(), scope) {
-        Ok(found) => shown_columns(alloc, &found),
-        Err(TypeFault::Refused(kind)) => format!(in alloc; "Refused({kind:?})"),
-        Err(TypeFault::OutOfMemory) => String::from_str(alloc, "no memory"),
+        Ok(found) => shown_columns(rt, alloc, &found),
+        Err(fault) => format!(in alloc; "{fault:?}").expect(rt, "memory"),
     }
 }
 
 #[test]
-fn types_each_item(rt: HostRuntime) -> Result<(), Fail> {
+fn types_each_item(rt: HostRuntime) {
     let alloc = rt.alloc();
-    let columns = columns(alloc)?;
-    let locals = locals(alloc)?;
+    let columns = columns(&rt, alloc);
+    let locals = locals(&rt, alloc);
     let scope = Scope {
         columns: &columns,
         locals: &locals,
     };
     for (number, row) in ROWS.lines().enumerate() {
         let (item, wanted) = row.split_once(" => ").unwrap_or(("", "none"));
-        let found = shown(alloc, number, &scope)?;
+        let found = shown(&rt, alloc, number, &scope);
         assert_eq!(rt; found.as_str(), wanted, "{item}");
     }
-    Ok(())
+}
+
+// The names of columns, each with a space behind it.
+fn names<R: Abort>(rt: &R, alloc: Global, columns: &Schema) -> String {
+    let mut names = String::new(alloc);
+    for column in columns.as_slice() {
+        if let Some(name) = &column.name {
+            names.push_str(name.as_str()).expect(rt, "memory");
+            names.push_str(" ").expect(rt, "memory");
+        }
+    }
+    names
 }
 
 #[test]
-fn gives_all_fields(rt: HostRuntime) -> Result<(), Fail> {
+fn gives_all_fields(rt: HostRuntime) {
     let alloc = rt.alloc();
-    let columns = columns(alloc)?;
-    let locals = locals(alloc)?;
+    let columns = columns(&rt, alloc);
+    let locals = locals(&rt, alloc);
     let scope = Scope {
         columns: &columns,
         locals: &locals,
     };
     let mut items: Items = Seq::new(alloc);
-    items.push(Item::All)?;
-    items.push(bare(alloc, "s", false)?)?;
-    let found = type_items(alloc, items.as_slice(), &scope);
-    let mut widths: usize = 0;
-    let mut names = String::new(alloc);
-    if let Ok(found) = &found {
-        widths = found.items.len();
-        for column in found.columns.as_slice() {
-            if let Some(name) = &column.name {
-                names.push_str(name.as_str())?;
-                names.push_str(" ")?;
-            }
-        }
-    }
-    assert_eq!(rt; widths, 10);
+    push(&rt, &mut items, Item::All);
+    push(&rt, &mut items, bare(&rt, alloc, "s", false));
+    let found = type_items(alloc, items.as_slice(), &scope).expect(&rt, "the items");
+    assert!(rt; found.items.len() == 10);
+    let names = names(&rt, alloc, &found.columns);
     assert_eq!(rt; names.as_str(), "a b s n m t g p::k q::k s ");
-    Ok(())
 }

@@ -1,240 +1,250 @@
-//! Expressions, columns and nested aliases that the tests use, and trees as they are shown.
+//! Expressions, columns and nested aliases that the tests use, and trees as they are shown. Where memory is wanting the
+//! process ends: that drops nothing, so its proof is short.
 use pig_schema::{Field, Schema};
 use pig_syntax::{Expr, Exprs, FieldRef, Link, Links, PostStep, PostSteps, TypeTree};
 use pig_typing::{Local, Locals};
 use pig_value::{Boxed, ChainOp, Kind, Kinds, Rel, Seq, Text};
-use std::alloc::{AllocError, Global};
+use std::alloc::Global;
+use std::process::Abort;
 
-pub fn name(alloc: Global, name: &str) -> Result<FieldRef, AllocError> {
-    Ok(FieldRef::Name(Text::from_str(alloc, name)?))
+/// Adds to a list.
+pub fn push<R: Abort, T: Drop>(rt: &R, list: &mut Seq<T>, item: T) {
+    list.push(item).expect(rt, "memory");
 }
 
-pub fn field(alloc: Global, of: &str) -> Result<Expr, AllocError> {
-    Ok(Expr::Field(name(alloc, of)?))
+pub fn name<R: Abort>(rt: &R, alloc: Global, name: &str) -> FieldRef {
+    FieldRef::Name(Text::from_str(alloc, name).expect(rt, "memory"))
 }
 
-pub fn boxed(alloc: Global, of: &str) -> Result<Boxed<Expr>, AllocError> {
-    Boxed::new(alloc, field(alloc, of)?)
+pub fn field<R: Abort>(rt: &R, alloc: Global, of: &str) -> Expr {
+    Expr::Field(name(rt, alloc, of))
 }
 
-pub fn text(alloc: Global, text: &str) -> Result<Expr, AllocError> {
-    Ok(Expr::Text(Text::from_str(alloc, text)?))
+pub fn boxed<R: Abort>(rt: &R, alloc: Global, of: &str) -> Boxed<Expr> {
+    Boxed::new(alloc, field(rt, alloc, of)).expect(rt, "memory")
 }
 
-pub fn add(alloc: Global, a: &str, b: Expr) -> Result<Expr, AllocError> {
-    let rest = added(alloc, b)?;
-    let first = boxed(alloc, a)?;
-    Ok(Expr::Chain { first, rest })
+pub fn text<R: Abort>(rt: &R, alloc: Global, text: &str) -> Expr {
+    Expr::Text(Text::from_str(alloc, text).expect(rt, "memory"))
 }
 
-fn added(alloc: Global, a: Expr) -> Result<Links, AllocError> {
+pub fn add<R: Abort>(rt: &R, alloc: Global, a: &str, b: Expr) -> Expr {
+    let rest = added(rt, alloc, b);
+    let first = boxed(rt, alloc, a);
+    Expr::Chain { first, rest }
+}
+
+fn added<R: Abort>(rt: &R, alloc: Global, a: Expr) -> Links {
     let mut links = Seq::new(alloc);
-    links.push(Link {
-        op: ChainOp::Add,
-        a,
-    })?;
-    Ok(links)
+    let op = ChainOp::Add;
+    push(rt, &mut links, Link { op, a });
+    links
 }
 
-pub fn add_fields(alloc: Global, a: &str, b: &str) -> Result<Expr, AllocError> {
-    add(alloc, a, field(alloc, b)?)
+pub fn add_fields<R: Abort>(rt: &R, alloc: Global, a: &str, b: &str) -> Expr {
+    add(rt, alloc, a, field(rt, alloc, b))
 }
 
-pub fn equal(alloc: Global, a: Boxed<Expr>, b: Expr) -> Result<Expr, AllocError> {
-    let b = Boxed::new(alloc, b)?;
-    Ok(Expr::Compare { op: Rel::Eq, a, b })
+pub fn equal<R: Abort>(rt: &R, alloc: Global, a: Boxed<Expr>, b: Expr) -> Expr {
+    let b = Boxed::new(alloc, b).expect(rt, "memory");
+    Expr::Compare { op: Rel::Eq, a, b }
 }
 
-pub fn equal_long(alloc: Global, a: &str, b: i64) -> Result<Expr, AllocError> {
-    equal(alloc, boxed(alloc, a)?, Expr::Long(b))
+pub fn equal_long<R: Abort>(rt: &R, alloc: Global, a: &str, b: i64) -> Expr {
+    equal(rt, alloc, boxed(rt, alloc, a), Expr::Long(b))
 }
 
-pub fn equal_fields(alloc: Global, a: &str, b: &str) -> Result<Expr, AllocError> {
-    let a = boxed(alloc, a)?;
-    equal(alloc, a, field(alloc, b)?)
+pub fn equal_fields<R: Abort>(rt: &R, alloc: Global, a: &str, b: &str) -> Expr {
+    let a = boxed(rt, alloc, a);
+    equal(rt, alloc, a, field(rt, alloc, b))
 }
 
-pub fn looked_equal(alloc: Global, b: &str) -> Result<Expr, AllocError> {
-    let a = Boxed::new(alloc, look(alloc)?)?;
-    equal(alloc, a, text(alloc, b)?)
+pub fn looked_equal<R: Abort>(rt: &R, alloc: Global, b: &str) -> Expr {
+    let a = Boxed::new(alloc, look(rt, alloc)).expect(rt, "memory");
+    equal(rt, alloc, a, text(rt, alloc, b))
 }
 
-pub fn not(alloc: Global, a: &str) -> Result<Expr, AllocError> {
-    Ok(Expr::Not(boxed(alloc, a)?))
+pub fn not<R: Abort>(rt: &R, alloc: Global, a: &str) -> Expr {
+    Expr::Not(boxed(rt, alloc, a))
 }
 
-pub fn cast_look(alloc: Global) -> Result<Expr, AllocError> {
-    let a = Boxed::new(alloc, look(alloc)?)?;
+pub fn cast_look<R: Abort>(rt: &R, alloc: Global) -> Expr {
+    let a = Boxed::new(alloc, look(rt, alloc)).expect(rt, "memory");
     let to = TypeTree::Int;
-    Ok(Expr::Cast { to, a })
+    Expr::Cast { to, a }
 }
 
-pub fn to_float(alloc: Global, a: &str) -> Result<Expr, AllocError> {
-    let a = boxed(alloc, a)?;
+pub fn to_float<R: Abort>(rt: &R, alloc: Global, a: &str) -> Expr {
+    let a = boxed(rt, alloc, a);
     let to = TypeTree::Float;
-    Ok(Expr::Cast { to, a })
+    Expr::Cast { to, a }
 }
 
-pub fn choose(alloc: Global) -> Result<Expr, AllocError> {
-    let cond = boxed(alloc, "b")?;
-    let yes = boxed(alloc, "a")?;
-    let no = Boxed::new(alloc, Expr::Long(5))?;
-    Ok(Expr::Choose { cond, yes, no })
+pub fn choose<R: Abort>(rt: &R, alloc: Global) -> Expr {
+    let cond = boxed(rt, alloc, "b");
+    let yes = boxed(rt, alloc, "a");
+    let no = Boxed::new(alloc, Expr::Long(5)).expect(rt, "memory");
+    Expr::Choose { cond, yes, no }
 }
 
-fn behind(alloc: Global, a: &str, step: PostStep) -> Result<Expr, AllocError> {
-    let steps = only_step(alloc, step)?;
-    let a = boxed(alloc, a)?;
-    Ok(Expr::Post { a, steps })
+fn behind<R: Abort>(rt: &R, alloc: Global, a: &str, step: PostStep) -> Expr {
+    let steps = only_step(rt, alloc, step);
+    let a = boxed(rt, alloc, a);
+    Expr::Post { a, steps }
 }
 
-fn only_step(alloc: Global, step: PostStep) -> Result<PostSteps, AllocError> {
+fn only_step<R: Abort>(rt: &R, alloc: Global, step: PostStep) -> PostSteps {
     let mut steps = Seq::new(alloc);
-    steps.push(step)?;
-    Ok(steps)
+    push(rt, &mut steps, step);
+    steps
 }
 
-pub fn look(alloc: Global) -> Result<Expr, AllocError> {
-    let key = Text::from_str(alloc, "c")?;
-    behind(alloc, "m", PostStep::Look(key))
+pub fn look<R: Abort>(rt: &R, alloc: Global) -> Expr {
+    let key = Text::from_str(alloc, "c").expect(rt, "memory");
+    behind(rt, alloc, "m", PostStep::Look(key))
 }
 
-pub fn part(alloc: Global, of: &str, part: &str) -> Result<Expr, AllocError> {
+pub fn part<R: Abort>(rt: &R, alloc: Global, of: &str, part: &str) -> Expr {
     let mut fields = Seq::new(alloc);
-    fields.push(name(alloc, part)?)?;
+    push(rt, &mut fields, name(rt, alloc, part));
     let step = PostStep::Project {
         fields,
         single: true,
     };
-    behind(alloc, of, step)
+    behind(rt, alloc, of, step)
 }
 
-pub fn call(alloc: Global, function: &str, a: &str) -> Result<Expr, AllocError> {
-    call_on(alloc, function, field(alloc, a)?)
+pub fn call<R: Abort>(rt: &R, alloc: Global, function: &str, a: &str) -> Expr {
+    call_on(rt, alloc, function, field(rt, alloc, a))
 }
 
-pub fn call_part(alloc: Global, function: &str, of: &str, inner: &str) -> Result<Expr, AllocError> {
-    call_on(alloc, function, part(alloc, of, inner)?)
+pub fn call_part<R: Abort>(rt: &R, alloc: Global, function: &str, of: &str, inner: &str) -> Expr {
+    call_on(rt, alloc, function, part(rt, alloc, of, inner))
 }
 
-fn call_on(alloc: Global, function: &str, a: Expr) -> Result<Expr, AllocError> {
+fn call_on<R: Abort>(rt: &R, alloc: Global, function: &str, a: Expr) -> Expr {
     let mut args = Seq::new(alloc);
-    args.push(a)?;
-    called(alloc, function, args)
+    push(rt, &mut args, a);
+    called(rt, alloc, function, args)
 }
 
-pub fn call_two(alloc: Global, function: &str, a: &str, b: &str) -> Result<Expr, AllocError> {
+pub fn call_two<R: Abort>(rt: &R, alloc: Global, function: &str, a: &str, b: &str) -> Expr {
     let mut args = Seq::new(alloc);
-    args.push(field(alloc, a)?)?;
-    args.push(field(alloc, b)?)?;
-    called(alloc, function, args)
+    push(rt, &mut args, field(rt, alloc, a));
+    push(rt, &mut args, field(rt, alloc, b));
+    called(rt, alloc, function, args)
 }
 
-pub fn call_long(alloc: Global, function: &str, a: &str, b: i64) -> Result<Expr, AllocError> {
+pub fn call_long<R: Abort>(rt: &R, alloc: Global, function: &str, a: &str, b: i64) -> Expr {
     let mut args = Seq::new(alloc);
-    args.push(field(alloc, a)?)?;
-    args.push(Expr::Long(b))?;
-    called(alloc, function, args)
+    push(rt, &mut args, field(rt, alloc, a));
+    push(rt, &mut args, Expr::Long(b));
+    called(rt, alloc, function, args)
 }
 
-fn called(alloc: Global, function: &str, args: Exprs) -> Result<Expr, AllocError> {
-    let name = Text::from_str(alloc, function)?;
-    Ok(Expr::Call { name, args })
+fn called<R: Abort>(rt: &R, alloc: Global, function: &str, args: Exprs) -> Expr {
+    let name = Text::from_str(alloc, function).expect(rt, "memory");
+    Expr::Call { name, args }
 }
 
 // ---- the scope
 
-pub fn column(alloc: Global, name: &str, kind: Kind, inner: Schema) -> Result<Field, AllocError> {
-    let name = Some(Text::from_str(alloc, name)?);
-    Ok(Field { name, kind, inner })
+pub fn column<R: Abort>(rt: &R, alloc: Global, name: &str, kind: Kind, inner: Schema) -> Field {
+    let name = Some(Text::from_str(alloc, name).expect(rt, "memory"));
+    Field { name, kind, inner }
 }
 
-pub fn scalar(alloc: Global, name: &str, kind: Kind) -> Result<Field, AllocError> {
-    column(alloc, name, kind, Seq::new(alloc))
+pub fn scalar<R: Abort>(rt: &R, alloc: Global, name: &str, kind: Kind) -> Field {
+    column(rt, alloc, name, kind, Seq::new(alloc))
 }
 
-pub fn one(alloc: Global, name: &str, kind: Kind) -> Result<Schema, AllocError> {
+pub fn one<R: Abort>(rt: &R, alloc: Global, name: &str, kind: Kind) -> Schema {
     let mut fields = Seq::new(alloc);
-    fields.push(scalar(alloc, name, kind)?)?;
-    Ok(fields)
+    push(rt, &mut fields, scalar(rt, alloc, name, kind));
+    fields
 }
 
-pub fn one_kind(alloc: Global, kind: Kind) -> Result<Kinds, AllocError> {
+pub fn one_kind<R: Abort>(rt: &R, alloc: Global, kind: Kind) -> Kinds {
     let mut kinds = Seq::new(alloc);
-    kinds.push(kind)?;
-    Ok(kinds)
+    push(rt, &mut kinds, kind);
+    kinds
 }
 
-pub fn tuple(alloc: Global) -> Result<Field, AllocError> {
-    let mut inner = one(alloc, "x", Kind::Int)?;
-    inner.push(scalar(alloc, "y", Kind::Chararray)?)?;
-    let mut kinds = one_kind(alloc, Kind::Int)?;
-    kinds.push(Kind::Chararray)?;
-    column(alloc, "t", Kind::Tuple(kinds), inner)
+pub fn tuple<R: Abort>(rt: &R, alloc: Global) -> Field {
+    let mut inner = one(rt, alloc, "x", Kind::Int);
+    push(rt, &mut inner, scalar(rt, alloc, "y", Kind::Chararray));
+    let mut kinds = one_kind(rt, alloc, Kind::Int);
+    push(rt, &mut kinds, Kind::Chararray);
+    column(rt, alloc, "t", Kind::Tuple(kinds), inner)
 }
 
-pub fn bag(alloc: Global, name: &str, part: &str, kind: Kind) -> Result<Field, AllocError> {
+pub fn bag<R: Abort>(rt: &R, alloc: Global, name: &str, part: &str, kind: Kind) -> Field {
     let kinds = match kind {
-        Kind::Long => one_kind(alloc, Kind::Long)?,
-        _ => one_kind(alloc, Kind::Int)?,
+        Kind::Long => one_kind(rt, alloc, Kind::Long),
+        _ => one_kind(rt, alloc, Kind::Int),
     };
-    let inner = one(alloc, part, kind)?;
-    column(alloc, name, Kind::Bag(kinds), inner)
+    let inner = one(rt, alloc, part, kind);
+    column(rt, alloc, name, Kind::Bag(kinds), inner)
 }
 
-pub fn map(alloc: Global) -> Result<Field, AllocError> {
-    let kind = Kind::Map(Boxed::new(alloc, Kind::Bytearray)?);
-    scalar(alloc, "m", kind)
+pub fn map<R: Abort>(rt: &R, alloc: Global) -> Field {
+    let kind = Kind::Map(Boxed::new(alloc, Kind::Bytearray).expect(rt, "memory"));
+    scalar(rt, alloc, "m", kind)
 }
 
-pub fn columns(alloc: Global) -> Result<Schema, AllocError> {
+pub fn columns<R: Abort>(rt: &R, alloc: Global) -> Schema {
     let mut columns = Seq::new(alloc);
-    columns.push(scalar(alloc, "a", Kind::Int)?)?;
-    columns.push(scalar(alloc, "b", Kind::Bytearray)?)?;
-    columns.push(scalar(alloc, "s", Kind::Chararray)?)?;
-    columns.push(scalar(alloc, "n", Kind::Long)?)?;
-    columns.push(map(alloc)?)?;
-    columns.push(tuple(alloc)?)?;
-    columns.push(bag(alloc, "g", "r", Kind::Long)?)?;
-    columns.push(scalar(alloc, "p::k", Kind::Int)?)?;
-    columns.push(scalar(alloc, "q::k", Kind::Int)?)?;
-    Ok(columns)
+    push(rt, &mut columns, scalar(rt, alloc, "a", Kind::Int));
+    push(rt, &mut columns, scalar(rt, alloc, "b", Kind::Bytearray));
+    push(rt, &mut columns, scalar(rt, alloc, "s", Kind::Chararray));
+    push(rt, &mut columns, scalar(rt, alloc, "n", Kind::Long));
+    push(rt, &mut columns, map(rt, alloc));
+    push(rt, &mut columns, tuple(rt, alloc));
+    push(rt, &mut columns, bag(rt, alloc, "g", "r", Kind::Long));
+    push(rt, &mut columns, scalar(rt, alloc, "p::k", Kind::Int));
+    push(rt, &mut columns, scalar(rt, alloc, "q::k", Kind::Int));
+    columns
 }
 
-pub fn locals(alloc: Global) -> Result<Locals, AllocError> {
-    let alias = Text::from_str(alloc, "n")?;
-    let column = bag(alloc, "g", "z", Kind::Int)?;
+pub fn locals<R: Abort>(rt: &R, alloc: Global) -> Locals {
+    let alias = Text::from_str(alloc, "n").expect(rt, "memory");
+    let column = bag(rt, alloc, "g", "z", Kind::Int);
     let mut locals = Seq::new(alloc);
-    locals.push(Local { alias, column })?;
-    Ok(locals)
+    push(rt, &mut locals, Local { alias, column });
+    locals
 }
 
 // ---- what is shown
 
+// A mark for each name of this kind, whose brace is to go.
+fn replaced<R: Abort>(rt: &R, alloc: Global, shown: &str, name: &str) -> String {
+    shown.replace(alloc, name, "\u{1}").expect(rt, "memory")
+}
+
 // Shown trees without the names of lists, boxes and texts, and with `'` for `"`.
-pub fn plain(alloc: Global, shown: &str) -> Result<String, AllocError> {
-    let shown = shown.replace(alloc, "Seq { items: ", "\u{1}")?;
-    let shown = shown.replace(alloc, "Text { text: ", "\u{1}")?;
-    let shown = shown.replace(alloc, "Boxed { inner: ", "\u{1}")?;
+pub fn plain<R: Abort>(rt: &R, alloc: Global, shown: &str) -> String {
+    let shown = replaced(rt, alloc, shown, "Seq { items: ");
+    let shown = replaced(rt, alloc, shown.as_str(), "Text { text: ");
+    let shown = replaced(rt, alloc, shown.as_str(), "Boxed { inner: ");
     let mut hidden = Vec::new(alloc);
     let mut text = String::new(alloc);
     for c in shown.chars() {
         match c {
-            '\u{1}' => hidden.push(true)?,
+            '\u{1}' => hidden.push(true).expect(rt, "memory"),
             '{' => {
-                hidden.push(false)?;
-                text.push(c)?;
+                hidden.push(false).expect(rt, "memory");
+                text.push(c).expect(rt, "memory");
             }
             '}' => {
                 if hidden.pop() == Some(true) {
                     text.pop();
                 } else {
-                    text.push(c)?;
+                    text.push(c).expect(rt, "memory");
                 }
             }
-            '"' => text.push('\'')?,
-            _ => text.push(c)?,
+            '"' => text.push('\'').expect(rt, "memory"),
+            _ => text.push(c).expect(rt, "memory"),
         }
     }
-    Ok(text)
+    text
 }
