@@ -1,35 +1,37 @@
 // A run over real files.
+use crate::setting::words_of;
 use pig_files::{FileDepot, FileHost, StdConsole};
 use pig_run::pig_main;
-use pig_value::{Text, Words};
 use std::fs;
-use std::test::Fail;
+use std::process::Abort;
+use std::rt::Files;
+
+/// Whether a file holds just this text.
+fn holds<R: Abort + Files + AllocGlobal>(rt: &R, path: &str, text: &str) -> bool {
+    let held = fs::read_to_string(rt, path).expect(rt, "the file");
+    held.as_str() == text
+}
 
 #[test]
-fn a_run_over_files_stores_its_lines(rt: HostRuntime) -> Result<(), Fail> {
+fn a_run_over_files_stores_its_lines(rt: HostRuntime) {
     let alloc = rt.alloc();
     let script =
         "a = LOAD 'p' AS (k:int, v:chararray);\nb = FILTER a BY k > 4;\nSTORE b INTO 'q';\n";
-    fs::write(&rt, "s", script)?;
-    fs::write(&rt, "p", "1\tx\n5\ty\n\tz\n7\n")?;
-    let mut words = Words::new(alloc);
-    for word in ["run", "s"] {
-        words.push(Text::from_str(alloc, word)?)?;
-    }
-    let mut depot = FileDepot::new(rt.clone()?, alloc);
+    fs::write(&rt, "s", script).expect(&rt, "the file");
+    fs::write(&rt, "p", "1\tx\n5\ty\n\tz\n7\n").expect(&rt, "the file");
+    let words = words_of(&rt, alloc, &["run", "s"]);
+    let mut depot = FileDepot::new(rt.clone().expect(&rt, "a handle"), alloc);
     let mut hosts = Vec::new(alloc);
-    hosts.push(FileHost::new(rt.clone()?, alloc))?;
-    let mut console = StdConsole::new(rt.clone()?);
+    let host = FileHost::new(rt.clone().expect(&rt, "a handle"), alloc);
+    hosts.push(host).expect(&rt, "memory");
+    let mut console = StdConsole::new(rt.clone().expect(&rt, "a handle"));
     let done = pig_main(&rt, alloc, &words, &mut depot, &mut hosts, &mut console);
     assert_eq!(rt; done.status, 0);
-    assert_eq!(rt;
-        fs::read_to_string(&rt, "q/part-00000")?.as_str(),
-        "5\ty\n7\t\n"
-    );
-    assert_eq!(rt; fs::read_to_string(&rt, "q/_SUCCESS")?.as_str(), "");
+    assert!(rt; holds(&rt, "q/part-00000", "5\ty\n7\t\n"));
+    assert!(rt; holds(&rt, "q/_SUCCESS", ""));
     let mut hosts = Vec::new(alloc);
-    hosts.push(FileHost::new(rt.clone()?, alloc))?;
+    let host = FileHost::new(rt.clone().expect(&rt, "a handle"), alloc);
+    hosts.push(host).expect(&rt, "memory");
     let again = pig_main(&rt, alloc, &words, &mut depot, &mut hosts, &mut console);
     assert_eq!(rt; again.status, 5);
-    Ok(())
 }

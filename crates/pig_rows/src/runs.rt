@@ -1,19 +1,13 @@
 // Scripts that run, over memory.
 use crate::setting::told;
-use std::alloc::{AllocError, Global};
-use std::test::Fail;
+use std::alloc::Global;
+use std::process::Abort;
 use std::thread::Threads;
 
 const RUN: [&str; 2] = ["run", "s"];
 
 /// What a script answers and leaves over an input.
-fn of<R: Threads + Sync>(
-    rt: &R,
-    alloc: Global,
-    script: &str,
-    a: &str,
-    b: &str,
-) -> Result<String, AllocError> {
+fn of<R: Threads + Sync + Abort>(rt: &R, alloc: Global, script: &str, a: &str, b: &str) -> String {
     told(rt, alloc, &RUN, script, a, b, None)
 }
 
@@ -25,13 +19,12 @@ o = ORDER c BY n DESC, word;
 STORE o INTO 'p';";
 
 #[test]
-fn counts_words(rt: HostRuntime) -> Result<(), Fail> {
+fn counts_words(rt: HostRuntime) {
     let input = "the cat\nthe dog, the end\ncat\n";
-    let got = of(&rt, rt.alloc(), WORD_COUNT, input, "")?;
+    let got = of(&rt, rt.alloc(), WORD_COUNT, input, "");
     let want =
         "0 kept 0\nstored p 4\ndone 3 0 4\np whole\nthe\t3\ncat\t2\ndog\t1\nend\t1\n\nq none\n";
     assert_eq!(rt; got.as_str(), want);
-    Ok(())
 }
 
 const BARE_LIMIT: &str = "a = LOAD 'a' AS (x:int);
@@ -40,11 +33,10 @@ STORE l INTO 'p';
 STORE l INTO 'q';";
 
 #[test]
-fn keeps_the_same_rows_for_both(rt: HostRuntime) -> Result<(), Fail> {
-    let got = of(&rt, rt.alloc(), BARE_LIMIT, "1\n2\n3\n", "")?;
+fn keeps_the_same_rows_for_both(rt: HostRuntime) {
+    let got = of(&rt, rt.alloc(), BARE_LIMIT, "1\n2\n3\n", "");
     let want = "0 kept 1\nstored p 2\nstored q 2\ndone 3 0 4\np whole\n1\n2\n\nq whole\n1\n2\n\n";
     assert_eq!(rt; got.as_str(), want);
-    Ok(())
 }
 
 const NULL_KEYS: &str = "a = LOAD 'a' AS (k:int, v:chararray);
@@ -55,14 +47,13 @@ STORE g INTO 'p';
 STORE j INTO 'q';";
 
 #[test]
-fn null_keys_stand_apart(rt: HostRuntime) -> Result<(), Fail> {
+fn null_keys_stand_apart(rt: HostRuntime) {
     let (a, b) = ("1\tx\n\ty\n\tz\n", "1\tp\n\tq\n");
-    let got = of(&rt, rt.alloc(), NULL_KEYS, a, b)?;
+    let got = of(&rt, rt.alloc(), NULL_KEYS, a, b);
     let want = "0 kept 0\nstored p 3\nstored q 4\ndone 10 0 7\np whole\n\
         1\t{(1,x)}\t{(1,p)}\n\t{(,y),(,z)}\t{}\n\t{}\t{(,q)}\n\nq whole\n\
         1\tx\t1\tp\n\ty\t\t\n\tz\t\t\n\t\t\tq\n\n";
     assert_eq!(rt; is_same(got.as_str(), want), true, "{got}");
-    Ok(())
 }
 
 /// Whether texts of one length have the same lines, where no line stands twice but the empty one.
@@ -230,26 +221,24 @@ fn later_case(number: u32) -> Option<Case> {
 
 /// Each worked row, its lines in any order.
 #[test]
-fn worked_rows_store_their_lines(rt: HostRuntime) -> Result<(), Fail> {
+fn worked_rows_store_their_lines(rt: HostRuntime) {
     for number in 0..16 {
         let (script, a, b, want) = case(number).unwrap_or(("", "", "", ""));
-        let got = of(&rt, rt.alloc(), script, a, b)?;
+        let got = of(&rt, rt.alloc(), script, a, b);
         assert_eq!(rt; is_same(got.as_str(), want), true, "at {number}: {got}");
     }
-    Ok(())
 }
 
 /// Rows behind an ORDER, in order.
 #[test]
-fn ordered_rows_are_lists(rt: HostRuntime) -> Result<(), Fail> {
+fn ordered_rows_are_lists(rt: HostRuntime) {
     let script = "a = LOAD 'a' AS (k:int, v:chararray); o = ORDER a BY k DESC; STORE o INTO 'p';";
-    let got = of(&rt, rt.alloc(), script, "2\ta\n\tb\n3\tc\n2\tA\n", "")?;
+    let got = of(&rt, rt.alloc(), script, "2\ta\n\tb\n3\tc\n2\tA\n", "");
     let want = "0 kept 0\nstored p 4\ndone 4 0 4\np whole\n3\tc\n2\tA\n2\ta\n\tb\n\nq none\n";
     assert_eq!(rt; got.as_str(), want);
     let script = "x = LOAD 'a' AS (x:int); y = LOAD 'b' AS (x:long); u = UNION x, y;
         o = ORDER u BY x; STORE o INTO 'p';";
-    let got = of(&rt, rt.alloc(), script, "1\n", "2147483648\n")?;
+    let got = of(&rt, rt.alloc(), script, "1\n", "2147483648\n");
     let want = "0 kept 0\nstored p 2\ndone 2 0 2\np whole\n1\n2147483648\n\nq none\n";
     assert_eq!(rt; got.as_str(), want);
-    Ok(())
 }

@@ -1,21 +1,22 @@
 //! Commands by hand, and words that are none.
 use pig_value::{Text, WordFault, Words};
 use pig_words::read_words;
-use std::alloc::{AllocError, Global};
-use std::test::Fail;
+use std::alloc::Global;
+use std::process::Abort;
 
 // The words of a line, with one space between each two.
-fn words(alloc: Global, line: &str) -> Result<Words, AllocError> {
+fn words<R: Abort>(rt: &R, alloc: Global, line: &str) -> Words {
     let mut words = Words::new(alloc);
     for word in line.split(' ') {
-        words.push(Text::from_str(alloc, word)?)?;
+        let text = Text::from_str(alloc, word).expect(rt, "memory");
+        words.push(text).expect(rt, "memory");
     }
-    Ok(words)
+    words
 }
 
 // The command's verb, operand, workers, reducers and split, or the fault.
-fn shown(alloc: Global, words: &Words, hosts: u32) -> Result<String, AllocError> {
-    match read_words(alloc, words, hosts.clamp(1, 256)) {
+fn shown<R: Abort>(rt: &R, alloc: Global, words: &Words, hosts: u32) -> String {
+    let shown = match read_words(alloc, words, hosts.clamp(1, 256)) {
         Ok(command) => {
             let verb = command.verb;
             let operand = command.operand.as_str();
@@ -24,7 +25,8 @@ fn shown(alloc: Global, words: &Words, hosts: u32) -> Result<String, AllocError>
         }
         Err(WordFault::Usage) => String::from_str(alloc, "usage"),
         Err(WordFault::OutOfMemory) => String::from_str(alloc, "out of memory"),
-    }
+    };
+    shown.expect(rt, "memory")
 }
 
 // Each line: the number of hosts, the words, and what they are.
@@ -157,29 +159,28 @@ const COUNTS: &str = "\
 ";
 
 // The first line of a table that is answered otherwise; nothing where there is none.
-fn first_wrong(alloc: Global, table: &str) -> Result<&str, AllocError> {
+fn first_wrong<'t, R: Abort>(rt: &R, alloc: Global, table: &'t str) -> &'t str {
     for case in table.lines() {
         let mut parts = case.split('|');
         let (Some(hosts), Some(line), Some(wanted)) = (parts.next(), parts.next(), parts.next())
         else {
-            return Ok(case);
+            return case;
         };
-        let words = words(alloc, line)?;
-        let found = shown(alloc, &words, hosts.parse().unwrap_or(0))?;
+        let words = words(rt, alloc, line);
+        let found = shown(rt, alloc, &words, hosts.parse().unwrap_or(0));
         if found.as_str() != wanted {
-            return Ok(case);
+            return case;
         }
     }
-    Ok("")
+    ""
 }
 
 #[test]
-fn reads_each_command(rt: HostRuntime) -> Result<(), Fail> {
+fn reads_each_command(rt: HostRuntime) {
     for table in [VERBS, OPTIONS, FAULTS, DASHES, VALUES, COUNTS] {
-        assert_eq!(rt; first_wrong(rt.alloc(), table)?, "");
+        assert_eq!(rt; first_wrong(&rt, rt.alloc(), table), "");
     }
     let none = Words::new(rt.alloc());
-    let found = shown(rt.alloc(), &none, 16)?;
+    let found = shown(&rt, rt.alloc(), &none, 16);
     assert_eq!(rt; found.as_str(), "usage");
-    Ok(())
 }
