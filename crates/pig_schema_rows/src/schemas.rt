@@ -1,124 +1,165 @@
 //! pig_schema: names and positions by hand, in schemas that are written as the names of their fields.
+//!
+//! A case is a line of a text: the names, the name that is looked for, and what is found.
+//! Where memory is wanting the process ends: that drops nothing, so its proof is short.
 use pig_schema::{Field, NameFault, Schema, at, copy_field, copy_schema, find, kinds};
 use pig_value::{Boxed, Kind, Seq, Text, same_kind};
-use std::alloc::{AllocError, Global};
-use std::test::Fail;
+use std::alloc::Global;
+use std::process::Abort;
 
 // A field of this name, or of none where the text is empty.
-fn field(alloc: Global, name: &str, kind: Kind) -> Result<Field, AllocError> {
+fn field<R: Abort>(rt: &R, alloc: Global, name: &str, kind: Kind) -> Field {
     let name = if name.is_empty() {
         None
     } else {
-        Some(Text::from_str(alloc, name)?)
+        Some(Text::from_str(alloc, name).expect(rt, "memory"))
     };
-    Ok(Field {
+    Field {
         name,
         kind,
         inner: Seq::new(alloc),
-    })
+    }
 }
 
-// A schema whose fields have these names.
-fn schema(alloc: Global, names: &[&str]) -> Result<Schema, AllocError> {
+// A schema whose fields have these names, with commas between them; `-` is no field.
+fn schema<R: Abort>(rt: &R, alloc: Global, names: &str) -> Schema {
     let mut schema = Seq::new(alloc);
-    for name in names {
-        schema.push(field(alloc, name, Kind::Int)?)?;
+    for name in names.split(',') {
+        if name != "-" {
+            let added = field(rt, alloc, name, Kind::Int);
+            schema.push(added).expect(rt, "memory");
+        }
     }
-    Ok(schema)
+    schema
+}
+
+// What a line says that is found.
+fn wanted(text: &str) -> Result<usize, NameFault> {
+    match text {
+        "0" => Ok(0),
+        "1" => Ok(1),
+        "ambiguous" => Err(NameFault::Ambiguous),
+        "unknown" => Err(NameFault::Unknown),
+        _ => Err(NameFault::PositionOut),
+    }
 }
 
 // Whether just this is found of a name.
-fn finds(
-    alloc: Global,
-    names: &[&str],
-    name: &str,
-    wanted: Result<usize, NameFault>,
-) -> Result<bool, AllocError> {
-    let schema = schema(alloc, names)?;
-    Ok(find(&schema, name) == wanted)
+fn finds<R: Abort>(rt: &R, alloc: Global, line: &str) -> bool {
+    let (names, rest) = line.split_once('|').unwrap_or(("", ""));
+    let (name, found) = rest.split_once('|').unwrap_or(("", ""));
+    let schema = schema(rt, alloc, names);
+    find(&schema, name) == wanted(found)
 }
 
+const NAMES: &str = "-|a|unknown
+a,b|b|1
+a,b,a|a|ambiguous
+a,b,a|b|1
+x::a,a,y::a|a|1
+x::a,y::a|x::a|0
+x::a,x::a|x::a|ambiguous
+x::a,a,a|a|ambiguous
+,a,|a|1
+,|a|unknown
+a|A|unknown
+";
+
 #[test]
-fn a_name_that_is_there_is_meant(rt: HostRuntime) -> Result<(), Fail> {
-    let cases: [(&[&str], &str, Result<usize, NameFault>); 11] = [
-        (&[], "a", Err(NameFault::Unknown)),
-        (&["a", "b"], "b", Ok(1)),
-        (&["a", "b", "a"], "a", Err(NameFault::Ambiguous)),
-        (&["a", "b", "a"], "b", Ok(1)),
-        (&["x::a", "a", "y::a"], "a", Ok(1)),
-        (&["x::a", "y::a"], "x::a", Ok(0)),
-        (&["x::a", "x::a"], "x::a", Err(NameFault::Ambiguous)),
-        (&["x::a", "a", "a"], "a", Err(NameFault::Ambiguous)),
-        (&["", "a", ""], "a", Ok(1)),
-        (&["", ""], "a", Err(NameFault::Unknown)),
-        (&["a"], "A", Err(NameFault::Unknown)),
-    ];
-    for (names, name, wanted) in cases {
-        assert!(rt; finds(rt.alloc(), names, name, wanted)?);
+fn a_name_that_is_there_is_meant(rt: HostRuntime) {
+    for line in NAMES.lines() {
+        assert!(rt; finds(&rt, rt.alloc(), line), "{line}");
     }
-    Ok(())
 }
 
+const ENDS: &str = "c,a::b|b|1
+x::a::b,c|a::b|0
+x::a::b,c|b|0
+x::a::b,a::b|a::b|1
+x::a::b,a::b|b|ambiguous
+x::a,y::a,z::a|a|ambiguous
+ab|b|unknown
+a:b|b|unknown
+a::b|::b|unknown
+a::b|a|unknown
+::b,ab|b|0
+b|a::b|unknown
+";
+
 #[test]
-fn a_name_fits_behind_two_colons(rt: HostRuntime) -> Result<(), Fail> {
-    let cases: [(&[&str], &str, Result<usize, NameFault>); 12] = [
-        (&["c", "a::b"], "b", Ok(1)),
-        (&["x::a::b", "c"], "a::b", Ok(0)),
-        (&["x::a::b", "c"], "b", Ok(0)),
-        (&["x::a::b", "a::b"], "a::b", Ok(1)),
-        (&["x::a::b", "a::b"], "b", Err(NameFault::Ambiguous)),
-        (&["x::a", "y::a", "z::a"], "a", Err(NameFault::Ambiguous)),
-        (&["ab"], "b", Err(NameFault::Unknown)),
-        (&["a:b"], "b", Err(NameFault::Unknown)),
-        (&["a::b"], "::b", Err(NameFault::Unknown)),
-        (&["a::b"], "a", Err(NameFault::Unknown)),
-        (&["::b", "ab"], "b", Ok(0)),
-        (&["b"], "a::b", Err(NameFault::Unknown)),
-    ];
-    for (names, name, wanted) in cases {
-        assert!(rt; finds(rt.alloc(), names, name, wanted)?);
+fn a_name_fits_behind_two_colons(rt: HostRuntime) {
+    for line in ENDS.lines() {
+        assert!(rt; finds(&rt, rt.alloc(), line), "{line}");
     }
-    Ok(())
 }
 
 #[test]
-fn a_position_counts_from_0(rt: HostRuntime) -> Result<(), Fail> {
-    let three = schema(rt.alloc(), &["a", "", "b"])?;
+fn a_position_counts_from_0(rt: HostRuntime) {
+    let three = schema(&rt, rt.alloc(), "a,,b");
     assert!(rt; at(&three, 0) == Ok(0));
     assert!(rt; at(&three, 2) == Ok(2));
     assert!(rt; at(&three, 3) == Err(NameFault::PositionOut));
-    let none = schema(rt.alloc(), &[])?;
+    let none = schema(&rt, rt.alloc(), "-");
     assert!(rt; at(&none, 0) == Err(NameFault::PositionOut));
-    Ok(())
+}
+
+// Whether a kind is that of tuples of one field.
+fn is_of_one(kind: &Kind) -> bool {
+    match kind {
+        Kind::Tuple(inner) => inner.len() == 1,
+        _ => false,
+    }
+}
+
+// Whether these are a text, a truth and a tuple of one field.
+fn are_three(kinds: &[Kind]) -> bool {
+    match kinds {
+        [text, flag, fields] => {
+            same_kind(text, &Kind::Chararray)
+                && same_kind(flag, &Kind::Boolean)
+                && is_of_one(fields)
+        }
+        _ => false,
+    }
+}
+
+// Three fields: a text, a truth without a name, and a tuple of one field.
+fn three_fields<R: Abort>(rt: &R, alloc: Global) -> Schema {
+    let mut columns = Seq::new(alloc);
+    columns.push(Kind::Long).expect(rt, "memory");
+    let mut schema = Seq::new(alloc);
+    let text = field(rt, alloc, "a", Kind::Chararray);
+    schema.push(text).expect(rt, "memory");
+    let flag = field(rt, alloc, "", Kind::Boolean);
+    schema.push(flag).expect(rt, "memory");
+    let tuple = field(rt, alloc, "t", Kind::Tuple(columns));
+    schema.push(tuple).expect(rt, "memory");
+    schema
 }
 
 #[test]
-fn kinds_stand_in_order(rt: HostRuntime) -> Result<(), Fail> {
-    let alloc = rt.alloc();
-    let mut columns = Seq::new(alloc);
-    columns.push(Kind::Long)?;
-    let tuple = Kind::Tuple(columns);
-    let mut schema = Seq::new(alloc);
-    schema.push(field(alloc, "a", Kind::Chararray)?)?;
-    schema.push(field(alloc, "", Kind::Boolean)?)?;
-    schema.push(field(alloc, "t", tuple)?)?;
-    let found = kinds(alloc, &schema)?;
-    let [text, flag, fields] = found.as_slice() else {
-        return Err(Fail::new("not three kinds"));
-    };
-    assert!(rt; same_kind(text, &Kind::Chararray));
-    assert!(rt; same_kind(flag, &Kind::Boolean));
-    assert!(rt; matches!(fields, Kind::Tuple(inner) if inner.len() == 1));
-    Ok(())
+fn kinds_stand_in_order(rt: HostRuntime) {
+    let schema = three_fields(&rt, rt.alloc());
+    let found = kinds(rt.alloc(), &schema).expect(&rt, "memory");
+    assert!(rt; are_three(found.as_slice()));
 }
 
 // A bag of tuples of an int `a`, under a name.
-fn bag_field(alloc: Global, name: &str) -> Result<Field, AllocError> {
+fn bag_field<R: Abort>(rt: &R, alloc: Global, name: &str) -> Field {
     let mut columns = Seq::new(alloc);
-    columns.push(Kind::Int)?;
-    let mut bag = field(alloc, name, Kind::Bag(columns))?;
-    bag.inner.push(field(alloc, "a", Kind::Int)?)?;
-    Ok(bag)
+    columns.push(Kind::Int).expect(rt, "memory");
+    let mut bag = field(rt, alloc, name, Kind::Bag(columns));
+    let only = field(rt, alloc, "a", Kind::Int);
+    bag.inner.push(only).expect(rt, "memory");
+    bag
+}
+
+// Whether these are one int.
+fn is_one_int(kinds: &[Kind]) -> bool {
+    match kinds {
+        [only] => same_kind(only, &Kind::Int),
+        _ => false,
+    }
 }
 
 // Whether this is the bag above, under this name.
@@ -128,29 +169,54 @@ fn is_bag_field(found: &Field, name: &str) -> bool {
         None => false,
     };
     let of_ints = match &found.kind {
-        Kind::Bag(columns) => {
-            matches!(columns.as_slice(), [only] if same_kind(only, &Kind::Int))
-        }
+        Kind::Bag(columns) => is_one_int(columns.as_slice()),
         _ => false,
     };
     named && of_ints && find(&found.inner, "a") == Ok(0) && found.inner.len() == 1
 }
 
 #[test]
-fn fields_and_schemas_are_copied(rt: HostRuntime) -> Result<(), Fail> {
-    let alloc = rt.alloc();
-    let bag = bag_field(alloc, "b")?;
-    assert!(rt; is_bag_field(&copy_field(alloc, &bag)?, "b"), "a field");
+fn a_field_is_copied(rt: HostRuntime) {
+    let bag = bag_field(&rt, rt.alloc(), "b");
+    let copied = copy_field(rt.alloc(), &bag).expect(&rt, "memory");
+    assert!(rt; is_bag_field(&copied, "b"));
+}
+
+// Whether a kind is that of maps of longs.
+fn is_map_of_longs(kind: &Kind) -> bool {
+    match kind {
+        Kind::Map(of) => same_kind(of.get(), &Kind::Long),
+        _ => false,
+    }
+}
+
+// Whether this field is a map of longs without a name.
+fn is_map_field(found: &Field) -> bool {
+    found.name.is_none() && is_map_of_longs(&found.kind) && found.inner.is_empty()
+}
+
+// Whether these are the bag above and such a map.
+fn are_two(fields: &[Field]) -> bool {
+    match fields {
+        [first, second] => is_bag_field(first, "b") && is_map_field(second),
+        _ => false,
+    }
+}
+
+// The bag above, and a map of longs without a name.
+fn two_fields<R: Abort>(rt: &R, alloc: Global) -> Schema {
     let mut whole = Seq::new(alloc);
-    whole.push(bag)?;
-    whole.push(field(alloc, "", Kind::Map(Boxed::new(alloc, Kind::Long)?))?)?;
-    let copied = copy_schema(alloc, &whole)?;
-    let [first, second] = copied.as_slice() else {
-        return Err(Fail::new("not two fields"));
-    };
-    assert!(rt; is_bag_field(first, "b"), "the first field");
-    assert!(rt; second.name.is_none(), "no name");
-    assert!(rt; matches!(&second.kind, Kind::Map(of) if same_kind(of.get(), &Kind::Long)));
-    assert!(rt; second.inner.is_empty(), "nothing inside");
-    Ok(())
+    let bag = bag_field(rt, alloc, "b");
+    whole.push(bag).expect(rt, "memory");
+    let longs = Boxed::new(alloc, Kind::Long).expect(rt, "memory");
+    let map = field(rt, alloc, "", Kind::Map(longs));
+    whole.push(map).expect(rt, "memory");
+    whole
+}
+
+#[test]
+fn a_schema_is_copied(rt: HostRuntime) {
+    let whole = two_fields(&rt, rt.alloc());
+    let copied = copy_schema(rt.alloc(), &whole).expect(&rt, "memory");
+    assert!(rt; are_two(copied.as_slice()));
 }
