@@ -1,13 +1,15 @@
 //! What no clause says of `parse`: that each form is read with ample memory, as the tree that the grammar gives it,
 //! which statement is the first that is off the grammar, and that long chains and deep brackets are read.
+//!
+//! Where memory is wanting the process ends: that drops nothing, so its proof is short.
 ghost use Rattle.std.specs.Prelude.{◌<◌, ◌^◌, IsTrue, All, length};
 ghost use Rattle.pig_syntax.specs.Cutting.{IsWithin};
 ghost use Rattle.pig_parser.specs.Parsing.{IsShallow};
 
 use pig_parser::{SyntaxFault, parse};
 use pig_syntax::{Expr, Op, Pieces, Stmt, Stmts, Tokens, cut, depth, lex, statements_lie_within};
-use std::alloc::{AllocError, Global};
-use std::test::Fail;
+use std::alloc::Global;
+use std::process::Abort;
 
 // Expressions, each with its tree; a row with none is off the grammar.
 const EXPRESSIONS: &str = "\
@@ -361,135 +363,172 @@ fn shallow(tokens: &Tokens, pieces: &Pieces) -> bool
     true
 }
 
-fn parsed(alloc: Global, script: &str) -> Result<Answer, AllocError> {
+fn parsed<R: Abort>(rt: &R, alloc: Global, script: &str) -> Answer {
     statements_lie_within();
     let Ok(tokens) = lex(alloc, script.as_bytes()) else {
-        return Ok(Answer::Other);
+        return Answer::Other;
     };
-    let pieces = cut(alloc, &tokens)?;
+    let pieces = cut(alloc, &tokens).expect(rt, "memory");
     if tokens.len() >= 1 << 32 || !shallow(&tokens, &pieces) {
-        return Ok(Answer::Other);
+        return Answer::Other;
     }
     match parse(alloc, &tokens, &pieces) {
-        Ok(trees) => Ok(Answer::Trees(trees)),
-        Err(SyntaxFault::Syntax { statement }) => Ok(Answer::SyntaxAt(statement)),
-        Err(SyntaxFault::OutOfMemory) => Ok(Answer::Other),
+        Ok(trees) => Answer::Trees(trees),
+        Err(SyntaxFault::Syntax { statement }) => Answer::SyntaxAt(statement),
+        Err(SyntaxFault::OutOfMemory) => Answer::Other,
     }
 }
 
 // Shown trees without the names of lists, boxes and texts, and with `'` for `"`.
-fn plain(alloc: Global, shown: &str) -> Result<String, AllocError> {
-    let shown = shown.replace(alloc, "Seq { items: ", "\u{1}")?;
-    let shown = shown.replace(alloc, "Text { text: ", "\u{1}")?;
-    let shown = shown.replace(alloc, "Boxed { inner: ", "\u{1}")?;
+fn plain<R: Abort>(rt: &R, alloc: Global, shown: &str) -> String {
+    let shown = shown.replace(alloc, "Seq { items: ", "\u{1}");
+    let shown = shown.expect(rt, "memory");
+    let shown = shown.replace(alloc, "Text { text: ", "\u{1}");
+    let shown = shown.expect(rt, "memory");
+    let shown = shown.replace(alloc, "Boxed { inner: ", "\u{1}");
+    let shown = shown.expect(rt, "memory");
+    without_names(rt, alloc, shown.as_str())
+}
+
+// The same without the brackets that a `\u{1}` opens.
+fn without_names<R: Abort>(rt: &R, alloc: Global, shown: &str) -> String {
     let mut hidden = Vec::new(alloc);
     let mut text = String::new(alloc);
     for c in shown.chars() {
         match c {
-            '\u{1}' => hidden.push(true)?,
+            '\u{1}' => hidden.push(true).expect(rt, "memory"),
             '{' => {
-                hidden.push(false)?;
-                text.push(c)?;
+                hidden.push(false).expect(rt, "memory");
+                text.push(c).expect(rt, "memory");
             }
             '}' => {
                 if hidden.pop() == Some(true) {
                     text.pop();
                 } else {
-                    text.push(c)?;
+                    text.push(c).expect(rt, "memory");
                 }
             }
-            '"' => text.push('\'')?,
-            _ => text.push(c)?,
+            '"' => text.push('\'').expect(rt, "memory"),
+            _ => text.push(c).expect(rt, "memory"),
         }
     }
-    Ok(text)
+    text
+}
+
+fn shown_trees<R: Abort>(rt: &R, alloc: Global, trees: &Stmts) -> String {
+    let shown = format!(in alloc; "{trees:?}").expect(rt, "memory");
+    plain(rt, alloc, shown.as_str())
+}
+
+fn shown_place<R: Abort>(rt: &R, alloc: Global, statement: u32) -> String {
+    format!(in alloc; "syntax at {statement}").expect(rt, "memory")
 }
 
 // The trees of a script, or `syntax at` and the number of the first statement that has none.
-fn shown(alloc: Global, script: &str) -> Result<String, AllocError> {
-    match parsed(alloc, script)? {
-        Answer::Trees(trees) => {
-            let shown = format!(in alloc; "{trees:?}")?;
-            plain(alloc, shown.as_str())
-        }
-        Answer::SyntaxAt(statement) => format!(in alloc; "syntax at {statement}"),
-        Answer::Other => String::from_str(alloc, "no answer"),
+fn shown<R: Abort>(rt: &R, alloc: Global, script: &str) -> String {
+    match parsed(rt, alloc, script) {
+        Answer::Trees(trees) => shown_trees(rt, alloc, &trees),
+        Answer::SyntaxAt(statement) => shown_place(rt, alloc, statement),
+        Answer::Other => String::from_str(alloc, "no answer").expect(rt, "memory"),
+    }
+}
+
+// A text between two others.
+fn within<R: Abort>(rt: &R, alloc: Global, around: (&str, &str), text: &str) -> String {
+    let (front, end) = around;
+    format!(in alloc; "{front}{text}{end}").expect(rt, "memory")
+}
+
+// What the row of a table should show, by its tree, which stands between the two texts of `trees`.
+fn wanted_of<R: Abort>(rt: &R, alloc: Global, trees: (&str, &str), tree: Option<&str>) -> String {
+    match tree {
+        Some(tree) => within(rt, alloc, trees, tree),
+        None => String::from_str(alloc, "syntax at 1").expect(rt, "memory"),
+    }
+}
+
+// The part of a row, and its tree if it has one.
+fn parts(row: &str) -> (&str, Option<&str>) {
+    match row.split_once(" => ") {
+        Some((part, tree)) => (part, Some(tree)),
+        None => (row, None),
     }
 }
 
 // The first row of a table that does not hold, with what is read there, or nothing. The part stands between the two
 // texts of `script`, and its tree between those of `trees`.
-fn first_wrong(
+fn first_wrong<R: Abort>(
+    rt: &R,
     alloc: Global,
     table: &str,
     script: (&str, &str),
     trees: (&str, &str),
-) -> Result<String, AllocError> {
+) -> String {
     for row in table.lines() {
-        let (part, wanted) = match row.split_once(" => ") {
-            Some((part, tree)) => (part, format!(in alloc; "{}{tree}{}", trees.0, trees.1)?),
-            None => (row, String::from_str(alloc, "syntax at 1")?),
-        };
-        let script = format!(in alloc; "{}{part}{}", script.0, script.1)?;
-        let found = shown(alloc, script.as_str())?;
+        let (part, tree) = parts(row);
+        let wanted = wanted_of(rt, alloc, trees, tree);
+        let script = within(rt, alloc, script, part);
+        let found = shown(rt, alloc, script.as_str());
         if found.as_str() != wanted.as_str() {
-            return format!(in alloc; "{script}: {found}");
+            return format!(in alloc; "{script}: {found}").expect(rt, "memory");
         }
     }
-    Ok(String::new(alloc))
+    String::new(alloc)
 }
 
 #[test]
-fn reads_each_form(rt: HostRuntime) -> Result<(), Fail> {
-    let alloc = rt.alloc();
-    let tables = [
-        (
-            EXPRESSIONS,
-            ("x = FILTER a BY ", ";"),
-            (
-                "[Assign { alias: 'x', op: Filter { from: 'a', cond: ",
-                " } }]",
-            ),
-        ),
-        (
-            TYPES,
-            ("x = LOAD 'p' AS (a: ", ");"),
-            (
-                "[Assign { alias: 'x', op: Load { path: 'p', func: None, schema: [FieldTree { name: 'a', kind: Some(",
-                ") }] } }]",
-            ),
-        ),
-        (
-            OPERATORS,
-            ("x = ", ";"),
-            ("[Assign { alias: 'x', op: ", " }]"),
-        ),
-        (SCRIPTS, ("", ""), ("", "")),
-    ];
-    for (table, script, trees) in tables {
-        let wrong = first_wrong(alloc, table, script, trees)?;
-        assert_eq!(rt; wrong.as_str(), "");
-    }
-    Ok(())
+fn reads_each_expression(rt: HostRuntime) {
+    let script = ("x = FILTER a BY ", ";");
+    let trees = (
+        "[Assign { alias: 'x', op: Filter { from: 'a', cond: ",
+        " } }]",
+    );
+    let wrong = first_wrong(&rt, rt.alloc(), EXPRESSIONS, script, trees);
+    assert_eq!(rt; wrong.as_str(), "");
+}
+
+#[test]
+fn reads_each_type(rt: HostRuntime) {
+    let script = ("x = LOAD 'p' AS (a: ", ");");
+    let trees = (
+        "[Assign { alias: 'x', op: Load { path: 'p', func: None, schema: [FieldTree { name: 'a', kind: Some(",
+        ") }] } }]",
+    );
+    let wrong = first_wrong(&rt, rt.alloc(), TYPES, script, trees);
+    assert_eq!(rt; wrong.as_str(), "");
+}
+
+#[test]
+fn reads_each_operator(rt: HostRuntime) {
+    let script = ("x = ", ";");
+    let trees = ("[Assign { alias: 'x', op: ", " }]");
+    let wrong = first_wrong(&rt, rt.alloc(), OPERATORS, script, trees);
+    assert_eq!(rt; wrong.as_str(), "");
+}
+
+#[test]
+fn reads_each_script(rt: HostRuntime) {
+    let wrong = first_wrong(&rt, rt.alloc(), SCRIPTS, ("", ""), ("", ""));
+    assert_eq!(rt; wrong.as_str(), "");
 }
 
 // The number of a script's trees.
-fn counted(alloc: Global, script: &str) -> Result<usize, AllocError> {
-    match parsed(alloc, script)? {
-        Answer::Trees(trees) => Ok(trees.len()),
-        _ => Ok(0),
+fn counted<R: Abort>(rt: &R, alloc: Global, script: &str) -> usize {
+    match parsed(rt, alloc, script) {
+        Answer::Trees(trees) => trees.len(),
+        _ => 0,
     }
 }
 
 #[test]
-fn reads_whole_scripts(rt: HostRuntime) -> Result<(), Fail> {
+fn reads_whole_scripts(rt: HostRuntime) {
     let alloc = rt.alloc();
     for row in COUNTED.lines() {
         let (script, wanted) = row.split_once(" => ").unwrap_or(("", "none"));
-        let number = format!(in alloc; "{}", counted(alloc, script)?)?;
+        let number = counted(&rt, alloc, script);
+        let number = format!(in alloc; "{number}").expect(&rt, "memory");
         assert_eq!(rt; number.as_str(), wanted, "{script}");
     }
-    Ok(())
 }
 
 // The number of links of the chain that the first statement filters by.
@@ -513,44 +552,43 @@ fn links_of(op: &Op) -> usize {
     }
 }
 
-#[test]
-fn reads_a_long_chain(rt: HostRuntime) -> Result<(), Fail> {
-    let alloc = rt.alloc();
-    let mut script = String::from_str(alloc, "x = FILTER a BY b")?;
-    for _ in 0..100_000 {
-        script.push_str(" + b")?;
+// Adds a text so many times.
+fn add_times<R: Abort>(rt: &R, script: &mut String, text: &str, times: usize) {
+    for _ in 0..times {
+        script.push_str(text).expect(rt, "memory");
     }
-    script.push_str(";")?;
-    let number = match parsed(alloc, script.as_str())? {
+}
+
+#[test]
+fn reads_a_long_chain(rt: HostRuntime) {
+    let mut script = String::from_str(rt.alloc(), "x = FILTER a BY b").expect(&rt, "memory");
+    add_times(&rt, &mut script, " + b", 100_000);
+    script.push_str(";").expect(&rt, "memory");
+    let number = match parsed(&rt, rt.alloc(), script.as_str()) {
         Answer::Trees(trees) => links(&trees),
         _ => 0,
     };
     assert_eq!(rt; number, 100_000);
-    Ok(())
 }
 
 // A statement with so many brackets, one in the other, between its front and its end.
-fn nested(
+fn nested<R: Abort>(
+    rt: &R,
     alloc: Global,
     parts: (&str, &str, &str, &str, &str),
     times: usize,
-) -> Result<String, AllocError> {
+) -> String {
     let (front, open, middle, close, end) = parts;
-    let mut script = String::from_str(alloc, front)?;
-    for _ in 0..times {
-        script.push_str(open)?;
-    }
-    script.push_str(middle)?;
-    for _ in 0..times {
-        script.push_str(close)?;
-    }
-    script.push_str(end)?;
-    Ok(script)
+    let mut script = String::from_str(alloc, front).expect(rt, "memory");
+    add_times(rt, &mut script, open, times);
+    script.push_str(middle).expect(rt, "memory");
+    add_times(rt, &mut script, close, times);
+    script.push_str(end).expect(rt, "memory");
+    script
 }
 
 #[test]
-fn reads_brackets_64_deep(rt: HostRuntime) -> Result<(), Fail> {
-    let alloc = rt.alloc();
+fn reads_brackets_64_deep(rt: HostRuntime) {
     let cases: [((&str, &str, &str, &str, &str), usize); 7] = [
         (("x = FILTER a BY ", "(", "b", ")", ";"), 64),
         (("x = FILTER a BY ", "- (", "b", ")", ";"), 64),
@@ -561,21 +599,20 @@ fn reads_brackets_64_deep(rt: HostRuntime) -> Result<(), Fail> {
         (("x = LOAD 'p' AS ", "(a: ", "int", ")", ";"), 64),
     ];
     for (parts, times) in cases {
-        let script = nested(alloc, parts, times)?;
-        let number = counted(alloc, script.as_str())?;
+        let script = nested(&rt, rt.alloc(), parts, times);
+        let number = counted(&rt, rt.alloc(), script.as_str());
         assert_eq!(rt; number, 1, "{script}");
     }
-    Ok(())
 }
 
 #[test]
-fn shows_faults(rt: HostRuntime) -> Result<(), Fail> {
+fn shows_faults(rt: HostRuntime) {
     let alloc = rt.alloc();
     let fault = SyntaxFault::Syntax { statement: 7 };
-    let shown = format!(in alloc; "{fault}, {}", SyntaxFault::OutOfMemory)?;
+    let shown = format!(in alloc; "{fault}, {}", SyntaxFault::OutOfMemory);
+    let shown = shown.expect(&rt, "memory");
     assert_eq!(rt;
         shown.as_str(),
         "statement 7 is off the grammar, out of memory"
     );
-    Ok(())
 }
