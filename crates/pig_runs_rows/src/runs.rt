@@ -1,5 +1,7 @@
 //! Entries in any pieces give one run, and its slices are the run.
-ghost use Rattle.std.specs.Prelude.{◌≡◌, [], IfOk};
+//!
+//! Where memory is wanting the process ends: that drops nothing, so its proof is short.
+ghost use Rattle.std.specs.Prelude.{◌≡◌, ◌<◌, [], length};
 ghost use Rattle.std.specs.List.{AllByRecursion};
 ghost use Rattle.pig_value.specs.Trees.{tree, row_tree};
 ghost use Rattle.pig_value.specs.Valid.{IsValue, IsRow};
@@ -7,8 +9,8 @@ ghost use Rattle.pig_value.specs.Valid.{IsValue, IsRow};
 use pig_keycode::{decode, decode_row, encode, encode_row};
 use pig_runs::{Run, RunBuilder, Runs, cuts, merge, part_of, slice};
 use pig_value::{Dir, Dirs, Seq, Tuple, Value, field_at, same};
-use std::alloc::{AllocError, Global};
-use std::test::Fail;
+use std::alloc::Global;
+use std::process::Abort;
 
 // Entries: the number of the key, that of the input, and the row's field.
 const ENTRIES: [(u8, u32, i32); 8] = [
@@ -34,126 +36,146 @@ const SORTED: [(u8, u32, i32); 8] = [
     (4, 0, 1),
 ];
 
-fn two(alloc: Global, first: Value, second: Value) -> Result<Value, AllocError> {
+fn two<R: Abort>(rt: &R, alloc: Global, first: Value, second: Value) -> Value {
     let mut row = Seq::new(alloc);
-    row.push(first)?;
-    row.push(second)?;
-    Ok(Value::Tuple(row))
+    row.push(first).expect(rt, "memory");
+    row.push(second).expect(rt, "memory");
+    Value::Tuple(row)
 }
 
-fn any_key(alloc: Global, number: u8) -> Result<Value, AllocError> {
+fn any_key<R: Abort>(rt: &R, alloc: Global, number: u8) -> Value {
     match number {
-        1 => Ok(Value::Int(1)),
-        3 => two(alloc, Value::Null, Value::Int(1)),
-        4 => two(alloc, Value::Int(1), Value::Null),
-        _ => Ok(Value::Null),
+        1 => Value::Int(1),
+        3 => two(rt, alloc, Value::Null, Value::Int(1)),
+        4 => two(rt, alloc, Value::Int(1), Value::Null),
+        _ => Value::Null,
     }
 }
 
 // A key, read back from its code.
-fn key(alloc: Global, number: u8) -> Result<Value, AllocError>
-    ensures { IfOk result (λ key. IsValue (tree key)) }
+fn key<R: Abort>(rt: &R, alloc: Global, number: u8) -> Value
+    ensures { IsValue (tree result) }
 {
     let mut bytes = Vec::new(alloc);
-    encode(&any_key(alloc, number)?, Dir::Asc, &mut bytes)?;
-    match decode(alloc, bytes.as_slice())? {
-        Some(key) => Ok(key),
-        None => Ok(Value::Null),
-    }
+    let any = any_key(rt, alloc, number);
+    encode(&any, Dir::Asc, &mut bytes).expect(rt, "memory");
+    let read = decode(alloc, bytes.as_slice()).expect(rt, "memory");
+    read.expect(rt, "the key")
 }
 
-fn any_row(alloc: Global, field: i32) -> Result<Tuple, AllocError> {
+fn any_row<R: Abort>(rt: &R, alloc: Global, field: i32) -> Tuple {
     let mut row = Seq::new(alloc);
-    row.push(Value::Int(field))?;
-    Ok(row)
+    row.push(Value::Int(field)).expect(rt, "memory");
+    row
 }
 
 // A row, read back from its code.
-fn row(alloc: Global, field: i32) -> Result<Tuple, AllocError>
-    ensures { IfOk result (λ row. IsRow (row_tree row)) }
+fn row<R: Abort>(rt: &R, alloc: Global, field: i32) -> Tuple
+    ensures { IsRow (row_tree result) }
 {
     let mut bytes = Vec::new(alloc);
-    encode_row(&any_row(alloc, field)?, &mut bytes)?;
-    match decode_row(alloc, bytes.as_slice())? {
-        Some(row) => Ok(row),
-        None => Ok(Seq::new(alloc)),
-    }
+    let any = any_row(rt, alloc, field);
+    encode_row(&any, &mut bytes).expect(rt, "memory");
+    let read = decode_row(alloc, bytes.as_slice()).expect(rt, "memory");
+    read.expect(rt, "the row")
 }
 
-fn add(alloc: Global, builder: &mut RunBuilder, entry: (u8, u32, i32)) -> Result<(), AllocError>
+fn add<R: Abort>(rt: &R, alloc: Global, builder: &mut RunBuilder, entry: (u8, u32, i32))
     requires { builder.old.dirs ≡ [] }
     ensures { builder.new.dirs ≡ [] }
 {
     let (number, input, field) = entry;
-    builder.add(&key(alloc, number)?, input, &row(alloc, field)?)
+    let key = key(rt, alloc, number);
+    let row = row(rt, alloc, field);
+    builder.add(&key, input, &row).expect(rt, "memory");
 }
 
 // The run of a piece of the entries.
-fn piece(alloc: Global, at: usize, pieces: usize) -> Result<Run, AllocError>
-    ensures { IfOk result (λ run. run.dirs ≡ []) }
+fn piece<R: Abort>(rt: &R, alloc: Global, at: usize, pieces: usize) -> Run
+    ensures { result.dirs ≡ [] }
 {
     let mut builder = RunBuilder::new(alloc, Dirs::new(alloc));
     let mut place = 0;
     for entry in ENTRIES {
         if place == at {
-            add(alloc, &mut builder, entry)?;
+            add(rt, alloc, &mut builder, entry);
         }
         let next = place.saturating_add(1);
         place = if next < pieces { next } else { 0 };
     }
-    Ok(builder.finish())
+    builder.finish()
 }
 
-fn split(alloc: Global, pieces: usize) -> Result<Runs, AllocError>
-    ensures { IfOk result (λ runs. AllByRecursion (λ run. run.dirs ≡ []) runs) }
+fn split<R: Abort>(rt: &R, alloc: Global, pieces: usize) -> Runs
+    ensures { AllByRecursion (λ run. run.dirs ≡ []) result }
 {
     let mut runs = Runs::new(alloc);
     for at in 0..pieces {
-        runs.push(piece(alloc, at, pieces)?)?;
-        runs.push(RunBuilder::new(alloc, Dirs::new(alloc)).finish())?;
+        let part = piece(rt, alloc, at, pieces);
+        runs.push(part).expect(rt, "memory");
+        let empty = RunBuilder::new(alloc, Dirs::new(alloc)).finish();
+        runs.push(empty).expect(rt, "memory");
     }
-    Ok(runs)
+    runs
 }
 
-fn is_entry(alloc: Global, run: &Run, at: usize, entry: (u8, u32, i32)) -> Result<bool, AllocError>
+// Whether the key of an entry is that of this number.
+fn has_key<R: Abort>(rt: &R, alloc: Global, run: &Run, at: usize, number: u8) -> bool
+    requires dirs { run.now.dirs ≡ [] }
+    requires within { at < length run.now.entries }
+{
+    let found = run.key(alloc, at).expect(rt, "memory");
+    same(&found, &any_key(rt, alloc, number))
+}
+
+// Whether the row of an entry has this field.
+fn has_field<R: Abort>(rt: &R, alloc: Global, run: &Run, at: usize, field: i32) -> bool
+    requires { at < length run.now.entries }
+{
+    let found = run.row(alloc, at).expect(rt, "memory");
+    match field_at(&found, 0) {
+        Some(first) => same(first, &Value::Int(field)),
+        None => false,
+    }
+}
+
+fn is_entry<R: Abort>(rt: &R, alloc: Global, run: &Run, at: usize, entry: (u8, u32, i32)) -> bool
     requires { run.now.dirs ≡ [] }
 {
     if at >= run.len() {
-        return Ok(false);
+        return false;
     }
     let (number, input, field) = entry;
-    let found = run.row(alloc, at)?;
-    let is = run.input(at) == input
-        && field_at(&found, 0).is_some_and(|v| same(v, &Value::Int(field)))
-        && same(&run.key(alloc, at)?, &any_key(alloc, number)?);
-    Ok(is)
+    run.input(at) == input
+        && has_field(rt, alloc, run, at, field)
+        && has_key(rt, alloc, run, at, number)
 }
 
 #[test]
-fn pieces_give_one_run(rt: HostRuntime) -> Result<(), Fail> {
+fn pieces_give_one_run(rt: HostRuntime) {
     for pieces in [1, 2, 7] {
-        let runs = split(rt.alloc(), pieces)?;
-        let run = merge(rt.alloc(), runs, Dirs::new(rt.alloc()))?;
+        let runs = split(&rt, rt.alloc(), pieces);
+        let merged = merge(rt.alloc(), runs, Dirs::new(rt.alloc()));
+        let run = merged.expect(&rt, "memory");
         assert!(rt; run.len() == 8, "{pieces} pieces");
         let mut at = 0;
         for entry in SORTED {
             assert!(rt;
-                is_entry(rt.alloc(), &run, at, entry)?,
+                is_entry(&rt, rt.alloc(), &run, at, entry),
                 "{pieces} pieces, {at}"
             );
             at = at.saturating_add(1);
         }
     }
-    Ok(())
 }
 
 #[test]
-fn no_run_is_empty(rt: HostRuntime) -> Result<(), Fail> {
-    let run = merge(rt.alloc(), Runs::new(rt.alloc()), Dirs::new(rt.alloc()))?;
+fn no_run_is_empty(rt: HostRuntime) {
+    let alloc = rt.alloc();
+    let run = merge(alloc, Runs::new(alloc), Dirs::new(alloc)).expect(&rt, "memory");
     assert!(rt; run.len() == 0, "no run");
-    let points = cuts(rt.alloc(), &Runs::new(rt.alloc()), 3)?;
-    let part = slice(rt.alloc(), &run, &points, 1)?;
+    let points = cuts(alloc, &Runs::new(alloc), 3).expect(&rt, "memory");
+    let part = slice(alloc, &run, &points, 1).expect(&rt, "memory");
     assert!(rt; part.len() == 0, "a slice of nothing");
     assert!(rt; part_of(&Value::Null, 1) == 0, "one part");
-    Ok(())
 }

@@ -3,4 +3,4 @@ use Rattle.pig_runs_rows.proofs.runs.piece.Given as goal
 
 -- the run that is built has no directions
 abbrev pub invariant-loop-entry : goal.invariant-loop-entry
-invariant-loop-entry l = l.builder.dirs ≡ []
+invariant-loop-entry g l = l.builder.dirs ≡ []
