@@ -1,4 +1,6 @@
 //! What a board tells one pass, two, and those of four threads.
+//!
+//! Where memory is wanting the process ends: that drops nothing, so its proof is short.
 
 ghost use Rattle.std.specs.Prelude.{◌≡◌, ◌+◌, ◌<◌, ◌≤◌};
 ghost use Rattle.std.specs.Thread.{IsSync};
@@ -6,57 +8,51 @@ ghost use Rattle.pig_board.specs.View.{steps_of};
 ghost use Rattle.pig_board.specs.Pass.{tasks_of, view_of, OnBoard};
 
 use pig_board::{Board, Pass, TaskEnd};
-use std::test::Fail;
 use std::thread::{Threads, join};
 
-#[test]
-fn one_pass(rt: HostRuntime) -> Result<(), Fail> {
-    let (board, mut pass) = Board::open(rt.alloc(), 2)?;
-    assert_eq!(rt; board.draw(&mut pass), Some(0));
-    assert_eq!(rt; board.begin(&mut pass, 0), 0);
-    assert_eq!(rt; board.begin(&mut pass, 0), 1);
-    assert!(rt; board.commit(&mut pass, 0, 1));
-    assert!(rt; !board.commit(&mut pass, 0, 0));
-    assert_eq!(rt; board.closed(&mut pass, 0), Some(1));
-    assert_eq!(rt; board.draw(&mut pass), Some(1));
-    assert_eq!(rt; board.begin(&mut pass, 1), 0);
-    assert_eq!(rt; board.fail(&mut pass, 1), 1);
-    assert_eq!(rt; board.failures(&mut pass, 1), 1);
-    assert_eq!(rt; board.draw(&mut pass), None);
-    let end = board.close(pass);
-    assert_eq!(rt; end.len(), 2);
-    assert_eq!(rt;
-        end.task(0),
-        TaskEnd {
-            attempts: 2,
-            failed: 0,
-            winner: Some(1)
-        }
-    );
-    assert_eq!(rt;
-        end.task(1),
-        TaskEnd {
-            attempts: 1,
-            failed: 1,
-            winner: None
-        }
-    );
-    Ok(())
+fn task_end(attempts: u32, failed: u32, winner: Option<u32>) -> TaskEnd {
+    TaskEnd {
+        attempts,
+        failed,
+        winner,
+    }
 }
 
 #[test]
-fn two_passes(rt: HostRuntime) -> Result<(), Fail> {
-    let (board, mut pass) = Board::open(rt.alloc(), 1)?;
-    let mut other = board.split(&mut pass);
-    assert_eq!(rt; (pass.room(), other.room()), (1_073_741_824, 1_073_741_824));
-    assert_eq!(rt; board.draw(&mut pass), Some(0));
-    assert_eq!(rt; board.begin(&mut pass, 0), 0);
-    assert_eq!(rt; board.begin(&mut pass, 0), 1);
-    assert_eq!(rt; board.fail(&mut pass, 0), 1);
+fn one_pass(rt: HostRuntime) {
+    let opened = Board::open(rt.alloc(), 2);
+    let (board, mut pass) = opened.expect(&rt, "memory");
+    assert!(rt; board.draw(&mut pass) == Some(0));
+    assert!(rt; board.begin(&mut pass, 0) == 0);
+    assert!(rt; board.begin(&mut pass, 0) == 1);
     assert!(rt; board.commit(&mut pass, 0, 1));
-    assert_eq!(rt; board.closed(&mut other, 0), Some(1));
-    assert_eq!(rt; board.failures(&mut other, 0), 1);
-    Ok(())
+    assert!(rt; !board.commit(&mut pass, 0, 0));
+    assert!(rt; board.closed(&mut pass, 0) == Some(1));
+    assert!(rt; board.draw(&mut pass) == Some(1));
+    assert!(rt; board.begin(&mut pass, 1) == 0);
+    assert!(rt; board.fail(&mut pass, 1) == 1);
+    assert!(rt; board.failures(&mut pass, 1) == 1);
+    assert!(rt; board.draw(&mut pass) == None);
+    let end = board.close(pass);
+    assert!(rt; end.len() == 2);
+    assert!(rt; end.task(0) == task_end(2, 0, Some(1)));
+    assert!(rt; end.task(1) == task_end(1, 1, None));
+}
+
+#[test]
+fn two_passes(rt: HostRuntime) {
+    let opened = Board::open(rt.alloc(), 1);
+    let (board, mut pass) = opened.expect(&rt, "memory");
+    let mut other = board.split(&mut pass);
+    assert!(rt; pass.room() == 1_073_741_824);
+    assert!(rt; other.room() == 1_073_741_824);
+    assert!(rt; board.draw(&mut pass) == Some(0));
+    assert!(rt; board.begin(&mut pass, 0) == 0);
+    assert!(rt; board.begin(&mut pass, 0) == 1);
+    assert!(rt; board.fail(&mut pass, 0) == 1);
+    assert!(rt; board.commit(&mut pass, 0, 1));
+    assert!(rt; board.closed(&mut other, 0) == Some(1));
+    assert!(rt; board.failures(&mut other, 0) == 1);
 }
 
 // What a worker was told: the number that it drew, and for each of four tasks one more than its attempt that won.
@@ -185,12 +181,13 @@ fn told_winner(told: &[Told; 4], t: usize) -> (u32, u32)
 }
 
 #[test]
-fn four_workers(rt: HostRuntime) -> Result<(), Fail> {
-    let (board, mut pass) = Board::open(rt.alloc(), 8)?;
-    assert_eq!(rt; board.draw(&mut pass), Some(0));
-    assert_eq!(rt; board.draw(&mut pass), Some(1));
-    assert_eq!(rt; board.draw(&mut pass), Some(2));
-    assert_eq!(rt; board.draw(&mut pass), Some(3));
+fn four_workers(rt: HostRuntime) {
+    let opened = Board::open(rt.alloc(), 8);
+    let (board, mut pass) = opened.expect(&rt, "memory");
+    assert!(rt; board.draw(&mut pass) == Some(0));
+    assert!(rt; board.draw(&mut pass) == Some(1));
+    assert!(rt; board.draw(&mut pass) == Some(2));
+    assert!(rt; board.draw(&mut pass) == Some(3));
     let (pass, told) = crew(&rt, &board, pass);
     let end = board.close(pass);
     let mut drawn = 0u32;
@@ -198,16 +195,10 @@ fn four_workers(rt: HostRuntime) -> Result<(), Fail> {
         assert!(rt; one.drawn < 8);
         drawn |= 1 << one.drawn;
     }
-    assert_eq!(rt; drawn, 0b1111_0000);
+    assert!(rt; drawn == 0b1111_0000);
     for t in 0..4u32 {
         let (winner, winners) = told_winner(&told, t as usize);
-        assert_eq!(rt; winners, 1);
-        let whole = TaskEnd {
-            attempts: 5,
-            failed: 1,
-            winner: Some(winner),
-        };
-        assert_eq!(rt; end.task(t), whole);
+        assert!(rt; winners == 1);
+        assert!(rt; end.task(t) == task_end(5, 1, Some(winner)));
     }
-    Ok(())
 }

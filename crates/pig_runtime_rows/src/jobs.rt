@@ -1,8 +1,9 @@
 //! What a job takes and refuses.
+//!
+//! Where memory is wanting the process ends: that drops nothing, so its proof is short.
 
 use pig_job::{Core, Event, JobFault};
 use std::process::Abort;
-use std::test::Fail;
 
 const NOT_NOW: Result<(), JobFault> = Err(JobFault::NotNow);
 
@@ -48,8 +49,8 @@ fn abort(worker: u32) -> Event {
 
 // Task 0 is won by its second attempt, and task 1 has failed once: nobody may leave.
 #[test]
-fn one_worker(rt: HostRuntime) -> Result<(), Fail> {
-    let mut core = Core::open(rt.alloc(), 2, 1)?;
+fn one_worker(rt: HostRuntime) {
+    let mut core = Core::open(rt.alloc(), 2, 1).expect(&rt, "memory");
     let cases = [
         (draw(0), Ok(())),
         (begin(0, 0), Ok(())),
@@ -64,15 +65,14 @@ fn one_worker(rt: HostRuntime) -> Result<(), Fail> {
         (leave(0), NOT_NOW),
     ];
     for (event, answer) in cases {
-        assert_eq!(rt; core.step(&event), answer, "at {event:?}");
+        assert!(rt; core.step(&event) == answer, "at {event:?}");
     }
-    Ok(())
 }
 
 // The one task fails once and is then won: both may leave, and take no step more.
 #[test]
-fn two_workers(rt: HostRuntime) -> Result<(), Fail> {
-    let mut core = Core::open(rt.alloc(), 1, 2)?;
+fn two_workers(rt: HostRuntime) {
+    let mut core = Core::open(rt.alloc(), 1, 2).expect(&rt, "memory");
     let cases = [
         (draw(0), Ok(())),
         (begin(0, 0), Ok(())),
@@ -86,13 +86,12 @@ fn two_workers(rt: HostRuntime) -> Result<(), Fail> {
         (abort(1), NOT_NOW),
     ];
     for (event, answer) in cases {
-        assert_eq!(rt; core.step(&event), answer, "at {event:?}");
+        assert!(rt; core.step(&event) == answer, "at {event:?}");
     }
-    Ok(())
 }
 
 // Task 0 is won by worker 1, and worker 0 comes late.
-fn win_first(rt: &impl Abort, core: &mut Core) -> Result<(), Fail> {
+fn win_first(rt: &impl Abort, core: &mut Core) {
     let cases = [
         // There is no worker 2.
         (draw(2), NOT_NOW),
@@ -121,13 +120,12 @@ fn win_first(rt: &impl Abort, core: &mut Core) -> Result<(), Fail> {
         (late(0, 0, 1), NOT_NOW),
     ];
     for (event, answer) in cases {
-        assert_eq!(rt; core.step(&event), answer, "at {event:?}");
+        assert!(rt; core.step(&event) == answer, "at {event:?}");
     }
-    Ok(())
 }
 
 // Task 1 fails four times at worker 0, and worker 1 leaves.
-fn fail_second(rt: &impl Abort, core: &mut Core) -> Result<(), Fail> {
+fn fail_second(rt: &impl Abort, core: &mut Core) {
     let cases = [
         // Task 1 has neither a winner nor four failures until the fourth.
         (leave(1), NOT_NOW),
@@ -144,13 +142,12 @@ fn fail_second(rt: &impl Abort, core: &mut Core) -> Result<(), Fail> {
         (leave(1), Ok(())),
     ];
     for (event, answer) in cases {
-        assert_eq!(rt; core.step(&event), answer, "at {event:?}");
+        assert!(rt; core.step(&event) == answer, "at {event:?}");
     }
-    Ok(())
 }
 
 // Worker 1 has left, and worker 0 aborts.
-fn end_both(rt: &impl Abort, core: &mut Core) -> Result<(), Fail> {
+fn end_both(rt: &impl Abort, core: &mut Core) {
     let cases = [
         // Worker 1 has left, and worker 0 has attempts under way.
         (draw(1), NOT_NOW),
@@ -171,16 +168,15 @@ fn end_both(rt: &impl Abort, core: &mut Core) -> Result<(), Fail> {
         (draw(0), NOT_NOW),
     ];
     for (event, answer) in cases {
-        assert_eq!(rt; core.step(&event), answer, "at {event:?}");
+        assert!(rt; core.step(&event) == answer, "at {event:?}");
     }
-    Ok(())
 }
 
 // Each kind of step, taken and refused for each of its reasons but the bound of the total.
 #[test]
-fn each_condition(rt: HostRuntime) -> Result<(), Fail> {
-    let mut core = Core::open(rt.alloc(), 2, 2)?;
-    win_first(&rt, &mut core)?;
-    fail_second(&rt, &mut core)?;
-    end_both(&rt, &mut core)
+fn each_condition(rt: HostRuntime) {
+    let mut core = Core::open(rt.alloc(), 2, 2).expect(&rt, "memory");
+    win_first(&rt, &mut core);
+    fail_second(&rt, &mut core);
+    end_both(&rt, &mut core);
 }
