@@ -3,26 +3,34 @@ ghost use Rattle.std.specs.Prelude.{◌≡◌, ◌≤◌, ◌<◌, None};
 
 use pig_outside::{Call, Calls, Failed, Host, MemoryHost, Method, OutsideError};
 use pig_value::Inputs;
-use std::alloc::{AllocError, Global};
+use std::alloc::Global;
+use std::process::Abort;
 use std::sync::Arc;
 use std::sync::atomic::{AtomicBool, Ordering};
 
+/// These calls of `begin`.
+fn begins<R: Abort>(rt: &R, alloc: Global, numbers: &[u64]) -> Calls {
+    let mut calls = Calls::new(alloc);
+    for number in numbers {
+        let call = Call {
+            method: Method::Begin,
+            number: *number,
+        };
+        calls.push(call).expect(rt, "memory");
+    }
+    calls
+}
+
 /// So many hosts with no inputs. The first one fails at these calls of `begin`.
-pub fn hosts(alloc: Global, count: u32, fails: &[u64]) -> Result<Vec<MemoryHost>, AllocError> {
+pub fn hosts<R: Abort>(rt: &R, alloc: Global, count: u32, fails: &[u64]) -> Vec<MemoryHost> {
     let mut hosts = Vec::new(alloc);
     for place in 0..count {
-        let mut calls = Calls::new(alloc);
-        if place == 0 {
-            for number in fails {
-                calls.push(Call {
-                    method: Method::Begin,
-                    number: *number,
-                })?;
-            }
-        }
-        hosts.push(MemoryHost::new(Inputs::new(alloc), calls))?;
+        let failing = if place == 0 { fails } else { &[] };
+        let calls = begins(rt, alloc, failing);
+        let host = MemoryHost::new(Inputs::new(alloc), calls);
+        hosts.push(host).expect(rt, "memory");
     }
-    Ok(hosts)
+    hosts
 }
 
 /// A host that begins an attempt only where another one has begun too.
@@ -74,12 +82,14 @@ impl Host for Meeting {
 }
 
 /// Two hosts that meet: at its first `begin` each waits for the other, for so many looks.
-pub fn make_meeting(alloc: Global, turns: u32) -> Result<[Meeting; 2], AllocError> {
-    let one = Arc::new(alloc, AtomicBool::new(false))?;
-    let two = Arc::new(alloc, AtomicBool::new(false))?;
+pub fn make_meeting<R: Abort>(rt: &R, alloc: Global, turns: u32) -> [Meeting; 2] {
+    let one = Arc::new(alloc, AtomicBool::new(false)).expect(rt, "memory");
+    let two = Arc::new(alloc, AtomicBool::new(false)).expect(rt, "memory");
+    let own = Arc::try_clone(&one).expect(rt, "memory");
+    let other = Arc::try_clone(&two).expect(rt, "memory");
     let first = Meeting {
-        own: Arc::try_clone(&one)?,
-        other: Arc::try_clone(&two)?,
+        own,
+        other,
         turns,
         faults: 0,
     };
@@ -89,5 +99,5 @@ pub fn make_meeting(alloc: Global, turns: u32) -> Result<[Meeting; 2], AllocErro
         turns,
         faults: 0,
     };
-    Ok([first, second])
+    [first, second]
 }

@@ -1,10 +1,12 @@
 // Waves on one host, on many, and on hosts that meet.
+//
+// Where memory is wanting to a test itself the process ends: that drops nothing, so its proof is short.
 use crate::hosts::{hosts, make_meeting};
 use crate::work::{Doubles, wave};
 use pig_board::JobEnd;
 use pig_pool::{WaveEnd, WaveFault};
-use std::alloc::{AllocError, Global};
-use std::test::Fail;
+use std::alloc::Global;
+use std::process::Abort;
 
 /// No task wants memory.
 const NONE: u32 = 65536;
@@ -28,47 +30,48 @@ fn row(number: u32) -> (u32, &'static [u64], u32, &'static str) {
 }
 
 /// Adds the end of each task.
-fn tell(alloc: Global, end: &JobEnd, told: &mut String) -> Result<(), AllocError> {
+fn tell<R: Abort>(rt: &R, alloc: Global, end: &JobEnd, told: &mut String) {
     for t in 0..end.len() {
         let task = end.task(t);
         let (attempts, failed) = (task.attempts, task.failed);
         let text = match task.winner {
-            Some(winner) => format!(in alloc; " {attempts}-{failed}-{winner}")?,
-            None => format!(in alloc; " {attempts}-{failed}-none")?,
+            Some(winner) => format!(in alloc; " {attempts}-{failed}-{winner}"),
+            None => format!(in alloc; " {attempts}-{failed}-none"),
         };
-        told.push_str(&text)?;
+        let text = text.expect(rt, "memory");
+        told.push_str(&text).expect(rt, "memory");
     }
-    Ok(())
 }
 
 /// The answer of a wave.
-fn answer(alloc: Global, ended: &Result<WaveEnd<u64>, WaveFault>) -> Result<String, AllocError> {
+fn answer<R: Abort>(rt: &R, alloc: Global, ended: &Result<WaveEnd<u64>, WaveFault>) -> String {
     match ended {
         Ok(done) => {
-            let mut told = String::from_str(alloc, "done")?;
-            tell(alloc, &done.end, &mut told)?;
-            Ok(told)
+            let mut told = String::from_str(alloc, "done").expect(rt, "memory");
+            tell(rt, alloc, &done.end, &mut told);
+            told
         }
         Err(WaveFault::TaskFailed { task, end }) => {
-            let mut told = format!(in alloc; "task {task} failed")?;
-            tell(alloc, end, &mut told)?;
-            Ok(told)
+            let mut told = format!(in alloc; "task {task} failed").expect(rt, "memory");
+            tell(rt, alloc, end, &mut told);
+            told
         }
-        Err(WaveFault::OutOfMemory) => String::from_str(alloc, "out of memory"),
+        Err(WaveFault::OutOfMemory) => {
+            String::from_str(alloc, "out of memory").expect(rt, "memory")
+        }
     }
 }
 
 #[test]
-fn one_host(rt: HostRuntime) -> Result<(), Fail> {
+fn one_host(rt: HostRuntime) {
     let alloc = rt.alloc();
     for number in 0..6 {
         let (tasks, fails, wants, wanted) = row(number);
-        let mut hosts = hosts(alloc, 1, fails)?;
+        let mut hosts = hosts(&rt, alloc, 1, fails);
         let ended = wave(&rt, alloc, &Doubles { tasks, wants }, &mut hosts);
-        let told = answer(alloc, &ended)?;
+        let told = answer(&rt, alloc, &ended);
         assert_eq!(rt; told.as_str(), wanted);
     }
-    Ok(())
 }
 
 /// Whether a wave without failures gave what it should: each task is won, and its output stands at its place.
@@ -103,11 +106,11 @@ fn size(number: u32) -> (u32, u32) {
 }
 
 #[test]
-fn many_hosts(rt: HostRuntime) -> Result<(), Fail> {
+fn many_hosts(rt: HostRuntime) {
     let alloc = rt.alloc();
     for number in 0..7 {
         let (count, tasks) = size(number);
-        let mut hosts = hosts(alloc, count, &[])?;
+        let mut hosts = hosts(&rt, alloc, count, &[]);
         let ended = wave(&rt, alloc, &Doubles { tasks, wants: NONE }, &mut hosts);
         let whole = match &ended {
             Ok(done) => is_whole(done, tasks),
@@ -115,7 +118,6 @@ fn many_hosts(rt: HostRuntime) -> Result<(), Fail> {
         };
         assert!(rt; whole);
     }
-    Ok(())
 }
 
 /// Whether a wave in which one of two hosts always fails ended as it may: each task is won, or the task that has
@@ -138,23 +140,22 @@ fn may_be(ended: &Result<WaveEnd<u64>, WaveFault>) -> bool {
 }
 
 #[test]
-fn one_always_fails(rt: HostRuntime) -> Result<(), Fail> {
+fn one_always_fails(rt: HostRuntime) {
     let alloc = rt.alloc();
-    let fails: Vec<u64> = (1..=80u64).collect(alloc)?;
-    let mut hosts = hosts(alloc, 2, &fails)?;
+    let fails: Vec<u64> = (1..=80u64).collect(alloc).expect(&rt, "memory");
+    let mut hosts = hosts(&rt, alloc, 2, &fails);
     let work = Doubles {
         tasks: 20,
         wants: NONE,
     };
     let ended = wave(&rt, alloc, &work, &mut hosts);
     assert!(rt; may_be(&ended));
-    Ok(())
 }
 
 #[test]
-fn two_hosts_meet(rt: HostRuntime) -> Result<(), Fail> {
+fn two_hosts_meet(rt: HostRuntime) {
     let alloc = rt.alloc();
-    let mut hosts = make_meeting(alloc, 200_000_000)?;
+    let mut hosts = make_meeting(&rt, alloc, 200_000_000);
     let work = Doubles {
         tasks: 1,
         wants: NONE,
@@ -165,5 +166,4 @@ fn two_hosts_meet(rt: HostRuntime) -> Result<(), Fail> {
         Err(_) => false,
     };
     assert!(rt; met);
-    Ok(())
 }
