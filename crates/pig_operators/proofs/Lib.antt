@@ -1,11 +1,11 @@
-pub mod Between
-pub mod Sorted
-pub mod Inputs
-pub mod Stretches
-pub mod Coming
-pub mod Products
-pub mod Apart
-pub mod Sides
-pub mod Adding
-pub mod Singles
+mod Between
+mod Sorted
+mod Inputs
+mod Stretches
+mod Coming
+mod Products
+mod Apart
+mod Sides
+mod Adding
+mod Singles
 pub mod SortEntries

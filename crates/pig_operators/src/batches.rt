@@ -14,7 +14,7 @@ use pig_value::Rows;
 use std::alloc::{AllocError, Global};
 use std::marker::Model;
 
-/// A batch takes no further row where it has so many.
+/// A batch takes no further row or group where it has so many rows.
 const BATCH_ROWS: usize = 512;
 
 /// A batch with a row takes no further group where its groups have so many entries, whose rows stand in memory.

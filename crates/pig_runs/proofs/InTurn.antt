@@ -3,8 +3,7 @@ use Rattle.std.proofs.Common.{◌≡◌, ◌<◌, ◌≤◌, ◌+◌, ℕ, List,
 use Rattle.std.specs.Prelude.{Some, slice_get, slice_set}
 use Rattle.std.specs.List.{AllByRecursion, flat_map}
 use Rattle.std.proofs.Math.Seq.{take-add}
-use Rattle.std.proofs.lemmas.List.{append_assoc, append-nil, length-append, length-take-le, length-drop, drop-set-lt, take-append-drop, take_more_set}
-use Rattle.std.proofs.lemmas.List.Concat.{flat_map-append}
+use Rattle.std.proofs.lemmas.List.{append_assoc, length-append, length-take-le, length-drop, drop-set-lt, take-append-drop, take_more_set}
 use Rattle.pig_value.proofs.list_laws.Indexing.{drop-add, get-drop, more_taken}
 use Rattle.pig_runs.specs.declared.slots.Slot.{Slot}
 use Rattle.pig_runs.specs.InTurn.{codes_at, codes_len, in_turn, put_at}
@@ -21,11 +20,6 @@ codes_two bytes s = take-add s.key_len s.row_len (drop s.at bytes) ∙ ap (λ re
 
 codes_size : (bytes : List ℕ) (s : Slot) → IsPlaced bytes s → length (codes_at bytes s) ≡ s.key_len + s.row_len
 codes_size bytes s h = part_len bytes s.at (s.key_len + s.row_len) (let last = h.within.row in omega (arith, last))
-
-pub codes_more : (bytes : List ℕ) (slots : List Slot) (i : ℕ) (s : Slot) (laid new : List ℕ) → slice_get slots i ≡ Some s
-    → laid ≡ flat_map (codes_at bytes) (take i slots) → new ≡ laid ++ codes_at bytes s → new ≡ flat_map (codes_at bytes) (take (i + 1) slots)
-codes_more bytes slots i s laid new here so_far grown =
-    grown ∙ ((λ j. so_far j ++ sym (append-nil (codes_at bytes s)) j) ∙ (sym (flat_map-append (codes_at bytes) (take i slots) (s ∷ [])) ∙ ap (flat_map (codes_at bytes)) (sym (more_taken slots i s here))))
 
 pub laid_size : (bytes : List ℕ) (slots : List Slot) → AllByRecursion (IsPlaced bytes) slots → length (flat_map (codes_at bytes) slots) ≡ codes_len slots
 laid_size bytes [] h = refl

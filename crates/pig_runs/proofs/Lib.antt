@@ -1,14 +1,14 @@
 pub mod Order
-pub mod Adding
-pub mod Reading
-pub mod SortedSlots
-pub mod FrontOrder
-pub mod FrontedSlots
-pub mod Joined
-pub mod KWay
-pub mod Merging
-pub mod Lending
-pub mod Halving
-pub mod Sliced
-pub mod Parted
+mod Adding
+mod Reading
+mod SortedSlots
+mod FrontOrder
+mod FrontedSlots
+mod Joined
+mod KWay
+mod Merging
+mod Lending
+mod Halving
+mod Sliced
+mod Parted
 mod InTurn
