@@ -1,11 +1,11 @@
 pub mod CountLaws
 pub mod Counts
 pub mod EndLaws
-pub mod Ends
-pub mod Moves
+mod Ends
+mod Moves
 pub mod Notes
-pub mod Opening
-pub mod Parts
-pub mod Reached
+mod Opening
+mod Parts
+mod Reached
 pub mod Steps
-pub mod Writes
+mod Writes

@@ -1,12 +1,12 @@
 pub mod Sums
 pub mod Merging
-pub mod Columns
+mod Columns
 pub mod Trees
-pub mod Characters
-pub mod Pieces
-pub mod Joined
-pub mod Arity
-pub mod Kept
+mod Characters
+mod Pieces
+mod Joined
+mod Arity
+mod Kept
 pub mod ValuesKept
 pub mod LineFree
 pub mod KindsKept

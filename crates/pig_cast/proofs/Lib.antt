@@ -1,11 +1,11 @@
-pub mod Items
+mod Items
 mod Digits
-pub mod NumberText
-pub mod KeyOrder
-pub mod Reading
-pub mod Balance
-pub mod OnePass
-pub mod Between
+mod NumberText
+mod KeyOrder
+mod Reading
+mod Balance
+mod OnePass
+mod Between
 pub mod FieldLaw
-pub mod TextItems
+mod TextItems
 pub mod ReadBack

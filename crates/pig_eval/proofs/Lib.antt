@@ -1,5 +1,5 @@
-pub mod Projections
-pub mod TruthLaws
-pub mod Chains
-pub mod ColumnLaws
+mod Projections
+mod TruthLaws
+mod Chains
+mod ColumnLaws
 pub mod Evaluated

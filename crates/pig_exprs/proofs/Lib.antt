@@ -8,6 +8,6 @@ pub mod ListSound
 pub mod NamesFound
 pub mod NamesSound
 pub mod Options
-pub mod Turns
+mod Turns
 pub mod TypesFound
 pub mod TypesSound

@@ -1,9 +1,9 @@
-pub mod Back
+mod Back
 pub mod Bag
-pub mod Find
+mod Find
 pub mod Keeps
-pub mod Opening
+mod Opening
 pub mod Reach
-pub mod Settling
+mod Settling
 pub mod States
-pub mod Steps
+mod Steps

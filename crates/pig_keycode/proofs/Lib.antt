@@ -1,14 +1,14 @@
 pub mod TextOrder
 pub mod NumberOrder
-pub mod CodeOrder
+mod CodeOrder
 pub mod Unique
-pub mod CodeBytes
+mod CodeBytes
 pub mod Turned
 pub mod KeyOrder
-pub mod Writing
-pub mod Sequences
-pub mod Passing
-pub mod Numbers
-pub mod Forms
+mod Writing
+mod Sequences
+mod Passing
+mod Numbers
+mod Forms
 pub mod Wholes
 mod Samples

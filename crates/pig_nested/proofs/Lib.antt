@@ -1,4 +1,4 @@
-pub mod SortedLaws
-pub mod DistinctSorted
-pub mod JoinedLaws
-pub mod Forms
+mod SortedLaws
+mod DistinctSorted
+mod JoinedLaws
+mod Forms

@@ -1,4 +1,4 @@
-pub mod PlaceLaws
+mod PlaceLaws
 pub mod RangeLaws
 pub mod ShelfLaws
-pub mod ShelfSteps
+mod ShelfSteps

@@ -1,10 +1,10 @@
-pub mod Depths
+mod Depths
 pub mod OneAnswer
-pub mod OneTree
-pub mod PartsFound
+mod OneTree
+mod PartsFound
 pub mod SomeAnswer
-pub mod StatementsFormed
-pub mod StatementsFound
-pub mod StatementsSound
-pub mod TreeOf
-pub mod TreesInTurn
+mod StatementsFormed
+mod StatementsFound
+mod StatementsSound
+mod TreeOf
+mod TreesInTurn

@@ -3,19 +3,19 @@ mod PlanSamples
 mod WrongBodies
 pub mod Unfolds
 pub mod Gathered
-pub mod Ordered
+mod Ordered
 pub mod Looking
 pub mod Lower
 mod Grows
-pub mod Adding
+mod Adding
 mod Twins
 pub mod Seen
-pub mod ByPieces
-pub mod Pairs
+mod ByPieces
+mod Pairs
 pub mod Listed
 pub mod LoadRows
 pub mod Carries
 pub mod Meanings
-pub mod Values
+mod Values
 pub mod LineFree
-pub mod OfKinds
+mod OfKinds

@@ -1,4 +1,4 @@
-pub mod Crews
-pub mod Placing
-pub mod Steps
-pub mod Waves
+mod Crews
+mod Placing
+mod Steps
+mod Waves

@@ -1,4 +1,4 @@
 pub mod Enough
-pub mod Flowing
+mod Flowing
 mod Marking
 mod Once

@@ -1,5 +1,5 @@
 mod Samples
-pub mod Fitting
-pub mod Counting
-pub mod Searching
+mod Fitting
+mod Counting
+mod Searching
 pub mod Readings

@@ -1,11 +1,11 @@
-pub mod Cuts
-pub mod Delims
-pub mod FirstLine
+mod Cuts
+mod Delims
+mod FirstLine
 mod Pieces
 mod Loops
-pub mod LineFree
-pub mod Walks
+mod LineFree
+mod Walks
 pub mod StoredRows
-pub mod RowKinds
-pub mod RowsBack
-pub mod Starts
+mod RowKinds
+mod RowsBack
+mod Starts

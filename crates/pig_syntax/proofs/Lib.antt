@@ -1,21 +1,21 @@
-pub mod Prefixes
-pub mod Runs
-pub mod Tables
-pub mod Numbers
-pub mod Utf8
-pub mod Meanings
-pub mod Contents
-pub mod Covers
-pub mod Words
-pub mod Numerals
-pub mod NumeralsStand
-pub mod Symbols
-pub mod Texts
-pub mod Recognised
+mod Prefixes
+mod Runs
+mod Tables
+mod Numbers
+mod Utf8
+mod Meanings
+mod Contents
+mod Covers
+mod Words
+mod Numerals
+mod NumeralsStand
+mod Symbols
+mod Texts
+mod Recognised
 pub mod Streams
 pub mod LineFree
 pub mod CutLaws
-pub mod CutSteps
+mod CutSteps
 pub mod Totals
 pub mod ExprTreeLaws
 mod FormedSamples

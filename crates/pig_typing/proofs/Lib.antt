@@ -3,7 +3,7 @@ pub mod Chains
 pub mod References
 pub mod Told
 pub mod Found
-pub mod Joined
+mod Joined
 pub mod Inside
 pub mod KindsHold
 pub mod CodeLaws

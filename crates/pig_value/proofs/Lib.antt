@@ -9,7 +9,7 @@ pub mod ValidLaws
 pub mod LeafLaws
 pub mod NumberTexts
 pub mod OfRead
-pub mod LossyTexts
+mod LossyTexts
 pub mod ReadLaws
 pub mod FieldKinds
 pub mod FieldFree

@@ -37,9 +37,6 @@ pub row_from_each : (row : List Tree) → AllByRecursion IsValue row → IsRow r
 row_from_each [] h = tt
 row_from_each (v ∷ row) h = (h.0, row_from_each row h.1)
 
-pub valid_row-append : (xs ys : List Tree) → IsRow xs → IsRow ys → IsRow (xs ++ ys)
-valid_row-append xs ys h k = row_from_each (xs ++ ys) (each-append IsValue xs ys (row_each xs h) (row_each ys k))
-
 pub valid_field : (row : List Tree) (i : ℕ) (v : Tree) → slice_get row i ≡ Some v → IsRow row → IsValue v
 valid_field row i v at h = each_at IsValue row i v at (row_each row h)
 
