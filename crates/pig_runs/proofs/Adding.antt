@@ -12,7 +12,7 @@ use Rattle.pig_runs.specs.Entries.{Keyed, IsEntry, AreKeyed, InDirections, and_e
 use Rattle.pig_runs.specs.Fronts.{front}
 use Rattle.pig_runs.specs.Packed.{Packed, packed, part, found_at, row_at, slot_of, moved, IsPlaced, Held, held_prop}
 
-part_kept : (bytes more : List ℕ) (at len : ℕ) → at + len ≤ length bytes → part (bytes ++ more) at len ≡ part bytes at len
+pub part_kept : (bytes more : List ℕ) (at len : ℕ) → at + len ≤ length bytes → part (bytes ++ more) at len ≡ part bytes at len
 part_kept bytes more at len h =
     ap (take len) (drop-append-le at bytes more (omega (arith, h)))
     ∙ take-append-le len (drop at bytes) more (let left = length-drop at bytes in omega (arith, h, left))

@@ -3,11 +3,10 @@ ghost use Rattle.std.specs.Prelude.{◌≡◌, ◌<◌, ◌≤◌, List, [], ◌
 ghost use Rattle.pig_runs.specs.Entries.{run_of};
 ghost use Rattle.pig_runs.specs.Packed.{found_at, packed, packed_lent, Held, held_prop, IsPlaced, Joins, Stand};
 
-use crate::laying::lay_out;
+use crate::laying::sort_laid;
 use crate::lent::{Lent, stands_before};
 use crate::packing::{
     add_entry, add_lent, join_slots, lend, lend_slots, read_key, read_row, same_key_bytes, slot_at,
-    sort_slots,
 };
 use crate::run::Run;
 use crate::slots::Slot;
@@ -118,8 +117,7 @@ impl RunBuilder {
     fn sort(&mut self)
         ensures { self.new ≡ run_of self.old.dirs self.old.entries }
     {
-        sort_slots(self.bytes.as_slice(), &mut self.slots);
-        lay_out(&mut self.bytes, &mut self.slots);
+        sort_laid(&mut self.bytes, &mut self.slots);
     }
 
     /// The number of entries.

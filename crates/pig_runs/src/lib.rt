@@ -1,6 +1,7 @@
 //! Sorted runs.
 #![tactic(auto)]
 
+mod blocks;
 mod builder;
 mod cutting;
 mod entries;

@@ -1,3 +1,6 @@
+ghost use Rattle.std.specs.Prelude.{◌≡◌};
+ghost use Rattle.pig_runs.specs.InTurn.{codes_len};
+
 // The front of a text: its first sixteen bytes as two numbers of eight, where those that are missing are 0.
 #[derive(Debug, Clone, Copy, Drop)]
 pub(crate) struct Front {
@@ -18,4 +21,13 @@ pub(crate) struct Slot {
     pub(crate) key_len: u32,
     pub(crate) row_len: u32,
     pub(crate) input: u32,
+}
+
+impl Slot {
+    // How many bytes both codes take.
+    pub(crate) fn len(&self) -> usize
+        ensures { result ≡ codes_len self.now }
+    {
+        self.key_len as usize + self.row_len as usize
+    }
 }
