@@ -8,7 +8,7 @@ ghost use Rattle.pig_value.specs.Valid.{IsValue, IsRow};
 
 use pig_keycode::{decode, decode_row, encode, encode_row};
 use pig_runs::{Run, RunBuilder, Runs, cuts, merge, part_of, slice};
-use pig_value::{Dir, Dirs, Seq, Tuple, Value, field_at, same};
+use pig_value::{Dir, Dirs, Seq, Text, Tuple, Value, field_at, same};
 use std::alloc::Global;
 use std::process::Abort;
 
@@ -35,6 +35,12 @@ const SORTED: [(u8, u32, i32); 8] = [
     (3, 1, 2),
     (4, 0, 1),
 ];
+
+// A mebibyte in parts of sixteen bytes.
+const LONG_TEXT: usize = 1 << 16;
+
+// How many entries with a text of a mebibyte there are.
+const LONG: u8 = 18;
 
 fn two<R: Abort>(rt: &R, alloc: Global, first: Value, second: Value) -> Value {
     let mut row = Seq::new(alloc);
@@ -70,14 +76,20 @@ fn any_row<R: Abort>(rt: &R, alloc: Global, field: i32) -> Tuple {
 }
 
 // A row, read back from its code.
-fn row<R: Abort>(rt: &R, alloc: Global, field: i32) -> Tuple
+fn sound<R: Abort>(rt: &R, alloc: Global, any: &Tuple) -> Tuple
     ensures { IsRow (row_tree result) }
 {
     let mut bytes = Vec::new(alloc);
-    let any = any_row(rt, alloc, field);
-    encode_row(&any, &mut bytes).expect(rt, "memory");
+    encode_row(any, &mut bytes).expect(rt, "memory");
     let read = decode_row(alloc, bytes.as_slice()).expect(rt, "memory");
     read.expect(rt, "the row")
+}
+
+fn row<R: Abort>(rt: &R, alloc: Global, field: i32) -> Tuple
+    ensures { IsRow (row_tree result) }
+{
+    let any = any_row(rt, alloc, field);
+    sound(rt, alloc, &any)
 }
 
 fn add<R: Abort>(rt: &R, alloc: Global, builder: &mut RunBuilder, entry: (u8, u32, i32))
@@ -133,10 +145,7 @@ fn has_field<R: Abort>(rt: &R, alloc: Global, run: &Run, at: usize, field: i32) 
     requires { at < length run.now.entries }
 {
     let found = run.row(alloc, at).expect(rt, "memory");
-    match field_at(&found, 0) {
-        Some(first) => same(first, &Value::Int(field)),
-        None => false,
-    }
+    has_int(&found, field)
 }
 
 fn is_entry<R: Abort>(rt: &R, alloc: Global, run: &Run, at: usize, entry: (u8, u32, i32)) -> bool
@@ -166,6 +175,67 @@ fn pieces_give_one_run(rt: HostRuntime) {
             );
             at = at.saturating_add(1);
         }
+    }
+}
+
+// A text of so many times sixteen bytes.
+fn long_text<R: Abort>(rt: &R, alloc: Global, times: usize) -> Value {
+    let mut text = String::new(alloc);
+    for _ in 0..times {
+        text.push_str("a text as filler").expect(rt, "memory");
+    }
+    Value::Chars(Text::from_string(text))
+}
+
+fn add_long<R: Abort>(rt: &R, alloc: Global, builder: &mut RunBuilder, number: u8)
+    requires { builder.old.dirs ≡ [] }
+    ensures { builder.new.dirs ≡ [] }
+{
+    let mut any = any_row(rt, alloc, number as i32);
+    let text = long_text(rt, alloc, LONG_TEXT.saturating_add(number as usize));
+    any.push(text).expect(rt, "memory");
+    let row = sound(rt, alloc, &any);
+    let key = key(rt, alloc, 0);
+    builder.add(&key, number as u32, &row).expect(rt, "memory");
+}
+
+// Whether the entry with this number has it as its input and in its row, and its own length of text.
+fn is_long<R: Abort>(rt: &R, alloc: Global, run: &Run, number: u8) -> bool {
+    let at = number as usize;
+    if at >= run.len() {
+        return false;
+    }
+    let row = run.row(alloc, at).expect(rt, "memory");
+    run.input(at) == number as u32
+        && has_int(&row, number as i32)
+        && has_text(&row, LONG_TEXT.saturating_add(at))
+}
+
+fn has_int(row: &Tuple, wanted: i32) -> bool {
+    match field_at(row, 0) {
+        Some(first) => same(first, &Value::Int(wanted)),
+        None => false,
+    }
+}
+
+fn has_text(row: &Tuple, times: usize) -> bool {
+    match field_at(row, 1) {
+        Some(Value::Chars(text)) => text.len() == times.saturating_mul(16),
+        _ => false,
+    }
+}
+
+// Eighteen mebibytes of codes, added from the last entry to the first: more than are laid out at once.
+#[test]
+fn long_entries_stand_in_order(rt: HostRuntime) {
+    let mut builder = RunBuilder::new(rt.alloc(), Dirs::new(rt.alloc()));
+    for number in 0..LONG {
+        add_long(&rt, rt.alloc(), &mut builder, LONG - 1 - number);
+    }
+    let run = builder.finish();
+    assert!(rt; run.len() == LONG as usize, "as many");
+    for number in 0..LONG {
+        assert!(rt; is_long(&rt, rt.alloc(), &run, number), "entry {number}");
     }
 }
 
