@@ -24,6 +24,15 @@ abbrev pub cast_if : Bool → KindTree → Typed → Typed
 cast_if true k t = x_cast k t
 cast_if false k t = t
 
+-- two operands as they are cast, and their kind together
+pub record Operands : Type 0 where
+  pub kind : KindTree
+  pub left : Typed
+  pub right : Typed
+
+abbrev pub operands_of : Join → Typed → Typed → Operands
+operands_of j t u = record { kind = j.kind; left = cast_if j.left j.kind t; right = cast_if j.right j.kind u }
+
 -- alike up to int with long, which is cast to long, or one a bytearray, which is cast to the other's kind
 abbrev pub alike : KindTree → KindTree → Option Join
 alike k_bytes k_bytes = Some (join k_bytes false false)

@@ -1,5 +1,6 @@
 -- Results one after the other, and what code says of a result that a reader has.
 use Rattle.std.specs.Prelude.{◌≡◌, Option, Some, None}
+use Rattle.std.specs.declared.alloc.AllocError.{AllocError}
 use Rattle.std.specs.declared.result.Result.{Result}
 use Rattle.std.specs.declared.result.Result.TheVariants.{Ok, Err}
 use Rattle.pig_typing.specs.declared.faults.CheckKind.{CheckKind}
@@ -39,3 +40,13 @@ abbrev pub IfRefused : {B : Type 0} → Result B TypeFault → (CheckKind → Ty
 IfRefused (Ok b) P = Unit {0}
 IfRefused (Err (fault.Refused kind)) P = P kind
 IfRefused (Err fault.OutOfMemory) P = Unit {0}
+
+-- what was made, where memory was there
+abbrev pub in_memory : {A : Type 0} → Result A AllocError → Result A TypeFault
+in_memory (Ok a) = Ok a
+in_memory (Err e) = Err fault.OutOfMemory
+
+-- what is kept, beside what was made
+abbrev pub beside : {A B E : Type 0} → A → Result B E → Result (A × B) E
+beside kept (Ok made) = Ok (kept, made)
+beside kept (Err e) = Err e

@@ -14,11 +14,12 @@ use Rattle.pig_typing.specs.declared.columns.Typing as code
 use Rattle.pig_typing.specs.declared.exprs.Sofar as chain
 use Rattle.pig_typing.specs.declared.exprs.TypedExpr.{TypedExpr}
 use Rattle.pig_typing.specs.declared.joins.Join as both
+use Rattle.pig_typing.specs.declared.joins.Operands as operands
 use Rattle.pig_typing.specs.declared.parts.Pick.{Pick}
 use Rattle.pig_typing.specs.declared.items.Generated as code_items
 use Rattle.pig_typing.specs.Columns.{nameless}
 use Rattle.pig_typing.specs.Items.{Generated}
-use Rattle.pig_typing.specs.Joins.{Join, join}
+use Rattle.pig_typing.specs.Joins.{Join, Operands, join}
 use Rattle.pig_typing.specs.Parts.{Typing, typing}
 use Rattle.pig_typing.specs.Typing.{Sofar}
 
@@ -41,6 +42,9 @@ chain_so_far first links kind = record { first = typed first; links = map link_o
 
 abbrev pub join_tree : both.Join → Join
 join_tree j = join (kind_tree j.kind) j.left j.right
+
+abbrev pub operands_tree : operands.Operands → Operands
+operands_tree o = record { kind = kind_tree o.kind; left = typed o.left; right = typed o.right }
 
 abbrev pub generated_tree : code_items.Generated → Generated
 generated_tree g = record { items = map item_typed g.items; columns = schema_tree g.columns }

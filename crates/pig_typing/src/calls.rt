@@ -13,7 +13,7 @@ ghost use Rattle.pig_typing.specs.Typing.{call_kind, kinds_as_given};
 ghost use Rattle.pig_typing.specs.Views.{typing_tree};
 
 use crate::columns::{Typing, copied, holding, kind, made, unnamed};
-use crate::faults::{CheckKind, TypeFault};
+use crate::faults::{CheckKind, TypeFault, beside, in_memory};
 use crate::limits::within_limits;
 use crate::names::narrow;
 use pig_schema::{Field, Schema};
@@ -134,12 +134,11 @@ fn applied<'a>(
     ensures { Tells typing_tree (Ok (call_typing function (map typing_tree args.entry)
         (kind_tree kind))) result }
 {
-    let column = given(alloc, function, kind, args.as_slice())?;
     let casting = how_cast(function, args.as_slice());
-    let called = sized(function, args.as_slice())?;
-    let args = cast_args(alloc, casting, args)?;
-    let call = made(alloc, call_on(called, args), column)?;
-    Ok(call)
+    let (kind, called) = beside(kind, sized(function, args.as_slice()))?;
+    let column = given(alloc, function, kind, args.as_slice())?;
+    let (column, args) = beside(column, cast_args(alloc, casting, args))?;
+    in_memory(made(alloc, call_on(called, args), column))
 }
 
 fn how_cast(function: Function, args: &[Typing]) -> Casting

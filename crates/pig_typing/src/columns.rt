@@ -7,6 +7,7 @@ ghost use Rattle.pig_typed.specs.Typed.{typed};
 ghost use Rattle.pig_typing.specs.Parts.{typing};
 ghost use Rattle.pig_typing.specs.Written.{of_fields};
 
+use crate::faults::beside;
 use pig_schema::{Field, Schema, copy_field, copy_schema, kinds};
 use pig_typed::TExpr;
 use pig_value::{Boxed, Kind, Kinds, Seq, copy_kind};
@@ -87,7 +88,8 @@ fn nameless(alloc: Global, field: &Field) -> Result<Field, AllocError>
 pub fn unnamed(alloc: Global, kind: Kind) -> Result<Field, AllocError>
     ensures { IfOk result (λ f. named_tree f ≡ unnamed (kind_tree kind)) }
 {
-    let inner = inner_unnamed(alloc, &kind)?;
+    let inner = inner_unnamed(alloc, &kind);
+    let (kind, inner) = beside(kind, inner)?;
     Ok(holding(kind, inner))
 }
 
@@ -157,7 +159,17 @@ pub fn column_kinds(alloc: Global, columns: &Schema) -> Result<Kinds, AllocError
 pub fn made<'a>(alloc: Global, form: TExpr, column: Field) -> Result<Typing<'a>, AllocError>
     ensures { IfOk result (λ p. typing_tree p ≡ typing (typed form) (named_tree column)) }
 {
-    let expr = Boxed::new(alloc, form)?;
+    let (column, expr) = beside(column, Boxed::new(alloc, form))?;
+    with_column(alloc, expr, column)
+}
+
+fn with_column<'a>(
+    alloc: Global,
+    expr: Boxed<TExpr>,
+    column: Field,
+) -> Result<Typing<'a>, AllocError>
+    ensures { IfOk result (λ p. typing_tree p ≡ typing (typed expr) (named_tree column)) }
+{
     let column = Column::Made(Boxed::new(alloc, column)?);
     Ok(Typing { expr, column })
 }
@@ -166,6 +178,7 @@ pub fn made<'a>(alloc: Global, form: TExpr, column: Field) -> Result<Typing<'a>,
 pub fn plain<'a>(alloc: Global, form: TExpr, kind: Kind) -> Result<Typing<'a>, AllocError>
     ensures { IfOk result (λ p. typing_tree p ≡ typing (typed form) (unnamed (kind_tree kind))) }
 {
+    let (kind, expr) = beside(kind, Boxed::new(alloc, form))?;
     let column = unnamed(alloc, kind)?;
-    made(alloc, form, column)
+    with_column(alloc, expr, column)
 }

@@ -7,7 +7,7 @@ ghost use Rattle.pig_typing.specs.Results.{IfRefused, Tells};
 ghost use Rattle.pig_typing.specs.Views.{typed_tree};
 
 use crate::exprs::{TypedExpr, as_condition, type_in, typed_expr};
-use crate::faults::{CheckKind, TypeFault};
+use crate::faults::{CheckKind, TypeFault, refused};
 use crate::scope::Scope;
 use pig_syntax::{Expr, Exprs};
 use pig_typed::TExpr;
@@ -83,7 +83,7 @@ fn as_key(key: TypedExpr) -> Result<TypedExpr, TypeFault>
     ensures { Tells typed_tree (as_key (typed_tree key)) result }
 {
     if holds_bag_or_map(&key.column.kind) {
-        Err(TypeFault::Refused(CheckKind::BadKey))
+        refused(key, CheckKind::BadKey)
     } else {
         Ok(key)
     }

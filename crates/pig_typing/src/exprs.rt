@@ -1,21 +1,23 @@
 ghost use Rattle.std.specs.Prelude.{◌≡◌, IfOk, Ok, map};
-ghost use Rattle.pig_value.specs.Trees.{k_boolean, kind_tree};
+ghost use Rattle.pig_value.specs.Trees.{k_boolean, k_chars, kind_tree};
 ghost use Rattle.pig_schema.specs.FieldTrees.{named_tree, tree_kind};
-ghost use Rattle.pig_syntax.specs.ExprTrees.{expr_form, expr_forms, link_form, link_forms, type_form};
-ghost use Rattle.pig_typed.specs.Typed.{typed, x_cast, x_choose, x_compare, x_is_null};
+ghost use Rattle.pig_syntax.specs.ExprTrees.{e_choose, e_compare, expr_form, expr_forms, link_form, link_forms, type_form};
+ghost use Rattle.pig_typed.specs.Typed.{typed, x_cast, x_chars, x_choose, x_compare, x_is_null, x_minus, x_not};
 ghost use Rattle.pig_typing.specs.Columns.{place_of, unnamed};
 ghost use Rattle.pig_typing.specs.Faults.{Faults};
 ghost use Rattle.pig_typing.specs.Parts.{typed_of, typing};
-ghost use Rattle.pig_typing.specs.Reader.{args_on, typed_cast, choose_of, compare_of, condition_of, typed_link, links_on, minus_of, type_of, type_of_cast, with_count};
+ghost use Rattle.pig_typing.specs.Reader.{args_on, typed_cast, choose_of, compare_of, condition_of, function_of, typed_link, links_on, minus_of, type_of, type_of_cast, with_count};
 ghost use Rattle.pig_typing.specs.Results.{checked_then, IfRefused, Tells};
 ghost use Rattle.pig_typing.specs.Joins.{cast_if};
 ghost use Rattle.pig_typing.specs.Typing.{Types, after, begun, chain_typing, count};
-ghost use Rattle.pig_typing.specs.Views.{chain_so_far, join_tree, sofar_tree, typed_tree, typing_tree};
+ghost use Rattle.pig_typing.specs.Views.{join_tree, sofar_tree, typed_tree, typing_tree};
 
 use crate::calls::{call, function, with_count};
 use crate::columns::{Typing, kind, made, owned, plain};
-use crate::faults::{CheckKind, TypeFault};
-use crate::joins::{Join, alike, cast_if, chained, compared, condition, minus};
+use crate::faults::{CheckKind, TypeFault, beside, in_memory, refused};
+use crate::joins::{
+    Join, Operands, alike, cast_both, cast_if, chained, compared, condition, minus,
+};
 use crate::limits::within_limits;
 use crate::names::named;
 use crate::parts::walk;
@@ -24,7 +26,7 @@ use crate::written::written_type;
 use pig_schema::Field;
 use pig_syntax::{Expr, Exprs, Links, TypeTree};
 use pig_typed::{TExpr, TLink, TLinks};
-use pig_value::{Boxed, ChainOp, Function, Kind, Rel, Seq, casts_to, copy_kind};
+use pig_value::{Boxed, ChainOp, Function, Kind, Rel, Seq, Text, casts_to, copy_kind};
 use std::alloc::{AllocError, Global};
 
 /// A typed expression, and the column that it gives: its kind, the name that it keeps as an item, and the columns
@@ -54,7 +56,7 @@ pub fn typed_expr(alloc: Global, e: &Expr, scope: &Scope) -> Result<TypedExpr, T
     ensures { Tells typed_tree (type_of (place_of scope.now) (expr_form e.now)) result }
 {
     let typing = type_in(alloc, e, scope)?;
-    Ok(kept(alloc, typing)?)
+    in_memory(kept(alloc, typing))
 }
 
 /// A typing with memory of its own.
@@ -77,33 +79,25 @@ pub fn type_in<'a>(
     ensures { Tells typing_tree (type_of (place_of scope.now) (expr_form e.now)) result }
 {
     match e {
-        Expr::Int(z) => Ok(plain(alloc, TExpr::Int(*z), Kind::Int)?),
-        Expr::Long(z) => Ok(plain(alloc, TExpr::Long(*z), Kind::Long)?),
+        Expr::Int(z) => constant(alloc, TExpr::Int(*z), Kind::Int),
+        Expr::Long(z) => constant(alloc, TExpr::Long(*z), Kind::Long),
         Expr::Float => Err(TypeFault::Refused(CheckKind::FloatType)),
-        Expr::Text(text) => {
-            let text = text.copy(alloc)?;
-            Ok(plain(alloc, TExpr::Chars(text), Kind::Chararray)?)
-        }
-        Expr::Bool(b) => Ok(plain(alloc, TExpr::Bool(*b), Kind::Boolean)?),
-        Expr::Null => Ok(plain(alloc, TExpr::Null, Kind::Bytearray)?),
+        Expr::Text(text) => chars(alloc, text),
+        Expr::Bool(b) => constant(alloc, TExpr::Bool(*b), Kind::Boolean),
+        Expr::Null => constant(alloc, TExpr::Null, Kind::Bytearray),
         Expr::Field(field) => named(alloc, scope, field),
         Expr::Chain { first, rest } => {
             let first = type_in(alloc, first.get(), scope)?;
             chain(alloc, first, rest, scope)
         }
-        Expr::Compare { op, a, b } => {
-            let a = type_in(alloc, a.get(), scope)?;
-            let b = type_in(alloc, b.get(), scope)?;
-            compare(alloc, *op, a, b)
-        }
+        Expr::Compare { op, a, b } => comparison_in(alloc, *op, a.get(), b.get(), scope),
         Expr::IsNull { a, not } => {
             let a = type_in(alloc, a.get(), scope)?;
-            Ok(null_test(alloc, a, *not)?)
+            null_test(alloc, a, *not)
         }
         Expr::Not(a) => {
             let a = type_in(alloc, a.get(), scope)?;
-            let a = as_condition(alloc, a)?;
-            Ok(plain(alloc, TExpr::Not(a), Kind::Boolean)?)
+            inverse(alloc, a)
         }
         Expr::Minus(a) => {
             let a = type_in(alloc, a.get(), scope)?;
@@ -119,19 +113,73 @@ pub fn type_in<'a>(
             walk(alloc, a, steps.as_slice())
         }
         Expr::Call { name, args } => {
-            let function = function(name.as_str())?;
-            let function = taking(args, function)?;
+            let function = callee(name.as_str(), args)?;
             let args = each(alloc, args, scope)?;
             call(alloc, function, args)
         }
         Expr::Choose { cond, yes, no } => {
-            let cond = type_in(alloc, cond.get(), scope)?;
-            let cond = as_condition(alloc, cond)?;
-            let yes = type_in(alloc, yes.get(), scope)?;
-            let no = type_in(alloc, no.get(), scope)?;
-            choose(alloc, cond, yes, no)
+            choice_in(alloc, cond.get(), yes.get(), no.get(), scope)
         }
     }
+}
+
+#[cycle(typing)]
+#[tactic(auto, unfolding(crate::specs::Reader::type_of))]
+fn comparison_in<'a>(
+    alloc: Global,
+    op: Rel,
+    a: &'a Expr,
+    b: &'a Expr,
+    scope: &'a Scope<'a>,
+) -> Result<Typing<'a>, TypeFault>
+    ensures { Tells typing_tree (type_of (place_of scope.now)
+        (e_compare op (expr_form a.now) (expr_form b.now))) result }
+{
+    let a = type_in(alloc, a, scope)?;
+    let (a, b) = beside(a, type_in(alloc, b, scope))?;
+    compare(alloc, op, a, b)
+}
+
+#[cycle(typing)]
+#[tactic(auto, unfolding(crate::specs::Reader::type_of))]
+fn choice_in<'a>(
+    alloc: Global,
+    cond: &'a Expr,
+    yes: &'a Expr,
+    no: &'a Expr,
+    scope: &'a Scope<'a>,
+) -> Result<Typing<'a>, TypeFault>
+    ensures { Tells typing_tree (type_of (place_of scope.now)
+        (e_choose (expr_form cond.now) (expr_form yes.now) (expr_form no.now))) result }
+{
+    let cond = type_in(alloc, cond, scope)?;
+    let cond = as_condition(alloc, cond)?;
+    let (cond, yes) = beside(cond, type_in(alloc, yes, scope))?;
+    let ((cond, yes), no) = beside((cond, yes), type_in(alloc, no, scope))?;
+    choose(alloc, cond, yes, no)
+}
+
+fn constant<'a>(alloc: Global, form: TExpr, kind: Kind) -> Result<Typing<'a>, TypeFault>
+    ensures { Tells typing_tree (Ok (typing (typed form) (unnamed (kind_tree kind)))) result }
+{
+    in_memory(plain(alloc, form, kind))
+}
+
+fn chars<'a>(alloc: Global, text: &Text) -> Result<Typing<'a>, TypeFault>
+    ensures { Tells typing_tree (Ok (typing (x_chars text.now) (unnamed k_chars))) result }
+{
+    let text = text.copy(alloc)?;
+    constant(alloc, TExpr::Chars(text), Kind::Chararray)
+}
+
+// What is not, where the operand is a condition.
+#[tactic(auto, unfolding(crate::specs::Reader::condition_of))]
+fn inverse<'a>(alloc: Global, a: Typing<'a>) -> Result<Typing<'a>, TypeFault>
+    ensures { Tells typing_tree (checked_then (λ t. Ok (typing (x_not t) (unnamed k_boolean)))
+        (condition_of (typing_tree a.entry))) result }
+{
+    let a = as_condition(alloc, a)?;
+    constant(alloc, TExpr::Not(a), Kind::Boolean)
 }
 
 // The part of a chain so far, and its kind.
@@ -190,37 +238,32 @@ fn whole<'a>(alloc: Global, so_far: Sofar) -> Result<Typing<'a>, AllocError>
 fn linked<'a>(alloc: Global, so_far: Sofar, op: ChainOp, a: Typing<'a>) -> Result<Sofar, TypeFault>
     ensures { Tells sofar_tree (typed_link (sofar_tree so_far) op (typing_tree a.entry)) result }
 {
-    let Sofar {
-        first,
-        links,
-        kind: left,
-    } = so_far;
-    let Typing { expr, column } = a;
-    match chained(op, left.get(), kind(&column)) {
-        Some(join) => Ok(longer(alloc, first, links, left.get(), op, join, expr)?),
-        None => Err(TypeFault::Refused(CheckKind::TypeMismatch)),
+    match chained(op, so_far.kind.get(), kind(&a.column)) {
+        Some(join) => in_memory(longer(alloc, so_far, op, join, a.expr)),
+        None => refused((so_far, a), CheckKind::TypeMismatch),
     }
 }
 
 fn longer(
     alloc: Global,
-    first: Boxed<TExpr>,
-    links: TLinks,
-    left: &Kind,
+    so_far: Sofar,
     op: ChainOp,
     join: Join,
     expr: Boxed<TExpr>,
 ) -> Result<Sofar, AllocError>
     ensures { IfOk result (λ c. sofar_tree c
-        ≡ after (chain_so_far first links left.now) op (join_tree join) (typed expr)) }
+        ≡ after (sofar_tree so_far) op (join_tree join) (typed expr)) }
 {
-    let first = cast_if(alloc, join.left, &join.kind, first)?;
-    let expr = cast_if(alloc, join.right, &join.kind, expr)?;
+    let Sofar { first, links, .. } = so_far;
+    let Operands { kind, left, right } = cast_both(alloc, join, first, expr)?;
     let mut links = links;
-    let a = expr.into_inner();
+    let a = right.into_inner();
     links.push(TLink { op, a })?;
-    let kind = Boxed::new(alloc, join.kind)?;
-    Ok(Sofar { first, links, kind })
+    Ok(Sofar {
+        first: left,
+        links,
+        kind,
+    })
 }
 
 #[cycle(typing)]
@@ -242,6 +285,14 @@ fn each<'a>(
     Ok(typings)
 }
 
+// The function of a name, where it takes so many arguments.
+fn callee(name: &str, args: &Exprs) -> Result<Function, TypeFault>
+    ensures { Tells (λ f. f) (checked_then (with_count (count (expr_forms (map expr_form args.now))))
+        (function_of name.now)) result }
+{
+    taking(args, function(name)?)
+}
+
 // The function, where it takes so many arguments.
 fn taking(args: &Exprs, function: Function) -> Result<Function, TypeFault>
     ensures { Tells (λ f. f) (with_count (count (expr_forms (map expr_form args.now))) function)
@@ -259,9 +310,11 @@ fn compare<'a>(
 ) -> Result<Typing<'a>, TypeFault>
     ensures { Tells typing_tree (compare_of op (typing_tree a.entry) (typing_tree b.entry)) result }
 {
-    match compared(alloc, op, kind(&a.column), kind(&b.column))? {
-        Some(join) => Ok(comparison(alloc, op, a.expr, b.expr, join)?),
-        None => Err(TypeFault::Refused(CheckKind::TypeMismatch)),
+    let join = in_memory(compared(alloc, op, kind(&a.column), kind(&b.column)));
+    let ((a, b), join) = beside((a, b), join)?;
+    match join {
+        Some(join) => in_memory(comparison(alloc, op, a.expr, b.expr, join)),
+        None => refused((a, b), CheckKind::TypeMismatch),
     }
 }
 
@@ -276,16 +329,20 @@ fn comparison<'a>(
         (cast_if join.left (kind_tree join.kind) (typed a))
         (cast_if join.right (kind_tree join.kind) (typed b))) (unnamed k_boolean)) }
 {
-    let a = cast_if(alloc, join.left, &join.kind, a)?;
-    let b = cast_if(alloc, join.right, &join.kind, b)?;
-    plain(alloc, TExpr::Compare { op, a, b }, Kind::Boolean)
+    let Operands { left, right, .. } = cast_both(alloc, join, a, b)?;
+    let form = TExpr::Compare {
+        op,
+        a: left,
+        b: right,
+    };
+    plain(alloc, form, Kind::Boolean)
 }
 
-fn null_test<'a>(alloc: Global, a: Typing<'a>, not: bool) -> Result<Typing<'a>, AllocError>
-    ensures { IfOk result (λ p. typing_tree p
-        ≡ typing (x_is_null (typed_of (typing_tree a.entry)) not) (unnamed k_boolean)) }
+fn null_test<'a>(alloc: Global, a: Typing<'a>, not: bool) -> Result<Typing<'a>, TypeFault>
+    ensures { Tells typing_tree (Ok (typing (x_is_null (typed_of (typing_tree a.entry)) not)
+        (unnamed k_boolean))) result }
 {
-    plain(alloc, TExpr::IsNull { a: a.expr, not }, Kind::Boolean)
+    constant(alloc, TExpr::IsNull { a: a.expr, not }, Kind::Boolean)
 }
 
 // An operand as a condition.
@@ -294,8 +351,8 @@ pub fn as_condition<'a>(alloc: Global, a: Typing<'a>) -> Result<Boxed<TExpr>, Ty
     ensures { Tells typed (condition_of (typing_tree a.entry)) result }
 {
     match condition(kind(&a.column)) {
-        Some(is_cast) => Ok(cast_if(alloc, is_cast, &Kind::Boolean, a.expr)?),
-        None => Err(TypeFault::Refused(CheckKind::TypeMismatch)),
+        Some(is_cast) => in_memory(cast_if(alloc, is_cast, &Kind::Boolean, a.expr)),
+        None => refused(a, CheckKind::TypeMismatch),
     }
 }
 
@@ -304,9 +361,16 @@ fn negative<'a>(alloc: Global, a: Typing<'a>) -> Result<Typing<'a>, TypeFault>
     ensures { Tells typing_tree (minus_of (typing_tree a.entry)) result }
 {
     match minus(kind(&a.column)) {
-        Some(kind) => Ok(plain(alloc, TExpr::Minus(a.expr), kind)?),
-        None => Err(TypeFault::Refused(CheckKind::TypeMismatch)),
+        Some(kind) => in_memory(opposite(alloc, a, kind)),
+        None => refused(a, CheckKind::TypeMismatch),
     }
+}
+
+fn opposite<'a>(alloc: Global, a: Typing<'a>, kind: Kind) -> Result<Typing<'a>, AllocError>
+    ensures { IfOk result (λ p. typing_tree p
+        ≡ typing (x_minus (typed_of (typing_tree a.entry))) (unnamed (kind_tree kind))) }
+{
+    plain(alloc, TExpr::Minus(a.expr), kind)
 }
 
 // The column of a type, within the limits.
@@ -316,8 +380,9 @@ pub fn cast_type(alloc: Global, to: &TypeTree) -> Result<Boxed<Field>, TypeFault
 {
     match written_type(alloc, to)? {
         Some(column) => {
-            within_limits(&column.kind)?;
-            Ok(Boxed::new(alloc, column)?)
+            let limits = within_limits(&column.kind);
+            let (column, _) = beside(column, limits)?;
+            in_memory(Boxed::new(alloc, column))
         }
         None => Err(TypeFault::Refused(CheckKind::FloatType)),
     }
@@ -327,11 +392,10 @@ pub fn cast_type(alloc: Global, to: &TypeTree) -> Result<Boxed<Field>, TypeFault
 fn converted<'a>(alloc: Global, to: Boxed<Field>, a: Typing<'a>) -> Result<Typing<'a>, TypeFault>
     ensures { Tells typing_tree (typed_cast (named_tree to) (typing_tree a.entry)) result }
 {
-    let column = to.into_inner();
-    if casts_to(kind(&a.column), &column.kind) {
-        Ok(cast(alloc, column, a.expr)?)
+    if casts_to(kind(&a.column), &to.get().kind) {
+        in_memory(cast(alloc, to.into_inner(), a.expr))
     } else {
-        Err(TypeFault::Refused(CheckKind::TypeMismatch))
+        refused((to, a), CheckKind::TypeMismatch)
     }
 }
 
@@ -339,7 +403,8 @@ fn cast<'a>(alloc: Global, column: Field, a: Boxed<TExpr>) -> Result<Typing<'a>,
     ensures { IfOk result (λ p. typing_tree p
         ≡ typing (x_cast (tree_kind (named_tree column)) (typed a)) (named_tree column)) }
 {
-    let to = copy_kind(alloc, &column.kind)?;
+    let to = copy_kind(alloc, &column.kind);
+    let ((column, a), to) = beside((column, a), to)?;
     made(alloc, TExpr::Cast { to, a }, column)
 }
 
@@ -353,9 +418,11 @@ fn choose<'a>(
     ensures { Tells typing_tree (choose_of (typed cond) (typing_tree yes.entry)
         (typing_tree no.entry)) result }
 {
-    match alike(alloc, kind(&yes.column), kind(&no.column))? {
-        Some(join) => Ok(choice(alloc, cond, yes.expr, no.expr, join)?),
-        None => Err(TypeFault::Refused(CheckKind::TypeMismatch)),
+    let join = in_memory(alike(alloc, kind(&yes.column), kind(&no.column)));
+    let ((cond, yes, no), join) = beside((cond, yes, no), join)?;
+    match join {
+        Some(join) => in_memory(choice(alloc, cond, yes.expr, no.expr, join)),
+        None => refused((cond, yes, no), CheckKind::TypeMismatch),
     }
 }
 
@@ -370,7 +437,11 @@ fn choice<'a>(
         (cast_if join.left (kind_tree join.kind) (typed yes))
         (cast_if join.right (kind_tree join.kind) (typed no))) (unnamed (kind_tree join.kind))) }
 {
-    let yes = cast_if(alloc, join.left, &join.kind, yes)?;
-    let no = cast_if(alloc, join.right, &join.kind, no)?;
-    plain(alloc, TExpr::Choose { cond, yes, no }, join.kind)
+    let Operands { kind, left, right } = cast_both(alloc, join, yes, no)?;
+    let form = TExpr::Choose {
+        cond,
+        yes: left,
+        no: right,
+    };
+    plain(alloc, form, kind.into_inner())
 }

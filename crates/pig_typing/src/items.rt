@@ -1,17 +1,19 @@
 ghost use Rattle.std.specs.Prelude.{◌≡◌, ◌∷◌, [], ◌++◌, IfOk, Ok, OnOk, codes, map};
 ghost use Rattle.pig_value.specs.Trees.{kind_tree};
 ghost use Rattle.std.specs.Option.{option_map};
-ghost use Rattle.pig_schema.specs.FieldTrees.{inner_list, named_tree, schema_tree, tree_inner};
+ghost use Rattle.pig_schema.specs.FieldTrees.{inner_list, named_tree, schema_tree, tree_inner, tree_kind};
 ghost use Rattle.pig_syntax.specs.ExprTrees.{field_form};
 ghost use Rattle.pig_typed.specs.Typed.{item_typed, typed, x_cast, x_field};
 ghost use Rattle.pig_typing.specs.Columns.{place_of};
 ghost use Rattle.pig_typing.specs.Calls.{fields_from};
 ghost use Rattle.pig_typing.specs.Items.{AllGenerate, AllGenerateNot, all_renamed, cast_named, flat_columns, flat_of, flattened_columns, item_of, item_value, items_of, name_forms, name_under, named_of, names_for, nothing_generated, one_column, only_name, plain_item, plain_of, renamed_of, same_named, both_items, under_name, whole_row};
+ghost use Rattle.pig_typing.specs.Parts.{typed_of};
 ghost use Rattle.pig_typing.specs.Results.{IfRefused, Tells};
+ghost use Rattle.pig_typing.specs.Written.{with_name};
 ghost use Rattle.pig_typing.specs.Views.{generated_tree, typed_tree};
 
 use crate::exprs::{TypedExpr, cast_type, typed_expr};
-use crate::faults::{CheckKind, TypeFault};
+use crate::faults::{CheckKind, TypeFault, beside, in_memory, refused};
 use crate::names::narrow;
 use crate::scope::Scope;
 use crate::written::with_name;
@@ -149,24 +151,31 @@ fn single(alloc: Global, typed: TypedExpr, names: &Option<AsNames>) -> Result<Ge
     match names {
         Some(names) => match only(names) {
             Some(field) => named(alloc, typed, field),
-            None => Err(TypeFault::Refused(CheckKind::SchemaMismatch)),
+            None => refused(typed, CheckKind::SchemaMismatch),
         },
-        None => Ok(one_column(alloc, typed.expr, typed.column)?),
+        None => in_memory(one_column(alloc, typed.expr, typed.column)),
     }
 }
 
 fn one_column(alloc: Global, value: TExpr, column: Field) -> Result<Generated, AllocError>
     ensures { IfOk result (λ g. generated_tree g ≡ one_column (typed value) (named_tree column)) }
 {
-    let mut items = Seq::new(alloc);
-    items.push(BlockItem {
+    let (value, columns) = beside(value, list_of(alloc, column))?;
+    let item = BlockItem {
         value,
         flatten: false,
         width: 1,
-    })?;
-    let mut columns = Seq::new(alloc);
-    columns.push(column)?;
+    };
+    let items = list_of(alloc, item)?;
     Ok(Generated { items, columns })
+}
+
+fn list_of<T: Drop>(alloc: Global, element: T) -> Result<Seq<T>, AllocError>
+    ensures { IfOk result (λ s. s ≡ element ∷ []) }
+{
+    let mut list = Seq::new(alloc);
+    list.push(element)?;
+    Ok(list)
 }
 
 // The one name, where there is one.
@@ -186,13 +195,17 @@ fn only(names: &AsNames) -> Option<&FieldTree>
 fn named(alloc: Global, typed: TypedExpr, field: &FieldTree) -> Result<Generated, TypeFault>
     ensures { Tells generated_tree (named_of (typed_tree typed) (field_form field.now)) result }
 {
-    let name = field.name.copy(alloc)?;
+    let name = in_memory(field.name.copy(alloc));
+    let (typed, name) = beside(typed, name)?;
     match &field.kind {
         Some(to) => {
-            let column = cast_type(alloc, to)?;
+            let ((typed, name), column) = beside((typed, name), cast_type(alloc, to))?;
             cast_named(alloc, typed, name, column)
         }
-        None => Ok(one_column(alloc, typed.expr, with_name(name, typed.column))?),
+        None => {
+            let column = with_name(name, typed.column);
+            in_memory(one_column(alloc, typed.expr, column))
+        }
     }
 }
 
@@ -205,20 +218,33 @@ fn cast_named(
 ) -> Result<Generated, TypeFault>
     ensures { Tells generated_tree (cast_named (typed_tree typed) name (named_tree column)) result }
 {
-    let column = column.into_inner();
-    if casts_to(&typed.column.kind, &column.kind) {
-        let value = cast_of(alloc, typed.expr, &column.kind)?;
-        Ok(one_column(alloc, value, with_name(name, column))?)
+    if casts_to(&typed.column.kind, &column.get().kind) {
+        in_memory(cast_column(alloc, typed, name, column.into_inner()))
     } else {
-        Err(TypeFault::Refused(CheckKind::TypeMismatch))
+        refused((typed, name, column), CheckKind::TypeMismatch)
     }
+}
+
+fn cast_column(
+    alloc: Global,
+    typed: TypedExpr,
+    name: Text,
+    column: Field,
+) -> Result<Generated, AllocError>
+    ensures { IfOk result (λ g. generated_tree g
+        ≡ one_column (x_cast (tree_kind (named_tree column)) (typed_of (typed_tree typed)))
+        (with_name name (named_tree column))) }
+{
+    let value = cast_of(alloc, typed.expr, &column.kind);
+    let ((name, column), value) = beside((name, column), value)?;
+    one_column(alloc, value, with_name(name, column))
 }
 
 fn cast_of(alloc: Global, value: TExpr, to: &Kind) -> Result<TExpr, AllocError>
     ensures { IfOk result (λ e. typed e ≡ x_cast (kind_tree to.now) (typed value)) }
 {
-    let to = copy_kind(alloc, to)?;
     let a = Boxed::new(alloc, value)?;
+    let to = copy_kind(alloc, to)?;
     Ok(TExpr::Cast { to, a })
 }
 
@@ -228,25 +254,27 @@ fn cast_of(alloc: Global, value: TExpr, to: &Kind) -> Result<TExpr, AllocError>
 fn flat(alloc: Global, typed: TypedExpr, names: &Option<AsNames>) -> Result<Generated, TypeFault>
     ensures { Tells generated_tree (flat_of (typed_tree typed) names.now) result }
 {
-    match flattened(alloc, &typed.column)? {
+    let columns = in_memory(flattened(alloc, &typed.column));
+    let (typed, columns) = beside(typed, columns)?;
+    match columns {
         Some(columns) => {
-            let columns = names_for(alloc, columns, names)?;
+            let (typed, columns) = beside(typed, names_for(alloc, columns, names))?;
             flat_columns(alloc, typed.expr, columns)
         }
-        None => Err(TypeFault::Refused(CheckKind::TypeMismatch)),
+        None => refused(typed, CheckKind::TypeMismatch),
     }
 }
 
 fn flat_columns(alloc: Global, value: TExpr, columns: Schema) -> Result<Generated, TypeFault>
     ensures { Tells generated_tree (Ok (flat_columns (typed value) (schema_tree columns))) result }
 {
-    let width = narrow(columns.len())?;
-    let mut items = Seq::new(alloc);
-    items.push(BlockItem {
+    let (value, width) = beside(value, narrow(columns.len()))?;
+    let item = BlockItem {
         value,
         flatten: true,
         width,
-    })?;
+    };
+    let items = list_of(alloc, item)?;
     Ok(Generated { items, columns })
 }
 
@@ -409,10 +437,9 @@ fn renamed(alloc: Global, column: &Field, field: &FieldTree) -> Result<Field, Ty
 fn same_named(column: &Field, name: Text, typed: Boxed<Field>) -> Result<Field, TypeFault>
     ensures { Tells named_tree (same_named (named_tree column.now) name (named_tree typed)) result }
 {
-    let typed = typed.into_inner();
-    if same_kind(&typed.kind, &column.kind) {
-        Ok(with_name(name, typed))
+    if same_kind(&typed.get().kind, &column.kind) {
+        Ok(with_name(name, typed.into_inner()))
     } else {
-        Err(TypeFault::Refused(CheckKind::TypeMismatch))
+        refused((name, typed), CheckKind::TypeMismatch)
     }
 }

@@ -3,8 +3,8 @@ ghost use Rattle.std.specs.Option.{option_and_then, option_map};
 ghost use Rattle.pig_value.specs.Trees.{kind_tree};
 ghost use Rattle.pig_typed.specs.ExprKinds.{is_equated, is_ranged, may_compare, minus_kind};
 ghost use Rattle.pig_typed.specs.Typed.{typed, x_cast};
-ghost use Rattle.pig_typing.specs.Joins.{alike, cast_if, chained, compared, condition, conditions, join, numbers};
-ghost use Rattle.pig_typing.specs.Views.{join_tree};
+ghost use Rattle.pig_typing.specs.Joins.{alike, cast_if, chained, compared, condition, conditions, join, numbers, operands_of};
+ghost use Rattle.pig_typing.specs.Views.{join_tree, operands_tree};
 
 use pig_typed::TExpr;
 use pig_value::{Boxed, ChainOp, Kind, Rel, copy_kind, same_kind};
@@ -154,6 +154,31 @@ pub fn minus(kind: &Kind) -> Option<Kind>
         Kind::Long => Some(Kind::Long),
         _ => None,
     }
+}
+
+/// Two operands as they are cast, and their kind together.
+#[derive(Drop)]
+pub struct Operands {
+    pub kind: Boxed<Kind>,
+    pub left: Boxed<TExpr>,
+    pub right: Boxed<TExpr>,
+}
+
+/// Two operands, each cast where it is to be.
+pub fn cast_both(
+    alloc: Global,
+    join: Join,
+    a: Boxed<TExpr>,
+    b: Boxed<TExpr>,
+) -> Result<Operands, AllocError>
+    ensures { IfOk result (λ o. operands_tree o
+        ≡ operands_of (join_tree join) (typed a) (typed b)) }
+{
+    let Join { kind, left, right } = join;
+    let kind = Boxed::new(alloc, kind)?;
+    let left = cast_if(alloc, left, kind.get(), a)?;
+    let right = cast_if(alloc, right, kind.get(), b)?;
+    Ok(Operands { kind, left, right })
 }
 
 /// An expression, cast where it is to be.

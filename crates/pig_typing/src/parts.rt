@@ -10,7 +10,7 @@ ghost use Rattle.pig_typing.specs.Views.{column_seen, pick_tree, typing_tree};
 ghost use Rattle.pig_typing.specs.Written.{of_fields};
 
 use crate::columns::{Column, Typing, bag, holding, inner, kind, made, tuple};
-use crate::faults::{CheckKind, TypeFault};
+use crate::faults::{CheckKind, TypeFault, beside};
 use crate::limits::within_limits;
 use crate::names::{narrow, refer};
 use pig_schema::{Field, Schema, copy_field, copy_schema};
@@ -92,7 +92,7 @@ fn look<'a>(
         ≡ typing (x_look (typed_of (typing_tree of.entry)) key.now) (named_tree column)) }
 {
     let Typing { expr, .. } = of;
-    let key = key.copy(alloc)?;
+    let (column, key) = beside(column, key.copy(alloc))?;
     made(alloc, TExpr::Look { a: expr, key }, column)
 }
 
@@ -137,7 +137,8 @@ fn given(alloc: Global, single: bool, of: &Kind, picks: &Seq<Pick>) -> Result<Fi
 {
     match projected(alloc, single, of, picks.as_slice())? {
         Some(column) => {
-            within_limits(&column.kind)?;
+            let limits = within_limits(&column.kind);
+            let (column, _) = beside(column, limits)?;
             Ok(column)
         }
         None => Err(TypeFault::Refused(CheckKind::TypeMismatch)),

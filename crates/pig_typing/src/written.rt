@@ -6,6 +6,7 @@ ghost use Rattle.pig_syntax.specs.ExprTrees.{field_form, field_forms, type_form}
 ghost use Rattle.pig_typing.specs.Written.{of_fields, of_values, scalar_column, with_name, written, written_field, written_fields};
 
 use crate::columns::{bag, holding, tuple};
+use crate::faults::beside;
 use pig_schema::{Field, Schema};
 use pig_syntax::{FieldTree, TypeTree};
 use pig_value::{Boxed, Kind, Seq, Text};
@@ -24,19 +25,19 @@ pub fn written_type(alloc: Global, form: &TypeTree) -> Result<Option<Field>, All
         TypeTree::Bytearray => Ok(Some(scalar(alloc, Kind::Bytearray))),
         TypeTree::Boolean => Ok(Some(scalar(alloc, Kind::Boolean))),
         TypeTree::Float => Ok(None),
-        TypeTree::Tuple(fields) => match written_schema(alloc, fields.as_slice())? {
-            Some(inner) => Ok(Some(tuple(alloc, inner)?)),
-            None => Ok(None),
-        },
-        TypeTree::Bag(fields) => match written_schema(alloc, fields.as_slice())? {
-            Some(inner) => Ok(Some(bag(alloc, inner)?)),
-            None => Ok(None),
-        },
-        TypeTree::Map(Some(values)) => match written_type(alloc, values.get())? {
-            Some(values) => Ok(Some(map_of(alloc, values)?)),
-            None => Ok(None),
-        },
-        TypeTree::Map(None) => Ok(Some(map_of(alloc, scalar(alloc, Kind::Bytearray))?)),
+        TypeTree::Tuple(fields) => {
+            let inner = written_schema(alloc, fields.as_slice())?;
+            tuple_of(alloc, inner)
+        }
+        TypeTree::Bag(fields) => {
+            let inner = written_schema(alloc, fields.as_slice())?;
+            bag_of(alloc, inner)
+        }
+        TypeTree::Map(Some(values)) => {
+            let values = written_type(alloc, values.get())?;
+            map_of(alloc, values)
+        }
+        TypeTree::Map(None) => map_of(alloc, Some(scalar(alloc, Kind::Bytearray))),
     }
 }
 
@@ -62,13 +63,55 @@ fn written_field(alloc: Global, field: &FieldTree) -> Result<Option<Field>, Allo
     ensures { IfOk result (λ found. option_map named_tree found
         ≡ written_field (field_form field.now)) }
 {
-    let name = field.name.copy(alloc)?;
     match &field.kind {
-        Some(form) => match written_type(alloc, form)? {
-            Some(column) => Ok(Some(with_name(name, column))),
-            None => Ok(None),
-        },
-        None => Ok(Some(with_name(name, scalar(alloc, Kind::Bytearray)))),
+        Some(form) => {
+            let column = written_type(alloc, form)?;
+            named(alloc, &field.name, column)
+        }
+        None => named(alloc, &field.name, Some(scalar(alloc, Kind::Bytearray))),
+    }
+}
+
+fn named(alloc: Global, name: &Text, column: Option<Field>) -> Result<Option<Field>, AllocError>
+    ensures { IfOk result (λ found. option_map named_tree found
+        ≡ option_map (with_name name.now) (option_map named_tree column)) }
+{
+    match column {
+        Some(column) => {
+            let (column, name) = beside(column, name.copy(alloc))?;
+            Ok(Some(with_name(name, column)))
+        }
+        None => Ok(None),
+    }
+}
+
+fn tuple_of(alloc: Global, inner: Option<Schema>) -> Result<Option<Field>, AllocError>
+    ensures { IfOk result (λ found. option_map named_tree found
+        ≡ option_map (of_fields k_tuple) (option_map schema_tree inner)) }
+{
+    match inner {
+        Some(inner) => Ok(Some(tuple(alloc, inner)?)),
+        None => Ok(None),
+    }
+}
+
+fn bag_of(alloc: Global, inner: Option<Schema>) -> Result<Option<Field>, AllocError>
+    ensures { IfOk result (λ found. option_map named_tree found
+        ≡ option_map (of_fields k_bag) (option_map schema_tree inner)) }
+{
+    match inner {
+        Some(inner) => Ok(Some(bag(alloc, inner)?)),
+        None => Ok(None),
+    }
+}
+
+fn map_of(alloc: Global, values: Option<Field>) -> Result<Option<Field>, AllocError>
+    ensures { IfOk result (λ found. option_map named_tree found
+        ≡ option_map of_values (option_map named_tree values)) }
+{
+    match values {
+        Some(values) => Ok(Some(of_values(alloc, values)?)),
+        None => Ok(None),
     }
 }
 
@@ -78,7 +121,7 @@ fn scalar(alloc: Global, kind: Kind) -> Field
     holding(kind, Seq::new(alloc))
 }
 
-fn map_of(alloc: Global, values: Field) -> Result<Field, AllocError>
+fn of_values(alloc: Global, values: Field) -> Result<Field, AllocError>
     ensures { IfOk result (λ f. named_tree f ≡ of_values (named_tree values)) }
 {
     let Field { kind, inner, .. } = values;
