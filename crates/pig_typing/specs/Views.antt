@@ -1,10 +1,7 @@
 -- What the code holds, as the definitions see it.
 use Rattle.std.specs.Borrow.{Bor}
-use Rattle.std.specs.Prelude.{ℕ, List, map}
+use Rattle.std.specs.Prelude.{ℕ, map}
 use Rattle.pig_value.specs.Trees.{kind_tree}
-use Rattle.pig_value.specs.declared.values.Kind.{Kind}
-use Rattle.pig_typed.specs.declared.exprs.TExpr.{TExpr}
-use Rattle.pig_typed.specs.declared.exprs.TLink.{TLink}
 use Rattle.pig_schema.specs.FieldTrees.{FieldTree, named_tree, schema_tree}
 use Rattle.pig_schema.specs.declared.schema.Field.{Field}
 use Rattle.pig_typed.specs.Typed.{typed, item_typed, link_of}
@@ -36,9 +33,6 @@ typed_tree t = typing (typed t.expr) (named_tree t.column)
 
 abbrev pub sofar_tree : chain.Sofar → Sofar
 sofar_tree c = record { first = typed c.first; links = map link_of c.links; kind = kind_tree c.kind }
-
-abbrev pub chain_so_far : TExpr → List TLink → Kind → Sofar
-chain_so_far first links kind = record { first = typed first; links = map link_of links; kind = kind_tree kind }
 
 abbrev pub join_tree : both.Join → Join
 join_tree j = join (kind_tree j.kind) j.left j.right
