@@ -63,15 +63,6 @@ module _ (rows : ℕ → List (List Tree)) where
   pub there_not : (inner : List Bool) (i : ℕ) (flag : Bool) → slice_get inner i ≡ Some flag → (flag && is_empty (rows i)) ≡ true → all_there (drop i inner) i rows ≡ false
   there_not inner i flag here test = there_is inner i flag here ∙ ap (λ b. not b && all_there (drop (i + 1) inner) (i + 1) rows) test
 
-  pub there_end : (inner : List Bool) (i : ℕ) → length inner ≤ i → all_there (drop i inner) i rows ≡ true
-  there_end inner i h = ap (λ l. all_there l i rows) (none_left inner i h)
-    where
-      none_left : (l : List Bool) (n : ℕ) → length l ≤ n → drop n l ≡ []
-      none_left [] zero k = refl
-      none_left [] (suc n) k = refl
-      none_left (x ∷ l) zero k = absurd (omega (arith, k))
-      none_left (x ∷ l) (suc n) k = none_left l n (omega (arith, k))
-
 -- ---- each input alone
 
 module _ (i : ℕ) (bag : List (List Tree)) where

@@ -22,10 +22,6 @@ module _ {X : Type 0} where
       ap (drop from) (more_taken xs at x here)
       ∙ drop-append-le from (take at xs) (x ∷ []) (let size = length-take at xs in omega (arith, size, above, within))
 
-  -- all up to the end
-  pub between_first : (end : ℕ) (xs : List X) → between 0 end xs ≡ take end xs
-  between_first end xs = refl
-
   -- two parts in turn
   pub between_parts : (a b c : ℕ) (xs : List X) → a ≤ b → b ≤ c → between a c xs ≡ between a b xs ++ between b c xs
   between_parts zero zero c xs h k = refl
@@ -57,10 +53,6 @@ module _ {X : Type 0} where
   each_between P (suc a) zero xs h = tt
   each_between P (suc a) (suc b) [] h = tt
   each_between P (suc a) (suc b) (x ∷ xs) h = each_between P a b xs (λ k y low high here. h (suc k) y (omega (arith, low)) (omega (arith, high)) here)
-
-  -- what ascends does so from a place up to another
-  pub between_ascends : (R : X → X → Ordering) (a b : ℕ) (xs : List X) → Ascends R xs → Ascends R (between a b xs)
-  between_ascends R a b xs h = drop_ascends R a (take b xs) (take_ascends R b xs h)
 
   -- the first of them stands at the place
   pub first_between : (a b : ℕ) (xs : List X) (x : X) → slice_get (between a b xs) 0 ≡ Some x → (a < b) × (slice_get xs a ≡ Some x)

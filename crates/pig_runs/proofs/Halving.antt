@@ -59,10 +59,6 @@ pub record IsHalved (ds : List Dir) (es fs : List Keyed) (there low high : ℕ) 
   pub first : (f : Keyed) → slice_get fs there ≡ Some f → AllByRecursion (λ e. is_lt (run_cmp ds e f) ≡ true) (take low es)
   pub rest : (f : Keyed) → slice_get fs there ≡ Some f → AllByRecursion (λ e. is_lt (run_cmp ds e f) ≡ false) (drop high es)
 
-none_behind : {X : Type 0} (P : X → Type 0) (xs : List X) → AllByRecursion P (drop (length xs) xs)
-none_behind P [] = tt
-none_behind P (x ∷ xs) = none_behind P xs
-
 pub halved_all : (ds : List Dir) (es fs : List Keyed) (there low high : ℕ) → IsHalved ds es fs there low high → high ≤ low
     → (f : Keyed) → slice_get fs there ≡ Some f → Divides (λ e. is_lt (run_cmp ds e f)) es low
 halved_all ds es fs there low high h done f here =

@@ -1,9 +1,8 @@
 -- Points and slices of entries.
 use Rattle.std.proofs.Common.{◌≡◌, zero, suc, ◌<◌, ◌≤◌, ◌+◌, ◌-◌, ◌*◌, ◌/◌, ℕ, Bool, true, false, List, [], ◌∷◌, ◌++◌, map, length, take, drop, refl, sym, ◌∙◌, ap, subst, arith}
 use Rattle.std.specs.Prelude.{not, replicate, Option, Some, None, slice_get}
-use Rattle.std.specs.List.{AllByRecursion, filter, flat_map, range_with_len}
+use Rattle.std.specs.List.{filter, flat_map, range_with_len}
 use Rattle.std.specs.Option.{option_map_or}
-use Rattle.std.specs.Ordering.{is_lt}
 use Rattle.std.proofs.Math.Logic.{∥∥₁_map, ∥∥₁_elim}
 use Rattle.std.proofs.Math.Nat.{div-lt_iff_lt-mul, mul_comm, mul-lt-mul_of_pos_right}
 use Rattle.std.proofs.lemmas.Grind.{flat_map-append}
@@ -43,43 +42,9 @@ one_copied from at es b s new above within so_far grown =
 
 -- ---- bounds of a slice
 
-at_end : (P : Option Point → Type 0) → P None → P (Some None) → (entries : List Keyed) (ends k : ℕ) → length entries ≤ k → P (slice_get (points_at entries ends) k)
-at_end P none end [] zero zero h = none
-at_end P none end [] zero (suc k) h = none
-at_end P none end [] (suc n) zero h = end
-at_end P none end [] (suc n) (suc k) h = at_end P none end [] n k (omega arith)
-at_end P none end (e ∷ es) n zero h = absurd (omega (arith, h))
-at_end P none end (e ∷ es) n (suc k) h = at_end P none end es n k (omega (arith, h))
-
-point_is : (entries : List Keyed) (ends k : ℕ) (f : Keyed) → slice_get entries k ≡ Some f → slice_get (points_at entries ends) k ≡ Some (Some f)
-point_is [] ends zero f here = absurd (cc)
-point_is [] ends (suc k) f here = absurd (cc)
-point_is (e ∷ es) ends zero f here = let same : e ≡ f = some_at_once e f here in ap (λ x. Some (Some x)) same
-  where
-    some_at_once : (x y : Keyed) → Some x ≡ Some y → x ≡ y
-    some_at_once x y h = cc
-point_is (e ∷ es) ends (suc k) f here = point_is es ends k f here
-
 module _ (ds : List Dir) (es : List Keyed) where
   abbrev under : Option Point → Keyed → Bool
   under o e = option_map_or (λ point. stands_before ds point e) o true
-
-  pub below_entry : (entries : List Keyed) (ends k count : ℕ) → k < length entries
-      → ((f : Keyed) → slice_get entries k ≡ Some f → Divides (λ e. is_lt (run_cmp ds e f)) es count) → Divides (is_below ds (points_at entries ends) k) es count
-  below_entry entries ends k count within parts =
-      let found = some_at entries k within in
-      subst (λ o. Divides (under o) es count) (sym (point_is entries ends k found.0 found.1)) (parts found.0 found.1)
-
-  all_below : (o : Option Point) → ((e : Keyed) → under o e ≡ true) → Divides (under o) es (length es)
-  all_below o h = record {
-    first = each_of_all (λ e. under o e ≡ true) h (take (length es) es);
-    rest = subst (AllByRecursion (λ e. under o e ≡ false)) (sym (drop_none (length es) es (omega arith))) tt;
-  }
-
-  pub below_end : (entries : List Keyed) (ends k count : ℕ) → length entries ≤ k → count ≡ length es → Divides (is_below ds (points_at entries ends) k) es count
-  below_end entries ends k count past is =
-      subst (Divides (is_below ds (points_at entries ends) k) es) (sym is)
-      (at_end (λ o. Divides (under o) es (length es)) (all_below None (λ e. refl)) (all_below (Some None) (λ e. refl)) entries ends k past)
 
   pub leads_all : (points : List Point) → Leads (is_from ds points 0) es 0
   leads_all points = record { first = tt; rest = each_of_all (λ e. true ≡ true) (λ e. refl) es }

@@ -168,7 +168,10 @@ pub fn slice(alloc: Global, run: &Run, points: &CutPoints, part: u32) -> Result<
     requires alike { points.now.dirs ≡ run.now.dirs }
     ensures { IfOk result
         (λ found. found
-        ≡ record { dirs = run.now.dirs; entries = slice_of run.now.dirs points.now.points part run.now.entries }) }
+        ≡ record {
+          dirs = run.now.dirs;
+          entries = slice_of run.now.dirs points.now.points part run.now.entries;
+        }) }
 {
     let entries = run.as_builder();
     let from = points.count_before(run, part);
