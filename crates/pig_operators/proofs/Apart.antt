@@ -10,7 +10,7 @@ use Rattle.pig_value.specs.declared.values.Value.{Value}
 use Rattle.pig_value.specs.Trees.{Tree, row_tree, rows_tree}
 use Rattle.pig_value.proofs.list_laws.Bags.{either_way}
 use Rattle.pig_value.proofs.list_laws.Indexing.{dropped}
-use Rattle.pig_plan.specs.ByKey.{all_there, alone, bags_of, cogroup_of, holds_null, is_empty, kept_where}
+use Rattle.pig_plan.specs.ByKey.{all_there, alone, bags_of, is_empty, kept_where}
 use Rattle.pig_operators.specs.Groups.{apart_rows, between, lone_rows, no_other, rows_alone}
 
 -- numbers up to the next

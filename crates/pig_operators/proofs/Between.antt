@@ -5,7 +5,6 @@ use Rattle.std.specs.List.{AllByRecursion}
 use Rattle.std.proofs.lemmas.List.{length-take, drop-append-le}
 use Rattle.pig_value.specs.Sorts.{Ascends}
 use Rattle.std.specs.declared.cmp.Ordering.{Ordering}
-use Rattle.pig_value.proofs.list_laws.Bags.{drop_ascends, take_ascends}
 use Rattle.pig_value.proofs.list_laws.Indexing.{more_taken}
 use Rattle.pig_operators.specs.Groups.{between}
 
