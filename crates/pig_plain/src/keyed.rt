@@ -1,4 +1,4 @@
-ghost use Rattle.std.specs.Prelude.{◌≡◌, ◌≢◌, ◌+◌, ◌==◌, [], ◌∷◌, ℕ, List, true, false, codes};
+ghost use Rattle.std.specs.Prelude.{◌≡◌, ◌≢◌, ◌+◌, ◌==◌, ◌++◌, [], ◌∷◌, ℕ, List, true, false, codes};
 ghost use Rattle.std.specs.Prelude.{get_or, length, map, IfOk, OnOk};
 ghost use Rattle.std.specs.List.{AllByRecursion, list_any};
 ghost use Rattle.pig_value.specs.Trees.{Tree, fields_of, row_tree, rows_tree, tree, v_chars, v_tuple};
@@ -68,32 +68,39 @@ fn all_entries(alloc: Global, seen: Seen) -> Result<RunBuilder, AllocError>
     ensures { IfOk result (λ builder. builder
         ≡ and_entries (all_rows_keyed (seen_rows seen.entry)) (no_entries_in [])) }
 {
-    let key = all_key(alloc)?;
     let mut builder = RunBuilder::new(alloc, Dirs::new(alloc));
-    add_all_seen(alloc, &key, seen, &mut builder)?;
+    add_all_seen(alloc, seen, &mut builder)?;
     Ok(builder)
 }
 
-fn add_all_seen(
-    alloc: Global,
-    key: &Value,
-    seen: Seen,
-    builder: &mut RunBuilder,
-) -> Result<(), AllocError>
+fn add_all_seen(alloc: Global, seen: Seen, builder: &mut RunBuilder) -> Result<(), AllocError>
     requires ascending { builder.old.dirs ≡ [] }
-    requires key { tree key.now ≡ v_chars (codes "all") }
-    requires valid { IsValue (tree key.now) }
     requires rows { AreRows (seen_rows seen) }
     ensures { OnOk result (builder.new
         ≡ and_entries (all_rows_keyed (seen_rows seen.entry)) builder.old) }
 {
     match seen {
-        Seen::Whole(rows) => add_all_rows(key, rows, builder),
-        Seen::Walked(walk) => add_all_coming(alloc, key, walk, builder),
+        Seen::Whole(rows) => add_all_rows(alloc, rows, builder),
+        Seen::Walked(mut walk) => {
+            let added = add_all_coming(alloc, &mut walk, builder);
+            drop(walk);
+            added
+        }
     }
 }
 
-fn add_all_rows(key: &Value, rows: &[Tuple], builder: &mut RunBuilder) -> Result<(), AllocError>
+/// The key is made here, so that none is alive where rows come.
+fn add_all_rows(alloc: Global, rows: &[Tuple], builder: &mut RunBuilder) -> Result<(), AllocError>
+    requires ascending { builder.old.dirs ≡ [] }
+    requires rows { AreRows (rows_tree rows.now) }
+    ensures { OnOk result (builder.new
+        ≡ and_entries (all_rows_keyed (rows_tree rows.now)) builder.old) }
+{
+    let key = all_key(alloc)?;
+    add_all_under(&key, rows, builder)
+}
+
+fn add_all_under(key: &Value, rows: &[Tuple], builder: &mut RunBuilder) -> Result<(), AllocError>
     requires ascending { builder.old.dirs ≡ [] }
     requires key { tree key.now ≡ v_chars (codes "all") }
     requires valid { IsValue (tree key.now) }
@@ -112,24 +119,20 @@ fn add_all_rows(key: &Value, rows: &[Tuple], builder: &mut RunBuilder) -> Result
 /// Here and below, rows that come go batch by batch into the run, and are let go.
 fn add_all_coming(
     alloc: Global,
-    key: &Value,
-    walk: Walk,
+    walk: &mut Walk,
     builder: &mut RunBuilder,
 ) -> Result<(), AllocError>
     requires ascending { builder.old.dirs ≡ [] }
-    requires key { tree key.now ≡ v_chars (codes "all") }
-    requires valid { IsValue (tree key.now) }
-    requires rows { AreRows (coming walk) }
+    requires rows { AreRows (coming walk.old) }
     ensures { OnOk result (builder.new
-        ≡ and_entries (all_rows_keyed (coming walk.entry)) builder.old) }
+        ≡ and_entries (all_rows_keyed (coming walk.old)) builder.old) }
 {
-    let mut walk = walk;
     'batches: loop {
         let rows = walk.next_batch(alloc)?;
         if rows.is_empty() {
             return Ok(());
         }
-        add_all_rows(key, rows.as_slice(), builder)?;
+        add_all_rows(alloc, rows.as_slice(), builder)?;
     }
 }
 
@@ -394,7 +397,11 @@ fn add_seen(
 {
     match seen {
         Seen::Whole(rows) => add_rows(alloc, keys, number, rows, builder),
-        Seen::Walked(walk) => add_coming(alloc, keys, number, walk, builder),
+        Seen::Walked(mut walk) => {
+            let added = add_coming(alloc, keys, number, &mut walk, builder);
+            drop(walk);
+            added
+        }
     }
 }
 
@@ -402,16 +409,15 @@ fn add_coming(
     alloc: Global,
     keys: &[TExpr],
     number: u32,
-    walk: Walk,
+    walk: &mut Walk,
     builder: &mut RunBuilder,
 ) -> Result<(), AllocError>
     requires ascending { builder.old.dirs ≡ [] }
-    requires rows { AreRows (coming walk) }
+    requires rows { AreRows (coming walk.old) }
     requires literals { AllByRecursion (LiteralsAre IsValue) (map typed keys.now) }
     ensures { OnOk result (builder.new
-        ≡ and_entries (keyed_rows (map typed keys.now) number (coming walk.entry)) builder.old) }
+        ≡ and_entries (keyed_rows (map typed keys.now) number (coming walk.old)) builder.old) }
 {
-    let mut walk = walk;
     'batches: loop {
         let rows = walk.next_batch(alloc)?;
         if rows.is_empty() {
@@ -516,10 +522,17 @@ fn tuple_of(alloc: Global, keys: &[TExpr], row: &Tuple) -> Result<Value, AllocEr
 fn values(alloc: Global, keys: &[TExpr], row: &Tuple) -> Result<Tuple, AllocError>
     ensures { IfOk result (λ vs. row_tree vs ≡ keys_of (map typed keys.now) (row_tree row.now)) }
 {
-    let none = Tuple::new(alloc);
     let mut found = Tuple::with_capacity(alloc, keys.len())?;
     for key in keys {
-        found.push(eval(alloc, key, row, &none)?)?;
+        add_value(alloc, key, row, &mut found)?;
     }
     Ok(found)
+}
+
+fn add_value(alloc: Global, key: &TExpr, row: &Tuple, found: &mut Tuple) -> Result<(), AllocError>
+    ensures { OnOk result (row_tree found.new
+        ≡ row_tree found.old ++ keys_of (typed key.now ∷ []) (row_tree row.now)) }
+{
+    let none = Tuple::new(alloc);
+    found.push(eval(alloc, key, row, &none)?)
 }

@@ -12,7 +12,7 @@ use crate::ranking::ranked;
 use crate::relation::Relation;
 use crate::releasing::own_input;
 use crate::rowwise::{filtered, foreached, limited, united};
-use crate::sorting::{in_order, once};
+use crate::sorting::{each_once, in_order};
 use pig_plan::{NodeOp, Plan};
 use pig_value::Input;
 use std::alloc::{AllocError, Global};
@@ -83,14 +83,12 @@ fn made<'p>(
         NodeOp::Union { inputs: numbers } => {
             united(alloc, table, ends, number, numbers.as_slice())
         }
-        NodeOp::Distinct { input } => {
-            let rows = once(alloc, own_input(alloc, table, ends, number, *input)?)?;
-            Ok(Relation::Standing(rows))
-        }
+        NodeOp::Distinct { input } => each_once(alloc, table, ends, number, *input),
         NodeOp::Order { input, keys } => in_order(alloc, keys, table, ends, number, *input),
         NodeOp::Limit { input, count } => { limited(alloc, table, ends, number, *input, *count) },
-        NodeOp::Store { input, .. } => own_input(alloc, table, ends, number, *input),
-        NodeOp::Assert { input, .. } => own_input(alloc, table, ends, number, *input),
+        NodeOp::Store { input, .. } | NodeOp::Assert { input, .. } => {
+            own_input(alloc, table, ends, number, *input)
+        }
         NodeOp::Rank { input, keys, dense } => {
             ranked(alloc, table, ends, number, *input, keys, *dense)
         }

@@ -46,18 +46,22 @@ fn ranked_seen(alloc: Global, seen: Seen, keys: &SortKeys, dense: bool) -> Resul
 {
     match seen {
         Seen::Whole(rows) => ranked_rows(alloc, rows, keys, dense),
-        Seen::Walked(walk) => ranked_coming(alloc, walk, keys, dense),
+        Seen::Walked(mut walk) => {
+            let rows = ranked_coming(alloc, &mut walk, keys, dense);
+            drop(walk);
+            rows
+        }
     }
 }
 
 fn ranked_coming(
     alloc: Global,
-    walk: Walk,
+    walk: &mut Walk,
     keys: &SortKeys,
     dense: bool,
 ) -> Result<Rows, AllocError>
     ensures { IfOk result (λ made. rows_tree made
-        ≡ rank_rows keys.now dense (coming walk.entry)) }
+        ≡ rank_rows keys.now dense (coming walk.old)) }
 {
     let rows = collected(alloc, walk)?;
     ranked_rows(alloc, rows.as_slice(), keys, dense)

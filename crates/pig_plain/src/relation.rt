@@ -28,14 +28,20 @@ impl<'p> Relation<'p> {
     {
         match self {
             Relation::Standing(rows) => Ok(rows),
-            Relation::Coming(walk) => collected(alloc, walk),
+            Relation::Coming(mut walk) => {
+                let rows = collected(alloc, &mut walk);
+                drop(walk);
+                rows
+            }
         }
     }
 }
 
 /// All rows of a walk.
-pub fn collected(alloc: Global, walk: Walk) -> Result<Rows, AllocError>
-    ensures { IfOk result (λ rows. rows_tree rows ≡ coming walk.entry) }
+///
+/// Here and below, a walk is borrowed where it is gone through, so that its owner alone lets it go, by one call.
+pub fn collected(alloc: Global, walk: &mut Walk) -> Result<Rows, AllocError>
+    ensures { IfOk result (λ rows. rows_tree rows ≡ coming walk.old) }
 {
     let mut rows = Rows::new(alloc);
     add_coming(alloc, walk, &mut rows)?;
@@ -43,10 +49,9 @@ pub fn collected(alloc: Global, walk: Walk) -> Result<Rows, AllocError>
 }
 
 /// Adds all rows of a walk behind others.
-pub fn add_coming(alloc: Global, walk: Walk, made: &mut Rows) -> Result<(), AllocError>
-    ensures { OnOk result (rows_tree made.new ≡ rows_tree made.old ++ coming walk.entry) }
+pub fn add_coming(alloc: Global, walk: &mut Walk, made: &mut Rows) -> Result<(), AllocError>
+    ensures { OnOk result (rows_tree made.new ≡ rows_tree made.old ++ coming walk.old) }
 {
-    let mut walk = walk;
     'batches: loop {
         let rows = walk.next_batch(alloc)?;
         if rows.is_empty() {
@@ -62,6 +67,10 @@ pub fn add_seen(alloc: Global, seen: Seen, made: &mut Rows) -> Result<(), AllocE
 {
     match seen {
         Seen::Whole(rows) => add_copies(alloc, rows, made),
-        Seen::Walked(walk) => add_coming(alloc, walk, made),
+        Seen::Walked(mut walk) => {
+            let added = add_coming(alloc, &mut walk, made);
+            drop(walk);
+            added
+        }
     }
 }

@@ -70,18 +70,19 @@ pub fn release_inputs(
 {
     match op {
         NodeOp::Load { .. } => {}
-        NodeOp::Filter { input, .. } => release(alloc, table, ends, number, *input),
-        NodeOp::Foreach { input, .. } => release(alloc, table, ends, number, *input),
-        NodeOp::GroupAll { input } => release(alloc, table, ends, number, *input),
-        NodeOp::Group { inputs } => release_keyed(alloc, table, ends, number, inputs.as_slice()),
-        NodeOp::Join { inputs, .. } => release_keyed(alloc, table, ends, number, inputs.as_slice()),
+        NodeOp::Filter { input, .. }
+        | NodeOp::Foreach { input, .. }
+        | NodeOp::GroupAll { input }
+        | NodeOp::Distinct { input }
+        | NodeOp::Order { input, .. }
+        | NodeOp::Limit { input, .. }
+        | NodeOp::Store { input, .. }
+        | NodeOp::Assert { input, .. }
+        | NodeOp::Rank { input, .. } => release(alloc, table, ends, number, *input),
+        NodeOp::Group { inputs } | NodeOp::Join { inputs, .. } => {
+            release_keyed(alloc, table, ends, number, inputs.as_slice())
+        }
         NodeOp::Union { inputs } => release_each(alloc, table, ends, number, inputs.as_slice()),
-        NodeOp::Distinct { input } => release(alloc, table, ends, number, *input),
-        NodeOp::Order { input, .. } => release(alloc, table, ends, number, *input),
-        NodeOp::Limit { input, .. } => release(alloc, table, ends, number, *input),
-        NodeOp::Store { input, .. } => release(alloc, table, ends, number, *input),
-        NodeOp::Assert { input, .. } => release(alloc, table, ends, number, *input),
-        NodeOp::Rank { input, .. } => release(alloc, table, ends, number, *input),
     }
 }
 
@@ -132,6 +133,6 @@ pub fn release(alloc: Global, table: &mut Vec<Relation>, ends: &[usize], number:
     ensures kept { LaterStand ends.now number table.old.items table.new.items }
 {
     if is_last(ends, input, number) {
-        take_relation(alloc, table, input);
+        drop(take_relation(alloc, table, input));
     }
 }

@@ -184,12 +184,16 @@ fn first_rows(alloc: Global, seen: Seen, count: u64) -> Result<Rows, AllocError>
 {
     match seen {
         Seen::Whole(rows) => first_copies(alloc, rows, count),
-        Seen::Walked(walk) => first_coming(alloc, walk, count),
+        Seen::Walked(mut walk) => {
+            let rows = first_coming(alloc, &mut walk, count);
+            drop(walk);
+            rows
+        }
     }
 }
 
-fn first_coming(alloc: Global, walk: Walk, count: u64) -> Result<Rows, AllocError>
-    ensures { IfOk result (λ made. rows_tree made ≡ take count (coming walk.entry)) }
+fn first_coming(alloc: Global, walk: &mut Walk, count: u64) -> Result<Rows, AllocError>
+    ensures { IfOk result (λ made. rows_tree made ≡ take count (coming walk.old)) }
 {
     let mut rows = begun(alloc, walk, count as usize)?.into_vec();
     rows.truncate(count as usize);
@@ -197,11 +201,10 @@ fn first_coming(alloc: Global, walk: Walk, count: u64) -> Result<Rows, AllocErro
 }
 
 /// The rows of the first batches: at least so many, or all.
-fn begun(alloc: Global, walk: Walk, count: usize) -> Result<Rows, AllocError>
+fn begun(alloc: Global, walk: &mut Walk, count: usize) -> Result<Rows, AllocError>
     ensures { IfOk result (λ made. take count (rows_tree made)
-        ≡ take count (coming walk.entry)) }
+        ≡ take count (coming walk.old)) }
 {
-    let mut walk = walk;
     let mut made = Rows::new(alloc);
     'batches: while made.len() < count {
         let rows = walk.next_batch(alloc)?;

@@ -11,7 +11,7 @@ ghost use Rattle.pig_plain.specs.Operating.{AreValues, LaterStand, row_entry, ta
 
 use crate::ranking::key_values;
 use crate::relation::{Relation, Seen};
-use crate::releasing::{release, take_input};
+use crate::releasing::{own_input, release, take_input};
 use crate::table::seen_at;
 use crate::walking::Walk;
 use pig_operators::{Orderer, distinct_keys};
@@ -39,22 +39,29 @@ pub fn in_order<'p>(
     ensures values { OnOk result (AreValues table.new.items) }
     ensures kept { OnOk result (LaterStand ends.now number table.old.items table.new.items) }
 {
+    let dirs = directions(alloc, keys)?;
     let taken = take_input(alloc, table, ends, number, input)?;
     let seen = seen_at(table.as_slice(), input, taken);
-    let builder = sort_entries(alloc, keys, seen)?;
+    let builder = sort_entries(alloc, keys, dirs, seen)?;
     release(alloc, table, ends, number, input);
     let rows = Orderer::new(builder.finish());
     Ok(Relation::Coming(Walk::of_ordered(alloc, rows)))
 }
 
 /// Rows under their fields to sort by, in the directions of the keys.
-fn sort_entries(alloc: Global, keys: &SortKeys, seen: Seen) -> Result<RunBuilder, AllocError>
-    requires { AreRows (seen_rows seen) }
+fn sort_entries(
+    alloc: Global,
+    keys: &SortKeys,
+    dirs: Dirs,
+    seen: Seen,
+) -> Result<RunBuilder, AllocError>
+    requires dirs { dirs ≡ dirs_of keys.now }
+    requires rows { AreRows (seen_rows seen) }
     ensures { IfOk result (λ builder. builder
         ≡ and_entries (map (sort_entry keys.now) (seen_rows seen.entry))
         (no_entries_in (dirs_of keys.now))) }
 {
-    let mut builder = RunBuilder::new(alloc, directions(alloc, keys)?);
+    let mut builder = RunBuilder::new(alloc, dirs);
     add_sorting_seen(alloc, keys, seen, &mut builder)?;
     Ok(builder)
 }
@@ -72,7 +79,11 @@ fn add_sorting_seen(
 {
     match seen {
         Seen::Whole(rows) => add_sorting_rows(alloc, keys, rows, builder),
-        Seen::Walked(walk) => add_sorting_coming(alloc, keys, walk, builder),
+        Seen::Walked(mut walk) => {
+            let added = add_sorting_coming(alloc, keys, &mut walk, builder);
+            drop(walk);
+            added
+        }
     }
 }
 
@@ -98,15 +109,14 @@ fn add_sorting_rows(
 fn add_sorting_coming(
     alloc: Global,
     keys: &SortKeys,
-    walk: Walk,
+    walk: &mut Walk,
     builder: &mut RunBuilder,
 ) -> Result<(), AllocError>
     requires dirs { builder.old.dirs ≡ dirs_of keys.now }
-    requires rows { AreRows (coming walk) }
+    requires rows { AreRows (coming walk.old) }
     ensures { OnOk result (builder.new
-        ≡ and_entries (map (sort_entry keys.now) (coming walk.entry)) builder.old) }
+        ≡ and_entries (map (sort_entry keys.now) (coming walk.old)) builder.old) }
 {
-    let mut walk = walk;
     'batches: loop {
         let rows = walk.next_batch(alloc)?;
         if rows.is_empty() {
@@ -141,8 +151,27 @@ fn add_sorting(
     builder.add(&key, 0, row)
 }
 
-/// DISTINCT: each row once, in ascending order. A row is let go as soon as a run holds it.
-pub fn once(alloc: Global, relation: Relation) -> Result<Rows, AllocError>
+/// DISTINCT: each row once, in ascending order.
+pub fn each_once<'p>(
+    alloc: Global,
+    table: &mut Vec<Relation<'p>>,
+    ends: &[usize],
+    number: usize,
+    input: u32,
+) -> Result<Relation<'p>, AllocError>
+    requires values { AreValues table.old.items }
+    ensures rows { IfOk result (λ made. relation_rows made
+        ≡ distinct row_cmp (table_rows table.old.items input)) }
+    ensures size { OnOk result (length table.new.items ≡ length table.old.items) }
+    ensures values { OnOk result (AreValues table.new.items) }
+    ensures kept { OnOk result (LaterStand ends.now number table.old.items table.new.items) }
+{
+    let rows = once(alloc, own_input(alloc, table, ends, number, input)?)?;
+    Ok(Relation::Standing(rows))
+}
+
+/// The rows of a relation once each. A row is let go as soon as a run holds it.
+fn once(alloc: Global, relation: Relation) -> Result<Rows, AllocError>
     requires { AreRows (relation_rows relation) }
     ensures { IfOk result (λ made. rows_tree made
         ≡ distinct row_cmp (relation_rows relation.entry)) }
@@ -174,17 +203,24 @@ fn add_whole_relation(
 {
     match relation {
         Relation::Standing(rows) => add_whole_rows(rows, builder),
-        Relation::Coming(walk) => add_whole_coming(alloc, walk, builder),
+        Relation::Coming(mut walk) => {
+            let added = add_whole_coming(alloc, &mut walk, builder);
+            drop(walk);
+            added
+        }
     }
 }
 
-fn add_whole_coming(alloc: Global, walk: Walk, builder: &mut RunBuilder) -> Result<(), AllocError>
+fn add_whole_coming(
+    alloc: Global,
+    walk: &mut Walk,
+    builder: &mut RunBuilder,
+) -> Result<(), AllocError>
     requires ascending { builder.old.dirs ≡ [] }
-    requires rows { AreRows (coming walk) }
+    requires rows { AreRows (coming walk.old) }
     ensures { OnOk result (builder.new
-        ≡ and_entries (map row_entry (coming walk.entry)) builder.old) }
+        ≡ and_entries (map row_entry (coming walk.old)) builder.old) }
 {
-    let mut walk = walk;
     'batches: loop {
         let rows = walk.next_batch(alloc)?;
         if rows.is_empty() {

@@ -130,6 +130,6 @@ fn put_rows(table: &mut Vec<Relation>, node: u32, rows: Rows)
 {
     let at = node as usize;
     if at < table.len() {
-        table[at] = Relation::Standing(rows);
+        drop(mem::replace(&mut table[at], Relation::Standing(rows)));
     }
 }

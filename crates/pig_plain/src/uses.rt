@@ -89,18 +89,19 @@ fn name_inputs(ends: &mut Vec<usize>, end: usize, op: &NodeOp)
 {
     match op {
         NodeOp::Load { .. } => {}
-        NodeOp::Filter { input, .. } => raise(ends, *input, end),
-        NodeOp::Foreach { input, .. } => raise(ends, *input, end),
-        NodeOp::GroupAll { input } => raise(ends, *input, end),
-        NodeOp::Group { inputs } => raise_keyed(ends, inputs.as_slice(), end),
-        NodeOp::Join { inputs, .. } => raise_keyed(ends, inputs.as_slice(), end),
+        NodeOp::Filter { input, .. }
+        | NodeOp::Foreach { input, .. }
+        | NodeOp::GroupAll { input }
+        | NodeOp::Distinct { input }
+        | NodeOp::Order { input, .. }
+        | NodeOp::Limit { input, .. }
+        | NodeOp::Store { input, .. }
+        | NodeOp::Assert { input, .. }
+        | NodeOp::Rank { input, .. } => raise(ends, *input, end),
+        NodeOp::Group { inputs } | NodeOp::Join { inputs, .. } => {
+            raise_keyed(ends, inputs.as_slice(), end)
+        }
         NodeOp::Union { inputs } => raise_all(ends, inputs.as_slice(), end),
-        NodeOp::Distinct { input } => raise(ends, *input, end),
-        NodeOp::Order { input, .. } => raise(ends, *input, end),
-        NodeOp::Limit { input, .. } => raise(ends, *input, end),
-        NodeOp::Store { input, .. } => raise(ends, *input, end),
-        NodeOp::Assert { input, .. } => raise(ends, *input, end),
-        NodeOp::Rank { input, .. } => raise(ends, *input, end),
     }
 }
 
