@@ -46,22 +46,18 @@ fn ranked_seen(alloc: Global, seen: Seen, keys: &SortKeys, dense: bool) -> Resul
 {
     match seen {
         Seen::Whole(rows) => ranked_rows(alloc, rows, keys, dense),
-        Seen::Walked(mut walk) => {
-            let rows = ranked_coming(alloc, &mut walk, keys, dense);
-            drop(walk);
-            rows
-        }
+        Seen::Walked(walk) => ranked_coming(alloc, walk, keys, dense),
     }
 }
 
 fn ranked_coming(
     alloc: Global,
-    walk: &mut Walk,
+    walk: Walk,
     keys: &SortKeys,
     dense: bool,
 ) -> Result<Rows, AllocError>
     ensures { IfOk result (λ made. rows_tree made
-        ≡ rank_rows keys.now dense (coming walk.old)) }
+        ≡ rank_rows keys.now dense (coming walk.entry)) }
 {
     let rows = collected(alloc, walk)?;
     ranked_rows(alloc, rows.as_slice(), keys, dense)

@@ -28,11 +28,7 @@ impl<'p> Relation<'p> {
     {
         match self {
             Relation::Standing(rows) => Ok(rows),
-            Relation::Coming(mut walk) => {
-                let rows = collected(alloc, &mut walk);
-                drop(walk);
-                rows
-            }
+            Relation::Coming(walk) => collected(alloc, walk),
         }
     }
 }
@@ -40,11 +36,14 @@ impl<'p> Relation<'p> {
 /// All rows of a walk.
 ///
 /// Here and below, a walk is borrowed where it is gone through, so that its owner alone lets it go, by one call.
-pub fn collected(alloc: Global, walk: &mut Walk) -> Result<Rows, AllocError>
-    ensures { IfOk result (λ rows. rows_tree rows ≡ coming walk.old) }
+pub fn collected(alloc: Global, walk: Walk) -> Result<Rows, AllocError>
+    ensures { IfOk result (λ rows. rows_tree rows ≡ coming walk.entry) }
 {
+    let mut walk = walk;
     let mut rows = Rows::new(alloc);
-    add_coming(alloc, walk, &mut rows)?;
+    let added = add_coming(alloc, &mut walk, &mut rows);
+    drop(walk);
+    added?;
     Ok(rows)
 }
 
