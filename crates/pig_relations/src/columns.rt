@@ -83,8 +83,8 @@ fn under_alias(alloc: Global, alias: &Text, column: &Field) -> Result<Field, All
         ≡ under_name (Some alias.now) (named_tree column.now)) }
 {
     let name = name_under(alloc, alias, &column.name)?;
-    let kind = copy_kind(alloc, &column.kind)?;
     let inner = copy_schema(alloc, &column.inner)?;
+    let kind = copy_kind(alloc, &column.kind)?;
     Ok(Field { name, kind, inner })
 }
 

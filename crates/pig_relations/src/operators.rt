@@ -1,4 +1,4 @@
-ghost use Rattle.std.specs.Prelude.{◌≡◌, ◌++◌, IfOk, false, length, map};
+ghost use Rattle.std.specs.Prelude.{◌≡◌, ◌++◌, Err, IfOk, false, length, map};
 ghost use Rattle.std.specs.List.{flat_map};
 ghost use Rattle.pig_value.specs.Trees.{kind_tree};
 ghost use Rattle.pig_schema.specs.FieldTrees.{named_tree, schema_tree};
@@ -202,8 +202,17 @@ fn joins(side: Side, count: usize) -> bool
 fn limited_op(alloc: Global, op: NodeOp, columns: Schema) -> Result<TypedOp, TypeFault>
     ensures { Tells op_tree (limited_op (op_of op) (schema_tree columns)) result }
 {
-    row_within_limits(alloc, &columns)?;
-    Ok(TypedOp { op, columns })
+    match row_within_limits(alloc, &columns) {
+        Ok(()) => Ok(TypedOp { op, columns }),
+        Err(fault) => failed((op, columns), fault),
+    }
+}
+
+// A fault, of what is left. Dropping a value of any type is cheap to prove, and dropping a node's operator is not.
+fn failed<L: Drop, T>(_left: L, fault: TypeFault) -> Result<T, TypeFault>
+    ensures { result ≡ Err fault }
+{
+    Err(fault)
 }
 
 // ---- GROUP and COGROUP

@@ -119,8 +119,8 @@ pub fn widened(alloc: Global, kind: &Kind, to: &Kind, value: TExpr) -> Result<TE
         ≡ widened (kind_tree kind.now) (kind_tree to.now) (typed value)) }
 {
     if widens(kind, to) {
-        let to = copy_kind(alloc, to)?;
         let a = Boxed::new(alloc, value)?;
+        let to = copy_kind(alloc, to)?;
         Ok(TExpr::Cast { to, a })
     } else {
         Ok(value)
@@ -151,8 +151,8 @@ fn of_kind(alloc: Global, kind: &Kind, column: &Field) -> Result<Field, AllocErr
         ≡ of_kind (kind_tree kind.now) (named_tree column.now)) }
 {
     let name = copy_name(alloc, &column.name)?;
-    let kind = copy_kind(alloc, kind)?;
     let inner = copy_schema(alloc, &column.inner)?;
+    let kind = copy_kind(alloc, kind)?;
     Ok(Field { name, kind, inner })
 }
 
