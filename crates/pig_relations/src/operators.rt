@@ -1,10 +1,11 @@
-ghost use Rattle.std.specs.Prelude.{◌≡◌, ◌++◌, Err, IfOk, false, length, map};
+ghost use Rattle.std.specs.Prelude.{◌≡◌, ◌++◌, Err, IfOk, codes, false, length, map};
 ghost use Rattle.std.specs.List.{flat_map};
 ghost use Rattle.pig_value.specs.Trees.{kind_tree};
 ghost use Rattle.pig_schema.specs.FieldTrees.{named_tree, schema_tree};
 ghost use Rattle.pig_plan.specs.NodeKinds.{is_join};
 ghost use Rattle.pig_plan.specs.Plans.{op_of};
 ghost use Rattle.pig_typing.specs.Results.{IfRefused, Tells};
+ghost use Rattle.pig_typing.specs.Written.{with_name};
 ghost use Rattle.pig_relations.specs.Aliases.{aliases_of, relation_tree};
 ghost use Rattle.pig_relations.specs.Keyed.{group_form, join_form};
 ghost use Rattle.pig_relations.specs.Operators.{Groups, GroupsAll, GroupsAllNot, GroupsNot, Joins, JoinsNot, columns_under, first_keys, group_all_columns, group_all_of, group_column, group_columns, group_of, group_op, join_columns, join_of, join_op, limited_op, op_tree, sided, without};
@@ -250,11 +251,20 @@ fn group_column(alloc: Global, inputs: &[TypedInput], kinds: &[Kind]) -> Result<
     ensures { IfOk result (λ f. named_tree f ≡ group_column
         (of_kinds (map kind_tree kinds.now) (first_keys (map input_tree inputs.now)))) }
 {
-    let columns = first_keys(alloc, inputs, kinds)?;
     let name = group_name(alloc)?;
+    let columns = first_keys(alloc, inputs, kinds)?;
+    let column = key_column(alloc, columns)?;
+    Ok(named(name, column))
+}
+
+// The one key's column, or a tuple of several.
+fn key_column(alloc: Global, columns: Schema) -> Result<Field, AllocError>
+    ensures { IfOk result (λ f. with_name (codes "group") (named_tree f)
+        ≡ group_column (schema_tree columns)) }
+{
     match columns.as_slice() {
-        [column] => Ok(named(name, copy_field(alloc, column)?)),
-        _ => Ok(named(name, tuple(alloc, columns)?)),
+        [column] => copy_field(alloc, column),
+        _ => tuple(alloc, columns),
     }
 }
 
