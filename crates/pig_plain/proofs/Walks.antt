@@ -1,8 +1,8 @@
 -- Rows that come in batches: what the steps make of some of them, and of the others behind.
-use Rattle.std.specs.Prelude.{◌≡◌, ◌<◌, List, [], ◌∷◌, ◌++◌, length, map, refl}
-use Rattle.std.proofs.Common.{ap, sym, subst, ◌∙◌, arith}
+use Rattle.std.specs.Prelude.{◌≡◌, List, [], ◌∷◌, ◌++◌, map, refl}
+use Rattle.std.proofs.Common.{ap, sym, subst, ◌∙◌}
 use Rattle.std.proofs.lemmas.Grind.{flat_map-append}
-use Rattle.std.proofs.lemmas.List.{append_assoc, length-append, map-append}
+use Rattle.std.proofs.lemmas.List.{append_assoc, map-append}
 use Rattle.std.proofs.lemmas.List.Elements.{filter-append}
 use Rattle.pig_value.specs.Trees.{Tree}
 use Rattle.pig_value.specs.Valid.{AreRows}
@@ -25,14 +25,6 @@ step-append (Foreach block) xs ys = flat_map-append (foreach_rows (block_typed b
 pub steps-append : (steps : List RowStep) (xs ys : List (List Tree)) → steps_rows steps (xs ++ ys) ≡ steps_rows steps xs ++ steps_rows steps ys
 steps-append [] xs ys = refl
 steps-append (step ∷ steps) xs ys = ap (steps_rows steps) (step-append step xs ys) ∙ steps-append steps (step_rows step xs) (step_rows step ys)
-
-step_none : (step : RowStep) → step_rows step [] ≡ []
-step_none (Filter cond) = refl
-step_none (Foreach block) = refl
-
-pub steps_none : (steps : List RowStep) → steps_rows steps [] ≡ []
-steps_none [] = refl
-steps_none (step ∷ steps) = ap (steps_rows steps) (step_none step) ∙ steps_none steps
 
 -- one step more behind the others
 pub steps_more : (steps : List RowStep) (step : RowStep) (rows : List (List Tree)) → steps_rows (steps ++ step ∷ []) rows ≡ step_rows step (steps_rows steps rows)
