@@ -25,9 +25,6 @@ pub record Goes {X : Type 0} (step : X → List ℕ) (end : List ℕ) (Good : X 
   pub off : NoneFirst (sequence_code step end) (AllByRecursion Good) rest → NoneFirst (sequence_code step end) (AllByRecursion Good) bytes
 
 module _ {X : Type 0} (step : X → List ℕ) (end : List ℕ) (Good : X → Type 0) where
-  pub goes_start : (bytes : List ℕ) → Goes step end Good bytes bytes []
-  goes_start bytes = record { on = λ xs left h. h; off = λ none. none }
-
   pub goes_end : (bytes rest : List ℕ) (done : List X) (left : List ℕ) → Goes step end Good bytes rest done → rest ≡ end ++ left → StandsFirst (sequence_code step end) (AllByRecursion Good) bytes done left
   goes_end bytes rest done left g e =
       subst (λ l. StandsFirst (sequence_code step end) (AllByRecursion Good) bytes l left) (append-nil done) (g.on [] left (record { is = e; good = tt }))

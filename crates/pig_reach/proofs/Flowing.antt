@@ -271,10 +271,3 @@ module _ (plan : Plan) (inputs : List Input) where
     pub read_first : (numbers : List ℕ) → numbers ≡ live plan → (0 + sum_by read_at (drop 0 numbers)) % 2 ^ 64 ≡ lines_read plan inputs % 2 ^ 64
     read_first numbers are = let e : sum_by read_at numbers ≡ lines_read plan inputs = ap (sum_by read_at) are ∙ sym reads in
         let zero_more : 0 + sum_by read_at numbers ≡ lines_read plan inputs = omega (arith, e) in ap (λ n. n % 2 ^ 64) zero_more
-
-    pub read_last : (numbers : List ℕ) (place count : ℕ) → length numbers ≤ place → count < 2 ^ 64
-        → (count + sum_by read_at (drop place numbers)) % 2 ^ 64 ≡ lines_read plan inputs % 2 ^ 64 → count ≡ lines_read plan inputs % 2 ^ 64
-    read_last numbers place count end small so_far =
-        let none : sum_by read_at (drop place numbers) ≡ 0 = ap (sum_by read_at) (drop_all place numbers end) in
-        let same : (count + 0) % 2 ^ 64 ≡ lines_read plan inputs % 2 ^ 64 = ap (λ n. (count + n) % 2 ^ 64) (sym none) ∙ so_far in
-        omega (arith, small, same)

@@ -143,19 +143,6 @@ pub row_of_nulls : (kinds : List KindTree) → IsRowOf (replicate (length kinds)
 row_of_nulls [] = tt
 row_of_nulls (k ∷ kinds) = (tt, row_of_nulls kinds)
 
-pub row_of_field : (row : List Tree) (kinds : List KindTree) (i : ℕ) (v : Tree) (k : KindTree)
-    → slice_get row i ≡ Some v → slice_get kinds i ≡ Some k → IsRowOf row kinds → IsOf v k
-row_of_field [] kinds i v k at kind h = absurd (cc)
-row_of_field (x ∷ row) [] i v k at kind h = absurd (cc)
-row_of_field (x ∷ row) (l ∷ kinds) zero v k at kind h = subst (λ m. IsOf v m) (some_same l k kind) (subst (λ w. IsOf w l) (some_same x v at) h.0)
-row_of_field (x ∷ row) (l ∷ kinds) (suc i) v k at kind h = row_of_field row kinds i v k at kind h.1
-
-pub length_row_of : (row : List Tree) (kinds : List KindTree) → IsRowOf row kinds → length row ≡ length kinds
-length_row_of [] [] h = refl
-length_row_of [] (k ∷ kinds) h = absurd h
-length_row_of (x ∷ row) [] h = absurd h
-length_row_of (x ∷ row) (k ∷ kinds) h = ap suc (length_row_of row kinds h.1)
-
 -- the test of casts decides which kinds cast to which, and then each value of the kind may be cast
 casts_same : (k : KindTree) → CastsTo k k
 casts_same k_boolean = refl

@@ -38,34 +38,13 @@ module _ (leaf : Leaf) where
   tuples_from_each [] h = tt
   tuples_from_each (row ∷ rows) h = (h.0, tuples_from_each rows h.1)
 
-  pub entries_each : (ps : List (List ℕ × Tree)) → EntryLeavesAre leaf (entries_of ps) → AllByRecursion (PairLeavesAre leaf) ps
-  entries_each [] h = tt
-  entries_each (p ∷ ps) h = ((h.0, h.1), entries_each ps h.2)
-
   pub entries_from_each : (ps : List (List ℕ × Tree)) → AllByRecursion (PairLeavesAre leaf) ps → EntryLeavesAre leaf (entries_of ps)
   entries_from_each [] h = tt
   entries_from_each (p ∷ ps) h = (h.0.0, h.0.1, entries_from_each ps h.1)
 
-  -- the fields of joined rows, one field, and so many nulls
-  pub row-append : (xs ys : List Tree) → RowLeavesAre leaf xs → RowLeavesAre leaf ys → RowLeavesAre leaf (xs ++ ys)
-  row-append xs ys h k = fields_from_each (xs ++ ys) (each-append (LeavesAre leaf) xs ys (fields_each xs h) (fields_each ys k))
-
-  pub row_field : (row : List Tree) (i : ℕ) (v : Tree) → slice_get row i ≡ Some v → RowLeavesAre leaf row → LeavesAre leaf v
-  row_field row i v at h = each_at (LeavesAre leaf) row i v at (fields_each row h)
-
-  pub nulls_row : (n : ℕ) → RowLeavesAre leaf (replicate n v_null)
-  nulls_row zero = tt
-  nulls_row (suc n) = (tt, nulls_row n)
-
-  -- rows that are joined, left out or sorted
-  pub rows-append : (xs ys : List (List Tree)) → RowsLeavesAre leaf xs → RowsLeavesAre leaf ys → RowsLeavesAre leaf (xs ++ ys)
-  rows-append xs ys h k = tuples_from_each (xs ++ ys) (each-append (RowLeavesAre leaf) xs ys (tuples_each xs h) (tuples_each ys k))
-
+  -- rows that are left out or sorted
   pub rows-take : (n : ℕ) (rows : List (List Tree)) → RowsLeavesAre leaf rows → RowsLeavesAre leaf (take n rows)
   rows-take n rows h = tuples_from_each (take n rows) (each-take (RowLeavesAre leaf) n rows (tuples_each rows h))
-
-  pub rows-drop : (n : ℕ) (rows : List (List Tree)) → RowsLeavesAre leaf rows → RowsLeavesAre leaf (drop n rows)
-  rows-drop n rows h = tuples_from_each (drop n rows) (each-drop (RowLeavesAre leaf) n rows (tuples_each rows h))
 
   pub rows-filter : (p : List Tree → Bool) (rows : List (List Tree)) → RowsLeavesAre leaf rows → RowsLeavesAre leaf (filter p rows)
   rows-filter p rows h = tuples_from_each (filter p rows) (each-filter p (RowLeavesAre leaf) rows (tuples_each rows h))

@@ -40,10 +40,6 @@ row_from_each (v ∷ row) h = (h.0, row_from_each row h.1)
 pub valid_field : (row : List Tree) (i : ℕ) (v : Tree) → slice_get row i ≡ Some v → IsRow row → IsValue v
 valid_field row i v at h = each_at IsValue row i v at (row_each row h)
 
-pub valid_nulls : (n : ℕ) → IsRow (replicate n v_null)
-valid_nulls zero = tt
-valid_nulls (suc n) = (tt, valid_nulls n)
-
 -- rows that are joined or left out
 pub valid_rows-append : (xs ys : List (List Tree)) → AreRows xs → AreRows ys → AreRows (xs ++ ys)
 valid_rows-append xs ys h k = rows_from_each (xs ++ ys) (each-append IsRow xs ys (rows_each xs h) (rows_each ys k))

@@ -106,9 +106,6 @@ module _ {X Y : Type 0} where
   pub flat_map_where : (p : X → Bool) (f g : X → List Y) → ((x : X) → p x ≡ true → f x ≡ g x) → (xs : List X) → flat_map f (filter p xs) ≡ flat_map g (filter p xs)
   flat_map_where p f g agree xs = flat_map_each f g (filter p xs) (each_weaker (λ x. p x ≡ true) (λ x. f x ≡ g x) agree (filter p xs) (each_filtered p xs))
 
-  pub map_where : (p : X → Bool) (f g : X → Y) → ((x : X) → p x ≡ true → f x ≡ g x) → (xs : List X) → map f (filter p xs) ≡ map g (filter p xs)
-  map_where p f g agree xs = map_each f g (filter p xs) (each_weaker (λ x. p x ≡ true) (λ x. f x ≡ g x) agree (filter p xs) (each_filtered p xs))
-
   pub flat_map_none : (f : X → List Y) (xs : List X) → AllByRecursion (λ x. f x ≡ []) xs → flat_map f xs ≡ []
   flat_map_none f [] h = refl
   flat_map_none f (x ∷ xs) h = λ i. h.0 i ++ flat_map_none f xs h.1 i

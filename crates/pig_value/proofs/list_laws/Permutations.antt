@@ -97,13 +97,6 @@ IsPermutation-flat_map_each f g each [] = IsPermutation-refl []
 IsPermutation-flat_map_each f g each (x ∷ xs) =
     IsPermutation-append (f x) (g x) (flat_map f xs) (flat_map g xs) (each x) (IsPermutation-flat_map_each f g each xs)
 
--- a fold whose step may take two elements either way gives the same along a permutation
-module _ {X A : Type 0} (step : A → X → A) (swaps : (a : A) (x y : X) → step (step a x) y ≡ step (step a y) x) where
-  pub fold_same : (xs ys : List X) → IsPermutation xs ys → (a : A) → fold step a xs ≡ fold step a ys
-  fold_same xs ys h a =
-      ap {A = A → A} (λ f. f a)
-      (along_permutation (λ zs b. fold step b zs) (λ x us vs e. λ i b. e i (step b x)) (λ x y zs. λ i b. fold step (swaps b x y i) zs) xs ys h)
-
 -- a fold from the left goes on with what a function gives that takes one more element at the front
 module _ {X A : Type 0} (f : List X → A) (g : A → X → A) (front : (x : X) (xs : List X) → f (x ∷ xs) ≡ g (f xs) x) (same_of : (xs ys : List X) → IsPermutation xs ys → f xs ≡ f ys) where
   pub goes_on : (us vs : List X) → fold g (f us) vs ≡ f (us ++ vs)
