@@ -6,13 +6,13 @@ ghost use Rattle.pig_exprs.specs.ExprReader.{both_at, level_of, chain_of, link_t
 
 use crate::names::{field_ref, selection};
 use crate::reading::{
-    ParseFault, Rule, Turning, before, beside, close_paren, closed, discard, listed, repeat,
+    ParseFault, Rule, Turning, before, beside, close_paren, closed, listed, repeat,
 };
 use crate::types::cast_type;
 use pig_syntax::{
     Expr, Exprs, Keyword, Link, Links, PostStep, PostSteps, Symbol, Token, TokenForm,
 };
-use pig_value::{Boxed, ChainOp, Rel, Text};
+use pig_value::{Boxed, ChainOp, Rel, Text, discard};
 use std::alloc::{AllocError, Global};
 
 // The chains of expressions, by what stands between their operands.

@@ -18,6 +18,6 @@ mod types;
 pub use exprs::{MOST_NESTED, expression};
 pub use names::{field_ref, selection};
 pub use reading::{
-    ParseFault, Rule, Turning, before, beside, close_paren, closed, discard, listed, one, repeat,
+    ParseFault, Rule, Turning, before, beside, close_paren, closed, listed, one, repeat,
 };
 pub use types::{field, schema};

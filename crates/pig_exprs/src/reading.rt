@@ -164,9 +164,6 @@ pub fn close_paren(tokens: &[Token]) -> Result<&[Token], ParseFault>
     }
 }
 
-/// Drops what is not wanted.
-pub fn discard<T: Drop>(_unwanted: T) {}
-
 /// What is kept, where a `)` stands there.
 ///
 /// A reader of several parts hands on here what has to wait, so that it drops no tree itself: dropping one of

@@ -6,9 +6,9 @@ ghost use Rattle.pig_parser.specs.StatementReader.{GivesFound, branch_with, bran
 
 use crate::operators::operator;
 use crate::parts::using_func;
-use pig_exprs::{ParseFault, Turning, discard, expression, one, repeat};
+use pig_exprs::{ParseFault, Turning, expression, one, repeat};
 use pig_syntax::{Branch, Branches, Keyword, Stmt, Symbol, Token, TokenForm};
-use pig_value::Text;
+use pig_value::{Text, discard};
 use std::alloc::Global;
 
 // A branch, behind its name and IF.

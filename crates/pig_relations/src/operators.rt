@@ -22,7 +22,7 @@ use pig_plan::NodeOp;
 use pig_schema::{Field, Schema, copy_field};
 use pig_syntax::{GroupInput, JoinInput};
 use pig_typing::{CheckKind, TypeFault, row_within_limits};
-use pig_value::{Kind, Seq, Side, Text};
+use pig_value::{Kind, Seq, Side, Text, failed};
 use std::alloc::{AllocError, Global};
 
 /// The operator of a node, and the columns of its rows.
@@ -207,13 +207,6 @@ fn limited_op(alloc: Global, op: NodeOp, columns: Schema) -> Result<TypedOp, Typ
         Ok(()) => Ok(TypedOp { op, columns }),
         Err(fault) => failed((op, columns), fault),
     }
-}
-
-// A fault, of what is left. Dropping a value of any type is cheap to prove, and dropping a node's operator is not.
-fn failed<L: Drop, T>(_left: L, fault: TypeFault) -> Result<T, TypeFault>
-    ensures { result ≡ Err fault }
-{
-    Err(fault)
 }
 
 // ---- GROUP and COGROUP

@@ -45,8 +45,3 @@ IfRefused (Err fault.OutOfMemory) P = Unit {0}
 abbrev pub in_memory : {A : Type 0} → Result A AllocError → Result A TypeFault
 in_memory (Ok a) = Ok a
 in_memory (Err e) = Err fault.OutOfMemory
-
--- what is kept, beside what was made
-abbrev pub beside : {A B E : Type 0} → A → Result B E → Result (A × B) E
-beside kept (Ok made) = Ok (kept, made)
-beside kept (Err e) = Err e

@@ -13,12 +13,12 @@ ghost use Rattle.pig_typing.specs.Typing.{call_kind, kinds_as_given};
 ghost use Rattle.pig_typing.specs.Views.{typing_tree};
 
 use crate::columns::{Typing, copied, holding, kind, made, unnamed};
-use crate::faults::{CheckKind, TypeFault, beside, in_memory};
+use crate::faults::{CheckKind, TypeFault, in_memory};
 use crate::limits::within_limits;
 use crate::names::narrow;
 use pig_schema::{Field, Schema};
 use pig_typed::{TExpr, TExprs, kind_of};
-use pig_value::{Function, Kind, Kinds, Seq, Text, copy_kind};
+use pig_value::{Function, Kind, Kinds, Seq, Text, beside, copy_kind};
 use std::alloc::{AllocError, Global};
 
 /// How the arguments of a function are cast.

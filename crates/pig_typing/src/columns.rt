@@ -7,10 +7,9 @@ ghost use Rattle.pig_typed.specs.Typed.{typed};
 ghost use Rattle.pig_typing.specs.Parts.{typing};
 ghost use Rattle.pig_typing.specs.Written.{of_fields};
 
-use crate::faults::beside;
 use pig_schema::{Field, Schema, copy_field, copy_schema, kinds};
 use pig_typed::TExpr;
-use pig_value::{Boxed, Kind, Kinds, Seq, copy_kind};
+use pig_value::{Boxed, Kind, Kinds, Seq, beside, copy_kind};
 use std::alloc::{AllocError, Global};
 
 /// A column that stands in the scope, such a one without its name, or one that was made.

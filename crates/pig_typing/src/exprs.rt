@@ -14,7 +14,7 @@ ghost use Rattle.pig_typing.specs.Views.{join_tree, sofar_tree, typed_tree, typi
 
 use crate::calls::{call, function, with_count};
 use crate::columns::{Typing, kind, made, owned, plain};
-use crate::faults::{CheckKind, TypeFault, beside, in_memory, refused};
+use crate::faults::{CheckKind, TypeFault, in_memory, refused};
 use crate::joins::{
     Join, Operands, alike, cast_both, cast_if, chained, compared, condition, minus,
 };
@@ -26,7 +26,7 @@ use crate::written::written_type;
 use pig_schema::Field;
 use pig_syntax::{Expr, Exprs, Links, TypeTree};
 use pig_typed::{TExpr, TLink, TLinks};
-use pig_value::{Boxed, ChainOp, Function, Kind, Rel, Seq, Text, casts_to, copy_kind};
+use pig_value::{Boxed, ChainOp, Function, Kind, Rel, Seq, Text, beside, casts_to, copy_kind};
 use std::alloc::{AllocError, Global};
 
 /// A typed expression, and the column that it gives: its kind, the name that it keeps as an item, and the columns
@@ -287,7 +287,8 @@ fn each<'a>(
 
 // The function of a name, where it takes so many arguments.
 fn callee(name: &str, args: &Exprs) -> Result<Function, TypeFault>
-    ensures { Tells (λ f. f) (checked_then (with_count (count (expr_forms (map expr_form args.now))))
+    ensures { Tells (λ f. f)
+        (checked_then (with_count (count (expr_forms (map expr_form args.now))))
         (function_of name.now)) result }
 {
     taking(args, function(name)?)

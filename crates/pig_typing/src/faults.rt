@@ -1,7 +1,8 @@
 ghost use Rattle.std.specs.Prelude.{◌≡◌, Err};
-ghost use Rattle.pig_typing.specs.Results.{beside, in_memory};
+ghost use Rattle.pig_typing.specs.Results.{in_memory};
 ghost use Rattle.pig_typing.specs.declared.faults.TypeFault.TheVariants.{Refused};
 
+use pig_value::failed;
 use std::alloc::AllocError;
 
 /// Why a statement has no typing.
@@ -68,18 +69,8 @@ pub fn in_memory<T>(made: Result<T, AllocError>) -> Result<T, TypeFault>
 }
 
 /// A refusal of what is left. Dropping a value of any type is cheap to prove, and dropping a tree is not.
-pub fn refused<L: Drop, T>(_left: L, kind: CheckKind) -> Result<T, TypeFault>
+pub fn refused<L: Drop, T>(left: L, kind: CheckKind) -> Result<T, TypeFault>
     ensures { result ≡ Err (Refused kind) }
 {
-    Err(TypeFault::Refused(kind))
-}
-
-/// What is kept, beside what was made. It is dropped here where nothing was made.
-pub fn beside<K: Drop, T, E>(kept: K, made: Result<T, E>) -> Result<(K, T), E>
-    ensures { result ≡ beside kept made }
-{
-    match made {
-        Ok(made) => Ok((kept, made)),
-        Err(fault) => Err(fault),
-    }
+    failed(left, TypeFault::Refused(kind))
 }

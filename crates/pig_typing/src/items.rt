@@ -13,14 +13,14 @@ ghost use Rattle.pig_typing.specs.Written.{with_name};
 ghost use Rattle.pig_typing.specs.Views.{generated_tree, typed_tree};
 
 use crate::exprs::{TypedExpr, cast_type, typed_expr};
-use crate::faults::{CheckKind, TypeFault, beside, in_memory, refused};
+use crate::faults::{CheckKind, TypeFault, in_memory, refused};
 use crate::names::narrow;
 use crate::scope::Scope;
 use crate::written::with_name;
 use pig_schema::{Field, Schema, copy_field, copy_schema};
 use pig_syntax::{AsNames, FieldTree, Item};
 use pig_typed::{BlockItem, BlockItems, TExpr};
-use pig_value::{Boxed, Kind, Seq, Text, casts_to, copy_kind, same_kind};
+use pig_value::{Boxed, Kind, Seq, Text, beside, casts_to, copy_kind, same_kind};
 use std::alloc::{AllocError, Global};
 
 /// Typed items of GENERATE, and the columns of all fields that they give.

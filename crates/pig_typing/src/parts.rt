@@ -10,13 +10,13 @@ ghost use Rattle.pig_typing.specs.Views.{column_seen, pick_tree, typing_tree};
 ghost use Rattle.pig_typing.specs.Written.{of_fields};
 
 use crate::columns::{Column, Typing, bag, holding, inner, kind, made, tuple};
-use crate::faults::{CheckKind, TypeFault, beside};
+use crate::faults::{CheckKind, TypeFault};
 use crate::limits::within_limits;
 use crate::names::{narrow, refer};
 use pig_schema::{Field, Schema, copy_field, copy_schema};
 use pig_syntax::{FieldRef, PostStep};
 use pig_typed::TExpr;
-use pig_value::{Kind, Positions, Seq, Text, copy_kind};
+use pig_value::{Kind, Positions, Seq, Text, beside, copy_kind};
 use std::alloc::{AllocError, Global};
 
 /// A column that is taken, and its place.

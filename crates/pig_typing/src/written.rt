@@ -6,10 +6,9 @@ ghost use Rattle.pig_syntax.specs.ExprTrees.{field_form, field_forms, type_form}
 ghost use Rattle.pig_typing.specs.Written.{of_fields, of_values, scalar_column, with_name, written, written_field, written_fields};
 
 use crate::columns::{bag, holding, tuple};
-use crate::faults::beside;
 use pig_schema::{Field, Schema};
 use pig_syntax::{FieldTree, TypeTree};
-use pig_value::{Boxed, Kind, Seq, Text};
+use pig_value::{Boxed, Kind, Seq, Text, beside};
 use std::alloc::{AllocError, Global};
 
 /// The column that a written type gives, without a name: none exactly where a word for floating numbers or dates

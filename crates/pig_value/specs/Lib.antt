@@ -4,6 +4,7 @@ pub mod Trees
 pub mod Sorts
 pub mod Gathering
 pub mod Orders
+pub mod Results
 pub mod Kinds
 pub mod Leaves
 pub mod Valid

@@ -31,6 +31,7 @@ mod sorting;
 mod texts;
 mod threads;
 mod values;
+mod waiting;
 
 pub use boxes::Boxed;
 pub use comparing::{order, order_rows, same};
@@ -47,6 +48,7 @@ pub use sorting::bag;
 pub use texts::{Blob, Text, known_bytes};
 pub use threads::values_cross_threads;
 pub use values::{Kind, Kinds, Pair, Pairs, Rows, Tuple, Value, field_at};
+pub use waiting::{beside, discard, failed};
 
 /// A list of texts.
 pub type Texts = Seq<Text>;
