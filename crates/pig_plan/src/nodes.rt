@@ -14,7 +14,7 @@ pub struct Node {
 }
 
 /// What a node does with the rows of its inputs, which it names by their numbers.
-#[derive(Debug, Drop)]
+#[derive(Debug)]
 pub enum NodeOp {
     /// The rows of an input's lines, at these columns.
     Load {
@@ -90,4 +90,57 @@ pub struct KeyedInput {
     pub input: u32,
     pub keys: TExprs,
     pub inner: bool,
+}
+
+// How operators end. A derived drop is taken apart, variant by variant, at each place where a value ends; one that is
+// written is one call there. So every function that lets one go is cheap to prove.
+
+impl Drop for NodeOp {
+    fn drop(self) {
+        match self {
+            NodeOp::Load {
+                path,
+                delim,
+                columns,
+            } => {
+                drop(path);
+                drop(delim);
+                drop(columns);
+            }
+            NodeOp::Filter { input: _, cond } => drop(cond),
+            NodeOp::Foreach { input: _, block } => drop(block),
+            NodeOp::GroupAll { input: _ }
+            | NodeOp::Distinct { input: _ }
+            | NodeOp::Limit { input: _, count: _ } => {}
+            NodeOp::Group { inputs }
+            | NodeOp::Join {
+                inputs,
+                side: _,
+                replicated: _,
+            } => drop(inputs),
+            NodeOp::Union { inputs } => drop(inputs),
+            NodeOp::Order { input: _, keys } => drop(keys),
+            NodeOp::Store {
+                input: _,
+                path,
+                delim,
+            } => {
+                drop(path);
+                drop(delim);
+            }
+            NodeOp::Assert {
+                input: _,
+                cond,
+                message,
+            } => {
+                drop(cond);
+                drop(message);
+            }
+            NodeOp::Rank {
+                input: _,
+                keys,
+                dense: _,
+            } => drop(keys),
+        }
+    }
 }

@@ -30,7 +30,7 @@ pub type PostSteps = Seq<PostStep>;
 pub type FieldRefs = Seq<FieldRef>;
 
 /// A statement.
-#[derive(Debug, Drop)]
+#[derive(Debug)]
 pub enum Stmt {
     /// No token at all.
     Empty,
@@ -59,7 +59,7 @@ pub enum Stmt {
 }
 
 /// What a relation is made by.
-#[derive(Debug, Drop)]
+#[derive(Debug)]
 pub enum Op {
     Load {
         path: Text,
@@ -139,7 +139,7 @@ pub struct Step {
 }
 
 /// What a nested alias is made by.
-#[derive(Debug, Drop)]
+#[derive(Debug)]
 pub enum Nested {
     Filter { from: BagRef, cond: Expr },
     Distinct { from: BagRef },
@@ -157,7 +157,7 @@ pub struct BagRef {
 }
 
 /// An item of a GENERATE.
-#[derive(Debug, Drop)]
+#[derive(Debug)]
 pub enum Item {
     /// All fields of the row.
     All,
@@ -169,7 +169,7 @@ pub enum Item {
 }
 
 /// The names behind AS.
-#[derive(Debug, Drop)]
+#[derive(Debug)]
 pub enum AsNames {
     One(FieldTree),
     Several(Fields),
@@ -192,7 +192,7 @@ pub struct JoinInput {
 }
 
 /// The keys of an ORDER: all fields in one direction, or fields each in its own.
-#[derive(Debug, Drop)]
+#[derive(Debug)]
 pub enum OrderKeys {
     All(Dir),
     Fields(OrderFields),
@@ -215,7 +215,7 @@ pub struct FieldTree {
 
 /// A written type.
 #[cycle(schema)]
-#[derive(Debug, Drop)]
+#[derive(Debug)]
 pub enum TypeTree {
     Int,
     Long,
@@ -233,7 +233,7 @@ pub enum TypeTree {
 
 /// An expression. Parentheses leave no form of their own.
 #[cycle(tree)]
-#[derive(Debug, Drop)]
+#[derive(Debug)]
 pub enum Expr {
     Int(i32),
     Long(i64),
@@ -289,19 +289,237 @@ pub struct Link {
 }
 
 /// A field by its name, or by its position from 0.
-#[derive(Debug, Drop)]
+#[derive(Debug)]
 pub enum FieldRef {
     Name(Text),
     Position(u32),
 }
 
 /// What may stand behind an expression.
-#[derive(Debug, Drop)]
+#[derive(Debug)]
 pub enum PostStep {
     /// A projection; `single` where one field stands without parentheses.
     Project { fields: FieldRefs, single: bool },
     /// The value of a map at a key.
     Look(Text),
+}
+
+// How trees end. A derived drop is taken apart, variant by variant, at each place where a value ends; one that is
+// written is one call there. So every function that lets a tree go is cheap to prove.
+
+impl Drop for Stmt {
+    fn drop(self) {
+        match self {
+            Stmt::Empty | Stmt::Unsupported => {}
+            Stmt::Assign { alias, op } => {
+                drop(alias);
+                drop(op);
+            }
+            Stmt::Split {
+                from,
+                branches,
+                otherwise,
+            } => {
+                drop(from);
+                drop(branches);
+                drop(otherwise);
+            }
+            Stmt::Store { from, path, func } => {
+                drop(from);
+                drop(path);
+                drop(func);
+            }
+            Stmt::Assert {
+                from,
+                cond,
+                message,
+            } => {
+                drop(from);
+                drop(cond);
+                drop(message);
+            }
+        }
+    }
+}
+
+impl Drop for Op {
+    fn drop(self) {
+        match self {
+            Op::Load { path, func, schema } => {
+                drop(path);
+                drop(func);
+                drop(schema);
+            }
+            Op::Filter { from, cond } => {
+                drop(from);
+                drop(cond);
+            }
+            Op::Foreach { from, steps, items } => {
+                drop(from);
+                drop(steps);
+                drop(items);
+            }
+            Op::GroupAll { from, using } => {
+                drop(from);
+                drop(using);
+            }
+            Op::Group { inputs, using } => {
+                drop(inputs);
+                drop(using);
+            }
+            Op::Join {
+                inputs,
+                side: _,
+                using,
+            } => {
+                drop(inputs);
+                drop(using);
+            }
+            Op::Union { onschema: _, from } => drop(from),
+            Op::Distinct { from } | Op::Limit { from, count: _ } => drop(from),
+            Op::Order { from, keys }
+            | Op::Rank {
+                from,
+                keys,
+                dense: _,
+            } => {
+                drop(from);
+                drop(keys);
+            }
+            Op::Cube {
+                from,
+                rollup: _,
+                dims,
+            } => {
+                drop(from);
+                drop(dims);
+            }
+        }
+    }
+}
+
+impl Drop for Nested {
+    fn drop(self) {
+        match self {
+            Nested::Filter { from, cond } => {
+                drop(from);
+                drop(cond);
+            }
+            Nested::Order { from, keys } => {
+                drop(from);
+                drop(keys);
+            }
+            Nested::Distinct { from } | Nested::Limit { from, count: _ } | Nested::Take { from } =>
+                {
+                    drop(from);
+                }
+        }
+    }
+}
+
+impl Drop for Item {
+    fn drop(self) {
+        match self {
+            Item::All => {}
+            Item::Value {
+                value,
+                flatten: _,
+                names,
+            } => {
+                drop(value);
+                drop(names);
+            }
+        }
+    }
+}
+
+impl Drop for AsNames {
+    fn drop(self) {
+        match self {
+            AsNames::One(field) => drop(field),
+            AsNames::Several(fields) => drop(fields),
+        }
+    }
+}
+
+impl Drop for OrderKeys {
+    fn drop(self) {
+        match self {
+            OrderKeys::All(_) => {}
+            OrderKeys::Fields(fields) => drop(fields),
+        }
+    }
+}
+
+impl Drop for TypeTree {
+    #[cycle(drop_type)]
+    fn drop(self) {
+        match self {
+            TypeTree::Int
+            | TypeTree::Long
+            | TypeTree::Chararray
+            | TypeTree::Bytearray
+            | TypeTree::Boolean
+            | TypeTree::Float => {}
+            TypeTree::Tuple(fields) | TypeTree::Bag(fields) => drop(fields),
+            TypeTree::Map(of) => drop(of),
+        }
+    }
+}
+
+impl Drop for Expr {
+    #[cycle(drop_expr)]
+    fn drop(self) {
+        match self {
+            Expr::Int(_) | Expr::Long(_) | Expr::Float | Expr::Bool(_) | Expr::Null => {}
+            Expr::Text(text) => drop(text),
+            Expr::Field(field) => drop(field),
+            Expr::Chain { first, rest } => {
+                drop(first);
+                drop(rest);
+            }
+            Expr::Compare { op: _, a, b } => {
+                drop(a);
+                drop(b);
+            }
+            Expr::IsNull { a, not: _ } | Expr::Not(a) | Expr::Minus(a) => drop(a),
+            Expr::Cast { to, a } => {
+                drop(to);
+                drop(a);
+            }
+            Expr::Post { a, steps } => {
+                drop(a);
+                drop(steps);
+            }
+            Expr::Call { name, args } => {
+                drop(name);
+                drop(args);
+            }
+            Expr::Choose { cond, yes, no } => {
+                drop(cond);
+                drop(yes);
+                drop(no);
+            }
+        }
+    }
+}
+
+impl Drop for FieldRef {
+    fn drop(self) {
+        match self {
+            FieldRef::Name(name) => drop(name),
+            FieldRef::Position(_) => {}
+        }
+    }
+}
+
+impl Drop for PostStep {
+    fn drop(self) {
+        match self {
+            PostStep::Project { fields, single: _ } => drop(fields),
+            PostStep::Look(key) => drop(key),
+        }
+    }
 }
 
 /// Trees may be shared and handed to other threads.

@@ -16,7 +16,7 @@ pub struct Block {
 }
 
 /// A nested step, which makes a bag of a bag of the row or of an earlier step.
-#[derive(Debug, Drop)]
+#[derive(Debug)]
 pub enum BlockStep {
     /// `cond` sees the fields of the bag alone.
     Filter { from: TExpr, cond: TExpr },
@@ -39,6 +39,27 @@ pub struct BlockItem {
 pub struct SortKey {
     pub position: u32,
     pub dir: Dir,
+}
+
+// How steps end. A derived drop is taken apart, variant by variant, at each place where a value ends; one that is
+// written is one call there. So every function that lets one go is cheap to prove.
+
+impl Drop for BlockStep {
+    fn drop(self) {
+        match self {
+            BlockStep::Filter { from, cond } => {
+                drop(from);
+                drop(cond);
+            }
+            BlockStep::Order { from, keys } => {
+                drop(from);
+                drop(keys);
+            }
+            BlockStep::Limit { from, count: _ }
+            | BlockStep::Distinct { from }
+            | BlockStep::Take { from } => drop(from),
+        }
+    }
 }
 
 /// Expressions and blocks may be shared and handed to other threads.

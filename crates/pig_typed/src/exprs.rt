@@ -9,7 +9,7 @@ pub type TLinks = Seq<TLink>;
 ///
 /// It is evaluated on a row and, within a nested block, on the values of the block's earlier steps.
 #[cycle(typed)]
-#[derive(Debug, Drop)]
+#[derive(Debug)]
 pub enum TExpr {
     Null,
     Bool(bool),
@@ -70,4 +70,53 @@ pub enum TExpr {
 pub struct TLink {
     pub op: ChainOp,
     pub a: TExpr,
+}
+
+// How expressions end. A derived drop is taken apart, variant by variant, at each place where a value ends; one that is
+// written is one call there. So every function that lets one go is cheap to prove.
+
+impl Drop for TExpr {
+    #[cycle(drop_expr)]
+    fn drop(self) {
+        match self {
+            TExpr::Null
+            | TExpr::Bool(_)
+            | TExpr::Int(_)
+            | TExpr::Long(_)
+            | TExpr::Field(_)
+            | TExpr::Local(_) => {}
+            TExpr::Chars(text) => drop(text),
+            TExpr::Chain { first, rest } => {
+                drop(first);
+                drop(rest);
+            }
+            TExpr::Compare { op: _, a, b } => {
+                drop(a);
+                drop(b);
+            }
+            TExpr::IsNull { a, not: _ } | TExpr::Not(a) | TExpr::Minus(a) => drop(a),
+            TExpr::Choose { cond, yes, no } => {
+                drop(cond);
+                drop(yes);
+                drop(no);
+            }
+            TExpr::Cast { to, a } => {
+                drop(to);
+                drop(a);
+            }
+            TExpr::Project {
+                a,
+                fields,
+                single: _,
+            } => {
+                drop(a);
+                drop(fields);
+            }
+            TExpr::Look { a, key } => {
+                drop(a);
+                drop(key);
+            }
+            TExpr::Call { function: _, args } => drop(args),
+        }
+    }
 }
