@@ -20,9 +20,9 @@ pub fn project<'a>(
     ensures { IfOk result (λ s. seen_tree s ≡ project_tree fields.now single
         (seen_tree seen.entry)) }
 {
-    match seen {
-        Seen::Lent(v) => project_lent(alloc, v, fields, single),
-        Seen::Made(v) => Ok(Seen::Made(projected(alloc, &v, fields, single)?)),
+    match &seen {
+        Seen::Lent(v) => project_lent(alloc, *v, fields, single),
+        Seen::Made(v) => Ok(Seen::Made(projected(alloc, v, fields, single)?)),
     }
 }
 
@@ -144,9 +144,9 @@ fn pick_rows(alloc: Global, rows: &Rows, fields: &Positions) -> Result<Rows, All
 pub fn look_up<'a>(alloc: Global, seen: Seen<'a>, key: &Text) -> Result<Seen<'a>, AllocError>
     ensures { IfOk result (λ s. seen_tree s ≡ look_tree key.now (seen_tree seen.entry)) }
 {
-    match seen {
-        Seen::Lent(v) => Ok(lent_or_null(found(v, key))),
-        Seen::Made(v) => Ok(Seen::Made(copied(alloc, found(&v, key))?)),
+    match &seen {
+        Seen::Lent(v) => Ok(lent_or_null(found(*v, key))),
+        Seen::Made(v) => Ok(Seen::Made(copied(alloc, found(v, key))?)),
     }
 }
 

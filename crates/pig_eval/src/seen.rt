@@ -1,4 +1,4 @@
-ghost use Rattle.std.specs.Prelude.{◌≡◌, ⊤, IfOk, MatchOption};
+ghost use Rattle.std.specs.Prelude.{◌≡◌, ⊤, IfOk, MatchOption, MatchResult};
 ghost use Rattle.pig_value.specs.Trees.{at, field_tree, row_tree, tree, v_null};
 ghost use Rattle.pig_typed.specs.Evaluation.{ev};
 ghost use Rattle.pig_typed.specs.Typed.{typed};
@@ -9,10 +9,32 @@ use pig_value::{Tuple, Value, copy, field_at};
 use std::alloc::{AllocError, Global};
 
 /// A value that stands in the row, the locals or the expression, or one that was made.
-#[derive(Drop)]
 pub enum Seen<'a> {
     Lent(&'a Value),
     Made(Value),
+}
+
+// A drop that is written is one call wherever a value ends; a derived one is taken apart there.
+impl Drop for Seen<'_> {
+    fn drop(self) {
+        match self {
+            Seen::Lent(_) => {}
+            Seen::Made(v) => drop(v),
+        }
+    }
+}
+
+impl<'a> Seen<'a> {
+    /// The value where it was made, or else the one that is lent.
+    pub fn into_made(self) -> Result<Value, &'a Value>
+        ensures { MatchResult result (λ v. tree v ≡ seen_tree self.entry)
+            (λ v. tree v.now ≡ seen_tree self.entry) }
+    {
+        match self {
+            Seen::Lent(v) => Err(v),
+            Seen::Made(v) => Ok(v),
+        }
+    }
 }
 
 /// The value to look at.
@@ -29,9 +51,9 @@ pub fn value<'b, 'a>(seen: &'b Seen<'a>) -> &'b Value
 pub fn owned(alloc: Global, seen: Seen) -> Result<Value, AllocError>
     ensures { IfOk result (λ v. tree v ≡ seen_tree seen.entry) }
 {
-    match seen {
-        Seen::Lent(v) => copy(alloc, v),
-        Seen::Made(v) => Ok(v),
+    match seen.into_made() {
+        Ok(v) => Ok(v),
+        Err(v) => copy(alloc, v),
     }
 }
 

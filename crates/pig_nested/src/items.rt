@@ -192,9 +192,9 @@ fn first_flattened(
 ) -> Result<Joining, AllocError>
     ensures { IfOk result (λ made. joining_rows made ≡ flattened width (seen_tree seen.entry)) }
 {
-    match seen {
-        Seen::Lent(v) => first_lent(alloc, v, width, room),
-        Seen::Made(v) => first_made(alloc, v, width, room),
+    match seen.into_made() {
+        Ok(v) => first_made(alloc, v, width, room),
+        Err(v) => first_lent(alloc, v, width, room),
     }
 }
 

@@ -174,9 +174,9 @@ fn reduced(alloc: Global, from: Seen) -> Result<Value, AllocError>
     ensures { IfOk result (λ v. tree v
         ≡ from_rows (λ rows. v_bag (tuples_of (distinct row_cmp rows))) (seen_tree from.entry)) }
 {
-    match from {
-        Seen::Lent(v) => reduced_lent(alloc, v),
-        Seen::Made(v) => Ok(reduced_made(v)),
+    match from.into_made() {
+        Ok(v) => Ok(reduced_made(v)),
+        Err(v) => reduced_lent(alloc, v),
     }
 }
 
