@@ -80,7 +80,6 @@ impl<'p> Lines<'p> {
 }
 
 /// Where rows come from.
-#[derive(Drop)]
 pub enum Source<'p> {
     /// Lines that are not read yet.
     Read(Lines<'p>),
@@ -88,4 +87,15 @@ pub enum Source<'p> {
     Groups(Gatherer),
     /// The entries of ORDER, in their order.
     Ordered(Orderer),
+}
+
+// A drop that is written is one call wherever a value ends; a derived one is taken apart there.
+impl Drop for Source<'_> {
+    fn drop(self) {
+        match self {
+            Source::Read(lines) => drop(lines),
+            Source::Groups(gatherer) => drop(gatherer),
+            Source::Ordered(orderer) => drop(orderer),
+        }
+    }
 }

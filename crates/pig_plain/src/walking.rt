@@ -22,10 +22,18 @@ pub enum RowStep<'p> {
 }
 
 /// Rows that are made as they are asked for: those of a source, taken through the steps.
-#[derive(Drop)]
 pub struct Walk<'p> {
     source: Source<'p>,
     steps: Vec<RowStep<'p>>,
+}
+
+// A drop that is written is one call wherever a walk ends; a derived one is taken apart there.
+impl Drop for Walk<'_> {
+    fn drop(self) {
+        let Walk { source, steps } = self;
+        drop(source);
+        drop(steps);
+    }
 }
 
 impl<'p> Walk<'p> {
