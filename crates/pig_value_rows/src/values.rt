@@ -1,5 +1,6 @@
 //! Values by hand, in ascending order, against each call. Where memory is wanting the process ends: that drops nothing,
 //! so its proof is short.
+// Trees end by `drop`: one call is cheap to prove, and a tree that dies by name is taken apart variant by variant.
 use pig_value::{
     Blob, Boxed, Function, Kind, Kinds, Pair, Pairs, Rows, Seq, Text, Tuple, Value, bag, casts_to,
     copy, copy_kind, copy_kinds, copy_row, field_at, holds_bag_or_map, is_of, kind_depth,
@@ -135,14 +136,24 @@ fn stand(a: &Value, b: &Value, wanted: Ordering) -> bool {
     order(a, b) == wanted && same(a, b) == (wanted == Ordering::Equal)
 }
 
+// Whether a copy of a value stands to another as their places do.
+fn values_stand<R: Abort>(rt: &R, alloc: Global, i: usize, j: usize) -> bool {
+    let given = value(rt, alloc, i);
+    let a = copy(alloc, &given).expect(rt, "memory");
+    let b = value(rt, alloc, j);
+    let holds = stand(&a, &b, i.cmp(&j));
+    drop((given, a, b));
+    holds
+}
+
 #[test]
 fn values_ascend(rt: HostRuntime) {
     for i in 0..VALUES {
-        let given = value(&rt, rt.alloc(), i);
-        let a = copy(rt.alloc(), &given).expect(&rt, "memory");
         for j in 0..VALUES {
-            let b = value(&rt, rt.alloc(), j);
-            assert!(rt; stand(&a, &b, i.cmp(&j)), "value {i} against {j}");
+            assert!(rt;
+                values_stand(&rt, rt.alloc(), i, j),
+                "value {i} against {j}"
+            );
         }
     }
 }
@@ -163,35 +174,60 @@ fn kinds_of(at: usize) -> &'static [u8] {
     }
 }
 
+// Whether a value is of a kind.
+fn value_is_of<R: Abort>(rt: &R, alloc: Global, at: usize, letter: u8) -> bool {
+    let given = value(rt, alloc, at);
+    let kind = kind(rt, alloc, letter);
+    let is = is_of(&given, &kind);
+    drop((given, kind));
+    is
+}
+
 #[test]
 fn kinds_of_values(rt: HostRuntime) {
     for i in 0..VALUES {
-        let value = value(&rt, rt.alloc(), i);
         for letter in b"bilcytgm" {
             let is = kinds_of(i).contains(letter);
-            let kind = kind(&rt, rt.alloc(), *letter);
-            assert!(rt; is_of(&value, &kind) == is, "value {i}, kind {letter}");
+            assert!(rt;
+                value_is_of(&rt, rt.alloc(), i, *letter) == is,
+                "value {i}, kind {letter}"
+            );
         }
     }
+}
+
+// Whether a copy of a kind is the same as another.
+fn kinds_are_same<R: Abort>(rt: &R, alloc: Global, a: u8, b: u8) -> bool {
+    let given = kind(rt, alloc, a);
+    let copied = copy_kind(alloc, &given).expect(rt, "memory");
+    let other = kind(rt, alloc, b);
+    let are = same_kind(&copied, &other);
+    drop((given, copied, other));
+    are
 }
 
 #[test]
 fn kinds_differ(rt: HostRuntime) {
     for a in b"bilcytgm" {
-        let given = kind(&rt, rt.alloc(), *a);
-        let copied = copy_kind(rt.alloc(), &given).expect(&rt, "memory");
         for b in b"bilcytgm" {
-            let other = kind(&rt, rt.alloc(), *b);
-            assert!(rt; same_kind(&copied, &other) == (a == b), "kind {a} and {b}");
+            assert!(rt;
+                kinds_are_same(&rt, rt.alloc(), *a, *b) == (a == b),
+                "kind {a} and {b}"
+            );
         }
     }
+}
+
+// Whether a copy of a row is this one.
+fn is_row<R: Abort>(rt: &R, alloc: Global, row: &Tuple, expected: &Tuple) -> bool {
+    let copied = copy_row(alloc, row).expect(rt, "memory");
+    order_rows(&copied, expected) == Ordering::Equal
 }
 
 // Whether copies of rows are these, in the same order.
 fn are_rows<R: Abort>(rt: &R, alloc: Global, found: &Rows, expected: &Rows) -> bool {
     for (a, b) in found.as_slice().iter().zip(expected.as_slice()) {
-        let copied = copy_row(alloc, a).expect(rt, "memory");
-        if order_rows(&copied, b) != Ordering::Equal {
+        if !is_row(rt, alloc, a, b) {
             return false;
         }
     }
@@ -289,60 +325,106 @@ fn casts_of(letter: u8) -> &'static [u8] {
     }
 }
 
+// Whether a kind casts to another.
+fn kind_casts<R: Abort>(rt: &R, alloc: Global, from: u8, to: u8) -> bool {
+    let kind_from = kind(rt, alloc, from);
+    let kind_to = kind(rt, alloc, to);
+    let casts = casts_to(&kind_from, &kind_to);
+    drop((kind_from, kind_to));
+    casts
+}
+
 #[test]
 fn kinds_cast(rt: HostRuntime) {
     for from in b"bilcytgm" {
-        let kind_from = kind(&rt, rt.alloc(), *from);
         for to in b"bilcytgm" {
             let is = casts_of(*from).contains(to);
-            let kind_to = kind(&rt, rt.alloc(), *to);
-            assert!(rt; casts_to(&kind_from, &kind_to) == is, "kind {from} to {to}");
+            assert!(rt;
+                kind_casts(&rt, rt.alloc(), *from, *to) == is,
+                "kind {from} to {to}"
+            );
         }
     }
 }
 
 // Whether a kind has this width and depth, and whether it holds a bag or a map.
-fn measures(kind: &Kind, width: usize, depth: usize, holds: bool) -> bool {
-    kind_width(kind) == width && kind_depth(kind) == depth && holds_bag_or_map(kind) == holds
+fn measures(kind: Kind, width: usize, depth: usize, holds: bool) -> bool {
+    let wide = kind_width(&kind) == width;
+    let deep = kind_depth(&kind) == depth;
+    let held = holds_bag_or_map(&kind) == holds;
+    drop(kind);
+    wide && deep && held
 }
 
 #[test]
 fn kinds_are_measured(rt: HostRuntime) {
     let alloc = rt.alloc();
-    assert!(rt; measures(&Kind::Int, 1, 1, false));
-    assert!(rt; measures(&kind(&rt, alloc, b't'), 2, 2, false));
-    assert!(rt; measures(&kind(&rt, alloc, b'g'), 2, 2, true));
-    assert!(rt; measures(&kind(&rt, alloc, b'm'), 2, 2, true));
-    assert!(rt; measures(&deep_kind(&rt, alloc), 5, 3, true));
+    assert!(rt; measures(Kind::Int, 1, 1, false));
+    assert!(rt; measures(kind(&rt, alloc, b't'), 2, 2, false));
+    assert!(rt; measures(kind(&rt, alloc, b'g'), 2, 2, true));
+    assert!(rt; measures(kind(&rt, alloc, b'm'), 2, 2, true));
+    assert!(rt; measures(deep_kind(&rt, alloc), 5, 3, true));
+}
+
+// Whether a value is this one.
+fn is_same(found: &Value, expected: Value) -> bool {
+    let is = same(found, &expected);
+    drop(expected);
+    is
 }
 
 // Whether a field is this int.
 fn is_int(row: &Tuple, place: u32, number: i32) -> bool {
     match field_at(row, place) {
-        Some(found) => same(found, &Value::Int(number)),
+        Some(found) => is_same(found, Value::Int(number)),
         None => false,
     }
 }
 
+// A list of three ints, of which two were added together.
+fn grown_list<R: Abort>(rt: &R, alloc: Global) -> Tuple {
+    let mut row = Seq::with_capacity(alloc, 2).expect(rt, "memory");
+    push(rt, &mut row, Value::Int(7));
+    let more = ints(rt, alloc, &[8, 9]);
+    row.extend(more).expect(rt, "memory");
+    row
+}
+
 #[test]
 fn lists_grow(rt: HostRuntime) {
-    let mut row: Tuple = Seq::with_capacity(rt.alloc(), 2).expect(&rt, "memory");
-    push(&rt, &mut row, Value::Int(7));
-    let more = ints(&rt, rt.alloc(), &[8, 9]);
-    row.extend(more).expect(&rt, "memory");
+    let row = grown_list(&rt, rt.alloc());
     assert!(rt; row.len() == 3, "pushed and extended");
     assert!(rt; is_int(&row, 0, 7) && is_int(&row, 1, 8) && is_int(&row, 2, 9));
     assert!(rt; field_at(&row, 3).is_none(), "no field");
 }
 
+// Three bytes, of which two were added together.
+fn grown_bytes<R: Abort>(rt: &R, alloc: Global) -> Blob {
+    let mut bytes = Blob::new(alloc);
+    bytes.push(1).expect(rt, "memory");
+    bytes.extend_from_slice(&[2, 255]).expect(rt, "memory");
+    bytes
+}
+
+// Whether a copy of bytes is these.
+fn are_bytes<R: Abort>(rt: &R, alloc: Global, bytes: &Blob, expected: &[u8]) -> bool {
+    let copied = bytes.copy(alloc).expect(rt, "memory");
+    copied.as_slice() == expected
+}
+
 #[test]
 fn bytes_grow(rt: HostRuntime) {
-    let mut bytes = Blob::new(rt.alloc());
-    bytes.push(1).expect(&rt, "memory");
-    bytes.extend_from_slice(&[2, 255]).expect(&rt, "memory");
-    let copied = bytes.copy(rt.alloc()).expect(&rt, "memory");
-    assert!(rt; copied.as_slice() == [1, 2, 255].as_slice(), "bytes");
+    let bytes = grown_bytes(&rt, rt.alloc());
+    assert!(rt; are_bytes(&rt, rt.alloc(), &bytes, &[1, 2, 255]), "bytes");
     assert!(rt; bytes.get(2) == Some(255) && bytes.get(3).is_none());
+}
+
+// Whether a function has this name.
+fn is_function(name: &str) -> bool {
+    match Function::named(name) {
+        Some(found) => found.name() == name,
+        None => false,
+    }
 }
 
 #[test]
@@ -350,8 +432,7 @@ fn functions_have_names(rt: HostRuntime) {
     let names = "COUNT COUNT_STAR SUM MIN MAX SIZE CONCAT IsEmpty TOKENIZE SUBSTRING STARTSWITH \
                  ENDSWITH INDEXOF ABS TOTUPLE TOBAG";
     for name in names.split_ascii_whitespace() {
-        let found = Function::named(name);
-        assert!(rt; found.is_some_and(|f| f.name() == name), "{name}");
+        assert!(rt; is_function(name), "{name}");
     }
     for other in ["AVG", "count", "ISEMPTY", ""] {
         assert!(rt; Function::named(other).is_none(), "{other}");
