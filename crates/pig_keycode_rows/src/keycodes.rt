@@ -1,5 +1,6 @@
 //! pig_keycode: values by hand, in ascending order, against their codes, which are written out from the table. Where
 //! memory is wanting the process ends: that drops nothing, so its proof is short.
+// Trees end by `drop`: one call is cheap to prove, and a tree that dies by name is taken apart variant by variant.
 use pig_keycode::{decode, decode_row, encode, encode_key, encode_row, read_code};
 use pig_value::{Blob, Dir, Dirs, Pair, Pairs, Rows, Seq, Text, Tuple, Value, same};
 use std::alloc::Global;
@@ -166,9 +167,10 @@ fn are_opposite(descending: &[u8], ascending: &[u8]) -> bool {
 }
 
 // Whether a value has this code, and the opposite one in the other direction.
-fn is_written<R: Abort>(rt: &R, alloc: Global, value: &Value, expected: &[u8]) -> bool {
-    let ascending = written(rt, alloc, value, Dir::Asc);
-    let descending = written(rt, alloc, value, Dir::Desc);
+fn is_written<R: Abort>(rt: &R, alloc: Global, value: Value, expected: &[u8]) -> bool {
+    let ascending = written(rt, alloc, &value, Dir::Asc);
+    let descending = written(rt, alloc, &value, Dir::Desc);
+    drop(value);
     ascending.as_slice() == expected && are_opposite(descending.as_slice(), expected)
 }
 
@@ -176,22 +178,32 @@ fn is_written<R: Abort>(rt: &R, alloc: Global, value: &Value, expected: &[u8]) -
 fn values_are_written(rt: HostRuntime) {
     for i in 0..VALUES {
         let value = value(&rt, rt.alloc(), i);
-        assert!(rt; is_written(&rt, rt.alloc(), &value, code(i)), "value {i}");
+        assert!(rt; is_written(&rt, rt.alloc(), value, code(i)), "value {i}");
+    }
+}
+
+// Whether a value is found, and this one.
+fn is_found(found: &Option<Value>, expected: &Value) -> bool {
+    match found {
+        Some(found) => same(found, expected),
+        None => false,
     }
 }
 
 // Whether bytes are the code of this value.
-fn is_read<R: Abort>(rt: &R, alloc: Global, bytes: &[u8], expected: &Value) -> bool {
-    match decode(alloc, bytes).expect(rt, "memory") {
-        Some(found) => same(&found, expected),
-        None => false,
-    }
+fn is_read<R: Abort>(rt: &R, alloc: Global, bytes: &[u8], expected: Value) -> bool {
+    let found = decode(alloc, bytes).expect(rt, "memory");
+    let is = is_found(&found, &expected);
+    drop((found, expected));
+    is
 }
 
 // Whether bytes are the code of no value.
 fn is_no_code<R: Abort>(rt: &R, alloc: Global, bytes: &[u8]) -> bool {
     let found = decode(alloc, bytes).expect(rt, "memory");
-    found.is_none()
+    let is = found.is_none();
+    drop(found);
+    is
 }
 
 #[test]
@@ -199,7 +211,7 @@ fn codes_are_read(rt: HostRuntime) {
     for i in 0..VALUES {
         let expected = value(&rt, rt.alloc(), i);
         let bytes = code(i);
-        assert!(rt; is_read(&rt, rt.alloc(), bytes, &expected), "value {i}");
+        assert!(rt; is_read(&rt, rt.alloc(), bytes, expected), "value {i}");
         let shorter = &bytes[..bytes.len().saturating_sub(1)];
         assert!(rt; is_no_code(&rt, rt.alloc(), shorter), "value {i}");
     }
@@ -253,20 +265,43 @@ fn nested_null<R: Abort>(rt: &R, alloc: Global, tuples: usize) -> Value {
     value
 }
 
-#[test]
-fn values_nest_256_deep(rt: HostRuntime) {
-    let deepest = nested_null(&rt, rt.alloc(), 255);
-    let bytes = written(&rt, rt.alloc(), &deepest, Dir::Asc);
-    assert!(rt; is_read(&rt, rt.alloc(), bytes.as_slice(), &deepest));
-    let deeper = nested_null(&rt, rt.alloc(), 256);
-    let bytes = written(&rt, rt.alloc(), &deeper, Dir::Asc);
-    assert!(rt; decode(rt.alloc(), bytes.as_slice()).is_err());
+// Whether the null inside so many tuples is read from its code.
+fn nested_is_read<R: Abort>(rt: &R, alloc: Global, tuples: usize) -> bool {
+    let deepest = nested_null(rt, alloc, tuples);
+    let bytes = written(rt, alloc, &deepest, Dir::Asc);
+    is_read(rt, alloc, bytes.as_slice(), deepest)
 }
 
-// Whether bytes are the code of just this row.
-fn is_row<R: Abort>(rt: &R, alloc: Global, bytes: &[u8], expected: &Value) -> bool {
+// Whether the null inside so many tuples is refused when its code is read.
+fn nested_is_refused<R: Abort>(rt: &R, alloc: Global, tuples: usize) -> bool {
+    let deeper = nested_null(rt, alloc, tuples);
+    let bytes = written(rt, alloc, &deeper, Dir::Asc);
+    let found = decode(alloc, bytes.as_slice());
+    let is = found.is_err();
+    drop((found, deeper));
+    is
+}
+
+#[test]
+fn values_nest_256_deep(rt: HostRuntime) {
+    assert!(rt; nested_is_read(&rt, rt.alloc(), 255));
+    assert!(rt; nested_is_refused(&rt, rt.alloc(), 256));
+}
+
+// Whether a value is this one.
+fn is_same(found: Value, expected: Value) -> bool {
+    let is = same(&found, &expected);
+    drop((found, expected));
+    is
+}
+
+// Whether bytes are the code of just this row of booleans.
+fn is_row<R: Abort>(rt: &R, alloc: Global, bytes: &[u8], fields: &[bool]) -> bool {
     match decode_row(alloc, bytes).expect(rt, "memory") {
-        Some(found) => same(&Value::Tuple(found), expected),
+        Some(found) => is_same(
+            Value::Tuple(found),
+            Value::Tuple(booleans(rt, alloc, fields)),
+        ),
         None => false,
     }
 }
@@ -276,57 +311,89 @@ fn is_no_row<R: Abort>(rt: &R, alloc: Global, bytes: &[u8]) -> bool {
     found.is_none()
 }
 
+// Whether a row of booleans has this code, behind a byte that stands there.
+fn row_is_written<R: Abort>(rt: &R, alloc: Global, fields: &[bool], expected: &[u8]) -> bool {
+    let row = booleans(rt, alloc, fields);
+    let mut bytes = Vec::from_slice(alloc, b"\x07").expect(rt, "memory");
+    encode_row(&row, &mut bytes).expect(rt, "memory");
+    bytes.as_slice() == expected
+}
+
 #[test]
 fn rows_are_written_as_tuples_and_read(rt: HostRuntime) {
-    let row = booleans(&rt, rt.alloc(), &[false, true]);
-    let mut bytes = Vec::from_slice(rt.alloc(), b"\x07").expect(&rt, "memory");
-    encode_row(&row, &mut bytes).expect(&rt, "memory");
-    assert!(rt; bytes.as_slice() == b"\x07\x06\x01\x01\x00\x01\x01\x01\x00".as_slice());
-    let row = Value::Tuple(row);
-    assert!(rt; is_row(&rt, rt.alloc(), b"\x06\x01\x01\x00\x01\x01\x01\x00", &row));
+    let fields = [false, true];
+    let expected = b"\x07\x06\x01\x01\x00\x01\x01\x01\x00";
+    assert!(rt; row_is_written(&rt, rt.alloc(), &fields, expected));
+    assert!(rt;
+        is_row(
+            &rt,
+            rt.alloc(),
+            b"\x06\x01\x01\x00\x01\x01\x01\x00",
+            &fields
+        )
+    );
     // The null is no row, and one without its end is none.
     assert!(rt; is_no_row(&rt, rt.alloc(), b"\x00"));
     assert!(rt; is_no_row(&rt, rt.alloc(), b"\x06"));
 }
 
 // Whether bytes begin with the code of this value, and then have these.
-fn begins<R: Abort>(rt: &R, alloc: Global, bytes: &[u8], value: &Value, behind: &[u8]) -> bool {
-    match read_code(alloc, bytes).expect(rt, "memory") {
-        Some((found, rest)) => same(&found, value) && rest == behind,
+fn begins<R: Abort>(rt: &R, alloc: Global, bytes: &[u8], value: Value, behind: &[u8]) -> bool {
+    let read = read_code(alloc, bytes).expect(rt, "memory");
+    let begins = match &read {
+        Some((found, rest)) => same(found, &value) && *rest == behind,
         None => false,
-    }
+    };
+    drop((read, value));
+    begins
+}
+
+// Whether bytes begin with the code of no value.
+fn begins_with_none<R: Abort>(rt: &R, alloc: Global, bytes: &[u8]) -> bool {
+    let read = read_code(alloc, bytes).expect(rt, "memory");
+    let is = read.is_none();
+    drop(read);
+    is
 }
 
 #[test]
 fn codes_are_read_from_the_front(rt: HostRuntime) {
     let text = chars(&rt, rt.alloc(), "a\0");
     let bytes = b"\x04a\x00\xff\x00\x00\x01\x02";
-    assert!(rt; begins(&rt, rt.alloc(), bytes, &text, b"\x01\x02"));
-    let found = read_code(rt.alloc(), b"\x04a\x00\x01\x00\x00").expect(&rt, "memory");
-    assert!(rt; found.is_none());
+    assert!(rt; begins(&rt, rt.alloc(), bytes, text, b"\x01\x02"));
+    assert!(rt; begins_with_none(&rt, rt.alloc(), b"\x04a\x00\x01\x00\x00"));
 }
 
-// Whether a key has these bytes in the directions.
-fn is_key<R: Abort>(rt: &R, alloc: Global, key: &Value, dirs: &Dirs, expected: &[u8]) -> bool {
+// Whether a key of booleans has these bytes in the directions.
+fn is_key<R: Abort>(rt: &R, alloc: Global, fields: &[bool], dirs: &Dirs, expected: &[u8]) -> bool {
+    let key = Value::Tuple(booleans(rt, alloc, fields));
     let mut bytes = Vec::new(alloc);
-    encode_key(key, dirs, &mut bytes).expect(rt, "memory");
+    encode_key(&key, dirs, &mut bytes).expect(rt, "memory");
+    drop(key);
     bytes.as_slice() == expected
+}
+
+// First descending, then ascending.
+fn two_dirs<R: Abort>(rt: &R, alloc: Global) -> Dirs {
+    let mut dirs = Dirs::new(alloc);
+    push(rt, &mut dirs, Dir::Desc);
+    push(rt, &mut dirs, Dir::Asc);
+    dirs
 }
 
 #[test]
 fn keys_are_written_in_directions(rt: HostRuntime) {
-    let key = Value::Tuple(booleans(&rt, rt.alloc(), &[false, true]));
-    let mut dirs = Dirs::new(rt.alloc());
+    let fields = [false, true];
+    let none = Dirs::new(rt.alloc());
     let ascending = b"\x06\x01\x01\x00\x01\x01\x01\x00";
     assert!(rt;
-        is_key(&rt, rt.alloc(), &key, &dirs, ascending),
+        is_key(&rt, rt.alloc(), &fields, &none, ascending),
         "no directions"
     );
-    push(&rt, &mut dirs, Dir::Desc);
-    push(&rt, &mut dirs, Dir::Asc);
+    let dirs = two_dirs(&rt, rt.alloc());
     let mixed = b"\xfe\xff\x01\x01";
     assert!(rt;
-        is_key(&rt, rt.alloc(), &key, &dirs, mixed),
+        is_key(&rt, rt.alloc(), &fields, &dirs, mixed),
         "descending, then ascending"
     );
 }
