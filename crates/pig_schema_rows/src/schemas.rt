@@ -2,6 +2,7 @@
 //!
 //! A case is a line of a text: the names, the name that is looked for, and what is found.
 //! Where memory is wanting the process ends: that drops nothing, so its proof is short.
+// Trees end by `drop`: one call is cheap to prove, and a tree that dies by name is taken apart variant by variant.
 use pig_schema::{Field, NameFault, Schema, at, copy_field, copy_schema, find, kinds};
 use pig_value::{Boxed, Kind, Seq, Text, same_kind};
 use std::alloc::Global;
@@ -93,14 +94,33 @@ fn a_name_fits_behind_two_colons(rt: HostRuntime) {
     }
 }
 
+// Whether this is found at a position of fields of these names.
+fn stands<R: Abort>(
+    rt: &R,
+    alloc: Global,
+    names: &str,
+    position: u32,
+    expected: Result<usize, NameFault>,
+) -> bool {
+    let schema = schema(rt, alloc, names);
+    at(&schema, position) == expected
+}
+
 #[test]
 fn a_position_counts_from_0(rt: HostRuntime) {
-    let three = schema(&rt, rt.alloc(), "a,,b");
-    assert!(rt; at(&three, 0) == Ok(0));
-    assert!(rt; at(&three, 2) == Ok(2));
-    assert!(rt; at(&three, 3) == Err(NameFault::PositionOut));
-    let none = schema(&rt, rt.alloc(), "-");
-    assert!(rt; at(&none, 0) == Err(NameFault::PositionOut));
+    let alloc = rt.alloc();
+    assert!(rt; stands(&rt, alloc, "a,,b", 0, Ok(0)));
+    assert!(rt; stands(&rt, alloc, "a,,b", 2, Ok(2)));
+    let out = Err(NameFault::PositionOut);
+    assert!(rt; stands(&rt, alloc, "a,,b", 3, out));
+    assert!(rt; stands(&rt, alloc, "-", 0, out));
+}
+
+// Whether a kind is this one.
+fn is_kind(found: &Kind, expected: Kind) -> bool {
+    let is = same_kind(found, &expected);
+    drop(expected);
+    is
 }
 
 // Whether a kind is that of tuples of one field.
@@ -115,9 +135,7 @@ fn is_of_one(kind: &Kind) -> bool {
 fn are_three(kinds: &[Kind]) -> bool {
     match kinds {
         [text, flag, fields] => {
-            same_kind(text, &Kind::Chararray)
-                && same_kind(flag, &Kind::Boolean)
-                && is_of_one(fields)
+            is_kind(text, Kind::Chararray) && is_kind(flag, Kind::Boolean) && is_of_one(fields)
         }
         _ => false,
     }
@@ -157,7 +175,7 @@ fn bag_field<R: Abort>(rt: &R, alloc: Global, name: &str) -> Field {
 // Whether these are one int.
 fn is_one_int(kinds: &[Kind]) -> bool {
     match kinds {
-        [only] => same_kind(only, &Kind::Int),
+        [only] => is_kind(only, Kind::Int),
         _ => false,
     }
 }
@@ -175,17 +193,25 @@ fn is_bag_field(found: &Field, name: &str) -> bool {
     named && of_ints && find(&found.inner, "a") == Ok(0) && found.inner.len() == 1
 }
 
+// Whether a copy of the bag above is the same, under this name.
+fn bag_is_copied<R: Abort>(rt: &R, alloc: Global, name: &str) -> bool {
+    let bag = bag_field(rt, alloc, name);
+    let copied = copy_field(alloc, &bag).expect(rt, "memory");
+    let is = is_bag_field(&copied, name);
+    drop(bag);
+    drop(copied);
+    is
+}
+
 #[test]
 fn a_field_is_copied(rt: HostRuntime) {
-    let bag = bag_field(&rt, rt.alloc(), "b");
-    let copied = copy_field(rt.alloc(), &bag).expect(&rt, "memory");
-    assert!(rt; is_bag_field(&copied, "b"));
+    assert!(rt; bag_is_copied(&rt, rt.alloc(), "b"));
 }
 
 // Whether a kind is that of maps of longs.
 fn is_map_of_longs(kind: &Kind) -> bool {
     match kind {
-        Kind::Map(of) => same_kind(of.get(), &Kind::Long),
+        Kind::Map(of) => is_kind(of.get(), Kind::Long),
         _ => false,
     }
 }
