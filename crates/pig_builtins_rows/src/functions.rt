@@ -1,5 +1,6 @@
 //! What the functions give of arguments, and the folds of columns. Where memory is wanting the process ends: that drops
 //! nothing, so its proof is short.
+// Trees end by `drop`: one call is cheap to prove, and a tree that dies by name is taken apart variant by variant.
 use pig_builtins::{Fold, apply, apply_column};
 use pig_value::{Blob, Function, Pair, Pairs, Rows, Seq, Text, Tuple, Value, bag, copy, same};
 use std::alloc::Global;
@@ -156,12 +157,17 @@ fn bytes_of<R: Abort>(rt: &R, alloc: Global, digits: &[u8]) -> Value {
     Value::Bytes(Blob::from_vec(bytes))
 }
 
+fn int_of(word: &str) -> Value {
+    match word.parse::<i32>().ok() {
+        Some(n) => Value::Int(n),
+        None => Value::Null,
+    }
+}
+
 fn whole_of(word: &str) -> Value {
-    let long = word.strip_suffix("L");
-    match (long, word.parse::<i32>()) {
-        (Some(digits), _) => Value::Long(digits.parse::<i64>().unwrap_or(0)),
-        (None, Ok(n)) => Value::Int(n),
-        _ => Value::Null,
+    match word.strip_suffix("L") {
+        Some(digits) => Value::Long(digits.parse::<i64>().unwrap_or(0)),
+        None => int_of(word),
     }
 }
 
@@ -190,12 +196,18 @@ fn last<R: Abort>(rt: &R, alloc: Global, values: &mut Vec<Value>, count: &str) -
     Seq::from_vec(taken)
 }
 
+// Adds a tuple to rows.
+fn push_row<R: Abort>(rt: &R, rows: &mut Rows, value: Value) {
+    match value {
+        Value::Tuple(row) => push(rt, rows, row),
+        other => drop(other),
+    }
+}
+
 fn rows<R: Abort>(rt: &R, alloc: Global, values: Tuple) -> Rows {
     let mut rows = Seq::new(alloc);
     for value in values.into_vec() {
-        if let Value::Tuple(row) = value {
-            push(rt, &mut rows, row);
-        }
+        push_row(rt, &mut rows, value);
     }
     rows
 }
@@ -271,13 +283,20 @@ fn written<R: Abort>(rt: &R, alloc: Global, words: &str) -> Tuple {
     Seq::from_vec(values)
 }
 
-// Whether a value is what the words write alone.
-fn is_written<R: Abort>(rt: &R, alloc: Global, value: &Value, words: &str) -> bool {
-    let wanted = written(rt, alloc, words);
-    match wanted.as_slice() {
+// Whether a value stands alone there.
+fn is_alone(wanted: &[Value], value: &Value) -> bool {
+    match wanted {
         [wanted] => same(value, wanted),
         _ => false,
     }
+}
+
+// Whether a value is what the words write alone.
+fn is_written<R: Abort>(rt: &R, alloc: Global, value: Value, words: &str) -> bool {
+    let wanted = written(rt, alloc, words);
+    let is = is_alone(wanted.as_slice(), &value);
+    drop(value);
+    is
 }
 
 // What a function gives of arguments.
@@ -294,7 +313,7 @@ fn holds<R: Abort>(rt: &R, alloc: Global, line: &str) -> bool {
         return false;
     };
     let given = applied(rt, alloc, function, args);
-    is_written(rt, alloc, &given, value)
+    is_written(rt, alloc, given, value)
 }
 
 #[test]
@@ -327,8 +346,10 @@ fn column_gives<R: Abort>(
     let fields = written(rt, alloc, "'k 5 (2 'k null (2 'l -7 (2 'l (1");
     let rows = rows(rt, alloc, fields);
     let whole = apply_column(alloc, function, rows.as_slice(), position).expect(rt, "memory");
+    let at_once = is_written(rt, alloc, whole, value);
     let folded = folded(rt, alloc, start, &rows, position as usize);
-    is_written(rt, alloc, &whole, value) && is_written(rt, alloc, &folded, value)
+    let one_by_one = is_written(rt, alloc, folded, value);
+    at_once && one_by_one
 }
 
 #[test]
