@@ -142,7 +142,9 @@ fn values_stand<R: Abort>(rt: &R, alloc: Global, i: usize, j: usize) -> bool {
     let a = copy(alloc, &given).expect(rt, "memory");
     let b = value(rt, alloc, j);
     let holds = stand(&a, &b, i.cmp(&j));
-    drop((given, a, b));
+    drop(given);
+    drop(a);
+    drop(b);
     holds
 }
 
@@ -179,7 +181,8 @@ fn value_is_of<R: Abort>(rt: &R, alloc: Global, at: usize, letter: u8) -> bool {
     let given = value(rt, alloc, at);
     let kind = kind(rt, alloc, letter);
     let is = is_of(&given, &kind);
-    drop((given, kind));
+    drop(given);
+    drop(kind);
     is
 }
 
@@ -202,7 +205,9 @@ fn kinds_are_same<R: Abort>(rt: &R, alloc: Global, a: u8, b: u8) -> bool {
     let copied = copy_kind(alloc, &given).expect(rt, "memory");
     let other = kind(rt, alloc, b);
     let are = same_kind(&copied, &other);
-    drop((given, copied, other));
+    drop(given);
+    drop(copied);
+    drop(other);
     are
 }
 
@@ -330,7 +335,8 @@ fn kind_casts<R: Abort>(rt: &R, alloc: Global, from: u8, to: u8) -> bool {
     let kind_from = kind(rt, alloc, from);
     let kind_to = kind(rt, alloc, to);
     let casts = casts_to(&kind_from, &kind_to);
-    drop((kind_from, kind_to));
+    drop(kind_from);
+    drop(kind_to);
     casts
 }
 
