@@ -1,4 +1,5 @@
 //! Blocks on a row each, and the rows that they make.
+// Trees end by `drop`: one call is cheap to prove, and a tree that dies by name is taken apart variant by variant.
 use crate::making::{
     are_same, chars, flat, generate, keys, number, numbers, of_step, part_of_local, plain, push,
     singles, triples,
@@ -11,8 +12,9 @@ use std::cmp::Ordering;
 use std::process::Abort;
 
 // Whether a block makes just these rows of one.
-fn makes<R: Abort>(rt: &R, alloc: Global, block: &Block, row: &Tuple, expected: &Rows) -> bool {
-    let found = foreach(alloc, block, row).expect(rt, "memory");
+fn makes<R: Abort>(rt: &R, alloc: Global, block: Block, row: &Tuple, expected: &Rows) -> bool {
+    let found = foreach(alloc, &block, row).expect(rt, "memory");
+    drop(block);
     are_same(&found, expected)
 }
 
@@ -102,7 +104,7 @@ fn nested_order(rt: HostRuntime) {
     let row = group(&rt, rt.alloc());
     let expected = first_and_pairs(&rt, rt.alloc());
     assert!(rt;
-        makes(&rt, rt.alloc(), &block, &row, &expected),
+        makes(&rt, rt.alloc(), block, &row, &expected),
         "nested order"
     );
 }
@@ -172,16 +174,17 @@ fn flattens<R: Abort>(rt: &R, alloc: Global) -> Block {
     block
 }
 
+// Whether the bags are flattened to the rows above.
+fn bags_are_flattened<R: Abort>(rt: &R, alloc: Global, at: u32) -> bool {
+    let row = bags(rt, alloc, at);
+    let expected = flattened_rows(rt, alloc, at);
+    makes(rt, alloc, flattens(rt, alloc), &row, &expected)
+}
+
 #[test]
 fn flattened_bags(rt: HostRuntime) {
-    let block = flattens(&rt, rt.alloc());
     for at in 0..7 {
-        let row = bags(&rt, rt.alloc(), at);
-        let expected = flattened_rows(&rt, rt.alloc(), at);
-        assert!(rt;
-            makes(&rt, rt.alloc(), &block, &row, &expected),
-            "bags {at}"
-        );
+        assert!(rt; bags_are_flattened(&rt, rt.alloc(), at), "bags {at}");
     }
 }
 
@@ -203,18 +206,25 @@ fn tuple_rows<R: Abort>(rt: &R, alloc: Global, at: u32) -> Rows {
     }
 }
 
+// GENERATE FLATTEN($0), $1
+fn flattens_first<R: Abort>(rt: &R, alloc: Global) -> Block {
+    let mut block = generate(alloc);
+    push(rt, &mut block.items, flat(TExpr::Field(0), 2));
+    push(rt, &mut block.items, plain(TExpr::Field(1)));
+    block
+}
+
+// Whether the tuple is flattened to the row above.
+fn tuple_is_flattened<R: Abort>(rt: &R, alloc: Global, at: u32) -> bool {
+    let row = tuples(rt, alloc, at);
+    let expected = tuple_rows(rt, alloc, at);
+    makes(rt, alloc, flattens_first(rt, alloc), &row, &expected)
+}
+
 #[test]
 fn flattened_tuples(rt: HostRuntime) {
-    let mut block = generate(rt.alloc());
-    push(&rt, &mut block.items, flat(TExpr::Field(0), 2));
-    push(&rt, &mut block.items, plain(TExpr::Field(1)));
     for at in 0..2 {
-        let row = tuples(&rt, rt.alloc(), at);
-        let expected = tuple_rows(&rt, rt.alloc(), at);
-        assert!(rt;
-            makes(&rt, rt.alloc(), &block, &row, &expected),
-            "tuple {at}"
-        );
+        assert!(rt; tuple_is_flattened(&rt, rt.alloc(), at), "tuple {at}");
     }
 }
 
@@ -261,19 +271,19 @@ fn steps(rt: HostRuntime) {
     let mut row = Seq::new(rt.alloc());
     push(&rt, &mut row, bag_of(&rt, rt.alloc(), &[-1, 1, 1, 2]));
     for at in 0..7 {
-        let block = of_step(&rt, rt.alloc(), step(&rt, rt.alloc(), at));
-        let expected = step_value(&rt, rt.alloc(), at);
-        assert!(rt;
-            gives(&rt, rt.alloc(), &block, &row, &expected),
-            "step {at}"
-        );
+        assert!(rt; step_gives(&rt, rt.alloc(), at, &row), "step {at}");
     }
 }
 
-// Whether a block makes of a row one row, of this value alone.
-fn gives<R: Abort>(rt: &R, alloc: Global, block: &Block, row: &Tuple, expected: &Value) -> bool {
-    let found = foreach(alloc, block, row).expect(rt, "memory");
-    is_only(&found, expected)
+// Whether the block of a step makes of a row one row, of the value above alone.
+fn step_gives<R: Abort>(rt: &R, alloc: Global, at: u32, row: &Tuple) -> bool {
+    let block = of_step(rt, alloc, step(rt, alloc, at));
+    let found = foreach(alloc, &block, row).expect(rt, "memory");
+    drop(block);
+    let expected = step_value(rt, alloc, at);
+    let is = is_only(&found, &expected);
+    drop(expected);
+    is
 }
 
 // Whether there is one row, of this value alone.
@@ -317,14 +327,21 @@ fn are_counted(rows: &Rows) -> bool {
     true
 }
 
-// Whether a bag of so many tuples is flattened to as many rows, in their order.
-fn flattens_all<R: Abort>(rt: &R, alloc: Global, count: u32) -> bool {
+// GENERATE FLATTEN($0), 7
+fn flattens_with_7<R: Abort>(rt: &R, alloc: Global) -> Block {
     let mut block = generate(alloc);
     push(rt, &mut block.items, flat(TExpr::Field(0), 1));
     push(rt, &mut block.items, plain(TExpr::Int(7)));
+    block
+}
+
+// Whether a bag of so many tuples is flattened to as many rows, in their order.
+fn flattens_all<R: Abort>(rt: &R, alloc: Global, count: u32) -> bool {
+    let block = flattens_with_7(rt, alloc);
     let mut row = Seq::new(alloc);
     push(rt, &mut row, Value::Bag(counted(rt, alloc, count)));
     let found = foreach(alloc, &block, &row).expect(rt, "memory");
+    drop(block);
     found.len() == count as usize && are_counted(&found)
 }
 
