@@ -1,6 +1,7 @@
 // Devices over files: which pieces a folder has, what is read, which files an output has, and what is a failure.
 //
 // A call that has to succeed ends the process where it doesn't: that drops nothing, so its proof is short.
+// Trees end by `drop`: one call is cheap to prove, and a tree that dies by name is taken apart variant by variant.
 use pig_files::{FileDepot, FileHost};
 use pig_outside::{Depot, Host, OutsideError};
 use std::os::fd::AsRawFd;
@@ -31,12 +32,25 @@ fn has_lengths<R: Abort, D: Depot>(rt: &R, depot: &mut D, path: &str, wanted: &[
 /// Whether there is no such input.
 fn is_absent<R: Abort, D: Depot>(rt: &R, depot: &mut D, path: &str) -> bool {
     let found = depot.pieces(path).expect(rt, "an answer");
-    found.is_none()
+    let is = found.is_none();
+    drop(found);
+    is
 }
 
 /// Whether the depot fails at an input.
 fn fails<D: Depot>(depot: &mut D, path: &str) -> bool {
-    matches!(depot.pieces(path), Err(OutsideError::Failed))
+    let found = depot.pieces(path);
+    let is = matches!(&found, Err(OutsideError::Failed));
+    drop(found);
+    is
+}
+
+/// Whether the depot gives no answer at an input.
+fn has_no_answer<D: Depot>(depot: &mut D, path: &str) -> bool {
+    let found = depot.pieces(path);
+    let is = found.is_err();
+    drop(found);
+    is
 }
 
 /// The byte of a piece at a place.
@@ -79,7 +93,9 @@ fn a_folder_is_an_input(rt: HostRuntime) {
     assert!(rt; byte(&rt, &mut host, "in/b", 0, 0) == b'7');
     assert!(rt; is_absent(&rt, &mut depot, "no"));
     write(&rt, "in/c.gz", "");
-    assert!(rt; depot.pieces("in").is_err());
+    assert!(rt; has_no_answer(&mut depot, "in"));
+    drop(depot);
+    drop(host);
 }
 
 /// What a file holds.
@@ -105,6 +121,7 @@ fn a_folder_is_an_output(rt: HostRuntime) {
         let found = text(&rt, path);
         assert!(rt; found.as_str() == wanted);
     }
+    drop(depot);
 }
 
 #[test]
@@ -117,6 +134,7 @@ fn a_script_is_a_file(rt: HostRuntime) {
     assert!(rt; depot.script("in/b", 1, &mut script) == Ok(true));
     assert!(rt; depot.script("in/b", 9, &mut script) == Ok(true));
     assert_eq!(rt; script.as_slice(), b"77\n".as_slice());
+    drop(depot);
 }
 
 #[test]
@@ -136,6 +154,8 @@ fn what_is_no_file_is_a_failure(rt: HostRuntime) {
     }
     assert!(rt; has_lengths(&rt, &mut depot, "left", &[]));
     assert!(rt; has_no_byte(&mut host, "left", 0, 0));
+    drop(depot);
+    drop(host);
 }
 
 #[test]
@@ -151,6 +171,8 @@ fn a_pipe_is_a_failure(rt: HostRuntime) {
         assert!(rt; fails(&mut depot, path));
         assert!(rt; has_no_byte(&mut host, path, 0, 0));
     }
+    drop(depot);
+    drop(host);
 }
 
 #[test]
@@ -165,4 +187,6 @@ fn a_host_lists_a_folder_once(rt: HostRuntime) {
     assert!(rt; byte(&rt, &mut before, "listed", 1, 0) == b'c');
     let mut behind = FileHost::new(rt.clone().expect(&rt, "a handle"), rt.alloc());
     assert!(rt; byte(&rt, &mut behind, "listed", 1, 0) == b'b');
+    drop(before);
+    drop(behind);
 }
