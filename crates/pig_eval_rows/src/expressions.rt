@@ -1,5 +1,6 @@
 //! Expressions on a row each, and what they give. Where memory is wanting the process ends: that drops nothing, so its
 //! proof is short.
+// Trees end by `drop`: one call is cheap to prove, and a tree that dies by name is taken apart variant by variant.
 use pig_eval::{eval, holds};
 use pig_typed::{TExpr, TLink};
 use pig_value::{
@@ -17,9 +18,13 @@ fn literal<R: Abort>(rt: &R, alloc: Global, text: &str) -> TExpr {
 }
 
 // Whether an expression on a row is worth this.
-fn gives<R: Abort>(rt: &R, alloc: Global, e: &TExpr, row: &Tuple, expected: &Value) -> bool {
-    let found = eval(alloc, e, row, &Seq::new(alloc)).expect(rt, "memory");
-    same(&found, expected)
+fn gives<R: Abort>(rt: &R, alloc: Global, e: TExpr, row: &Tuple, expected: Value) -> bool {
+    let found = eval(alloc, &e, row, &Seq::new(alloc)).expect(rt, "memory");
+    let is = same(&found, &expected);
+    drop(e);
+    drop(found);
+    drop(expected);
+    is
 }
 
 // Two expressions with an operator between them.
@@ -104,7 +109,7 @@ fn wrapping_arithmetic(rt: HostRuntime) {
     for at in 0..5 {
         let e = number(&rt, rt.alloc(), at);
         assert!(rt;
-            gives(&rt, rt.alloc(), &e, &row, &number_value(at)),
+            gives(&rt, rt.alloc(), e, &row, number_value(at)),
             "number {at}"
         );
     }
@@ -183,7 +188,7 @@ fn text_functions(rt: HostRuntime) {
     for at in 0..9 {
         let e = text(&rt, rt.alloc(), at);
         let expected = text_value(&rt, rt.alloc(), at);
-        assert!(rt; gives(&rt, rt.alloc(), &e, &row, &expected), "text {at}");
+        assert!(rt; gives(&rt, rt.alloc(), e, &row, expected), "text {at}");
     }
 }
 
@@ -235,16 +240,29 @@ fn pairs<R: Abort>(rt: &R, alloc: Global) -> Pairs {
     pairs
 }
 
+// A row of that map alone.
+fn entries<R: Abort>(rt: &R, alloc: Global) -> Tuple {
+    let mut row = Seq::new(alloc);
+    let map = Value::Map(pairs(rt, alloc));
+    row.push(map).expect(rt, "memory");
+    row
+}
+
+// Whether a condition is met on a row.
+fn is_met<R: Abort>(rt: &R, alloc: Global, cond: TExpr, row: &Tuple) -> bool {
+    let met = holds(alloc, &cond, row).expect(rt, "memory");
+    drop(cond);
+    met
+}
+
 #[test]
 fn map_look_ups(rt: HostRuntime) {
-    let mut row = Seq::new(rt.alloc());
-    row.push(Value::Map(pairs(&rt, rt.alloc())))
-        .expect(&rt, "memory");
+    let row = entries(&rt, rt.alloc());
     for at in 0..3 {
         let e = entry(&rt, rt.alloc(), at);
         let expected = entry_value(&rt, rt.alloc(), at);
-        assert!(rt; gives(&rt, rt.alloc(), &e, &row, &expected), "entry {at}");
+        assert!(rt; gives(&rt, rt.alloc(), e, &row, expected), "entry {at}");
     }
-    let met = holds(rt.alloc(), &is_x(&rt, rt.alloc()), &row).expect(&rt, "memory");
-    assert!(rt; met, "the condition is met");
+    let cond = is_x(&rt, rt.alloc());
+    assert!(rt; is_met(&rt, rt.alloc(), cond, &row), "the condition is met");
 }
