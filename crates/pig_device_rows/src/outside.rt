@@ -1,6 +1,7 @@
 // Devices in memory: that each call succeeds with ample memory, and those that are to fail.
 //
 // Where memory is wanting the process ends: that drops nothing, so its proof is short.
+// Trees end by `drop`: one call is cheap to prove, and a tree that dies by name is taken apart variant by variant.
 ghost use Rattle.std.specs.Prelude.{◌≡◌, ◌∷◌, []};
 ghost use Rattle.pig_outside.specs.Memory.{host_inputs};
 ghost use Rattle.pig_device_rows.specs.OneInput.{one_input};
@@ -55,6 +56,28 @@ fn store<D: Depot>(depot: &mut D, dir: &str, bytes: &[u8]) -> Result<bool, Outsi
     Ok(true)
 }
 
+/// The lengths of an input's pieces.
+fn lengths<R: Abort, D: Depot>(rt: &R, depot: &mut D, path: &str) -> Seq<u64> {
+    let found = depot.pieces(path).expect(rt, "an answer");
+    found.expect(rt, "the input")
+}
+
+/// Whether there is no such input.
+fn is_absent<R: Abort, D: Depot>(rt: &R, depot: &mut D, path: &str) -> bool {
+    let found = depot.pieces(path).expect(rt, "an answer");
+    let is = found.is_none();
+    drop(found);
+    is
+}
+
+/// Whether the depot fails at an input.
+fn fails<D: Depot>(depot: &mut D, path: &str) -> bool {
+    let found = depot.pieces(path);
+    let is = found.is_err();
+    drop(found);
+    is
+}
+
 #[test]
 fn a_depot_gives_what_it_has(rt: HostRuntime) {
     let alloc = rt.alloc();
@@ -67,12 +90,11 @@ fn a_depot_gives_what_it_has(rt: HostRuntime) {
     assert_eq!(rt; depot.script("s", 2, &mut read), Ok(true));
     assert_eq!(rt; depot.script("s", 9, &mut read), Ok(true));
     assert_eq!(rt; read.as_slice(), b"ababc".as_slice());
-    let found = depot.pieces("in").expect(&rt, "an answer");
-    let lengths = found.expect(&rt, "the input");
+    let lengths = lengths(&rt, &mut depot, "in");
     assert_eq!(rt; lengths.as_slice(), [3].as_slice());
-    let other = depot.pieces("s").expect(&rt, "an answer");
-    assert!(rt; other.is_none());
-    assert!(rt; depot.pieces("in").is_err());
+    assert!(rt; is_absent(&rt, &mut depot, "s"));
+    assert!(rt; fails(&mut depot, "in"));
+    drop(depot);
 }
 
 #[test]
@@ -93,6 +115,7 @@ fn a_directory_is_unmarked_until_it_is_whole(rt: HostRuntime) {
         assert_eq!(rt; part.as_slice(), bytes.as_slice());
     }
     assert!(rt; depot.dir("r").is_none());
+    drop(depot);
 }
 
 /// A depot that has nothing.
@@ -119,6 +142,7 @@ fn a_second_call_fails(rt: HostRuntime) {
             Some(state) => assert!(rt; !state.marked && parts == Some(state.parts.len())),
             None => assert!(rt; parts.is_none()),
         }
+        drop(depot);
     }
 }
 
@@ -136,9 +160,10 @@ fn a_second_look_fails(rt: HostRuntime) {
     assert_eq!(rt; depot.script("s", 2, &mut read), Err(OutsideError::Failed));
     assert_eq!(rt; depot.script("s", 1, &mut read), Ok(true));
     assert_eq!(rt; read.as_slice(), b"aba".as_slice());
-    assert!(rt; depot.pieces("in").is_ok());
-    assert!(rt; depot.pieces("in").is_err());
-    assert!(rt; depot.pieces("in").is_ok());
+    assert!(rt; !fails(&mut depot, "in"));
+    assert!(rt; fails(&mut depot, "in"));
+    assert!(rt; !fails(&mut depot, "in"));
+    drop(depot);
 }
 
 /// Reads the last two bytes of the input `in`, whose one piece is `xyz`.
@@ -163,6 +188,7 @@ fn a_host_reads_a_range(rt: HostRuntime) {
     assert_eq!(rt; read_end(&mut host), Ok([b'y', b'z']));
     assert_eq!(rt; read_end(&mut host), Err(OutsideError::Failed));
     assert_eq!(rt; read_end(&mut host), Ok([b'y', b'z']));
+    drop(host);
 }
 
 #[test]
@@ -174,4 +200,5 @@ fn a_console_keeps_its_text(rt: HostRuntime) {
     assert_eq!(rt; console.write(b"cd"), Err(OutsideError::Failed));
     assert_eq!(rt; console.write(b"ef"), Ok(()));
     assert_eq!(rt; console.text(), b"abef".as_slice());
+    drop(console);
 }
