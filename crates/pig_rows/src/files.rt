@@ -1,7 +1,8 @@
 // A run over real files.
+// Trees end by `drop`: one call is cheap to prove, and a tree that dies by name is taken apart variant by variant.
 use crate::setting::words_of;
 use pig_files::{FileDepot, FileHost, StdConsole};
-use pig_run::pig_main;
+use pig_run::{Outcome, pig_main};
 use std::fs;
 use std::process::Abort;
 use std::rt::Files;
@@ -10,6 +11,13 @@ use std::rt::Files;
 fn holds<R: Abort + Files + AllocGlobal>(rt: &R, path: &str, text: &str) -> bool {
     let held = fs::read_to_string(rt, path).expect(rt, "the file");
     held.as_str() == text
+}
+
+/// The exit status of a run.
+fn status(done: Outcome) -> u8 {
+    let status = done.status;
+    drop(done);
+    status
 }
 
 #[test]
@@ -26,12 +34,15 @@ fn a_run_over_files_stores_its_lines(rt: HostRuntime) {
     hosts.push(host).expect(&rt, "memory");
     let mut console = StdConsole::new(rt.clone().expect(&rt, "a handle"));
     let done = pig_main(&rt, alloc, &words, &mut depot, &mut hosts, &mut console);
-    assert_eq!(rt; done.status, 0);
+    assert_eq!(rt; status(done), 0);
     assert!(rt; holds(&rt, "q/part-00000", "5\ty\n7\t\n"));
     assert!(rt; holds(&rt, "q/_SUCCESS", ""));
     let mut hosts = Vec::new(alloc);
     let host = FileHost::new(rt.clone().expect(&rt, "a handle"), alloc);
     hosts.push(host).expect(&rt, "memory");
     let again = pig_main(&rt, alloc, &words, &mut depot, &mut hosts, &mut console);
-    assert_eq!(rt; again.status, 5);
+    assert_eq!(rt; status(again), 5);
+    drop(depot);
+    drop(hosts);
+    drop(console);
 }

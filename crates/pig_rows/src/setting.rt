@@ -1,4 +1,5 @@
 // A script and inputs in memory, and what the top call answers over them, as one text.
+// Trees end by `drop`: one call is cheap to prove, and a tree that dies by name is taken apart variant by variant.
 ghost use Rattle.std.specs.Prelude.{◌≡◌, ◌∷◌, [], codes};
 ghost use Rattle.pig_outside.specs.Memory.{depot_shelf, told_shelf, host_inputs, told_inputs};
 ghost use Rattle.pig_run.specs.Told.{TellsOf};
@@ -107,6 +108,8 @@ fn told_over<R: Threads + Sync + Abort>(
     let words = words_of(rt, alloc, words);
     let outcome = pig_main(rt, alloc, &words, depot, &mut hosts, &mut console);
     let answer = answer(rt, alloc, &outcome, console.text());
+    drop(outcome);
+    drop(console);
     let first = directory(rt, alloc, depot.dir("p"));
     let second = directory(rt, alloc, depot.dir("q"));
     format!(in alloc; "{answer}p {first}\nq {second}\n").expect(rt, "memory")
@@ -161,7 +164,9 @@ pub fn told<R: Threads + Sync + Abort>(
     let mut depot = depot(rt, alloc, script, a, b, call);
     let host = host(rt, alloc, a, b, call);
     let console = MemoryConsole::new(alloc, failing(rt, alloc, call));
-    told_over(rt, alloc, words, &mut depot, host, console)
+    let told = told_over(rt, alloc, words, &mut depot, host, console);
+    drop(depot);
+    told
 }
 
 /// The same of `run s` where `q` is there already, empty and unmarked.
@@ -175,5 +180,7 @@ pub fn told_beside_output<R: Threads + Sync + Abort>(
     let host = host(rt, alloc, a, "", None);
     let console = MemoryConsole::new(alloc, Calls::new(alloc));
     depot.create("q").expect(rt, "memory");
-    told_over(rt, alloc, &["run", "s"], &mut depot, host, console)
+    let told = told_over(rt, alloc, &["run", "s"], &mut depot, host, console);
+    drop(depot);
+    told
 }

@@ -1,6 +1,7 @@
 //! Commands by hand, and words that are none.
+// Trees end by `drop`: one call is cheap to prove, and a tree that dies by name is taken apart variant by variant.
 use pig_value::{Text, WordFault, Words};
-use pig_words::read_words;
+use pig_words::{Command, read_words};
 use std::alloc::Global;
 use std::process::Abort;
 
@@ -14,19 +15,32 @@ fn words<R: Abort>(rt: &R, alloc: Global, line: &str) -> Words {
     words
 }
 
-// The command's verb, operand, workers, reducers and split, or the fault.
-fn shown<R: Abort>(rt: &R, alloc: Global, words: &Words, hosts: u32) -> String {
-    let shown = match read_words(alloc, words, hosts.clamp(1, 256)) {
-        Ok(command) => {
-            let verb = command.verb;
-            let operand = command.operand.as_str();
-            let (workers, reducers, split) = (command.workers, command.reducers, command.split);
-            format!(in alloc; "{verb:?} {operand} {workers} {reducers} {split}")
+// The command's verb, operand, workers, reducers and split.
+fn shown_command<R: Abort>(rt: &R, alloc: Global, command: &Command) -> String {
+    let verb = command.verb;
+    let operand = command.operand.as_str();
+    let (workers, reducers, split) = (command.workers, command.reducers, command.split);
+    let text = format!(in alloc; "{verb:?} {operand} {workers} {reducers} {split}");
+    text.expect(rt, "memory")
+}
+
+// The command, or the fault.
+fn shown_answer<R: Abort>(rt: &R, alloc: Global, found: &Result<Command, WordFault>) -> String {
+    match found {
+        Ok(command) => shown_command(rt, alloc, command),
+        Err(WordFault::Usage) => String::from_str(alloc, "usage").expect(rt, "memory"),
+        Err(WordFault::OutOfMemory) => {
+            String::from_str(alloc, "out of memory").expect(rt, "memory")
         }
-        Err(WordFault::Usage) => String::from_str(alloc, "usage"),
-        Err(WordFault::OutOfMemory) => String::from_str(alloc, "out of memory"),
-    };
-    shown.expect(rt, "memory")
+    }
+}
+
+// What the words are read as.
+fn shown<R: Abort>(rt: &R, alloc: Global, words: &Words, hosts: u32) -> String {
+    let found = read_words(alloc, words, hosts.clamp(1, 256));
+    let shown = shown_answer(rt, alloc, &found);
+    drop(found);
+    shown
 }
 
 // Each line: the number of hosts, the words, and what they are.
