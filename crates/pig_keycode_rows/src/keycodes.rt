@@ -194,7 +194,8 @@ fn is_found(found: &Option<Value>, expected: &Value) -> bool {
 fn is_read<R: Abort>(rt: &R, alloc: Global, bytes: &[u8], expected: Value) -> bool {
     let found = decode(alloc, bytes).expect(rt, "memory");
     let is = is_found(&found, &expected);
-    drop((found, expected));
+    drop(found);
+    drop(expected);
     is
 }
 
@@ -278,7 +279,8 @@ fn nested_is_refused<R: Abort>(rt: &R, alloc: Global, tuples: usize) -> bool {
     let bytes = written(rt, alloc, &deeper, Dir::Asc);
     let found = decode(alloc, bytes.as_slice());
     let is = found.is_err();
-    drop((found, deeper));
+    drop(found);
+    drop(deeper);
     is
 }
 
@@ -291,7 +293,8 @@ fn values_nest_256_deep(rt: HostRuntime) {
 // Whether a value is this one.
 fn is_same(found: Value, expected: Value) -> bool {
     let is = same(&found, &expected);
-    drop((found, expected));
+    drop(found);
+    drop(expected);
     is
 }
 
@@ -344,7 +347,8 @@ fn begins<R: Abort>(rt: &R, alloc: Global, bytes: &[u8], value: Value, behind: &
         Some((found, rest)) => same(found, &value) && *rest == behind,
         None => false,
     };
-    drop((read, value));
+    drop(read);
+    drop(value);
     begins
 }
 
