@@ -128,7 +128,9 @@ fn kinds_of_ints<R: Abort>(rt: &R, alloc: Global, count: u32) -> Kinds {
 fn reads<R: Abort>(rt: &R, alloc: Global, text: &[u8], kind: Kind, expected: Value) -> bool {
     let read = read_field(alloc, text, &kind).expect(rt, "memory");
     let is = same(&read, &expected);
-    drop((read, kind, expected));
+    drop(read);
+    drop(kind);
+    drop(expected);
     is
 }
 
@@ -437,7 +439,9 @@ fn reads_deep_brackets(rt: HostRuntime) {
 fn gives<R: Abort>(rt: &R, alloc: Global, from: Value, to: Kind, expected: Value) -> bool {
     let made = cast(alloc, &from, &to).expect(rt, "memory");
     let is = same(&made, &expected);
-    drop((from, to, made));
+    drop(from);
+    drop(to);
+    drop(made);
     drop(expected);
     is
 }
@@ -446,7 +450,9 @@ fn gives<R: Abort>(rt: &R, alloc: Global, from: Value, to: Kind, expected: Value
 fn stays<R: Abort>(rt: &R, alloc: Global, from: Value, to: Kind) -> bool {
     let made = cast(alloc, &from, &to).expect(rt, "memory");
     let is = same(&made, &from);
-    drop((made, to, from));
+    drop(made);
+    drop(to);
+    drop(from);
     is
 }
 
