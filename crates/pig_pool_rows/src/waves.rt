@@ -1,6 +1,7 @@
 // Waves on one host, on many, and on hosts that meet.
 //
 // Where memory is wanting to a test itself the process ends: that drops nothing, so its proof is short.
+// Trees end by `drop`: one call is cheap to prove, and a tree that dies by name is taken apart variant by variant.
 use crate::hosts::{hosts, make_meeting};
 use crate::work::{Doubles, wave};
 use pig_board::JobEnd;
@@ -70,6 +71,7 @@ fn one_host(rt: HostRuntime) {
         let mut hosts = hosts(&rt, alloc, 1, fails);
         let ended = wave(&rt, alloc, &Doubles { tasks, wants }, &mut hosts);
         let told = answer(&rt, alloc, &ended);
+        drop(ended);
         assert_eq!(rt; told.as_str(), wanted);
     }
 }
@@ -92,6 +94,14 @@ fn is_whole(done: &WaveEnd<u64>, tasks: u32) -> bool {
     true
 }
 
+/// Whether a wave ended well, and gave what it should without failures.
+fn is_done(ended: &Result<WaveEnd<u64>, WaveFault>, tasks: u32) -> bool {
+    match ended {
+        Ok(done) => is_whole(done, tasks),
+        Err(_) => false,
+    }
+}
+
 /// How many hosts there are, and how many tasks.
 fn size(number: u32) -> (u32, u32) {
     match number {
@@ -112,10 +122,8 @@ fn many_hosts(rt: HostRuntime) {
         let (count, tasks) = size(number);
         let mut hosts = hosts(&rt, alloc, count, &[]);
         let ended = wave(&rt, alloc, &Doubles { tasks, wants: NONE }, &mut hosts);
-        let whole = match &ended {
-            Ok(done) => is_whole(done, tasks),
-            Err(_) => false,
-        };
+        let whole = is_done(&ended, tasks);
+        drop(ended);
         assert!(rt; whole);
     }
 }
@@ -149,7 +157,17 @@ fn one_always_fails(rt: HostRuntime) {
         wants: NONE,
     };
     let ended = wave(&rt, alloc, &work, &mut hosts);
-    assert!(rt; may_be(&ended));
+    let may_be = may_be(&ended);
+    drop(ended);
+    assert!(rt; may_be);
+}
+
+/// Whether a wave of one task ended well.
+fn has_met(ended: &Result<WaveEnd<u64>, WaveFault>) -> bool {
+    match ended {
+        Ok(done) => is_whole(done, 1) && done.end.len() == 1,
+        Err(_) => false,
+    }
 }
 
 #[test]
@@ -161,9 +179,7 @@ fn two_hosts_meet(rt: HostRuntime) {
         wants: NONE,
     };
     let ended = wave(&rt, alloc, &work, &mut hosts);
-    let met = match &ended {
-        Ok(done) => is_whole(done, 1) && done.end.len() == 1,
-        Err(_) => false,
-    };
+    let met = has_met(&ended);
+    drop(ended);
     assert!(rt; met);
 }
