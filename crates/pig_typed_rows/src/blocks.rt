@@ -1,4 +1,5 @@
 //! Kinds of the rows of blocks and of their copies.
+// Trees end by `drop`: one call is cheap to prove, and a tree that dies by name is taken apart variant by variant.
 use crate::showing::{add, show_all};
 use crate::writing::{push, row, written};
 use pig_typed::{Block, BlockItem, BlockStep, SortKey, SortKeys, block_kinds, copy_block};
@@ -107,13 +108,17 @@ fn block<R: Abort>(rt: &R, alloc: Global, steps: &str, items: &str) -> Block {
     block
 }
 
-fn show_row<R: Abort>(rt: &R, alloc: Global, block: &Block, into: &mut String) {
-    let copied = copy_block(alloc, block).expect(rt, "memory");
+// The kinds of the rows of a copy of the block.
+fn show_row<R: Abort>(rt: &R, alloc: Global, steps: &str, items: &str, into: &mut String) {
+    let block = block(rt, alloc, steps, items);
+    let copied = copy_block(alloc, &block).expect(rt, "memory");
     let row = row(rt, alloc);
-    match block_kinds(alloc, &copied, &row).expect(rt, "memory") {
+    let found = block_kinds(alloc, &copied, &row).expect(rt, "memory");
+    match &found {
         Some(kinds) => show_all(rt, kinds.as_slice(), into),
         None => add(rt, into, "-"),
     }
+    drop((block, copied, row, found));
 }
 
 #[test]
@@ -127,8 +132,7 @@ fn blocks_have_their_kinds(rt: HostRuntime) {
         add(&rt, &mut found, " ");
         add(&rt, &mut found, items);
         add(&rt, &mut found, " ");
-        let block = block(&rt, rt.alloc(), steps, items);
-        show_row(&rt, rt.alloc(), &block, &mut found);
+        show_row(&rt, rt.alloc(), steps, items, &mut found);
         add(&rt, &mut found, "\n");
     }
     assert_eq!(rt; found.as_str(), BLOCKS);

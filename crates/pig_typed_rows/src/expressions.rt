@@ -1,4 +1,5 @@
 //! Kinds of expressions and of their copies.
+// Trees end by `drop`: one call is cheap to prove, and a tree that dies by name is taken apart variant by variant.
 use crate::showing::{add, show};
 use crate::writing::{locals, row, written};
 use pig_typed::{TExpr, copy_expr, kind_of};
@@ -148,9 +149,9 @@ fn kind_on_row<R: Abort>(rt: &R, alloc: Global, e: &TExpr) -> Option<Kind> {
     kind_of(alloc, e, &row, &locals).expect(rt, "memory")
 }
 
-fn show_found<R: Abort>(rt: &R, found: Option<Kind>, into: &mut String) {
+fn show_found<R: Abort>(rt: &R, found: &Option<Kind>, into: &mut String) {
     match found {
-        Some(kind) => show(rt, &kind, into),
+        Some(kind) => show(rt, kind, into),
         None => add(rt, into, "-"),
     }
 }
@@ -159,7 +160,9 @@ fn show_found<R: Abort>(rt: &R, found: Option<Kind>, into: &mut String) {
 fn show_kind<R: Abort>(rt: &R, alloc: Global, letters: &[u8], into: &mut String) {
     let e = written(rt, alloc, letters);
     let copied = copy_expr(alloc, &e).expect(rt, "memory");
-    show_found(rt, kind_on_row(rt, alloc, &copied), into);
+    let found = kind_on_row(rt, alloc, &copied);
+    show_found(rt, &found, into);
+    drop((e, copied, found));
 }
 
 #[test]

@@ -1,4 +1,5 @@
 //! Kinds of expressions that are long, deep or on wide rows.
+// Trees end by `drop`: one call is cheap to prove, and a tree that dies by name is taken apart variant by variant.
 use crate::showing::{add, show};
 use crate::writing::{choose, push};
 use pig_typed::{TExpr, TLink, copy_expr, kind_of};
@@ -50,34 +51,57 @@ fn wide<R: Abort>(rt: &R, alloc: Global) -> Kinds {
 
 fn is_kind<R: Abort>(rt: &R, alloc: Global, e: &TExpr, row: &Kinds, shown: &str) -> bool {
     let mut text = String::new(alloc);
-    match kind_of(alloc, e, row, &Seq::new(alloc)).expect(rt, "memory") {
-        Some(kind) => show(rt, &kind, &mut text),
+    let found = kind_of(alloc, e, row, &Seq::new(alloc)).expect(rt, "memory");
+    match &found {
+        Some(kind) => show(rt, kind, &mut text),
         None => add(rt, &mut text, "-"),
     }
+    drop(found);
     text.as_str() == shown
+}
+
+// The links of a copy of the chain of so many, and whether the copy is a long.
+fn copied_chain<R: Abort>(rt: &R, alloc: Global, count: u32) -> (usize, bool) {
+    let long = long_chain(rt, alloc, count);
+    let chain = copy_expr(alloc, &long).expect(rt, "memory");
+    let count = links(&chain);
+    let holds = is_kind(rt, alloc, &chain, &Seq::new(alloc), "l");
+    drop((long, chain));
+    (count, holds)
 }
 
 #[test]
 fn long_chains_have_kinds(rt: HostRuntime) {
-    let alloc = rt.alloc();
-    let long = long_chain(&rt, alloc, 100_000);
-    let chain = copy_expr(alloc, &long).expect(&rt, "memory");
-    assert_eq!(rt; links(&chain), 100_001);
-    assert!(rt; is_kind(&rt, alloc, &chain, &Seq::new(alloc), "l"));
+    let (count, holds) = copied_chain(&rt, rt.alloc(), 100_000);
+    assert_eq!(rt; count, 100_001);
+    assert!(rt; holds);
+}
+
+// Whether a copy of the expression of so many levels is an int.
+fn deep_is_int<R: Abort>(rt: &R, alloc: Global, levels: u32) -> bool {
+    let deep = deep(rt, alloc, levels);
+    let copied = copy_expr(alloc, &deep).expect(rt, "memory");
+    let holds = is_kind(rt, alloc, &copied, &Seq::new(alloc), "i");
+    drop((deep, copied));
+    holds
 }
 
 #[test]
 fn deep_expressions_have_kinds(rt: HostRuntime) {
-    let alloc = rt.alloc();
-    let deep = deep(&rt, alloc, 64);
-    let copied = copy_expr(alloc, &deep).expect(&rt, "memory");
-    assert!(rt; is_kind(&rt, alloc, &copied, &Seq::new(alloc), "i"));
+    assert!(rt; deep_is_int(&rt, rt.alloc(), 64));
+}
+
+// Whether this is the kind of a field of the wide row.
+fn field_is<R: Abort>(rt: &R, alloc: Global, position: u32, shown: &str) -> bool {
+    let wide = wide(rt, alloc);
+    let field = TExpr::Field(position);
+    let holds = is_kind(rt, alloc, &field, &wide, shown);
+    drop((wide, field));
+    holds
 }
 
 #[test]
 fn fields_of_wide_rows_have_kinds(rt: HostRuntime) {
-    let alloc = rt.alloc();
-    let wide = wide(&rt, alloc);
-    assert!(rt; is_kind(&rt, alloc, &TExpr::Field(511), &wide, "c"));
-    assert!(rt; is_kind(&rt, alloc, &TExpr::Field(512), &wide, "-"));
+    assert!(rt; field_is(&rt, rt.alloc(), 511, "c"));
+    assert!(rt; field_is(&rt, rt.alloc(), 512, "-"));
 }
