@@ -1,8 +1,9 @@
 //! What no clause says of `type_expr`: that expressions of each form are typed with ample memory, or refused with the
 //! kind that is due.
+// Trees end by `drop`: one call is cheap to prove, and a tree that dies by name is taken apart variant by variant.
 use crate::shared::{
     add, add_fields, call, call_long, call_part, call_two, cast_look, choose, columns,
-    equal_fields, equal_long, field, locals, looked_equal, not, part, plain, to_float,
+    equal_fields, equal_long, field, locals, looked_equal, not, part, plain, shown_fault, to_float,
 };
 use pig_syntax::{Expr, FieldRef};
 use pig_typing::{Scope, TypedExpr, type_expr};
@@ -85,10 +86,13 @@ fn shown_typing<R: Abort>(rt: &R, alloc: Global, typed: &TypedExpr) -> String {
 
 fn shown<R: Abort>(rt: &R, alloc: Global, row: usize, scope: &Scope) -> String {
     let expr = expression(rt, alloc, row);
-    match type_expr(alloc, &expr, scope) {
-        Ok(typed) => shown_typing(rt, alloc, &typed),
-        Err(fault) => format!(in alloc; "{fault:?}").expect(rt, "memory"),
-    }
+    let found = type_expr(alloc, &expr, scope);
+    let shown = match &found {
+        Ok(typed) => shown_typing(rt, alloc, typed),
+        Err(fault) => shown_fault(rt, alloc, fault),
+    };
+    drop((expr, found));
+    shown
 }
 
 #[test]

@@ -1,6 +1,7 @@
 //! What no clause says of `type_items`: that items of each form are typed with ample memory, or refused with the kind
 //! that is due.
-use crate::shared::{columns, field, locals, plain, push, text};
+// Trees end by `drop`: one call is cheap to prove, and a tree that dies by name is taken apart variant by variant.
+use crate::shared::{columns, field, locals, plain, push, shown_fault, text};
 use pig_schema::{Field, Schema};
 use pig_syntax::{AsNames, Expr, FieldTree, Item, Items, TypeTree};
 use pig_typed::BlockItem;
@@ -190,10 +191,13 @@ fn shown_columns<R: Abort>(rt: &R, alloc: Global, found: &Generated) -> String {
 fn shown<R: Abort>(rt: &R, alloc: Global, row: usize, scope: &Scope) -> String {
     let mut items: Items = Seq::new(alloc);
     push(rt, &mut items, item(rt, alloc, row));
-    match type_items(alloc, items.as_slice(), scope) {
-        Ok(found) => shown_columns(rt, alloc, &found),
-        Err(fault) => format!(in alloc; "{fault:?}").expect(rt, "memory"),
-    }
+    let found = type_items(alloc, items.as_slice(), scope);
+    let shown = match &found {
+        Ok(typed) => shown_columns(rt, alloc, typed),
+        Err(fault) => shown_fault(rt, alloc, fault),
+    };
+    drop((items, found));
+    shown
 }
 
 #[test]
@@ -224,6 +228,18 @@ fn names<R: Abort>(rt: &R, alloc: Global, columns: &Schema) -> String {
     names
 }
 
+// How many items `*, s` gives, and the names of their columns.
+fn all_and_one<R: Abort>(rt: &R, alloc: Global, scope: &Scope) -> (usize, String) {
+    let mut items: Items = Seq::new(alloc);
+    push(rt, &mut items, Item::All);
+    push(rt, &mut items, bare(rt, alloc, "s", false));
+    let found = type_items(alloc, items.as_slice(), scope).expect(rt, "the items");
+    let count = found.items.len();
+    let names = names(rt, alloc, &found.columns);
+    drop((items, found));
+    (count, names)
+}
+
 #[test]
 fn gives_all_fields(rt: HostRuntime) {
     let alloc = rt.alloc();
@@ -233,11 +249,7 @@ fn gives_all_fields(rt: HostRuntime) {
         columns: &columns,
         locals: &locals,
     };
-    let mut items: Items = Seq::new(alloc);
-    push(&rt, &mut items, Item::All);
-    push(&rt, &mut items, bare(&rt, alloc, "s", false));
-    let found = type_items(alloc, items.as_slice(), &scope).expect(&rt, "the items");
-    assert!(rt; found.items.len() == 10);
-    let names = names(&rt, alloc, &found.columns);
+    let (count, names) = all_and_one(&rt, alloc, &scope);
+    assert!(rt; count == 10);
     assert_eq!(rt; names.as_str(), "a b s n m t g p::k q::k s ");
 }

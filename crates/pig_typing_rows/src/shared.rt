@@ -2,7 +2,7 @@
 //! process ends: that drops nothing, so its proof is short.
 use pig_schema::{Field, Schema};
 use pig_syntax::{Expr, Exprs, FieldRef, Link, Links, PostStep, PostSteps, TypeTree};
-use pig_typing::{Local, Locals};
+use pig_typing::{Local, Locals, TypeFault};
 use pig_value::{Boxed, ChainOp, Kind, Kinds, Rel, Seq, Text};
 use std::alloc::Global;
 use std::process::Abort;
@@ -215,6 +215,10 @@ pub fn locals<R: Abort>(rt: &R, alloc: Global) -> Locals {
 }
 
 // ---- what is shown
+
+pub fn shown_fault<R: Abort>(rt: &R, alloc: Global, fault: &TypeFault) -> String {
+    format!(in alloc; "{fault:?}").expect(rt, "memory")
+}
 
 // A mark for each name of this kind, whose brace is to go.
 fn replaced<R: Abort>(rt: &R, alloc: Global, shown: &str, name: &str) -> String {
