@@ -1,5 +1,6 @@
 //! Nodes that fit a plan, and that don't. Where memory is wanting the process ends: that drops nothing, so its proof is
 //! short.
+// Trees end by `drop`: one call is cheap to prove, and a tree that dies by name is taken apart variant by variant.
 use pig_plan::{KeyedInput, KeyedInputs, Node, NodeOp, Plan, copy_node};
 use pig_typed::{Block, BlockItem, BlockItems, BlockSteps, SortKey, SortKeys, TExpr, TExprs};
 use pig_value::{Boxed, Column, Columns, Delim, Dir, Kind, Kinds, Numbers, Rel, Seq, Side, Text};
@@ -299,7 +300,10 @@ fn node_op<R: Abort>(rt: &R, alloc: Global, line: &[u8]) -> NodeOp {
 /// A copy of the line's node.
 fn copied<R: Abort>(rt: &R, alloc: Global, line: &[u8]) -> Node {
     let op = node_op(rt, alloc, line);
-    copy_node(alloc, &Node { op, statement: 7 }).expect(rt, "memory")
+    let node = Node { op, statement: 7 };
+    let copied = copy_node(alloc, &node).expect(rt, "memory");
+    drop(node);
+    copied
 }
 
 /// Whether the line's node fits; it is added where it does.
@@ -310,6 +314,8 @@ fn tried<R: Abort>(rt: &R, alloc: Global, plan: &mut Plan, line: &[u8]) -> bool 
     };
     if fits {
         plan.add(node).expect(rt, "memory");
+    } else {
+        drop(node);
     }
     fits
 }
@@ -335,6 +341,8 @@ fn nodes_fit_or_not(rt: HostRuntime) {
         width(&plan, 17),
         width(&plan, 19),
     ];
+    let nodes = plan.nodes().len();
+    drop(plan);
     assert_eq!(rt; widths, [None, Some(3), Some(6), Some(2), Some(4)]);
-    assert_eq!(rt; plan.nodes().len(), 20);
+    assert_eq!(rt; nodes, 20);
 }
