@@ -1,4 +1,5 @@
 //! The plans of worked scripts, node by node.
+// Trees end by `drop`: one call is cheap to prove, and a tree that dies by name is taken apart variant by variant.
 use crate::shared::{Answer, add, checked, node_shown};
 use pig_plan::Plan;
 use std::alloc::Global;
@@ -96,10 +97,12 @@ a = LOAD 'a' AS (k:int, v:int); b = LOAD 'b' AS (k:int, w:int); j = JOIN a BY k 
 fn add_shown<R: Abort>(rt: &R, alloc: Global, text: &mut String, script: &str) {
     add(rt, text, script);
     add(rt, text, "\n");
-    match checked(rt, alloc, script) {
-        Answer::Plan(plan) => add_nodes(rt, alloc, text, &plan),
+    let found = checked(rt, alloc, script);
+    match &found {
+        Answer::Plan(plan) => add_nodes(rt, alloc, text, plan),
         _ => add(rt, text, "no plan\n"),
     }
+    drop(found);
 }
 
 fn add_nodes<R: Abort>(rt: &R, alloc: Global, text: &mut String, plan: &Plan) {

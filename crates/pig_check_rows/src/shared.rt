@@ -1,5 +1,6 @@
 //! The plan of a script's text, or why it has none; and trees as they are shown. Where memory is wanting the process ends:
 //! that drops nothing, so its proof is short.
+// Trees end by `drop`: one call is cheap to prove, and a tree that dies by name is taken apart variant by variant.
 ghost use Rattle.std.specs.Prelude.{◌<◌, ◌^◌, IsTrue, length};
 ghost use Rattle.std.specs.List.{All};
 ghost use Rattle.pig_parser.specs.Parsing.{IsShallow};
@@ -71,11 +72,14 @@ fn judged<R: Abort>(rt: &R, found: Result<Plan, CheckFault>) -> Answer {
 
 /// What is answered, as `fine`, or as the number of a statement and a kind.
 pub fn told<R: Abort>(rt: &R, alloc: Global, script: &str) -> String {
-    match checked(rt, alloc, script) {
+    let found = checked(rt, alloc, script);
+    let text = match &found {
         Answer::Plan(_) => copied(rt, alloc, "fine"),
-        Answer::Refused { statement, kind } => refused(rt, alloc, statement, kind),
+        Answer::Refused { statement, kind } => refused(rt, alloc, *statement, *kind),
         Answer::NoTree => copied(rt, alloc, "no tree"),
-    }
+    };
+    drop(found);
+    text
 }
 
 fn refused<R: Abort>(rt: &R, alloc: Global, statement: u32, kind: CheckKind) -> String {
