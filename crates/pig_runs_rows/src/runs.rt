@@ -1,6 +1,7 @@
 //! Entries in any pieces give one run, and its slices are the run.
 //!
 //! Where memory is wanting the process ends: that drops nothing, so its proof is short.
+// Trees end by `drop`: one call is cheap to prove, and a tree that dies by name is taken apart variant by variant.
 ghost use Rattle.std.specs.Prelude.{◌≡◌, ◌<◌, [], length};
 ghost use Rattle.std.specs.List.{AllByRecursion};
 ghost use Rattle.pig_value.specs.Trees.{tree, row_tree};
@@ -65,6 +66,7 @@ fn key<R: Abort>(rt: &R, alloc: Global, number: u8) -> Value
     let mut bytes = Vec::new(alloc);
     let any = any_key(rt, alloc, number);
     encode(&any, Dir::Asc, &mut bytes).expect(rt, "memory");
+    drop(any);
     let read = decode(alloc, bytes.as_slice()).expect(rt, "memory");
     read.expect(rt, "the key")
 }
@@ -100,6 +102,7 @@ fn add<R: Abort>(rt: &R, alloc: Global, builder: &mut RunBuilder, entry: (u8, u3
     let key = key(rt, alloc, number);
     let row = row(rt, alloc, field);
     builder.add(&key, input, &row).expect(rt, "memory");
+    drop((key, row));
 }
 
 // The run of a piece of the entries.
@@ -137,7 +140,10 @@ fn has_key<R: Abort>(rt: &R, alloc: Global, run: &Run, at: usize, number: u8) ->
     requires within { at < length run.now.entries }
 {
     let found = run.key(alloc, at).expect(rt, "memory");
-    same(&found, &any_key(rt, alloc, number))
+    let wanted = any_key(rt, alloc, number);
+    let holds = same(&found, &wanted);
+    drop((found, wanted));
+    holds
 }
 
 // Whether the row of an entry has this field.
@@ -197,6 +203,7 @@ fn add_long<R: Abort>(rt: &R, alloc: Global, builder: &mut RunBuilder, number: u
     let row = sound(rt, alloc, &any);
     let key = key(rt, alloc, 0);
     builder.add(&key, number as u32, &row).expect(rt, "memory");
+    drop((any, key, row));
 }
 
 // Whether the entry with this number has it as its input and in its row, and its own length of text.
@@ -212,10 +219,13 @@ fn is_long<R: Abort>(rt: &R, alloc: Global, run: &Run, number: u8) -> bool {
 }
 
 fn has_int(row: &Tuple, wanted: i32) -> bool {
-    match field_at(row, 0) {
-        Some(first) => same(first, &Value::Int(wanted)),
+    let wanted = Value::Int(wanted);
+    let holds = match field_at(row, 0) {
+        Some(first) => same(first, &wanted),
         None => false,
-    }
+    };
+    drop(wanted);
+    holds
 }
 
 fn has_text(row: &Tuple, times: usize) -> bool {
@@ -247,5 +257,8 @@ fn no_run_is_empty(rt: HostRuntime) {
     let points = cuts(alloc, &Runs::new(alloc), 3).expect(&rt, "memory");
     let part = slice(alloc, &run, &points, 1).expect(&rt, "memory");
     assert!(rt; part.len() == 0, "a slice of nothing");
-    assert!(rt; part_of(&Value::Null, 1) == 0, "one part");
+    let null = Value::Null;
+    let part = part_of(&null, 1);
+    drop(null);
+    assert!(rt; part == 0, "one part");
 }
