@@ -1,4 +1,5 @@
 // Plans, and what is told of them. Where memory is wanting the process ends: that drops nothing, so its proof is short.
+// Trees end by `drop`: one call is cheap to prove, and a tree that dies by name is taken apart variant by variant.
 use pig_plan::{Node, NodeOp, Plan};
 use pig_reach::{lines_read, live_numbers, live_paths, stores};
 use pig_typed::TExpr;
@@ -98,6 +99,8 @@ fn add_fitting<R: Abort>(rt: &R, plan: &mut Plan, node: Node) {
     };
     if fits {
         plan.add(node).expect(rt, "memory");
+    } else {
+        drop(node);
     }
 }
 
@@ -149,6 +152,7 @@ fn told<R: Abort>(rt: &R, alloc: Global, words: &str) -> String {
     let paths = paths(rt, alloc, &plan);
     let live = live_numbers(alloc, &plan).expect(rt, "memory").len();
     let lines = lines(rt, alloc, &plan);
+    drop(plan);
     format!(in alloc; "{paths} {live} {lines}").expect(rt, "memory")
 }
 
