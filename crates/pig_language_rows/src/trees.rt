@@ -2,6 +2,7 @@
 //! which statement is the first that is off the grammar, and that long chains and deep brackets are read.
 //!
 //! Where memory is wanting the process ends: that drops nothing, so its proof is short.
+// Trees end by `drop`: one call is cheap to prove, and a tree that dies by name is taken apart variant by variant.
 ghost use Rattle.std.specs.Prelude.{◌<◌, ◌^◌, IsTrue, All, length};
 ghost use Rattle.pig_syntax.specs.Cutting.{IsWithin};
 ghost use Rattle.pig_parser.specs.Parsing.{IsShallow};
@@ -426,11 +427,14 @@ fn shown_place<R: Abort>(rt: &R, alloc: Global, statement: u32) -> String {
 
 // The trees of a script, or `syntax at` and the number of the first statement that has none.
 fn shown<R: Abort>(rt: &R, alloc: Global, script: &str) -> String {
-    match parsed(rt, alloc, script) {
-        Answer::Trees(trees) => shown_trees(rt, alloc, &trees),
-        Answer::SyntaxAt(statement) => shown_place(rt, alloc, statement),
+    let found = parsed(rt, alloc, script);
+    let shown = match &found {
+        Answer::Trees(trees) => shown_trees(rt, alloc, trees),
+        Answer::SyntaxAt(statement) => shown_place(rt, alloc, *statement),
         Answer::Other => String::from_str(alloc, "no answer").expect(rt, "memory"),
-    }
+    };
+    drop(found);
+    shown
 }
 
 // A text between two others.
@@ -514,10 +518,13 @@ fn reads_each_script(rt: HostRuntime) {
 
 // The number of a script's trees.
 fn counted<R: Abort>(rt: &R, alloc: Global, script: &str) -> usize {
-    match parsed(rt, alloc, script) {
+    let found = parsed(rt, alloc, script);
+    let number = match &found {
         Answer::Trees(trees) => trees.len(),
         _ => 0,
-    }
+    };
+    drop(found);
+    number
 }
 
 #[test]
@@ -559,15 +566,23 @@ fn add_times<R: Abort>(rt: &R, script: &mut String, text: &str, times: usize) {
     }
 }
 
+// The number of links of a script's first statement.
+fn links_read<R: Abort>(rt: &R, alloc: Global, script: &str) -> usize {
+    let found = parsed(rt, alloc, script);
+    let number = match &found {
+        Answer::Trees(trees) => links(trees),
+        _ => 0,
+    };
+    drop(found);
+    number
+}
+
 #[test]
 fn reads_a_long_chain(rt: HostRuntime) {
     let mut script = String::from_str(rt.alloc(), "x = FILTER a BY b").expect(&rt, "memory");
     add_times(&rt, &mut script, " + b", 100_000);
     script.push_str(";").expect(&rt, "memory");
-    let number = match parsed(&rt, rt.alloc(), script.as_str()) {
-        Answer::Trees(trees) => links(&trees),
-        _ => 0,
-    };
+    let number = links_read(&rt, rt.alloc(), script.as_str());
     assert_eq!(rt; number, 100_000);
 }
 
