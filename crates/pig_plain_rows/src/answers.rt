@@ -1,5 +1,6 @@
 //! Plans from short words, and what they answer over inputs, as text. Where memory is wanting the process ends: that
 //! drops nothing, so its proof is short.
+// Trees end by `drop`: one call is cheap to prove, and a tree that dies by name is taken apart variant by variant.
 use pig_plain::answer;
 use pig_plan::{KeyedInput, KeyedInputs, Node, NodeOp, Plan};
 use pig_text::write_row;
@@ -257,6 +258,7 @@ fn told<R: Abort>(rt: &R, alloc: Global, words: &str, listed: bool) -> Vec<u8> {
     let plan = plan(rt, alloc, words);
     let inputs = inputs(rt, alloc);
     let found = answer(alloc, &plan, &inputs).expect(rt, "memory");
+    drop((plan, inputs));
     let mut out = Vec::new(alloc);
     for kept in found.kept.into_vec() {
         add_kept(rt, &mut out, kept);
