@@ -1,4 +1,5 @@
 //! Runs of the rows of lines, and the lines of rows.
+// Trees end by `drop`: one call is cheap to prove, and a tree that dies by name is taken apart variant by variant.
 ghost use Rattle.std.specs.Prelude.{◌≡◌, [], ◌∷◌, IfOk};
 ghost use Rattle.pig_value.specs.declared.operators.Dir.TheVariants.{Desc};
 ghost use Rattle.pig_value.specs.Trees.{fields_of, row_tree, tree, v_tuple};
@@ -72,7 +73,10 @@ fn add_first(
     requires row { IsRow (row_tree row.now) }
     ensures { builder.new.dirs ≡ [] }
 {
-    builder.add(&field(alloc, row, 0)?, input, row)
+    let key = field(alloc, row, 0)?;
+    let added = builder.add(&key, input, row);
+    drop(key);
+    added
 }
 
 // Adds the rows of an input's lines, each under its first field.
@@ -119,7 +123,9 @@ fn add_whole(
     ensures keys { AreKeyedByRow builder.new.entries }
 {
     let key = Value::Tuple(copy_row(alloc, row)?);
-    builder.add(&key, input, row)
+    let added = builder.add(&key, input, row);
+    drop(key);
+    added
 }
 
 // Adds the rows of an input's lines, each under all of its fields.
@@ -178,7 +184,10 @@ fn add_second(alloc: Global, builder: &mut RunBuilder, row: &Tuple) -> Result<()
     requires row { IsRow (row_tree row.now) }
     ensures { builder.new.dirs ≡ Desc ∷ [] }
 {
-    builder.add(&second_field(alloc, row)?, 0, row)
+    let key = second_field(alloc, row)?;
+    let added = builder.add(&key, 0, row);
+    drop(key);
+    added
 }
 
 /// The run of lines by their second fields, downwards.

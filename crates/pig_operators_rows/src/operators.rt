@@ -1,5 +1,6 @@
 //! What each operator gives of lines. Where memory is wanting the process ends: that drops nothing, so its proof is
 //! short.
+// Trees end by `drop`: one call is cheap to prove, and a tree that dies by name is taken apart variant by variant.
 ghost use Rattle.std.specs.Prelude.{◌≡◌, []};
 
 use crate::given::{by_field, by_row, by_second, lines_of};
@@ -46,7 +47,9 @@ fn gathers<R: Abort>(rt: &R, alloc: Global, letter: u8, run: Run, expected: &[u8
 {
     let how = operator(rt, alloc, letter);
     let rows = gather(alloc, &how, run).expect(rt, "memory");
-    are_lines(rt, alloc, &rows, expected)
+    let holds = are_lines(rt, alloc, &rows, expected);
+    drop((how, rows));
+    holds
 }
 
 fn are_lines<R: Abort>(rt: &R, alloc: Global, rows: &Rows, expected: &[u8]) -> bool {
@@ -250,6 +253,7 @@ fn groups_come_in_batches(rt: HostRuntime) {
         let rows = gatherer.next_batch(rt.alloc()).expect(&rt, "memory");
         assert!(rt; are_from(&rows, first, count), "from {first}");
     }
+    drop(gatherer);
 }
 
 // The second fields are all the same, so the rows go up.
