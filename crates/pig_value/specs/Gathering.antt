@@ -5,6 +5,13 @@ use Rattle.std.specs.Ordering.{is_eq}
 use Rattle.std.specs.declared.cmp.Ordering.{Ordering}
 use Rattle.std.specs.declared.cmp.Ordering.TheVariants.{Less}
 use Rattle.pig_value.specs.Sorts.{distinct}
+use Rattle.pig_value.specs.Trees.{Tree}
+
+-- a row under its key, with the number of the input that it comes from
+pub record Entry : Type 0 where
+  pub key : Tree
+  pub input : ℕ
+  pub row : List Tree
 
 -- the elements of a part
 abbrev pub in_part : {X : Type 0} → (X → ℕ) → ℕ → List X → List X
