@@ -12,7 +12,7 @@ use crate::types::cast_type;
 use pig_syntax::{
     Expr, Exprs, Keyword, Link, Links, PostStep, PostSteps, Symbol, Token, TokenForm,
 };
-use pig_value::{Boxed, ChainOp, Rel, Text, discard};
+use pig_value::{Boxed, ChainOp, Rel, Text};
 use std::alloc::{AllocError, Global};
 
 // The chains of expressions, by what stands between their operands.
@@ -522,7 +522,7 @@ impl<R: Rule<Tree = Expr>> Grammar<R> {
                 Ok((choice, rest))
             }
             _ => {
-                discard(first);
+                drop(first);
                 Err(ParseFault::Off)
             }
         }

@@ -428,7 +428,7 @@ pub fn decode_row(alloc: Global, bytes: &[u8]) -> Result<Option<Tuple>, AllocErr
         → IfOk result (λ found. option_map row_tree found ≡ Some row) }
 {
     match decode(alloc, bytes) {
-        Ok(Some(value)) => Ok(row_of(value)),
+        Ok(Some(value)) => Ok(value.into_tuple()),
         Ok(None) => Ok(None),
         Err(fault) => Err(fault),
     }
@@ -452,15 +452,4 @@ fn whole(value: Value, rest: &[u8]) -> Option<Value>
     ensures { MatchOption result (¬ (rest.now ≡ [])) (λ v. (v ≡ value) × (rest.now ≡ [])) }
 {
     if rest.is_empty() { Some(value) } else { None }
-}
-
-// The row of a tuple.
-fn row_of(value: Value) -> Option<Tuple>
-    ensures { MatchOption result ((row : List Tree) → ¬ (tree value ≡ v_tuple (fields_of row)))
-        (λ row. tree value ≡ v_tuple (fields_of (row_tree row))) }
-{
-    match value {
-        Value::Tuple(row) => Some(row),
-        _ => None,
-    }
 }

@@ -1,14 +1,15 @@
 -- What steps and FLATTEN make of each form of a value.
-use Rattle.std.specs.Prelude.{◌≡◌, ◌<◌, ◌≤◌, ℕ, List, [], ◌∷◌, length, min, refl, slice_index_or, take}
+use Rattle.std.specs.Prelude.{◌≡◌, ◌<◌, ◌≤◌, ℕ, List, [], ◌∷◌, length, min, None, refl, slice_index_or, Some, take}
 use Rattle.std.specs.Option.{option_map}
 use Rattle.std.proofs.lemmas.Option.{slice_get_past, slice_get_read}
 use Rattle.std.proofs.Common.{ap, sym, ◌∙◌, arith, inl, inr}
 use Rattle.std.proofs.lemmas.Bool.{cases_lt}
 use Rattle.std.specs.List.{take-map}
 use Rattle.std.proofs.lemmas.List.{take_all}
-use Rattle.pig_value.specs.Trees.{at, or_null, row_tree, rows_tree, Tree, tree, tuples_of, v_bag, v_listed}
+use Rattle.pig_value.specs.Trees.{at, or_null, row_tree, rows_in, rows_tree, Tree, tree, tuples_list, tuples_of, v_bag, v_listed, v_null}
 use Rattle.pig_value.specs.declared.values.Value.{Value}
 use Rattle.pig_value.specs.declared.values.Value.TheVariants as value
+use Rattle.pig_value.proofs.list_laws.Listing.{some_same}
 use Rattle.pig_value.proofs.TreeLaws.{at_map, fields_back, tree-Bag, tree-Listed, tree-Null, tree-Tuple, tuples_back}
 use Rattle.pig_typed.specs.Blocks.{flattened, from_rows, on_rows}
 
@@ -24,12 +25,6 @@ on_bag f rows = ap (on_rows f) (tree-Bag rows) ∙ ap (λ rs. v_bag (tuples_of (
 pub on_listed : (f : List (List Tree) → List (List Tree)) (rows : List (List Value)) → on_rows f (tree (value.Listed rows)) ≡ v_listed (tuples_of (f (rows_tree rows)))
 on_listed f rows = ap (on_rows f) (tree-Listed rows) ∙ ap (λ rs. v_listed (tuples_of (f rs))) (tuples_back (rows_tree rows))
 
-pub from_bag : (make : List (List Tree) → Tree) (rows : List (List Value)) → from_rows make (tree (value.Bag rows)) ≡ make (rows_tree rows)
-from_bag make rows = ap (from_rows make) (tree-Bag rows) ∙ ap make (tuples_back (rows_tree rows))
-
-pub from_listed : (make : List (List Tree) → Tree) (rows : List (List Value)) → from_rows make (tree (value.Listed rows)) ≡ make (rows_tree rows)
-from_listed make rows = ap (from_rows make) (tree-Listed rows) ∙ ap make (tuples_back (rows_tree rows))
-
 pub flattened_tuple : (width : ℕ) (fields : List Value) → flattened width (tree (value.Tuple fields)) ≡ row_tree fields ∷ []
 flattened_tuple width fields = ap (flattened width) (tree-Tuple fields) ∙ ap (λ row. row ∷ []) (fields_back (row_tree fields))
 
@@ -38,6 +33,25 @@ flattened_bag width rows = ap (flattened width) (tree-Bag rows) ∙ tuples_back 
 
 pub flattened_listed : (width : ℕ) (rows : List (List Value)) → flattened width (tree (value.Listed rows)) ≡ rows_tree rows
 flattened_listed width rows = ap (flattened width) (tree-Listed rows) ∙ tuples_back (rows_tree rows)
+
+-- ---- of the rows that a value holds, and where it holds none
+
+pub from_found : (make : List (List Tree) → Tree) (v : Tree) (rows : List (List Tree)) → rows_in v ≡ Some rows → from_rows make v ≡ make rows
+from_found make (v_bag rs) rows is = ap make (some_same (tuples_list rs) rows is)
+from_found make (v_listed rs) rows is = ap make (some_same (tuples_list rs) rows is)
+from_found make v_null rows is = absurd (cc)
+from_found make v rows is = absurd (cc)
+
+pub from_none : (make : List (List Tree) → Tree) (v : Tree) → rows_in v ≡ None → from_rows make v ≡ v_null
+from_none make (v_bag rs) is = absurd (cc)
+from_none make (v_listed rs) is = absurd (cc)
+from_none make v is = refl
+
+pub flattened_found : (width : ℕ) (v : Tree) (rows : List (List Tree)) → rows_in v ≡ Some rows → flattened width v ≡ rows
+flattened_found width (v_bag rs) rows is = some_same (tuples_list rs) rows is
+flattened_found width (v_listed rs) rows is = some_same (tuples_list rs) rows is
+flattened_found width v_null rows is = absurd (cc)
+flattened_found width v rows is = absurd (cc)
 
 -- ---- steps, from what they make of the rows
 
@@ -50,19 +64,6 @@ pub listed_step : (f : List (List Tree) → List (List Tree)) (v : Value) (rows 
     → tree (value.Listed made) ≡ on_rows f (tree v)
 listed_step f v rows made is same =
     tree-Listed made ∙ ap (λ rs. v_listed (tuples_of rs)) same ∙ sym (ap (λ w. on_rows f (tree w)) is ∙ on_listed f rows)
-
--- a bag out of the rows of a bag or a listed bag
-pub bag_from_bag : (f : List (List Tree) → List (List Tree)) (v : Value) (rows made : List (List Value)) → v ≡ value.Bag rows → rows_tree made ≡ f (rows_tree rows)
-    → tree (value.Bag made) ≡ from_rows (λ rs. v_bag (tuples_of (f rs))) (tree v)
-bag_from_bag f v rows made is same =
-    tree-Bag made ∙ ap (λ rs. v_bag (tuples_of rs)) same
-    ∙ sym (ap (λ w. from_rows (λ rs. v_bag (tuples_of (f rs))) (tree w)) is ∙ from_bag (λ rs. v_bag (tuples_of (f rs))) rows)
-
-pub bag_from_listed : (f : List (List Tree) → List (List Tree)) (v : Value) (rows made : List (List Value)) → v ≡ value.Listed rows → rows_tree made ≡ f (rows_tree rows)
-    → tree (value.Bag made) ≡ from_rows (λ rs. v_bag (tuples_of (f rs))) (tree v)
-bag_from_listed f v rows made is same =
-    tree-Bag made ∙ ap (λ rs. v_bag (tuples_of rs)) same
-    ∙ sym (ap (λ w. from_rows (λ rs. v_bag (tuples_of (f rs))) (tree w)) is ∙ from_listed (λ rs. v_bag (tuples_of (f rs))) rows)
 
 -- the first rows, of which there may be fewer
 pub first_taken : (rows : List (List Value)) (n count : ℕ) → n ≡ min (length rows) count → rows_tree (take n rows) ≡ take count (rows_tree rows)

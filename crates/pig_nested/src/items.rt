@@ -208,10 +208,9 @@ fn first_lent(alloc: Global, v: &Value, width: u32, room: usize) -> Result<Joini
 fn first_made(alloc: Global, v: Value, width: u32, room: usize) -> Result<Joining, AllocError>
     ensures { IfOk result (λ made. joining_rows made ≡ flattened width (tree v)) }
 {
-    match v {
-        Value::Bag(rows) => Ok(of_rows(alloc, rows, room)),
-        Value::Listed(rows) => Ok(of_rows(alloc, rows, room)),
-        v => first_lent(alloc, &v, width, room),
+    match v.into_rows() {
+        Ok(rows) => Ok(of_rows(alloc, rows, room)),
+        Err(v) => first_lent(alloc, &v, width, room),
     }
 }
 

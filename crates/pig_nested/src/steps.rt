@@ -129,10 +129,9 @@ fn ordered(from: Value, keys: &SortKeys) -> Value
     ensures { tree result
         ≡ from_rows (λ rows. v_listed (tuples_of (sort (keys_cmp keys.now) rows))) (tree from) }
 {
-    match from {
-        Value::Bag(rows) => ordered_rows(rows, keys),
-        Value::Listed(rows) => ordered_rows(rows, keys),
-        _ => Value::Null,
+    match from.into_rows() {
+        Ok(rows) => ordered_rows(rows, keys),
+        Err(_) => Value::Null,
     }
 }
 
@@ -195,10 +194,9 @@ fn reduced_made(from: Value) -> Value
     ensures { tree result
         ≡ from_rows (λ rows. v_bag (tuples_of (distinct row_cmp rows))) (tree from) }
 {
-    match from {
-        Value::Bag(rows) => Value::Bag(distinct_rows(rows)),
-        Value::Listed(rows) => Value::Bag(distinct_rows(rows)),
-        _ => Value::Null,
+    match from.into_rows() {
+        Ok(rows) => Value::Bag(distinct_rows(rows)),
+        Err(_) => Value::Null,
     }
 }
 

@@ -8,7 +8,7 @@ use crate::operators::operator;
 use crate::parts::using_func;
 use pig_exprs::{ParseFault, Turning, expression, one, repeat};
 use pig_syntax::{Branch, Branches, Keyword, Stmt, Symbol, Token, TokenForm};
-use pig_value::{Text, discard};
+use pig_value::Text;
 use std::alloc::Global;
 
 // A branch, behind its name and IF.
@@ -289,7 +289,7 @@ fn ended(tree: Stmt, rest: &[Token]) -> Result<Stmt, ParseFault>
     match rest {
         [] => Ok(tree),
         _ => {
-            discard(tree);
+            drop(tree);
             Err(ParseFault::Off)
         }
     }

@@ -32,10 +32,7 @@ pub fn is_condition(alloc: Global, row: &Kinds, cond: &TExpr) -> Result<bool, Al
 {
     let none = Kinds::new(alloc);
     let kind = kind_of(alloc, cond, row, &none)?;
-    match kind {
-        Some(Kind::Boolean) => Ok(true),
-        _ => Ok(false),
-    }
+    Ok(matches!(&kind, Some(Kind::Boolean)))
 }
 
 /// Whether the columns stand in ascending order of their positions, which differ.

@@ -1,11 +1,13 @@
 mod Cuts
 mod Delims
-mod FirstLine
+pub mod FirstLine
 mod Pieces
 mod Loops
 mod LineFree
 mod Walks
 pub mod StoredRows
+pub mod Between
+pub mod SplitLines
 mod RowKinds
 mod RowsBack
-mod Starts
+pub mod Starts

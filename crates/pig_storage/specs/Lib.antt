@@ -1,3 +1,4 @@
 pub mod NextLine
 pub mod Pieces
 pub mod ReadBack
+pub mod Splits

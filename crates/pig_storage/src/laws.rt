@@ -1,4 +1,5 @@
-ghost use Rattle.std.specs.Prelude.{◌≡◌, ◌≢◌, ◌≤◌, ◌++◌, [], ◌∷◌, ℕ, List, Some, length, map, All};
+ghost use Rattle.std.specs.Prelude.{◌≡◌, ◌≢◌, ◌<◌, ◌≤◌, ◌++◌, [], ◌∷◌, ℕ, List, Some, length, map, slice_range, All};
+ghost use Rattle.std.specs.List.{flat_map, AllByRecursion};
 ghost use Rattle.pig_value.specs.declared.inputs.Column.{Column};
 ghost use Rattle.pig_value.specs.Delimiters.{IsDelimiter, delimiter_of};
 ghost use Rattle.pig_value.specs.FieldRows.{row_of};
@@ -8,6 +9,7 @@ ghost use Rattle.pig_value.specs.Lines.{lines, lines_within, stored_lines};
 ghost use Rattle.pig_value.specs.Texts.{HasNoLf, AreLineFreeRows, row_text, rows_text};
 ghost use Rattle.pig_value.specs.Trees.{Tree, kind_tree};
 ghost use Rattle.pig_value.specs.Valid.{IsRow, AreRows};
+ghost use Rattle.pig_storage.specs.Splits.{first_start, splits_of_piece};
 ghost use Rattle.pig_storage.specs.ReadBack.{StandInTurn, IsPlainRow, IsPlainLine};
 
 /// The row of a line has as many fields as there are columns, each of its column's kind. Where the bytes are
@@ -30,6 +32,26 @@ pub fn lines_start_in_ranges()
         ≡ lines_within from to bytes }
     ensures whole { (to : ℕ) (bytes : List ℕ) → length bytes ≤ to
         → lines_within 0 to bytes ≡ lines bytes }
+{}
+
+/// The lines that start in a range are the lines of the bytes between two starts of lines: the first at the range's
+/// beginning or behind it, and the first at its end or behind that. So they are read from these bytes alone.
+pub fn lines_of_ranges_stand_between()
+    ensures lines { (from to : ℕ) (bytes : List ℕ) → from ≤ to →
+        lines_within from to bytes
+        ≡ lines (slice_range bytes (first_start bytes from) (first_start bytes to)) }
+    ensures starts { (from to : ℕ) (bytes : List ℕ) → from ≤ to →
+        (first_start bytes from ≤ first_start bytes to) × (first_start bytes to ≤ length bytes) }
+{}
+
+/// The lines that start in the splits of a piece are, split by split, the piece's lines.
+pub fn lines_of_splits_are_all()
+    ensures lines { (split piece : ℕ) (bytes : List ℕ) → 0 < split →
+        flat_map (λ s. lines_within s.from s.to bytes) (splits_of_piece split piece (length bytes))
+        ≡ lines bytes }
+    ensures each { (split piece size : ℕ) → 0 < split →
+        AllByRecursion (λ s. (s.piece ≡ piece) × (s.from ≤ s.to) × (s.to ≤ size))
+        (splits_of_piece split piece size) }
 {}
 
 /// No line of an input holds an LF, and no value that is read from a line does. So the text of a row that is

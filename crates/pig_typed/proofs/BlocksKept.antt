@@ -7,14 +7,14 @@ use Rattle.std.proofs.lemmas.Bool.{eqb-true}
 use Rattle.pig_value.specs.Kinds.{IsOf, IsRowOf, AreRowsOf, FieldsOf, TuplesOf}
 use Rattle.pig_value.specs.Orders.{row_cmp}
 use Rattle.pig_value.specs.Sorts.{distinct, sort}
-use Rattle.pig_value.specs.Trees.{Tree, v_null, v_bool, v_int, v_long, v_chars, v_bytes, v_tuple, v_bag, v_listed, v_map, tuples_list, tuples_of, KindTree, KindTrees, k_boolean, k_int, k_long, k_chars, k_bytes, k_tuple, k_bag, k_map, no_kinds, more_kinds, kinds_list, kinds_of}
+use Rattle.pig_value.specs.Trees.{Tree, v_null, v_bool, v_int, v_long, v_chars, v_bytes, v_tuple, v_bag, v_listed, v_map, tuples_list, tuples_of, KindTree, KindTrees, k_boolean, k_int, k_long, k_chars, k_bytes, k_tuple, k_bag, k_map, no_kinds, more_kinds, kinds_list, kinds_of, bag_kinds}
 use Rattle.pig_value.proofs.KindLaws.{row_of-append, row_of_nulls, rows_of-append, rows_of-filter, rows_of-take, rows_of_each, rows_of_from_each}
 use Rattle.pig_value.proofs.TreeLaws.{kinds_back}
 use Rattle.pig_value.proofs.OfRead.{OfRead}
 use Rattle.pig_value.proofs.list_laws.Bags.{each-sort}
 use Rattle.pig_value.proofs.list_laws.Distinct.{each-distinct}
 use Rattle.pig_typed.specs.declared.blocks.SortKey.{SortKey}
-use Rattle.pig_typed.specs.BlockKinds.{are_keys, bag_kinds, bag_rows, filtered_kind, flattened_kinds, given_kinds, if_boolean, item_kinds, items_kinds, of_width, row_kinds, sorted_kind, step_kind, steps_kinds}
+use Rattle.pig_typed.specs.BlockKinds.{are_keys, bag_rows, filtered_kind, flattened_kinds, given_kinds, if_boolean, item_kinds, items_kinds, of_width, row_kinds, sorted_kind, step_kind, steps_kinds}
 use Rattle.pig_typed.specs.Blocks.{flattened, foreach_rows, from_rows, item_lists, keys_cmp, on_rows, step_value, steps_values}
 use Rattle.pig_typed.specs.Evaluation.{ev, passes}
 use Rattle.pig_typed.specs.ExprKinds.{expr_kind}

@@ -9,7 +9,7 @@ use Rattle.pig_value.specs.FieldReader.{all_of}
 use Rattle.pig_value.specs.FunctionKinds.{function_kind}
 use Rattle.pig_value.specs.Functions.{apply_tree, bag_tree}
 use Rattle.pig_value.specs.Kinds.{IsOf, IsRowOf, AreRowsOf, FieldsOf, TuplesOf, EntriesOf, kind_eq}
-use Rattle.pig_value.specs.Trees.{at, or_null, Tree, Fields, Tuples, Entries, v_null, v_bool, v_int, v_long, v_chars, v_bytes, v_tuple, v_bag, v_listed, v_map, no_fields, more_fields, no_tuples, more_tuples, no_entries, more_entries, fields_list, fields_of, tuples_list, tuples_of, entries_list, KindTree, KindTrees, k_boolean, k_int, k_long, k_chars, k_bytes, k_tuple, k_bag, k_map, no_kinds, more_kinds, kinds_list, kinds_of}
+use Rattle.pig_value.specs.Trees.{at, or_null, Tree, Fields, Tuples, Entries, v_null, v_bool, v_int, v_long, v_chars, v_bytes, v_tuple, v_bag, v_listed, v_map, no_fields, more_fields, no_tuples, more_tuples, no_entries, more_entries, fields_list, fields_of, tuples_list, tuples_of, entries_list, KindTree, KindTrees, k_boolean, k_int, k_long, k_chars, k_bytes, k_tuple, k_bag, k_map, no_kinds, more_kinds, kinds_list, kinds_of, look_kind}
 use Rattle.pig_value.specs.declared.functions.Function.{Function}
 use Rattle.pig_value.specs.declared.operators.ChainOp.{ChainOp}
 use Rattle.pig_value.specs.declared.operators.ChainOp.TheVariants as op
@@ -18,7 +18,7 @@ use Rattle.pig_value.proofs.CastKinds.{cast_of_kind}
 use Rattle.pig_value.proofs.KindLaws.{kind_same, rows_of_sorted}
 use Rattle.pig_value.proofs.OfRead.{OfRead}
 use Rattle.pig_typed.specs.Evaluation.{ev, ev_args, ev_links}
-use Rattle.pig_typed.specs.ExprKinds.{args_kinds, cast_kind, chain_kind, choose_kind, compare_kind, expr_kind, is_selection, links_kind, look_kind, may_compare, minus_kind, not_kind, number_kind, part_kind, picked_kinds, project_kind, selected_kind, truth_kind}
+use Rattle.pig_typed.specs.ExprKinds.{args_kinds, cast_kind, chain_kind, choose_kind, compare_kind, expr_kind, is_selection, links_kind, may_compare, minus_kind, not_kind, number_kind, part_kind, picked_kinds, project_kind, selected_kind, truth_kind}
 use Rattle.pig_typed.specs.Operators.{and_truth, arithmetic, chain_tree, chosen, compare_tree, look_tree, minus_tree, not_tree, null_test, number_by, or_truth, pick, project_tree, truth_of, truth_tree}
 use Rattle.pig_typed.specs.Premises.{FunctionsKeepKinds}
 use Rattle.pig_typed.specs.Typed.{Typed, TypedLinks, TypedArgs, x_null, x_bool, x_int, x_long, x_chars, x_field, x_local, x_chain, x_compare, x_is_null, x_not, x_minus, x_choose, x_cast, x_project, x_look, x_call, no_links, more_links, no_args, more_args}

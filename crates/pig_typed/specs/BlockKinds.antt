@@ -4,7 +4,7 @@ use Rattle.std.specs.Prelude.{ℕ, Bool, true, false, not, ◌==◌, List, [], �
 use Rattle.std.specs.List.{list_all}
 use Rattle.std.specs.Option.{option_map, option_map_or}
 use Rattle.pig_value.specs.Kinds.{has_bag_or_map}
-use Rattle.pig_value.specs.Trees.{KindTree, k_boolean, k_tuple, k_bag, k_map, kinds_list, kinds_of}
+use Rattle.pig_value.specs.Trees.{KindTree, bag_kinds, k_boolean, k_tuple, k_bag, k_map, kinds_list, kinds_of}
 use Rattle.pig_typed.specs.declared.blocks.SortKey.{SortKey}
 use Rattle.pig_typed.specs.ExprKinds.{◌>>=◌, expr_kind}
 use Rattle.pig_typed.specs.Typed.{Typed, TypedStep, TypedItem, TypedBlock, s_filter, s_order, s_limit, s_distinct, s_take}
@@ -22,10 +22,6 @@ if_boolean k k_boolean = Some k
 if_boolean k cond = None
 
 -- the kinds of the rows of the bag that an expression gives
-abbrev pub bag_kinds : KindTree → Option (List KindTree)
-bag_kinds (k_bag kinds) = Some (kinds_list kinds)
-bag_kinds k = None
-
 abbrev pub bag_rows : Typed → List KindTree → List KindTree → Option (List KindTree)
 bag_rows from row locals = expr_kind from row locals >>= bag_kinds
 

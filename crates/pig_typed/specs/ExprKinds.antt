@@ -7,7 +7,7 @@ use Rattle.pig_value.specs.Casts.{may_cast}
 use Rattle.pig_value.specs.FieldReader.{all_of}
 use Rattle.pig_value.specs.FunctionKinds.{function_kind}
 use Rattle.pig_value.specs.Kinds.{kind_eq}
-use Rattle.pig_value.specs.Trees.{KindTree, k_boolean, k_int, k_long, k_chars, k_bytes, k_tuple, k_bag, k_map, kinds_of, kinds_list}
+use Rattle.pig_value.specs.Trees.{KindTree, k_boolean, k_int, k_long, k_chars, k_bytes, k_tuple, k_bag, kinds_of, kinds_list, look_kind}
 use Rattle.pig_value.specs.declared.operators.ChainOp.{ChainOp}
 use Rattle.pig_value.specs.declared.operators.ChainOp.TheVariants as op
 use Rattle.pig_value.specs.declared.operators.Rel.{Rel}
@@ -96,10 +96,6 @@ selected_kind ns single k = None
 
 abbrev pub project_kind : List ℕ → Bool → KindTree → Option KindTree
 project_kind ns single k = if is_selection ns single then selected_kind ns single k else None
-
-abbrev pub look_kind : KindTree → Option KindTree
-look_kind (k_map k) = Some k
-look_kind k = None
 
 -- ---- expressions
 

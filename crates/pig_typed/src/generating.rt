@@ -1,7 +1,7 @@
 ghost use Rattle.std.specs.Prelude.{◌≡◌, [], ◌∷◌, map, IfOk};
 ghost use Rattle.std.specs.Option.{option_map};
-ghost use Rattle.pig_value.specs.Trees.{k_bag, kind_tree, kinds_of};
-ghost use Rattle.pig_typed.specs.BlockKinds.{are_keys, bag_kinds, bag_rows, filtered_kind, flattened_kinds, given_kinds, is_key, item_kinds, items_kinds, of_width, row_kinds, sorted_kind, step_kind, steps_kinds};
+ghost use Rattle.pig_value.specs.Trees.{k_bag, kind_tree, kinds_of, bag_kinds};
+ghost use Rattle.pig_typed.specs.BlockKinds.{are_keys, bag_rows, filtered_kind, flattened_kinds, given_kinds, is_key, item_kinds, items_kinds, of_width, row_kinds, sorted_kind, step_kind, steps_kinds};
 ghost use Rattle.pig_typed.specs.Typed.{block_typed, item_typed, step_typed, typed};
 
 use crate::kinds::kind_of;
@@ -80,10 +80,7 @@ fn bag(
 fn rows_of(kind: Kind) -> Option<Kinds>
     ensures { option_map (map kind_tree) result ≡ bag_kinds (kind_tree kind) }
 {
-    match kind {
-        Kind::Bag(kinds) => Some(kinds),
-        _ => None,
-    }
+    kind.into_bag()
 }
 
 fn bag_kind(
@@ -107,9 +104,11 @@ fn filtered(alloc: Global, rows: Kinds, cond: &TExpr) -> Result<Option<Kind>, Al
     ensures { IfOk result (λ found. option_map kind_tree found
         ≡ filtered_kind (typed cond.now) (map kind_tree rows)) }
 {
-    match kind_of(alloc, cond, &rows, &Seq::new(alloc))? {
-        Some(Kind::Boolean) => Ok(Some(Kind::Bag(rows))),
-        _ => Ok(None),
+    let kind = kind_of(alloc, cond, &rows, &Seq::new(alloc))?;
+    if matches!(&kind, Some(Kind::Boolean)) {
+        Ok(Some(Kind::Bag(rows)))
+    } else {
+        Ok(None)
     }
 }
 
@@ -199,11 +198,10 @@ fn flattened(alloc: Global, kind: Kind) -> Result<Option<Kinds>, AllocError>
     ensures { IfOk result (λ found. option_map (map kind_tree) found
         ≡ flattened_kinds (kind_tree kind)) }
 {
-    match kind {
-        Kind::Tuple(kinds) => Ok(Some(kinds)),
-        Kind::Bag(kinds) => Ok(Some(kinds)),
-        Kind::Map(_) => Ok(None),
-        scalar => Ok(Some(single(alloc, scalar)?)),
+    match kind.into_kinds() {
+        Ok(kinds) => Ok(Some(kinds)),
+        Err(Kind::Map(_)) => Ok(None),
+        Err(scalar) => Ok(Some(single(alloc, scalar)?)),
     }
 }
 

@@ -1,8 +1,8 @@
 ghost use Rattle.std.specs.Prelude.{◌≡◌, Some, map, IfOk};
 ghost use Rattle.std.specs.Option.{option_and_then, option_map};
 ghost use Rattle.pig_value.specs.FunctionKinds.{function_kind};
-ghost use Rattle.pig_value.specs.Trees.{k_boolean, kind_tree};
-ghost use Rattle.pig_typed.specs.ExprKinds.{args_kinds, cast_kind, choose_kind, expr_kind, links_kind, look_kind, minus_kind, not_kind, project_kind};
+ghost use Rattle.pig_value.specs.Trees.{k_boolean, kind_tree, look_kind};
+ghost use Rattle.pig_typed.specs.ExprKinds.{args_kinds, cast_kind, choose_kind, expr_kind, links_kind, minus_kind, not_kind, project_kind};
 ghost use Rattle.pig_typed.specs.Seen.{seen_kind};
 ghost use Rattle.pig_typed.specs.Typed.{args_of, link_of, links_of, typed, x_chain, x_choose, x_compare};
 
@@ -328,7 +328,10 @@ fn looked_up<'a>(map: SeenKind<'a>) -> Option<SeenKind<'a>>
 {
     match map {
         SeenKind::Lent(Kind::Map(of)) => Some(SeenKind::Lent(of.get())),
-        SeenKind::Made(Kind::Map(of)) => Some(SeenKind::Made(of.into_inner())),
-        _ => None,
+        SeenKind::Lent(_) => None,
+        SeenKind::Made(kind) => match kind.into_values() {
+            Some(of) => Some(SeenKind::Made(of)),
+            None => None,
+        },
     }
 }

@@ -5,14 +5,14 @@ use Rattle.std.specs.Option.{option_and_then, option_map}
 use Rattle.std.specs.Str.{bytes_eq}
 use Rattle.pig_value.specs.Casts.{may_cast}
 use Rattle.pig_value.specs.FunctionKinds.{function_kind}
-use Rattle.pig_value.specs.Trees.{KindTree, k_boolean, k_int, k_long, k_chars, k_bytes, k_tuple, k_bag, k_map, no_kinds, more_kinds, kinds_of, kinds_list}
+use Rattle.pig_value.specs.Trees.{KindTree, k_boolean, k_int, k_long, k_chars, k_bytes, k_tuple, k_bag, k_map, no_kinds, more_kinds, kinds_of, kinds_list, look_kind}
 use Rattle.pig_value.specs.declared.functions.Function.{Function}
 use Rattle.pig_value.specs.declared.functions.Function.TheVariants as f
 use Rattle.pig_value.specs.declared.operators.ChainOp.{ChainOp}
 use Rattle.pig_schema.specs.FieldTrees.{FieldTree, a_field, inner_of, inner_list, tree_name, tree_kind, HasInner, IsColumn}
 use Rattle.pig_syntax.specs.ExprTrees.{ExprForm, LinkForms, ExprForms, type_form}
 use Rattle.pig_syntax.specs.declared.trees.PostStep.{PostStep}
-use Rattle.pig_typed.specs.ExprKinds.{args_kinds, chain_kind, expr_kind, links_kind, look_kind, project_kind, picked_kinds}
+use Rattle.pig_typed.specs.ExprKinds.{args_kinds, chain_kind, expr_kind, links_kind, project_kind, picked_kinds}
 use Rattle.pig_typed.specs.Typed.{Typed, links_of, args_of}
 use Rattle.pig_typing.specs.declared.calls.Casting.{Casting}
 use Rattle.pig_typing.specs.declared.calls.Casting.TheVariants as c

@@ -5,3 +5,4 @@ pub mod Bags
 pub mod Distinct
 pub mod Partitions
 pub mod Runs
+pub mod Elementwise

@@ -3,6 +3,7 @@ pub mod Delimiters
 pub mod Trees
 pub mod Sorts
 pub mod Gathering
+pub mod Elementwise
 pub mod Orders
 pub mod Results
 pub mod Kinds

@@ -1,5 +1,5 @@
 -- Values and kinds as trees, which is what clauses say of them.
-use Rattle.std.specs.Prelude.{ℕ, ℤ, Bool, List, [], ◌∷◌, map, Option, slice_get}
+use Rattle.std.specs.Prelude.{ℕ, ℤ, Bool, List, [], ◌∷◌, map, Option, Some, None, slice_get}
 use Rattle.std.specs.Borrow.{Bor}
 use Rattle.std.specs.Option.{option_copied, option_map, unwrap_or}
 use Rattle.pig_value.specs.declared.values.Value.{Value}
@@ -95,6 +95,12 @@ row_tree = map tree
 abbrev pub rows_tree : List (List Value) → List (List Tree)
 rows_tree = map (map tree)
 
+-- the rows of a bag or of a listed bag
+abbrev pub rows_in : Tree → Option (List (List Tree))
+rows_in (v_bag rows) = Some (tuples_list rows)
+rows_in (v_listed rows) = Some (tuples_list rows)
+rows_in v = None
+
 -- the field of a row at a place: null where there is none
 abbrev pub or_null : Option Tree → Tree
 or_null value = unwrap_or value v_null
@@ -143,3 +149,19 @@ kind_step (Kind-F.Map k) = k_map k
 -- a kind as a tree
 abbrev pub kind_tree : Kind → KindTree
 kind_tree = fold-Kind KindTree kind_step
+
+-- the kinds of a bag's rows
+abbrev pub bag_kinds : KindTree → Option (List KindTree)
+bag_kinds (k_bag kinds) = Some (kinds_list kinds)
+bag_kinds k = None
+
+-- the kinds of a tuple's fields, or of a bag's rows
+abbrev pub kinds_in : KindTree → Option (List KindTree)
+kinds_in (k_tuple kinds) = Some (kinds_list kinds)
+kinds_in (k_bag kinds) = Some (kinds_list kinds)
+kinds_in k = None
+
+-- the kind of a map's values
+abbrev pub look_kind : KindTree → Option KindTree
+look_kind (k_map k) = Some k
+look_kind k = None

@@ -48,7 +48,7 @@ pub use sorting::bag;
 pub use texts::{Blob, Text, known_bytes};
 pub use threads::values_cross_threads;
 pub use values::{Kind, Kinds, Pair, Pairs, Rows, Tuple, Value, field_at};
-pub use waiting::{beside, discard, failed};
+pub use waiting::{beside, failed};
 
 /// A list of texts.
 pub type Texts = Seq<Text>;

@@ -1,4 +1,4 @@
-ghost use Rattle.std.specs.Prelude.{◌≡◌, [], ◌∷◌, ◌++◌, ◌<◌, length, slice_get, ◌↔◌, IsTrue, IfOk, OnOk, OnErr, OnSome, MatchOption};
+ghost use Rattle.std.specs.Prelude.{◌≡◌, [], ◌∷◌, ◌++◌, ◌<◌, length, slice_get, slice_set, ◌↔◌, IsTrue, IfOk, OnOk, OnErr, OnSome, MatchOption};
 ghost use Rattle.std.specs.Option.{option_copied};
 
 use std::alloc::{AllocError, Global};
@@ -75,6 +75,15 @@ impl<T> Seq<T> {
         ensures within { OnSome result (at < length self.now) }
     {
         self.items.get(at)
+    }
+
+    /// Puts an element in the place of another, which it gives back.
+    pub fn replace(&mut self, at: usize, item: T) -> T
+        requires { at < length self.now }
+        ensures was { slice_get self.old at ≡ Some result }
+        ensures list { self.new ≡ slice_set self.old at item }
+    {
+        std::mem::replace(&mut self.items[at], item)
     }
 
     /// Takes the last element off.

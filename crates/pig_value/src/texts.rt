@@ -44,6 +44,14 @@ impl Text {
         Text { text }
     }
 
+    /// The text as a string, without a copy.
+    pub fn into_string(self) -> String
+        ensures { string_bytes result ≡ self }
+    {
+        let Text { text } = self;
+        text
+    }
+
     /// The text as a `&str`.
     pub fn as_str(&self) -> &str
         ensures text { result.now ≡ self.now }

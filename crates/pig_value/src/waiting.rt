@@ -21,6 +21,3 @@ pub fn failed<L: Drop, T, E>(_left: L, fault: E) -> Result<T, E>
 {
     Err(fault)
 }
-
-/// Drops what is not wanted.
-pub fn discard<T: Drop>(_unwanted: T) {}

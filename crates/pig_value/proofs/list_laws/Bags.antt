@@ -320,7 +320,7 @@ module _ {X : Type 0} (R : X → X → Ordering) (total : IsTotalOrder R) (tells
 
 -- sorting what a function that keeps the order gives, or the function of what is sorted
 module _ {X Y : Type 0} (R : X → X → Ordering) (S : Y → Y → Ordering) (f : X → Y) (keeps : (x y : X) → S (f x) (f y) ≡ R x y) where
-  map-put : (x : X) (ys : List X) → map f (put R x ys) ≡ put S (f x) (map f ys)
+  pub map-put : (x : X) (ys : List X) → map f (put R x ys) ≡ put S (f x) (map f ys)
   map-put x [] = refl
   map-put x (y ∷ ys) = either_way (is_gt (R x y))
       (λ e. ap (map f) (put_on R x y ys e) ∙ ap (λ zs. f y ∷ zs) (map-put x ys) ∙ sym (put_on S (f x) (f y) (map f ys) (ap is_gt (keeps x y) ∙ e)))

@@ -1,16 +1,16 @@
 -- Laws of the list of each element once.
-use Rattle.std.specs.Prelude.{◌≡◌, ℕ, Bool, true, false, not, List, [], ◌∷◌, min, refl}
+use Rattle.std.specs.Prelude.{◌≡◌, ℕ, Bool, true, false, not, List, [], ◌∷◌, map, min, refl}
 use Rattle.std.proofs.Common.{ap, sym, ◌∙◌, arith, cond, true≢false}
 use Rattle.std.specs.Cmp.{IsTotalOrder}
-use Rattle.std.specs.List.{filter, AllByRecursion}
+use Rattle.std.specs.List.{filter, flat_map, AllByRecursion}
 use Rattle.std.specs.List.Sorted.{IsPermutation}
 use Rattle.std.specs.Ordering.{is_eq}
 use Rattle.std.specs.declared.cmp.Ordering.{Ordering}
 use Rattle.std.specs.declared.cmp.Ordering.TheVariants.{Equal}
 use Rattle.std.proofs.lemmas.Cmp.{tied_back}
 use Rattle.pig_value.specs.Sorts.{put, Ascends, times, distinct}
-use Rattle.pig_value.proofs.list_laws.Listing.{each-filter}
-use Rattle.pig_value.proofs.list_laws.Bags.{either_way, eq_is, each-put, put_permutes, put_ascends, filter_ascends, times-cons, times_from_permutation, times-filter, ascending_same}
+use Rattle.pig_value.proofs.list_laws.Listing.{each-filter, filter-map}
+use Rattle.pig_value.proofs.list_laws.Bags.{either_way, eq_is, each-put, map-put, put_permutes, put_ascends, filter_ascends, times-append, times-cons, times_from_permutation, times-filter, ascending_same}
 
 module _ {X : Type 0} (R : X → X → Ordering) (total : IsTotalOrder R) where
   pub distinct_ascends : (xs : List X) → Ascends R (distinct R xs)
@@ -68,3 +68,26 @@ module _ {X : Type 0} (R : X → X → Ordering) (total : IsTotalOrder R) (tells
       inward : (b : Bool) (n : ℕ) → cond b (min 1 n) 0 ≡ min 1 (cond b n 0)
       inward true n = refl
       inward false n = refl
+
+  -- the lists' own elements once, and then of all of them each once
+  pub distinct_flat : (tasks : List (List X)) → distinct R (flat_map (distinct R) tasks) ≡ distinct R (flat_map (λ t. t) tasks)
+  distinct_flat tasks = distinct_same (flat_map (distinct R) tasks) (flat_map (λ t. t) tasks) (λ z. once z tasks)
+    where
+      once : (z : X) (tasks : List (List X)) → min 1 (times R z (flat_map (distinct R) tasks)) ≡ min 1 (times R z (flat_map (λ t. t) tasks))
+      once z [] = refl
+      once z (t ∷ tasks) =
+          let more = once z tasks in
+          let one = times-distinct z t in
+          let left = times-append R z (distinct R t) (flat_map (distinct R) tasks) in
+          let right = times-append R z t (flat_map (λ u. u) tasks) in
+          omega (arith, more, one, left, right)
+
+-- each element once, mapped by what keeps the order
+module _ {X Y : Type 0} (R : X → X → Ordering) (S : Y → Y → Ordering) (f : X → Y) (same : (x y : X) → S (f x) (f y) ≡ R x y) where
+  pub distinct_map : (xs : List X) → distinct S (map f xs) ≡ map f (distinct R xs)
+  distinct_map [] = refl
+  distinct_map (x ∷ xs) =
+      ap (λ ys. put S (f x) (filter (λ y. not (is_eq (S (f x) y))) ys)) (distinct_map xs)
+      ∙ ap (put S (f x)) (filter-map (λ y. not (is_eq (S (f x) y))) f (distinct R xs)
+      ∙ (λ i. map f (filter (λ y. not (is_eq (same x y i))) (distinct R xs))))
+      ∙ sym (map-put R S f same x (filter (λ y. not (is_eq (R x y))) (distinct R xs)))

@@ -1,12 +1,7 @@
-use Rattle.std.proofs.Common.{◌∙◌, ap, sym}
-use Rattle.pig_value.specs.Trees.{tree}
-use Rattle.pig_typed.specs.Blocks.{flattened}
-use Rattle.pig_nested.proofs.Forms.{flattened_bag, flattened_listed}
+use Rattle.std.proofs.Common.{◌∙◌, sym}
+use Rattle.pig_value.specs.Trees.{rows_tree, tree}
+use Rattle.pig_nested.proofs.Forms.{flattened_found}
 use Rattle.pig_nested.proofs.items.first_made.Goals as goal
 
-pub returns-in-Bag : goal.returns-in-Bag
-returns-in-Bag c = c.of_rows.ensures ∙ sym (ap (λ v. flattened c.args.width (tree v)) c.in-Bag.is ∙ flattened_bag c.args.width c.in-Bag.rows)
-
-pub returns-in-Listed : goal.returns-in-Listed
-returns-in-Listed c =
-    c.of_rows-in-Listed.ensures ∙ sym (ap (λ v. flattened c.args.width (tree v)) c.in-Listed.is ∙ flattened_listed c.args.width c.in-Listed.rows)
+pub returns-in-Ok : goal.returns-in-Ok
+returns-in-Ok c = c.of_rows.ensures ∙ sym (flattened_found c.args.width (tree c.args.v) (rows_tree c.in-Ok.rows) c.in-Ok.ensures.rows)

@@ -1,11 +1,18 @@
+use Rattle.std.proofs.Common.{◌∙◌, ap, sym, List}
 use Rattle.pig_value.specs.Orders.{row_cmp}
 use Rattle.pig_value.specs.Sorts.{distinct}
-use Rattle.pig_nested.proofs.Forms.{bag_from_bag, bag_from_listed}
+use Rattle.pig_value.specs.Trees.{rows_tree, Tree, tree, tuples_of, v_bag}
+use Rattle.pig_value.proofs.TreeLaws.{tree-Bag, tree-Null}
+use Rattle.pig_nested.proofs.Forms.{from_found, from_none}
 use Rattle.pig_nested.proofs.steps.reduced_made.Goals as goal
 
-pub returns-in-Bag : goal.returns-in-Bag
-returns-in-Bag c = bag_from_bag (distinct row_cmp) c.args.from c.in-Bag.rows c.distinct_rows.result c.in-Bag.is c.distinct_rows.ensures
+pub returns-in-Ok : goal.returns-in-Ok
+returns-in-Ok c =
+    let make : List (List Tree) → Tree = λ rows. v_bag (tuples_of (distinct row_cmp rows)) in
+    tree-Bag c.distinct_rows.result ∙ ap (λ rs. v_bag (tuples_of rs)) c.distinct_rows.ensures
+    ∙ sym (from_found make (tree c.args.from) (rows_tree c.in-Ok.rows) c.in-Ok.ensures.rows)
 
-pub returns-in-Listed : goal.returns-in-Listed
-returns-in-Listed c =
-    bag_from_listed (distinct row_cmp) c.args.from c.in-Listed.rows c.distinct_rows-in-Listed.result c.in-Listed.is c.distinct_rows-in-Listed.ensures
+pub returns-in-Err : goal.returns-in-Err
+returns-in-Err c =
+    let make : List (List Tree) → Tree = λ rows. v_bag (tuples_of (distinct row_cmp rows)) in
+    tree-Null ∙ sym (from_none make (tree c.args.from) c.in-Err.ensures.none)
