@@ -1,4 +1,4 @@
-ghost use Rattle.std.specs.Prelude.{IfOk, Ok, length};
+ghost use Rattle.std.specs.Prelude.{IfOk, length};
 ghost use Rattle.pig_schema.specs.FieldTrees.{named_tree, schema_tree};
 ghost use Rattle.pig_typing.specs.Results.{IfRefused, Tells};
 ghost use Rattle.pig_syntax.specs.declared.trees.FieldRef.TheVariants.{Position};
@@ -7,7 +7,7 @@ ghost use Rattle.pig_blocks.specs.SortKeys.{SortsBy, SortsByNot, as_key, fields_
 use pig_schema::{Field, Schema};
 use pig_syntax::{FieldRef, OrderField, OrderKeys};
 use pig_typed::{SortKey, SortKeys};
-use pig_typing::{CheckKind, TypeFault, refer};
+use pig_typing::{CheckKind, TypeFault, narrow, refer};
 use pig_value::{Dir, Seq, holds_bag_or_map};
 use std::alloc::Global;
 
@@ -97,14 +97,4 @@ fn as_key(place: usize, column: &Field, dir: Dir) -> Result<SortKey, TypeFault>
     }
     let position = narrow(place)?;
     Ok(SortKey { position, dir })
-}
-
-// No list in memory has more places than a u32 counts.
-fn narrow(place: usize) -> Result<u32, TypeFault>
-    ensures { Tells (λ n. n) (Ok place) result }
-{
-    match u32::try_from(place) {
-        Ok(place) => Ok(place),
-        Err(_) => Err(TypeFault::OutOfMemory),
-    }
 }

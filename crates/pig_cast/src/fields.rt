@@ -1,15 +1,16 @@
 ghost use Rattle.std.specs.Prelude.{◌≡◌, List, ℕ, map, IfOk};
 ghost use Rattle.std.specs.Option.{option_map, unwrap_or};
+ghost use Rattle.std.specs.Str.Lossy.{utf8_lossy};
 ghost use Rattle.pig_value.specs.Fields.{IsField, entries_by_key};
 ghost use Rattle.pig_value.specs.FieldReader.{all_of, case_of, field_value, fields_in, pair_in, pairs_in, row_in, rows_in, value_in};
-ghost use Rattle.pig_value.specs.Trees.{v_null, v_tuple, v_bag, v_map, v_bool, v_int, v_long, fields_of, tuples_of, entries_of, tree, row_tree, rows_tree, entry_of, kind_tree, kinds_of};
+ghost use Rattle.pig_value.specs.Trees.{v_null, v_tuple, v_bag, v_map, v_bool, v_bytes, v_chars, v_int, v_long, fields_of, tuples_of, entries_of, tree, row_tree, rows_tree, entry_of, kind_tree, kinds_of};
 ghost use Rattle.pig_value.specs.Orders.{bag_of};
 ghost use Rattle.pig_cast.specs.Keyed.{keyed};
 
 use crate::cutting::{any_items_between, item_at, items_between, key_and_value};
 use crate::keys::{in_order, put};
 use crate::numbers::{boolean, int, long};
-use crate::texts::lossy_text;
+use crate::texts::{lossy_text, lossy_text_over};
 use pig_value::{Blob, Kind, Pairs, Rows, Seq, Text, Tuple, Value, bag};
 use std::alloc::{AllocError, Global};
 use std::collections::BTreeMap;
@@ -22,7 +23,59 @@ pub fn read_field(alloc: Global, bytes: &[u8], k: &Kind) -> Result<Value, AllocE
     Ok(value)
 }
 
-/// The same, by the function that gives each field's one value.
+/// The value of a field's bytes at a kind, as [`read_field`] has it, in the place of another value: where both are
+/// texts or both are bytes, the new one takes the memory of the old.
+pub fn read_field_over(
+    alloc: Global,
+    bytes: &[u8],
+    k: &Kind,
+    old: Value,
+) -> Result<Value, AllocError>
+    ensures { IfOk result (λ v. IsField (kind_tree k.now) bytes.now (tree v)) }
+{
+    let value = value_over(alloc, bytes, k, old)?;
+    Ok(value)
+}
+
+fn value_over(alloc: Global, bytes: &[u8], kind: &Kind, old: Value) -> Result<Value, AllocError>
+    ensures { IfOk result (λ v. tree v ≡ field_value (kind_tree kind.now) bytes.now) }
+{
+    match kind {
+        Kind::Chararray if !bytes.is_empty() => chars_over(alloc, bytes, old),
+        Kind::Bytearray if !bytes.is_empty() => bytes_over(alloc, bytes, old),
+        _ => read_value(alloc, bytes, kind),
+    }
+}
+
+fn chars_over(alloc: Global, bytes: &[u8], old: Value) -> Result<Value, AllocError>
+    ensures { IfOk result (λ v. tree v ≡ v_chars (utf8_lossy bytes.now)) }
+{
+    let text = match old.into_text() {
+        Some(text) => lossy_text_over(text, bytes)?,
+        None => lossy_text(alloc, bytes)?,
+    };
+    Ok(Value::Chars(Text::from_string(text)))
+}
+
+fn bytes_over(alloc: Global, bytes: &[u8], old: Value) -> Result<Value, AllocError>
+    ensures { IfOk result (λ v. tree v ≡ v_bytes bytes.now) }
+{
+    match old.into_blob() {
+        Some(blob) => Ok(Value::Bytes(refilled(blob, bytes)?)),
+        None => Ok(Value::Bytes(Blob::from_slice(alloc, bytes)?)),
+    }
+}
+
+fn refilled(old: Blob, bytes: &[u8]) -> Result<Blob, AllocError>
+    ensures { IfOk result (λ b. b ≡ bytes.now) }
+{
+    let mut blob = old.into_vec();
+    blob.clear();
+    blob.extend_from_slice(bytes)?;
+    Ok(Blob::from_vec(blob))
+}
+
+/// The value of a field's bytes, by the function that gives each field's one value.
 #[cycle(read)]
 pub(crate) fn read_value(alloc: Global, bytes: &[u8], kind: &Kind) -> Result<Value, AllocError>
     ensures { IfOk result (λ v. tree v ≡ field_value (kind_tree kind.now) bytes.now) }

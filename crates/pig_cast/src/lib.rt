@@ -1,6 +1,6 @@
 //! Values out of text: the field grammar of PigStorage, and casts from one kind to another.
 //!
-//! [`read_field`] reads the value of a kind from bytes, [`number`] a whole number, and [`cast`] makes a value
+//! [`read_field`] reads the value of a kind from bytes ([`read_field_over`] in the place of another value), [`number`] a whole number, and [`cast`] makes a value
 //! of another kind. Each is proved to be what pig_value's `specs/` define: `Brackets` (balanced bodies and
 //! their items), `Fields` (`IsField`, `IsNumberText`) and `Casts` (`CanCast`, `cast_of`).
 //! [`a_field_has_one_value`] ties the relation `IsField`, which has one case for each kind, to the function
@@ -24,7 +24,7 @@ mod texts;
 mod wanted;
 
 pub use casting::cast;
-pub use fields::read_field;
+pub use fields::{read_field, read_field_over};
 pub use laws::{
     a_field_has_one_value, casts_are_of_their_kind, fields_are_line_free, fields_are_of_their_kind,
     plain_fields_read_back,

@@ -14,7 +14,8 @@ use Rattle.pig_value.specs.declared.operators.Rel.{Rel}
 use Rattle.pig_exprs.specs.declared.exprs.Chain.{Chain}
 use Rattle.pig_exprs.specs.declared.exprs.Chain.TheVariants as chain
 use Rattle.pig_exprs.specs.Grammar.{Forms, scalar_of, Level, expr, conj, sum, term, chain_op, rel_of, token_literal}
-use Rattle.pig_exprs.specs.Reader.{FoundPart, Turn, ◌>>=◌, repeat, listed, close_paren, field_ref_at, selection_at, cast_type_with, type_at}
+use Rattle.pig_exprs.specs.Reader.{FoundPart, Turn, repeat, listed, close_paren, field_ref_at, selection_at, cast_type_with, type_at}
+use Rattle.pig_value.specs.Results.{◌>>=◌}
 
 -- ---- expressions, by the reader of the expressions inside brackets, with types in casts whose brackets nest less deep than `most`
 

@@ -17,6 +17,7 @@ use Rattle.pig_syntax.specs.declared.trees.PostStep.TheVariants as step
 use Rattle.pig_syntax.specs.declared.trees.TypeTree.{TypeTree}
 use Rattle.pig_syntax.specs.declared.trees.TypeTree.TheVariants as type
 use Rattle.pig_exprs.specs.Grammar.{Forms, part_of, scalar_of}
+use Rattle.pig_value.specs.Results.{◌>>=◌}
 
 -- what is read, and the tokens that are left
 abbrev pub FoundPart : Type 0 → Type 0
@@ -55,10 +56,6 @@ abbrev pub Turns : {A : Type 0} → Turn A → Result (Option (A × Bor (List To
 Turns turn (Ok r) = turn ≡ Some (option_map (λ p. (p.0, forms p.1.now)) r)
 Turns turn (Err fault.Off) = turn ≡ None
 Turns turn (Err fault.OutOfMemory) = Unit {0}
-
-infixl 10 ◌>>=◌
-abbrev pub ◌>>=◌ : {A B : Type 0} → Option A → (A → Option B) → Option B
-o >>= f = option_and_then f o
 
 -- the elements that a turn finds one after the other, behind those that are read, at most so many
 unfoldable pub repeat : {A : Type 0} → (Forms → Turn A) → ℕ → List A → Forms → FoundPart (List A)

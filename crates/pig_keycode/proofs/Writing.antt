@@ -4,7 +4,7 @@ use Rattle.std.proofs.lemmas.List.{append_assoc, drop_more}
 use Rattle.pig_value.specs.Trees.{Tree, row_tree, entries_of}
 use Rattle.pig_value.specs.declared.values.Value.{Value}
 use Rattle.pig_value.specs.declared.operators.Dir.{Dir}
-use Rattle.pig_keycode.specs.Keys.{codes_in}
+use Rattle.pig_keycode.specs.Keys.{codes_in, fields_at}
 use Rattle.pig_keycode.specs.Codes.{escaped, escaped_byte, text_code, code, entries_code}
 use Rattle.pig_keycode.specs.Reading.{HasNoZero}
 use Rattle.pig_value.specs.Extended.{IsExtended}
@@ -89,3 +89,8 @@ pub none_directed : (ds : List Dir) (vs : List Value) → length vs < 1 → code
 none_directed [] vs h = refl
 none_directed (d ∷ ds) [] h = refl
 none_directed (d ∷ ds) (v ∷ vs) h = absurd (omega (arith, h))
+
+pub none_placed : (ds : List Dir) (places : List ℕ) (row : List Tree) → length places < 1 → codes_in ds (fields_at places row) ≡ []
+none_placed [] places row h = refl
+none_placed (d ∷ ds) [] row h = refl
+none_placed (d ∷ ds) (place ∷ places) row h = absurd (omega (arith, h))

@@ -1,8 +1,8 @@
 -- Keys in directions: their code, and the order that it stands for.
-use Rattle.std.specs.Prelude.{◌≡◌, ℕ, List, [], ◌∷◌, ◌++◌, length}
+use Rattle.std.specs.Prelude.{◌≡◌, ℕ, List, [], ◌∷◌, ◌++◌, length, map}
 use Rattle.std.specs.Ordering.{ordering_then}
 use Rattle.std.specs.declared.cmp.Ordering.{Ordering}
-use Rattle.pig_value.specs.Trees.{Tree, v_tuple, fields_of, fields_list}
+use Rattle.pig_value.specs.Trees.{Tree, at, v_tuple, fields_of, fields_list}
 use Rattle.pig_value.specs.Orders.{tree_cmp, dirs_cmp}
 use Rattle.pig_value.specs.Valid.{IsValue}
 use Rattle.pig_value.specs.declared.operators.Dir.{Dir}
@@ -27,6 +27,10 @@ key_cmp (d ∷ ds) a b = ordering_then (dirs_cmp (d ∷ ds) (fields_of_key a) (f
 abbrev pub codes_in : List Dir → List Tree → List ℕ
 codes_in (d ∷ ds) (v ∷ vs) = code_in d v ++ codes_in ds vs
 codes_in _ _ = []
+
+-- the fields of a row at places, null where there is none
+abbrev pub fields_at : List ℕ → List Tree → List Tree
+fields_at places row = map (λ place. at place row) places
 
 -- the code of a key: ascending, or that of its fields in their directions
 abbrev pub key_code : List Dir → Tree → List ℕ

@@ -1,17 +1,17 @@
 ghost use Rattle.std.specs.Prelude.{◌≡◌, ◌≤◌, ◌<◌, ◌^◌, ◌+◌, [], ◌∷◌, ◌++◌, length, take, drop, map, ◌-◌, OnOk, OnErr, IfSome, IfNone};
 ghost use Rattle.std.specs.Int.{w32, w64, to_be_bytes};
 ghost use Rattle.pig_value.specs.Extended.{IsExtended};
-ghost use Rattle.pig_value.specs.Trees.{tree, row_tree, rows_tree, entry_of, fields_of, tuples_of, entries_of};
+ghost use Rattle.pig_value.specs.Trees.{at, tree, row_tree, rows_tree, entry_of, fields_of, tuples_of, entries_of};
 ghost use Rattle.pig_value.specs.declared.operators.Dir.{Dir};
 ghost use Rattle.pig_keycode.specs.Codes.{bool_code, biased, escaped, text_code, code, fields_code, tuples_code, entries_code, turned, in_direction, code_in};
-ghost use Rattle.pig_keycode.specs.Keys.{fields_of_key, key_code, codes_in};
+ghost use Rattle.pig_keycode.specs.Keys.{fields_at, fields_of_key, key_code, codes_in};
 ghost use Rattle.pig_keycode.specs.Reading.{row_code};
 
 use crate::tags::{
     BAG, BOOL, BYTES, CHARS, END, ESCAPED, INT, ITEM, LISTED, LONG, MAP, NULL, TUPLE,
 };
 use crate::zeros::cut_at_zero;
-use pig_value::{Blob, Dir, Dirs, Pairs, Rows, Text, Tuple, Value};
+use pig_value::{Blob, Dir, Dirs, Pairs, Rows, Text, Tuple, Value, field_at};
 use std::alloc::AllocError;
 
 /// Appends the code of a value in a direction. Where memory is wanting, `out` stays as it was.
@@ -65,6 +65,28 @@ pub fn encode_key(key: &Value, dirs: &Dirs, out: &mut Vec<u8>) -> Result<(), All
     }
 }
 
+/// Appends the code of the key that a row's fields at places are, each in its own direction, as [`encode_key`] has it of
+/// their tuple. A place behind the row's end has a null. Where memory is wanting, `out` stays as it was.
+pub fn encode_places(
+    row: &Tuple,
+    places: &[u32],
+    dirs: &Dirs,
+    out: &mut Vec<u8>,
+) -> Result<(), AllocError>
+    ensures ok { OnOk result (out.new.items ≡ out.old.items
+        ++ codes_in dirs.now (fields_at places.now (row_tree row.now))) }
+    ensures err { OnErr result (out.new.items ≡ out.old.items) }
+{
+    let start = out.len();
+    match write_places(row, places, dirs.as_slice(), out) {
+        Ok(()) => Ok(()),
+        Err(fault) => {
+            out.truncate(start);
+            Err(fault)
+        }
+    }
+}
+
 fn write_key(key: &Value, dirs: &[Dir], out: &mut Vec<u8>) -> Result<(), AllocError>
     ensures ok { OnOk result (out.new.items ≡ out.old.items ++ key_code dirs.now (tree key.now)) }
     ensures grows { IsExtended out.old.items out.new.items }
@@ -109,6 +131,40 @@ fn write_in(dir: Dir, value: &Value, out: &mut Vec<u8>) -> Result<(), AllocError
     ensures grows { IsExtended out.old.items out.new.items }
 {
     encode(value, dir, out)
+}
+
+// Appends the codes of a row's fields at places, each in its own direction.
+fn write_places(
+    row: &Tuple,
+    places: &[u32],
+    dirs: &[Dir],
+    out: &mut Vec<u8>,
+) -> Result<(), AllocError>
+    ensures ok { OnOk result (out.new.items ≡ out.old.items
+        ++ codes_in dirs.now (fields_at places.now (row_tree row.now))) }
+    ensures grows { IsExtended out.old.items out.new.items }
+{
+    let mut left = places;
+    for dir in dirs {
+        match left {
+            [place, others @ ..] => {
+                write_place(row, *place, *dir, out)?;
+                left = others;
+            }
+            [] => return Ok(()),
+        }
+    }
+    Ok(())
+}
+
+fn write_place(row: &Tuple, place: u32, dir: Dir, out: &mut Vec<u8>) -> Result<(), AllocError>
+    ensures ok { OnOk result (out.new.items ≡ out.old.items ++ code_in dir (at place (row_tree row.now))) }
+    ensures grows { IsExtended out.old.items out.new.items }
+{
+    match field_at(row, place) {
+        Some(value) => write_in(dir, value, out),
+        None => write_in(dir, &Value::Null, out),
+    }
 }
 
 // Appends the ascending code of a value.

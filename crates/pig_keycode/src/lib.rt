@@ -15,5 +15,5 @@ mod tags;
 mod zeros;
 
 pub use decoding::{decode, decode_row, read_code};
-pub use encoding::{encode, encode_key, encode_row};
+pub use encoding::{encode, encode_key, encode_places, encode_row};
 pub use laws::code_laws;

@@ -1,7 +1,7 @@
 //! pig_keycode: values by hand, in ascending order, against their codes, which are written out from the table. Where
 //! memory is wanting the process ends: that drops nothing, so its proof is short.
 // Trees end by `drop`: one call is cheap to prove, and a tree that dies by name is taken apart variant by variant.
-use pig_keycode::{decode, decode_row, encode, encode_key, encode_row, read_code};
+use pig_keycode::{decode, decode_row, encode, encode_key, encode_places, encode_row, read_code};
 use pig_value::{Blob, Dir, Dirs, Pair, Pairs, Rows, Seq, Text, Tuple, Value, same};
 use std::alloc::Global;
 use std::process::Abort;
@@ -400,4 +400,28 @@ fn keys_are_written_in_directions(rt: HostRuntime) {
         is_key(&rt, rt.alloc(), &fields, &dirs, mixed),
         "descending, then ascending"
     );
+}
+
+// Whether the fields of a row of booleans at two places have these bytes, the first descending, the second ascending.
+fn is_key_at<R: Abort>(
+    rt: &R,
+    alloc: Global,
+    fields: &[bool],
+    places: &[u32],
+    expected: &[u8],
+) -> bool {
+    let row = booleans(rt, alloc, fields);
+    let dirs = two_dirs(rt, alloc);
+    let mut bytes = Vec::new(alloc);
+    encode_places(&row, places, &dirs, &mut bytes).expect(rt, "memory");
+    drop(row);
+    bytes.as_slice() == expected
+}
+
+#[test]
+fn keys_are_written_from_rows(rt: HostRuntime) {
+    let fields = [false, true];
+    assert!(rt; is_key_at(&rt, rt.alloc(), &fields, &[1, 0], b"\xfe\xfe\x01\x00"));
+    assert!(rt; is_key_at(&rt, rt.alloc(), &fields, &[1, 1], b"\xfe\xfe\x01\x01"));
+    assert!(rt; is_key_at(&rt, rt.alloc(), &fields, &[7, 1], b"\xff\x01\x01"));
 }

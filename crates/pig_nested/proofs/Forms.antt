@@ -6,7 +6,7 @@ use Rattle.std.proofs.Common.{ap, sym, ◌∙◌, arith, inl, inr}
 use Rattle.std.proofs.lemmas.Bool.{cases_lt}
 use Rattle.std.specs.List.{take-map}
 use Rattle.std.proofs.lemmas.List.{take_all}
-use Rattle.pig_value.specs.Trees.{at, or_null, row_tree, rows_in, rows_tree, Tree, tree, tuples_list, tuples_of, v_bag, v_listed, v_null}
+use Rattle.pig_value.specs.Trees.{at, or_null, row_tree, rows_of_bag, rows_tree, Tree, tree, tuples_list, tuples_of, v_bag, v_listed, v_null}
 use Rattle.pig_value.specs.declared.values.Value.{Value}
 use Rattle.pig_value.specs.declared.values.Value.TheVariants as value
 use Rattle.pig_value.proofs.list_laws.Listing.{some_same}
@@ -36,18 +36,18 @@ flattened_listed width rows = ap (flattened width) (tree-Listed rows) ∙ tuples
 
 -- ---- of the rows that a value holds, and where it holds none
 
-pub from_found : (make : List (List Tree) → Tree) (v : Tree) (rows : List (List Tree)) → rows_in v ≡ Some rows → from_rows make v ≡ make rows
+pub from_found : (make : List (List Tree) → Tree) (v : Tree) (rows : List (List Tree)) → rows_of_bag v ≡ Some rows → from_rows make v ≡ make rows
 from_found make (v_bag rs) rows is = ap make (some_same (tuples_list rs) rows is)
 from_found make (v_listed rs) rows is = ap make (some_same (tuples_list rs) rows is)
 from_found make v_null rows is = absurd (cc)
 from_found make v rows is = absurd (cc)
 
-pub from_none : (make : List (List Tree) → Tree) (v : Tree) → rows_in v ≡ None → from_rows make v ≡ v_null
+pub from_none : (make : List (List Tree) → Tree) (v : Tree) → rows_of_bag v ≡ None → from_rows make v ≡ v_null
 from_none make (v_bag rs) is = absurd (cc)
 from_none make (v_listed rs) is = absurd (cc)
 from_none make v is = refl
 
-pub flattened_found : (width : ℕ) (v : Tree) (rows : List (List Tree)) → rows_in v ≡ Some rows → flattened width v ≡ rows
+pub flattened_found : (width : ℕ) (v : Tree) (rows : List (List Tree)) → rows_of_bag v ≡ Some rows → flattened width v ≡ rows
 flattened_found width (v_bag rs) rows is = some_same (tuples_list rs) rows is
 flattened_found width (v_listed rs) rows is = some_same (tuples_list rs) rows is
 flattened_found width v_null rows is = absurd (cc)

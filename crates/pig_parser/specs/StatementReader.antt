@@ -34,8 +34,9 @@ use Rattle.pig_exprs.specs.declared.reading.ParseFault.{ParseFault}
 use Rattle.pig_exprs.specs.declared.reading.ParseFault.TheVariants as fault
 use Rattle.pig_exprs.specs.Grammar.{Forms}
 use Rattle.pig_parser.specs.Statements.{count_of, side_of, is_unsupported_word}
-use Rattle.pig_exprs.specs.Reader.{FoundPart, Turn, ◌>>=◌, repeat, listed, close_paren, field_ref_at, selection_at, field_at, schema_at, type_at}
+use Rattle.pig_exprs.specs.Reader.{FoundPart, Turn, repeat, listed, close_paren, field_ref_at, selection_at, field_at, schema_at, type_at}
 use Rattle.pig_exprs.specs.ExprReader.{expr_at}
+use Rattle.pig_value.specs.Results.{◌>>=◌}
 
 -- the code gives what is found
 abbrev pub GivesFound : {A : Type 0} → Option A → Result A ParseFault → Type 0

@@ -10,10 +10,11 @@ use Rattle.pig_value.specs.Kinds.{has_bag_or_map, kind_eq, kinds_eq}
 use Rattle.pig_value.specs.Trees.{KindTree, k_boolean, k_long, k_chars, k_tuple, k_bag, kinds_of, kind_tree}
 use Rattle.pig_typed.specs.declared.blocks.SortKey.{SortKey}
 use Rattle.pig_typed.specs.BlockKinds.{are_keys, row_kinds}
-use Rattle.pig_typed.specs.ExprKinds.{expr_kind, ◌>>=◌}
+use Rattle.pig_typed.specs.ExprKinds.{expr_kind}
 use Rattle.pig_typed.specs.Typed.{Typed, TypedBlock}
 use Rattle.pig_plan.specs.Plans.{Keyed, Plan, PlanNode, PlanOp, p_load, p_filter, p_foreach, p_group_all, p_group, p_join, p_union, p_distinct, p_order, p_limit, p_store, p_assert, p_rank}
 use Rattle.pig_plan.specs.Results.{result_at, results}
+use Rattle.pig_value.specs.Results.{◌>>=◌}
 
 -- the kinds of a row's fields, and those of the rows of the nodes before, where they are relations
 abbrev pub RowKinds : Type 0

@@ -14,7 +14,7 @@ use crate::aliases::{Relation, Relations};
 use crate::together::{all_together, of_kinds, widened, widens};
 use pig_schema::{Field, Schema};
 use pig_typed::{Block, BlockItem, BlockItems, TExpr};
-use pig_typing::{CheckKind, TypeFault};
+use pig_typing::{CheckKind, TypeFault, narrow};
 use pig_value::{Kind, Kinds, Seq, Text};
 use std::alloc::{AllocError, Global};
 
@@ -277,14 +277,4 @@ fn widened_field(
         flatten: false,
         width: 1,
     })
-}
-
-// No list in memory has more places than a u32 counts.
-fn narrow(place: usize) -> Result<u32, TypeFault>
-    ensures { Tells (λ n. n) (Ok place) result }
-{
-    match u32::try_from(place) {
-        Ok(place) => Ok(place),
-        Err(_) => Err(TypeFault::OutOfMemory),
-    }
 }

@@ -1,5 +1,5 @@
 -- The lines that start in a range stand between two starts of lines.
-use Rattle.std.proofs.Common.{◌≡◌, ◌+◌, ◌-◌, ◌<◌, ◌≤◌, ◌×◌, ℕ, zero, suc, min, inl, inr, Bool, true, false, not, cond, List, [], ◌∷◌, length, map, take, drop, refl, sym, ◌∙◌, ap, subst, arith}
+use Rattle.std.proofs.Common.{◌≡◌, ◌+◌, ◌-◌, ◌<◌, ◌≤◌, ℕ, zero, suc, min, inl, inr, Bool, true, false, not, cond, List, [], ◌∷◌, length, map, take, drop, refl, sym, ◌∙◌, ap, subst, arith}
 use Rattle.std.specs.List.{filter, position_or_len, prefix_len, slice_range}
 use Rattle.std.specs.Str.Lines.{strip_carriage_return}
 use Rattle.std.proofs.Math.Seq.{drop-nil}
@@ -109,11 +109,11 @@ here bs at from to some low high later =
     let zero_is : from - at ≡ 0 = omega (arith, low) in
     let end : first_start bs (to - at) ≡ min (n + 1 + m) (length bs) = start_behind bs (to - at) (omega (arith, high)) in
     let left : within from to at (stored_lines bs) ≡ line.1 ∷ within from to next (stored_lines rest) =
-        ap (λ ps. within from to at ps) (first_stored bs n refl some)
-        ∙ ap (map (λ (l : ℕ × List ℕ). l.1)) (kept (starts_within from to) line (lines_from next (stored_lines rest)) (inside from to at line.1 low high)) in
+    ap (λ ps. within from to at ps) (first_stored bs n refl some)
+    ∙ ap (map (λ (l : ℕ × List ℕ). l.1)) (kept (starts_within from to) line (lines_from next (stored_lines rest)) (inside from to at line.1 low high)) in
     let right : between bs (from - at) (to - at) ≡ line.1 ∷ lines (take m rest) =
-        (λ i. lines (slice_range bs (first_start bs (zero_is i)) (end i)))
-        ∙ (ap lines (take_min (n + 1 + m) bs) ∙ lines_cut bs m some) in
+    (λ i. lines (slice_range bs (first_start bs (zero_is i)) (end i)))
+    ∙ (ap lines (take_min (n + 1 + m) bs) ∙ lines_cut bs m some) in
     left ∙ ap (λ more. line.1 ∷ more) later ∙ sym right
 
 -- the first line starts before the range: all are in the rest
@@ -135,22 +135,22 @@ ahead bs at from to some early h later =
     let a_in = start_within rest (from - at - (n + 1)) in
     let b_in = start_within rest (to - at - (n + 1)) in
     let left : within from to at (stored_lines bs) ≡ within from to next (stored_lines rest) =
-        ap (λ ps. within from to at ps) (first_stored bs n refl some)
-        ∙ ap (map (λ (l : ℕ × List ℕ). l.1)) (left_out (starts_within from to) line (lines_from next (stored_lines rest)) (too_early from to at line.1 early)) in
+    ap (λ ps. within from to at ps) (first_stored bs n refl some)
+    ∙ ap (map (λ (l : ℕ × List ℕ). l.1)) (left_out (starts_within from to) line (lines_from next (stored_lines rest)) (too_early from to at line.1 early)) in
     let right : slice_range bs (first_start bs (from - at)) (first_start bs (to - at)) ≡ slice_range rest a b =
-        elim (cases_lt n (length bs)) [
-          | inl ends ↦
-              let from_is : first_start bs (from - at) ≡ n + 1 + a = omega (arith, begin, size, a_in, ends) in
-              let to_is : first_start bs (to - at) ≡ n + 1 + b = omega (arith, end, size, b_in, ends) in
-              let width : n + 1 + b - (n + 1 + a) ≡ b - a = omega arith in
-              (λ i. slice_range bs (from_is i) (to_is i)) ∙ (λ i. take (width i) (sym (drop-drop a (n + 1) bs) i))
-          | inr past ↦
-              let from_is : first_start bs (from - at) ≡ length bs = omega (arith, begin, past) in
-              let to_is : first_start bs (to - at) ≡ length bs = omega (arith, end, past) in
-              let none : length bs - length bs ≡ 0 = omega arith in
-              let no_width : b - a ≡ 0 = omega (arith, b_in, size, past) in
-              (λ i. slice_range bs (from_is i) (to_is i)) ∙ (λ i. take (none i) (drop (length bs) bs)) ∙ sym (λ i. take (no_width i) (drop a rest))
-        ] in
+    elim (cases_lt n (length bs)) [
+      | inl ends ↦
+          let from_is : first_start bs (from - at) ≡ n + 1 + a = omega (arith, begin, size, a_in, ends) in
+          let to_is : first_start bs (to - at) ≡ n + 1 + b = omega (arith, end, size, b_in, ends) in
+          let width : n + 1 + b - (n + 1 + a) ≡ b - a = omega arith in
+          (λ i. slice_range bs (from_is i) (to_is i)) ∙ (λ i. take (width i) (sym (drop-drop a (n + 1) bs) i))
+      | inr past ↦
+          let from_is : first_start bs (from - at) ≡ length bs = omega (arith, begin, past) in
+          let to_is : first_start bs (to - at) ≡ length bs = omega (arith, end, past) in
+          let none : length bs - length bs ≡ 0 = omega arith in
+          let no_width : b - a ≡ 0 = omega (arith, b_in, size, past) in
+          (λ i. slice_range bs (from_is i) (to_is i)) ∙ (λ i. take (none i) (drop (length bs) bs)) ∙ sym (λ i. take (no_width i) (drop a rest))
+    ] in
     left ∙ later ∙ sym (ap lines right)
 
 within_none : (from to at : ℕ) → within from to at (stored_lines []) ≡ []

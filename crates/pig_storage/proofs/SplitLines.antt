@@ -1,7 +1,7 @@
 -- The lines of a piece, split by split.
-use Rattle.std.proofs.Common.{◌≡◌, ◌+◌, ◌-◌, ◌*◌, ◌/◌, ◌<◌, ◌≤◌, ◌×◌, ◌++◌, ℕ, zero, suc, min, max, inl, inr, List, [], ◌∷◌, length, map, refl, sym, ◌∙◌, ap, subst, arith}
+use Rattle.std.proofs.Common.{◌≡◌, ◌+◌, ◌-◌, ◌*◌, ◌/◌, ◌%◌, ◌<◌, ◌≤◌, ◌++◌, ℕ, zero, suc, min, max, inl, inr, List, [], ◌∷◌, length, map, refl, sym, ◌∙◌, ap, subst, arith}
 use Rattle.std.specs.List.{flat_map, range_with_len, AllByRecursion}
-use Rattle.std.proofs.Math.Nat.{add-mul, suc-mul}
+use Rattle.std.proofs.Math.Nat.{add-mul, mod-lt, suc-mul}
 use Rattle.std.proofs.lemmas.Nat.{div-add-mod'}
 use Rattle.std.proofs.lemmas.Bool.{cases_lt}
 use Rattle.std.proofs.lemmas.List.{append-nil, length-append}
@@ -54,7 +54,7 @@ module _ (split piece : ℕ) (bytes : List ℕ) where
       let q : ℕ = (size + split - 1) / split in
       let r : ℕ = (size + split - 1) % split in
       let cut : q * split + r ≡ size + split - 1 = div-add-mod' (size + split - 1) split in
-      let less : r < split = mod-lt (size + split - 1) split some in
+      let less : r < split = mod-lt (size + split - 1) some in
       elim (cases_lt 0 q) [
         | inl many ↦
             let n : split_count split size ≡ q = omega (arith, many) in

@@ -19,10 +19,11 @@ mod rows;
 mod splits;
 
 pub use laws::{
-    lines_of_ranges_stand_between, lines_of_splits_are_all, lines_start_in_ranges, plain_rows_read_back, rows_are_of_their_kinds,
-    rows_of_lines_are_line_free, texts_of_rows_are_lines,
+    lines_of_ranges_stand_between, lines_of_splits_are_all, lines_start_in_ranges,
+    plain_rows_read_back, rows_are_of_their_kinds, rows_of_lines_are_line_free,
+    texts_of_rows_are_lines,
 };
 pub use lines::{Span, next_line};
 pub use pig_text::write_row;
-pub use rows::line_row;
+pub use rows::{line_row, line_row_over};
 pub use splits::{Split, Splits};

@@ -1,4 +1,4 @@
-ghost use Rattle.std.specs.Prelude.{◌≡◌, ◌<◌, ◌≤◌, length, drop, slice_get, IfOk};
+ghost use Rattle.std.specs.Prelude.{◌≡◌, ◌<◌, ◌≤◌, length, drop, slice_get, IfOk, OnOk};
 ghost use Rattle.std.specs.Option.{option_copied, option_map_or};
 ghost use Rattle.pig_value.specs.FieldReader.{field_value};
 ghost use Rattle.pig_value.specs.FieldRows.{pieces, row_of};
@@ -6,7 +6,7 @@ ghost use Rattle.pig_value.specs.Trees.{tree, row_tree, kind_tree, v_null};
 ghost use Rattle.pig_storage.specs.Pieces.{IsPiece};
 
 use crate::places::place_of;
-use pig_cast::read_field;
+use pig_cast::{read_field, read_field_over};
 use pig_value::{Column, Columns, Delim, Kind, Seq, Tuple, Value};
 use std::alloc::{AllocError, Global};
 
@@ -23,6 +23,48 @@ pub fn line_row(
 {
     let row = read_columns(alloc, line, delim.byte(), columns.as_slice())?;
     Ok(Seq::from_vec(row))
+}
+
+/// The row of a line, as [`line_row`] has it, in the place of another row. Texts take the memory of those that stood at
+/// their column, so that rows of many lines want memory for the first ones alone. Where memory is wanting, the row is
+/// left with other fields.
+pub fn line_row_over(
+    alloc: Global,
+    line: &[u8],
+    delim: Delim,
+    columns: &Columns,
+    row: &mut Tuple,
+) -> Result<(), AllocError>
+    ensures { OnOk result (row_tree row.new ≡ row_of columns.now delim line.now) }
+{
+    if row.len() != columns.len() {
+        *row = line_row(alloc, line, delim, columns)?;
+        return Ok(());
+    }
+    read_over(alloc, line, delim.byte(), columns.as_slice(), row)
+}
+
+// The values of the columns, each in the place of the one that stood there.
+fn read_over(
+    alloc: Global,
+    line: &[u8],
+    byte: u8,
+    columns: &[Column],
+    row: &mut Tuple,
+) -> Result<(), AllocError>
+    requires { length row.now ≡ length columns.now }
+    ensures { OnOk result (row_tree row.new ≡ row_of columns.now byte line.now) }
+{
+    let mut piece = piece_from(line, byte, 0, 0);
+    for at in 0..columns.len() {
+        let column = &columns[at];
+        piece = piece_towards(line, byte, piece, column.position);
+        let bytes = bytes_at(line, byte, piece, column.position);
+        let old = row.replace(at, Value::Null);
+        let value = field_over(alloc, bytes, &column.kind, old)?;
+        drop(row.replace(at, value));
+    }
+    Ok(())
 }
 
 // The values of the columns, in one pass over the line where their positions ascend.
@@ -121,4 +163,21 @@ fn field_or_null(alloc: Global, bytes: Option<&[u8]>, kind: &Kind) -> Result<Val
         }
         None => Ok(Value::Null),
     }
+}
+
+// The same, in the place of another value.
+fn field_over(
+    alloc: Global,
+    bytes: Option<&[u8]>,
+    kind: &Kind,
+    old: Value,
+) -> Result<Value, AllocError>
+    ensures { IfOk result (λ v. tree v ≡ option_map_or (field_value (kind_tree kind.now))
+        (option_copied bytes.entry) v_null) }
+{
+    let Some(bytes) = bytes else {
+        return Ok(Value::Null);
+    };
+    let value = read_field_over(alloc, bytes, kind, old)?;
+    Ok(value)
 }

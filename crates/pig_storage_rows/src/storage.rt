@@ -1,6 +1,6 @@
 //! Lines and rows by hand: where the lines of an input stand, and what is stored for it. Where memory is wanting the
 //! process ends: that drops nothing, so its proof is short.
-use pig_storage::{Span, line_row, next_line, write_row};
+use pig_storage::{Span, line_row, line_row_over, next_line, write_row};
 use pig_value::{Boxed, Column, Columns, Delim, Kind, Kinds, Seq};
 use std::alloc::{AllocError, Global};
 use std::process::Abort;
@@ -76,6 +76,24 @@ fn stored(
     Ok(out)
 }
 
+// The rows of an input at these columns, as they are stored, each read over the one before it.
+fn stored_over(
+    alloc: Global,
+    input: &[u8],
+    delim: Delim,
+    columns: &Columns,
+) -> Result<Vec<u8>, AllocError> {
+    let mut out = Vec::new(alloc);
+    let mut row = Seq::new(alloc);
+    let mut from = 0;
+    while let Some(span) = next_line(input, from) {
+        line_row_over(alloc, &input[from..span.to], delim, columns, &mut row)?;
+        write_row(&row, delim, &mut out)?;
+        from = span.next;
+    }
+    Ok(out)
+}
+
 // Whether a line has its first byte, the one behind its last, and the one behind its LF at these places.
 fn is_line(input: &[u8], from: usize, to: usize, next: usize) -> bool {
     from <= input.len() && next_line(input, from) == Some(Span { from, to, next })
@@ -117,7 +135,8 @@ fn stores<R: Abort>(
     let columns = columns(rt, alloc, wanted);
     let delim = delimiter(rt, delim);
     let out = stored(alloc, input, delim, &columns).expect(rt, "memory");
-    out.as_slice() == expected
+    let over = stored_over(alloc, input, delim, &columns).expect(rt, "memory");
+    out.as_slice() == expected && over.as_slice() == expected
 }
 
 #[test]
@@ -240,4 +259,24 @@ fn reads_a_line_of_a_million_fields(rt: HostRuntime) {
     let wanted = "C:1000000 C:999999 C:0 C:999999";
     let out = line_stored(&rt, rt.alloc(), line.as_slice(), wanted);
     assert!(rt; out.as_slice() == b"\tend\t\tend\n".as_slice());
+}
+
+// A text is read over a longer one, a shorter one and a null; bytes are over bytes; a number is over a number.
+#[test]
+fn reads_rows_over_others(rt: HostRuntime) {
+    let alloc = rt.alloc();
+    let lines = b"abc\t\xff\xfe\t7\nx\t\t\n\tz\t8\nlonger than all\tmore bytes\t9\n";
+    let read = b"abc\t\xff\xfe\t7\nx\t\t\n\tz\t8\nlonger than all\tmore bytes\t9\n";
+    assert!(rt; stores(&rt, alloc, lines, "\t", "C:0 Y:1 I:2", read));
+    let short = b"a\tb\n\nc\n\xff\td\n";
+    assert!(rt;
+        stores(
+            &rt,
+            alloc,
+            short,
+            "\t",
+            "C:1 C:0",
+            b"b\ta\n\t\n\tc\nd\t\xef\xbf\xbd\n"
+        )
+    );
 }

@@ -11,14 +11,11 @@ use Rattle.pig_syntax.specs.declared.tokens.TokenForm.{TokenForm}
 use Rattle.pig_syntax.specs.declared.tokens.TokenForm.TheVariants as f
 use Rattle.pig_syntax.specs.declared.scanning.TextUnit.{TextUnit}
 use Rattle.pig_syntax.specs.declared.scanning.TextUnit.TheVariants as u
+use Rattle.pig_value.specs.Results.{◌>>=◌}
 
 -- what is read, and the bytes that are left
 abbrev pub Found : Type 0 → Type 0
 Found A = Option (A × List ℕ)
-
-infixl 10 ◌>>=◌
-abbrev pub ◌>>=◌ : {A B : Type 0} → Option A → (A → Option B) → Option B
-o >>= f = option_and_then f o
 
 -- the bytes from the front on that pass
 unfoldable pub run : (ℕ → Bool) → List ℕ → List ℕ

@@ -79,7 +79,7 @@ pub enum Keyword {
 }
 
 // The keywords, each with its name.
-pub const KEYWORDS: [(&[u8], Keyword); 73] = [
+pub static KEYWORDS: [(&[u8], Keyword); 73] = [
     (b"ALL", Keyword::All),
     (b"AND", Keyword::And),
     (b"AS", Keyword::As),
@@ -211,7 +211,7 @@ pub enum Symbol {
 }
 
 // The symbols, each with its text.
-pub const SYMBOLS: [(&[u8], Symbol); 25] = [
+pub static SYMBOLS: [(&[u8], Symbol); 25] = [
     (b";", Symbol::Semicolon),
     (b",", Symbol::Comma),
     (b"(", Symbol::OpenParen),

@@ -6,8 +6,9 @@ use Rattle.std.specs.Option.{option_map, option_map_or}
 use Rattle.pig_value.specs.Kinds.{has_bag_or_map}
 use Rattle.pig_value.specs.Trees.{KindTree, bag_kinds, k_boolean, k_tuple, k_bag, k_map, kinds_list, kinds_of}
 use Rattle.pig_typed.specs.declared.blocks.SortKey.{SortKey}
-use Rattle.pig_typed.specs.ExprKinds.{◌>>=◌, expr_kind}
+use Rattle.pig_typed.specs.ExprKinds.{expr_kind}
 use Rattle.pig_typed.specs.Typed.{Typed, TypedStep, TypedItem, TypedBlock, s_filter, s_order, s_limit, s_distinct, s_take}
+use Rattle.pig_value.specs.Results.{◌>>=◌}
 
 -- whether rows may be sorted by the field at a position
 abbrev pub is_key : List KindTree → ℕ → Bool

@@ -200,7 +200,7 @@ fn flattened(alloc: Global, kind: Kind) -> Result<Option<Kinds>, AllocError>
 {
     match kind.into_kinds() {
         Ok(kinds) => Ok(Some(kinds)),
-        Err(Kind::Map(_)) => Ok(None),
+        Err(Kind::Map(..)) => Ok(None),
         Err(scalar) => Ok(Some(single(alloc, scalar)?)),
     }
 }

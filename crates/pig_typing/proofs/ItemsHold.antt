@@ -10,7 +10,7 @@ use Rattle.pig_syntax.specs.ExprTrees.{ExprForm, ExprForms, expr_form}
 use Rattle.pig_syntax.specs.declared.trees.AsNames.{AsNames}
 use Rattle.pig_syntax.specs.declared.trees.Item.{Item}
 use Rattle.pig_typed.specs.BlockKinds.{flattened_kinds, item_kinds, items_kinds, of_width}
-use Rattle.pig_typed.specs.ExprKinds.{◌>>=◌, expr_kind}
+use Rattle.pig_typed.specs.ExprKinds.{expr_kind}
 use Rattle.pig_typed.specs.Typed.{Typed, TypedItem, x_cast}
 use Rattle.pig_typing.specs.Calls.{fields_from}
 use Rattle.pig_typing.specs.Columns.{AreColumns, IsPlace, Place, locals_of, place_row}
@@ -21,6 +21,7 @@ use Rattle.pig_typing.specs.Written.{with_name}
 use Rattle.pig_typing.proofs.Inside.{inner_all, inner_kinds, written_field_is}
 use Rattle.pig_typing.proofs.Joined.{cast_kind_of, condition_holds}
 use Rattle.pig_typing.proofs.KindsHold.{Holds, holds}
+use Rattle.pig_value.specs.Results.{◌>>=◌}
 
 -- items have the kinds of the columns that they give, and inside these is what is of them
 pub record ItemsHold (s : Place) (g : Generated) : Type 0 where

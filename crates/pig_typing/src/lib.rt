@@ -32,7 +32,7 @@ pub use laws::{
     typings_have_their_kinds, typings_write_no_line_end,
 };
 pub use limits::{row_within_limits, within_limits};
-pub use names::refer;
+pub use names::{narrow, refer};
 pub use referring::{type_reference, type_step};
 pub use scope::{Local, Locals, Scope};
 pub use written::{written_schema, written_type};

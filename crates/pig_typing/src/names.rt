@@ -53,7 +53,7 @@ fn lent<'a>(alloc: Global, place: usize, column: &'a Field) -> Result<Typing<'a>
     Ok(Typing { expr, column })
 }
 
-// No list in memory has more places than a u32 counts.
+/// A place as a u32. No list in memory has more places than that counts, so a greater one is answered as want of memory.
 pub fn narrow(place: usize) -> Result<u32, TypeFault>
     ensures { Tells (λ n. n) (Ok place) result }
 {

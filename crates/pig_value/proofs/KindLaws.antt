@@ -1,11 +1,11 @@
 -- The test of being of a kind decides it, and that on kinds decides whether they are the same.
-use Rattle.std.specs.Prelude.{◌≡◌, ◌++◌, ℕ, zero, suc, length, take, replicate, slice_get, Some, Bool, true, false, ◌&&◌, List, [], ◌∷◌, refl}
+use Rattle.std.specs.Prelude.{◌≡◌, ◌++◌, ℕ, length, take, replicate, Bool, true, false, ◌&&◌, List, [], ◌∷◌, refl}
 use Rattle.std.proofs.Common.{ap, subst, ◌∙◌, pos}
 use Rattle.pig_value.specs.Trees.{Tree, Fields, Tuples, Entries, v_null, v_bool, v_int, v_long, v_chars, v_bytes, v_tuple, v_bag, v_listed, v_map, no_fields, more_fields, no_tuples, more_tuples, no_entries, more_entries, KindTree, KindTrees, k_boolean, k_int, k_long, k_chars, k_bytes, k_tuple, k_bag, k_map, no_kinds, more_kinds}
 use Rattle.std.specs.List.{filter, AllByRecursion}
 use Rattle.pig_value.proofs.list_laws.Bags.{each-sort}
 use Rattle.pig_value.specs.Casts.{CanCast, CastsTo, may_cast}
-use Rattle.pig_value.proofs.list_laws.Listing.{each-append, each-filter, each-take, some_same}
+use Rattle.pig_value.proofs.list_laws.Listing.{each-append, each-filter, each-take}
 use Rattle.pig_value.specs.Orders.{row_cmp, bag_of}
 use Rattle.pig_value.specs.Kinds.{IsRowOf, AreRowsOf, IsOf, FieldsOf, TuplesOf, EntriesOf, is_of_kind, fields_of_kinds, tuples_of_kinds, entries_of_kind, kind_eq, kinds_eq}
 

@@ -1,14 +1,13 @@
 -- What is asked of the leaves of values, through the lists that operators make of them.
-use Rattle.std.specs.Prelude.{◌≡◌, ◌<◌, ℕ, zero, suc, Bool, List, [], ◌∷◌, ◌++◌, take, drop, slice_get, Some}
+use Rattle.std.specs.Prelude.{◌<◌, ℕ, suc, Bool, List, [], ◌∷◌, take}
 use Rattle.std.proofs.Common.{get_or}
 use Rattle.std.specs.List.{filter, AllByRecursion}
-use Rattle.std.proofs.Math.ListN.{replicate}
 use Rattle.pig_value.specs.Leaves.{AreBytes, Leaf, LeavesAre, FieldLeavesAre, TupleLeavesAre, EntryLeavesAre, well_formed}
 use Rattle.pig_value.specs.Orders.{row_cmp, bag_of}
 use Rattle.pig_value.specs.Trees.{Tree, Fields, Tuples, Entries, v_null, v_bool, v_int, v_long, v_chars, v_bytes, v_tuple, v_bag, v_listed, v_map, no_fields, more_fields, no_tuples, more_tuples, no_entries, more_entries, fields_of, tuples_of, entries_of}
 use Rattle.pig_value.specs.Valid.{IsValue, AreFields, AreTuples, AreEntries}
 use Rattle.pig_value.proofs.list_laws.Bags.{each-sort}
-use Rattle.pig_value.proofs.list_laws.Listing.{each-append, each-filter, each-take, each-drop, each_at}
+use Rattle.pig_value.proofs.list_laws.Listing.{each-filter, each-take}
 
 -- a row, rows and the pairs of a map whose leaves are as asked
 abbrev pub RowLeavesAre : Leaf → List Tree → Type 0

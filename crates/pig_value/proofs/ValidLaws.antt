@@ -1,8 +1,8 @@
 -- Rows of values stay so when they are sorted, and their bag is a value.
-use Rattle.std.specs.Prelude.{List, [], ◌∷◌, ◌≡◌, ◌++◌, ℕ, zero, suc, Bool, take, slice_get, Some, replicate}
+use Rattle.std.specs.Prelude.{List, [], ◌∷◌, ◌≡◌, ◌++◌, ℕ, Bool, take, slice_get, Some}
 use Rattle.std.proofs.Common.{ap, sym, ◌∙◌, subst}
 use Rattle.std.specs.List.{AllByRecursion, filter}
-use Rattle.pig_value.specs.Trees.{Tree, v_bag, tuples_of, v_null}
+use Rattle.pig_value.specs.Trees.{Tree, v_bag, tuples_of}
 use Rattle.pig_value.proofs.TreeLaws.{tuples_back}
 use Rattle.pig_value.proofs.list_laws.Bags.{each-sort, bag_once, sorted_is, sort_ascends, take_ascends, filter_ascends}
 use Rattle.pig_value.proofs.list_laws.Listing.{each-append, each-filter, each-take, each_at}

@@ -96,10 +96,10 @@ abbrev pub rows_tree : List (List Value) → List (List Tree)
 rows_tree = map (map tree)
 
 -- the rows of a bag or of a listed bag
-abbrev pub rows_in : Tree → Option (List (List Tree))
-rows_in (v_bag rows) = Some (tuples_list rows)
-rows_in (v_listed rows) = Some (tuples_list rows)
-rows_in v = None
+abbrev pub rows_of_bag : Tree → Option (List (List Tree))
+rows_of_bag (v_bag rows) = Some (tuples_list rows)
+rows_of_bag (v_listed rows) = Some (tuples_list rows)
+rows_of_bag v = None
 
 -- the field of a row at a place: null where there is none
 abbrev pub or_null : Option Tree → Tree

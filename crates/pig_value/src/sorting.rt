@@ -57,7 +57,7 @@ fn number_front(number: i64) -> u64 {
     number.cast_unsigned() ^ (1 << 63)
 }
 
-// The first eight bytes as a number; of a shorter text the first four, two or one.
+// The first eight bytes as a number; of four to seven bytes the first four, of two or three the first two.
 fn text_front(text: &[u8]) -> u64 {
     match text {
         [a, b, c, d, e, f, g, h, ..] => u64::from_be_bytes([*a, *b, *c, *d, *e, *f, *g, *h]),

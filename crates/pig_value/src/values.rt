@@ -1,5 +1,5 @@
 ghost use Rattle.std.specs.Prelude.{◌≡◌, ℕ, List, Some, None, map, option_map, IfOk, IfErr, MatchOption};
-ghost use Rattle.pig_value.specs.Trees.{Tree, at, bag_kinds, field_tree, fields_of, kind_tree, kinds_in, look_kind, row_tree, rows_in, rows_tree, tree, v_bytes, v_chars, v_tuple};
+ghost use Rattle.pig_value.specs.Trees.{Tree, at, bag_kinds, field_tree, fields_of, kind_tree, kinds_in, look_kind, row_tree, rows_of_bag, rows_tree, tree, v_bytes, v_chars, v_tuple};
 
 use crate::{Blob, Boxed, Seq, Text};
 
@@ -116,9 +116,9 @@ impl Value {
 
     /// The rows of a bag or of a listed bag, or the value where it is neither.
     pub fn into_rows(self) -> Result<Rows, Value>
-        ensures rows { IfOk result (λ rows. rows_in (tree self) ≡ Some (rows_tree rows)) }
+        ensures rows { IfOk result (λ rows. rows_of_bag (tree self) ≡ Some (rows_tree rows)) }
         ensures other { IfErr result (λ v. v ≡ self) }
-        ensures none { IfErr result (λ _. rows_in (tree self) ≡ None) }
+        ensures none { IfErr result (λ _. rows_of_bag (tree self) ≡ None) }
     {
         match self {
             Value::Bag(rows) => Ok(rows),

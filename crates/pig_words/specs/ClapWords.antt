@@ -10,6 +10,7 @@ use Rattle.pig_words.specs.CommandWords.{Given, Gives, IsOptionWord, Setting, Wo
 use Rattle.pig_words.specs.declared.words.Found.{Found}
 use Rattle.pig_words.specs.declared.words.Verb.{Verb}
 use Rattle.pig_words.specs.declared.words.Verb.TheVariants as verbs
+use Rattle.pig_value.specs.Results.{◌>>=◌}
 
 -- the name under which clap keeps the value of an option, which is the option's long name
 abbrev pub name_of : Setting → Word
@@ -64,10 +65,6 @@ number_at most word = if is_value word && nat_le 1 (digits_value 10 word) && nat
 abbrev pub setting_at : ℕ → ℕ → Option Word → Option ℕ
 setting_at default most None = Some default
 setting_at default most (Some word) = number_at most word
-
-infixl 10 ◌>>=◌
-abbrev pub ◌>>=◌ : {A B : Type 0} → Option A → (A → Option B) → Option B
-o >>= f = option_and_then f o
 
 -- the numbers of workers and of reduce tasks, and the length of a split
 unfoldable pub numbers_at : ℕ → Given → Option (ℕ × ℕ × ℕ)

@@ -1,5 +1,5 @@
 -- Laws of two lists element beside element, of lists by their places, and of numbers that rise.
-use Rattle.std.specs.Prelude.{◌≡◌, ◌<◌, ◌≤◌, ◌+◌, ◌==◌, ℕ, zero, suc, Bool, true, false, List, [], ◌∷◌, ◌++◌, length, map, slice_get, Some, None, refl, nat_lt}
+use Rattle.std.specs.Prelude.{◌≡◌, ◌<◌, ◌≤◌, ◌+◌, ℕ, zero, suc, Bool, true, false, List, [], ◌∷◌, ◌++◌, length, map, slice_get, Some, refl, nat_lt}
 use Rattle.std.proofs.Common.{ap, sym, ◌∙◌, arith, add-one, cond, subst}
 use Rattle.std.specs.List.{filter, flat_map, range_with_len, AllByRecursion}
 use Rattle.std.proofs.lemmas.Bool.Decides.{nat_tests}
