@@ -32,7 +32,7 @@ module _ {X : Type 0} (p : X → Bool) where
       step true on j = ap (λ m. 1 + m) (on (omega (arith, j)))
       step false on j = refl
 
-place_of : List ℕ → ℕ
+abbrev place_of : List ℕ → ℕ
 place_of = position_or_len is_lf
 
 place_within : (bs : List ℕ) → place_of bs ≤ length bs
@@ -113,7 +113,8 @@ here bs at from to some low high later =
     ∙ ap (map (λ (l : ℕ × List ℕ). l.1)) (kept (starts_within from to) line (lines_from next (stored_lines rest)) (inside from to at line.1 low high)) in
     let right : between bs (from - at) (to - at) ≡ line.1 ∷ lines (take m rest) =
     (λ i. lines (slice_range bs (first_start bs (zero_is i)) (end i)))
-    ∙ (ap lines (take_min (n + 1 + m) bs) ∙ lines_cut bs m some) in
+    ∙ ((let e : min (n + 1 + m) (length bs) - 0 ≡ min (n + 1 + m) (length bs) = omega arith in ap (λ k. lines (take k bs)) e)
+    ∙ (ap lines (take_min (n + 1 + m) bs) ∙ lines_cut bs m some)) in
     left ∙ ap (λ more. line.1 ∷ more) later ∙ sym right
 
 -- the first line starts before the range: all are in the rest
@@ -194,4 +195,7 @@ all_between (suc fuel) (b ∷ bs) at from to few h = elim (cases_lt at to) [
     same q = let w = place_within whole in let l = length-take (place_of whole) whole in omega (arith, w, l)
 
 pub lines_between : (from to : ℕ) (bytes : List ℕ) → from ≤ to → lines_within from to bytes ≡ lines (slice_range bytes (first_start bytes from) (first_start bytes to))
-lines_between from to bytes h = all_between (length bytes) bytes 0 from to (omega arith) h
+lines_between from to bytes h =
+    let a : from - 0 ≡ from = omega arith in
+    let b : to - 0 ≡ to = omega arith in
+    all_between (length bytes) bytes 0 from to (omega arith) h ∙ (λ i. between bytes (a i) (b i))

@@ -1,13 +1,15 @@
 -- The lines of a piece, split by split.
 use Rattle.std.proofs.Common.{◌≡◌, ◌+◌, ◌-◌, ◌*◌, ◌/◌, ◌%◌, ◌<◌, ◌≤◌, ◌++◌, ℕ, zero, suc, min, max, inl, inr, List, [], ◌∷◌, length, map, refl, sym, ◌∙◌, ap, subst, arith}
 use Rattle.std.specs.List.{flat_map, range_with_len, AllByRecursion}
-use Rattle.std.proofs.Math.Nat.{add-mul, mod-lt, suc-mul}
+use Rattle.std.proofs.Math.Nat.{add-mul, mod-lt, mul-le-mul_right, suc-mul}
 use Rattle.std.proofs.lemmas.Nat.{div-add-mod'}
 use Rattle.std.proofs.lemmas.Bool.{cases_lt}
 use Rattle.std.proofs.lemmas.List.{append-nil, length-append}
 use Rattle.pig_value.specs.Lines.{lines, lines_within}
 use Rattle.pig_storage.specs.declared.splits.Split.{Split}
 use Rattle.pig_storage.specs.Splits.{split_at, split_count, splits_of_piece}
+use Rattle.pig_value.proofs.list_laws.Listing.{each-map, each_weaker}
+use Rattle.pig_value.proofs.list_laws.Elementwise.{range_below}
 use Rattle.pig_storage.proofs.Starts.{parts_join, whole_is}
 
 -- no line starts in a range without places
@@ -57,23 +59,57 @@ module _ (split piece : ℕ) (bytes : List ℕ) where
       let less : r < split = mod-lt (size + split - 1) some in
       elim (cases_lt 0 q) [
         | inl many ↦
+            let no_split : 0 * split ≡ 0 = omega arith in
             let n : split_count split size ≡ q = omega (arith, many) in
             let before : q * split ≡ (q - 1) * split + split = (let e : q ≡ suc (q - 1) = omega (arith, many) in ap (λ m. m * split) e ∙ suc-mul (q - 1) split) in
             let most : (0 + q - 1) * split ≤ size = let e : 0 + q - 1 ≡ q - 1 = omega arith in subst (λ m. m * split ≤ size) (sym e) (omega (arith, cut, before, less, some)) in
             let end : min ((0 + q) * split) size ≡ size = let e : (0 + q) * split ≡ q * split = (let z : 0 + q ≡ q = omega arith in ap (λ m. m * split) z) in omega (arith, e, cut, less) in
             ap (λ m. flat_map lines_of (map (split_at split piece size) (range_with_len 0 m))) n
             ∙ in_turn 0 q most (omega arith)
-            ∙ ap (λ to. lines_within 0 to bytes) end ∙ whole_is size bytes (omega arith)
+            ∙ (λ i. lines_within (no_split i) (end i) bytes) ∙ whole_is size bytes (omega arith)
         | inr none ↦
             let zero_is : q ≡ 0 = omega (arith, none) in
             let n : split_count split size ≡ 1 = omega (arith, none) in
-            let gone : q * split ≡ 0 = ap (λ m. m * split) zero_is in
-            let end : min ((0 + 1) * split) size ≡ size = let e : (0 + 1) * split ≡ split = suc-mul 0 split in omega (arith, e, cut, gone, less) in
+            let no_split : 0 * split ≡ 0 = omega arith in
+            let gone : q * split ≡ 0 = ap (λ m. m * split) zero_is ∙ no_split in
+            let end : min ((0 + 1) * split) size ≡ size = let e : (0 + 1) * split ≡ split = omega arith in omega (arith, e, cut, gone, less) in
             ap (λ m. flat_map lines_of (map (split_at split piece size) (range_with_len 0 m))) n
             ∙ in_turn 0 1 (omega arith) (omega arith)
-            ∙ ap (λ to. lines_within 0 to bytes) end ∙ whole_is size bytes (omega arith)
+            ∙ (λ i. lines_within (no_split i) (end i) bytes) ∙ whole_is size bytes (omega arith)
       ]
 
-  -- each split stands within the piece
-  pub split_within : 0 < split → (i : ℕ) → i * split ≤ size → ((split_at split piece size i).piece ≡ piece) × ((split_at split piece size i).from ≤ (split_at split piece size i).to) × ((split_at split piece size i).to ≤ size)
-  split_within some i low = let step : (i + 1) * split ≡ i * split + split = (let e : i + 1 ≡ suc i = omega arith in ap (λ m. m * split) e ∙ suc-mul i split) in (refl, omega (arith, step, low), omega arith)
+-- each split stands within the piece: none begins behind its end
+module _ (split piece size : ℕ) (some : 0 < split) where
+  abbrev count : ℕ
+  count = split_count split size
+
+  last_begins : (count - 1) * split ≤ size
+  last_begins = elim (cases_lt 0 q) [
+    | inl many ↦
+        let n : count - 1 ≡ q - 1 = omega (arith, many) in
+        let before : q * split ≡ (q - 1) * split + split = (let e : q ≡ suc (q - 1) = omega (arith, many) in ap (λ m. m * split) e ∙ suc-mul (q - 1) split) in
+        subst (λ m. m * split ≤ size) (sym n) (omega (arith, cut, before, some))
+    | inr none ↦
+        let n : count - 1 ≡ 0 = omega (arith, none) in
+        let gone : 0 * split ≡ 0 = omega arith in
+        subst (λ m. m * split ≤ size) (sym n) (omega (arith, gone))
+  ]
+    where
+      q : ℕ
+      q = (size + split - 1) / split
+
+      cut : q * split + (size + split - 1) % split ≡ size + split - 1
+      cut = div-add-mod' (size + split - 1) split
+
+  split_within : (i : ℕ) → i < 0 + count → ((split_at split piece size i).piece ≡ piece) × ((split_at split piece size i).from ≤ (split_at split piece size i).to) × ((split_at split piece size i).to ≤ size)
+  split_within i below =
+      let step : (i + 1) * split ≡ i * split + split = (let e : i + 1 ≡ suc i = omega arith in ap (λ m. m * split) e ∙ suc-mul i split) in
+      let fewer : i ≤ count - 1 = omega (arith, below) in
+      let low = mul-le-mul_right split fewer in
+      let last = last_begins in
+      (refl, omega (arith, step, low, last), omega arith)
+
+  pub splits_within : AllByRecursion (λ s. (s.piece ≡ piece) × (s.from ≤ s.to) × (s.to ≤ size)) (splits_of_piece split piece size)
+  splits_within =
+      each-map (λ s. (s.piece ≡ piece) × (s.from ≤ s.to) × (s.to ≤ size)) (split_at split piece size) (range_with_len 0 count)
+      (each_weaker (λ i. i < 0 + count) (λ i. ((split_at split piece size i).piece ≡ piece) × ((split_at split piece size i).from ≤ (split_at split piece size i).to) × ((split_at split piece size i).to ≤ size)) split_within (range_with_len 0 count) (range_below 0 count))

@@ -19,26 +19,26 @@ second_false true y e = e
 second_false false y e = refl
 
 -- a start that is too early or too late, and one within
-too_early : (from to at : ℕ) (l : List ℕ) → at < from → starts_within from to (at, l) ≡ false
+pub too_early : (from to at : ℕ) (l : List ℕ) → at < from → starts_within from to (at, l) ≡ false
 too_early from to at l early = ap (λ t. t && ltb at to) (leb_no from at early)
 
 too_late : (from to at : ℕ) (l : List ℕ) → to ≤ at → starts_within from to (at, l) ≡ false
 too_late from to at l late = second_false (leb from at) (ltb at to) (leb_no (suc at) to (omega arith))
 
-inside : (from to at : ℕ) (l : List ℕ) → from ≤ at → at < to → starts_within from to (at, l) ≡ true
+pub inside : (from to at : ℕ) (l : List ℕ) → from ≤ at → at < to → starts_within from to (at, l) ≡ true
 inside from to at l low high =
     let a : leb from at ≡ true = leb_yes from at low in
     let b : ltb at to ≡ true = leb_yes (suc at) to (omega arith) in
     λ i. a i && b i
 
-kept : {X : Type 0} (test : X → Bool) (x : X) (xs : List X) → test x ≡ true → filter test (x ∷ xs) ≡ x ∷ filter test xs
+pub kept : {X : Type 0} (test : X → Bool) (x : X) (xs : List X) → test x ≡ true → filter test (x ∷ xs) ≡ x ∷ filter test xs
 kept test x xs e = rw e refl
 
-left_out : {X : Type 0} (test : X → Bool) (x : X) (xs : List X) → test x ≡ false → filter test (x ∷ xs) ≡ filter test xs
+pub left_out : {X : Type 0} (test : X → Bool) (x : X) (xs : List X) → test x ≡ false → filter test (x ∷ xs) ≡ filter test xs
 left_out test x xs e = rw e refl
 
 -- no line starts in a range that ends before the first
-none_late : (from to at : ℕ) (ps : List (List ℕ)) → to ≤ at → filter (starts_within from to) (lines_from at ps) ≡ []
+pub none_late : (from to at : ℕ) (ps : List (List ℕ)) → to ≤ at → filter (starts_within from to) (lines_from at ps) ≡ []
 none_late from to at [] late = refl
 none_late from to at (p ∷ ps) late =
     let next : ℕ = at + length p + 1 in

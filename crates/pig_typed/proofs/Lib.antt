@@ -8,3 +8,4 @@ pub mod Carried
 mod Widths
 pub mod ValuesCarried
 pub mod LinesCarried
+mod FlatKinds
