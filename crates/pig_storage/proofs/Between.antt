@@ -115,7 +115,8 @@ here bs at from to some low high later =
     (λ i. lines (slice_range bs (first_start bs (zero_is i)) (end i)))
     ∙ ((let e : min (n + 1 + m) (length bs) - 0 ≡ min (n + 1 + m) (length bs) = omega arith in ap (λ k. lines (take k bs)) e)
     ∙ (ap lines (take_min (n + 1 + m) bs) ∙ lines_cut bs m some)) in
-    left ∙ ap (λ more. line.1 ∷ more) later ∙ sym right
+    let same : m - 0 ≡ m = omega arith in
+    left ∙ ap (λ more. line.1 ∷ more) (later ∙ ap (λ k. lines (take k rest)) same) ∙ sym right
 
 -- the first line starts before the range: all are in the rest
 ahead : (bs : List ℕ) (at from to : ℕ) → 0 < length bs → at < from → from ≤ to
