@@ -26,11 +26,12 @@ mod memory_host;
 mod stop;
 
 pub use console::Console;
-pub use contents::{DirState, Directory, Parts, Source, Sources};
+pub use contents::{DirState, Parts, Source, Sources};
 pub use counts::FaultCounts;
 pub use depot::Depot;
 pub use failing::{Call, Calls, Method};
 pub use faults::{AttemptFault, Failed, OutsideError};
+pub use history::{Asked, History};
 pub use host::Host;
 pub use memory_console::MemoryConsole;
 pub use memory_depot::MemoryDepot;
@@ -40,7 +41,7 @@ pub use stop::Stop;
 fn crosses<T: Send>() {}
 
 /// Shows that what workers are handed and hand back is `Send`: hosts, and their errors.
-pub fn hosts_cross_threads() {
+fn hosts_cross_threads() {
     crosses::<MemoryHost>();
     crosses::<Failed>();
     crosses::<OutsideError>();
