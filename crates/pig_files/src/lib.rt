@@ -14,3 +14,10 @@ mod pieces;
 pub use console::StdConsole;
 pub use depot::FileDepot;
 pub use host::FileHost;
+
+fn crosses<T: Send>() {}
+
+/// Shows that a host over files is `Send`, since workers are handed it.
+fn hosts_cross_threads() {
+    crosses::<FileHost<HostRuntime>>();
+}
