@@ -202,3 +202,99 @@ fn a_console_keeps_its_text(rt: HostRuntime) {
     assert_eq!(rt; console.text(), b"abef".as_slice());
     drop(console);
 }
+
+/// How many parts a directory has, and whether it is marked. None: it isn't there.
+fn standing(depot: &MemoryDepot, dir: &str) -> Option<(usize, bool)> {
+    let state = depot.dir(dir)?;
+    Some((state.parts.len(), state.marked))
+}
+
+/// A directory of one part that is whole.
+const WHOLE: Option<(usize, bool)> = Some((1, true));
+
+/// Whether a directory is stored exactly where it stands whole behind that, and otherwise stands so.
+fn stores(depot: &mut MemoryDepot, dir: &str, stands: Option<(usize, bool)>) -> bool {
+    let ends = if stands == WHOLE {
+        Ok(true)
+    } else {
+        Err(OutsideError::Failed)
+    };
+    store(depot, dir, b"1\n") == ends && standing(depot, dir) == stands
+}
+
+/// To store a directory takes four calls of a depot. Where one call fails, whatever its method, this one alone does.
+#[test]
+fn one_call_of_a_depot_fails(rt: HostRuntime) {
+    let alloc = rt.alloc();
+    for (number, first, second) in [
+        (1, None, WHOLE),
+        (2, None, WHOLE),
+        (3, Some((0, false)), WHOLE),
+        (4, Some((1, false)), WHOLE),
+        (5, WHOLE, None),
+        (6, WHOLE, None),
+        (7, WHOLE, Some((0, false))),
+        (8, WHOLE, Some((1, false))),
+        (9, WHOLE, WHOLE),
+    ] {
+        let mut depot = empty_depot(alloc, Calls::new(alloc));
+        depot.fail_once(number);
+        assert!(rt; stores(&mut depot, "p", first));
+        assert!(rt; stores(&mut depot, "q", second));
+        drop(depot);
+    }
+}
+
+/// Where calls fail from one on, each behind it does too.
+#[test]
+fn from_one_call_on_a_depot_fails(rt: HostRuntime) {
+    let alloc = rt.alloc();
+    for (number, first, second) in [
+        (1, None, None),
+        (2, None, None),
+        (3, Some((0, false)), None),
+        (4, Some((1, false)), None),
+        (5, WHOLE, None),
+        (6, WHOLE, None),
+        (7, WHOLE, Some((0, false))),
+        (8, WHOLE, Some((1, false))),
+        (9, WHOLE, WHOLE),
+    ] {
+        let mut depot = empty_depot(alloc, Calls::new(alloc));
+        depot.fail_from(number);
+        assert!(rt; stores(&mut depot, "p", first));
+        assert!(rt; stores(&mut depot, "q", second));
+        assert!(rt; number == 9 || fails(&mut depot, "in"));
+        drop(depot);
+    }
+}
+
+/// A host counts its begins and its reads together, and tells how often it began.
+#[test]
+fn from_one_call_on_a_host_fails(rt: HostRuntime) {
+    let alloc = rt.alloc();
+    for number in [1, 2, 3, 4, 5] {
+        let mut host = MemoryHost::new(inputs(&rt, alloc, "in", b"xyz"), Calls::new(alloc));
+        host.fail_from(number);
+        assert!(rt; host.begun() == 0);
+        assert!(rt; host.begin(0, 0, 0).is_ok() == (number > 1));
+        assert!(rt; read_end(&mut host).is_ok() == (number > 2));
+        assert!(rt; host.begin(0, 0, 1).is_ok() == (number > 3));
+        assert!(rt; read_end(&mut host).is_ok() == (number > 4));
+        assert!(rt; host.begun() == 2);
+        drop(host);
+    }
+}
+
+/// A console that fails from its second write on has what was written before.
+#[test]
+fn from_one_write_on_a_console_fails(rt: HostRuntime) {
+    let alloc = rt.alloc();
+    let mut console = MemoryConsole::new(alloc, Calls::new(alloc));
+    console.fail_from(2);
+    assert_eq!(rt; console.write(b"ab"), Ok(()));
+    assert_eq!(rt; console.write(b"cd"), Err(OutsideError::Failed));
+    assert_eq!(rt; console.write(b"ef"), Err(OutsideError::Failed));
+    assert_eq!(rt; console.text(), b"ab".as_slice());
+    drop(console);
+}

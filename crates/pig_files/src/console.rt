@@ -14,7 +14,10 @@ pub struct StdConsole<R: Print + Drop> {
 }
 
 impl<R: Print + Drop> StdConsole<R> {
-    pub fn new(rt: R) -> StdConsole<R> {
+    /// It has not failed yet.
+    pub fn new(rt: R) -> StdConsole<R>
+        ensures { all_faults result.faults ≡ 0 }
+    {
         StdConsole {
             rt,
             faults: FaultCounts::new(),

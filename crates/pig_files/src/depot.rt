@@ -1,45 +1,64 @@
 // The file system as a depot.
-ghost use Rattle.std.specs.Prelude.{◌≡◌, None, Ok, false, OnOk, OnErr};
+ghost use Rattle.std.specs.Prelude.{◌≡◌, [], None, Some, Ok, false, OnOk, OnErr};
+ghost use Rattle.pig_outside.specs.Calls.{and_call};
 ghost use Rattle.pig_outside.specs.Counts.{all_faults, stores_failed};
 ghost use Rattle.pig_outside.specs.Shelf.{Grows};
 
 use crate::errors::{answer, answer_store, is_absent};
 use crate::pieces::{file_length, list_pieces};
-use pig_outside::{Depot, FaultCounts, OutsideError};
+use pig_outside::{Asked, Depot, FaultCounts, History, Method, OutsideError};
 use pig_value::Lengths;
 use std::alloc::Global;
 use std::io::Read;
 use std::rt::Files;
 use std::{fs, io};
 
-/// The file system as a depot: a script and an input are paths, and a directory is a folder of part files.
+/// The file system as a depot: a script and an input are paths, and a directory is a folder of part files. It tells
+/// its calls, in proofs alone.
 #[derive(Drop)]
 pub struct FileDepot<R: Files + AllocGlobal + Clone + Drop> {
     rt: R,
     alloc: Global,
     faults: FaultCounts,
+    history: History,
 }
 
 impl<R: Files + AllocGlobal + Clone + Drop> FileDepot<R> {
-    pub fn new(rt: R, alloc: Global) -> FileDepot<R> {
+    /// It was asked nothing yet, and has not failed.
+    pub fn new(rt: R, alloc: Global) -> FileDepot<R>
+        ensures calls { result.history.calls ≡ [] }
+        ensures faults { all_faults result.faults ≡ 0 }
+        ensures stores { stores_failed result.faults ≡ 0 }
+    {
         FileDepot {
             rt,
             alloc,
             faults: FaultCounts::new(),
+            history: History::new(),
         }
+    }
+
+    /// A call is told.
+    fn tell(&mut self, method: Method, path: &str)
+        ensures calls { self.new.history.calls
+            ≡ and_call method path.now self.old.history.calls }
+        ensures faults { self.new.faults ≡ self.old.faults }
+    {
+        self.history = self.history.and(&Asked::Call { method, path });
     }
 }
 
 impl<R: Files + AllocGlobal + Clone + Drop> Depot for FileDepot<R> {
     ghost shelf = { λ _. None };
 
-    ghost calls = { λ _. None };
+    ghost calls = { λ d. Some d.history.calls };
 
     ghost faults = { λ d. all_faults d.faults };
 
     ghost store_faults = { λ d. stores_failed d.faults };
 
     fn script(&mut self, path: &str, most: u64, into: &mut Vec<u8>) -> Result<bool, OutsideError> {
+        self.tell(Method::Script, path);
         match read_front(&self.rt, self.alloc, path, most, into) {
             Ok(there) => Ok(there),
             Err(error) => Err(answer(&mut self.faults, error)),
@@ -47,6 +66,7 @@ impl<R: Files + AllocGlobal + Clone + Drop> Depot for FileDepot<R> {
     }
 
     fn pieces(&mut self, path: &str) -> Result<Option<Lengths>, OutsideError> {
+        self.tell(Method::Pieces, path);
         match piece_lengths(&self.rt, self.alloc, path) {
             Ok(lengths) => Ok(lengths),
             Err(error) => Err(answer(&mut self.faults, error)),
@@ -54,6 +74,7 @@ impl<R: Files + AllocGlobal + Clone + Drop> Depot for FileDepot<R> {
     }
 
     fn exists(&mut self, dir: &str) -> Result<bool, OutsideError> {
+        self.tell(Method::Exists, dir);
         match fs::symlink_metadata(&self.rt, dir) {
             Ok(_) => Ok(true),
             Err(error) if is_absent(&error) => Ok(false),
@@ -62,6 +83,7 @@ impl<R: Files + AllocGlobal + Clone + Drop> Depot for FileDepot<R> {
     }
 
     fn create(&mut self, dir: &str) -> Result<(), OutsideError> {
+        self.tell(Method::Create, dir);
         match make_folder(&self.rt, dir) {
             Ok(()) => Ok(()),
             Err(error) => Err(answer_store(&mut self.faults, error)),
@@ -69,6 +91,7 @@ impl<R: Files + AllocGlobal + Clone + Drop> Depot for FileDepot<R> {
     }
 
     fn put(&mut self, dir: &str, part: u32, bytes: &[u8]) -> Result<(), OutsideError> {
+        self.tell(Method::Put, dir);
         match write_part(&self.rt, self.alloc, dir, part, bytes) {
             Ok(()) => Ok(()),
             Err(error) => Err(answer_store(&mut self.faults, error)),
@@ -76,6 +99,7 @@ impl<R: Files + AllocGlobal + Clone + Drop> Depot for FileDepot<R> {
     }
 
     fn finish(&mut self, dir: &str) -> Result<(), OutsideError> {
+        self.tell(Method::Finish, dir);
         match write_marker(&self.rt, self.alloc, dir) {
             Ok(()) => Ok(()),
             Err(error) => Err(answer_store(&mut self.faults, error)),

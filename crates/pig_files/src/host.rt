@@ -1,10 +1,10 @@
 // The file system as a host.
-ghost use Rattle.std.specs.Prelude.{◌≡◌, None};
+ghost use Rattle.std.specs.Prelude.{◌≡◌, [], None, Some};
 ghost use Rattle.pig_outside.specs.Counts.{all_faults};
 
 use crate::errors::answer;
 use crate::pieces::{FolderPiece, file_length, list_pieces};
-use pig_outside::{Failed, FaultCounts, Host, OutsideError};
+use pig_outside::{Asked, Failed, FaultCounts, History, Host, OutsideError};
 use pig_value::Text;
 use std::alloc::Global;
 use std::fs::{self, File};
@@ -12,7 +12,8 @@ use std::io::{self, ErrorKind};
 use std::os::unix::fs::FileExt;
 use std::rt::Files;
 
-/// The file system as a host. The piece that was read last stays open, and a folder is listed once.
+/// The file system as a host. The piece that was read last stays open, and a folder is listed once. It tells the
+/// attempts that begin, in proofs alone.
 #[derive(Drop)]
 pub struct FileHost<R: Files<File = File> + AllocGlobal + Clone + Drop> {
     rt: R,
@@ -20,6 +21,7 @@ pub struct FileHost<R: Files<File = File> + AllocGlobal + Clone + Drop> {
     folders: Vec<Folder>,
     open: Option<OpenPiece>,
     faults: FaultCounts,
+    history: History,
 }
 
 /// A folder that was listed.
@@ -38,19 +40,25 @@ struct OpenPiece {
 }
 
 impl<R: Files<File = File> + AllocGlobal + Clone + Drop> FileHost<R> {
-    pub fn new(rt: R, alloc: Global) -> FileHost<R> {
+    /// No attempt began on it yet, and it has not failed.
+    pub fn new(rt: R, alloc: Global) -> FileHost<R>
+        ensures begun { result.history.begun ≡ [] }
+        ensures faults { all_faults result.faults ≡ 0 }
+    {
         FileHost {
             rt,
             alloc,
             folders: Vec::new(alloc),
             open: None,
             faults: FaultCounts::new(),
+            history: History::new(),
         }
     }
 
     /// Fills the buffer from a piece, which is opened where it isn't open.
     fn read_piece(&mut self, path: &str, piece: u32, from: u64, into: &mut [u8]) -> io::Result<()>
-        ensures { all_faults self.new.faults ≡ all_faults self.old.faults }
+        ensures faults { all_faults self.new.faults ≡ all_faults self.old.faults }
+        ensures begun { self.new.history ≡ self.old.history }
     {
         let current = match self.open.take() {
             Some(last) if last.piece == piece && last.path.as_str() == path => last,
@@ -65,12 +73,17 @@ impl<R: Files<File = File> + AllocGlobal + Clone + Drop> FileHost<R> {
 impl<R: Files<File = File> + AllocGlobal + Clone + Drop> Host for FileHost<R> {
     ghost inputs = { λ _. None };
 
-    ghost begun = { λ _. None };
+    ghost begun = { λ h. Some h.history.begun };
 
     ghost faults = { λ h. all_faults h.faults };
 
     fn begin(&mut self, wave: u32, task: u32, attempt: u32) -> Result<(), Failed> {
-        let _ = (wave, task, attempt);
+        self.history = self.history.and(&Asked::Begin {
+            wave,
+            task,
+            attempt,
+            faults: self.faults.all(),
+        });
         Ok(())
     }
 

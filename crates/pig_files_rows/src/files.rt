@@ -190,3 +190,40 @@ fn a_host_lists_a_folder_once(rt: HostRuntime) {
     drop(before);
     drop(behind);
 }
+
+/// Whether each call of a depot by which an output is made fails there.
+fn makes_nothing(depot: &mut FileDepot<HostRuntime>, dir: &str) -> bool {
+    [
+        depot.create(dir),
+        depot.put(dir, 0, b"x\n"),
+        depot.finish(dir),
+    ] == [Err(OutsideError::Failed); 3]
+}
+
+/// Below a file no output is made, nor below nothing is a part or a marker. A script is no folder.
+#[test]
+fn each_call_of_a_depot_can_fail(rt: HostRuntime) {
+    make_folder(&rt, "kept");
+    write(&rt, "kept/file", "7\n");
+    let mut depot = FileDepot::new(rt.clone().expect(&rt, "a handle"), rt.alloc());
+    for dir in ["kept/file", "kept/file/out"] {
+        assert!(rt; makes_nothing(&mut depot, dir));
+    }
+    assert!(rt; depot.put("kept/no", 0, b"x\n") == Err(OutsideError::Failed));
+    assert!(rt; depot.finish("kept/no") == Err(OutsideError::Failed));
+    assert!(rt; depot.exists("kept/no") == Ok(false));
+    let mut script = Vec::new(rt.alloc());
+    assert!(rt; depot.script("kept", 9, &mut script) == Err(OutsideError::Failed));
+    assert!(rt; script.is_empty());
+    drop(depot);
+}
+
+/// Over files no begin fails, whatever the attempt.
+#[test]
+fn a_host_begins_each_attempt(rt: HostRuntime) {
+    let mut host = FileHost::new(rt.clone().expect(&rt, "a handle"), rt.alloc());
+    for (wave, task, attempt) in [(0, 0, 0), (0, 0, 1), (0, 1, 0), (1, 0, 0)] {
+        assert!(rt; host.begin(wave, task, attempt) == Ok(()));
+    }
+    drop(host);
+}

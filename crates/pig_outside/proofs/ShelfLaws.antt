@@ -1,5 +1,5 @@
 -- Laws of look-ups and of changed directories.
-use Rattle.std.specs.Prelude.{◌≡◌, ◌≢◌, ◌++◌, ℕ, true, false, List, [], ◌∷◌, Option, Some, None, refl, length, is_some}
+use Rattle.std.specs.Prelude.{◌≡◌, ◌≢◌, ◌++◌, ℕ, true, false, List, [], ◌∷◌, Option, Some, None, refl, length}
 use Rattle.std.proofs.Common.{ap, sym, ◌∙◌, inl, inr, subst}
 use Rattle.std.proofs.lemmas.Bool.{false_from_ne_true, cases_Bool}
 use Rattle.std.proofs.lemmas.Slice.Eq.{bytes_eq-Decides}
@@ -7,7 +7,7 @@ use Rattle.std.specs.Option.{option_map, ForSome}
 use Rattle.std.specs.Str.{bytes_eq}
 use Rattle.pig_outside.specs.declared.contents.DirState.{DirState}
 use Rattle.pig_outside.specs.declared.contents.Directory.{Directory}
-use Rattle.pig_outside.specs.Shelf.{Shelf, state_of, has_dir, set_dir, with_dir, with_part, with_mark, open_state, whole_state, parts_of, IsOpen, CanCreate, CanPut, CanFinish, LeftUnmarked}
+use Rattle.pig_outside.specs.Shelf.{Shelf, state_of, set_dir, with_dir, with_part, with_mark, open_state, whole_state, parts_of, IsOpen, CanPut, CanFinish, LeftUnmarked}
 
 -- Bytes are equal to themselves.
 pub bytes_eq-same : (path : List ℕ) → bytes_eq path path ≡ true

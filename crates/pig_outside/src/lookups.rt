@@ -4,7 +4,8 @@ ghost use Rattle.std.specs.Option.{option_copied};
 ghost use Rattle.pig_outside.specs.Shelf.{entry_named};
 ghost use Rattle.pig_outside.specs.Places.{place_of};
 
-use crate::{Directory, Source};
+use crate::Source;
+use crate::contents::Directory;
 use pig_value::Input;
 
 /// What stands under a path.

@@ -15,7 +15,7 @@ pub struct MemoryConsole {
 }
 
 impl MemoryConsole {
-    ghost use Rattle.pig_outside.specs.Failing.{IsUncalled};
+    ghost use Rattle.pig_outside.specs.Failing.{IsUncalled, fails_from};
     ghost use Rattle.pig_outside.specs.Memory.{console_text, console_failing};
 
     /// A console with no text. It takes no memory.
@@ -27,6 +27,14 @@ impl MemoryConsole {
             text: Vec::new(alloc),
             failing: Failing::new(failing),
         }
+    }
+
+    /// From this write on, counted from 1, each write fails.
+    pub fn fail_from(&mut self, number: u64)
+        ensures text { console_text self.new ≡ console_text self.old }
+        ensures failing { console_failing self.new ≡ fails_from number (console_failing self.old) }
+    {
+        self.failing.fail_from(number);
     }
 
     /// What was written to it.
@@ -41,7 +49,7 @@ impl Console for MemoryConsole {
     ghost use Rattle.pig_outside.specs.Faults.{HasConsoleCause};
     ghost use Rattle.pig_outside.specs.Text.{LeftPrefix};
     ghost use Rattle.pig_outside.specs.Memory.{told_text, console_failing, console_faults};
-    ghost use Rattle.pig_outside.specs.Failing.{EndsAsListed};
+    ghost use Rattle.pig_outside.specs.Failing.{EndsAsDue};
 
     ghost text = { told_text };
 
@@ -54,7 +62,7 @@ impl Console for MemoryConsole {
             (told_text self.new)) }
         ensures cause { HasConsoleCause (console_faults self.old) (console_faults self.new) result }
         ensures as_before { OnErr result (told_text self.new ≡ told_text self.old) }
-        ensures listed { EndsAsListed Method.Write (console_failing self.old)
+        ensures due { EndsAsDue Method.Write (console_failing self.old)
             (console_failing self.new) result }
     {
         self.failing.call(Method::Write)?;

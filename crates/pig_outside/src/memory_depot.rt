@@ -5,10 +5,11 @@ ghost use Rattle.pig_outside.specs.Places.{IsPlace};
 ghost use Rattle.pig_outside.specs.Faults.{HasCause};
 ghost use Rattle.pig_outside.specs.Shelf.{lengths_of, state_of, parts_in, set_dir, open_state, whole_state, IsOpenIn, script_of, script_bytes, lengths_at, has_dir, with_new, with_part, with_mark, Grows, CanCreate, CanPut, CanFinish, LeftUnmarked, LeftAbsentOrEmpty};
 
+use crate::contents::Directory;
 use crate::failing::{Calls, Failing, Method};
 use crate::history::{Asked, History};
 use crate::lookups::{find, place};
-use crate::{Depot, DirState, Directory, OutsideError, Parts, Sources};
+use crate::{Depot, DirState, OutsideError, Parts, Sources};
 use pig_value::{Blob, Inputs, Lengths, Seq, Text};
 use std::alloc::{AllocError, Global};
 
@@ -25,7 +26,7 @@ pub struct MemoryDepot {
 }
 
 impl MemoryDepot {
-    ghost use Rattle.pig_outside.specs.Failing.{IsUncalled, EndsAsListed, StoreCause, fault_count, store_fault_count};
+    ghost use Rattle.pig_outside.specs.Failing.{IsUncalled, EndsAsDue, StoreCause, fails_from, fails_once};
     ghost use Rattle.pig_outside.specs.Faults.{HasConsoleCause, count_end};
     ghost use Rattle.pig_outside.specs.Calls.{and_call};
     ghost use Rattle.pig_outside.specs.Memory.{depot_shelf, depot_calls, depot_failing, depot_faults, depot_store_faults};
@@ -47,11 +48,29 @@ impl MemoryDepot {
         }
     }
 
+    /// From this call on, counted from 1 over all its methods, each call fails.
+    pub fn fail_from(&mut self, number: u64)
+        ensures shelf { depot_shelf self.new ≡ depot_shelf self.old }
+        ensures calls { depot_calls self.new ≡ depot_calls self.old }
+        ensures failing { depot_failing self.new ≡ fails_from number (depot_failing self.old) }
+    {
+        self.failing.fail_from(number);
+    }
+
+    /// This call, counted from 1 over all its methods, fails.
+    pub fn fail_once(&mut self, number: u64)
+        ensures shelf { depot_shelf self.new ≡ depot_shelf self.old }
+        ensures calls { depot_calls self.new ≡ depot_calls self.old }
+        ensures failing { depot_failing self.new ≡ fails_once number (depot_failing self.old) }
+    {
+        self.failing.fail_once(number);
+    }
+
     /// A call is made, and fails where it is to fail.
     fn call(&mut self, method: Method, path: &str) -> Result<(), OutsideError>
         ensures shelf { depot_shelf self.new ≡ depot_shelf self.old }
         ensures calls { depot_calls self.new ≡ and_call method path.now (depot_calls self.old) }
-        ensures listed { EndsAsListed method (depot_failing self.old)
+        ensures due { EndsAsDue method (depot_failing self.old)
             (depot_failing self.new) result }
         ensures cause { HasConsoleCause (depot_faults self.old) (depot_faults self.new) result }
         ensures stores { StoreCause method (depot_store_faults self.old)
@@ -77,7 +96,7 @@ impl Depot for MemoryDepot {
     ghost use Rattle.std.specs.Prelude.{Ok, false};
     ghost use Rattle.pig_outside.specs.Calls.{and_call};
     ghost use Rattle.pig_outside.specs.Memory.{told_shelf, told_calls, depot_failing, depot_faults, depot_store_faults};
-    ghost use Rattle.pig_outside.specs.Failing.{EndsAsListed};
+    ghost use Rattle.pig_outside.specs.Failing.{EndsAsDue};
 
     ghost shelf = { told_shelf };
 
@@ -100,7 +119,7 @@ impl Depot for MemoryDepot {
             (told_calls self.old) }
         ensures cause { HasCause (depot_faults self.old) (depot_faults self.new) result }
         ensures store_faults { depot_store_faults self.new ≡ depot_store_faults self.old }
-        ensures listed { EndsAsListed Method.Script (depot_failing self.old)
+        ensures due { EndsAsDue Method.Script (depot_failing self.old)
             (depot_failing self.new) result }
     {
         self.call(Method::Script, path)?;
@@ -121,7 +140,7 @@ impl Depot for MemoryDepot {
             (told_calls self.old) }
         ensures cause { HasCause (depot_faults self.old) (depot_faults self.new) result }
         ensures store_faults { depot_store_faults self.new ≡ depot_store_faults self.old }
-        ensures listed { EndsAsListed Method.Pieces (depot_failing self.old)
+        ensures due { EndsAsDue Method.Pieces (depot_failing self.old)
             (depot_failing self.new) result }
     {
         self.call(Method::Pieces, path)?;
@@ -139,7 +158,7 @@ impl Depot for MemoryDepot {
             (told_calls self.old) }
         ensures cause { HasCause (depot_faults self.old) (depot_faults self.new) result }
         ensures store_faults { depot_store_faults self.new ≡ depot_store_faults self.old }
-        ensures listed { EndsAsListed Method.Exists (depot_failing self.old)
+        ensures due { EndsAsDue Method.Exists (depot_failing self.old)
             (depot_failing self.new) result }
     {
         self.call(Method::Exists, dir)?;
@@ -158,7 +177,7 @@ impl Depot for MemoryDepot {
         ensures cause { HasCause (depot_faults self.old) (depot_faults self.new) result }
         ensures store_cause { HasCause (depot_store_faults self.old)
             (depot_store_faults self.new) result }
-        ensures listed { EndsAsListed Method.Create (depot_failing self.old)
+        ensures due { EndsAsDue Method.Create (depot_failing self.old)
             (depot_failing self.new) result }
     {
         self.call(Method::Create, dir)?;
@@ -177,7 +196,7 @@ impl Depot for MemoryDepot {
         ensures cause { HasCause (depot_faults self.old) (depot_faults self.new) result }
         ensures store_cause { HasCause (depot_store_faults self.old)
             (depot_store_faults self.new) result }
-        ensures listed { EndsAsListed Method.Put (depot_failing self.old)
+        ensures due { EndsAsDue Method.Put (depot_failing self.old)
             (depot_failing self.new) result }
     {
         self.call(Method::Put, dir)?;
@@ -197,7 +216,7 @@ impl Depot for MemoryDepot {
         ensures cause { HasCause (depot_faults self.old) (depot_faults self.new) result }
         ensures store_cause { HasCause (depot_store_faults self.old)
             (depot_store_faults self.new) result }
-        ensures listed { EndsAsListed Method.Finish (depot_failing self.old)
+        ensures due { EndsAsDue Method.Finish (depot_failing self.old)
             (depot_failing self.new) result }
     {
         self.call(Method::Finish, dir)?;

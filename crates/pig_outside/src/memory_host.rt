@@ -19,7 +19,7 @@ pub struct MemoryHost {
 }
 
 impl MemoryHost {
-    ghost use Rattle.pig_outside.specs.Failing.{IsUncalled};
+    ghost use Rattle.pig_outside.specs.Failing.{IsUncalled, fails_from, calls_made};
     ghost use Rattle.pig_outside.specs.Memory.{host_inputs, host_begun, host_failing};
 
     /// A host with these inputs. It takes no memory.
@@ -34,6 +34,22 @@ impl MemoryHost {
             history: History::new(),
         }
     }
+
+    /// From this call on, counted from 1 over both its methods, each call fails.
+    pub fn fail_from(&mut self, number: u64)
+        ensures inputs { host_inputs self.new ≡ host_inputs self.old }
+        ensures begun { host_begun self.new ≡ host_begun self.old }
+        ensures failing { host_failing self.new ≡ fails_from number (host_failing self.old) }
+    {
+        self.failing.fail_from(number);
+    }
+
+    /// How often `begin` was called.
+    pub fn begun(&self) -> u64
+        ensures { result ≡ calls_made Method.Begin (host_failing self.now) }
+    {
+        self.failing.made(Method::Begin)
+    }
 }
 
 impl Host for MemoryHost {
@@ -42,7 +58,7 @@ impl Host for MemoryHost {
     ghost use Rattle.pig_outside.specs.Calls.{and_attempt};
     ghost use Rattle.pig_outside.specs.Faults.{HasCause, count_end};
     ghost use Rattle.pig_outside.specs.Memory.{told_inputs, told_begun, host_failing, host_faults};
-    ghost use Rattle.pig_outside.specs.Failing.{BeginsAsListed, EndsAsListed};
+    ghost use Rattle.pig_outside.specs.Failing.{BeginsAsDue, EndsAsDue};
 
     ghost inputs = { told_inputs };
 
@@ -52,16 +68,18 @@ impl Host for MemoryHost {
 
     fn begin(&mut self, wave: u32, task: u32, attempt: u32) -> Result<(), Failed>
         ensures inputs { told_inputs self.new ≡ told_inputs self.old }
-        ensures begun { told_begun self.new ≡ option_map (and_attempt wave task attempt)
+        ensures begun { told_begun self.new
+            ≡ option_map (and_attempt wave task attempt (host_faults self.old))
             (told_begun self.old) }
         ensures later { host_faults self.old ≤ host_faults self.new }
         ensures failed { OnErr result (host_faults self.old < host_faults self.new) }
-        ensures listed { BeginsAsListed (host_failing self.old) (host_failing self.new) result }
+        ensures due { BeginsAsDue (host_failing self.old) (host_failing self.new) result }
     {
         self.history = self.history.and(&Asked::Begin {
             wave,
             task,
             attempt,
+            faults: self.failing.faults(),
         });
         match self.failing.call(Method::Begin) {
             Err(OutsideError::Failed) => Err(Failed),
@@ -83,7 +101,7 @@ impl Host for MemoryHost {
         ensures inputs { told_inputs self.new ≡ told_inputs self.old }
         ensures begun { told_begun self.new ≡ told_begun self.old }
         ensures cause { HasCause (host_faults self.old) (host_faults self.new) result }
-        ensures listed { EndsAsListed Method.Read (host_failing self.old)
+        ensures due { EndsAsDue Method.Read (host_failing self.old)
             (host_failing self.new) result }
         ensures full { result ≡ Err OutsideError.OutOfMemory → host_faults self.old ≡ count_end }
     {
