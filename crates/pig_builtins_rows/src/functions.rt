@@ -198,9 +198,8 @@ fn last<R: Abort>(rt: &R, alloc: Global, values: &mut Vec<Value>, count: &str) -
 
 // Adds a tuple to rows.
 fn push_row<R: Abort>(rt: &R, rows: &mut Rows, value: Value) {
-    match value {
-        Value::Tuple(row) => push(rt, rows, row),
-        other => drop(other),
+    if let Some(row) = value.into_tuple() {
+        push(rt, rows, row);
     }
 }
 
