@@ -1,5 +1,5 @@
 -- What steps and FLATTEN make of each form of a value.
-use Rattle.std.specs.Prelude.{◌≡◌, ◌<◌, ◌≤◌, ℕ, List, [], ◌∷◌, length, min, None, refl, slice_index_or, Some, take}
+use Rattle.std.specs.Prelude.{◌≡◌, ◌<◌, ◌≤◌, ℕ, List, [], ◌∷◌, length, min, refl, slice_index_or, Some, take}
 use Rattle.std.specs.Option.{option_map}
 use Rattle.std.proofs.lemmas.Option.{slice_get_past, slice_get_read}
 use Rattle.std.proofs.Common.{ap, sym, ◌∙◌, arith, inl, inr}
@@ -34,18 +34,13 @@ flattened_bag width rows = ap (flattened width) (tree-Bag rows) ∙ tuples_back 
 pub flattened_listed : (width : ℕ) (rows : List (List Value)) → flattened width (tree (value.Listed rows)) ≡ rows_tree rows
 flattened_listed width rows = ap (flattened width) (tree-Listed rows) ∙ tuples_back (rows_tree rows)
 
--- ---- of the rows that a value holds, and where it holds none
+-- ---- of the rows that a value holds
 
 pub from_found : (make : List (List Tree) → Tree) (v : Tree) (rows : List (List Tree)) → rows_of_bag v ≡ Some rows → from_rows make v ≡ make rows
 from_found make (v_bag rs) rows is = ap make (some_same (tuples_list rs) rows is)
 from_found make (v_listed rs) rows is = ap make (some_same (tuples_list rs) rows is)
 from_found make v_null rows is = absurd (cc)
 from_found make v rows is = absurd (cc)
-
-pub from_none : (make : List (List Tree) → Tree) (v : Tree) → rows_of_bag v ≡ None → from_rows make v ≡ v_null
-from_none make (v_bag rs) is = absurd (cc)
-from_none make (v_listed rs) is = absurd (cc)
-from_none make v is = refl
 
 pub flattened_found : (width : ℕ) (v : Tree) (rows : List (List Tree)) → rows_of_bag v ≡ Some rows → flattened width v ≡ rows
 flattened_found width (v_bag rs) rows is = some_same (tuples_list rs) rows is
