@@ -23,5 +23,9 @@ pub mod LoadRows
 pub mod Carries
 pub mod Meanings
 pub mod Values
+pub mod Conjoined
+pub mod Moved
+mod MoveSamples
+pub mod Rewrites
 pub mod LineFree
 pub mod OfKinds

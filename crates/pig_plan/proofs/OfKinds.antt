@@ -18,7 +18,7 @@ use Rattle.pig_value.specs.Trees.{Tree, KindTree, k_bag, k_chars, k_long, kind_t
 use Rattle.pig_value.proofs.KindLaws.{kinds_same, row_of-append, row_of_nulls, rows_of_each, rows_of_from_each}
 use Rattle.pig_value.proofs.OfRead.{OfRead, of_made}
 use Rattle.pig_value.proofs.TreeLaws.{kinds_back}
-use Rattle.pig_value.proofs.list_laws.Bags.{each-sort}
+use Rattle.pig_value.proofs.list_laws.Bags.{each-sort, permutation_from_bag, times_from_permutation}
 use Rattle.pig_value.proofs.list_laws.Distinct.{each-distinct}
 use Rattle.pig_value.proofs.list_laws.Indexing.{some_at}
 use Rattle.pig_value.proofs.list_laws.Listing.{each-append, each-filter, each-map, each-take, each_of_all, each_weaker}
@@ -36,16 +36,18 @@ use Rattle.pig_plan.proofs.Carries.{IsBag, IsEntry, each-flat_map, each_either, 
 use Rattle.pig_plan.proofs.Lower.{meaning_of_node, names_lower}
 use Rattle.pig_plan.proofs.LoadRows.{row_of_kinds}
 use Rattle.pig_plan.proofs.Meanings.{each_both, each_held, live_input, live_within, named_each}
+use Rattle.pig_plan.proofs.Through.{row_step}
 use Rattle.pig_plan.proofs.Unfolds.{before_is, result_before}
 use Rattle.pig_value.specs.Gathering.{Entry}
 use Rattle.pig_plan.specs.ByKey.{all_there, alone, as_bag, bags_of, cogroup_of, entries_of_input, gathered, group_of, holds_null, is_empty, join_of, keeps_left, keeps_right, kept_where, key_of, nulls, outer_of}
 use Rattle.pig_plan.specs.Entries.{keyed_at, made_by}
 use Rattle.pig_plan.specs.Meaning.{EachIsKept, kept_at, meaning, setting}
 use Rattle.pig_plan.specs.NodeKinds.{Before, KeyedKinds, RowKinds, all_keyed, are_alike, keyed_bags, group_kind, group_kinds, is_join, is_sorting, is_test, key_kind, key_kinds, keyed_kinds, keys_agree, kinds_at, kinds_step, kinds_table, node_gives, only_if, union_kinds, ascend}
-use Rattle.pig_plan.specs.Nodes.{inputs_of, is_live, names}
+use Rattle.pig_plan.specs.Nodes.{inputs_of, is_live, is_source, names}
 use Rattle.pig_plan.specs.Operators.{Setting, group_all, group_rows, join_rows, keyed_entries, keys_of, limit_rows, load_rows, operator_rows, pieces_of, rank_of, rank_rows}
 use Rattle.pig_plan.specs.Plans.{Keyed, Plan, PlanNode, PlanOp, p_load, p_filter, p_foreach, p_group_all, p_group, p_join, p_union, p_distinct, p_order, p_limit, p_store, p_assert, p_rank}
 use Rattle.pig_plan.specs.Results.{at_place}
+use Rattle.pig_plan.specs.Steps.{none_folds, step_rows}
 use Rattle.pig_plan.specs.Valid.{IsPlan}
 
 -- rows of these kinds, one by one
@@ -54,6 +56,12 @@ Each ks rows = AllByRecursion (λ row. IsRowOf row ks) rows
 
 sorted_each : (ks : RowKinds) (rows : List (List Tree)) → Each ks rows → Each ks (bag_of rows)
 sorted_each ks rows h = each-sort row_cmp (λ row. IsRowOf row ks) rows h
+
+-- rows that are others in another order
+unsorted_each : (ks : RowKinds) (xs ys : List (List Tree)) → bag_of xs ≡ bag_of ys → Each ks ys → Each ks xs
+unsorted_each ks xs ys same h =
+    each_held (λ row. IsRowOf row ks) xs ys
+    (λ row. let e = times_from_permutation row_cmp xs ys (permutation_from_bag row_cmp xs ys same) row in omega (arith, e)) h
 
 -- ---- keys
 
@@ -497,6 +505,15 @@ module _ (functions : FunctionsKeepKinds) (before : Before) (width : ℕ → ℕ
         (each-map (λ row. IsRowOf row (k_long ∷ ks)) (λ row. rank_of keys dense (rows input) row ∷ row) (rows input)
         (each_weaker (λ row. IsRowOf row ks) (λ row. IsRowOf (rank_of keys dense (rows input) row ∷ row) (k_long ∷ ks)) (λ row i. (tt, i)) (rows input) is.0))))
         (before input) h.0
+
+    -- a step of a node that works row by row
+    pub step_is : (o : PlanOp) → is_source o ≡ false → OwnIs o → AllByRecursion Held (inputs_of o)
+        → OfRead (λ given. OfRead (λ ks. Each ks (step_rows none_folds o (flat_map rows (inputs_of o)))) given) (node_gives before o)
+    step_is o row_wise own held =
+        of_found (λ given. OfRead (λ ks. Each ks (step_rows none_folds o (flat_map rows (inputs_of o)))) given) (node_gives before o)
+        (λ given is. of_found (λ ks. Each ks (step_rows none_folds o (flat_map rows (inputs_of o)))) given
+        (λ ks found. unsorted_each ks (step_rows none_folds o (flat_map rows (inputs_of o))) (operator_rows s statement o rows) (row_step s statement o row_wise rows)
+        (found_is (λ ls. Each ls (operator_rows s statement o rows)) given ks found (found_is (IsGiven o) (node_gives before o) given is (operator_is o own held)))))
 
 -- ---- plans
 

@@ -1,6 +1,6 @@
 -- The laws of plans and of their operators.
 use Rattle.std.specs.Prelude.{◌≡◌, ◌<◌, ◌≤◌, ◌+◌, ℕ, Bool, true, false, not, ◌&&◌, if◌then◌else◌, List, [], ◌∷◌, ◌++◌, length, Some, slice_get, take, ⊤}
-use Rattle.std.specs.List.{AllByRecursion, filter, flat_map, range_with_len}
+use Rattle.std.specs.List.{AllByRecursion, filter, flat_map, list_all, range_with_len}
 use Rattle.std.specs.List.Sorted.{IsPermutation}
 use Rattle.std.specs.Ordering.{is_eq, is_gt}
 use Rattle.pig_value.specs.declared.inputs.Input.{Input}
@@ -15,8 +15,10 @@ use Rattle.pig_value.specs.Kinds.{AreRowsOf}
 use Rattle.pig_plan.specs.NodeKinds.{kinds_at}
 use Rattle.pig_typed.specs.declared.blocks.SortKey.{SortKey}
 use Rattle.pig_typed.specs.Blocks.{foreach_all, keys_cmp}
+use Rattle.pig_typed.specs.Evaluation.{passes}
 use Rattle.pig_typed.specs.Typed.{Typed, TypedBlock}
 use Rattle.pig_plan.specs.ByKey.{gathered, holds_null, key_of}
+use Rattle.pig_plan.specs.Conjuncts.{conjuncts}
 use Rattle.pig_plan.specs.Entries.{is_by_key, key_entries, made_by}
 use Rattle.pig_plan.specs.Meaning.{AreKept, meaning, setting, EachIsKept}
 use Rattle.pig_plan.specs.Nodes.{inputs_of, is_list, is_sorted, is_source, lists, is_live}
@@ -132,6 +134,10 @@ ForeachGoesByPieces = (block : TypedBlock) (pieces : List (List (List Tree))) �
 abbrev pub UnionGoesByPieces : Type 0
 UnionGoesByPieces = (pieces : ℕ → List (List (List Tree))) (inputs : List ℕ)
     → flat_map (λ i. flat_map (λ piece. piece) (pieces i)) inputs ≡ flat_map (λ piece. piece) (flat_map pieces inputs)
+
+-- a row passes a condition just where it passes each of its conjuncts
+abbrev pub ConditionsGoByConjuncts : Type 0
+ConditionsGoByConjuncts = (cond : Typed) (row : List Tree) → passes cond row ≡ list_all (λ conjunct. passes conjunct row) (conjuncts cond)
 
 -- what is asked of the literals of a plan, each taken as the value that it stands for
 abbrev pub KeyLiteralsAre : (Tree → Type 0) → List Keyed → Type 0

@@ -14,4 +14,8 @@ pub mod Steps
 pub mod Meaning
 pub mod Asserts
 pub mod Stored
+pub mod Conjuncts
+pub mod Moves
+pub mod Rewrites
+pub mod Renumbered
 pub mod Laws
