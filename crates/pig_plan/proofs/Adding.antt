@@ -25,13 +25,13 @@ use Rattle.pig_plan.specs.Valid.{IsPlan, fits}
 
 -- an operator asks of its inputs alone how wide and whether sorted they are
 module _ (inputs : List Input) (kept : ℕ → List (List Tree)) (v w : ℕ → ℕ) (p q : ℕ → Bool) (rows : ℕ → List (List Tree)) where
-  abbrev First : Setting
+  abbrev pub First : Setting
   First = record { inputs = inputs; kept = kept; width = v; sorted = p }
 
-  abbrev Second : Setting
+  abbrev pub Second : Setting
   Second = record { inputs = inputs; kept = kept; width = w; sorted = q }
 
-  abbrev Same : ℕ → Type 0
+  abbrev pub Same : ℕ → Type 0
   Same i = (v i ≡ w i) × (p i ≡ q i)
 
   outer_settled : (s : Side) (a b : Keyed) (more : List Keyed) → v a.input ≡ w a.input → v b.input ≡ w b.input
@@ -50,7 +50,7 @@ module _ (inputs : List Input) (kept : ℕ → List (List Tree)) (v w : ℕ → 
   join_settled side.Right (a ∷ b ∷ more) h = outer_settled side.Right a b more h.0.0 h.1.0.0
   join_settled side.Full (a ∷ b ∷ more) h = outer_settled side.Full a b more h.0.0 h.1.0.0
 
-  settled : (statement : ℕ) (o : PlanOp) → AllByRecursion Same (inputs_of o) → operator_rows First statement o rows ≡ operator_rows Second statement o rows
+  pub settled : (statement : ℕ) (o : PlanOp) → AllByRecursion Same (inputs_of o) → operator_rows First statement o rows ≡ operator_rows Second statement o rows
   settled statement (p_load path delim columns) h = refl
   settled statement (p_filter input cond) h = refl
   settled statement (p_foreach input block) h = refl

@@ -1,6 +1,6 @@
 // Plans, and what is told of them. Where memory is wanting the process ends: that drops nothing, so its proof is short.
 // Trees end by `drop`: one call is cheap to prove, and a tree that dies by name is taken apart variant by variant.
-use pig_plan::{Node, NodeOp, Plan};
+use pig_plan::{Node, NodeOp, Plan, path_counts};
 use pig_reach::{lines_read, live_numbers, live_paths, stores};
 use pig_typed::TExpr;
 use pig_value::{Blob, Blobs, Column, Columns, Delim, Input, Inputs, Kind, Numbers, Seq, Text};
@@ -175,6 +175,36 @@ fn what_stores_reach(rt: HostRuntime) {
     for line in TOLD.lines() {
         let (words, want) = line.split_once(':').unwrap_or((line, ""));
         let got = told(&rt, rt.alloc(), words);
+        assert_eq!(rt; got.as_str(), want, "at {words}");
+    }
+}
+
+/// The number of paths of each node, where more than five count as five.
+fn counted<R: Abort>(rt: &R, alloc: Global, words: &str) -> String {
+    let plan = plan(rt, alloc, words);
+    let counts = path_counts(alloc, &plan, 5).expect(rt, "memory");
+    drop(plan);
+    let mut told = String::new(alloc);
+    for count in counts.as_slice() {
+        let count = *count;
+        let word = format!(in alloc; " {count}").expect(rt, "memory");
+        add(rt, &mut told, word.as_str());
+    }
+    told
+}
+
+// The words of a plan, and how many paths each of its nodes has.
+const COUNTED: &str = "La: 1
+La u00 u11 u22 u33: 1 2 4 5 5
+La u00 u11 d2 u33 s4p: 1 2 4 1 2 2
+La Lb u001 f2 l3: 1 1 3 3 1
+";
+
+#[test]
+fn paths_count_up_to_a_limit(rt: HostRuntime) {
+    for line in COUNTED.lines() {
+        let (words, want) = line.split_once(':').unwrap_or((line, ""));
+        let got = counted(&rt, rt.alloc(), words);
         assert_eq!(rt; got.as_str(), want, "at {words}");
     }
 }
