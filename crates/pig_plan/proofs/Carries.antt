@@ -6,7 +6,7 @@ use Rattle.std.proofs.lemmas.Bool.{eqb-true}
 use Rattle.pig_value.specs.declared.operators.Side.{Side}
 use Rattle.pig_value.specs.declared.operators.Side.TheVariants as side
 use Rattle.pig_value.specs.Functions.{long_of}
-use Rattle.pig_value.specs.Gathering.{with_key}
+use Rattle.pig_value.specs.Gathering.{Entry, with_key}
 use Rattle.pig_value.specs.Orders.{bag_of, row_cmp, tree_cmp}
 use Rattle.pig_value.specs.Sorts.{distinct}
 use Rattle.pig_value.specs.Trees.{Tree, tuples_of, v_bag, v_chars}
@@ -20,7 +20,7 @@ use Rattle.pig_typed.specs.Literals.{LiteralsAre}
 use Rattle.pig_typed.specs.Products.{joined, product}
 use Rattle.pig_typed.specs.Typed.{Typed}
 use Rattle.pig_typed.proofs.Carried.{IsCarried, block_carried, carried}
-use Rattle.pig_plan.specs.ByKey.{Entry, all_there, alone, as_bag, bags_of, cogroup_of, entries_of_input, gathered, group_of, holds_null, is_empty, join_of, keeps_left, keeps_right, kept_where, key_of, nulls, outer_of, rows_of}
+use Rattle.pig_plan.specs.ByKey.{all_there, alone, as_bag, bags_of, cogroup_of, entries_of_input, gathered, group_of, holds_null, is_empty, join_of, keeps_left, keeps_right, kept_where, key_of, nulls, outer_of, rows_of}
 use Rattle.pig_plan.specs.Laws.{KeyLiteralsAre, OpLiteralsAre}
 use Rattle.pig_plan.specs.Nodes.{inputs_of}
 use Rattle.pig_plan.specs.Operators.{Setting, group_all, group_rows, join_rows, keyed_entries, keys_of, limit_rows, load_rows, operator_rows, rank_of, rank_rows}

@@ -8,10 +8,10 @@ use Rattle.pig_value.proofs.OrderLaws.{tree_total, tree_same, row_total, row_sam
 use Rattle.pig_value.proofs.list_laws.Bags.{bag_from_permutation}
 use Rattle.pig_value.proofs.list_laws.Partitions.{by_key_permuted, by_key_tasks}
 use Rattle.pig_value.proofs.list_laws.Permutations.{IsPermutation-filter}
-use Rattle.pig_value.specs.Gathering.{in_part}
+use Rattle.pig_value.specs.Gathering.{Entry, in_part}
 use Rattle.pig_value.specs.Orders.{tree_cmp, row_cmp}
 use Rattle.pig_value.specs.Trees.{Tree}
-use Rattle.pig_plan.specs.ByKey.{Entry, gathered, rows_of}
+use Rattle.pig_plan.specs.ByKey.{gathered, rows_of}
 
 -- what an operator makes of a key's entries does not depend on their order
 rows_of_same : (us vs : List Entry) → IsPermutation us vs → rows_of us ≡ rows_of vs

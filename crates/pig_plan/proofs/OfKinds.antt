@@ -37,7 +37,8 @@ use Rattle.pig_plan.proofs.Lower.{meaning_of_node, names_lower}
 use Rattle.pig_plan.proofs.LoadRows.{row_of_kinds}
 use Rattle.pig_plan.proofs.Meanings.{each_both, each_held, live_input, live_within, named_each}
 use Rattle.pig_plan.proofs.Unfolds.{before_is, result_before}
-use Rattle.pig_plan.specs.ByKey.{Entry, all_there, alone, as_bag, bags_of, cogroup_of, entries_of_input, gathered, group_of, holds_null, is_empty, join_of, keeps_left, keeps_right, kept_where, key_of, nulls, outer_of}
+use Rattle.pig_value.specs.Gathering.{Entry}
+use Rattle.pig_plan.specs.ByKey.{all_there, alone, as_bag, bags_of, cogroup_of, entries_of_input, gathered, group_of, holds_null, is_empty, join_of, keeps_left, keeps_right, kept_where, key_of, nulls, outer_of}
 use Rattle.pig_plan.specs.Meaning.{EachIsKept, kept_at, meaning, setting}
 use Rattle.pig_plan.specs.NodeKinds.{Before, KeyedKinds, RowKinds, all_keyed, are_alike, keyed_bags, group_kind, group_kinds, is_join, is_sorting, is_test, key_kind, key_kinds, keyed_kinds, keys_agree, kinds_at, kinds_step, kinds_table, node_gives, only_if, union_kinds, ascend}
 use Rattle.pig_plan.specs.Nodes.{inputs_of, is_live, names}

@@ -10,7 +10,7 @@ use Rattle.std.proofs.lemmas.List.{map-append}
 use Rattle.std.proofs.lemmas.Simd.{map-map}
 use Rattle.std.proofs.lemmas.List.Sorted.{IsPermutation-map, IsPermutation-sym, IsPermutation-trans}
 use Rattle.pig_value.specs.declared.operators.Side.TheVariants as side
-use Rattle.pig_value.specs.Gathering.{with_key}
+use Rattle.pig_value.specs.Gathering.{Entry, with_key}
 use Rattle.pig_value.specs.Orders.{bag_of, row_cmp, tree_cmp}
 use Rattle.pig_value.specs.Sorts.{distinct, times}
 use Rattle.pig_value.specs.Trees.{Tree}
@@ -20,7 +20,7 @@ use Rattle.pig_value.proofs.list_laws.Distinct.{times-distinct}
 use Rattle.pig_value.proofs.list_laws.Listing.{each_of_all, flat_map-flat_map, flat_map_each, flat_map_where}
 use Rattle.pig_value.proofs.list_laws.Permutations.{IsPermutation-flat_map, IsPermutation-flat_map_each, IsPermutation-same}
 use Rattle.pig_typed.specs.Products.{joined, product}
-use Rattle.pig_plan.specs.ByKey.{Entry, entries_of_input, gathered, holds_null, join_of, rows_of}
+use Rattle.pig_plan.specs.ByKey.{entries_of_input, gathered, holds_null, join_of, rows_of}
 use Rattle.pig_plan.specs.Laws.{joined_pair, key_in, pairs}
 use Rattle.pig_plan.specs.Operators.{join_rows, keyed_entries}
 use Rattle.pig_plan.specs.Plans.{Keyed}

@@ -3,13 +3,13 @@ use Rattle.std.specs.Prelude.{◌≡◌, ℕ, Bool, false, List, [], ◌∷◌, 
 use Rattle.std.proofs.Common.{ap, arith, true≢false}
 use Rattle.std.specs.List.{flat_map, range_with_len}
 use Rattle.std.specs.Ordering.{is_eq}
-use Rattle.pig_value.specs.Gathering.{in_part}
+use Rattle.pig_value.specs.Gathering.{Entry, in_part}
 use Rattle.pig_value.specs.Orders.{bag_of, tree_cmp}
 use Rattle.pig_value.specs.Sorts.{sort}
 use Rattle.pig_value.specs.Trees.{Tree, at, v_null}
 use Rattle.pig_typed.specs.declared.blocks.SortKey.{SortKey}
 use Rattle.pig_typed.specs.Blocks.{keys_cmp}
-use Rattle.pig_plan.specs.ByKey.{Entry, all_there, bags_of, gathered, group_of, holds_null, kept_where}
+use Rattle.pig_plan.specs.ByKey.{all_there, bags_of, gathered, group_of, holds_null, kept_where}
 use Rattle.pig_plan.specs.Operators.{keyed_entries, order_rows}
 use Rattle.pig_plan.specs.Plans.{p_group}
 use Rattle.pig_plan.proofs.Samples.{Rows, bag, by, cogroup, desc, group, inputs, int, lettered, letter, of, row}

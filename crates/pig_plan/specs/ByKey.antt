@@ -6,6 +6,7 @@ use Rattle.pig_value.specs.declared.operators.Side.{Side}
 use Rattle.pig_value.specs.declared.operators.Side.TheVariants as side
 use Rattle.pig_value.specs.Trees.{Tree, Fields, v_null, v_tuple, v_bag, no_fields, more_fields, fields_of, tuples_of}
 use Rattle.pig_value.specs.Orders.{tree_cmp, bag_of}
+pub use Rattle.pig_value.specs.Gathering.{Entry}
 use Rattle.pig_value.specs.Gathering.{by_key}
 use Rattle.pig_typed.specs.Products.{product}
 
@@ -24,12 +25,6 @@ abbrev mutual
   pub one_holds_null : Fields → Bool
   one_holds_null no_fields = false
   one_holds_null (more_fields v vs) = holds_null v || one_holds_null vs
-
--- a row of an input, with its key
-pub record Entry : Type 0 where
-  pub key : Tree
-  pub input : ℕ
-  pub row : List Tree
 
 -- the bag of an input's rows
 abbrev pub rows_of : List Entry → ℕ → List (List Tree)

@@ -5,7 +5,7 @@ use Rattle.std.specs.List.Sorted.{IsPermutation}
 use Rattle.std.specs.Ordering.{is_eq, is_gt}
 use Rattle.pig_value.specs.declared.inputs.Input.{Input}
 use Rattle.pig_value.specs.declared.outcomes.Kept.{Kept}
-use Rattle.pig_value.specs.Gathering.{in_part}
+use Rattle.pig_value.specs.Gathering.{Entry, in_part}
 use Rattle.pig_value.specs.Orders.{bag_of, tree_cmp}
 use Rattle.pig_value.specs.declared.operators.Side.TheVariants as side
 use Rattle.pig_value.specs.Sorts.{sort}
@@ -16,7 +16,7 @@ use Rattle.pig_plan.specs.NodeKinds.{kinds_at}
 use Rattle.pig_typed.specs.declared.blocks.SortKey.{SortKey}
 use Rattle.pig_typed.specs.Blocks.{foreach_all, keys_cmp}
 use Rattle.pig_typed.specs.Typed.{Typed, TypedBlock}
-use Rattle.pig_plan.specs.ByKey.{Entry, gathered, holds_null, key_of}
+use Rattle.pig_plan.specs.ByKey.{gathered, holds_null, key_of}
 use Rattle.pig_plan.specs.Meaning.{meaning, setting, EachIsKept}
 use Rattle.pig_plan.specs.Nodes.{inputs_of, is_list, is_sorted, lists, is_live}
 use Rattle.pig_plan.specs.Operators.{Setting, filter_rows, join_rows, keys_of, operator_rows}

@@ -24,7 +24,8 @@ use Rattle.pig_typed.specs.Evaluation.{ev, passes}
 use Rattle.pig_value.specs.Trees.{at}
 use Rattle.pig_typed.specs.Typed.{Typed}
 use Rattle.pig_plan.specs.Plans.{Keyed, PlanOp, p_load, p_filter, p_foreach, p_group_all, p_group, p_join, p_union, p_distinct, p_order, p_limit, p_store, p_assert, p_rank}
-use Rattle.pig_plan.specs.ByKey.{Entry, cogroup_of, entries_of_input, gathered, group_of, join_of, key_of, outer_of}
+use Rattle.pig_value.specs.Gathering.{Entry}
+use Rattle.pig_plan.specs.ByKey.{cogroup_of, entries_of_input, gathered, group_of, join_of, key_of, outer_of}
 
 -- ---- rows by rows
 
