@@ -1,7 +1,8 @@
 -- What expressions keep of values, and what holds of what a LOAD reads, holds of the rows of every operator.
-use Rattle.std.specs.Prelude.{◌≡◌, ◌+◌, ◌==◌, ℕ, ℤ, Bool, true, false, not, ◌&&◌, List, [], ◌∷◌, ◌++◌, length, map, codes, refl, if◌then◌else◌, ⊤}
+use Rattle.std.specs.Prelude.{◌≡◌, ◌+◌, ◌==◌, ℕ, ℤ, Bool, true, false, not, ◌&&◌, List, [], ◌∷◌, ◌++◌, length, map, codes, Option, None, Some, slice_get, refl, if◌then◌else◌, ⊤}
 use Rattle.std.proofs.Common.{subst, cond, zero, suc}
 use Rattle.std.specs.List.{AllByRecursion, filter, flat_map, range_with_len}
+use Rattle.std.specs.Option.{is_some, option_map_or}
 use Rattle.std.proofs.lemmas.Bool.{eqb-true}
 use Rattle.pig_value.specs.declared.operators.Side.{Side}
 use Rattle.pig_value.specs.declared.operators.Side.TheVariants as side
@@ -9,11 +10,12 @@ use Rattle.pig_value.specs.Functions.{long_of}
 use Rattle.pig_value.specs.Gathering.{Entry, with_key}
 use Rattle.pig_value.specs.Orders.{bag_of, row_cmp, tree_cmp}
 use Rattle.pig_value.specs.Sorts.{distinct}
-use Rattle.pig_value.specs.Trees.{Tree, tuples_of, v_bag, v_chars}
+use Rattle.pig_value.specs.Trees.{Tree, at, or_null, tuples_of, v_bag, v_chars, v_null}
 use Rattle.pig_value.proofs.OrderLaws.{row_total}
 use Rattle.pig_value.proofs.list_laws.Bags.{bag_once, each-sort}
 use Rattle.pig_value.proofs.list_laws.Distinct.{each-distinct}
-use Rattle.pig_value.proofs.list_laws.Listing.{each-append, each-filter, each-map, each-take, each_of_all, each_weaker}
+use Rattle.pig_value.proofs.list_laws.Listing.{each-append, each-filter, each-map, each-take, each_at, each_of_all, each_weaker}
+use Rattle.pig_typed.specs.declared.blocks.SortKey.{SortKey}
 use Rattle.pig_typed.specs.Blocks.{foreach_rows, keys_cmp}
 use Rattle.pig_typed.specs.Evaluation.{ev, passes}
 use Rattle.pig_typed.specs.Literals.{LiteralsAre}
@@ -21,10 +23,12 @@ use Rattle.pig_typed.specs.Products.{joined, product}
 use Rattle.pig_typed.specs.Typed.{Typed}
 use Rattle.pig_typed.proofs.Carried.{IsCarried, block_carried, carried}
 use Rattle.pig_plan.specs.ByKey.{all_there, alone, as_bag, bags_of, cogroup_of, entries_of_input, gathered, group_of, holds_null, is_empty, join_of, keeps_left, keeps_right, kept_where, key_of, nulls, outer_of, rows_of}
+use Rattle.pig_plan.specs.Entries.{entries_of, key_at, keyed_at, made_by, sort_key_of}
 use Rattle.pig_plan.specs.Laws.{KeyLiteralsAre, OpLiteralsAre}
 use Rattle.pig_plan.specs.Nodes.{inputs_of}
-use Rattle.pig_plan.specs.Operators.{Setting, group_all, group_rows, join_rows, keyed_entries, keys_of, limit_rows, load_rows, operator_rows, rank_of, rank_rows}
+use Rattle.pig_plan.specs.Operators.{Setting, group_all, group_rows, join_rows, key_fields, keyed_entries, keys_of, limit_rows, load_rows, operator_rows, rank_of, rank_rows}
 use Rattle.pig_plan.specs.Plans.{Keyed, PlanOp, p_load, p_filter, p_foreach, p_group_all, p_group, p_join, p_union, p_distinct, p_order, p_limit, p_store, p_assert, p_rank}
+use Rattle.pig_plan.specs.Steps.{Folding, step_rows}
 
 -- ---- lists
 
@@ -82,7 +86,7 @@ module _ (K : Tree → Type 0) (E : ℕ → List Tree → Type 0) where
 -- ---- values
 
 module _ (P : Tree → Type 0) (c : IsCarried P) (long : (z : ℤ) → P (long_of z)) (word : P (v_chars (codes "all"))) where
-  abbrev Row : List Tree → Type 0
+  abbrev pub Row : List Tree → Type 0
   Row = AllByRecursion P
 
   bag_held : (rows : List (List Tree)) → IsBag Row rows → P (as_bag rows)
@@ -164,7 +168,7 @@ module _ (P : Tree → Type 0) (c : IsCarried P) (long : (z : ℤ) → P (long_o
 
   -- ---- operators
 
-  abbrev Made : (Tree → (ℕ → List (List Tree)) → List (List Tree)) → Type 0
+  abbrev pub Made : (Tree → (ℕ → List (List Tree)) → List (List Tree)) → Type 0
   Made make = (k : Tree) → P k → (rows : ℕ → List (List Tree)) → ((i : ℕ) → IsBag Row (rows i)) → AllByRecursion Row (make k rows)
 
   module _ (rows : ℕ → List (List Tree)) where
@@ -227,3 +231,92 @@ module _ (P : Tree → Type 0) (c : IsCarried P) (long : (z : ℤ) → P (long_o
     operator_held s statement (p_rank input keys dense) ok own h =
         bag_rows_held (rank_rows keys dense (rows input))
         (each-map Row (λ row. rank_of keys dense (rows input) row ∷ row) (rows input) (each_weaker Row _ (λ row i. (long _, i)) (rows input) h.0))
+
+  -- ---- the same of single steps: entries of any rows, what is made of any entries, and a step of any rows
+
+  at_held : (row : List Tree) → Row row → (n : ℕ) → P (at n row)
+  at_held row h n = by_found (slice_get row n) refl
+    where
+      by_found : (o : Option Tree) → slice_get row n ≡ o → P (or_null o)
+      by_found None e = c.null
+      by_found (Some v) e = each_at P row n v e h
+
+  sort_key_held : (keys : List SortKey) (row : List Tree) → Row row → P (sort_key_of keys row)
+  sort_key_held keys row h = c.tuple (key_fields keys row) (each-map P (λ key. at key.position row) keys (each_of_all _ (λ key. at_held row h key.position) keys))
+
+  keyed_at_held : (inputs : List Keyed) → KeyLiteralsAre P inputs → (i : ℕ) (row : List Tree) → Row row → P (keyed_at inputs i row)
+  keyed_at_held inputs ok i row h = by_found (slice_get inputs i) refl
+    where
+      by_found : (o : Option Keyed) → slice_get inputs i ≡ o → P (option_map_or (λ input. key_of (keys_of input.keys row)) o v_null)
+      by_found None e = c.null
+      by_found (Some input) e = key_held (keys_of input.keys row) (keys_held input.keys row (each_at (λ k. AllByRecursion (LiteralsAre P) k.keys) inputs i input e ok) h)
+
+  -- the key of a row
+  pub key_at_held : (o : PlanOp) → OpLiteralsAre P o → (i : ℕ) (row : List Tree) → Row row → P (key_at o i row)
+  key_at_held (p_group_all input) ok i row h = word
+  key_at_held (p_group inputs) ok i row h = keyed_at_held inputs ok i row h
+  key_at_held (p_join inputs sd replicated) ok i row h = keyed_at_held inputs ok i row h
+  key_at_held (p_distinct input) ok i row h = c.tuple row h
+  key_at_held (p_order input keys) ok i row h = sort_key_held keys row h
+  key_at_held (p_rank input keys dense) ok i row h = sort_key_held keys row h
+  key_at_held (p_load path delim columns) ok i row h = c.null
+  key_at_held (p_filter input test) ok i row h = c.null
+  key_at_held (p_foreach input block) ok i row h = c.null
+  key_at_held (p_union inputs) ok i row h = c.null
+  key_at_held (p_limit input count) ok i row h = c.null
+  key_at_held (p_store input path delim) ok i row h = c.null
+  key_at_held (p_assert input test message) ok i row h = c.null
+
+  pub entries_of_held : (o : PlanOp) → OpLiteralsAre P o → (i : ℕ) (rows : List (List Tree)) → AllByRecursion Row rows → AllByRecursion (IsEntry P (λ j. Row)) (entries_of o i rows)
+  entries_of_held o ok i rows h =
+      each-map (IsEntry P (λ j. Row)) (λ row. record { key = key_at o i row; input = i; row = row }) rows (each_weaker Row _ (λ row is. (key_at_held o ok i row is, is)) rows h)
+
+  -- what is made of a key and its bags
+  pub made_held : (width : ℕ → ℕ) (o : PlanOp) → Made (made_by width o)
+  made_held width (p_group_all input) = group_held
+  made_held width (p_group []) = cogroup_held [] 0
+  made_held width (p_group (i ∷ [])) = group_held
+  made_held width (p_group (i ∷ j ∷ inputs)) = cogroup_held (map (λ k. k.inner) (i ∷ j ∷ inputs)) (length (i ∷ j ∷ inputs))
+  made_held width (p_join inputs side.Inner replicated) = join_held (length inputs)
+  made_held width (p_join [] side.Left replicated) = λ k h rows g. tt
+  made_held width (p_join [] side.Right replicated) = λ k h rows g. tt
+  made_held width (p_join [] side.Full replicated) = λ k h rows g. tt
+  made_held width (p_join (a ∷ []) side.Left replicated) = λ k h rows g. tt
+  made_held width (p_join (a ∷ []) side.Right replicated) = λ k h rows g. tt
+  made_held width (p_join (a ∷ []) side.Full replicated) = λ k h rows g. tt
+  made_held width (p_join (a ∷ b ∷ more) side.Left replicated) = outer_held side.Left (width a.input) (width b.input)
+  made_held width (p_join (a ∷ b ∷ more) side.Right replicated) = outer_held side.Right (width a.input) (width b.input)
+  made_held width (p_join (a ∷ b ∷ more) side.Full replicated) = outer_held side.Full (width a.input) (width b.input)
+  made_held width (p_load path delim columns) = λ k h rows g. tt
+  made_held width (p_filter input test) = λ k h rows g. tt
+  made_held width (p_foreach input block) = λ k h rows g. tt
+  made_held width (p_union inputs) = λ k h rows g. tt
+  made_held width (p_distinct input) = λ k h rows g. tt
+  made_held width (p_order input keys) = λ k h rows g. tt
+  made_held width (p_limit input count) = λ k h rows g. tt
+  made_held width (p_store input path delim) = λ k h rows g. tt
+  made_held width (p_assert input test message) = λ k h rows g. tt
+  made_held width (p_rank input keys dense) = λ k h rows g. tt
+
+  pub gathered_rows_held : (width : ℕ → ℕ) (o : PlanOp) (entries : List Entry) → AllByRecursion (IsEntry P (λ j. Row)) entries → AllByRecursion Row (gathered (made_by width o) entries)
+  gathered_rows_held width o entries h = each_gathered P (λ j. Row) Row (made_by width o) (made_held width o) entries h
+
+  -- a step of a node that works row by row
+  pub step_held : (folding : Folding) (o : PlanOp) → OpLiteralsAre P o → (rows : List (List Tree)) → AllByRecursion Row rows → AllByRecursion Row (step_rows folding o rows)
+  step_held folding (p_filter input test) ok rows h = each-filter (passes test) Row rows h
+  step_held folding (p_foreach input block) ok rows h = by_test (is_some (folding input))
+    where
+      by_test : (b : Bool) → AllByRecursion Row (cond b rows (flat_map (foreach_rows block) rows))
+      by_test true = h
+      by_test false = each-flat_map Row (foreach_rows block) rows (each_weaker Row (λ row. AllByRecursion Row (foreach_rows block row)) (λ row i. block_carried P c block row ok i) rows h)
+  step_held folding (p_load path delim columns) ok rows h = h
+  step_held folding (p_group_all input) ok rows h = h
+  step_held folding (p_group inputs) ok rows h = h
+  step_held folding (p_join inputs sd replicated) ok rows h = h
+  step_held folding (p_union inputs) ok rows h = h
+  step_held folding (p_distinct input) ok rows h = h
+  step_held folding (p_order input keys) ok rows h = h
+  step_held folding (p_limit input count) ok rows h = h
+  step_held folding (p_store input path delim) ok rows h = h
+  step_held folding (p_assert input test message) ok rows h = h
+  step_held folding (p_rank input keys dense) ok rows h = h

@@ -3,19 +3,25 @@ mod PlanSamples
 mod WrongBodies
 pub mod Unfolds
 pub mod Gathered
-mod Ordered
+pub mod Ordered
 pub mod Looking
 pub mod Lower
-mod Grows
-mod Adding
+pub mod Grows
+pub mod Adding
 mod Twins
+pub mod Marking
+pub mod Paths
+pub mod PathCounts
+pub mod KeyedOnce
 pub mod Seen
-mod ByPieces
+pub mod Through
+pub mod ByTasks
+pub mod ByPieces
 mod Pairs
 pub mod Listed
 pub mod LoadRows
 pub mod Carries
 pub mod Meanings
-mod Values
+pub mod Values
 pub mod LineFree
-mod OfKinds
+pub mod OfKinds

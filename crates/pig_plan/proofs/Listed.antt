@@ -1,5 +1,5 @@
 -- A sorted node is a list.
-use Rattle.std.specs.Prelude.{◌≡◌, ◌<◌, ◌+◌, ℕ, Bool, true, false, List, [], ◌∷◌, length, refl}
+use Rattle.std.specs.Prelude.{◌≡◌, ◌<◌, ◌+◌, ℕ, Bool, true, false, List, [], ◌∷◌, length, Some, slice_get, refl}
 use Rattle.std.proofs.Common.{sym, ◌∙◌, arith, suc, zero, true≢false}
 use Rattle.std.specs.List.{AllByRecursion}
 use Rattle.pig_value.proofs.list_laws.Indexing.{some_at}
@@ -68,6 +68,17 @@ module _ (plan : Plan) (valid : IsPlan plan) where
   abbrev IsListed : ℕ → Type 0
   IsListed k = is_sorted plan k ≡ true → is_list plan k ≡ true
 
+  -- whether a node is sorted, or a list, by its operator and its inputs
+  pub sorted_of_node : (k : ℕ) (v : PlanNode) → slice_get plan k ≡ Some v → is_sorted plan k ≡ sorts v.op (is_sorted plan)
+  sorted_of_node k v at =
+      result_is (λ k node. sorts node.op) false plan k v at
+      (λ f g same. sorts_looks f g v.op (each_weaker (λ i. i < k) (λ i. f i ≡ g i) same (inputs_of v.op) (names_lower plan valid k v at)))
+
+  pub list_of_node : (k : ℕ) (v : PlanNode) → slice_get plan k ≡ Some v → is_list plan k ≡ lists (is_sorted plan) v.op (is_list plan)
+  list_of_node k v at =
+      result_is (λ k node. lists (is_sorted plan) node.op) false plan k v at
+      (λ f g same. lists_looks f g (is_sorted plan) v.op (each_weaker (λ i. i < k) (λ i. f i ≡ g i) same (inputs_of v.op) (names_lower plan valid k v at)))
+
   listed_at : (k : ℕ) → ((i : ℕ) → i < k → IsListed i) → IsListed k
   listed_at k lower e =
       let same : length (results (λ k node. sorts node.op) false plan) ≡ length plan = length-results (λ k node. sorts node.op) false plan in
@@ -75,12 +86,8 @@ module _ (plan : Plan) (valid : IsPlan plan) where
       let found = some_at plan k (omega (arith, same, within)) in
       let v : PlanNode = found.0 in
       let below : AllByRecursion (λ i. i < k) (inputs_of v.op) = names_lower plan valid k v found.1 in
-      let sorted : is_sorted plan k ≡ sorts v.op (is_sorted plan) =
-      result_is (λ k node. sorts node.op) false plan k v found.1 (λ f g same. sorts_looks f g v.op (each_weaker (λ i. i < k) (λ i. f i ≡ g i) same (inputs_of v.op) below)) in
-      let list : is_list plan k ≡ lists (is_sorted plan) v.op (is_list plan) =
-      result_is (λ k node. lists (is_sorted plan) node.op) false plan k v found.1
-      (λ f g same. lists_looks f g (is_sorted plan) v.op (each_weaker (λ i. i < k) (λ i. f i ≡ g i) same (inputs_of v.op) below)) in
-      list ∙ sorts_lists (is_sorted plan) (is_list plan) v.op (each_weaker (λ i. i < k) IsListed lower (inputs_of v.op) below) (sym sorted ∙ e)
+      list_of_node k v found.1
+      ∙ sorts_lists (is_sorted plan) (is_list plan) v.op (each_weaker (λ i. i < k) IsListed lower (inputs_of v.op) below) (sym (sorted_of_node k v found.1) ∙ e)
 
   all_listed : (n k : ℕ) → k < n → IsListed k
   all_listed zero k h = absurd (omega (arith, h))

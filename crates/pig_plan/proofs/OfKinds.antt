@@ -39,6 +39,7 @@ use Rattle.pig_plan.proofs.Meanings.{each_both, each_held, live_input, live_with
 use Rattle.pig_plan.proofs.Unfolds.{before_is, result_before}
 use Rattle.pig_value.specs.Gathering.{Entry}
 use Rattle.pig_plan.specs.ByKey.{all_there, alone, as_bag, bags_of, cogroup_of, entries_of_input, gathered, group_of, holds_null, is_empty, join_of, keeps_left, keeps_right, kept_where, key_of, nulls, outer_of}
+use Rattle.pig_plan.specs.Entries.{keyed_at, made_by}
 use Rattle.pig_plan.specs.Meaning.{EachIsKept, kept_at, meaning, setting}
 use Rattle.pig_plan.specs.NodeKinds.{Before, KeyedKinds, RowKinds, all_keyed, are_alike, keyed_bags, group_kind, group_kinds, is_join, is_sorting, is_test, key_kind, key_kinds, keyed_kinds, keys_agree, kinds_at, kinds_step, kinds_table, node_gives, only_if, union_kinds, ascend}
 use Rattle.pig_plan.specs.Nodes.{inputs_of, is_live, names}
@@ -57,7 +58,7 @@ sorted_each ks rows h = each-sort row_cmp (λ row. IsRowOf row ks) rows h
 -- ---- keys
 
 module _ (functions : FunctionsKeepKinds) where
-  abbrev IsKeyOf : RowKinds → Typed → KindTree → Type 0
+  abbrev pub IsKeyOf : RowKinds → Typed → KindTree → Type 0
   IsKeyOf ks e k = (row : List Tree) → IsRowOf row ks → IsOf (ev e row []) k
 
   key_is : (ks : RowKinds) (e : Typed) → OfRead (IsKeyOf ks e) (key_kind ks e)
@@ -65,7 +66,7 @@ module _ (functions : FunctionsKeepKinds) where
       then_found (IsKeyOf ks e) (IsKeyOf ks e) (λ k. only_if (not (has_bag_or_map k)) (Some k)) (λ k h. tested (IsKeyOf ks e) (not (has_bag_or_map k)) (Some k) (λ _. h))
       (expr_kind e ks []) (of_found (IsKeyOf ks e) (expr_kind e ks []) (λ k is row h. found_is (IsOf (ev e row [])) (expr_kind e ks []) k is (kept functions row [] ks [] h tt e)))
 
-  abbrev AreKeysOf : RowKinds → List Typed → RowKinds → Type 0
+  abbrev pub AreKeysOf : RowKinds → List Typed → RowKinds → Type 0
   AreKeysOf ks keys found = (row : List Tree) → IsRowOf row ks → IsRowOf (keys_of keys row) found
 
   keys_are : (ks : RowKinds) (keys : List Typed) → OfRead (AreKeysOf ks keys) (all_of (key_kind ks) keys)
@@ -90,7 +91,7 @@ key_of_kinds (v ∷ w ∷ vs) (k ∷ []) h = absurd h.1
 key_of_kinds (v ∷ w ∷ vs) (k ∷ l ∷ ks) h = h
 
 -- the kinds of the rows of the input at a place
-abbrev row_at : List KeyedKinds → ℕ → RowKinds
+abbrev pub row_at : List KeyedKinds → ℕ → RowKinds
 row_at found i = option_map_or (λ f. f.row) (slice_get found i) []
 
 at_first : (found : List KeyedKinds) (j : ℕ) → row_at found (0 + j) ≡ row_at found j
@@ -99,10 +100,10 @@ at_first found j = ap (row_at found) (let e : 0 + j ≡ j = omega (arith) in e)
 -- ---- entries and what is made of them
 
 module _ (functions : FunctionsKeepKinds) (before : Before) (width : ℕ → ℕ) (rows : ℕ → List (List Tree)) where
-  abbrev Held : ℕ → Type 0
+  abbrev pub Held : ℕ → Type 0
   Held i = OfRead (λ ks. Each ks (rows i) × (width i ≡ length ks)) (before i)
 
-  record IsKeyed (input : Keyed) (kinds : KeyedKinds) : Type 0 where
+  pub record IsKeyed (input : Keyed) (kinds : KeyedKinds) : Type 0 where
     pub rows_are : Each kinds.row (rows input.input)
     pub wide : width input.input ≡ length kinds.row
     pub keys_are : AreKeysOf functions kinds.row input.keys kinds.keys
@@ -114,7 +115,7 @@ module _ (functions : FunctionsKeepKinds) (before : Before) (width : ℕ → ℕ
       (λ keys are. record { rows_are = held.0; wide = held.1; keys_are = are }) (key_kinds ks input.keys) (all_keys_are functions ks input.keys))
       (before input.input) h
 
-  abbrev AreKeyed : List Keyed → List KeyedKinds → Type 0
+  abbrev pub AreKeyed : List Keyed → List KeyedKinds → Type 0
   AreKeyed [] [] = ⊤
   AreKeyed (input ∷ inputs) (kinds ∷ found) = IsKeyed input kinds × AreKeyed inputs found
   AreKeyed _ _ = ⊥
@@ -126,10 +127,10 @@ module _ (functions : FunctionsKeepKinds) (before : Before) (width : ℕ → ℕ
       (λ kinds is. of_made (AreKeyed inputs) (AreKeyed (input ∷ inputs)) (λ found. kinds ∷ found) (λ found are. (is, are)) (all_of (keyed_kinds before) inputs) (keyed_are inputs h.1))
       (keyed_kinds before input) (keyed_is input h.0)
 
-  abbrev Agree : List Keyed → List KeyedKinds → Type 0
+  abbrev pub Agree : List Keyed → List KeyedKinds → Type 0
   Agree inputs found = AreKeyed inputs found × (keys_agree found ≡ true)
 
-  all_are : (inputs : List Keyed) → AllByRecursion Held (map (λ k. k.input) inputs) → OfRead (Agree inputs) (all_keyed before inputs)
+  pub all_are : (inputs : List Keyed) → AllByRecursion Held (map (λ k. k.input) inputs) → OfRead (Agree inputs) (all_keyed before inputs)
   all_are inputs h =
       then_found (AreKeyed inputs) (Agree inputs) (λ found. only_if (keys_agree found) (Some found)) (λ found are. tested (Agree inputs) (keys_agree found) (Some found) (λ e. (are, e)))
       (all_of (keyed_kinds before) inputs) (keyed_are inputs h)
@@ -141,7 +142,7 @@ module _ (functions : FunctionsKeepKinds) (before : Before) (width : ℕ → ℕ
   as_many (input ∷ inputs) (kinds ∷ found) h = ap suc (as_many inputs found h.1)
 
   -- all have the same kinds of keys
-  abbrev HaveKeys : RowKinds → List KeyedKinds → Type 0
+  abbrev pub HaveKeys : RowKinds → List KeyedKinds → Type 0
   HaveKeys keys found = AllByRecursion (λ f. f.keys ≡ keys) found
 
   both_hold : (a b : Bool) → (a && b) ≡ true → (a ≡ true) × (b ≡ true)
@@ -159,7 +160,7 @@ module _ (functions : FunctionsKeepKinds) (before : Before) (width : ℕ → ℕ
 
   -- the entries of such inputs, of which the first has the number i
   module _ (keys : RowKinds) (whole : List KeyedKinds) where
-    abbrev Entered : Entry → Type 0
+    abbrev pub Entered : Entry → Type 0
     Entered = IsEntry (λ k. IsOf k (group_kind keys)) (λ j row. IsRowOf row (row_at whole j))
 
     entries_are : (i : ℕ) (inputs : List Keyed) (found : List KeyedKinds) → AreKeyed inputs found → HaveKeys keys found → ((j : ℕ) → row_at whole (i + j) ≡ row_at found j)
@@ -176,7 +177,7 @@ module _ (functions : FunctionsKeepKinds) (before : Before) (width : ℕ → ℕ
         (rows input.input) h.0.rows_are))
         (entries_are (i + 1) inputs found h.1 g.1 (λ j. ap (row_at whole) (let e : i + 1 + j ≡ i + suc j = omega (arith) in e) ∙ at (suc j)))
 
-    abbrev Bags : (ℕ → List (List Tree)) → Type 0
+    abbrev pub Bags : (ℕ → List (List Tree)) → Type 0
     Bags bags = (j : ℕ) → IsBag (λ row. IsRowOf row (row_at whole j)) (bags j)
 
     bag_is : (bags : ℕ → List (List Tree)) → Bags bags → (j : ℕ) → AreRowsOf (bags j) (row_at whole j)
@@ -210,6 +211,12 @@ module _ (functions : FunctionsKeepKinds) (before : Before) (width : ℕ → ℕ
     gathered_are ks make makes inputs h g =
         each_gathered (λ k. IsOf k (group_kind keys)) (λ j row. IsRowOf row (row_at whole j)) (λ row. IsRowOf row ks) make makes (keyed_entries 0 inputs rows)
         (entries_are 0 inputs whole h g (at_first whole))
+
+    -- what is made of entries of any rows of these kinds
+    pub of_entries : (ks : RowKinds) (make : Tree → (ℕ → List (List Tree)) → List (List Tree))
+        → ((k : Tree) → IsOf k (group_kind keys) → (bags : ℕ → List (List Tree)) → Bags bags → Each ks (make k bags))
+        → (entries : List Entry) → AllByRecursion Entered entries → Each ks (gathered make entries)
+    of_entries ks make makes entries h = each_gathered (λ k. IsOf k (group_kind keys)) (λ j row. IsRowOf row (row_at whole j)) (λ row. IsRowOf row ks) make makes entries h
 
     -- ---- GROUP and COGROUP
 
@@ -306,6 +313,83 @@ module _ (functions : FunctionsKeepKinds) (before : Before) (width : ℕ → ℕ
       two_are side.Right inputs found h (eqb-true (length found) 2 (both_hold (length found == 2) (not replicated) t).0) (outer_rows_are side.Right)
   joins_are side.Full replicated inputs found h t =
       two_are side.Full inputs found h (eqb-true (length found) 2 (both_hold (length found == 2) (not replicated) t).0) (outer_rows_are side.Full)
+
+  -- ---- the same of entries of any rows
+
+  -- the key of a row of the input at a place
+  keyed_at_is : (keys : RowKinds) (inputs : List Keyed) (found : List KeyedKinds) → AreKeyed inputs found → HaveKeys keys found → (i : ℕ) (row : List Tree) → IsRowOf row (row_at found i)
+      → IsOf (keyed_at inputs i row) (group_kind keys)
+  keyed_at_is keys [] found h g i row is = tt
+  keyed_at_is keys (input ∷ inputs) [] h g i row is = absurd h
+  keyed_at_is keys (input ∷ inputs) (kinds ∷ found) h g zero row is =
+      subst (λ ks. IsOf (key_of (keys_of input.keys row)) (group_kind ks)) g.0 (key_of_kinds (keys_of input.keys row) kinds.keys (h.0.keys_are row is))
+  keyed_at_is keys (input ∷ inputs) (kinds ∷ found) h g (suc i) row is = keyed_at_is keys inputs found h.1 g.1 i row is
+
+  pub keyed_entries_are : (keys : RowKinds) (inputs : List Keyed) (found : List KeyedKinds) → AreKeyed inputs found → HaveKeys keys found → (i : ℕ) (given : List (List Tree))
+      → Each (row_at found i) given → AllByRecursion (Entered keys found) (entries_of_input (keyed_at inputs i) i given)
+  keyed_entries_are keys inputs found h g i given are =
+      each-map (Entered keys found) (λ row. record { key = keyed_at inputs i row; input = i; row = row }) given
+      (each_weaker (λ row. IsRowOf row (row_at found i)) _ (λ row is. (keyed_at_is keys inputs found h g i row is, is)) given are)
+
+  -- the kinds of the keys are those of the first input's
+  abbrev pub first_keys : List KeyedKinds → RowKinds
+  first_keys [] = []
+  first_keys (first ∷ others) = first.keys
+
+  pub have_first : (inputs : List Keyed) (found : List KeyedKinds) → Agree inputs found → HaveKeys (first_keys found) found
+  have_first inputs [] h = tt
+  have_first inputs (first ∷ others) h = (refl, others_have first others h.1)
+
+  abbrev pub Entries : List KeyedKinds → List Entry → Type 0
+  Entries found entries = AllByRecursion (Entered (first_keys found) found) entries
+
+  pub groups_made : (inputs : List Keyed) (found : List KeyedKinds) → Agree inputs found → (entries : List Entry) → Entries found entries
+      → Each (group_kinds found) (gathered (made_by width (p_group inputs)) entries)
+  groups_made inputs [] h entries g = absurd (true≢false (sym h.1))
+  groups_made [] (first ∷ others) h entries g = absurd h.0
+  groups_made (i ∷ []) (first ∷ []) h entries g =
+      of_entries first.keys (first ∷ []) (group_kinds (first ∷ [])) group_of (λ k is bags b. ((is, (bag_is first.keys (first ∷ []) bags b 0, tt)), tt)) entries g
+  groups_made (i ∷ []) (first ∷ second ∷ others) h entries g = absurd h.0.1
+  groups_made (i ∷ j ∷ inputs) (first ∷ others) h entries g =
+      subst (λ n. Each (group_kinds (first ∷ others)) (gathered (cogroup_of (map (λ k. k.inner) (i ∷ j ∷ inputs)) n) entries)) (sym (as_many (i ∷ j ∷ inputs) (first ∷ others) h.0))
+      (of_entries first.keys (first ∷ others) (group_kinds (first ∷ others)) (cogroup_of (map (λ k. k.inner) (i ∷ j ∷ inputs)) (length (first ∷ others)))
+      (cogroup_is first.keys (first ∷ others) (map (λ k. k.inner) (i ∷ j ∷ inputs))) entries g)
+
+  abbrev pub JoinIs : Side → Bool → List Entry → List Keyed → List KeyedKinds → Type 0
+  JoinIs s replicated entries inputs found = Each (flat_map (λ f. f.row) found) (gathered (made_by width (p_join inputs s replicated)) entries)
+
+  inner_made : (replicated : Bool) (inputs : List Keyed) (found : List KeyedKinds) → Agree inputs found → (entries : List Entry) → Entries found entries → JoinIs side.Inner replicated entries inputs found
+  inner_made replicated inputs [] h entries g = absurd (true≢false (sym h.1))
+  inner_made replicated inputs (first ∷ others) h entries g =
+      subst (λ n. Each (flat_map (λ f. f.row) (first ∷ others)) (gathered (join_of n) entries)) (sym (as_many inputs (first ∷ others) h.0))
+      (of_entries first.keys (first ∷ others) (flat_map (λ f. f.row) (first ∷ others)) (join_of (length (first ∷ others))) (join_is first.keys (first ∷ others)) entries g)
+
+  outer_made : (s : Side) (i j : Keyed) (a b : KeyedKinds) → Agree (i ∷ j ∷ []) (a ∷ b ∷ []) → (entries : List Entry) → Entries (a ∷ b ∷ []) entries
+      → Each (a.row ++ (b.row ++ [])) (gathered (outer_of s (width i.input) (width j.input)) entries)
+  outer_made s i j a b h entries g =
+      of_entries a.keys (a ∷ b ∷ []) (a.row ++ (b.row ++ [])) (outer_of s (width i.input) (width j.input)) (outer_is s a b (width i.input) (width j.input) h.0.0.wide h.0.1.0.wide) entries g
+
+  two_made : (s : Side) (replicated : Bool) (entries : List Entry) (inputs : List Keyed) (found : List KeyedKinds) → Agree inputs found → length found ≡ 2 → Entries found entries
+      → ((i j : Keyed) (a b : KeyedKinds) → Agree (i ∷ j ∷ []) (a ∷ b ∷ []) → Entries (a ∷ b ∷ []) entries → JoinIs s replicated entries (i ∷ j ∷ []) (a ∷ b ∷ []))
+      → JoinIs s replicated entries inputs found
+  two_made s replicated entries (i ∷ j ∷ []) (a ∷ b ∷ []) h e g f = f i j a b h g
+  two_made s replicated entries [] [] h e g f = absurd (omega (arith, e))
+  two_made s replicated entries inputs (a ∷ []) h e g f = absurd (omega (arith, e))
+  two_made s replicated entries inputs (a ∷ b ∷ c ∷ found) h e g f = absurd (omega (arith, e))
+  two_made s replicated entries [] (a ∷ b ∷ []) h e g f = absurd h.0
+  two_made s replicated entries (i ∷ []) (a ∷ b ∷ []) h e g f = absurd h.0.1
+  two_made s replicated entries (i ∷ j ∷ k ∷ inputs) (a ∷ b ∷ []) h e g f = absurd h.0.1.1
+  two_made s replicated entries (i ∷ inputs) [] h e g f = absurd h.0
+
+  pub joins_made : (s : Side) (replicated : Bool) (inputs : List Keyed) (found : List KeyedKinds) → Agree inputs found → is_join s replicated (length found) ≡ true
+      → (entries : List Entry) → Entries found entries → JoinIs s replicated entries inputs found
+  joins_made side.Inner replicated inputs found h t entries g = inner_made replicated inputs found h entries g
+  joins_made side.Left replicated inputs found h t entries g =
+      two_made side.Left replicated entries inputs found h (eqb-true (length found) 2 t) g (λ i j a b agree are. outer_made side.Left i j a b agree entries are)
+  joins_made side.Right replicated inputs found h t entries g =
+      two_made side.Right replicated entries inputs found h (eqb-true (length found) 2 (both_hold (length found == 2) (not replicated) t).0) g (λ i j a b agree are. outer_made side.Right i j a b agree entries are)
+  joins_made side.Full replicated inputs found h t entries g =
+      two_made side.Full replicated entries inputs found h (eqb-true (length found) 2 (both_hold (length found == 2) (not replicated) t).0) g (λ i j a b agree are. outer_made side.Full i j a b agree entries are)
 
   -- UNION
   abbrev AllHeld : List ℕ → List RowKinds → Type 0

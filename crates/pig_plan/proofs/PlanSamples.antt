@@ -1,12 +1,14 @@
 -- The shape of small plans, and what they mean over inputs, computed.
 use Rattle.std.specs.Prelude.{◌≡◌, ℕ, true, false, List, [], ◌∷◌, codes, None, Some, map, refl}
 use Rattle.pig_value.specs.declared.inputs.Input.{Input}
-use Rattle.pig_value.specs.Trees.{v_chars, v_bag, tuples_of, k_chars, k_bag, kinds_of}
-use Rattle.pig_typed.specs.Typed.{x_bool}
+use Rattle.pig_value.specs.Trees.{Tree, v_chars, v_null, v_bag, tuples_of, k_chars, k_bag, kinds_of}
+use Rattle.pig_typed.specs.Typed.{TypedBlock, x_bool, x_field}
+use Rattle.pig_plan.specs.Asserts.{first_unmet, unmet}
 use Rattle.pig_plan.specs.Meaning.{meaning}
-use Rattle.pig_plan.specs.Nodes.{bare_limits, is_list, is_sorted, live, paths_of, reads_of, uses}
+use Rattle.pig_plan.specs.Nodes.{bare_limits, is_list, is_sorted, Path, entering, live, op_at, paths_of, reads_of, uses}
 use Rattle.pig_plan.specs.NodeKinds.{kinds_at}
-use Rattle.pig_plan.specs.Plans.{Plan, PlanNode, PlanOp, p_load, p_filter, p_group_all, p_union, p_distinct, p_order, p_limit, p_store, p_assert}
+use Rattle.pig_plan.specs.Plans.{Plan, PlanNode, PlanOp, p_load, p_filter, p_foreach, p_group_all, p_union, p_distinct, p_order, p_limit, p_store, p_assert}
+use Rattle.pig_plan.specs.Steps.{none_folds, through}
 use Rattle.pig_plan.specs.Valid.{fits}
 
 abbrev node : ℕ → PlanOp → PlanNode
@@ -29,7 +31,10 @@ live_of_twice = refl
 used_twice : uses twice 0 ≡ 2
 used_twice = refl
 
-two_paths : paths_of twice 1 ≡ (0 ∷ 1 ∷ []) ∷ (0 ∷ 1 ∷ []) ∷ []
+abbrev way : ℕ → List ℕ → Path
+way source nodes = record { source = source; nodes = nodes }
+
+two_paths : paths_of twice 1 ≡ way 0 (1 ∷ []) ∷ way 0 (1 ∷ []) ∷ []
 two_paths = refl
 
 read_twice : reads_of twice 0 ≡ 2
@@ -49,8 +54,16 @@ bare_alone : map (λ n. n.statement) (bare_limits ordered) ≡ 6 ∷ []
 bare_alone = refl
 
 -- a boundary node begins paths of its own, and ends those of its input
-paths_from_boundaries : paths_of ordered 2 ≡ (1 ∷ 2 ∷ []) ∷ []
+paths_from_boundaries : paths_of ordered 2 ≡ way 1 (2 ∷ []) ∷ []
 paths_from_boundaries = refl
+
+-- each path with the place of the input that it enters: node 1, which has two, and the LOAD
+entering_inputs : map (λ e. e.input) (entering (paths_of twice) 0 (1 ∷ 0 ∷ [])) ≡ 0 ∷ 0 ∷ 1 ∷ []
+entering_inputs = refl
+
+-- an operator by its number
+operators : map (op_at twice) (1 ∷ 4 ∷ []) ≡ Some (p_union (0 ∷ 0 ∷ [])) ∷ None ∷ []
+operators = refl
 
 -- lines of no field: two pieces of three lines, each cut by itself, the last of which needs no line end
 abbrev inputs : List Input
@@ -78,6 +91,38 @@ one_group = refl
 
 no_group : meaning grouped inputs [] 5 ≡ []
 no_group = refl
+
+-- rows on a path: a FILTER takes them all, and the FOREACH of a GROUP that folds hands them on
+filtered : through none_folds grouped (2 ∷ []) ([] ∷ [] ∷ []) ≡ []
+filtered = refl
+
+abbrev one_item : TypedBlock
+one_item = record { steps = []; items = record { value = x_field 0; flatten = false; width = 1 } ∷ [] }
+
+abbrev generated : Plan
+generated = load ∷ node 2 (p_group_all 0) ∷ node 3 (p_foreach 1 one_item) ∷ stored 2 ∷ []
+
+abbrev pair : List Tree
+pair = v_chars (codes "all") ∷ v_null ∷ []
+
+put_through : through none_folds generated (2 ∷ 3 ∷ []) (pair ∷ []) ≡ (v_chars (codes "all") ∷ []) ∷ []
+put_through = refl
+
+handed_on : through (λ k. Some one_item) generated (2 ∷ 3 ∷ []) (pair ∷ []) ≡ pair ∷ []
+handed_on = refl
+
+-- the ASSERT that nothing passes is not met where there are rows
+abbrev asserted : Plan
+asserted = load ∷ node 2 (p_assert 0 (x_bool false) None) ∷ node 3 (p_assert 1 (x_bool true) None) ∷ node 4 (p_filter 2 (x_bool false)) ∷ node 5 (p_assert 3 (x_bool false) None) ∷ stored 4 ∷ []
+
+one_unmet : unmet asserted inputs [] ≡ 2 ∷ []
+one_unmet = refl
+
+first_one : first_unmet asserted inputs [] ≡ Some 2
+first_one = refl
+
+all_met : first_unmet asserted [] [] ≡ None
+all_met = refl
 
 kinds_of_groups : kinds_at grouped 1 ≡ Some (k_chars ∷ k_bag (kinds_of []) ∷ [])
 kinds_of_groups = refl

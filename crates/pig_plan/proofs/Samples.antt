@@ -6,9 +6,12 @@ use Rattle.pig_value.specs.declared.operators.ChainOp.TheVariants as op
 use Rattle.pig_value.specs.declared.operators.Dir.TheVariants as dir
 use Rattle.pig_value.specs.declared.operators.Rel.TheVariants as rel
 use Rattle.pig_value.specs.declared.operators.Side.TheVariants as side
+use Rattle.pig_value.specs.Orders.{bag_of}
 use Rattle.pig_value.specs.Trees.{Tree, v_null, v_int, v_long, v_chars, v_bag, tuples_of, k_long}
 use Rattle.pig_typed.specs.declared.blocks.SortKey.{SortKey}
 use Rattle.pig_typed.specs.Typed.{Typed, TypedArgs, TypedItem, TypedBlock, x_int, x_field, x_chain, x_compare, x_not, x_cast, x_project, x_call, no_links, more_links, no_args, more_args}
+use Rattle.pig_plan.specs.ByKey.{gathered}
+use Rattle.pig_plan.specs.Entries.{key_entries, made_by}
 use Rattle.pig_plan.specs.Operators.{Setting, operator_rows}
 use Rattle.pig_plan.specs.Plans.{Keyed, PlanOp, p_filter, p_foreach, p_group_all, p_group, p_join, p_union, p_distinct, p_order, p_limit, p_assert, p_rank}
 
@@ -106,6 +109,19 @@ full_join_of_nothing = refl
 join_of_three : of (p_join (by 0 false ∷ by 1 false ∷ by 2 false ∷ []) side.Inner false) inputs
     ≡ (int 1 ∷ letter 120 ∷ int 1 ∷ letter 112 ∷ int 1 ∷ letter 115 ∷ []) ∷ (int 1 ∷ letter 120 ∷ int 1 ∷ letter 112 ∷ int 1 ∷ letter 116 ∷ []) ∷ []
 join_of_three = refl
+
+-- the same in one word: what is made of each key and the bags of its entries
+abbrev in_one_word : PlanOp → (ℕ → Rows) → Rows
+in_one_word o rows = bag_of (gathered (made_by (λ input. 2) o) (key_entries o rows))
+
+cogroup_in_one_word : in_one_word (p_group (by 0 false ∷ by 1 true ∷ [])) inputs ≡ of (p_group (by 0 false ∷ by 1 true ∷ [])) inputs
+cogroup_in_one_word = refl
+
+full_join_in_one_word : in_one_word (p_join (by 0 false ∷ by 1 false ∷ []) side.Full false) inputs ≡ of (p_join (by 0 false ∷ by 1 false ∷ []) side.Full false) inputs
+full_join_in_one_word = refl
+
+group_all_in_one_word : in_one_word (p_group_all 1) inputs ≡ of (p_group_all 1) inputs
+group_all_in_one_word = refl
 
 distinct_with_nulls : of (p_distinct 0) (λ i. row v_null 121 ∷ row (int 1) 120 ∷ row v_null 121 ∷ (v_null ∷ v_null ∷ []) ∷ row (int 1) 120 ∷ [])
     ≡ (v_null ∷ v_null ∷ []) ∷ row v_null 121 ∷ row (int 1) 120 ∷ []

@@ -1,14 +1,14 @@
 -- The laws of plans and of their operators.
-use Rattle.std.specs.Prelude.{◌≡◌, ◌<◌, ◌≤◌, ◌+◌, ℕ, Bool, true, false, not, ◌&&◌, if◌then◌else◌, List, [], ◌∷◌, ◌++◌, length, Some, slice_get, ⊤}
+use Rattle.std.specs.Prelude.{◌≡◌, ◌<◌, ◌≤◌, ◌+◌, ℕ, Bool, true, false, not, ◌&&◌, if◌then◌else◌, List, [], ◌∷◌, ◌++◌, length, Some, slice_get, take, ⊤}
 use Rattle.std.specs.List.{AllByRecursion, filter, flat_map, range_with_len}
 use Rattle.std.specs.List.Sorted.{IsPermutation}
 use Rattle.std.specs.Ordering.{is_eq, is_gt}
 use Rattle.pig_value.specs.declared.inputs.Input.{Input}
 use Rattle.pig_value.specs.declared.outcomes.Kept.{Kept}
 use Rattle.pig_value.specs.Gathering.{Entry, in_part}
-use Rattle.pig_value.specs.Orders.{bag_of, tree_cmp}
+use Rattle.pig_value.specs.Orders.{bag_of, row_cmp, tree_cmp}
 use Rattle.pig_value.specs.declared.operators.Side.TheVariants as side
-use Rattle.pig_value.specs.Sorts.{sort}
+use Rattle.pig_value.specs.Sorts.{distinct, sort}
 use Rattle.pig_value.specs.Texts.{AreLineFreeRows}
 use Rattle.pig_value.specs.Trees.{KindTree, Tree}
 use Rattle.pig_value.specs.Kinds.{AreRowsOf}
@@ -17,10 +17,12 @@ use Rattle.pig_typed.specs.declared.blocks.SortKey.{SortKey}
 use Rattle.pig_typed.specs.Blocks.{foreach_all, keys_cmp}
 use Rattle.pig_typed.specs.Typed.{Typed, TypedBlock}
 use Rattle.pig_plan.specs.ByKey.{gathered, holds_null, key_of}
-use Rattle.pig_plan.specs.Meaning.{meaning, setting, EachIsKept}
-use Rattle.pig_plan.specs.Nodes.{inputs_of, is_list, is_sorted, lists, is_live}
+use Rattle.pig_plan.specs.Entries.{is_by_key, key_entries, made_by}
+use Rattle.pig_plan.specs.Meaning.{AreKept, meaning, setting, EachIsKept}
+use Rattle.pig_plan.specs.Nodes.{inputs_of, is_list, is_sorted, is_source, lists, is_live}
 use Rattle.pig_plan.specs.Operators.{Setting, filter_rows, join_rows, keys_of, operator_rows}
 use Rattle.pig_plan.specs.Plans.{Plan, PlanNode, PlanOp, p_limit, p_store, p_assert, Keyed, p_filter, p_foreach, p_group, p_join}
+use Rattle.pig_plan.specs.Steps.{none_folds, rows_to}
 use Rattle.pig_plan.specs.Valid.{IsPlan, fits}
 use Rattle.pig_value.specs.Leaves.{AreBytes}
 use Rattle.pig_value.specs.Valid.{AreRows, IsValue}
@@ -63,6 +65,36 @@ abbrev pub PartsGiveTheWhole : Type 0
 PartsGiveTheWhole = (make : Tree → (ℕ → List (List Tree)) → List (List Tree)) (part : Tree → ℕ) (n : ℕ) → ((k : Tree) → part k < n)
     → (tasks : List (List Entry)) (all : List Entry) → IsPermutation (flat_map (λ t. t) tasks) all
     → IsPermutation (flat_map (λ p. gathered make (flat_map (in_part (λ e. part e.key) p) tasks)) (range_with_len 0 n)) (gathered make all)
+
+-- GROUP ALL, GROUP, COGROUP and JOIN in one word
+abbrev pub OperatorsGoByKey : Type 0
+OperatorsGoByKey = (s : Setting) (statement : ℕ) (o : PlanOp) (rows : ℕ → List (List Tree)) → is_by_key o ≡ true
+    → operator_rows s statement o rows ≡ bag_of (gathered (made_by s.width o) (key_entries o rows))
+
+-- DISTINCT of rows that are split into parts, in any tasks
+abbrev pub DistinctGoesByParts : Type 0
+DistinctGoesByParts = (part : List Tree → ℕ) (n : ℕ) → ((row : List Tree) → part row < n) → (tasks : List (List (List Tree))) (all : List (List Tree))
+    → IsPermutation (flat_map (λ t. t) tasks) all
+    → IsPermutation (flat_map (λ p. distinct row_cmp (flat_map (in_part part p) tasks)) (range_with_len 0 n)) (distinct row_cmp all)
+
+-- LIMIT of a sorted node's rows, task by task: the first rows of each, and of these the first
+abbrev pub TakeGoesByTasks : Type 0
+TakeGoesByTasks = (count : ℕ) (tasks : List (List (List Tree))) → take count (flat_map (take count) tasks) ≡ take count (flat_map (λ t. t) tasks)
+
+-- and a bare one: each task keeps rows of its own, and one task keeps rows of those
+abbrev pub EachKept : ℕ → List (List (List Tree)) → List (List (List Tree)) → Type 0
+EachKept count [] kepts = kepts ≡ []
+EachKept count (rows ∷ tasks) kepts = (kept : List (List Tree)) × (more : List (List (List Tree))) × (kepts ≡ kept ∷ more) × AreKept count rows kept × EachKept count tasks more
+
+abbrev pub KeptGoesByTasks : Type 0
+KeptGoesByTasks = (count : ℕ) (tasks kepts : List (List (List Tree))) (kept : List (List Tree)) → EachKept count tasks kepts
+    → AreKept count (flat_map (λ k. k) kepts) kept → AreKept count (flat_map (λ t. t) tasks) kept
+
+-- Rows that come to a node on all its paths, from sources up to a node whose rows are, as bags, what they mean, are what the node means.
+abbrev pub PathsGiveTheNode : Type 0
+PathsGiveTheNode = (plan : Plan) (inputs : List Input) (kept : List Kept) → IsPlan plan → (sources : ℕ → List (List Tree)) (top : ℕ)
+    → ((k : ℕ) (node : PlanNode) → k ≤ top → slice_get plan k ≡ Some node → is_source node.op ≡ true → bag_of (sources k) ≡ bag_of (meaning plan inputs kept k))
+    → (k : ℕ) (node : PlanNode) → k ≤ top → slice_get plan k ≡ Some node → bag_of (rows_to none_folds plan sources k) ≡ bag_of (meaning plan inputs kept k)
 
 abbrev pub OrderGoesBySlices : Type 0
 OrderGoesBySlices = (keys : List SortKey) (part : List Tree → ℕ) (n : ℕ) → ((x y : List Tree) → is_gt (keys_cmp keys x y) ≡ false → part x ≤ part y)

@@ -2,11 +2,16 @@ pub mod ByKey
 pub mod Plans
 pub mod Results
 pub mod Nodes
+pub mod Marks
+pub mod Counts
 pub mod NodeKinds
 pub mod Given
 pub mod Written
 pub mod Valid
 pub mod Operators
+pub mod Entries
+pub mod Steps
 pub mod Meaning
+pub mod Asserts
 pub mod Stored
 pub mod Laws

@@ -1,7 +1,6 @@
 -- What a plan means over inputs: the rows of each node, and which rows a bare LIMIT may have kept.
 use Rattle.std.specs.Prelude.{◌≡◌, ◌≤◌, IsTrue, false, ℕ, ◌==◌, List, [], map, length, min, Some, slice_get}
 use Rattle.std.specs.List.{find}
-use Rattle.std.specs.List.Sorted.{IsPermutation}
 use Rattle.std.specs.Option.{option_map_or}
 use Rattle.pig_value.specs.declared.inputs.Input.{Input}
 use Rattle.pig_value.specs.declared.outcomes.Kept.{Kept}
@@ -39,7 +38,7 @@ EachIsKept plan inputs kept = (k statement input count : ℕ)
     → slice_get plan k ≡ Some (record { op = p_limit input count; statement = statement }) → IsTrue (is_live plan k) → is_sorted plan input ≡ false
     → AreKept count (meaning plan inputs kept input) (kept_at kept statement)
 
--- What was kept is valid: one entry for each live bare LIMIT, by its statement's number, with rows that it may keep.
+-- What was kept is valid: one entry for each live bare LIMIT, in their order, by its statement's number, with rows that it may keep.
 pub record IsKept (plan : Plan) (inputs : List Input) (kept : List Kept) : Type 0 where
-  pub entries : IsPermutation (map (λ k. k.statement) kept) (map (λ node. node.statement) (bare_limits plan))
+  pub entries : map (λ k. k.statement) kept ≡ map (λ node. node.statement) (bare_limits plan)
   pub each : EachIsKept plan inputs kept

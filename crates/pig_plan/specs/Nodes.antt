@@ -1,9 +1,13 @@
 -- The shape of a plan: which nodes name which, which are live, which are lists, and the ways that rows go through them.
-use Rattle.std.specs.Prelude.{ℕ, ◌==◌, ◌+◌, Bool, true, false, ◌&&◌, ◌||◌, not, List, [], ◌∷◌, ◌++◌, map, drop, length, slice_get, if◌then◌else◌}
+use Rattle.std.specs.Prelude.{ℕ, ◌==◌, ◌+◌, Bool, true, false, ◌&&◌, ◌||◌, not, List, [], ◌∷◌, ◌++◌, map, drop, length, slice_get, Option, if◌then◌else◌}
 use Rattle.std.specs.List.{filter, filter_map, flat_map, list_any, range_with_len}
-use Rattle.std.specs.Option.{option_map_or}
+use Rattle.std.specs.Option.{option_map, option_map_or}
 use Rattle.pig_plan.specs.Plans.{Plan, PlanOp, p_load, p_filter, p_foreach, p_group_all, p_group, p_join, p_union, p_distinct, p_order, p_limit, p_store, p_assert, p_rank}
 use Rattle.pig_plan.specs.Results.{result_at}
+
+-- the operator of the node numbered k
+abbrev pub op_at : Plan → ℕ → Option PlanOp
+op_at plan k = option_map (λ node. node.op) (slice_get plan k)
 
 -- the numbers of a node's inputs, in order
 abbrev pub inputs_of : PlanOp → List ℕ
@@ -39,6 +43,10 @@ is_live plan k = option_map_or (λ node. is_store node.op || is_used k (k + 1) (
 -- the numbers of the live nodes, in order
 abbrev pub live : Plan → List ℕ
 live plan = filter (is_live plan) (range_with_len 0 (length plan))
+
+-- of each node, in order, whether it is live
+abbrev pub live_marks : Plan → List Bool
+live_marks plan = map (is_live plan) (range_with_len 0 (length plan))
 
 -- how often live nodes name a node
 abbrev pub uses : Plan → ℕ → ℕ
@@ -84,12 +92,19 @@ is_source (p_limit input count) = true
 is_source (p_rank input keys dense) = true
 is_source o = false
 
--- A path of a node is a way from a source up to it through nodes that work row by row, here the list of these nodes' numbers. A source
--- has the path of itself alone.
-abbrev pub ways : ℕ → PlanOp → (ℕ → List (List ℕ)) → List (List ℕ)
-ways k o paths = if is_source o then (k ∷ []) ∷ [] else flat_map (λ i. map (λ path. path ++ k ∷ []) (paths i)) (inputs_of o)
+-- A path of a node is a way from a source up to it: the number of the source, and those of the nodes behind it, which work row by row.
+pub record Path : Type 0 where
+  pub source : ℕ
+  pub nodes : List ℕ
 
-abbrev pub paths_of : Plan → ℕ → List (List ℕ)
+abbrev pub and_then : ℕ → Path → Path
+and_then k path = record { source = path.source; nodes = path.nodes ++ k ∷ [] }
+
+-- a source has the path of itself alone, another node those of its inputs, each with itself behind
+abbrev pub ways : ℕ → PlanOp → (ℕ → List Path) → List Path
+ways k o paths = if is_source o then record { source = k; nodes = [] } ∷ [] else flat_map (λ i. map (and_then k) (paths i)) (inputs_of o)
+
+abbrev pub paths_of : Plan → ℕ → List Path
 paths_of plan = result_at (λ k node. ways k node.op) [] plan
 
 -- A boundary node brings rows of all its inputs together.
@@ -97,12 +112,23 @@ abbrev pub is_boundary : PlanOp → Bool
 is_boundary (p_load path delim columns) = false
 is_boundary o = is_source o
 
+-- A path with the number of the input that it enters: inputs are numbered by their places, and each has the paths of its node.
+pub record Entering : Type 0 where
+  pub input : ℕ
+  pub path : Path
+
+abbrev pub entering : (ℕ → List Path) → ℕ → List ℕ → List Entering
+entering paths i [] = []
+entering paths i (node ∷ nodes) = map (λ path. record { input = i; path = path }) (paths node) ++ entering paths (i + 1) nodes
+
 -- the paths on which rows are read for a node: those of a boundary node's inputs, and of a STORE
-abbrev pub read_paths : Plan → ℕ → PlanOp → List (List ℕ)
+abbrev pub read_paths : Plan → ℕ → PlanOp → List Path
 read_paths plan k o = if is_boundary o then flat_map (paths_of plan) (inputs_of o) else if is_store o then paths_of plan k else []
+
+-- the task paths of a plan: those on which rows come from a source to a live boundary node or to a STORE
+abbrev pub task_paths : Plan → List Path
+task_paths plan = flat_map (λ k. option_map_or (read_paths plan k) (op_at plan k) []) (live plan)
 
 -- how often the rows of a source are read: once for each path that starts there and ends at a live boundary node's input or a STORE
 abbrev pub reads_of : Plan → ℕ → ℕ
-reads_of plan k =
-    let all = flat_map (λ n. option_map_or (λ node. read_paths plan n node.op) (slice_get plan n) []) (live plan) in
-    length (filter (λ path. option_map_or (λ first. first == k) (slice_get path 0) false) all)
+reads_of plan k = length (filter (λ path. path.source == k) (task_paths plan))

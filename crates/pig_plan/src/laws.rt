@@ -1,6 +1,7 @@
 ghost use Rattle.pig_plan.specs.Laws.{FurtherNodesChangeNone, MeaningGoesByNodes, MeaningsAreLineFree, MeaningsAreOfKinds, MeaningsAreValues, OperatorsKeepAlike, OrderGoesBySlices};
 ghost use Rattle.pig_plan.specs.Laws.{FilterGoesByPieces, ForeachGoesByPieces, JoinGivesPairs, OrderGoesByCutPoints, UnionGoesByPieces};
 ghost use Rattle.pig_plan.specs.Laws.{OthersSeeBags, PartsGiveTheWhole, SortedNodesAreLists};
+ghost use Rattle.pig_plan.specs.Laws.{DistinctGoesByParts, KeptGoesByTasks, OperatorsGoByKey, PathsGiveTheNode, TakeGoesByTasks};
 
 /// The meaning of each node of a plan is its operator on the meanings of its inputs.
 pub fn meaning_goes_by_nodes()
@@ -24,6 +25,24 @@ pub fn operators_see_bags()
 /// Entries that are split into parts by their keys, in any tasks, give part by part what they give at once.
 pub fn parts_give_the_whole()
     ensures { PartsGiveTheWhole }
+{}
+
+/// GROUP ALL, GROUP, COGROUP and JOIN are what is made of each key and the bags of the rows that have it.
+pub fn operators_go_by_key()
+    ensures { OperatorsGoByKey }
+{}
+
+/// DISTINCT of parts, in any tasks, is that of the whole; so are the first rows of tasks' first rows, and rows that are
+/// kept of those that tasks kept.
+pub fn rows_go_by_tasks()
+    ensures distinct { DistinctGoesByParts }
+    ensures first { TakeGoesByTasks }
+    ensures kept { KeptGoesByTasks }
+{}
+
+/// The rows that come on all paths to a node are what it means, where its sources' rows are what these mean.
+pub fn paths_give_the_node()
+    ensures { PathsGiveTheNode }
 {}
 
 /// Slices between places in the order of an ORDER, each sorted, are in turn the whole sorted; so are those between cut

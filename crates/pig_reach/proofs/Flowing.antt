@@ -2,17 +2,18 @@
 use Rattle.std.specs.Prelude.{◌≡◌, ◌<◌, ◌≤◌, ◌+◌, ◌%◌, ◌^◌, ℕ, zero, suc, Bool, true, false, List, [], ◌∷◌, ◌++◌, length, map, drop, get_or, Option, Some, None, slice_get, refl, if◌then◌else◌}
 use Rattle.std.proofs.Common.{ap, sym, subst, ◌∙◌, arith, inl, inr, cond}
 use Rattle.std.specs.List.{AllByRecursion, flat_map, sum_by}
-use Rattle.std.specs.Option.{option_map_or, unwrap_or}
+use Rattle.std.specs.Option.{option_map, option_map_or, unwrap_or}
 use Rattle.std.proofs.lemmas.List.{drop_all, drop_more}
 use Rattle.std.proofs.lemmas.List.Sums.{sum_by-append, sum_by-cons}
 use Rattle.std.proofs.lemmas.Bool.{cases_Bool}
 use Rattle.pig_value.specs.declared.inputs.Input.{Input}
 use Rattle.pig_value.proofs.list_laws.Listing.{each_of_all, each_weaker}
-use Rattle.pig_plan.specs.Nodes.{inputs_of, is_boundary, is_source, is_store, live, paths_of, read_paths, ways}
-use Rattle.pig_plan.specs.Plans.{Plan, PlanNode, PlanOp, p_load, p_filter, p_foreach, p_group_all, p_group, p_join, p_union, p_distinct, p_order, p_limit, p_store, p_assert, p_rank}
+use Rattle.pig_plan.specs.Nodes.{Path, and_then, inputs_of, is_boundary, is_source, is_store, live, op_at, paths_of, read_paths, ways}
+use Rattle.pig_plan.specs.Plans.{Plan, PlanNode, PlanOp}
 use Rattle.pig_plan.specs.Results.{at_place, result_at, results}
 use Rattle.pig_plan.specs.Valid.{IsPlan}
 use Rattle.pig_plan.proofs.Lower.{names_lower}
+use Rattle.pig_plan.proofs.Paths.{paths_of_node}
 use Rattle.pig_plan.proofs.Unfolds.{length-results, result_is}
 use Rattle.pig_reach.specs.Flows.{come_from, comes_to, flows_of, uses_at, uses_in}
 use Rattle.pig_reach.specs.Reach.{lines_at, lines_of, lines_read}
@@ -79,83 +80,49 @@ none_at step nothing nodes k at =
 
 -- ---- paths
 
--- a node that rows go through has no lines of its own
-no_lines : (inputs : List Input) (o : PlanOp) → is_source o ≡ false → lines_of inputs o ≡ 0
-no_lines inputs (p_load path delim columns) h = absurd (cc)
-no_lines inputs (p_filter input cond) h = refl
-no_lines inputs (p_foreach input block) h = refl
-no_lines inputs (p_group_all input) h = refl
-no_lines inputs (p_group keyed) h = refl
-no_lines inputs (p_join keyed side replicated) h = refl
-no_lines inputs (p_union numbers) h = refl
-no_lines inputs (p_distinct input) h = refl
-no_lines inputs (p_order input keys) h = refl
-no_lines inputs (p_limit input count) h = refl
-no_lines inputs (p_store input path delim) h = refl
-no_lines inputs (p_assert input cond message) h = refl
-no_lines inputs (p_rank input keys dense) h = refl
-
 module _ (plan : Plan) (inputs : List Input) where
   -- the lines of the LOADs at which the paths of a node begin
   abbrev pub flow : ℕ → ℕ
   flow k = sum_by (lines_at plan inputs) (paths_of plan k)
 
-  alone : (k : ℕ) (node : PlanNode) → slice_get plan k ≡ Some node → lines_at plan inputs (k ∷ []) ≡ lines_of inputs node.op
-  alone k node at = ap (λ o. option_map_or (λ n. lines_of inputs n.op) o 0) at
+  alone : (k : ℕ) (node : PlanNode) → slice_get plan k ≡ Some node → lines_at plan inputs (record { source = k; nodes = [] }) ≡ lines_of inputs node.op
+  alone k node at = ap (λ o. option_map_or (lines_of inputs) (option_map (λ n. n.op) o) 0) at
 
   -- a path begins where it began, also with a node behind it
-  begins_there : (k : ℕ) (node : PlanNode) → slice_get plan k ≡ Some node → is_source node.op ≡ false → (path : List ℕ)
-      → lines_at plan inputs (path ++ k ∷ []) ≡ lines_at plan inputs path
-  begins_there k node at through [] = alone k node at ∙ no_lines inputs node.op through
-  begins_there k node at through (first ∷ path) = refl
-
-  each_begins : (k : ℕ) (node : PlanNode) → slice_get plan k ≡ Some node → is_source node.op ≡ false → (paths : List (List ℕ))
-      → AllByRecursion (λ path. lines_at plan inputs (path ++ k ∷ []) ≡ lines_at plan inputs path) paths
-  each_begins k node at through [] = tt
-  each_begins k node at through (path ∷ paths) = (begins_there k node at through path, each_begins k node at through paths)
-
-  through_inputs : (k : ℕ) (node : PlanNode) → slice_get plan k ≡ Some node → is_source node.op ≡ false → (paths : ℕ → List (List ℕ)) (numbers : List ℕ)
-      → sum_by (lines_at plan inputs) (flat_map (λ i. map (λ path. path ++ k ∷ []) (paths i)) numbers) ≡ sum_by (λ i. sum_by (lines_at plan inputs) (paths i)) numbers
-  through_inputs k node at through paths numbers =
-      sum_joined (lines_at plan inputs) (λ i. map (λ path. path ++ k ∷ []) (paths i)) numbers ∙ each numbers
+  through_inputs : (k : ℕ) (paths : ℕ → List Path) (numbers : List ℕ)
+      → sum_by (lines_at plan inputs) (flat_map (λ i. map (and_then k) (paths i)) numbers) ≡ sum_by (λ i. sum_by (lines_at plan inputs) (paths i)) numbers
+  through_inputs k paths numbers = sum_joined (lines_at plan inputs) (λ i. map (and_then k) (paths i)) numbers ∙ each numbers
     where
-      each : (ns : List ℕ) → sum_by (λ i. sum_by (lines_at plan inputs) (map (λ path. path ++ k ∷ []) (paths i))) ns ≡ sum_by (λ i. sum_by (lines_at plan inputs) (paths i)) ns
+      each : (ns : List ℕ) → sum_by (λ i. sum_by (lines_at plan inputs) (map (and_then k) (paths i))) ns ≡ sum_by (λ i. sum_by (lines_at plan inputs) (paths i)) ns
       each [] = refl
       each (n ∷ ns) =
-          let one = sum_map (lines_at plan inputs) (λ path. path ++ k ∷ []) (paths n)
-          ∙ sum_same (λ path. lines_at plan inputs (path ++ k ∷ [])) (lines_at plan inputs) (paths n) (each_begins k node at through (paths n)) in
-          let a = sum_by-cons (λ i. sum_by (lines_at plan inputs) (map (λ path. path ++ k ∷ []) (paths i))) n ns in
+          let one : sum_by (lines_at plan inputs) (map (and_then k) (paths n)) ≡ sum_by (lines_at plan inputs) (paths n) = sum_map (lines_at plan inputs) (and_then k) (paths n) in
+          let a = sum_by-cons (λ i. sum_by (lines_at plan inputs) (map (and_then k) (paths i))) n ns in
           let b = sum_by-cons (λ i. sum_by (lines_at plan inputs) (paths i)) n ns in
           let more = each ns in
           omega (arith, one, a, b, more)
 
   -- what comes to a node, by what comes to its inputs
-  flow_in : (k : ℕ) (node : PlanNode) → slice_get plan k ≡ Some node → (paths : ℕ → List (List ℕ))
+  flow_in : (k : ℕ) (node : PlanNode) → slice_get plan k ≡ Some node → (paths : ℕ → List Path)
       → sum_by (lines_at plan inputs) (ways k node.op paths)
       ≡ (if is_source node.op then lines_of inputs node.op else sum_by (λ i. sum_by (lines_at plan inputs) (paths i)) (inputs_of node.op))
   flow_in k node at paths = elim (cases_Bool (is_source node.op)) [
     | inl source ↦
-        ap (λ b. sum_by (lines_at plan inputs) (cond b ((k ∷ []) ∷ []) (flat_map (λ i. map (λ path. path ++ k ∷ []) (paths i)) (inputs_of node.op)))) source
-        ∙ sum_by-cons (lines_at plan inputs) (k ∷ []) []
+        ap (λ b. sum_by (lines_at plan inputs) (cond b (own ∷ []) (flat_map (λ i. map (and_then k) (paths i)) (inputs_of node.op)))) source
+        ∙ sum_by-cons (lines_at plan inputs) own []
         ∙ (let e = alone k node at in let z : sum_by (lines_at plan inputs) [] ≡ 0 = refl in
-        let both : lines_at plan inputs (k ∷ []) + sum_by (lines_at plan inputs) [] ≡ lines_of inputs node.op = omega (arith, e, z) in both)
+        let both : lines_at plan inputs own + sum_by (lines_at plan inputs) [] ≡ lines_of inputs node.op = omega (arith, e, z) in both)
         ∙ sym (ap (λ b. cond b (lines_of inputs node.op) (sum_by (λ i. sum_by (lines_at plan inputs) (paths i)) (inputs_of node.op))) source)
     | inr through ↦
-        ap (λ b. sum_by (lines_at plan inputs) (cond b ((k ∷ []) ∷ []) (flat_map (λ i. map (λ path. path ++ k ∷ []) (paths i)) (inputs_of node.op)))) through
-        ∙ through_inputs k node at through paths (inputs_of node.op)
+        ap (λ b. sum_by (lines_at plan inputs) (cond b (own ∷ []) (flat_map (λ i. map (and_then k) (paths i)) (inputs_of node.op)))) through
+        ∙ through_inputs k paths (inputs_of node.op)
         ∙ sym (ap (λ b. cond b (lines_of inputs node.op) (sum_by (λ i. sum_by (lines_at plan inputs) (paths i)) (inputs_of node.op))) through)
   ]
+    where
+      own : Path
+      own = record { source = k; nodes = [] }
 
   -- ---- what is counted
-
-  -- paths look at lower nodes alone
-  ways_agree : (k : ℕ) (o : PlanOp) (f g : ℕ → List (List ℕ)) → ((j : ℕ) → j < k → f j ≡ g j) → AllByRecursion (λ i. i < k) (inputs_of o) → ways k o f ≡ ways k o g
-  ways_agree k o f g same lower = ap (λ xs. cond (is_source o) ((k ∷ []) ∷ []) xs) (each (inputs_of o) lower)
-    where
-      each : (ns : List ℕ) → AllByRecursion (λ i. i < k) ns → flat_map (λ i. map (λ path. path ++ k ∷ []) (f i)) ns ≡ flat_map (λ i. map (λ path. path ++ k ∷ []) (g i)) ns
-      each [] h = refl
-      each (n ∷ ns) h = ap (λ ps. map (λ path. path ++ k ∷ []) ps ++ flat_map (λ i. map (λ path. path ++ k ∷ []) (f i)) ns) (same n h.0)
-          ∙ ap (λ qs. map (λ path. path ++ k ∷ []) (g n) ++ qs) (each ns h.1)
 
   come_agree : (k : ℕ) (o : PlanOp) (f g : ℕ → ℕ) → ((j : ℕ) → j < k → f j ≡ g j) → AllByRecursion (λ i. i < k) (inputs_of o) → comes_to inputs o f ≡ comes_to inputs o g
   come_agree k o f g same lower =
@@ -170,22 +137,18 @@ module _ (plan : Plan) (inputs : List Input) where
   read_at k = option_map_or (λ node. sum_by (lines_at plan inputs) (read_paths plan k node.op)) (slice_get plan k) 0
 
   module _ (valid : IsPlan plan) where
-    path_step : (k : ℕ) (node : PlanNode) → slice_get plan k ≡ Some node → paths_of plan k ≡ ways k node.op (paths_of plan)
-    path_step k node at = result_is (λ k node. ways k node.op) [] plan k node at
-        (λ f g same. ways_agree k node.op f g same (names_lower plan valid k node at))
-
     count_step : (k : ℕ) (node : PlanNode) → slice_get plan k ≡ Some node → counted k ≡ comes_to inputs node.op counted
     count_step k node at = result_is (λ k node. comes_to inputs node.op) 0 plan k node at
         (λ f g same. come_agree k node.op f g same (names_lower plan valid k node at))
 
     pub flow_step : (k : ℕ) (node : PlanNode) → slice_get plan k ≡ Some node → flow k ≡ (if is_source node.op then lines_of inputs node.op else sum_by flow (inputs_of node.op))
-    flow_step k node at = ap (sum_by (lines_at plan inputs)) (path_step k node at) ∙ flow_in k node at (paths_of plan)
+    flow_step k node at = ap (sum_by (lines_at plan inputs)) (paths_of_node plan valid k node at) ∙ flow_in k node at (paths_of plan)
 
     counted_at : (k : ℕ) (node : PlanNode) → slice_get plan k ≡ Some node → AllByRecursion (λ i. counted i ≡ flow i % 2 ^ 64) (inputs_of node.op)
         → counted k ≡ flow k % 2 ^ 64
     counted_at k node at lower =
         let steps = flow_in k node at (paths_of plan) in
-        let flows : flow k ≡ (if is_source node.op then lines_of inputs node.op else sum_by flow (inputs_of node.op)) = ap (sum_by (lines_at plan inputs)) (path_step k node at) ∙ steps in
+        let flows : flow k ≡ (if is_source node.op then lines_of inputs node.op else sum_by flow (inputs_of node.op)) = ap (sum_by (lines_at plan inputs)) (paths_of_node plan valid k node at) ∙ steps in
         elim (cases_Bool (is_source node.op)) [
           | inl source ↦
               count_step k node at ∙ ap (λ b. cond b (lines_of inputs node.op % 2 ^ 64) (come_from node.op counted)) source
@@ -217,17 +180,17 @@ module _ (plan : Plan) (inputs : List Input) where
     -- ---- what is read
 
     pub reads : lines_read plan inputs ≡ sum_by read_at (live plan)
-    reads = sum_joined (lines_at plan inputs) (λ k. option_map_or (λ node. read_paths plan k node.op) (slice_get plan k) []) (live plan) ∙ each (live plan)
+    reads = sum_joined (lines_at plan inputs) (λ k. option_map_or (read_paths plan k) (op_at plan k) []) (live plan) ∙ each (live plan)
       where
-        inside : (k : ℕ) (o : Option PlanNode) → sum_by (lines_at plan inputs) (option_map_or (λ node. read_paths plan k node.op) o [])
+        inside : (k : ℕ) (o : Option PlanNode) → sum_by (lines_at plan inputs) (option_map_or (read_paths plan k) (option_map (λ node. node.op) o) [])
             ≡ option_map_or (λ node. sum_by (lines_at plan inputs) (read_paths plan k node.op)) o 0
         inside k None = refl
         inside k (Some node) = refl
 
-        each : (ns : List ℕ) → sum_by (λ k. sum_by (lines_at plan inputs) (option_map_or (λ node. read_paths plan k node.op) (slice_get plan k) [])) ns ≡ sum_by read_at ns
+        each : (ns : List ℕ) → sum_by (λ k. sum_by (lines_at plan inputs) (option_map_or (read_paths plan k) (op_at plan k) [])) ns ≡ sum_by read_at ns
         each [] = refl
         each (n ∷ ns) =
-            let a = sum_by-cons (λ k. sum_by (lines_at plan inputs) (option_map_or (λ node. read_paths plan k node.op) (slice_get plan k) [])) n ns in
+            let a = sum_by-cons (λ k. sum_by (lines_at plan inputs) (option_map_or (read_paths plan k) (op_at plan k) [])) n ns in
             let b = sum_by-cons read_at n ns in
             let one = inside n (slice_get plan n) in
             let more = each ns in

@@ -1,4 +1,3 @@
 pub mod Enough
 mod Flowing
-mod Marking
 mod Once

@@ -1,4 +1,3 @@
 pub mod Flows
-pub mod Marks
 pub mod Paths
 pub mod Reach

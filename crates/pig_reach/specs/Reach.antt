@@ -7,7 +7,7 @@ use Rattle.std.specs.Option.{option_map_or}
 use Rattle.pig_value.specs.declared.inputs.Input.{Input}
 use Rattle.pig_value.specs.Lines.{lines}
 use Rattle.pig_reach.specs.declared.storing.Store.{Store}
-use Rattle.pig_plan.specs.Nodes.{live, read_paths}
+use Rattle.pig_plan.specs.Nodes.{Path, live, op_at, task_paths}
 use Rattle.pig_plan.specs.Operators.{pieces_of}
 use Rattle.pig_plan.specs.Plans.{Plan, PlanNode, PlanOp, p_load, p_store}
 
@@ -53,19 +53,14 @@ dirs_of plan = map (λ store. store.dir) (stores_of plan)
 
 -- ---- lines
 
--- the task paths of a plan: those on which rows come from a source to a live boundary node or to a STORE
-abbrev pub task_paths : Plan → List (List ℕ)
-task_paths plan = flat_map (λ k. option_map_or (λ node. read_paths plan k node.op) (slice_get plan k) []) (live plan)
-
 -- the number of lines of a LOAD's input; another source reads none
 abbrev pub lines_of : List Input → PlanOp → ℕ
 lines_of inputs (p_load path delim columns) = length (flat_map lines (pieces_of inputs path))
 lines_of inputs o = 0
 
 -- the number of lines of the LOAD at which a path begins
-abbrev pub lines_at : Plan → List Input → List ℕ → ℕ
-lines_at plan inputs [] = 0
-lines_at plan inputs (first ∷ path) = option_map_or (λ node. lines_of inputs node.op) (slice_get plan first) 0
+abbrev pub lines_at : Plan → List Input → Path → ℕ
+lines_at plan inputs path = option_map_or (lines_of inputs) (op_at plan path.source) 0
 
 -- the lines of each LOAD, once for each task path that begins at it
 abbrev pub lines_read : Plan → List Input → ℕ

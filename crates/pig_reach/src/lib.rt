@@ -4,13 +4,11 @@
 //! [`stores`] the STOREs; [`lines_read`] tells how many lines of the inputs come to a use. `specs/Reach` has the definitions.
 #![tactic(auto)]
 
-mod inputs;
-mod live;
 mod paths;
 mod reads;
 mod storing;
 
-pub use live::live_numbers;
 pub use paths::live_paths;
+pub use pig_plan::live_numbers;
 pub use reads::lines_read;
 pub use storing::{Store, Stores, stores};

@@ -3,8 +3,7 @@ ghost use Rattle.pig_reach.specs.Paths.{is_among, with_new, with_path, with_path
 ghost use Rattle.pig_plan.specs.Plans.{node_of, plan_of};
 ghost use Rattle.pig_reach.specs.Reach.{live_paths};
 
-use crate::live::live_numbers;
-use pig_plan::{Node, NodeOp, Plan};
+use pig_plan::{Node, NodeOp, Plan, live_numbers};
 use pig_value::{Text, Texts};
 use std::alloc::{AllocError, Global};
 

@@ -1,16 +1,13 @@
 ghost use Rattle.std.specs.Prelude.{◌≡◌, ◌%◌, ◌^◌, length, IfOk};
 ghost use Rattle.std.specs.List.{flat_map, sum_by};
 ghost use Rattle.pig_value.specs.Lines.{lines};
-ghost use Rattle.pig_plan.specs.Nodes.{is_source as is_source_op};
 ghost use Rattle.pig_plan.specs.Operators.{pieces_of};
 ghost use Rattle.pig_plan.specs.Plans.{op_of, plan_of};
 ghost use Rattle.pig_plan.specs.Results.{at_place};
 ghost use Rattle.pig_reach.specs.Flows.{come_from, comes_to, flows_of, uses_at, uses_in};
 ghost use Rattle.pig_reach.specs.Reach.{lines_read};
 
-use crate::inputs::inputs_in;
-use crate::live::live_numbers;
-use pig_plan::{Node, NodeOp, Plan};
+use pig_plan::{Node, NodeOp, Plan, live_numbers};
 use pig_storage::next_line;
 use pig_value::{Blob, Input, Inputs, Text};
 use std::alloc::{AllocError, Global};
@@ -64,7 +61,7 @@ fn comes_to(alloc: Global, op: &NodeOp, inputs: &[Input], flows: &[u64]) -> Resu
     match op {
         NodeOp::Load { path, .. } => Ok(loaded_lines(inputs, path)),
         _ => {
-            if is_source(op) {
+            if op.is_source() {
                 return Ok(0);
             }
             come_from(alloc, op, flows)
@@ -81,28 +78,11 @@ fn uses_at(alloc: Global, op: &NodeOp, number: usize, flows: &[u64]) -> Result<u
         NodeOp::Load { .. } => Ok(0),
         NodeOp::Store { .. } => Ok(flow_at(flows, number)),
         _ => {
-            if is_source(op) {
+            if op.is_source() {
                 return come_from(alloc, op, flows);
             }
             Ok(0)
         }
-    }
-}
-
-/// Whether rows start at the node, and don't come through it row by row.
-fn is_source(op: &NodeOp) -> bool
-    ensures { result ≡ is_source_op (op_of op.now) }
-{
-    match op {
-        NodeOp::Load { .. } => true,
-        NodeOp::GroupAll { .. } => true,
-        NodeOp::Group { .. } => true,
-        NodeOp::Join { .. } => true,
-        NodeOp::Distinct { .. } => true,
-        NodeOp::Order { .. } => true,
-        NodeOp::Limit { .. } => true,
-        NodeOp::Rank { .. } => true,
-        _ => false,
     }
 }
 
@@ -119,7 +99,7 @@ fn flow_at(flows: &[u64], number: usize) -> u64
 fn come_from(alloc: Global, op: &NodeOp, flows: &[u64]) -> Result<u64, AllocError>
     ensures { IfOk result (λ count. count ≡ come_from (op_of op.now) (at_place 0 flows.now)) }
 {
-    let inputs = inputs_in(alloc, op)?;
+    let inputs = op.inputs(alloc)?;
     Ok(flow_sum(inputs.as_slice(), flows))
 }
 

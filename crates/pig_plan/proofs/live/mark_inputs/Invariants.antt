@@ -1,6 +1,6 @@
 use Rattle.std.proofs.Common.{◌≡◌, ◌<◌, ◌||◌, ◌==◌, ℕ, false, length, get_or}
 use Rattle.std.specs.List.{AllByRecursion, list_any}
-use Rattle.pig_reach.proofs.live.mark_inputs.Given as goal
+use Rattle.pig_plan.proofs.live.mark_inputs.Given as goal
 
 abbrev pub invariant-loop-left : goal.invariant-loop-left
 invariant-loop-left l = (length l.marks.items ≡ length l.initial.marks.items)

@@ -1,19 +1,25 @@
 ghost use Rattle.std.specs.Prelude.{◌≡◌, ◌<◌, ◌||◌, ◌==◌, ◌++◌, ◌∷◌, [], ℕ, false, length, get_or, IfOk, OnOk};
 ghost use Rattle.std.specs.List.{AllByRecursion, filter, list_any};
-ghost use Rattle.pig_plan.specs.Nodes.{is_store as is_store_op, live};
-ghost use Rattle.pig_plan.specs.Plans.{op_of, plan_of};
+ghost use Rattle.pig_plan.specs.Nodes.{live, live_marks};
+ghost use Rattle.pig_plan.specs.Plans.{plan_of};
 ghost use Rattle.pig_plan.specs.Valid.{IsPlan};
-ghost use Rattle.pig_reach.specs.Marks.{AreMarks, IsMarked};
+ghost use Rattle.pig_plan.specs.Marks.{AreMarks, IsMarked};
 
-use crate::inputs::inputs_in;
-use pig_plan::{Node, NodeOp, Plan};
+use crate::{Node, Plan};
 use std::alloc::{AllocError, Global};
+
+/// Of each node, in order, whether a STORE reaches it.
+pub fn live_marks(alloc: Global, plan: &Plan) -> Result<Vec<bool>, AllocError>
+    ensures { IfOk result (λ marks. marks.items ≡ live_marks (plan_of plan.now)) }
+{
+    mark_live(alloc, plan.nodes().as_slice())
+}
 
 /// The numbers of the nodes that a STORE reaches, in order.
 pub fn live_numbers(alloc: Global, plan: &Plan) -> Result<Vec<usize>, AllocError>
     ensures { IfOk result (λ numbers. numbers.items ≡ live (plan_of plan.now)) }
 {
-    let marks = live_marks(alloc, plan.nodes().as_slice())?;
+    let marks = mark_live(alloc, plan.nodes().as_slice())?;
     let mut numbers = Vec::new(alloc);
     for number in 0..marks.len() {
         keep_marked(&mut numbers, marks.as_slice(), number)?;
@@ -36,7 +42,7 @@ fn keep_marked(numbers: &mut Vec<usize>, marks: &[bool], number: usize) -> Resul
 
 /// Of each node whether a STORE reaches it. They are gone through from the last to the first, since a node is live where a
 /// live node behind it names it.
-fn live_marks(alloc: Global, nodes: &[Node]) -> Result<Vec<bool>, AllocError>
+fn mark_live(alloc: Global, nodes: &[Node]) -> Result<Vec<bool>, AllocError>
     requires { IsPlan (plan_of nodes.now) }
     ensures { IfOk result (λ marks. AreMarks (plan_of nodes.now) 0 marks.items) }
 {
@@ -45,8 +51,8 @@ fn live_marks(alloc: Global, nodes: &[Node]) -> Result<Vec<bool>, AllocError>
     'marks: while number > 0 {
         number -= 1;
         let op = &nodes[number].op;
-        let inputs = inputs_in(alloc, op)?;
-        mark(&mut marks, number, is_store(op), inputs.as_slice());
+        let inputs = op.inputs(alloc)?;
+        mark(&mut marks, number, op.is_store(), inputs.as_slice());
     }
     Ok(marks)
 }
@@ -62,12 +68,6 @@ fn mark(marks: &mut Vec<bool>, number: usize, is_store: bool, inputs: &[u32])
     }
     mark_one(marks, number);
     mark_inputs(marks, inputs);
-}
-
-fn is_store(op: &NodeOp) -> bool
-    ensures { result ≡ is_store_op (op_of op.now) }
-{
-    matches!(op, NodeOp::Store { .. })
 }
 
 /// Whether a node is live, where it is marked as soon as a live node names it.

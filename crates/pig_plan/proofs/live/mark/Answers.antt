@@ -1,6 +1,6 @@
 use Rattle.std.proofs.Common.{rules, ◌≡◌, ◌||◌, true, false, get_or}
-use Rattle.pig_reach.proofs.Marking.{then_marked}
-use Rattle.pig_reach.proofs.live.mark.Goals as goal
+use Rattle.pig_plan.proofs.Marking.{then_marked}
+use Rattle.pig_plan.proofs.live.mark.Goals as goal
 
 pub returns : goal.returns
 returns c =

@@ -1,9 +1,9 @@
 use Rattle.std.proofs.Common.{rules, ◌≡◌, ◌++◌, ◌∷◌, [], false, get_or, length}
 use Rattle.std.specs.List.{filter}
 use Rattle.pig_plan.specs.Plans.{plan_of}
-use Rattle.pig_reach.specs.Marks.{AreMarks}
-use Rattle.pig_reach.proofs.Marking.{are_live, one_kept}
-use Rattle.pig_reach.proofs.live.live_numbers.Goals as goal
+use Rattle.pig_plan.specs.Marks.{AreMarks}
+use Rattle.pig_plan.proofs.Marking.{are_live, one_kept}
+use Rattle.pig_plan.proofs.live.live_numbers.Goals as goal
 
 pub loop-number-preserved : goal.loop-number-preserved
 loop-number-preserved c =

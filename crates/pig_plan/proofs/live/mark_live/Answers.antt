@@ -1,12 +1,11 @@
-use Rattle.std.proofs.Common.{◌≡◌, ◌<◌, ◌+◌, ◌-◌, ◌∙◌, length, get_or, ap, subst, sym, arith}
-use Rattle.std.proofs.lemmas.List.{length-map, length-replicate}
+use Rattle.std.proofs.Common.{◌≡◌, ◌<◌, ◌+◌, ◌-◌, ◌∙◌, length, get_or, subst, sym, arith}
 use Rattle.std.specs.List.{AllByRecursion}
 use Rattle.pig_plan.proofs.Lower.{names_lower}
 use Rattle.pig_plan.specs.Nodes.{inputs_of, is_store}
 use Rattle.pig_plan.specs.Plans.{node_of, op_of, plan_of}
-use Rattle.pig_reach.proofs.Marking.{marked, node_at, none_marked}
-use Rattle.pig_reach.specs.Marks.{AreMarks, IsMarked}
-use Rattle.pig_reach.proofs.live.live_marks.Goals as goal
+use Rattle.pig_plan.proofs.Marking.{marked, node_at}
+use Rattle.pig_plan.specs.Marks.{AreMarks, IsMarked}
+use Rattle.pig_plan.proofs.live.mark_live.Goals as goal
 
 pub mark-requires-clause-lower : goal.mark-requires-clause-lower
 mark-requires-clause-lower c =

@@ -1,5 +1,5 @@
 -- Going back over the nodes: what is marked behind one, and what one node adds.
-use Rattle.std.specs.Prelude.{◌≡◌, ◌<◌, ◌≤◌, ◌+◌, ◌&&◌, ◌||◌, ◌==◌, ℕ, zero, suc, Bool, true, false, List, [], ◌∷◌, ◌++◌, length, drop, replicate, Some, slice_get, get_or, refl}
+use Rattle.std.specs.Prelude.{◌≡◌, ◌<◌, ◌≤◌, ◌+◌, ◌&&◌, ◌||◌, ◌==◌, ℕ, zero, suc, Bool, true, false, List, [], ◌∷◌, ◌++◌, length, drop, map, replicate, Some, slice_get, get_or, refl}
 use Rattle.std.proofs.Common.{ap, sym, subst, ◌∙◌, arith, inl, inr, cond, add-one}
 use Rattle.std.specs.List.{AllByRecursion, filter, list_any, range_with_len}
 use Rattle.std.specs.Option.{option_map, option_map_or}
@@ -11,9 +11,9 @@ use Rattle.std.proofs.lemmas.List.{drop_all}
 use Rattle.std.proofs.lemmas.Option.{slice_get-get_or, slice_get-map}
 use Rattle.pig_value.proofs.list_laws.Indexing.{dropped}
 use Rattle.pig_plan.specs.declared.nodes.Node.{Node}
-use Rattle.pig_plan.specs.Nodes.{inputs_of, is_live, is_store, is_used, live, names}
+use Rattle.pig_plan.specs.Nodes.{inputs_of, is_live, is_store, is_used, live, live_marks, names}
 use Rattle.pig_plan.specs.Plans.{Plan, PlanNode, node_of, plan_of}
-use Rattle.pig_reach.specs.Marks.{AreMarks, IsMarked}
+use Rattle.pig_plan.specs.Marks.{AreMarks, IsMarked}
 
 -- the node at a place of a plan, from the code's list
 pub node_at : (nodes : List Node) (i : ℕ) (d : Node) → i < length nodes → slice_get (plan_of nodes) i ≡ Some (node_of (get_or nodes i d))
@@ -125,3 +125,19 @@ pub are_live : (plan : Plan) (marks : List Bool) (numbers : List ℕ) (n : ℕ) 
 are_live plan marks numbers n told end so_far =
     so_far ∙ ap (λ m. filter (λ k. get_or marks k false) (range_with_len 0 m)) (end ∙ told.size)
     ∙ same_within (λ k. get_or marks k false) (is_live plan) 0 (length plan) (λ k from below. told.behind k from (omega (arith, below)))
+
+-- a list by what stands at its places
+by_places : (p : ℕ → Bool) (a n : ℕ) (marks : List Bool) → length marks ≡ n → ((k : ℕ) → k < n → get_or marks k false ≡ p (a + k)) → marks ≡ map p (range_with_len a n)
+by_places p a zero [] size each = refl
+by_places p a zero (b ∷ marks) size each = absurd (omega (arith, size))
+by_places p a (suc n) [] size each = absurd (omega (arith, size))
+by_places p a (suc n) (b ∷ marks) size each =
+    let here : a + 0 ≡ a = omega arith in
+    ap (λ c. c ∷ marks) (each 0 (omega arith) ∙ ap p here)
+    ∙ ap (λ more. p a ∷ more) (by_places p (a + 1) n marks (omega (arith, size))
+    (λ k below. each (suc k) (omega (arith, below)) ∙ (let e : a + suc k ≡ a + 1 + k = omega arith in ap p e)))
+
+pub marks_are : (plan : Plan) (marks : List Bool) → AreMarks plan 0 marks → marks ≡ live_marks plan
+marks_are plan marks told =
+    by_places (is_live plan) 0 (length plan) marks told.size
+    (λ k below. told.behind k (omega arith) below ∙ (let e : k ≡ 0 + k = omega arith in ap (is_live plan) e))
