@@ -4,20 +4,20 @@ use Rattle.std.specs.Prelude.{Some, option_map, slice_get}
 use Rattle.std.specs.List.{range_with_len}
 use Rattle.std.proofs.lemmas.List.{map-append}
 use Rattle.std.proofs.lemmas.List.FromFn.{map-range_with_len_more}
+use Rattle.pig_value.specs.Gathering.{Entry}
 use Rattle.pig_value.specs.declared.values.Value.{Value}
 use Rattle.pig_value.specs.declared.values.Value.TheVariants as value
 use Rattle.pig_value.specs.Trees.{Tree, tree, row_tree, rows_tree}
 use Rattle.pig_value.specs.TreeViews.{tree-Bag}
 use Rattle.pig_value.proofs.list_laws.Indexing.{some_at}
 use Rattle.pig_plan.specs.ByKey.{as_bag, bags_of, nulls}
-use Rattle.pig_runs.specs.Entries.{Keyed}
 use Rattle.pig_operators.specs.Groups.{between}
 use Rattle.pig_operators.proofs.Between.{between_more}
 
 some_same : {X : Type 0} {x y : X} → Some x ≡ Some y → x ≡ y
 some_same h = cc
 
-rows_next : (es : List Keyed) (from at : ℕ) (row : List Tree) → from ≤ at → at < length es → option_map (λ e. e.row) (slice_get es at) ≡ Some row
+rows_next : (es : List Entry) (from at : ℕ) (row : List Tree) → from ≤ at → at < length es → option_map (λ e. e.row) (slice_get es at) ≡ Some row
     → map (λ e. e.row) (between from (at + 1) es) ≡ map (λ e. e.row) (between from at es) ++ row ∷ []
 rows_next es from at row low high here =
     let found = some_at es at high in
@@ -27,13 +27,13 @@ rows_next es from at row low high here =
     ∙ ap (λ r. map (λ e. e.row) (between from at es) ++ r ∷ []) is)
 
 -- the row of one more entry
-pub rows_more : (es : List Keyed) (from at : ℕ) (rows new : List (List Value)) (row : List Value) → from ≤ at → at < length es → option_map (λ e. e.row) (slice_get es at) ≡ Some (row_tree row)
+pub rows_more : (es : List Entry) (from at : ℕ) (rows new : List (List Value)) (row : List Value) → from ≤ at → at < length es → option_map (λ e. e.row) (slice_get es at) ≡ Some (row_tree row)
     → rows_tree rows ≡ map (λ e. e.row) (between from at es) → new ≡ rows ++ row ∷ [] → rows_tree new ≡ map (λ e. e.row) (between from (at + 1) es)
 rows_more es from at rows new row low high here so_far is =
     ap rows_tree is ∙ (map-append row_tree rows (row ∷ []) ∙ (ap (λ l. l ++ row_tree row ∷ []) so_far ∙ sym (rows_next es from at (row_tree row) low high here)))
 
 -- what is made of the row of one more entry
-pub made_more : (f : List Tree → List Tree) (es : List Keyed) (from at : ℕ) (old rows new : List (List Value)) (row : List Tree) (added : List Value) → from ≤ at → at < length es
+pub made_more : (f : List Tree → List Tree) (es : List Entry) (from at : ℕ) (old rows new : List (List Value)) (row : List Tree) (added : List Value) → from ≤ at → at < length es
     → option_map (λ e. e.row) (slice_get es at) ≡ Some row → row_tree added ≡ f row → rows_tree rows ≡ rows_tree old ++ map f (map (λ e. e.row) (between from at es)) → new ≡ rows ++ added ∷ []
     → rows_tree new ≡ rows_tree old ++ map f (map (λ e. e.row) (between from (at + 1) es))
 made_more f es from at old rows new row added low high here made so_far is =

@@ -9,3 +9,5 @@ mod Sides
 mod Adding
 mod Singles
 pub mod SortEntries
+pub mod Keying
+pub mod RowEntries

@@ -4,14 +4,14 @@ use Rattle.std.specs.Prelude.{⊤, Some, option_map, slice_get}
 use Rattle.std.specs.List.{AllByRecursion, flat_map, range_with_len}
 use Rattle.std.proofs.lemmas.List.{length-drop, length-take, map-append}
 use Rattle.std.proofs.lemmas.List.Concat.{flat_map-append}
+use Rattle.pig_value.specs.Gathering.{Entry}
 use Rattle.pig_value.specs.declared.values.Value.{Value}
 use Rattle.pig_value.specs.Trees.{tree, row_tree, rows_tree}
 use Rattle.pig_value.proofs.list_laws.Indexing.{get-drop, some_at}
 use Rattle.pig_value.proofs.list_laws.Listing.{each_weaker, map_each}
 use Rattle.pig_plan.specs.ByKey.{rows_of}
 use Rattle.pig_typed.specs.Products.{product}
-use Rattle.pig_runs.specs.Entries.{InDirections, Keyed}
-use Rattle.pig_operators.specs.Given.{plan_entry}
+use Rattle.pig_runs.specs.Entries.{InDirections}
 use Rattle.pig_operators.specs.Groups.{HasOneEach, between, group_entries}
 use Rattle.pig_operators.proofs.Between.{between_more}
 use Rattle.pig_operators.proofs.Inputs.{rows_first, rows_left}
@@ -20,18 +20,18 @@ some_same : {X : Type 0} {x y : X} → Some x ≡ Some y → x ≡ y
 some_same h = cc
 
 -- the entries are of this input, the next one, and so on
-abbrev Numbered : ℕ → List Keyed → Type 0
+abbrev Numbered : ℕ → List Entry → Type 0
 Numbered i [] = ⊤
 Numbered i (e ∷ es) = (e.input ≡ i) × Numbered (i + 1) es
 
-numbered : (i : ℕ) (es : List Keyed) → ((k : ℕ) → k < length es → option_map (λ e. e.input) (slice_get es k) ≡ Some (i + k)) → Numbered i es
+numbered : (i : ℕ) (es : List Entry) → ((k : ℕ) → k < length es → option_map (λ e. e.input) (slice_get es k) ≡ Some (i + k)) → Numbered i es
 numbered i [] h = tt
 numbered i (e ∷ es) h = (
   some_same (h 0 (omega arith)) ∙ (let same : i + 0 ≡ i = omega arith in same),
   numbered (i + 1) es (λ k low. h (suc k) (omega (arith, low)) ∙ (let same : i + suc k ≡ i + 1 + k = omega arith in ap Some same)),
 )
 
-numbered_from : (i : ℕ) (es : List Keyed) → Numbered i es → AllByRecursion (λ e. i ≤ e.input) es
+numbered_from : (i : ℕ) (es : List Entry) → Numbered i es → AllByRecursion (λ e. i ≤ e.input) es
 numbered_from i [] h = tt
 numbered_from i (e ∷ es) h = (
   (let same = h.0 in omega (arith, same)),
@@ -43,21 +43,21 @@ range_from i zero = tt
 range_from i (suc n) = (omega arith, each_weaker (λ j. i + 1 ≤ j) (λ j. i ≤ j) (λ j low. omega (arith, low)) (range_with_len (i + 1) n) (range_from (i + 1) n))
 
 -- the bag of each input is its one row
-bags_alone : (i : ℕ) (es : List Keyed) → Numbered i es → map (rows_of (map plan_entry es)) (range_with_len i (length es)) ≡ map (λ e. e.row ∷ []) es
+bags_alone : (i : ℕ) (es : List Entry) → Numbered i es → map (rows_of es) (range_with_len i (length es)) ≡ map (λ e. e.row ∷ []) es
 bags_alone i [] h = refl
 bags_alone i (e ∷ es) h =
     let own = h.0 in
-    let first : rows_of (map plan_entry (e ∷ es)) i ≡ e.row ∷ [] =
+    let first : rows_of (e ∷ es) i ≡ e.row ∷ [] =
     rows_first i (e ∷ []) es (own, tt) (each_weaker (λ f. i + 1 ≤ f.input) (λ f. f.input ≡ i → ⊥) (λ f low same. omega (arith, low, same)) es (numbered_from (i + 1) es h.1)) (tt, tt)
     in
-    let others : map (rows_of (map plan_entry (e ∷ es))) (range_with_len (i + 1) (length es)) ≡ map (rows_of (map plan_entry es)) (range_with_len (i + 1) (length es)) =
-    map_each (rows_of (map plan_entry (e ∷ es))) (rows_of (map plan_entry es)) (range_with_len (i + 1) (length es))
-    (each_weaker (λ j. i + 1 ≤ j) (λ j. rows_of (map plan_entry (e ∷ es)) j ≡ rows_of (map plan_entry es) j)
+    let others : map (rows_of (e ∷ es)) (range_with_len (i + 1) (length es)) ≡ map (rows_of es) (range_with_len (i + 1) (length es)) =
+    map_each (rows_of (e ∷ es)) (rows_of es) (range_with_len (i + 1) (length es))
+    (each_weaker (λ j. i + 1 ≤ j) (λ j. rows_of (e ∷ es) j ≡ rows_of es j)
     (λ j low. rows_left j (e ∷ []) es ((λ same. omega (arith, own, low, same)), tt)) (range_with_len (i + 1) (length es)) (range_from (i + 1) (length es)))
     in
     λ m. first m ∷ (others ∙ bags_alone (i + 1) es h.1) m
 
-product_alone : (es : List Keyed) → product (map (λ e. e.row ∷ []) es) ≡ flat_map (λ e. e.row) es ∷ []
+product_alone : (es : List Entry) → product (map (λ e. e.row ∷ []) es) ≡ flat_map (λ e. e.row) es ∷ []
 product_alone [] = refl
 product_alone (e ∷ es) = append-nil (map (λ y. e.row ++ y) (product (map (λ f. f.row ∷ []) es))) ∙ ap (map (λ y. e.row ++ y)) (product_alone es)
 
@@ -94,7 +94,7 @@ module _ (run : InDirections) (from end inputs : ℕ) (within : end ≤ length r
       ∙ (product_alone (between from (from + inputs) run.entries) ∙ (λ i. flat_map (λ e. e.row) (between from (sym count i) run.entries) ∷ []))))
 
 -- the fields of one more row
-pub fields_joined : (es : List Keyed) (from at : ℕ) (fields new more : List Value) → from ≤ at → at < length es → option_map (λ e. e.row) (slice_get es at) ≡ Some (row_tree more)
+pub fields_joined : (es : List Entry) (from at : ℕ) (fields new more : List Value) → from ≤ at → at < length es → option_map (λ e. e.row) (slice_get es at) ≡ Some (row_tree more)
     → row_tree fields ≡ flat_map (λ e. e.row) (between from at es) → new ≡ fields ++ more → row_tree new ≡ flat_map (λ e. e.row) (between from (at + 1) es)
 fields_joined es from at fields new more low high here so_far is =
     let found = some_at es at high in

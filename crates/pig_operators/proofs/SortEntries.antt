@@ -8,6 +8,7 @@ use Rattle.std.specs.declared.cmp.Ordering.{Ordering}
 use Rattle.std.specs.declared.cmp.Ordering.TheVariants.{Less, Equal, Greater}
 use Rattle.std.proofs.lemmas.Cmp.{tied_itself}
 use Rattle.std.proofs.lemmas.List.{length-map}
+use Rattle.pig_value.specs.Gathering.{Entry}
 use Rattle.pig_value.specs.declared.operators.Dir.{Dir}
 use Rattle.pig_value.specs.Orders.{dir_cmp, dirs_cmp, row_cmp, tree_cmp}
 use Rattle.pig_value.specs.Sorts.{Ascends}
@@ -21,8 +22,9 @@ use Rattle.pig_typed.specs.declared.blocks.SortKey.{SortKey}
 use Rattle.pig_typed.specs.Blocks.{keys_cmp}
 use Rattle.pig_keycode.specs.Keys.{IsKey}
 use Rattle.pig_plan.specs.Operators.{key_fields, order_rows}
-use Rattle.pig_runs.specs.Entries.{InDirections, Keyed, run_cmp, run_of}
-use Rattle.pig_operators.specs.Given.{IsOrdering, dirs_of, run_rows, sort_entry}
+use Rattle.pig_runs.specs.Entries.{InDirections, run_cmp, run_of}
+use Rattle.pig_plan.specs.Entries.{dirs_of, sort_entry}
+use Rattle.pig_operators.specs.Given.{IsOrdering, run_rows}
 
 -- a second order adds nothing where it ties whatever the first does
 tied_too : (r s t : Ordering) → (r ≡ Equal → s ≡ Equal) → ordering_then (ordering_then r s) t ≡ ordering_then r t
@@ -61,7 +63,7 @@ ordering_rows keys rows =
     ap (map (λ e. e.row)) (sort_map (keys_cmp keys) (run_cmp (dirs_of keys)) (sort_entry keys) (entry_order keys) rows)
     ∙ rows_back keys (order_rows keys rows)
 
-entries_are : (keys : List SortKey) (es : List Keyed) → AllByRecursion (λ e. e ≡ sort_entry keys e.row) es → es ≡ map (sort_entry keys) (map (λ e. e.row) es)
+entries_are : (keys : List SortKey) (es : List Entry) → AllByRecursion (λ e. e ≡ sort_entry keys e.row) es → es ≡ map (sort_entry keys) (map (λ e. e.row) es)
 entries_are keys [] h = refl
 entries_are keys (e ∷ es) h = let rest = entries_are keys es h.1 in λ i. h.0 i ∷ rest i
 

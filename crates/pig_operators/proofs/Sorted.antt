@@ -6,13 +6,14 @@ use Rattle.std.specs.Ordering.{ordering_then, nat_cmp, is_gt, is_lt}
 use Rattle.std.specs.declared.cmp.Ordering.{Ordering}
 use Rattle.std.specs.declared.cmp.Ordering.TheVariants.{Less, Equal, Greater}
 use Rattle.std.proofs.lemmas.Cmp.{tied_itself}
+use Rattle.pig_value.specs.Gathering.{Entry}
 use Rattle.pig_value.specs.Orders.{row_cmp}
 use Rattle.pig_value.specs.Sorts.{Ascends}
 use Rattle.pig_value.proofs.list_laws.Bags.{either_way, gt_is_lt, rises_over}
 use Rattle.pig_value.specs.declared.operators.Dir.{Dir}
 use Rattle.pig_keycode.specs.Keys.{key_cmp}
 use Rattle.pig_keycode.proofs.KeyOrder.{key_total}
-use Rattle.pig_runs.specs.Entries.{Keyed, run_cmp}
+use Rattle.pig_runs.specs.Entries.{run_cmp}
 
 -- the first of two orders in turn
 pub first_not_greater : (r s : Ordering) → is_gt (ordering_then r s) ≡ false → is_gt r ≡ false
@@ -45,14 +46,14 @@ module _ {X : Type 0} (R S : X → X → Ordering) (P : X → Type 0) (weaker : 
   ascends_where (x ∷ y ∷ xs) h k = (weaker x y h.0 h.1.0 k.0, ascends_where (y ∷ xs) h.1 k.1)
 
 -- the entries of a key are sorted by input, and then by row
-abbrev pub behind_key : Keyed → Keyed → Ordering
+abbrev pub behind_key : Entry → Entry → Ordering
 behind_key e f = ordering_then (nat_cmp e.input f.input) (row_cmp e.row f.row)
 
-abbrev pub by_input : Keyed → Keyed → Ordering
+abbrev pub by_input : Entry → Entry → Ordering
 by_input e f = nat_cmp e.input f.input
 
 module _ (ds : List Dir) where
-  pub same_key_order : (e f : Keyed) → e.key ≡ f.key → is_gt (run_cmp ds e f) ≡ false → is_gt (behind_key e f) ≡ false
+  pub same_key_order : (e f : Entry) → e.key ≡ f.key → is_gt (run_cmp ds e f) ≡ false → is_gt (behind_key e f) ≡ false
   same_key_order e f same h = second_not_greater (key_cmp ds e.key f.key) (behind_key e f) (ap (λ k. key_cmp ds k f.key) same ∙ tied_itself (key_total ds) f.key) h
 
 module _ {X : Type 0} (S : X → X → Ordering) (total : IsTotalOrder S) where

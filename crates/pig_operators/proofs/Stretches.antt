@@ -8,9 +8,9 @@ use Rattle.std.specs.declared.cmp.Ordering.{Ordering}
 use Rattle.std.specs.declared.cmp.Ordering.TheVariants.{Less}
 use Rattle.std.proofs.Math.Logic.{∥∥₁_elim}
 use Rattle.std.proofs.lemmas.Cmp.{on_total}
-use Rattle.std.proofs.lemmas.List.{map-append, take-map, take_all, take_min}
+use Rattle.std.proofs.lemmas.List.{take-map, take_all, take_min}
 use Rattle.pig_value.specs.declared.operators.Dir.{Dir}
-use Rattle.pig_value.specs.Gathering.{HaveKey, HaveGreater}
+use Rattle.pig_value.specs.Gathering.{Entry, HaveKey, HaveGreater}
 use Rattle.pig_value.specs.Orders.{row_cmp, tree_cmp}
 use Rattle.pig_value.specs.Sorts.{Ascends, distinct}
 use Rattle.pig_value.specs.Trees.{Tree, v_tuple, fields_of}
@@ -18,14 +18,14 @@ use Rattle.pig_value.proofs.OrderLaws.{fields_are, row_total, tree_total}
 use Rattle.pig_value.proofs.TreeLaws.{fields_back}
 use Rattle.pig_value.proofs.list_laws.Bags.{ascends_prop, drop_ascends, rises_all}
 use Rattle.pig_value.proofs.list_laws.Indexing.{some_at}
-use Rattle.pig_value.proofs.list_laws.Listing.{each-drop, each-map, each_at, each_of_all, each_weaker}
+use Rattle.pig_value.proofs.list_laws.Listing.{each-drop, each_at, each_of_all, each_weaker}
 use Rattle.pig_value.proofs.list_laws.Runs.{front}
 use Rattle.pig_keycode.specs.Keys.{fields_of_key, key_cmp}
 use Rattle.pig_keycode.proofs.KeyOrder.{key_total, key_same}
 use Rattle.pig_plan.specs.ByKey.{gathered, rows_of}
-use Rattle.pig_runs.specs.Entries.{InDirections, Keyed, key_at, run_cmp}
+use Rattle.pig_runs.specs.Entries.{InDirections, key_at, run_cmp}
 use Rattle.pig_runs.proofs.Order.{run_total}
-use Rattle.pig_operators.specs.Given.{AreKeyedByRow, plan_entry, run_rows}
+use Rattle.pig_operators.specs.Given.{AreKeyedByRow, run_rows}
 use Rattle.pig_operators.specs.Groups.{IsGroup, between, first_key, group_entries}
 use Rattle.pig_operators.proofs.Between.{ascends_before, ascends_behind, between_more, between_none, between_parts, between_rest, each_behind, each_between, first_behind}
 use Rattle.pig_operators.proofs.Sorted.{all_above, ascends_where, behind_key, first_not_greater, less_is, same_key_order}
@@ -41,7 +41,7 @@ each_both : {X : Type 0} (P Q : X → Type 0) (xs : List X) → AllByRecursion P
 each_both P Q [] h k = tt
 each_both P Q (x ∷ xs) h k = ((h.0, k.0), each_both P Q xs h.1 k.1)
 
-abbrev by_keys : List Dir → Keyed → Keyed → Ordering
+abbrev by_keys : List Dir → Entry → Entry → Ordering
 by_keys ds e f = key_cmp ds e.key f.key
 
 keys_total : (ds : List Dir) → IsTotalOrder (by_keys ds)
@@ -51,7 +51,7 @@ across : {X : Type 0} (R : X → X → Ordering) (total : IsTotalOrder R) (x : X
 across R total x us y ys h = (each_behind (λ z. is_gt (R x z) ≡ false) us (y ∷ ys) (rises_all R total x (us ++ y ∷ ys) h.0 h.1)).0
 
 module _ (run : InDirections) (from end : ℕ) (group : IsGroup run from end) (up : Ascends (run_cmp run.dirs) run.entries) where
-  abbrev first : (x : Keyed) × (slice_get run.entries from ≡ Some x)
+  abbrev first : (x : Entry) × (slice_get run.entries from ≡ Some x)
   first = let low = group.some in let high = group.within in some_at run.entries from (omega (arith, low, high))
 
   key_is : key_at run from ≡ Some first.0.key
@@ -60,7 +60,7 @@ module _ (run : InDirections) (from end : ℕ) (group : IsGroup run from end) (u
   pub first_key_is : first_key run from ≡ first.0.key
   first_key_is = search rules
 
-  abbrev has_key : Keyed → Type 0
+  abbrev has_key : Entry → Type 0
   has_key e = e.key ≡ first.0.key
 
   keys_here : AllByRecursion has_key (between from end run.entries)
@@ -76,10 +76,10 @@ module _ (run : InDirections) (from end : ℕ) (group : IsGroup run from end) (u
       ∙ ap (λ l. l ++ between (from + 1) end run.entries)
       (between_more from from run.entries first.0 (omega arith) (let low = group.some in let high = group.within in omega (arith, low, high)) first.1 ∙ ap (λ l. l ++ first.0 ∷ []) (between_none from run.entries))
 
-  abbrev above_key : Keyed → Type 0
+  abbrev above_key : Entry → Type 0
   above_key e = key_cmp run.dirs first.0.key e.key ≡ Less
 
-  keys_behind : (l : List Keyed) → drop end run.entries ≡ l → AllByRecursion above_key l
+  keys_behind : (l : List Entry) → drop end run.entries ≡ l → AllByRecursion above_key l
   keys_behind [] is = tt
   keys_behind (y ∷ ys) is =
       let found = first_behind end run.entries y ys is in
@@ -92,7 +92,7 @@ module _ (run : InDirections) (from end : ℕ) (group : IsGroup run from end) (u
       (ascends_behind (run_cmp run.dirs) (first.0 ∷ between (from + 1) end run.entries) (y ∷ ys) whole) in
       all_above (by_keys run.dirs) (keys_total run.dirs) first.0 y ys less rest
     where
-      above_none : Keyed → Type 0
+      above_none : Entry → Type 0
       above_none e = ⊤
 
   -- the entries of a group stand by input, and then by row
@@ -102,26 +102,24 @@ module _ (run : InDirections) (from end : ℕ) (group : IsGroup run from end) (u
 
   -- the rows of the group, and then those of the rest
   pub gathered_group : (make : Tree → (ℕ → List (List Tree)) → List (List Tree)) → run.dirs ≡ []
-      → gathered make (map plan_entry (drop from run.entries)) ≡ make (first_key run from) (rows_of (group_entries run from end)) ++ gathered make (map plan_entry (drop end run.entries))
+      → gathered make (drop from run.entries) ≡ make (first_key run from) (rows_of (group_entries run from end)) ++ gathered make (drop end run.entries)
   gathered_group make none =
       let rest = drop end run.entries in
       let others = between (from + 1) end run.entries in
-      let cut : map plan_entry (drop from run.entries) ≡ plan_entry first.0 ∷ map plan_entry others ++ map plan_entry rest =
-      ap (map plan_entry) (between_rest from end run.entries (let low = group.some in omega (arith, low)) ∙ ap (λ l. l ++ rest) starts) ∙ map-append plan_entry (first.0 ∷ others) rest in
-      let same : HaveKey (λ e. e.key) first.0.key (plan_entry first.0 ∷ map plan_entry others) =
-      each-map (λ e. e.key ≡ first.0.key) plan_entry (first.0 ∷ others) (subst (AllByRecursion has_key) starts keys_here) in
-      let above : HaveGreater tree_cmp (λ e. e.key) first.0.key (map plan_entry rest) =
-      each-map (λ e. tree_cmp first.0.key e.key ≡ Less) plan_entry rest (each_weaker above_key (λ e. tree_cmp first.0.key e.key ≡ Less) (λ e h. ap (λ d. key_cmp d first.0.key e.key) (sym none) ∙ h) rest (keys_behind rest refl)) in
+      let cut : drop from run.entries ≡ first.0 ∷ others ++ rest = between_rest from end run.entries (let low = group.some in omega (arith, low)) ∙ ap (λ l. l ++ rest) starts in
+      let same : HaveKey (λ e. e.key) first.0.key (first.0 ∷ others) = subst (AllByRecursion has_key) starts keys_here in
+      let above : HaveGreater tree_cmp (λ e. e.key) first.0.key rest =
+      each_weaker above_key (λ e. tree_cmp first.0.key e.key ≡ Less) (λ e h. ap (λ d. key_cmp d first.0.key e.key) (sym none) ∙ h) rest (keys_behind rest refl) in
       ap (gathered make) cut
-      ∙ (front tree_cmp tree_total (λ e. e.key) (λ l entries. make l (rows_of entries)) first.0.key (plan_entry first.0) (map plan_entry others) (map plan_entry rest) same above
-      ∙ (λ i. make (sym first_key_is i) (rows_of (map plan_entry (sym starts i))) ++ gathered make (map plan_entry rest)))
+      ∙ (front tree_cmp tree_total (λ e. e.key) (λ l entries. make l (rows_of entries)) first.0.key first.0 others rest same above
+      ∙ (λ i. make (sym first_key_is i) (rows_of (sym starts i)) ++ gathered make rest))
 
   -- ---- DISTINCT
 
-  abbrev keyed_by_row : Keyed → Type 0
+  abbrev keyed_by_row : Entry → Type 0
   keyed_by_row e = e.key ≡ v_tuple (fields_of e.row)
 
-  row_is : (e : Keyed) → keyed_by_row e → e.row ≡ fields_of_key e.key
+  row_is : (e : Entry) → keyed_by_row e → e.row ≡ fields_of_key e.key
   row_is e h = sym (ap fields_of_key h ∙ fields_back e.row)
 
   -- the row of the group, and then those of the rest
@@ -151,7 +149,7 @@ module _ (run : InDirections) (from end : ℕ) (group : IsGroup run from end) (u
   row_first row is = some_same (sym (ap (option_map (λ e. e.row)) first.1) ∙ is)
 
 -- sorted entries are sorted
-pub sorted_out : (ds : List Dir) (es : List Keyed) → ∥ Ascends (run_cmp ds) es ∥₁ → Ascends (run_cmp ds) es
+pub sorted_out : (ds : List Dir) (es : List Entry) → ∥ Ascends (run_cmp ds) es ∥₁ → Ascends (run_cmp ds) es
 sorted_out ds es h = ∥∥₁_elim h (ascends_prop (run_cmp ds) es) (λ s. s)
 
 -- the entries of a group stand by input, and then by row

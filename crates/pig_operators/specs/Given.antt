@@ -1,12 +1,12 @@
 -- What the operators by key give of a run with a node's entries: the node's results over these entries.
 use Rattle.std.specs.Prelude.{◌≡◌, ℕ, List, map, length, drop}
 use Rattle.std.specs.List.{AllByRecursion}
-use Rattle.pig_value.specs.declared.operators.Dir.{Dir}
+use Rattle.pig_value.specs.Gathering.{Entry}
 use Rattle.pig_value.specs.Trees.{Tree, v_tuple, fields_of}
 use Rattle.pig_typed.specs.declared.blocks.SortKey.{SortKey}
-use Rattle.pig_plan.specs.ByKey.{Entry, cogroup_of, gathered, group_of, join_of, outer_of}
-use Rattle.pig_plan.specs.Operators.{key_fields}
-use Rattle.pig_runs.specs.Entries.{InDirections, Keyed}
+use Rattle.pig_plan.specs.ByKey.{cogroup_of, gathered, group_of, join_of, outer_of}
+use Rattle.pig_plan.specs.Entries.{dirs_of, sort_entry}
+use Rattle.pig_runs.specs.Entries.{InDirections}
 use Rattle.pig_operators.specs.declared.by_key.Gathering.{Gathering}
 use Rattle.pig_operators.specs.declared.by_key.Gathering.TheVariants as how
 
@@ -17,32 +17,18 @@ made (how.Cogroup inner) = cogroup_of inner (length inner)
 made (how.Join inputs) = join_of inputs
 made (how.Outer side left right) = outer_of side left right
 
--- an entry of a run, as the operators see it
-abbrev pub plan_entry : Keyed → Entry
-plan_entry e = record { key = e.key; input = e.input; row = e.row }
-
-abbrev pub entries_in : InDirections → List Entry
-entries_in run = map plan_entry run.entries
-
 -- what an operator gives of the entries from a place on
 abbrev pub to_come : Gathering → InDirections → ℕ → List (List Tree)
-to_come operator run from = gathered (made operator) (map plan_entry (drop from run.entries))
+to_come operator run from = gathered (made operator) (drop from run.entries)
 
 abbrev pub run_rows : InDirections → List (List Tree)
 run_rows run = map (λ e. e.row) run.entries
 
 -- the key of each entry is its row, as that of DISTINCT is
-abbrev pub AreKeyedByRow : List Keyed → Type 0
+abbrev pub AreKeyedByRow : List Entry → Type 0
 AreKeyedByRow es = AllByRecursion (λ e. e.key ≡ v_tuple (fields_of e.row)) es
 
 -- ---- ORDER
-
--- the directions of the keys to sort by, and a row under its fields to sort by
-abbrev pub dirs_of : List SortKey → List Dir
-dirs_of keys = map (λ key. key.dir) keys
-
-abbrev pub sort_entry : List SortKey → List Tree → Keyed
-sort_entry keys row = record { key = v_tuple (fields_of (key_fields keys row)); input = 0; row = row }
 
 -- a run with entries of ORDER by these keys
 pub record IsOrdering (keys : List SortKey) (run : InDirections) : Type 0 where

@@ -1,18 +1,18 @@
 -- Groups of a run's entries: those from a place up to another.
 use Rattle.std.specs.Prelude.{◌≡◌, ◌<◌, ◌≤◌, ◌+◌, ◌==◌, ◌&&◌, not, ℕ, Bool, true, List, [], ◌∷◌, map, length, take, drop, Option, Some, None, option_map, slice_get, if◌then◌else◌}
 use Rattle.std.specs.List.{flat_map, range_with_len}
+use Rattle.pig_value.specs.Gathering.{Entry}
 use Rattle.pig_value.specs.declared.values.Value.{Value}
 use Rattle.pig_value.specs.Trees.{Tree, or_null, row_tree}
-use Rattle.pig_plan.specs.ByKey.{Entry, all_there, alone, bags_of, is_empty, kept_where, rows_of}
+use Rattle.pig_plan.specs.ByKey.{all_there, alone, bags_of, is_empty, kept_where, rows_of}
 use Rattle.pig_runs.specs.Entries.{InDirections, key_at}
-use Rattle.pig_operators.specs.Given.{plan_entry}
 
 -- what stands from a place up to another
 abbrev pub between : {X : Type 0} → ℕ → ℕ → List X → List X
 between from end xs = drop from (take end xs)
 
 abbrev pub group_entries : InDirections → ℕ → ℕ → List Entry
-group_entries run from end = map plan_entry (between from end run.entries)
+group_entries run from end = between from end run.entries
 
 -- the rows of these entries, and the bags of each input's
 abbrev pub rows_at : InDirections → ℕ → ℕ → List (List Tree)

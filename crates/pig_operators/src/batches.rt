@@ -5,7 +5,7 @@ ghost use Rattle.pig_typed.specs.declared.blocks.SortKey.{SortKey};
 ghost use Rattle.pig_plan.specs.ByKey.{gathered};
 ghost use Rattle.pig_plan.specs.Operators.{order_rows};
 ghost use Rattle.pig_runs.specs.Entries.{run_cmp};
-ghost use Rattle.pig_operators.specs.Given.{IsOrdering, entries_in, made, run_rows, to_come};
+ghost use Rattle.pig_operators.specs.Given.{IsOrdering, made, run_rows, to_come};
 
 use crate::by_key::{Gathering, add_next};
 use crate::groups::rows_between;
@@ -103,7 +103,7 @@ impl Gatherer {
     /// All rows of the operator are still to come. This takes no memory.
     pub fn new(how: Gathering, run: Run) -> Gatherer
         requires { run.dirs ≡ [] }
-        ensures { result ≡ gathered (made how) (entries_in run) }
+        ensures { result ≡ gathered (made how) run.entries }
     {
         Gatherer { how, run, from: 0 }
     }

@@ -3,7 +3,7 @@ ghost use Rattle.pig_value.specs.Sorts.{Ascends};
 ghost use Rattle.pig_value.specs.Trees.{row_tree, rows_tree, tree};
 ghost use Rattle.pig_plan.specs.ByKey.{as_bag, gathered, join_of};
 ghost use Rattle.pig_runs.specs.Entries.{run_cmp};
-ghost use Rattle.pig_operators.specs.Given.{entries_in, made, to_come};
+ghost use Rattle.pig_operators.specs.Given.{made, to_come};
 ghost use Rattle.pig_operators.specs.Groups.{IsGroup, bags_at, first_key};
 
 use crate::cogrouping::add_cogrouped;
@@ -39,7 +39,7 @@ pub enum Gathering {
 /// The rows of an operator by key over the entries of a run. A refusal gives up the run.
 pub fn gather(alloc: Global, how: &Gathering, run: Run) -> Result<Rows, AllocError>
     requires ascending { run.dirs ≡ [] }
-    ensures { IfOk result (λ rows. rows_tree rows ≡ gathered (made how.now) (entries_in run)) }
+    ensures { IfOk result (λ rows. rows_tree rows ≡ gathered (made how.now) run.entries) }
 {
     let mut rows = Rows::new(alloc);
     let mut from = 0;

@@ -3,13 +3,17 @@
 
 mod batches;
 mod by_key;
+mod choosing;
 mod cogrouping;
 mod groups;
 mod joining;
+mod keyed;
 mod nulls;
 mod outer;
 mod whole;
 
 pub use batches::{Gatherer, Orderer};
 pub use by_key::{Gathering, gather};
+pub use choosing::{gathering_of_group, gathering_of_join};
+pub use keyed::{add_all_rows, add_row, add_rows};
 pub use whole::{distinct_keys, limited, ordered};

@@ -5,7 +5,6 @@ mod LinesLeft
 mod Marking
 mod PlanFacts
 mod Ranks
-mod SortedRows
 mod Steps
 mod StoredLines
 mod Tables

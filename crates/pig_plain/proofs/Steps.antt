@@ -12,9 +12,9 @@ use Rattle.std.proofs.Math.Seq.{get_or-append_seam}
 use Rattle.pig_value.specs.declared.inputs.Input.{Input}
 use Rattle.pig_value.specs.declared.outcomes.Kept.{Kept}
 use Rattle.pig_value.proofs.list_laws.Indexing.{more_taken}
-use Rattle.pig_value.proofs.list_laws.Permutations.{IsPermutation-same}
 use Rattle.pig_value.specs.Trees.{Tree, rows_tree}
 use Rattle.pig_value.specs.Valid.{AreRows}
+use Rattle.pig_plan.proofs.Meanings.{live_input}
 use Rattle.pig_plan.proofs.Lower.{names_lower}
 use Rattle.pig_plan.specs.Meaning.{AreKept, kept_at, meaning, width_at}
 use Rattle.pig_plan.specs.Nodes.{inputs_of, is_bare, is_live, is_sorted, is_store, is_used, names}
@@ -186,13 +186,13 @@ pub record IsLooked (plan : Plan) (i k : ℕ) : Type 0 where
   pub named : names other.op k ≡ true
 
 module _ (plan : Plan) (valid : IsPlan plan) (inputs : List Input) (i : ℕ) (node : PlanNode) (at : slice_get plan i ≡ Some node)
-    (marks : List Bool) (ends : List ℕ) (uses : AreUses plan 0 marks ends)
+    (marks : List Bool) (ends : List ℕ) (uses : AreUses plan marks ends)
     (table : List Relation) (kept : List Kept) (stores : List (List (List Tree))) (so_far : IsSoFar plan inputs i table kept stores) where
   abbrev Looked : ℕ → Type 0
   Looked = IsLooked plan i
 
   not_last : (k : ℕ) → Looked k → get_or ends k 0 ≢ i + 1
-  not_last k l e = let late = uses.late l.n k l.other (omega arith) l.found l.live l.named in let after = l.after in absurd (omega (arith, late, e, after))
+  not_last k l e = let late = uses.late l.n k l.other (slice_get_within plan l.n l.other l.found) l.found l.live l.named in let after = l.after in absurd (omega (arith, late, e, after))
 
   unstored_more : is_store node.op ≡ false → stored_relations (take (i + 1) plan) ≡ stored_relations (take i plan)
   unstored_more h =
@@ -238,7 +238,7 @@ module _ (plan : Plan) (valid : IsPlan plan) (inputs : List Input) (i : ℕ) (no
       subst (λ ks. IsSoFar plan inputs (i + 1) (table ++ no_rows ∷ []) ks stores) (append-nil kept)
       (advance (table ++ no_rows ∷ []) [] stores (length-append table (no_rows ∷ []) ∙ ap (λ n. n + 1) so_far.size) (all_values table no_rows so_far.values tt)
       (λ k before l. at_front table no_rows k (let s = so_far.size in omega (arith, before, s)))
-      (λ more l. absurd (true≢false (sym (uses.named l.n i l.other (omega arith) l.after l.found l.live l.named) ∙ dead)))
+      (λ more l. absurd (true≢false (sym (live_input plan l.n l.other l.found l.live i l.after node at l.named) ∙ dead)))
       (λ more. subst (λ ks. EachAnswers plan inputs (kept ++ more) ks stores) (sym (unstored_more (dead_store plan i node at dead))) (so_far.stored more))
       (λ more statement input count is live unsorted. absurd (true≢false (sym live ∙ dead)))
       (ap (map (λ k. k.statement)) (append-nil kept) ∙ so_far.entries ∙ sym (ap (map (λ n. n.statement)) (ap (λ ns. bare_before plan i ++ ns) none ∙ append-nil (bare_before plan i)))))
@@ -427,7 +427,7 @@ pub ended : (plan : Plan) (inputs : List Input) (table : List Relation) (kept : 
     → IsSoFar plan inputs (length plan) table kept stores → IsAnswer plan inputs kept stores
 ended plan inputs table kept stores h = record {
   kept = record {
-    entries = IsPermutation-same (map (λ k. k.statement) kept) (map (λ n. n.statement) (bare_before plan (length plan))) h.entries;
+    entries = h.entries;
     each = λ k statement input count stands live unsorted.
         subst (λ all. AreKept count (meaning plan inputs all input) (kept_at all statement)) (append-nil kept)
         (h.limits [] k statement input count (slice_get_within plan k _ stands) stands live unsorted);

@@ -1,21 +1,15 @@
 -- What the plain answer makes of one node: its operator's rows in the order in which they come, before a bag is sorted.
-use Rattle.std.specs.Prelude.{◌≡◌, ◌≢◌, get_or, ℕ, ◌+◌, Bool, false, List, [], ◌∷◌, ◌++◌, map, take, Option, Some, None, codes}
+use Rattle.std.specs.Prelude.{◌≡◌, ◌≢◌, get_or, ℕ, ◌+◌, Bool, false, List, [], map, take, Option, Some, None}
 use Rattle.std.specs.List.{flat_map}
 use Rattle.pig_value.specs.declared.inputs.Input.{Input}
 use Rattle.pig_value.specs.Orders.{row_cmp}
 use Rattle.pig_value.specs.Sorts.{distinct}
-use Rattle.pig_value.specs.declared.operators.Side.{Side}
 use Rattle.pig_value.specs.Valid.{AreRows}
-use Rattle.pig_value.specs.Trees.{Tree, fields_of, v_chars, v_tuple}
+use Rattle.pig_value.specs.Trees.{Tree}
 use Rattle.pig_typed.specs.Blocks.{foreach_all}
-use Rattle.pig_plan.specs.ByKey.{gathered, key_of, outer_of}
 use Rattle.pig_plan.specs.Nodes.{sorts}
-use Rattle.pig_plan.specs.Operators.{filter_rows, group_all, group_rows, join_rows, keyed_entries, keys_of, load_rows, order_rows, rank_rows}
-use Rattle.pig_plan.specs.Plans.{Keyed, Plan, PlanOp, p_load, p_filter, p_foreach, p_group_all, p_group, p_join, p_union, p_distinct, p_order, p_limit, p_store, p_assert, p_rank}
-use Rattle.pig_runs.specs.Entries.{Keyed as RunEntry}
-use Rattle.pig_typed.specs.Typed.{Typed}
-use Rattle.pig_operators.specs.declared.by_key.Gathering.{Gathering}
-use Rattle.pig_operators.specs.Given.{made}
+use Rattle.pig_plan.specs.Operators.{filter_rows, group_all, group_rows, join_rows, load_rows, order_rows, rank_rows}
+use Rattle.pig_plan.specs.Plans.{Plan, PlanOp, p_load, p_filter, p_foreach, p_group_all, p_group, p_join, p_union, p_distinct, p_order, p_limit, p_store, p_assert, p_rank}
 use Rattle.pig_plan.specs.Results.{at_place, results}
 use Rattle.pig_plain.specs.Coming.{coming, relation_rows, rows_standing}
 use Rattle.pig_plain.specs.declared.relation.Relation.{Relation}
@@ -58,32 +52,6 @@ standing_rows table = at_place [] (map rows_standing table)
 abbrev pub taken_rows : Option Walk → List Relation → ℕ → List (List Tree)
 taken_rows (Some walk) table k = coming walk
 taken_rows None table k = standing_rows table k
-
--- rows of the input numbered i under their keys, and those of all inputs from that number on
-abbrev pub keyed_rows : List Typed → ℕ → List (List Tree) → List RunEntry
-keyed_rows keys i rows = map (λ row. record { key = key_of (keys_of keys row); input = i; row = row }) rows
-
-abbrev pub all_keyed : ℕ → List Keyed → (ℕ → List (List Tree)) → List RunEntry
-all_keyed i [] rows = []
-all_keyed i (input ∷ inputs) rows = keyed_rows input.keys i (rows input.input) ++ all_keyed (i + 1) inputs rows
-
--- the rows of inputs that are brought together in this way, and no rows where there is none
-abbrev pub brought_together : Option Gathering → List Keyed → (ℕ → List (List Tree)) → List (List Tree)
-brought_together None inputs rows = []
-brought_together (Some how) inputs rows = gathered (made how) (keyed_entries 0 inputs rows)
-
--- rows under the one key of GROUP ALL
-abbrev pub all_rows_keyed : List (List Tree) → List RunEntry
-all_rows_keyed rows = map (λ row. record { key = v_chars (codes "all"); input = 0; row = row }) rows
-
--- a row under itself
-abbrev pub row_entry : List Tree → RunEntry
-row_entry row = record { key = v_tuple (fields_of row); input = 0; row = row }
-
--- a JOIN that keeps a side, of two inputs
-abbrev pub outer_rows : Side → (ℕ → ℕ) → List Keyed → (ℕ → List (List Tree)) → List (List Tree)
-outer_rows s width (a ∷ b ∷ inputs) rows = gathered (outer_of s (width a.input) (width b.input)) (keyed_entries 0 (a ∷ b ∷ inputs) rows)
-outer_rows s width inputs rows = []
 
 -- all rows of nodes are of values
 abbrev pub AreValues : List Relation → Type 0

@@ -7,17 +7,12 @@ use Rattle.pig_value.specs.Texts.{rows_text}
 use Rattle.pig_value.specs.Trees.{Tree}
 use Rattle.pig_value.specs.Valid.{IsValue}
 use Rattle.pig_plan.specs.Laws.{AreOfBytes, PlanLiteralsAre}
-use Rattle.pig_plan.specs.Meaning.{IsKept, meaning}
-use Rattle.pig_plan.specs.Nodes.{is_list, is_live}
+use Rattle.pig_plan.specs.Meaning.{IsKept}
+use Rattle.pig_plan.specs.Nodes.{is_live}
 use Rattle.pig_plan.specs.Plans.{Plan}
-use Rattle.pig_plan.specs.Stored.{StoresBag, StoresList}
+use Rattle.pig_plan.specs.Stored.{AnswersFor}
+pub use Rattle.pig_plan.specs.Stored.{StoresMeaning}
 use Rattle.pig_plan.specs.Valid.{IsPlan}
-use Rattle.pig_plain.specs.Answering.{AnswersFor}
-
--- the bytes, cut at LF alone, are the texts of the node's rows: in their order where the node is a list, and else each as often
-pub record StoresMeaning (plan : Plan) (inputs : List Input) (kept : List Kept) (k delimiter : ℕ) (bytes : List ℕ) : Type 0 where
-  pub bag : StoresBag delimiter bytes (meaning plan inputs kept k)
-  pub list : is_list plan k ≡ true → StoresList delimiter bytes (meaning plan inputs kept k)
 
 -- the texts of rows that answer for a live node, each with an LF behind it, store what the node means
 abbrev pub AnswersAreStoredLines : Type 0

@@ -46,7 +46,7 @@ pub fn answer(alloc: Global, plan: &Plan, inputs: &Inputs) -> Result<Answers, Al
     let all = plan.nodes();
     let given = inputs.as_slice();
     inputs_are_of_bytes(given);
-    let uses = uses_of(alloc, all)?;
+    let uses = uses_of(alloc, plan)?;
     let sorted = sorted_nodes(alloc, all)?;
     let mut so_far = Running {
         table: Vec::new(alloc),
@@ -94,7 +94,7 @@ impl<'p> Running<'p> {
         requires bytes { AreOfBytes inputs.now }
         requires valid { IsPlan (plan_of plan.now) }
         requires literals { PlanLiteralsAre IsValue (plan_of plan.now) }
-        requires uses { AreUses (plan_of plan.now) 0 uses.now.live.items uses.now.ends.items }
+        requires uses { AreUses (plan_of plan.now) uses.now.live.items uses.now.ends.items }
         requires sorted { sorted.now ≡ sorted_list (plan_of plan.now) }
         requires node { slice_get (plan_of plan.now) number ≡ Some (node_of node.now) }
         requires so_far { IsSoFar (plan_of plan.now) inputs.now number
@@ -123,7 +123,7 @@ impl<'p> Running<'p> {
         requires bytes { AreOfBytes inputs.now }
         requires valid { IsPlan (plan_of plan.now) }
         requires literals { PlanLiteralsAre IsValue (plan_of plan.now) }
-        requires uses { AreUses (plan_of plan.now) 0 uses.now.live.items uses.now.ends.items }
+        requires uses { AreUses (plan_of plan.now) uses.now.live.items uses.now.ends.items }
         requires sorted { sorted.now ≡ sorted_list (plan_of plan.now) }
         requires node { slice_get (plan_of plan.now) number ≡ Some (node_of node.now) }
         requires live { is_live (plan_of plan.now) number ≡ true }
@@ -134,7 +134,7 @@ impl<'p> Running<'p> {
     {
         let ends = uses.ends.as_slice();
         let made = found(alloc, plan, inputs, &node.op, &mut self.table, ends, number)?;
-        release_inputs(alloc, &mut self.table, ends, number, &node.op);
+        release_inputs(alloc, &mut self.table, ends, number, &node.op)?;
         match kind_of(&node.op, sorted) {
             Kind::Stored => self.put_stored(alloc, made),
             Kind::Kept => self.put_kept(alloc, node.statement, made),

@@ -1,31 +1,30 @@
-ghost use Rattle.std.specs.Prelude.{◌≡◌, ◌≢◌, ◌+◌, ◌==◌, ◌++◌, [], ◌∷◌, ℕ, List, true, false, codes};
-ghost use Rattle.std.specs.Prelude.{get_or, length, map, IfOk, OnOk};
+ghost use Rattle.std.specs.Prelude.{◌≡◌, ◌+◌, ◌==◌, [], true, false, get_or, length, map, IfOk, OnOk};
 ghost use Rattle.std.specs.List.{AllByRecursion, list_any};
-ghost use Rattle.pig_value.specs.Trees.{Tree, fields_of, row_tree, rows_tree, tree, v_chars, v_tuple};
-ghost use Rattle.pig_value.specs.Valid.{AreRows, IsRow, IsValue};
+ghost use Rattle.pig_value.specs.Valid.{AreRows, IsValue};
 ghost use Rattle.pig_typed.specs.Literals.{LiteralsAre};
 ghost use Rattle.pig_typed.specs.Typed.{typed};
 ghost use Rattle.pig_plan.specs.ByKey.{gathered};
 ghost use Rattle.pig_plan.specs.Laws.{KeyLiteralsAre};
 ghost use Rattle.pig_plan.specs.Meaning.{width_at};
-ghost use Rattle.pig_plan.specs.Operators.{group_all, group_rows, join_rows, keyed_entries, keys_of};
+ghost use Rattle.pig_plan.specs.Operators.{group_all, group_rows, join_rows, keyed_entries};
 ghost use Rattle.pig_plan.specs.Plans.{keyed_of, plan_of};
 ghost use Rattle.pig_runs.specs.Entries.{and_entries, no_entries_in, run_of};
-ghost use Rattle.pig_operators.specs.Given.{entries_in, made};
+ghost use Rattle.pig_operators.specs.Given.{made};
+ghost use Rattle.pig_operators.specs.Keying.{all_rows_keyed, keyed_rows};
 ghost use Rattle.pig_plain.specs.Coming.{coming, relation_rows, seen_rows};
-ghost use Rattle.pig_plain.specs.Operating.{AllStand, AreValues, LaterStand, OthersStand, all_keyed, all_rows_keyed};
-ghost use Rattle.pig_plain.specs.Operating.{brought_together, keyed_rows, outer_rows, table_rows};
+ghost use Rattle.pig_plain.specs.Operating.{AllStand, AreValues, LaterStand, OthersStand, table_rows};
 
 use crate::relation::{Relation, Seen};
 use crate::releasing::{is_last, release, release_keyed, take_input};
 use crate::table::{seen_at, take_coming};
 use crate::walking::Walk;
-use pig_eval::{eval, look, value};
-use pig_operators::{Gatherer, Gathering};
+use pig_operators::{
+    Gatherer, Gathering, add_all_rows, add_rows, gathering_of_group, gathering_of_join,
+};
 use pig_plan::{KeyedInput, Plan};
 use pig_runs::RunBuilder;
 use pig_typed::TExpr;
-use pig_value::{Dirs, Rows, Seq, Side, Text, Tuple, Value};
+use pig_value::{Dirs, Rows, Side};
 use std::alloc::{AllocError, Global};
 
 /// GROUP ALL: one row with the bag of all rows, or none.
@@ -56,7 +55,7 @@ pub fn all_grouped<'p>(
 fn groups<'p>(alloc: Global, how: Gathering, builder: RunBuilder) -> Relation<'p>
     requires { builder.dirs ≡ [] }
     ensures { relation_rows result
-        ≡ gathered (made how) (entries_in (run_of builder.dirs builder.entries)) }
+        ≡ gathered (made how) (run_of builder.dirs builder.entries).entries }
 {
     let groups = Gatherer::new(how, builder.finish());
     Relation::Coming(Walk::of_groups(alloc, groups))
@@ -89,33 +88,6 @@ fn add_all_seen(alloc: Global, seen: Seen, builder: &mut RunBuilder) -> Result<(
     }
 }
 
-/// The key is made here, so that none is alive where rows come.
-fn add_all_rows(alloc: Global, rows: &[Tuple], builder: &mut RunBuilder) -> Result<(), AllocError>
-    requires ascending { builder.old.dirs ≡ [] }
-    requires rows { AreRows (rows_tree rows.now) }
-    ensures { OnOk result (builder.new
-        ≡ and_entries (all_rows_keyed (rows_tree rows.now)) builder.old) }
-{
-    let key = all_key(alloc)?;
-    add_all_under(&key, rows, builder)
-}
-
-fn add_all_under(key: &Value, rows: &[Tuple], builder: &mut RunBuilder) -> Result<(), AllocError>
-    requires ascending { builder.old.dirs ≡ [] }
-    requires key { tree key.now ≡ v_chars (codes "all") }
-    requires valid { IsValue (tree key.now) }
-    requires rows { AreRows (rows_tree rows.now) }
-    ensures { OnOk result (builder.new
-        ≡ and_entries (all_rows_keyed (rows_tree rows.now)) builder.old) }
-{
-    let mut left = rows;
-    'rows: while let [row, rest @ ..] = left {
-        add_under(key, 0, row, builder)?;
-        left = rest;
-    }
-    Ok(())
-}
-
 /// Here and below, rows that come go batch by batch into the run, and are let go.
 fn add_all_coming(
     alloc: Global,
@@ -136,29 +108,6 @@ fn add_all_coming(
     }
 }
 
-fn all_key(alloc: Global) -> Result<Value, AllocError>
-    ensures key { IfOk result (λ key. tree key ≡ v_chars (codes "all")) }
-    ensures valid { IfOk result (λ key. IsValue (tree key)) }
-{
-    Ok(Value::Chars(Text::from_str(alloc, "all")?))
-}
-
-/// Adds a row under its key.
-fn add_under(
-    key: &Value,
-    number: u32,
-    row: &Tuple,
-    builder: &mut RunBuilder,
-) -> Result<(), AllocError>
-    requires ascending { builder.old.dirs ≡ [] }
-    requires key { IsValue (tree key.now) }
-    requires row { IsRow (row_tree row.now) }
-    ensures { OnOk result (builder.new ≡ and_entries
-        (record { key = tree key.now; input = number; row = row_tree row.now } ∷ []) builder.old) }
-{
-    builder.add(key, number, row)
-}
-
 /// GROUP and COGROUP.
 pub fn grouped<'p>(
     alloc: Global,
@@ -175,39 +124,8 @@ pub fn grouped<'p>(
     ensures values { OnOk result (AreValues table.new.items) }
     ensures kept { OnOk result (LaterStand ends.now number table.old.items table.new.items) }
 {
-    let how = grouping(alloc, inputs)?;
+    let how = gathering_of_group(alloc, inputs)?;
     brought(alloc, how, inputs, table, ends, number)
-}
-
-fn grouping(alloc: Global, inputs: &[KeyedInput]) -> Result<Gathering, AllocError>
-    ensures { IfOk result (λ how. (rows : ℕ → List (List Tree))
-        → gathered (made how) (keyed_entries 0 (map keyed_of inputs.now) rows)
-        ≡ group_rows (map keyed_of inputs.now) rows) }
-{
-    if let [_one] = inputs {
-        return Ok(Gathering::Group);
-    }
-    cogrouping(alloc, inputs)
-}
-
-fn cogrouping(alloc: Global, inputs: &[KeyedInput]) -> Result<Gathering, AllocError>
-    requires { length inputs.now ≢ 1 }
-    ensures { IfOk result (λ how. (rows : ℕ → List (List Tree))
-        → gathered (made how) (keyed_entries 0 (map keyed_of inputs.now) rows)
-        ≡ group_rows (map keyed_of inputs.now) rows) }
-{
-    let inner = flags(alloc, inputs)?;
-    Ok(Gathering::Cogroup { inner })
-}
-
-fn flags(alloc: Global, inputs: &[KeyedInput]) -> Result<Seq<bool>, AllocError>
-    ensures { IfOk result (λ inner. inner ≡ map (λ i. i.inner) (map keyed_of inputs.now)) }
-{
-    let mut inner = Seq::with_capacity(alloc, inputs.len())?;
-    for input in inputs {
-        inner.push(input.inner)?;
-    }
-    Ok(inner)
 }
 
 /// JOIN.
@@ -229,49 +147,9 @@ pub fn joined<'p>(
     ensures values { OnOk result (AreValues table.new.items) }
     ensures kept { OnOk result (LaterStand ends.now number table.old.items table.new.items) }
 {
-    match joining(plan, inputs, side) {
+    match gathering_of_join(plan, inputs, side) {
         Some(how) => brought(alloc, how, inputs, table, ends, number),
         None => Ok(Relation::Standing(Rows::new(alloc))),
-    }
-}
-
-/// How the inputs of a JOIN are brought together; one that keeps a side has two inputs.
-fn joining(plan: &Plan, inputs: &[KeyedInput], side: Side) -> Option<Gathering>
-    ensures { (rows : ℕ → List (List Tree))
-        → brought_together result (map keyed_of inputs.now) rows
-        ≡ join_rows side (width_at (plan_of plan.now)) (map keyed_of inputs.now) rows }
-{
-    match side {
-        Side::Inner => Some(Gathering::Join {
-            inputs: inputs.len(),
-        }),
-        Side::Left => outer(plan, inputs, Side::Left),
-        Side::Right => outer(plan, inputs, Side::Right),
-        Side::Full => outer(plan, inputs, Side::Full),
-    }
-}
-
-fn outer(plan: &Plan, inputs: &[KeyedInput], side: Side) -> Option<Gathering>
-    ensures { (rows : ℕ → List (List Tree))
-        → brought_together result (map keyed_of inputs.now) rows
-        ≡ outer_rows side (width_at (plan_of plan.now)) (map keyed_of inputs.now) rows }
-{
-    match inputs {
-        [left, right, ..] => Some(Gathering::Outer {
-            side,
-            left: width(plan, left.input),
-            right: width(plan, right.input),
-        }),
-        _ => None,
-    }
-}
-
-fn width(plan: &Plan, node: u32) -> usize
-    ensures { result ≡ width_at (plan_of plan.now) node }
-{
-    match plan.kinds(node) {
-        Some(kinds) => kinds.len(),
-        None => 0,
     }
 }
 
@@ -309,7 +187,7 @@ fn entries(
     requires rows { AreValues table.old.items }
     requires literals { KeyLiteralsAre IsValue (map keyed_of inputs.now) }
     ensures entries { IfOk result (λ builder. builder
-        ≡ and_entries (all_keyed 0 (map keyed_of inputs.now) (table_rows table.old.items))
+        ≡ and_entries (keyed_entries 0 (map keyed_of inputs.now) (table_rows table.old.items))
         (no_entries_in [])) }
     ensures size { OnOk result (length table.new.items ≡ length table.old.items) }
     ensures values { OnOk result (AreValues table.new.items) }
@@ -425,114 +303,4 @@ fn add_coming(
         }
         add_rows(alloc, keys, number, rows.as_slice(), builder)?;
     }
-}
-
-fn add_rows(
-    alloc: Global,
-    keys: &[TExpr],
-    number: u32,
-    rows: &[Tuple],
-    builder: &mut RunBuilder,
-) -> Result<(), AllocError>
-    requires ascending { builder.old.dirs ≡ [] }
-    requires rows { AreRows (rows_tree rows.now) }
-    requires literals { AllByRecursion (LiteralsAre IsValue) (map typed keys.now) }
-    ensures { OnOk result (builder.new
-        ≡ and_entries (keyed_rows (map typed keys.now) number (rows_tree rows.now)) builder.old) }
-{
-    let mut left = rows;
-    'rows: while let [row, rest @ ..] = left {
-        add_row(alloc, keys, number, row, builder)?;
-        left = rest;
-    }
-    Ok(())
-}
-
-fn add_row(
-    alloc: Global,
-    keys: &[TExpr],
-    number: u32,
-    row: &Tuple,
-    builder: &mut RunBuilder,
-) -> Result<(), AllocError>
-    requires ascending { builder.old.dirs ≡ [] }
-    requires row { IsRow (row_tree row.now) }
-    requires literals { AllByRecursion (LiteralsAre IsValue) (map typed keys.now) }
-    ensures { OnOk result (builder.new
-        ≡ and_entries (keyed_rows (map typed keys.now) number
-        (row_tree row.now ∷ [])) builder.old) }
-{
-    if let [key] = keys {
-        return add_by_one(alloc, key, number, row, builder);
-    }
-    add_by_several(alloc, keys, number, row, builder)
-}
-
-// One key is looked at where it stands.
-fn add_by_one(
-    alloc: Global,
-    key: &TExpr,
-    number: u32,
-    row: &Tuple,
-    builder: &mut RunBuilder,
-) -> Result<(), AllocError>
-    requires ascending { builder.old.dirs ≡ [] }
-    requires row { IsRow (row_tree row.now) }
-    requires literals { LiteralsAre IsValue (typed key.now) }
-    ensures { OnOk result (builder.new
-        ≡ and_entries (keyed_rows (typed key.now ∷ []) number
-        (row_tree row.now ∷ [])) builder.old) }
-{
-    let none = Tuple::new(alloc);
-    let seen = look(alloc, key, row, &none)?;
-    add_under(value(&seen), number, row, builder)
-}
-
-// Several keys, or none, are a tuple.
-fn add_by_several(
-    alloc: Global,
-    keys: &[TExpr],
-    number: u32,
-    row: &Tuple,
-    builder: &mut RunBuilder,
-) -> Result<(), AllocError>
-    requires ascending { builder.old.dirs ≡ [] }
-    requires row { IsRow (row_tree row.now) }
-    requires literals { AllByRecursion (LiteralsAre IsValue) (map typed keys.now) }
-    requires several { length keys.now ≢ 1 }
-    ensures { OnOk result (builder.new
-        ≡ and_entries (keyed_rows (map typed keys.now) number
-        (row_tree row.now ∷ [])) builder.old) }
-{
-    let key = tuple_of(alloc, keys, row)?;
-    add_under(&key, number, row, builder)
-}
-
-fn tuple_of(alloc: Global, keys: &[TExpr], row: &Tuple) -> Result<Value, AllocError>
-    requires row { IsRow (row_tree row.now) }
-    requires literals { AllByRecursion (LiteralsAre IsValue) (map typed keys.now) }
-    ensures key { IfOk result (λ key. tree key
-        ≡ v_tuple (fields_of (keys_of (map typed keys.now) (row_tree row.now)))) }
-    ensures valid { IfOk result (λ key. IsValue (tree key)) }
-{
-    Ok(Value::Tuple(values(alloc, keys, row)?))
-}
-
-/// The values of keys on a row.
-fn values(alloc: Global, keys: &[TExpr], row: &Tuple) -> Result<Tuple, AllocError>
-    ensures { IfOk result (λ vs. row_tree vs ≡ keys_of (map typed keys.now) (row_tree row.now)) }
-{
-    let mut found = Tuple::with_capacity(alloc, keys.len())?;
-    for key in keys {
-        add_value(alloc, key, row, &mut found)?;
-    }
-    Ok(found)
-}
-
-fn add_value(alloc: Global, key: &TExpr, row: &Tuple, found: &mut Tuple) -> Result<(), AllocError>
-    ensures { OnOk result (row_tree found.new
-        ≡ row_tree found.old ++ keys_of (typed key.now ∷ []) (row_tree row.now)) }
-{
-    let none = Tuple::new(alloc);
-    found.push(eval(alloc, key, row, &none)?)
 }

@@ -62,28 +62,15 @@ pub fn release_inputs(
     ends: &[usize],
     number: usize,
     op: &NodeOp,
-)
+) -> Result<(), AllocError>
     requires values { AreValues table.old.items }
-    ensures size { length table.new.items ≡ length table.old.items }
-    ensures values { AreValues table.new.items }
-    ensures kept { LaterStand ends.now number table.old.items table.new.items }
+    ensures size { OnOk result (length table.new.items ≡ length table.old.items) }
+    ensures values { OnOk result (AreValues table.new.items) }
+    ensures kept { OnOk result (LaterStand ends.now number table.old.items table.new.items) }
 {
-    match op {
-        NodeOp::Load { .. } => {}
-        NodeOp::Filter { input, .. }
-        | NodeOp::Foreach { input, .. }
-        | NodeOp::GroupAll { input }
-        | NodeOp::Distinct { input }
-        | NodeOp::Order { input, .. }
-        | NodeOp::Limit { input, .. }
-        | NodeOp::Store { input, .. }
-        | NodeOp::Assert { input, .. }
-        | NodeOp::Rank { input, .. } => release(alloc, table, ends, number, *input),
-        NodeOp::Group { inputs } | NodeOp::Join { inputs, .. } => {
-            release_keyed(alloc, table, ends, number, inputs.as_slice())
-        }
-        NodeOp::Union { inputs } => release_each(alloc, table, ends, number, inputs.as_slice()),
-    }
+    let inputs = op.inputs(alloc)?;
+    release_each(alloc, table, ends, number, inputs.as_slice());
+    Ok(())
 }
 
 /// Lets go the rows of inputs by key that no later node looks at.

@@ -5,9 +5,10 @@ ghost use Rattle.pig_value.specs.Trees.{row_tree, rows_tree};
 ghost use Rattle.pig_value.specs.Valid.{AreRows, IsRow};
 ghost use Rattle.pig_plan.specs.Operators.{order_rows};
 ghost use Rattle.pig_runs.specs.Entries.{and_entries, no_entries_in};
-ghost use Rattle.pig_operators.specs.Given.{dirs_of, sort_entry};
+ghost use Rattle.pig_plan.specs.Entries.{dirs_of, sort_entry};
+ghost use Rattle.pig_operators.specs.Keying.{row_entry};
 ghost use Rattle.pig_plain.specs.Coming.{coming, relation_rows, seen_rows};
-ghost use Rattle.pig_plain.specs.Operating.{AreValues, LaterStand, row_entry, table_rows};
+ghost use Rattle.pig_plain.specs.Operating.{AreValues, LaterStand, table_rows};
 
 use crate::ranking::key_values;
 use crate::relation::{Relation, Seen};

@@ -5,10 +5,11 @@ use Rattle.std.specs.List.{AllByRecursion}
 use Rattle.std.proofs.Math.Logic.{∥∥₁_map₂}
 use Rattle.std.proofs.Math.Seq.{drop-append_seam, drop-append-add, take-append_seam}
 use Rattle.std.proofs.lemmas.List.{append-nil, length-append, length-drop, drop-append-le, take-append-le, map-append}
+use Rattle.pig_value.specs.Gathering.{Entry}
 use Rattle.pig_value.specs.declared.operators.Dir.{Dir}
 use Rattle.pig_value.proofs.list_laws.Listing.{each-append, each_weaker}
 use Rattle.pig_runs.specs.declared.slots.Slot.{Slot}
-use Rattle.pig_runs.specs.Entries.{Keyed, IsEntry, AreKeyed, InDirections, and_entries}
+use Rattle.pig_runs.specs.Entries.{IsEntry, AreKeyed, InDirections, and_entries}
 use Rattle.pig_runs.specs.Fronts.{front}
 use Rattle.pig_runs.specs.Packed.{Packed, packed, part, found_at, row_at, slot_of, moved, IsPlaced, Held, held_prop}
 
@@ -108,10 +109,10 @@ new_placed bytes key row input =
     )
 
 -- the entries that slots at the end find
-abbrev pub Finds : List Dir → List ℕ → List Slot → List Keyed → Type 0
+abbrev pub Finds : List Dir → List ℕ → List Slot → List Entry → Type 0
 Finds ds bytes slots es = ∥ AreKeyed ds es ∥₁ × (map (found_at bytes) slots ≡ map (packed ds) es)
 
-pub finds_new : (ds : List Dir) (bytes : List ℕ) (e : Keyed) → IsEntry ds e
+pub finds_new : (ds : List Dir) (bytes : List ℕ) (e : Entry) → IsEntry ds e
     → Finds ds (bytes ++ ((packed ds e).key ++ (packed ds e).row)) (slot_of (length bytes) (packed ds e).key (packed ds e).row e.input ∷ []) (e ∷ [])
 finds_new ds bytes e good = (∣ (good, tt) ∣₁, (let found = found_new bytes (packed ds e).key (packed ds e).row e.input in λ i. found i ∷ []))
 
@@ -122,7 +123,7 @@ finds_lent ds bytes p one = (one.1.0, (let found = found_new bytes p.key p.row p
 
 -- ---- what an addition leaves
 
-module _ (ds : List Dir) (fs : List Keyed) (old new more : List ℕ) (slots grown added : List Slot) where
+module _ (ds : List Dir) (fs : List Entry) (old new more : List ℕ) (slots grown added : List Slot) where
   grown_found : new ≡ old ++ more → grown ≡ slots ++ added → AllByRecursion (IsPlaced old) slots → map (found_at (old ++ more)) added ≡ map (packed ds) fs
       → map (found_at new) grown ≡ map (found_at old) slots ++ map (packed ds) fs
   grown_found bytes both placed found =

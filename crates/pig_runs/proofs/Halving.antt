@@ -9,13 +9,14 @@ use Rattle.std.specs.Prelude.{Some, slice_get}
 use Rattle.std.specs.List.{AllByRecursion, filter}
 use Rattle.std.specs.Ordering.{is_gt, is_lt}
 use Rattle.std.specs.declared.cmp.Ordering.{Ordering}
+use Rattle.pig_value.specs.Gathering.{Entry}
 use Rattle.pig_value.specs.declared.operators.Dir.{Dir}
 use Rattle.pig_value.specs.Sorts.{Ascends}
 use Rattle.pig_value.proofs.list_laws.Bags.{either_way, gt_is_lt, rises_over, rises_all, drop_ascends, ascends_prop}
 use Rattle.pig_value.proofs.list_laws.Indexing.{dropped, some_at}
 use Rattle.pig_value.proofs.list_laws.Listing.{each_at, each_weaker, each-take, filter_all, filter_none}
 use Rattle.pig_runs.specs.Cutting.{Divides, Leads}
-use Rattle.pig_runs.specs.Entries.{Keyed, run_cmp}
+use Rattle.pig_runs.specs.Entries.{run_cmp}
 use Rattle.pig_runs.proofs.Order.{run_total}
 
 module _ {X : Type 0} (R : X → X → Ordering) (total : IsTotalOrder R) where
@@ -53,21 +54,21 @@ module _ {X : Type 0} (R : X → X → Ordering) (total : IsTotalOrder R) where
       (k, each_weaker (λ y. is_gt (R x y) ≡ false) (λ y. is_lt (R y z) ≡ false) (λ y e. stays_above x y z k e) (drop (i + 1) xs) (rises_all R total x (drop (i + 1) xs) rest.0 rest.1))
 
 -- what a search by halves knows of the entries before `low`, and of those from `high` on
-pub record IsHalved (ds : List Dir) (es fs : List Keyed) (there low high : ℕ) : Type 0 where
+pub record IsHalved (ds : List Dir) (es fs : List Entry) (there low high : ℕ) : Type 0 where
   pub order : low ≤ high
   pub within : high ≤ length es
-  pub first : (f : Keyed) → slice_get fs there ≡ Some f → AllByRecursion (λ e. is_lt (run_cmp ds e f) ≡ true) (take low es)
-  pub rest : (f : Keyed) → slice_get fs there ≡ Some f → AllByRecursion (λ e. is_lt (run_cmp ds e f) ≡ false) (drop high es)
+  pub first : (f : Entry) → slice_get fs there ≡ Some f → AllByRecursion (λ e. is_lt (run_cmp ds e f) ≡ true) (take low es)
+  pub rest : (f : Entry) → slice_get fs there ≡ Some f → AllByRecursion (λ e. is_lt (run_cmp ds e f) ≡ false) (drop high es)
 
-pub halved_all : (ds : List Dir) (es fs : List Keyed) (there low high : ℕ) → IsHalved ds es fs there low high → high ≤ low
-    → (f : Keyed) → slice_get fs there ≡ Some f → Divides (λ e. is_lt (run_cmp ds e f)) es low
+pub halved_all : (ds : List Dir) (es fs : List Entry) (there low high : ℕ) → IsHalved ds es fs there low high → high ≤ low
+    → (f : Entry) → slice_get fs there ≡ Some f → Divides (λ e. is_lt (run_cmp ds e f)) es low
 halved_all ds es fs there low high h done f here =
     let order = h.order in
     let same : high ≡ low = omega (arith, order, done) in
     record { first = h.first f here; rest = subst (λ n. AllByRecursion (λ e. is_lt (run_cmp ds e f) ≡ false) (drop n es)) same (h.rest f here) }
 
-module _ (ds : List Dir) (es fs : List Keyed) (there low high middle : ℕ) (b : Bool) (sorted : ∥ Ascends (run_cmp ds) es ∥₁) (h : IsHalved ds es fs there low high)
-    (told : (e f : Keyed) → slice_get es middle ≡ Some e → slice_get fs there ≡ Some f → b ≡ is_lt (run_cmp ds e f)) where
+module _ (ds : List Dir) (es fs : List Entry) (there low high middle : ℕ) (b : Bool) (sorted : ∥ Ascends (run_cmp ds) es ∥₁) (h : IsHalved ds es fs there low high)
+    (told : (e f : Entry) → slice_get es middle ≡ Some e → slice_get fs there ≡ Some f → b ≡ is_lt (run_cmp ds e f)) where
   ascending : Ascends (run_cmp ds) es
   ascending = ∥∥₁_elim sorted (ascends_prop (run_cmp ds) es) (λ k. k)
 

@@ -7,6 +7,7 @@ use Rattle.std.specs.Coded.{Coded-set, coded_list}
 use Rattle.std.specs.Ordering.{is_lt}
 use Rattle.std.proofs.lemmas.List.{length-map, map-append, append-nil}
 use Rattle.std.proofs.lemmas.Option.{slice_get-map, slice_get_read}
+use Rattle.pig_value.specs.Gathering.{Entry}
 use Rattle.pig_value.specs.declared.operators.Dir.{Dir}
 use Rattle.pig_value.specs.Sorts.{sort}
 use Rattle.pig_value.proofs.list_laws.Bags.{each-sort}
@@ -15,24 +16,24 @@ use Rattle.pig_value.proofs.list_laws.Listing.{some_same, each_at, each-append}
 use Rattle.pig_runs.specs.declared.lent.Lent.{Lent}
 use Rattle.pig_runs.specs.declared.slots.Slot.{Slot}
 use Rattle.pig_runs.specs.Cutting.{HaveDirections}
-use Rattle.pig_runs.specs.Entries.{Keyed, IsEntry, AreKeyed, InDirections, and_entries, coded_in_directions, entries_of_all, run_cmp}
+use Rattle.pig_runs.specs.Entries.{IsEntry, AreKeyed, InDirections, and_entries, coded_in_directions, entries_of_all, run_cmp}
 use Rattle.pig_runs.specs.Packed.{Packed, packed, packed_lent, packed_cmp, found_at, Held, Stand, coded_packed}
 use Rattle.pig_runs.proofs.Merging.{all-append}
 use Rattle.pig_runs.proofs.Order.{entry_order, sorted_codes}
 
 -- the entry that is lent
-pub lent_entry : (ds : List Dir) (o : Option Keyed) (p : Packed) → option_map (packed ds) o ≡ Some p → (e : Keyed) × ((o ≡ Some e) × (packed ds e ≡ p))
+pub lent_entry : (ds : List Dir) (o : Option Entry) (p : Packed) → option_map (packed ds) o ≡ Some p → (e : Entry) × ((o ≡ Some e) × (packed ds e ≡ p))
 lent_entry ds None p h = absurd (cc)
 lent_entry ds (Some e) p h = (e, (refl, some_same (packed ds e) p h))
 
-pub held_one : (ds : List Dir) (es : List Keyed) (at : ℕ) (p : Packed) → ∥ AreKeyed ds es ∥₁ → option_map (packed ds) (slice_get es at) ≡ Some p → ∥ Held ds (p ∷ []) ∥₁
+pub held_one : (ds : List Dir) (es : List Entry) (at : ℕ) (p : Packed) → ∥ AreKeyed ds es ∥₁ → option_map (packed ds) (slice_get es at) ≡ Some p → ∥ Held ds (p ∷ []) ∥₁
 held_one ds es at p good is =
     let found = lent_entry ds (slice_get es at) p is in
     ∥∥₁_map good (λ h. (found.0 ∷ [], (∣ (each_at (IsEntry ds) es at found.0 found.1.0 h, tt) ∣₁, (let told = found.1.1 in λ i. told i ∷ []))))
 
 -- what is added is the entry at the place
-pub copied : {T E : Type 0} (ds : List Dir) (es : List Keyed) (at : ℕ) (p : Packed) (b new : InDirections) (r : Result T E) → ∥ AreKeyed ds es ∥₁
-    → option_map (packed ds) (slice_get es at) ≡ Some p → ((e : Keyed) → IsEntry ds e → packed ds e ≡ p → OnOk r (new ≡ and_entries (e ∷ []) b))
+pub copied : {T E : Type 0} (ds : List Dir) (es : List Entry) (at : ℕ) (p : Packed) (b new : InDirections) (r : Result T E) → ∥ AreKeyed ds es ∥₁
+    → option_map (packed ds) (slice_get es at) ≡ Some p → ((e : Entry) → IsEntry ds e → packed ds e ≡ p → OnOk r (new ≡ and_entries (e ∷ []) b))
     → OnOk r (new ≡ and_entries (take 1 (drop at es)) b)
 copied ds es at p b new (Err u) good is added = tt
 copied ds es at p b new (Ok u) good is added =
@@ -40,7 +41,7 @@ copied ds es at p b new (Ok u) good is added =
     ∥∥₁_elim good (Coded-set coded_in_directions new (and_entries (take 1 (drop at es)) b))
     (λ h. added found.0 (each_at (IsEntry ds) es at found.0 found.1.0 h) found.1.1 ∙ ap (λ l. and_entries l b) (sym (take_one es at found.0 found.1.0)))
 
-told_at : (ds : List Dir) (es : List Keyed) (ls : List Lent) (at : ℕ) (l : Lent) → map (packed ds) es ≡ map packed_lent ls → slice_get ls at ≡ Some l
+told_at : (ds : List Dir) (es : List Entry) (ls : List Lent) (at : ℕ) (l : Lent) → map (packed ds) es ≡ map packed_lent ls → slice_get ls at ≡ Some l
     → option_map (packed ds) (slice_get es at) ≡ Some (packed_lent l)
 told_at ds es ls at l told here =
     sym (slice_get-map (packed ds) es at) ∙ (ap (λ ps. slice_get ps at) told ∙ (slice_get-map packed_lent ls at ∙ ap (option_map packed_lent) here))
@@ -49,8 +50,8 @@ pub held_at : (ds : List Dir) (ls : List Lent) (at : ℕ) (l : Lent) → slice_g
 held_at ds ls at l here held = ∥∥₁_elim held ∥∥₁_prop (λ h. held_one ds h.0 at (packed_lent l) h.1.0 (told_at ds h.0 ls at l h.1.1 here))
 
 -- the point that is picked
-pub picks : {T E : Type 0} (ds : List Dir) (es : List Keyed) (ls : List Lent) (n k at : ℕ) (l : Lent) (b new : InDirections) (r : Result T E) → Stand ds es (map packed_lent ls)
-    → at ≡ ((k + 1) * length ls) / n → slice_get ls at ≡ Some l → ((e : Keyed) → IsEntry ds e → packed ds e ≡ packed_lent l → OnOk r (new ≡ and_entries (e ∷ []) b))
+pub picks : {T E : Type 0} (ds : List Dir) (es : List Entry) (ls : List Lent) (n k at : ℕ) (l : Lent) (b new : InDirections) (r : Result T E) → Stand ds es (map packed_lent ls)
+    → at ≡ ((k + 1) * length ls) / n → slice_get ls at ≡ Some l → ((e : Entry) → IsEntry ds e → packed ds e ≡ packed_lent l → OnOk r (new ≡ and_entries (e ∷ []) b))
     → OnOk r (new ≡ and_entries (take 1 (drop (((k + 1) * length es) / n) es)) b)
 picks ds es ls n k at l b new r stands is here added =
     let size : length ls ≡ length es = sym (length-map ls packed_lent) ∙ (ap length (sym stands.told) ∙ length-map es (packed ds)) in
@@ -64,9 +65,9 @@ lent_all ds bytes b slots s held old new (Ok u) same_bytes same_slots h =
     h ∙ ap (λ ps. old ++ ps) ((λ i. map (found_at (same_bytes i)) (same_slots i)) ∙ sym held.1.1)
 
 -- two entries that are lent stand as they do
-pub lent_before : (ds : List Dir) (es fs : List Keyed) (at there : ℕ) (p q : Packed) (r : Bool) → ∥ AreKeyed ds es ∥₁ → ∥ AreKeyed ds fs ∥₁
+pub lent_before : (ds : List Dir) (es fs : List Entry) (at there : ℕ) (p q : Packed) (r : Bool) → ∥ AreKeyed ds es ∥₁ → ∥ AreKeyed ds fs ∥₁
     → option_map (packed ds) (slice_get es at) ≡ Some p → option_map (packed ds) (slice_get fs there) ≡ Some q → r ≡ is_lt (packed_cmp p q)
-    → (e f : Keyed) → slice_get es at ≡ Some e → slice_get fs there ≡ Some f → r ≡ is_lt (run_cmp ds e f)
+    → (e f : Entry) → slice_get es at ≡ Some e → slice_get fs there ≡ Some f → r ≡ is_lt (run_cmp ds e f)
 lent_before ds es fs at there p q r good well is_p is_q told e f here found =
     let first : packed ds e ≡ p = some_same (packed ds e) p (sym (ap (option_map (packed ds)) here) ∙ is_p) in
     let second : packed ds f ≡ q = some_same (packed ds f) q (sym (ap (option_map (packed ds)) found) ∙ is_q) in
@@ -92,7 +93,7 @@ one_run_lent ds runs i run lent ps qs alike within at same good so_far grown =
           ∙ ((λ j. so_far.told j ++ map (packed (sym dirs j)) (sym same j).entries) ∙ sym grown));
     }
 
-pub stand_sorted : (ds : List Dir) (es : List Keyed) (ps qs : List Packed) → Stand ds es ps → qs ≡ sort packed_cmp ps → Stand ds (sort (run_cmp ds) es) qs
+pub stand_sorted : (ds : List Dir) (es : List Entry) (ps qs : List Packed) → Stand ds es ps → qs ≡ sort packed_cmp ps → Stand ds (sort (run_cmp ds) es) qs
 stand_sorted ds es ps qs stands sorted = record {
   good = ∥∥₁_map stands.good (λ h. each-sort (run_cmp ds) (IsEntry ds) es h);
   told = ∥∥₁_elim stands.good (Coded-set (coded_list coded_packed) (map (packed ds) (sort (run_cmp ds) es)) qs)

@@ -6,9 +6,9 @@ mod FrontOrder
 mod FrontedSlots
 mod Joined
 mod KWay
-mod Merging
+pub mod Merging
 mod Lending
 mod Halving
 mod Sliced
-mod Parted
+pub mod Parted
 mod InTurn

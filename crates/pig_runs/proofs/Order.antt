@@ -4,6 +4,7 @@ use Rattle.std.specs.Cmp.{IsTotalOrder}
 use Rattle.std.specs.Ordering.{ordering_then, nat_cmp}
 use Rattle.std.specs.declared.cmp.Ordering.TheVariants.{Equal}
 use Rattle.std.proofs.lemmas.Cmp.{ranked, nat_cmp_total, lists_total, then_total, on_total}
+use Rattle.pig_value.specs.Gathering.{Entry}
 use Rattle.pig_value.specs.Trees.{Tree, v_tuple, fields_of}
 use Rattle.pig_value.specs.Orders.{text_cmp, row_cmp}
 use Rattle.pig_value.specs.Sorts.{sort}
@@ -16,7 +17,7 @@ use Rattle.pig_keycode.specs.Reading.{row_code}
 use Rattle.pig_keycode.proofs.KeyOrder.{key_total, key_same, whole_key_order}
 use Rattle.pig_keycode.proofs.Turned.{whole_order}
 use Rattle.pig_keycode.proofs.Unique.{both_equal, same_bytes}
-use Rattle.pig_runs.specs.Entries.{Keyed, IsEntry, AreKeyed, run_cmp}
+use Rattle.pig_runs.specs.Entries.{IsEntry, AreKeyed, run_cmp}
 use Rattle.pig_runs.specs.Packed.{Packed, packed, packed_cmp}
 
 texts_total : IsTotalOrder text_cmp
@@ -40,7 +41,7 @@ packed_same p q h =
 pub run_total : (ds : List Dir) → IsTotalOrder (run_cmp ds)
 run_total ds = then_total (on_total (λ e. e.key) (key_total ds)) (then_total (on_total (λ e. e.input) nat_cmp_total) (on_total (λ e. e.row) row_total))
 
-pub run_same : (ds : List Dir) (e f : Keyed) → run_cmp ds e f ≡ Equal → e ≡ f
+pub run_same : (ds : List Dir) (e f : Entry) → run_cmp ds e f ≡ Equal → e ≡ f
 run_same ds e f h =
     let keys = both_equal (key_cmp ds e.key f.key) (ordering_then (nat_cmp e.input f.input) (row_cmp e.row f.row)) h in
     let rest = both_equal (nat_cmp e.input f.input) (row_cmp e.row f.row) keys.1 in
@@ -52,11 +53,11 @@ run_same ds e f h =
 row_order : (x y : List Tree) → IsRow x → IsRow y → text_cmp (row_code x) (row_code y) ≡ row_cmp x y
 row_order x y h k = whole_order (v_tuple (fields_of x)) (v_tuple (fields_of y)) h k ∙ fields_are x y
 
-pub entry_order : (ds : List Dir) (e f : Keyed) → IsEntry ds e → IsEntry ds f → packed_cmp (packed ds e) (packed ds f) ≡ run_cmp ds e f
+pub entry_order : (ds : List Dir) (e f : Entry) → IsEntry ds e → IsEntry ds f → packed_cmp (packed ds e) (packed ds f) ≡ run_cmp ds e f
 entry_order ds e f h k =
     let key = whole_key_order ds e.key f.key h.key k.key in
     let row = row_order e.row f.row h.row k.row in
     λ i. ordering_then (key i) (ordering_then (nat_cmp e.input f.input) (row i))
 
-pub sorted_codes : (ds : List Dir) (es : List Keyed) → AreKeyed ds es → sort packed_cmp (map (packed ds) es) ≡ map (packed ds) (sort (run_cmp ds) es)
+pub sorted_codes : (ds : List Dir) (es : List Entry) → AreKeyed ds es → sort packed_cmp (map (packed ds) es) ≡ map (packed ds) (sort (run_cmp ds) es)
 sorted_codes ds es h = sort_map_where (run_cmp ds) packed_cmp (packed ds) (IsEntry ds) (entry_order ds) es h

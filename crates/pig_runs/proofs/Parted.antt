@@ -1,4 +1,4 @@
--- The slices of a run are its entries in order, each once, and the points of cuts ascend.
+-- The slices of a run are its entries in order, each once; sorted slices of any entries are these sorted; and the points of cuts ascend.
 use Rattle.std.proofs.Common.{◌≡◌, zero, suc, ◌<◌, ◌≤◌, ◌+◌, ◌-◌, ◌*◌, ◌/◌, ℕ, Bool, true, false, List, [], ◌∷◌, ◌++◌, map, length, cond, refl, sym, ◌∙◌, ap, arith}
 use Rattle.std.specs.Prelude.{not, ◌&&◌, Some, None, slice_get}
 use Rattle.std.specs.Cmp.{IsTotalOrder}
@@ -9,15 +9,16 @@ use Rattle.std.specs.declared.cmp.Ordering.TheVariants.{Less, Equal}
 use Rattle.std.proofs.Math.Nat.{le-div_iff_mul-le, div-mul-le_self, mul-le-mul_right}
 use Rattle.std.proofs.lemmas.Cmp.{tied_itself}
 use Rattle.std.proofs.lemmas.List.{append-nil}
+use Rattle.pig_value.specs.Gathering.{Entry}
 use Rattle.pig_value.specs.declared.operators.Dir.{Dir}
-use Rattle.pig_value.specs.Sorts.{Ascends}
-use Rattle.pig_value.proofs.list_laws.Bags.{either_way, gt_is_lt, rises_over, rises_all, filter_ascends}
+use Rattle.pig_value.specs.Sorts.{Ascends, sort}
+use Rattle.pig_value.proofs.list_laws.Bags.{either_way, gt_is_lt, rises_over, rises_all, filter_ascends, sort-filter, sort_ascends}
 use Rattle.pig_value.proofs.list_laws.Indexing.{some_at}
-use Rattle.pig_value.proofs.list_laws.Listing.{each_at, each_of_all, each_weaker, filter_all, filter_none, filter-filter, flat_map_each}
+use Rattle.pig_value.proofs.list_laws.Listing.{each_at, each_of_all, each_weaker, filter_all, filter_none, filter-filter, filter-flat_map, flat_map_each}
 use Rattle.pig_runs.specs.Cutting.{Point, point_cmp, cut_point, cut_points, in_slice, is_below, is_from, slice_of, stands_before}
-use Rattle.pig_runs.specs.Entries.{Keyed, run_cmp}
+use Rattle.pig_runs.specs.Entries.{run_cmp}
 use Rattle.pig_runs.proofs.Halving.{stays_above}
-use Rattle.pig_runs.proofs.Order.{run_total}
+use Rattle.pig_runs.proofs.Order.{run_same, run_total}
 
 module _ (ds : List Dir) where
   point_reversed : (x y : Point) → point_cmp ds x y ≡ ordering_reverse (point_cmp ds y x)
@@ -44,7 +45,7 @@ module _ (ds : List Dir) where
   point_total = record { antisymm = point_reversed; trans = point_trans; congr = point_congr }
 
   -- what stands not before a point stands not before an earlier one
-  not_before : (p q : Point) (e : Keyed) → is_gt (point_cmp ds p q) ≡ false → not (stands_before ds q e) ≡ true → not (stands_before ds p e) ≡ true
+  not_before : (p q : Point) (e : Entry) → is_gt (point_cmp ds p q) ≡ false → not (stands_before ds q e) ≡ true → not (stands_before ds p e) ≡ true
   not_before p q e h k =
       let later : is_lt (point_cmp ds (Some e) q) ≡ false = turned_back (is_lt (point_cmp ds (Some e) q)) k in
       ap not (sym (gt_is_lt (point_cmp ds) point_total p (Some e)) ∙ rises_over (point_cmp ds) point_total p q (Some e ∷ []) h (gt_is_lt (point_cmp ds) point_total q (Some e) ∙ later))
@@ -54,7 +55,7 @@ module _ (ds : List Dir) where
       turned_back false h = refl
 
   -- sorted entries are those before a point, and then the others
-  split : (p : Point) (es : List Keyed) → Ascends (run_cmp ds) es → filter (stands_before ds p) es ++ filter (λ e. not (stands_before ds p e)) es ≡ es
+  split : (p : Point) (es : List Entry) → Ascends (run_cmp ds) es → filter (stands_before ds p) es ++ filter (λ e. not (stands_before ds p e)) es ≡ es
   split p [] h = refl
   split p (e ∷ es) h = either_way (stands_before ds p e)
       (λ is. ap (λ b. cond b (e ∷ filter (stands_before ds p) es) (filter (stands_before ds p) es)
@@ -85,7 +86,7 @@ module _ (ds : List Dir) where
   follows false f false h = refl
 
   -- the slices behind the first are those by the other points, of the entries that stand not before the first point
-  later_slice : (p : Point) (ps : List Point) (es : List Keyed) → Ascends (point_cmp ds) (p ∷ ps) → (k : ℕ) → k ≤ length ps
+  later_slice : (p : Point) (ps : List Point) (es : List Entry) → Ascends (point_cmp ds) (p ∷ ps) → (k : ℕ) → k ≤ length ps
       → slice_of ds (p ∷ ps) (suc k) es ≡ slice_of ds ps k (filter (λ e. not (stands_before ds p e)) es)
   later_slice p ps es h zero within =
       (λ i. filter (λ e. turn_round (is_below ds ps zero e) (not (stands_before ds p e)) i) es)
@@ -97,7 +98,7 @@ module _ (ds : List Dir) where
       (λ is. not_before p found.0 e order (sym (ap (λ o. option_map_or (λ q. not (stands_before ds q e)) o true) found.1) ∙ is)) i) es)
       ∙ sym (filter-filter (in_slice ds ps (suc j)) (λ e. not (stands_before ds p e)) es)
 
-  shifted : (f : ℕ → List Keyed) (a n : ℕ) → flat_map f (range_with_len (a + 1) n) ≡ flat_map (λ k. f (k + 1)) (range_with_len a n)
+  shifted : (f : ℕ → List Entry) (a n : ℕ) → flat_map f (range_with_len (a + 1) n) ≡ flat_map (λ k. f (k + 1)) (range_with_len a n)
   shifted f a zero = refl
   shifted f a (suc n) = ap (λ l. f (a + 1) ++ l) (shifted f (a + 1) n)
 
@@ -105,12 +106,12 @@ module _ (ds : List Dir) where
   each_number P a zero h = tt
   each_number P a (suc n) h = (h a (omega arith), each_number P (a + 1) n (λ k below. h k (omega (arith, below))))
 
-  pub slices_join : (points : List Point) (es : List Keyed) → Ascends (point_cmp ds) points → Ascends (run_cmp ds) es
+  pub slices_join : (points : List Point) (es : List Entry) → Ascends (point_cmp ds) points → Ascends (run_cmp ds) es
       → flat_map (λ part. slice_of ds points part es) (range_with_len 0 (length points + 1)) ≡ es
   slices_join [] es h k = append-nil (slice_of ds [] zero es) ∙ filter_all (in_slice ds [] zero) es (each_of_all (λ e. in_slice ds [] zero e ≡ true) (λ e. refl) es)
   slices_join (p ∷ ps) es h k =
       let next : suc (length ps) + 1 ≡ suc (length ps + 1) = omega arith in
-      let rest : List Keyed = filter (λ e. not (stands_before ds p e)) es in
+      let rest : List Entry = filter (λ e. not (stands_before ds p e)) es in
       ap (λ n. flat_map (λ part. slice_of ds (p ∷ ps) part es) (range_with_len 0 n)) next
       ∙ ((λ i. filter (λ e. and_true (stands_before ds p e) i) es ++ shifted (λ part. slice_of ds (p ∷ ps) part es) 0 (length ps + 1) i)
       ∙ (ap (λ l. filter (stands_before ds p) es ++ l)
@@ -120,8 +121,20 @@ module _ (ds : List Dir) where
       ∙ slices_join ps rest h.1 (filter_ascends (run_cmp ds) (run_total ds) (λ e. not (stands_before ds p e)) es k))
       ∙ split p es k))
 
+  -- the slices of all lists, each sorted
+  pub by_points : (points : List Point) (lists : List (List Entry)) → Ascends (point_cmp ds) points
+      → flat_map (λ part. sort (run_cmp ds) (flat_map (slice_of ds points part) lists)) (range_with_len 0 (length points + 1)) ≡ sort (run_cmp ds) (flat_map (λ es. es) lists)
+  by_points points lists rise =
+      let all : List Entry = flat_map (λ es. es) lists in
+      let whole : List Entry = sort (run_cmp ds) all in
+      let parts : List ℕ = range_with_len 0 (length points + 1) in
+      flat_map_each (λ part. sort (run_cmp ds) (flat_map (slice_of ds points part) lists)) (λ part. slice_of ds points part whole) parts
+      (each_of_all (λ part. sort (run_cmp ds) (flat_map (slice_of ds points part) lists) ≡ slice_of ds points part whole)
+      (λ part. ap (sort (run_cmp ds)) (sym (filter-flat_map (in_slice ds points part) (λ es. es) lists)) ∙ sort-filter (run_cmp ds) (run_total ds) (in_slice ds points part) (run_same ds) all) parts)
+      ∙ slices_join points whole rise (sort_ascends (run_cmp ds) (run_total ds) all)
+
   -- what stands at a later place stands not before what stands at an earlier one
-  places_rise : (es : List Keyed) (i j : ℕ) → Ascends (run_cmp ds) es → i ≤ j → is_gt (point_cmp ds (slice_get es i) (slice_get es j)) ≡ false
+  places_rise : (es : List Entry) (i j : ℕ) → Ascends (run_cmp ds) es → i ≤ j → is_gt (point_cmp ds (slice_get es i) (slice_get es j)) ≡ false
   places_rise [] i j h k = refl
   places_rise (e ∷ es) zero zero h k = ap is_gt (tied_itself (run_total ds) e)
   places_rise (e ∷ es) zero (suc j) h k = first (slice_get es j) refl
@@ -138,11 +151,11 @@ module _ (ds : List Dir) where
       let more : (a + 1) * m ≤ (a + 1 + 1) * m = mul-le-mul_right m (omega arith) in
       (le-div_iff_mul-le {k = n} {x = ((a + 1) * m) / n} {y = (a + 1 + 1) * m} some).1 (omega (arith, low, more))
 
-  cuts_from : (n : ℕ) (es : List Keyed) → 0 < n → Ascends (run_cmp ds) es → (a c : ℕ) → Ascends (point_cmp ds) (map (cut_point n es) (range_with_len a c))
+  cuts_from : (n : ℕ) (es : List Entry) → 0 < n → Ascends (run_cmp ds) es → (a c : ℕ) → Ascends (point_cmp ds) (map (cut_point n es) (range_with_len a c))
   cuts_from n es some h a zero = tt
   cuts_from n es some h a (suc zero) = (tt, tt)
   cuts_from n es some h a (suc (suc c)) =
       (places_rise es (((a + 1) * length es) / n) (((a + 1 + 1) * length es) / n) h (place_rises n (length es) a some), cuts_from n es some h (a + 1) (suc c))
 
-  pub cuts_rise : (n : ℕ) (es : List Keyed) → 0 < n → Ascends (run_cmp ds) es → Ascends (point_cmp ds) (cut_points n es)
+  pub cuts_rise : (n : ℕ) (es : List Entry) → 0 < n → Ascends (run_cmp ds) es → Ascends (point_cmp ds) (cut_points n es)
   cuts_rise n es some h = cuts_from n es some h 0 (n - 1)

@@ -7,6 +7,7 @@ use Rattle.std.specs.Coded.{Coded-set, coded_list}
 use Rattle.std.proofs.Math.Logic.{∥∥₁_elim}
 use Rattle.std.proofs.lemmas.List.{length-map}
 use Rattle.std.proofs.lemmas.Option.{slice_get-map, slice_get_read}
+use Rattle.pig_value.specs.Gathering.{Entry}
 use Rattle.pig_value.specs.Trees.{Tree, tree, row_tree}
 use Rattle.pig_value.specs.TreeCode.{coded_tree}
 use Rattle.pig_value.specs.declared.values.Value.{Value}
@@ -14,10 +15,10 @@ use Rattle.pig_value.specs.declared.operators.Dir.{Dir}
 use Rattle.pig_value.proofs.list_laws.Listing.{each_at}
 use Rattle.pig_keycode.specs.Codable.{IsCodeOf, IsCodeOfRow}
 use Rattle.pig_keycode.specs.Keys.{IsKey, key_code}
-use Rattle.pig_runs.specs.declared.entries.Entry.{Entry}
+use Rattle.pig_runs.specs.declared.entries.Entry as declared
 use Rattle.pig_runs.specs.declared.lent.Lent.{Lent}
 use Rattle.pig_runs.specs.declared.slots.Slot.{Slot}
-use Rattle.pig_runs.specs.Entries.{Keyed, keyed, IsEntry, AreKeyed}
+use Rattle.pig_runs.specs.Entries.{keyed, IsEntry, AreKeyed}
 use Rattle.pig_runs.specs.Packed.{packed, packed_lent, part, found_at, row_at, Held}
 
 some_same : {X : Type 0} {x y : X} → Some x ≡ Some y → x ≡ y
@@ -27,13 +28,13 @@ module _ (ds : List Dir) (bytes : List ℕ) (slots : List Slot) (held : Held ds 
   pub as_many : length held.0 ≡ length slots
   as_many = sym (length-map held.0 (packed ds)) ∙ (ap length held.1.1 ∙ length-map slots (found_at bytes))
 
-  at_slot : (at : ℕ) (s : Slot) → slice_get slots at ≡ Some s → (e : Keyed) × (slice_get held.0 at ≡ Some e) × (packed ds e ≡ found_at bytes s)
+  at_slot : (at : ℕ) (s : Slot) → slice_get slots at ≡ Some s → (e : Entry) × (slice_get held.0 at ≡ Some e) × (packed ds e ≡ found_at bytes s)
   at_slot at s here = by (slice_get held.0 at) refl
     where
       same : option_map (packed ds) (slice_get held.0 at) ≡ Some (found_at bytes s)
       same = sym (slice_get-map (packed ds) held.0 at) ∙ (ap (λ l. slice_get l at) held.1.1 ∙ (slice_get-map (found_at bytes) slots at ∙ ap (option_map (found_at bytes)) here))
 
-      by : (o : Option Keyed) → slice_get held.0 at ≡ o → (e : Keyed) × (slice_get held.0 at ≡ Some e) × (packed ds e ≡ found_at bytes s)
+      by : (o : Option Entry) → slice_get held.0 at ≡ o → (e : Entry) × (slice_get held.0 at ≡ Some e) × (packed ds e ≡ found_at bytes s)
       by None e = absurd (let wrong : None ≡ Some (found_at bytes s) = sym (ap (option_map (packed ds)) e) ∙ same in cc)
       by (Some x) e = (x, e, (let told : Some (packed ds x) ≡ Some (found_at bytes s) = sym (ap (option_map (packed ds)) e) ∙ same in cc))
 
@@ -95,6 +96,6 @@ module _ (ds : List Dir) (bytes : List ℕ) (slots : List Slot) (held : Held ds 
       )
 
 -- what holds of the entries of a list holds of the one at an index
-pub entry_at : (ds : List Dir) (es : List Entry) (i : ℕ) (e : Entry) → i < length es → e ≡ get_or es i e → AreKeyed ds (map keyed es) → IsEntry ds (keyed e)
+pub entry_at : (ds : List Dir) (es : List declared.Entry) (i : ℕ) (e : declared.Entry) → i < length es → e ≡ get_or es i e → AreKeyed ds (map keyed es) → IsEntry ds (keyed e)
 entry_at ds es i e within at h =
     each_at (IsEntry ds) (map keyed es) i (keyed e) (slice_get-map keyed es i ∙ ap (option_map keyed) (slice_get_read es (length es) i e refl within at)) h

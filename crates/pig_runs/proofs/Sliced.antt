@@ -7,13 +7,14 @@ use Rattle.std.proofs.Math.Logic.{∥∥₁_map, ∥∥₁_elim}
 use Rattle.std.proofs.Math.Nat.{div-lt_iff_lt-mul, mul_comm, mul-lt-mul_of_pos_right}
 use Rattle.std.proofs.lemmas.Grind.{flat_map-append}
 use Rattle.std.proofs.lemmas.List.{append-nil, append_assoc, length-take, drop-append-le, length-map}
+use Rattle.pig_value.specs.Gathering.{Entry}
 use Rattle.pig_value.specs.declared.operators.Dir.{Dir}
 use Rattle.pig_value.specs.Sorts.{Ascends}
 use Rattle.pig_value.proofs.list_laws.Bags.{ascends_prop, drop_ascends, take_ascends}
 use Rattle.pig_value.proofs.list_laws.Indexing.{some_at, take_one, more_taken}
 use Rattle.pig_value.proofs.list_laws.Listing.{each_of_all, each_weaker, filter-filter}
 use Rattle.pig_runs.specs.Cutting.{Point, Points, Divides, Leads, cut_point, cut_points, is_below, is_from, picked, points_at, slice_of, stands_before}
-use Rattle.pig_runs.specs.Entries.{Keyed, InDirections, and_entries, no_entries_in, run_cmp}
+use Rattle.pig_runs.specs.Entries.{InDirections, and_entries, no_entries_in, run_cmp}
 use Rattle.pig_runs.specs.Packed.{Packed, packed, Held, Stand}
 use Rattle.pig_runs.proofs.Halving.{divided, led}
 
@@ -28,7 +29,7 @@ drop_none (suc n) (x ∷ xs) h = drop_none n xs (omega (arith, h))
 pub none_between : {X : Type 0} (from end : ℕ) (xs : List X) → end ≤ from → drop from (take end xs) ≡ []
 none_between from end xs h = drop_none from (take end xs) (let size = length-take end xs in omega (arith, size, h))
 
-pub one_copied : (from at : ℕ) (es : List Keyed) (b s new : InDirections) → from ≤ at → at < length es → s ≡ and_entries (drop from (take at es)) b
+pub one_copied : (from at : ℕ) (es : List Entry) (b s new : InDirections) → from ≤ at → at < length es → s ≡ and_entries (drop from (take at es)) b
     → new ≡ and_entries (take 1 (drop at es)) s → new ≡ and_entries (drop from (take (at + 1) es)) b
 one_copied from at es b s new above within so_far grown =
     let found = some_at es at within in
@@ -42,8 +43,8 @@ one_copied from at es b s new above within so_far grown =
 
 -- ---- bounds of a slice
 
-module _ (ds : List Dir) (es : List Keyed) where
-  abbrev under : Option Point → Keyed → Bool
+module _ (ds : List Dir) (es : List Entry) where
+  abbrev under : Option Point → Entry → Bool
   under o e = option_map_or (λ point. stands_before ds point e) o true
 
   pub leads_all : (points : List Point) → Leads (is_from ds points 0) es 0
@@ -74,7 +75,7 @@ module _ (ds : List Dir) (es : List Keyed) where
       sym (filter-filter (is_from ds points part) (is_below ds points part) es)
       ∙ (ap (filter (is_from ds points part)) (divided (is_below ds points part) es high h) ∙ led (is_from ds points part) es low high k)
 
-pub slice_ascends : (ds : List Dir) (es : List Keyed) (low high : ℕ) (b : InDirections) → ∥ Ascends (run_cmp ds) es ∥₁ → b ≡ record { dirs = ds; entries = drop low (take high es) }
+pub slice_ascends : (ds : List Dir) (es : List Entry) (low high : ℕ) (b : InDirections) → ∥ Ascends (run_cmp ds) es ∥₁ → b ≡ record { dirs = ds; entries = drop low (take high es) }
     → Ascends (run_cmp b.dirs) b.entries
 slice_ascends ds es low high b sorted is =
     subst (λ c. Ascends (run_cmp c.dirs) c.entries) (sym is)
@@ -86,7 +87,7 @@ pub slice_seen : (run lent b : InDirections) (points : List Point) (part low hig
 slice_seen run lent b points part low high is same h k =
     is ∙ (ap (cut_out low high) same ∙ ap (with_entries run.dirs) (sym (slice_is run.dirs run.entries points part low high h k)))
   where
-    with_entries : List Dir → List Keyed → InDirections
+    with_entries : List Dir → List Entry → InDirections
     with_entries ds l = record { dirs = ds; entries = l }
 
     cut_out : ℕ → ℕ → InDirections → InDirections
@@ -99,8 +100,8 @@ place_within k n m later some =
     (div-lt_iff_lt-mul {k = n} {x = (k + 1) * m} {y = m} (omega (arith, later))).1
     (subst (λ x. (k + 1) * m < x) (mul_comm n m) (mul-lt-mul_of_pos_right {m = k + 1} {n = n} {k = m} later some))
 
-module _ (n : ℕ) (es : List Keyed) where
-  abbrev at_place : ℕ → List Keyed
+module _ (n : ℕ) (es : List Entry) where
+  abbrev at_place : ℕ → List Entry
   at_place k = take 1 (drop (((k + 1) * length es) / n) es)
 
   range_more : (a c : ℕ) → range_with_len a (c + 1) ≡ range_with_len a c ++ (a + c) ∷ []
@@ -135,13 +136,13 @@ no_points : (n a c : ℕ) → replicate c None ≡ map (cut_point n []) (range_w
 no_points n a zero = refl
 no_points n a (suc c) = ap (λ l. None ∷ l) (no_points n (a + 1) c)
 
-pub held_stand : (ds : List Dir) (es : List Keyed) (ps : List Packed) → Stand ds es ps → ∥ Held ds ps ∥₁
+pub held_stand : (ds : List Dir) (es : List Entry) (ps : List Packed) → Stand ds es ps → ∥ Held ds ps ∥₁
 held_stand ds es ps h = ∥∥₁_map h.good (λ k. (es, (∣ k ∣₁, h.told)))
 
-pub stand_length : (ds : List Dir) (es : List Keyed) (ps : List Packed) → Stand ds es ps → length es ≡ length ps
+pub stand_length : (ds : List Dir) (es : List Entry) (ps : List Packed) → Stand ds es ps → length es ≡ length ps
 stand_length ds es ps h = sym (length-map es (packed ds)) ∙ ap length h.told
 
-pub cut_none : (n : ℕ) (es : List Keyed) → length es ≡ 0 → points_at [] (n - 1) ≡ cut_points n es
+pub cut_none : (n : ℕ) (es : List Entry) → length es ≡ 0 → points_at [] (n - 1) ≡ cut_points n es
 cut_none n [] h = no_points n 0 (n - 1)
 cut_none n (e ∷ es) h = absurd (omega (arith, h))
 
@@ -152,12 +153,12 @@ abbrev with_points : List Dir → List Point → Points
 with_points ds ps = record { dirs = ds; points = ps }
 
 -- what `cuts` gives, where there is no entry and where there is one
-pub cut_ends : (ds : List Dir) (n : ℕ) (es : List Keyed) (ps : List Packed) (b : InDirections) → b ≡ no_entries_in ds → Stand ds es ps → length ps ≡ 0
+pub cut_ends : (ds : List Dir) (n : ℕ) (es : List Entry) (ps : List Packed) (b : InDirections) → b ≡ no_entries_in ds → Stand ds es ps → length ps ≡ 0
     → ◌≡◌ {A = Points} (record { dirs = b.dirs; points = points_at b.entries (n - 1) }) (record { dirs = ds; points = cut_points n es })
 cut_ends ds n es ps b is stands none =
     ap (seen_points (n - 1)) is ∙ ap (with_points ds) (cut_none n es (stand_length ds es ps stands ∙ none))
 
-pub cut_all : (ds : List Dir) (n : ℕ) (es : List Keyed) (ps : List Packed) (b : InDirections) → 0 < n → 0 < length ps → Stand ds es ps → b ≡ and_entries (picked n es (n - 1)) (no_entries_in ds)
+pub cut_all : (ds : List Dir) (n : ℕ) (es : List Entry) (ps : List Packed) (b : InDirections) → 0 < n → 0 < length ps → Stand ds es ps → b ≡ and_entries (picked n es (n - 1)) (no_entries_in ds)
     → ◌≡◌ {A = Points} (record { dirs = b.dirs; points = points_at b.entries 0 }) (record { dirs = ds; points = cut_points n es })
 cut_all ds n es ps b many some stands is =
     ap (seen_points 0) is

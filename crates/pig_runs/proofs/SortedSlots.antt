@@ -5,11 +5,12 @@ use Rattle.std.specs.List.{AllByRecursion}
 use Rattle.std.specs.Coded.{Coded-set, coded_list}
 use Rattle.std.proofs.Math.Logic.{∥∥₁_map, ∥∥₁_elim}
 use Rattle.pig_value.proofs.list_laws.Permutations.{Shuffled, same, under, swapped, after, shuffled_from_permutation}
+use Rattle.pig_value.specs.Gathering.{Entry}
 use Rattle.pig_value.specs.Sorts.{sort, Ascends}
 use Rattle.pig_value.specs.declared.operators.Dir.{Dir}
 use Rattle.pig_value.proofs.list_laws.Bags.{each-sort, sort_ascends}
 use Rattle.pig_runs.specs.declared.slots.Slot.{Slot}
-use Rattle.pig_runs.specs.Entries.{Keyed, IsEntry, InDirections, run_cmp, run_of}
+use Rattle.pig_runs.specs.Entries.{IsEntry, InDirections, run_cmp, run_of}
 use Rattle.pig_runs.specs.Packed.{packed, packed_cmp, found_at, IsPlaced, Held, held_prop, coded_packed}
 use Rattle.pig_runs.proofs.Order.{run_total, sorted_codes}
 
@@ -41,5 +42,5 @@ along P (after s t) h = along P t (along P s h)
 pub placed_sorted : (bytes : List ℕ) (slots done : List Slot) → IsPermutation slots done → AllByRecursion (IsPlaced bytes) slots → AllByRecursion (IsPlaced bytes) done
 placed_sorted bytes slots done moved h = along (IsPlaced bytes) (shuffled_from_permutation slots done moved) h
 
-pub ascends_run : (run : InDirections) (ds : List Dir) (es : List Keyed) → run ≡ run_of ds es → Ascends (run_cmp run.dirs) run.entries
+pub ascends_run : (run : InDirections) (ds : List Dir) (es : List Entry) → run ≡ run_of ds es → Ascends (run_cmp run.dirs) run.entries
 ascends_run run ds es is = subst (λ r. Ascends (run_cmp r.dirs) r.entries) (sym is) (sort_ascends (run_cmp ds) (run_total ds) es)

@@ -7,6 +7,7 @@ use Rattle.std.specs.Coded.{Coded, Coded-set, code_by, coded×, coded_ℕ, coded
 use Rattle.std.proofs.Math.Logic.{∥∥₁_prop, ∥∥₁_elim}
 use mathlib.Core.HLevel.{Σ_prop_path}
 use Rattle.std.specs.List.{AllByRecursion, flat_map}
+use Rattle.pig_value.specs.Gathering.{Entry}
 use Rattle.pig_value.specs.Orders.{text_cmp}
 use Rattle.pig_value.specs.Sorts.{Ascends}
 use Rattle.pig_value.specs.declared.operators.Dir.{Dir}
@@ -16,7 +17,7 @@ use Rattle.pig_keycode.proofs.KeyOrder.{one_key}
 use Rattle.pig_keycode.proofs.Wholes.{one_row}
 use Rattle.pig_runs.specs.declared.lent.Lent.{Lent}
 use Rattle.pig_runs.specs.declared.slots.Slot.{Slot}
-use Rattle.pig_runs.specs.Entries.{Keyed, IsEntry, AreKeyed, coded_keyed}
+use Rattle.pig_runs.specs.Entries.{IsEntry, AreKeyed, coded_entry}
 use Rattle.pig_runs.specs.Fronts.{Fronted, front, fronted_cmp}
 
 -- an entry as bytes: the code of its key, the number of its input, the code of its row
@@ -25,7 +26,7 @@ pub record Packed : Type 0 where
   pub input : ℕ
   pub row : List ℕ
 
-abbrev pub packed : List Dir → Keyed → Packed
+abbrev pub packed : List Dir → Entry → Packed
 packed ds e = record { key = key_code ds e.key; input = e.input; row = row_code e.row }
 
 -- lent bytes of an entry
@@ -121,7 +122,7 @@ of_parts p = record { key = p.0; input = p.1.0; row = p.1.1 }
 abbrev pub coded_packed : Coded Packed
 coded_packed = code_by (List ℕ × (ℕ × List ℕ)) (coded× (coded_list coded_ℕ) (coded× coded_ℕ (coded_list coded_ℕ))) parts_of of_parts (λ _. refl)
 
-pub entry_told : (ds : List Dir) (e f : Keyed) → IsEntry ds e → IsEntry ds f → packed ds e ≡ packed ds f → e ≡ f
+pub entry_told : (ds : List Dir) (e f : Entry) → IsEntry ds e → IsEntry ds f → packed ds e ≡ packed ds f → e ≡ f
 entry_told ds e f h k same =
     let key : e.key ≡ f.key = one_key ds e.key f.key h.key k.key (ap (λ p. p.key) same) in
     let input : e.input ≡ f.input = ap (λ p. p.input) same in
@@ -136,7 +137,7 @@ abbrev behind : List Packed → List Packed
 behind [] = []
 behind (p ∷ ps) = ps
 
-pub entries_told : (ds : List Dir) (es fs : List Keyed) → AreKeyed ds es → AreKeyed ds fs → map (packed ds) es ≡ map (packed ds) fs → es ≡ fs
+pub entries_told : (ds : List Dir) (es fs : List Entry) → AreKeyed ds es → AreKeyed ds fs → map (packed ds) es ≡ map (packed ds) fs → es ≡ fs
 entries_told ds [] [] h k same = refl
 entries_told ds [] (f ∷ fs) h k same = absurd (cc)
 entries_told ds (e ∷ es) [] h k same = absurd (cc)
@@ -146,21 +147,21 @@ entries_told ds (e ∷ es) (f ∷ fs) h k same =
     λ i. head i ∷ tail i
 
 -- the bytes are those of these entries, which are of values
-pub record Stand (ds : List Dir) (es : List Keyed) (ps : List Packed) : Type 0 where
+pub record Stand (ds : List Dir) (es : List Entry) (ps : List Packed) : Type 0 where
   pub good : ∥ AreKeyed ds es ∥₁
   pub told : map (packed ds) es ≡ ps
 
 -- sorted lists of slots, of which all together are those of entries
-pub record Joins (ds : List Dir) (es : List Keyed) (bytes : List ℕ) (lists : List (List Slot)) : Type 0 where
+pub record Joins (ds : List Dir) (es : List Entry) (bytes : List ℕ) (lists : List (List Slot)) : Type 0 where
   pub stand : Stand ds es (map (found_at bytes) (joined lists))
   pub parts : AllByRecursion (IsPart bytes) lists
 
 -- the entries that bytes stand for
 abbrev pub Held : List Dir → List Packed → Type 0
-Held ds ps = (es : List Keyed) × (∥ AreKeyed ds es ∥₁ × (map (packed ds) es ≡ ps))
+Held ds ps = (es : List Entry) × (∥ AreKeyed ds es ∥₁ × (map (packed ds) es ≡ ps))
 
 pub held_prop : (ds : List Dir) (ps : List Packed) → IsProp (Held ds ps)
 held_prop ds ps x y =
-    Σ_prop_path {A = List Keyed} {B = λ es. ∥ AreKeyed ds es ∥₁ × (map (packed ds) es ≡ ps)}
+    Σ_prop_path {A = List Entry} {B = λ es. ∥ AreKeyed ds es ∥₁ × (map (packed ds) es ≡ ps)}
     (λ es. ×_prop ∥∥₁_prop (Coded-set (coded_list coded_packed) (map (packed ds) es) ps)) {u = x} {v = y}
-    (∥∥₁_elim x.1.0 (Coded-set (coded_list coded_keyed) x.0 y.0) (λ h. ∥∥₁_elim y.1.0 (Coded-set (coded_list coded_keyed) x.0 y.0) (λ k. entries_told ds x.0 y.0 h k (x.1.1 ∙ sym y.1.1))))
+    (∥∥₁_elim x.1.0 (Coded-set (coded_list coded_entry) x.0 y.0) (λ h. ∥∥₁_elim y.1.0 (Coded-set (coded_list coded_entry) x.0 y.0) (λ k. entries_told ds x.0 y.0 h k (x.1.1 ∙ sym y.1.1))))

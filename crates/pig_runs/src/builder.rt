@@ -41,7 +41,8 @@ impl Model for RunBuilder {
 
 impl RunBuilder {
     ghost use Rattle.pig_runs.specs.Cutting.{Divides};
-    ghost use Rattle.pig_runs.specs.Entries.{Keyed, IsEntry, AreKeyed, no_entries_in, and_entries, key_at, run_cmp};
+    ghost use Rattle.pig_runs.specs.Entries.{IsEntry, AreKeyed, no_entries_in, and_entries, key_at, run_cmp};
+    ghost use Rattle.pig_value.specs.Gathering.{Entry};
     ghost use Rattle.pig_value.specs.Sorts.{Ascends};
     ghost use Rattle.std.specs.Ordering.{is_lt};
     ghost use Rattle.std.specs.Bool.{Decides};
@@ -86,7 +87,7 @@ impl RunBuilder {
         lists: &mut Vec<Vec<Slot>>,
     ) -> Result<(), AllocError>
         requires sorted { ∥ Ascends (run_cmp self.now.dirs) self.now.entries ∥₁ }
-        ensures { (es : List Keyed)
+        ensures { (es : List Entry)
             → Joins self.now.dirs es bytes.old.items (map (λ list. list.items) lists.old.items)
             → OnOk result (Joins self.now.dirs (es ++ self.now.entries) bytes.new.items
             (map (λ list. list.items) lists.new.items)) }
@@ -99,7 +100,7 @@ impl RunBuilder {
     pub(crate) fn from_slots(dirs: Dirs, bytes: Vec<u8>, slots: Vec<Slot>) -> RunBuilder
         requires placed { AllByRecursion (IsPlaced bytes.items) slots.items }
         requires held { ∥ Held dirs (map (found_at bytes.items) slots.items) ∥₁ }
-        ensures { (es : List Keyed) → Stand dirs es (map (found_at bytes.items) slots.items)
+        ensures { (es : List Entry) → Stand dirs es (map (found_at bytes.items) slots.items)
             → result ≡ record { dirs = dirs; entries = es } }
     {
         RunBuilder { dirs, bytes, slots }
@@ -203,7 +204,7 @@ impl RunBuilder {
     // Adds an entry that is lent. Where memory is wanting, the entries stay as they were.
     pub(crate) fn add_lent(&mut self, lent: Lent) -> Result<(), AllocError>
         requires { ∥ Held self.old.dirs (packed_lent lent ∷ []) ∥₁ }
-        ensures ok { (e : Keyed) → IsEntry self.old.dirs e → packed self.old.dirs e
+        ensures ok { (e : Entry) → IsEntry self.old.dirs e → packed self.old.dirs e
             ≡ packed_lent lent.entry → OnOk result (self.new ≡ and_entries (e ∷ []) self.old) }
         ensures err { OnErr result (self.new ≡ self.old) }
         ensures dirs { self.new.dirs ≡ self.old.dirs }
@@ -265,7 +266,7 @@ impl RunBuilder {
         requires here { at < length self.now.entries }
         requires there { there < length other.now.entries }
         requires alike { other.now.dirs ≡ self.now.dirs }
-        ensures { (e f : Keyed) → slice_get self.now.entries at ≡ Some e
+        ensures { (e f : Entry) → slice_get self.now.entries at ≡ Some e
             → slice_get other.now.entries there ≡ Some f
             → result ≡ is_lt (run_cmp self.now.dirs e f) }
     {
@@ -278,7 +279,7 @@ impl RunBuilder {
         requires alike { other.now.dirs ≡ self.now.dirs }
         requires sorted { ∥ Ascends (run_cmp self.now.dirs) self.now.entries ∥₁ }
         ensures bound { result ≤ length self.now.entries }
-        ensures parts { (f : Keyed) → slice_get other.now.entries there ≡ Some f
+        ensures parts { (f : Entry) → slice_get other.now.entries there ≡ Some f
             → Divides (λ e. is_lt (run_cmp self.now.dirs e f)) self.now.entries result }
     {
         let mut low = 0;

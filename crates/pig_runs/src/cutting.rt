@@ -1,7 +1,8 @@
 ghost use Rattle.std.specs.Prelude.{◌≡◌, List, ◌<◌, ◌≤◌, ◌+◌, ◌-◌, ◌*◌, ◌/◌, length, map, take, drop, slice_get, Some, OnOk, IfOk};
+ghost use Rattle.pig_value.specs.Gathering.{Entry};
 ghost use Rattle.pig_value.specs.Sorts.{sort};
 ghost use Rattle.pig_runs.specs.Cutting.{Divides, Leads, HaveDirections, cut_points, dirs_of_all, is_below, is_from, picked, slice_of};
-ghost use Rattle.pig_runs.specs.Entries.{Keyed, and_entries, entries_of_all, run_cmp};
+ghost use Rattle.pig_runs.specs.Entries.{and_entries, entries_of_all, run_cmp};
 ghost use Rattle.pig_runs.specs.Packed.{Held, Stand, packed_lent};
 
 use crate::builder::RunBuilder;
@@ -131,7 +132,7 @@ fn pick(points: &mut RunBuilder, order: &[Lent], n: u32) -> Result<(), AllocErro
     requires some { 0 < n }
     requires entries { 0 < length order.now }
     requires held { ∥ Held points.old.dirs (map packed_lent order.now) ∥₁ }
-    ensures { (es : List Keyed) → Stand points.old.dirs es (map packed_lent order.now)
+    ensures { (es : List Entry) → Stand points.old.dirs es (map packed_lent order.now)
         → OnOk result (points.new ≡ and_entries (picked n es (n - 1)) points.old) }
 {
     for k in 0..n - 1 {
@@ -144,7 +145,7 @@ fn pick_one(points: &mut RunBuilder, order: &[Lent], k: u32, n: u32) -> Result<(
     requires later { k + 1 < n }
     requires entries { 0 < length order.now }
     requires held { ∥ Held points.old.dirs (map packed_lent order.now) ∥₁ }
-    ensures ok { (es : List Keyed) → Stand points.old.dirs es (map packed_lent order.now)
+    ensures ok { (es : List Entry) → Stand points.old.dirs es (map packed_lent order.now)
         → OnOk result (points.new ≡ and_entries
         (take 1 (drop (((k + 1) * length es) / n) es)) points.old) }
     ensures dirs { points.new.dirs ≡ points.old.dirs }

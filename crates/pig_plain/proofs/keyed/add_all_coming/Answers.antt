@@ -1,7 +1,7 @@
 use Rattle.std.proofs.Common.{◌∙◌, ap, subst, sym, codes}
 use Rattle.pig_value.specs.Trees.{rows_tree, v_chars}
 use Rattle.pig_value.specs.Valid.{AreRows}
-use Rattle.pig_plain.specs.Operating.{all_rows_keyed}
+use Rattle.pig_operators.specs.Keying.{all_rows_keyed}
 use Rattle.pig_runs.specs.Entries.{and_entries}
 use Rattle.pig_plain.specs.Coming.{coming}
 use Rattle.pig_plain.proofs.Walks.{batch_values, goes_on, rest_values}

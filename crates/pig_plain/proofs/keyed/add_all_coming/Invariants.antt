@@ -1,7 +1,7 @@
 use Rattle.std.proofs.Common.{◌≡◌, ◌++◌, [], length}
 use Rattle.pig_value.specs.Valid.{AreRows}
 use Rattle.pig_plain.specs.Coming.{coming}
-use Rattle.pig_plain.specs.Operating.{all_rows_keyed}
+use Rattle.pig_operators.specs.Keying.{all_rows_keyed}
 use Rattle.pig_plain.proofs.keyed.add_all_coming.Given as goal
 
 abbrev pub invariant-batches : goal.invariant-batches

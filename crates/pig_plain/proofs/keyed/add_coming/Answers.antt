@@ -4,7 +4,7 @@ use Rattle.pig_value.specs.Valid.{AreRows}
 use Rattle.pig_typed.specs.Typed.{typed}
 use Rattle.pig_plan.specs.ByKey.{key_of}
 use Rattle.pig_plan.specs.Operators.{keys_of}
-use Rattle.pig_plain.specs.Operating.{keyed_rows}
+use Rattle.pig_operators.specs.Keying.{keyed_rows}
 use Rattle.pig_runs.specs.Entries.{and_entries}
 use Rattle.pig_plain.specs.Coming.{coming}
 use Rattle.pig_plain.proofs.Walks.{batch_values, goes_on, rest_values}

@@ -2,7 +2,7 @@ use Rattle.std.proofs.Common.{◌≡◌, ◌++◌, [], length, map}
 use Rattle.pig_value.specs.Valid.{AreRows}
 use Rattle.pig_typed.specs.Typed.{typed}
 use Rattle.pig_plain.specs.Coming.{coming}
-use Rattle.pig_plain.specs.Operating.{keyed_rows}
+use Rattle.pig_operators.specs.Keying.{keyed_rows}
 use Rattle.pig_plain.proofs.keyed.add_coming.Given as goal
 
 abbrev pub invariant-batches : goal.invariant-batches

@@ -3,7 +3,7 @@ use Rattle.pig_value.specs.declared.values.Value.TheVariants as value
 use Rattle.pig_value.specs.TreeViews.{tree-Tuple}
 use Rattle.pig_value.specs.Trees.{fields_of, row_tree, tree, v_tuple}
 use Rattle.pig_keycode.specs.Keys.{IsKey}
-use Rattle.pig_operators.specs.Given.{dirs_of, sort_entry}
+use Rattle.pig_plan.specs.Entries.{dirs_of, sort_entry}
 use Rattle.pig_operators.proofs.SortEntries.{is_key}
 use Rattle.pig_plain.proofs.sorting.add_sorting.Goals as goal
 

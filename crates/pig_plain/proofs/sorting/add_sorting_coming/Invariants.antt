@@ -1,6 +1,6 @@
 use Rattle.std.proofs.Common.{◌≡◌, ◌++◌, length, map}
 use Rattle.pig_value.specs.Valid.{AreRows}
-use Rattle.pig_operators.specs.Given.{dirs_of, sort_entry}
+use Rattle.pig_plan.specs.Entries.{dirs_of, sort_entry}
 use Rattle.pig_plain.specs.Coming.{coming}
 use Rattle.pig_plain.proofs.sorting.add_sorting_coming.Given as goal
 

@@ -1,7 +1,7 @@
 use Rattle.std.proofs.Common.{◌≡◌, ◌++◌, length, map}
 use Rattle.pig_value.specs.Trees.{rows_tree}
 use Rattle.pig_value.specs.Valid.{AreRows}
-use Rattle.pig_operators.specs.Given.{dirs_of, sort_entry}
+use Rattle.pig_plan.specs.Entries.{dirs_of, sort_entry}
 use Rattle.pig_plain.proofs.sorting.add_sorting_rows.Given as goal
 
 abbrev pub invariant-rows : goal.invariant-rows

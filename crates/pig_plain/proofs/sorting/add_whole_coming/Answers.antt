@@ -1,7 +1,7 @@
 use Rattle.std.proofs.Common.{◌∙◌, ap}
 use Rattle.pig_value.specs.Trees.{rows_tree}
 use Rattle.pig_plain.specs.Coming.{coming}
-use Rattle.pig_plain.specs.Operating.{row_entry}
+use Rattle.pig_operators.specs.Keying.{row_entry}
 use Rattle.pig_plain.proofs.Walks.{batch_values, goes_on, rest_values}
 use Rattle.pig_plain.proofs.sorting.add_whole_coming.Goals as goal
 

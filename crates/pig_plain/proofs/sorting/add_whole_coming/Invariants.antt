@@ -1,7 +1,7 @@
 use Rattle.std.proofs.Common.{◌≡◌, ◌++◌, [], length, map}
 use Rattle.pig_value.specs.Valid.{AreRows}
 use Rattle.pig_plain.specs.Coming.{coming}
-use Rattle.pig_plain.specs.Operating.{row_entry}
+use Rattle.pig_operators.specs.Keying.{row_entry}
 use Rattle.pig_plain.proofs.sorting.add_whole_coming.Given as goal
 
 abbrev pub invariant-batches : goal.invariant-batches

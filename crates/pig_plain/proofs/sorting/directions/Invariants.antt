@@ -1,5 +1,5 @@
 use Rattle.std.proofs.Common.{◌≡◌, ◌++◌, drop}
-use Rattle.pig_operators.specs.Given.{dirs_of}
+use Rattle.pig_plan.specs.Entries.{dirs_of}
 use Rattle.pig_plain.proofs.sorting.directions.Given as goal
 
 abbrev pub invariant-loop-key : goal.invariant-loop-key

@@ -1,6 +1,7 @@
 use Rattle.std.proofs.Common.{◌≡◌, ◌∙◌, ap, map}
 use Rattle.pig_runs.specs.Entries.{run_of}
-use Rattle.pig_operators.specs.Given.{dirs_of, run_rows, sort_entry}
+use Rattle.pig_plan.specs.Entries.{dirs_of, sort_entry}
+use Rattle.pig_operators.specs.Given.{run_rows}
 use Rattle.pig_operators.proofs.SortEntries.{ordering_rows}
 use Rattle.pig_plain.specs.Coming.{seen_rows}
 use Rattle.pig_plain.specs.Operating.{table_rows, taken_rows}

@@ -6,8 +6,8 @@ use Rattle.pig_value.specs.Trees.{rows_tree}
 use Rattle.pig_runs.specs.Entries.{run_of}
 use Rattle.pig_operators.specs.Given.{AreKeyedByRow, run_rows}
 use Rattle.pig_plain.specs.Coming.{relation_rows}
-use Rattle.pig_plain.specs.Operating.{row_entry}
-use Rattle.pig_plain.proofs.SortedRows.{run_once, run_under_rows}
+use Rattle.pig_operators.specs.Keying.{row_entry}
+use Rattle.pig_operators.proofs.RowEntries.{run_once, run_under_rows}
 use Rattle.pig_plain.proofs.sorting.once.Goals as goal
 
 pub distinct_keys-requires-clause-keys : goal.distinct_keys-requires-clause-keys

@@ -1,9 +1,10 @@
 use Rattle.std.proofs.Common.{rules, ◌≡◌, ◌<◌, ◌-◌, ◌∙◌, List, map, length, sym, ap, subst, arith}
 use Rattle.std.proofs.lemmas.List.{length-map}
+use Rattle.pig_value.specs.Gathering.{Entry}
 use Rattle.pig_value.specs.declared.operators.Dir.{Dir}
 use Rattle.pig_value.specs.Sorts.{sort}
 use Rattle.pig_runs.specs.Cutting.{dirs_of_all, picked}
-use Rattle.pig_runs.specs.Entries.{Keyed, and_entries, no_entries_in, entries_of_all, run_cmp}
+use Rattle.pig_runs.specs.Entries.{and_entries, no_entries_in, entries_of_all, run_cmp}
 use Rattle.pig_runs.specs.Packed.{Held, Stand, packed_lent}
 use Rattle.pig_runs.proofs.Sliced.{held_stand, cut_ends, cut_all}
 use Rattle.pig_runs.proofs.cutting.cuts.Goals as goal
@@ -11,7 +12,7 @@ use Rattle.pig_runs.proofs.cutting.cuts.Goals as goal
 pub returns-then-is_empty : goal.returns-then-is_empty
 returns-then-is_empty c =
     let ds : List Dir = dirs_of_all c.args.runs.now in
-    let es : List Keyed = sort (run_cmp ds) (entries_of_all c.args.runs.now) in
+    let es : List Entry = sort (run_cmp ds) (entries_of_all c.args.runs.now) in
     let built : c.new-built.result ≡ no_entries_in ds = c.new-built.ensures ∙ ap no_entries_in c.in_ok-dirs.ensures in
     let stands : Stand ds es (map packed_lent c.in_ok-order.order.items) = c.in_ok-order.ensures in
     let none : length c.in_ok-order.order.items ≡ 0 = search rules in
@@ -20,7 +21,7 @@ returns-then-is_empty c =
 pub pick-requires-clause-held : goal.pick-requires-clause-held
 pick-requires-clause-held c =
     let ds : List Dir = dirs_of_all c.args.runs.now in
-    let es : List Keyed = sort (run_cmp ds) (entries_of_all c.args.runs.now) in
+    let es : List Entry = sort (run_cmp ds) (entries_of_all c.args.runs.now) in
     let built : c.new-built.result ≡ no_entries_in ds = c.new-built.ensures ∙ ap no_entries_in c.in_ok-dirs.ensures in
     let stands : Stand ds es (map packed_lent c.in_ok-order.order.items) = c.in_ok-order.ensures in
     subst (λ ls. ∥ Held c.new-built.result.dirs (map packed_lent ls) ∥₁) (sym c.as_slice.ensures.value)
@@ -29,7 +30,7 @@ pick-requires-clause-held c =
 pub returns : goal.returns
 returns c =
     let ds : List Dir = dirs_of_all c.args.runs.now in
-    let es : List Keyed = sort (run_cmp ds) (entries_of_all c.args.runs.now) in
+    let es : List Entry = sort (run_cmp ds) (entries_of_all c.args.runs.now) in
     let built : c.new-built.result ≡ no_entries_in ds = c.new-built.ensures ∙ ap no_entries_in c.in_ok-dirs.ensures in
     let stands : Stand ds es (map packed_lent c.in_ok-order.order.items) = c.in_ok-order.ensures in
     let lent : Stand c.new-built.result.dirs es (map packed_lent c.as_slice.result.now) =

@@ -23,16 +23,16 @@ returns-in-Stored c =
     let rest = c.release_inputs.new.table.items in
     let made = c.in_ok-made.made in
     let told = c.in_ok-made.ensures in
-    let size : length rest ≡ length table = c.release_inputs.ensures.size ∙ told.size in
+    let size : length rest ≡ length table = c.in_ok-release_inputs.ensures.size ∙ told.size in
     let stays : (k : ℕ) → get_or ends k 0 ≢ i + 1 → table_rows rest k ≡ table_rows table k =
-    λ k other. let h = subst (λ es. get_or es k 0 ≢ i + 1) (sym c.as_slice-ends.ensures.value) other in c.release_inputs.ensures.kept k h ∙ told.kept k h in
+    λ k other. let h = subst (λ es. get_or es k 0 ≢ i + 1) (sym c.as_slice-ends.ensures.value) other in c.in_ok-release_inputs.ensures.kept k h ∙ told.kept k h in
     let sorted_is : at_place false c.args.sorted.now ≡ is_sorted plan = ap (at_place false) c.requires.sorted in
     let kind = stored_kind (is_sorted plan) node.op (ap (λ s. kind_in s node.op) (sym sorted_is) ∙ sym c.kind_of.ensures ∙ c.in-Stored.is) in
     on_ok c.put_stored.result c.put_stored.ensures.table c.put_stored.ensures.stores (λ t s.
     same_so_far plan c.args.inputs.now (i + 1) (rest ++ no_rows ∷ []) c.put_stored.new.self.table.items kept c.put_stored.new.self.kept (stores ++ relation_rows made ∷ []) (map rows_tree c.put_stored.new.self.stores)
     t c.put_stored.ensures.kept s
     (store_step plan c.requires.valid c.args.inputs.now i node c.requires.node c.args.uses.now.live.items ends c.requires.uses table kept stores c.requires.so_far
-    c.requires.live rest size c.release_inputs.ensures.values stays made told.rows told.valid kind.0 kind.1 kind.2 kind.3))
+    c.requires.live rest size c.in_ok-release_inputs.ensures.values stays made told.rows told.valid kind.0 kind.1 kind.2 kind.3))
 
 pub returns-in-Kept : goal.returns-in-Kept
 returns-in-Kept c =
@@ -46,16 +46,16 @@ returns-in-Kept c =
     let rest = c.release_inputs.new.table.items in
     let made = c.in_ok-made.made in
     let told = c.in_ok-made.ensures in
-    let size : length rest ≡ length table = c.release_inputs.ensures.size ∙ told.size in
+    let size : length rest ≡ length table = c.in_ok-release_inputs.ensures.size ∙ told.size in
     let stays : (k : ℕ) → get_or ends k 0 ≢ i + 1 → table_rows rest k ≡ table_rows table k =
-    λ k other. let h = subst (λ es. get_or es k 0 ≢ i + 1) (sym c.as_slice-ends.ensures.value) other in c.release_inputs.ensures.kept k h ∙ told.kept k h in
+    λ k other. let h = subst (λ es. get_or es k 0 ≢ i + 1) (sym c.as_slice-ends.ensures.value) other in c.in_ok-release_inputs.ensures.kept k h ∙ told.kept k h in
     let sorted_is : at_place false c.args.sorted.now ≡ is_sorted plan = ap (at_place false) c.requires.sorted in
     let kind = kept_kind (is_sorted plan) node.op (ap (λ s. kind_in s node.op) (sym sorted_is) ∙ sym c.kind_of.ensures ∙ c.in-Kept.is) in
     on_ok c.put_kept.result c.put_kept.ensures.table c.put_kept.ensures.kept (λ t k.
     same_so_far plan c.args.inputs.now (i + 1) (rest ++ t.0 ∷ []) c.put_kept.new.self.table.items (kept ++ k.0 ∷ []) c.put_kept.new.self.kept stores (map rows_tree c.put_kept.new.self.stores)
     t.2 k.3 (ap (map rows_tree) c.put_kept.ensures.stores)
     (keep_step plan c.requires.valid c.args.inputs.now i node c.requires.node c.args.uses.now.live.items ends c.requires.uses table kept stores c.requires.so_far
-    c.requires.live rest size c.release_inputs.ensures.values stays t.0 (t.1 ∙ told.rows) (subst AreRows (sym t.1) told.valid) k.0 kind.0 kind.1 kind.2 kind.3 k.1 (k.2 ∙ sym t.1)))
+    c.requires.live rest size c.in_ok-release_inputs.ensures.values stays t.0 (t.1 ∙ told.rows) (subst AreRows (sym t.1) told.valid) k.0 kind.0 kind.1 kind.2 kind.3 k.1 (k.2 ∙ sym t.1)))
 
 pub returns-in-Standing : goal.returns-in-Standing
 returns-in-Standing c =
@@ -69,13 +69,13 @@ returns-in-Standing c =
     let rest = c.release_inputs.new.table.items in
     let made = c.in_ok-made.made in
     let told = c.in_ok-made.ensures in
-    let size : length rest ≡ length table = c.release_inputs.ensures.size ∙ told.size in
+    let size : length rest ≡ length table = c.in_ok-release_inputs.ensures.size ∙ told.size in
     let stays : (k : ℕ) → get_or ends k 0 ≢ i + 1 → table_rows rest k ≡ table_rows table k =
-    λ k other. let h = subst (λ es. get_or es k 0 ≢ i + 1) (sym c.as_slice-ends.ensures.value) other in c.release_inputs.ensures.kept k h ∙ told.kept k h in
+    λ k other. let h = subst (λ es. get_or es k 0 ≢ i + 1) (sym c.as_slice-ends.ensures.value) other in c.in_ok-release_inputs.ensures.kept k h ∙ told.kept k h in
     let sorted_is : at_place false c.args.sorted.now ≡ is_sorted plan = ap (at_place false) c.requires.sorted in
     let kind = standing_kind (is_sorted plan) node.op (ap (λ s. kind_in s node.op) (sym sorted_is) ∙ sym c.kind_of.ensures ∙ c.in-Standing.is) in
     on_ok c.put.result c.put.ensures.table c.put.ensures.table (λ t u.
     same_so_far plan c.args.inputs.now (i + 1) (rest ++ made ∷ []) c.put.new.self.table.items kept c.put.new.self.kept stores (map rows_tree c.put.new.self.stores)
     t c.put.ensures.kept (ap (map rows_tree) c.put.ensures.stores)
     (live_step plan c.requires.valid c.args.inputs.now i node c.requires.node c.args.uses.now.live.items ends c.requires.uses table kept stores c.requires.so_far
-    c.requires.live rest size c.release_inputs.ensures.values stays made told.rows told.valid kind.0 kind.1))
+    c.requires.live rest size c.in_ok-release_inputs.ensures.values stays made told.rows told.valid kind.0 kind.1))

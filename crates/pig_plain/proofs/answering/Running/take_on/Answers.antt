@@ -1,4 +1,4 @@
-use Rattle.std.proofs.Common.{◌≡◌, ◌<◌, ◌+◌, ◌++◌, ◌∙◌, [], ◌∷◌, ap, arith, false, length, map, sym}
+use Rattle.std.proofs.Common.{◌≡◌, ◌<◌, ◌+◌, ◌++◌, ◌∙◌, [], ◌∷◌, ap, false, length, map, sym}
 use Rattle.std.proofs.lemmas.Option.{slice_get_within}
 use Rattle.pig_value.specs.Trees.{rows_tree}
 use Rattle.pig_plan.specs.Nodes.{is_live}
@@ -18,7 +18,7 @@ returns c =
     let kept = c.args.self.now.kept in
     let stores = map rows_tree c.args.self.now.stores in
     let within : i < length plan = slice_get_within plan i node c.requires.node in
-    let dead : is_live plan i ≡ false = sym (c.requires.uses.live i (omega arith) within) ∙ sym c.is_live-live.ensures ∙ c.if-live.false in
+    let dead : is_live plan i ≡ false = sym (c.requires.uses.live i within) ∙ sym c.is_live-live.ensures ∙ c.if-live.false in
     on_ok c.put.result c.put.ensures.table c.put.ensures.table (λ t u.
     same_so_far plan c.args.inputs.now (i + 1) (table ++ no_rows ∷ []) c.put.new.self.table.items kept c.put.new.self.kept stores (map rows_tree c.put.new.self.stores)
     (t ∙ ap (λ rows. table ++ Standing rows ∷ []) c.new.ensures) c.put.ensures.kept (ap (map rows_tree) c.put.ensures.stores)

@@ -1,7 +1,7 @@
 use Rattle.pig_plan.specs.Meaning.{width_at}
 use Rattle.pig_plan.specs.Plans.{plan_of}
-use Rattle.pig_plain.proofs.Keying.{outer_at}
-use Rattle.pig_plain.proofs.keyed.outer.Goals as goal
+use Rattle.pig_operators.proofs.Keying.{outer_at}
+use Rattle.pig_operators.proofs.choosing.gathering_of_sides.Goals as goal
 
 pub returns-in-len2-up : goal.returns-in-len2-up
 returns-in-len2-up c =

@@ -3,8 +3,8 @@ use Rattle.pig_value.specs.TreeViews.{tree-Tuple}
 use Rattle.pig_value.specs.Trees.{row_tree}
 use Rattle.pig_value.specs.Valid.{IsRow, IsValue}
 use Rattle.pig_typed.specs.Typed.{typed}
-use Rattle.pig_plain.proofs.Keying.{keys_valid}
-use Rattle.pig_plain.proofs.keyed.tuple_of.Goals as goal
+use Rattle.pig_operators.proofs.Keying.{keys_valid}
+use Rattle.pig_operators.proofs.keyed.tuple_of.Goals as goal
 
 pub returns-clause-valid : goal.returns-clause-valid
 returns-clause-valid c =

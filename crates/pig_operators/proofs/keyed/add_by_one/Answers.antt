@@ -3,7 +3,7 @@ use Rattle.pig_eval.proofs.Evaluated.{a_value}
 use Rattle.pig_typed.specs.Typed.{typed}
 use Rattle.pig_value.specs.Trees.{row_tree}
 use Rattle.pig_value.specs.Valid.{IsRow, IsValue}
-use Rattle.pig_plain.proofs.keyed.add_by_one.Goals as goal
+use Rattle.pig_operators.proofs.keyed.add_by_one.Goals as goal
 
 pub add_under-requires-clause-key : goal.add_under-requires-clause-key
 add_under-requires-clause-key c =

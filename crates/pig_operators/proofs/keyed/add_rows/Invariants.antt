@@ -2,8 +2,8 @@ use Rattle.std.proofs.Common.{◌≡◌, ◌++◌, [], length, map}
 use Rattle.pig_value.specs.Trees.{rows_tree}
 use Rattle.pig_value.specs.Valid.{AreRows}
 use Rattle.pig_typed.specs.Typed.{typed}
-use Rattle.pig_plain.specs.Operating.{keyed_rows}
-use Rattle.pig_plain.proofs.keyed.add_rows.Given as goal
+use Rattle.pig_operators.specs.Keying.{keyed_rows}
+use Rattle.pig_operators.proofs.keyed.add_rows.Given as goal
 
 abbrev pub invariant-rows : goal.invariant-rows
 invariant-rows l = (l.builder.dirs ≡ [])

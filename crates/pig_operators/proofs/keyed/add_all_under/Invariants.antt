@@ -1,8 +1,8 @@
 use Rattle.std.proofs.Common.{◌≡◌, ◌++◌, [], length}
 use Rattle.pig_value.specs.Trees.{rows_tree}
 use Rattle.pig_value.specs.Valid.{AreRows}
-use Rattle.pig_plain.specs.Operating.{all_rows_keyed}
-use Rattle.pig_plain.proofs.keyed.add_all_under.Given as goal
+use Rattle.pig_operators.specs.Keying.{all_rows_keyed}
+use Rattle.pig_operators.proofs.keyed.add_all_under.Given as goal
 
 abbrev pub invariant-rows : goal.invariant-rows
 invariant-rows l = (l.builder.dirs ≡ []) × AreRows (rows_tree l.left)

@@ -1,5 +1,0 @@
-use Rattle.pig_plain.proofs.Keying.{cogroup_is}
-use Rattle.pig_plain.proofs.keyed.cogrouping.Goals as goal
-
-pub returns : goal.returns
-returns c = cogroup_is c.args.inputs.now c.in_ok-inner.inner c.requires c.in_ok-inner.ensures
