@@ -25,6 +25,12 @@ on_bag f rows = ap (on_rows f) (tree-Bag rows) ∙ ap (λ rs. v_bag (tuples_of (
 pub on_listed : (f : List (List Tree) → List (List Tree)) (rows : List (List Value)) → on_rows f (tree (value.Listed rows)) ≡ v_listed (tuples_of (f (rows_tree rows)))
 on_listed f rows = ap (on_rows f) (tree-Listed rows) ∙ ap (λ rs. v_listed (tuples_of (f rs))) (tuples_back (rows_tree rows))
 
+pub from_bag : (make : List (List Tree) → Tree) (rows : List (List Value)) → from_rows make (tree (value.Bag rows)) ≡ make (rows_tree rows)
+from_bag make rows = ap (from_rows make) (tree-Bag rows) ∙ ap make (tuples_back (rows_tree rows))
+
+pub from_listed : (make : List (List Tree) → Tree) (rows : List (List Value)) → from_rows make (tree (value.Listed rows)) ≡ make (rows_tree rows)
+from_listed make rows = ap (from_rows make) (tree-Listed rows) ∙ ap make (tuples_back (rows_tree rows))
+
 pub flattened_tuple : (width : ℕ) (fields : List Value) → flattened width (tree (value.Tuple fields)) ≡ row_tree fields ∷ []
 flattened_tuple width fields = ap (flattened width) (tree-Tuple fields) ∙ ap (λ row. row ∷ []) (fields_back (row_tree fields))
 
@@ -59,6 +65,19 @@ pub listed_step : (f : List (List Tree) → List (List Tree)) (v : Value) (rows 
     → tree (value.Listed made) ≡ on_rows f (tree v)
 listed_step f v rows made is same =
     tree-Listed made ∙ ap (λ rs. v_listed (tuples_of rs)) same ∙ sym (ap (λ w. on_rows f (tree w)) is ∙ on_listed f rows)
+
+-- a bag out of the rows of a bag or a listed bag
+pub bag_from_bag : (f : List (List Tree) → List (List Tree)) (v : Value) (rows made : List (List Value)) → v ≡ value.Bag rows → rows_tree made ≡ f (rows_tree rows)
+    → tree (value.Bag made) ≡ from_rows (λ rs. v_bag (tuples_of (f rs))) (tree v)
+bag_from_bag f v rows made is same =
+    tree-Bag made ∙ ap (λ rs. v_bag (tuples_of rs)) same
+    ∙ sym (ap (λ w. from_rows (λ rs. v_bag (tuples_of (f rs))) (tree w)) is ∙ from_bag (λ rs. v_bag (tuples_of (f rs))) rows)
+
+pub bag_from_listed : (f : List (List Tree) → List (List Tree)) (v : Value) (rows made : List (List Value)) → v ≡ value.Listed rows → rows_tree made ≡ f (rows_tree rows)
+    → tree (value.Bag made) ≡ from_rows (λ rs. v_bag (tuples_of (f rs))) (tree v)
+bag_from_listed f v rows made is same =
+    tree-Bag made ∙ ap (λ rs. v_bag (tuples_of rs)) same
+    ∙ sym (ap (λ w. from_rows (λ rs. v_bag (tuples_of (f rs))) (tree w)) is ∙ from_listed (λ rs. v_bag (tuples_of (f rs))) rows)
 
 -- the first rows, of which there may be fewer
 pub first_taken : (rows : List (List Value)) (n count : ℕ) → n ≡ min (length rows) count → rows_tree (take n rows) ≡ take count (rows_tree rows)

@@ -315,8 +315,8 @@ fn are_counted(rows: &Rows) -> bool {
     let mut wanted: i64 = 0;
     for row in rows.as_slice() {
         match row.as_slice() {
-            [Value::Long(n), Value::Int(7)] => {
-                if *n != wanted {
+            [Value::Long(n), Value::Int(field)] => {
+                if *n != wanted || *field != 7 {
                     return false;
                 }
             }

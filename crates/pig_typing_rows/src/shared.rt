@@ -179,7 +179,7 @@ pub fn tuple<R: Abort>(rt: &R, alloc: Global) -> Field {
 }
 
 pub fn bag<R: Abort>(rt: &R, alloc: Global, name: &str, part: &str, kind: Kind) -> Field {
-    let kinds = match kind {
+    let kinds = match &kind {
         Kind::Long => one_kind(rt, alloc, Kind::Long),
         _ => one_kind(rt, alloc, Kind::Int),
     };
