@@ -12,3 +12,4 @@ mod Halving
 mod Sliced
 pub mod Parted
 mod InTurn
+mod PartJoined

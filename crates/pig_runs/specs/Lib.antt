@@ -4,3 +4,4 @@ pub mod Packed
 pub mod Parts
 pub mod Cutting
 pub mod InTurn
+pub mod RunParts

@@ -32,7 +32,7 @@ impl Model for CutPoints {
 
 impl CutPoints {
     // How many entries of a run stand before the point numbered `k`, or before the end where there is none.
-    fn count_below(&self, run: &Run, k: u32) -> usize
+    pub(crate) fn count_below(&self, run: &Run, k: u32) -> usize
         requires { self.now.dirs ≡ run.now.dirs }
         ensures bound { result ≤ length run.now.entries }
         ensures parts { Divides (is_below run.now.dirs self.now.points k) run.now.entries result }
@@ -47,7 +47,7 @@ impl CutPoints {
     }
 
     // How many entries of a run stand before a slice.
-    fn count_before(&self, run: &Run, part: u32) -> usize
+    pub(crate) fn count_before(&self, run: &Run, part: u32) -> usize
         requires within { part ≤ length self.now.points }
         requires alike { self.now.dirs ≡ run.now.dirs }
         ensures { Leads (is_from run.now.dirs self.now.points part) run.now.entries result }

@@ -13,6 +13,7 @@ mod lent;
 mod packing;
 mod parts;
 mod run;
+mod run_parts;
 mod slots;
 mod sorting;
 
@@ -22,4 +23,5 @@ pub use entries::{Entries, Entry};
 pub use laws::{run_laws, runs_cross_threads};
 pub use parts::part_of;
 pub use run::{Run, Runs};
+pub use run_parts::{RunPart, merge_parts, part_between, whole_run};
 pub use sorting::{merge, sort_run};

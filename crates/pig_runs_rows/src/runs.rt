@@ -8,7 +8,7 @@ ghost use Rattle.pig_value.specs.Trees.{tree, row_tree};
 ghost use Rattle.pig_value.specs.Valid.{IsValue, IsRow};
 
 use pig_keycode::{decode, decode_row, encode, encode_row};
-use pig_runs::{Run, RunBuilder, Runs, cuts, merge, part_of, slice};
+use pig_runs::{Run, RunBuilder, RunPart, Runs, cuts, merge, merge_parts, part_of, slice};
 use pig_value::{Dir, Dirs, Seq, Text, Tuple, Value, field_at, same};
 use std::alloc::Global;
 use std::process::Abort;
@@ -181,6 +181,35 @@ fn pieces_give_one_run(rt: HostRuntime) {
             );
             at = at.saturating_add(1);
         }
+    }
+}
+
+// The run of two parts of a run: those from a place on, and those before it.
+fn joined_again<R: Abort>(rt: &R, alloc: Global, run: &Run, place: usize) -> Run
+    requires { run.now.dirs ≡ [] }
+    ensures { result.dirs ≡ [] }
+{
+    let end = run.len();
+    let at = place.min(end);
+    let behind = RunPart { run, from: at, end };
+    let before = RunPart {
+        run,
+        from: 0,
+        end: at,
+    };
+    let parts = [behind, before];
+    merge_parts(alloc, &parts, Dirs::new(alloc)).expect(rt, "memory")
+}
+
+#[test]
+fn parts_give_their_run(rt: HostRuntime) {
+    let run = piece(&rt, rt.alloc(), 0, 1);
+    let again = joined_again(&rt, rt.alloc(), &run, 3);
+    assert!(rt; again.len() == 8, "as many");
+    let mut at = 0;
+    for entry in SORTED {
+        assert!(rt; is_entry(&rt, rt.alloc(), &again, at, entry), "{at}");
+        at = at.saturating_add(1);
     }
 }
 
