@@ -12,4 +12,4 @@ nothing_asked = record { calls = []; begun = [] }
 -- The history with one more question.
 abbrev pub and_asked : History → Asked → History
 and_asked before (Call method path) = record before { calls = and_call method path.now before.calls }
-and_asked before (Begin wave task attempt) = record before { begun = and_attempt wave task attempt before.begun }
+and_asked before (Begin wave task attempt faults) = record before { begun = and_attempt wave task attempt faults before.begun }

@@ -24,6 +24,13 @@ impl FaultCounts {
         FaultCounts { all: 0, stores: 0 }
     }
 
+    /// How often it has failed in all.
+    pub fn all(&self) -> u64
+        ensures { result ≡ all_faults self.now }
+    {
+        self.all
+    }
+
     /// One more failure, of a call that makes no directory. It is Failed, and counted, and want of memory where
     /// the count can't go on.
     pub fn fail(&mut self) -> OutsideError

@@ -50,6 +50,13 @@ impl Failing {
         }
     }
 
+    /// How often a call has failed.
+    pub fn faults(&self) -> u64
+        ensures { result ≡ fault_count self.now }
+    {
+        self.faults.all()
+    }
+
     /// One more call of the method is made. Failed: it is one of the listed calls. Out of memory: it is one of
     /// them, and the count of failures can't go on.
     pub fn call(&mut self, method: Method) -> Result<(), OutsideError>

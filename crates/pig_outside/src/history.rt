@@ -10,9 +10,17 @@ use std::marker::Model;
 #[derive(Clone, Copy, Drop)]
 pub enum Asked<'a> {
     /// A call of a depot.
-    Call { method: Method, path: &'a str },
-    /// An attempt begins on a host.
-    Begin { wave: u32, task: u32, attempt: u32 },
+    Call {
+        method: Method,
+        path: &'a str,
+    },
+    /// An attempt begins on a host that has failed so often.
+    Begin {
+        wave: u32,
+        task: u32,
+        attempt: u32,
+        faults: u64,
+    },
 }
 
 /// The calls of a depot and the attempts of a host so far, the oldest first.

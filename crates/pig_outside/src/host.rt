@@ -13,7 +13,8 @@ pub trait Host {
     /// The inputs, or none where it doesn't tell. No call changes them.
     ghost inputs: { Self → Option (List Input) };
 
-    /// The attempts that it was told of so far, the oldest first, or none where it doesn't tell.
+    /// The attempts that it was told of so far, the oldest first, each with the count of failures before it, or none
+    /// where it doesn't tell.
     ghost begun: { Self → Option (List Attempt) };
 
     /// How often it has failed.
@@ -22,8 +23,8 @@ pub trait Host {
     /// An attempt starts. Failed: this attempt is lost. It takes no memory.
     fn begin(&mut self, wave: u32, task: u32, attempt: u32) -> Result<(), Failed>
         ensures inputs { inputs self.new ≡ inputs self.old }
-        ensures begun { begun self.new ≡ option_map (and_attempt wave task attempt)
-            (begun self.old) }
+        ensures begun { begun self.new
+            ≡ option_map (and_attempt wave task attempt (faults self.old)) (begun self.old) }
         ensures later { faults self.old ≤ faults self.new }
         ensures failed { OnErr result (faults self.old < faults self.new) };
 

@@ -1,5 +1,5 @@
 //! What the program meets outside itself: the depot that keeps scripts, inputs and outputs, the hosts on which
-//! workers read, and the console.
+//! workers read, and the console. By a `Stop` an attempt on a host asks whether its task is won.
 //!
 //! Each is a trait whose ghost members say what it holds and what it was asked, where it tells that, and how often it
 //! has failed. The count of failures never falls, and rises in each call that answers Failed, so a caller can't blame a
@@ -23,6 +23,7 @@ mod lookups;
 mod memory_console;
 mod memory_depot;
 mod memory_host;
+mod stop;
 
 pub use console::Console;
 pub use contents::{DirState, Directory, Parts, Source, Sources};
@@ -34,6 +35,7 @@ pub use host::Host;
 pub use memory_console::MemoryConsole;
 pub use memory_depot::MemoryDepot;
 pub use memory_host::MemoryHost;
+pub use stop::Stop;
 
 fn crosses<T: Send>() {}
 

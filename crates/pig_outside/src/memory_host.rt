@@ -52,7 +52,8 @@ impl Host for MemoryHost {
 
     fn begin(&mut self, wave: u32, task: u32, attempt: u32) -> Result<(), Failed>
         ensures inputs { told_inputs self.new ≡ told_inputs self.old }
-        ensures begun { told_begun self.new ≡ option_map (and_attempt wave task attempt)
+        ensures begun { told_begun self.new
+            ≡ option_map (and_attempt wave task attempt (host_faults self.old))
             (told_begun self.old) }
         ensures later { host_faults self.old ≤ host_faults self.new }
         ensures failed { OnErr result (host_faults self.old < host_faults self.new) }
@@ -62,6 +63,7 @@ impl Host for MemoryHost {
             wave,
             task,
             attempt,
+            faults: self.failing.faults(),
         });
         match self.failing.call(Method::Begin) {
             Err(OutsideError::Failed) => Err(Failed),
