@@ -90,7 +90,7 @@ one_failure n x l = by_test (has_failed x.fate)
         omega arith
 
 -- the failures of all tasks are the failed attempts
-failures_add : (n : ℕ) (xs : List Attempt) → All (λ x. x.task < n) xs → sum_below (λ t. count_by (is_failure_of t) xs) n ≡ count_by (λ x. has_failed x.fate) xs
+pub failures_add : (n : ℕ) (xs : List Attempt) → All (λ x. x.task < n) xs → sum_below (λ t. count_by (is_failure_of t) xs) n ≡ count_by (λ x. has_failed x.fate) xs
 failures_add n [] all = sum_below-zero (λ t. 0) n (λ u. refl)
 failures_add n (x ∷ xs) all =
     let P : Attempt → Type 0 = λ y. y.task < n in

@@ -65,6 +65,7 @@ begin_allowed {S} n slots id t word m room there known is s b homes at below =
       record {
         slots = refl;
         room = refl;
+        streak = refl;
         small = small;
         after = λ u e. same_task (λ k. (◌≡◌ {A = Me S View} (began t x m.0, m.1) (began k x m.0, m.1)) × (count_by (is_attempt k x) m.0.tried ≡ 0)) t u (omega arith) (refl, unused);
       },
@@ -76,9 +77,33 @@ begin_allowed {S} n slots id t word m room there known is s b homes at below =
     same_task : (P : ℕ → Type 0) (k u : ℕ) → k ≡ u → P k → P u
     same_task P k u e p = subst P e p
 
+-- where the winner's word is 0, no pass knows a winner
+no_winner : (n : ℕ) (ws : List ℕ) (vs : List View) (id t : ℕ) (v : View) → IsBoard n ws vs → get_elem? vs id ≡ some v → get_or ws (3 * t + 3) 0 ≡ 0 → knows_winner t v ≡ false
+no_winner n ws vs id t v b at empty = false_from_ne_true (knows_winner t v) (λ h. ⊎_elim own seen (or_cases (list_any (is_win_of t) v.tried) (list_any (λ p. p.0 == t) v.winners) h))
+  where
+    winner : winner_of (get_or ws (3 * t + 3) 0) ≡ None
+    winner = ap winner_of empty
+
+    own : list_any (is_win_of t) v.tried ≡ true → ⊥
+    own h =
+        let w = some_win t v.tried h in
+        let mine = w.1 in
+        let part = entries-le (λ z. cond {A = ℕ} (is_win t w.0 z) 1 0) (λ (u : View). u.tried) vs id v at in
+        let all : count_by (is_win t w.0) (flat_map (λ (u : View). u.tried) vs) ≡ 0 = b.kept.winners t w.0 ∙ ap (λ o. once_at o w.0) winner in
+        omega arith
+
+    seen : list_any (λ p. p.0 == t) v.winners ≡ true → ⊥
+    seen h =
+        let w = some_note (λ u. winner_of (get_or ws (3 * u + 3) 0)) t v.winners (b.noted id v at).winners h in
+        let wrong : None ≡ Some w.0 = sym winner ∙ w.1 in
+        cc
+
 pub commit_allowed : {S : Type 0} (n slots id t a word mark : ℕ) (m : Me S View) → has_open t a m.0 ≡ true → word ≡ 3 * t + 3 → mark ≡ a + 1 → Allows (λ s. IsBoard n s.words s.views) slots id m word (λ x. either (x == 0) mark x) (CommitTold (step slots word 0 mark none) m)
 commit_allowed {S} n slots id t a word mark m is at_word is_mark s b homes at below = by_word (get_or s.words word 0) refl
   where
+    same_task : (P : ℕ → Type 0) (k u : ℕ) → k ≡ u → P k → P u
+    same_task P k u e p = subst P e p
+
     same_mark : (u c x : ℕ) → word ≡ 3 * u + 3 → mark ≡ c + 1 → ◌≡◌ {A = Me S View} (committed t a x m.0, m.1) (committed u c x m.0, m.1)
     same_mark u c x e f =
         let task : t ≡ u = omega arith in
@@ -95,7 +120,9 @@ commit_allowed {S} n slots id t a word mark m is at_word is_mark s b homes at be
       record {
         slots = refl;
         room = refl;
+        streak = refl;
         another = λ e. omega arith;
+        known = λ u e z. same_task (λ k. knows_winner k m.0 ≡ false) t u (omega arith) (no_winner n s.words s.views id t m.0 b at (ap (λ k. get_or s.words k 0) (sym at_word) ∙ found));
         after = λ u c e f. same_mark u c 0 e f;
       },
     )
@@ -110,7 +137,9 @@ commit_allowed {S} n slots id t a word mark m is at_word is_mark s b homes at be
           record {
             slots = refl;
             room = refl;
+            streak = refl;
             another = λ e. other (omega arith);
+            known = λ u e z. absurd (omega arith);
             after = λ u d e f. same_mark u d (suc c) e f;
           },
         )
@@ -163,6 +192,8 @@ fail_allowed {S} n slots id t word m room is at_word s b homes at below =
       record {
         slots = refl;
         room = refl;
+        streak = refl;
+        few = let q = (b.noted id m.0 at).streak in omega arith;
         small = small;
         after = λ u e. same_task (λ k. ◌≡◌ {A = Me S View} (w, m.1) (failed_at k (x + 1) m.0, m.1)) t u (omega arith) refl;
         own = λ u e. same_task (λ k. fails_of k w ≤ x + 1) t u (omega arith) (omega arith);
@@ -190,6 +221,7 @@ count_allowed {S} n slots id t word m there at_word s b homes at below =
       record {
         slots = refl;
         room = refl;
+        streak = refl;
         small = small;
         after = λ u e. same_task (λ k. ◌≡◌ {A = Me S View} (saw_count t x m.0, m.1) (saw_count k x m.0, m.1)) t u (omega arith) refl;
         own = λ u e. same_task (λ k. fails_of k m.0 ≤ x) t u (omega arith) (omega arith);
@@ -222,27 +254,6 @@ winner_small n ws vs t b there = by_word (get_or ws (3 * t + 3) 0) refl
         let whole = b.within in
         omega arith
 
--- where the winner's word is 0, no pass knows a winner
-no_winner : (n : ℕ) (ws : List ℕ) (vs : List View) (id t : ℕ) (v : View) → IsBoard n ws vs → get_elem? vs id ≡ some v → get_or ws (3 * t + 3) 0 ≡ 0 → knows_winner t v ≡ false
-no_winner n ws vs id t v b at empty = false_from_ne_true (knows_winner t v) (λ h. ⊎_elim own seen (or_cases (list_any (is_win_of t) v.tried) (list_any (λ p. p.0 == t) v.winners) h))
-  where
-    winner : winner_of (get_or ws (3 * t + 3) 0) ≡ None
-    winner = ap winner_of empty
-
-    own : list_any (is_win_of t) v.tried ≡ true → ⊥
-    own h =
-        let w = some_win t v.tried h in
-        let mine = w.1 in
-        let part = entries-le (λ z. cond {A = ℕ} (is_win t w.0 z) 1 0) (λ (u : View). u.tried) vs id v at in
-        let all : count_by (is_win t w.0) (flat_map (λ (u : View). u.tried) vs) ≡ 0 = b.kept.winners t w.0 ∙ ap (λ o. once_at o w.0) winner in
-        omega arith
-
-    seen : list_any (λ p. p.0 == t) v.winners ≡ true → ⊥
-    seen h =
-        let w = some_note (λ u. winner_of (get_or ws (3 * u + 3) 0)) t v.winners (b.noted id v at).winners h in
-        let wrong : None ≡ Some w.0 = sym winner ∙ w.1 in
-        cc
-
 -- where a pass that is alone knows no winner, the winner's word is 0
 all_winners : (n : ℕ) (ws : List ℕ) (vs : List View) (id t : ℕ) (v : View) → IsBoard n ws vs → get_elem? vs id ≡ some v → IsAlone v → knows_winner t v ≡ false → get_or ws (3 * t + 3) 0 ≡ 0
 all_winners n ws vs id t v b at is knows = by_word (get_or ws (3 * t + 3) 0) refl
@@ -271,6 +282,7 @@ winner_allowed {S} n slots id t word m there at_word s b homes at below =
       record {
         slots = refl;
         room = same_room (winner_of x);
+        streak = same_streak (winner_of x);
         small = let q = winner_small n s.words s.views t b there in omega arith;
         after = λ u e. same_task (λ k. ◌≡◌ {A = Me S View} (w, m.1) (saw_winner k (winner_of x) m.0, m.1)) t u (omega arith) refl;
         none = λ u e z. same_task (λ k. knows_winner k m.0 ≡ false) t u (omega arith) (no_winner n s.words s.views id t m.0 b at (x_is ∙ z));
@@ -288,6 +300,10 @@ winner_allowed {S} n slots id t word m there at_word s b homes at below =
     same_room None = refl
     same_room (Some a) = refl
 
+    same_streak : (o : Option ℕ) → (saw_winner t o m.0).streak ≡ m.0.streak
+    same_streak None = refl
+    same_streak (Some a) = refl
+
 pub room_allowed : {S : Type 0} (n slots id : ℕ) (m : Me S View) → Allows (λ s. IsBoard n s.words s.views) slots id m 0 (λ x. x) (RoomTold (step slots 0 0 0 none) m)
 room_allowed n slots id m s b homes at below =
     let long = b.long in
@@ -304,10 +320,10 @@ split_allowed n id v s b at =
       kept = keeps_bags (words_of n ws) _ _ _ _ (SameBag-cut (λ (u : View). u.drawn) vs id v (kept_half v) (other_half v) at refl refl) (SameBag-cut (λ (u : View). u.tried) vs id v (kept_half v) (other_half v) at refl refl) b.kept;
       noted = λ j u e. ⊎_elim
           (λ p. ⊎_elim
-          (λ q. subst (Noted (words_of n ws)) q.1 (record { known = old.known; winners = old.winners; counts = old.counts }))
+          (λ q. subst (Noted (words_of n ws)) q.1 (record { known = old.known; winners = old.winners; counts = old.counts; streak = old.streak }))
           (λ q. b.noted j u q.1)
           (at_set vs id j (kept_half v) u p))
-          (λ q. subst (Noted (words_of n ws)) q (record { known = old.known; winners = old.winners; counts = old.counts }))
+          (λ q. subst (Noted (words_of n ws)) q (record { known = old.known; winners = old.winners; counts = old.counts; streak = old.streak }))
           (at_snoc (set vs id (kept_half v)) (other_half v) u j e);
       within = let p = sum_cut (λ u. u.room) vs id v (kept_half v) (other_half v) at (omega arith) in let q = b.within in omega arith;
       shared_out = let p = sum_cut steps_of vs id v (kept_half v) (other_half v) at (omega arith) in let q = b.shared_out in omega arith;
@@ -326,12 +342,13 @@ join_allowed n id other v w s b at apart there =
       long = b.long;
       kept = keeps_bags (words_of n ws) _ _ _ _ (SameBag-join (λ (u : View). u.drawn) vs id other v w (both v w) spent at there refl refl) (SameBag-join (λ (u : View). u.tried) vs id other v w (both v w) spent at there refl refl) b.kept;
       noted = λ j u e. ⊎_elim
-          (λ q. subst (Noted (words_of n ws)) q.1 (record { known = omega arith; winners = All-nil (λ p. (words_of n ws).winner p.0 ≡ Some p.1); counts = All-nil (λ p. p.1 ≤ (words_of n ws).failed p.0) }))
+          (λ q. subst (Noted (words_of n ws)) q.1 (record { known = omega arith; winners = All-nil (λ p. (words_of n ws).winner p.0 ≡ Some p.1); counts = All-nil (λ p. p.1 ≤ (words_of n ws).failed p.0); streak = omega arith }))
           (λ p. ⊎_elim
           (λ q. subst (Noted (words_of n ws)) q.1 (record {
             known = let a = one.known in let c = two.known in omega arith;
             winners = All-append (λ p. (words_of n ws).winner p.0 ≡ Some p.1) v.winners w.winners one.winners two.winners;
             counts = All-append (λ p. p.1 ≤ (words_of n ws).failed p.0) v.counts w.counts one.counts two.counts;
+            streak = let a = one.streak in let c = two.streak in omega arith;
           }))
           (λ q. b.noted j u q.1)
           (at_set vs id j (both v w) u p.1))

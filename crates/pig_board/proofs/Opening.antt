@@ -50,6 +50,7 @@ opened n k e =
       known = omega arith;
       winners = All-nil (λ p. (words_of n (replicate k 0)).winner p.0 ≡ Some p.1);
       counts = All-nil (λ p. p.1 ≤ (words_of n (replicate k 0)).failed p.0);
+      streak = omega arith;
     }
 
     first : (i : ℕ) (v : View) → get_elem? (fresh ∷ []) i ≡ some v → Noted (words_of n (replicate k 0)) v

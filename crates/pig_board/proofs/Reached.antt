@@ -64,8 +64,8 @@ bag : {X : Type 0} (xs ys : List X) → ys ≡ xs → SameBag xs ys
 bag xs ys e = record { sums = λ f. ap (sum_by f) e }
 
 pub is_reached : BoardIsReached
-is_reached n ws vs b =
-    let j = job_of n ws vs in
+is_reached n l ws vs b =
+    let j = job_of n l ws vs in
     let same : SameWords (words_of n ws) (job.words_of j) = record {
       tasks = length-tasks ws n;
       next = refl;

@@ -21,7 +21,7 @@ use Rattle.pig_board.specs.View.{steps_of, drew, began, won, came_late, failed_a
 use Rattle.pig_board.specs.Rule.{winner_of, words_of, total_of, Noted, IsBoard}
 use Rattle.pig_board.proofs.Parts.{sum_set, part-le, entries-le, Adds-view, Swaps-view, SameBag-view}
 use Rattle.pig_board.proofs.Counts.{sum_ones, open_and_won, earliest-open}
-use Rattle.pig_board.proofs.Writes.{Grows, noted_still, Grows-same, Grows-draw, Grows-begin, Grows-fail, Grows-win, total-same, total-draw, total-begin, total-fail, total-win, writes_same, writes_next, writes_begun, writes_failed, writes_winner}
+use Rattle.pig_board.proofs.Writes.{Grows, noted_still, Grows-same, Grows-draw, Grows-begin, Grows-fail, Grows-win, total-same, total-draw, total-begin, total-fail, failures-fail, total-win, writes_same, writes_next, writes_begun, writes_failed, writes_winner}
 
 -- one word and one view have changed
 changed : (n : ℕ) (ws : List ℕ) (vs : List View) (i y id : ℕ) (v w : View) → IsBoard n ws vs → get_elem? vs id ≡ some v
@@ -57,7 +57,7 @@ draw_kept n ws vs id y v b at room e =
     let old = noted_still (words_of n ws) (words_of n (set ws 0 y)) v (Grows-draw _ _ s) (b.noted id v at) in
     let t = total-draw (words_of n ws) (words_of n (set ws 0 y)) s in
     changed n ws vs 0 y id v w b at kept (Grows-draw _ _ s)
-    (record { known = let a = s.next in omega arith; winners = old.winners; counts = old.counts })
+    (record { known = let a = s.next in omega arith; winners = old.winners; counts = old.counts; streak = old.streak })
     (omega arith)
     (let l = length-append v.drawn (x ∷ []) in omega arith)
 
@@ -77,7 +77,7 @@ begin_kept n ws vs id t i y v b at room there known word e =
     let old = noted_still (words_of n ws) (words_of n (set ws i y)) v (Grows-begin _ _ t s) notes in
     let total = total-begin (words_of n ws) (words_of n (set ws i y)) t there s in
     changed n ws vs i y id v w b at kept (Grows-begin _ _ t s)
-    (record { known = old.known; winners = old.winners; counts = old.counts })
+    (record { known = old.known; winners = old.winners; counts = old.counts; streak = old.streak })
     (omega arith)
     (let l = length-append v.tried (attempt t x Unended ∷ []) in let c = sum_by_push (λ (z : Attempt). cond {A = ℕ} (has_failed z.fate) 1 0) v.tried (attempt t x Unended) in omega arith)
 
@@ -126,7 +126,7 @@ fail_kept n ws vs id t i y c v b at room h word e count =
     let failed : (words_of n (set ws i y)).failed t ≡ c = s.failed ∙ ap (λ k. get_or ws k 0 + 1) (sym word) ∙ sym count in
     let total = total-fail (words_of n ws) (words_of n (set ws i y)) t there s in
     changed n ws vs i y id v w b at kept (Grows-fail _ _ t s)
-    (record { known = old.known; winners = old.winners; counts = All-push (λ p. p.1 ≤ (words_of n (set ws i y)).failed p.0) v.counts (t, c) old.counts (omega arith) })
+    (record { known = old.known; winners = old.winners; counts = All-push (λ p. p.1 ≤ (words_of n (set ws i y)).failed p.0) v.counts (t, c) old.counts (omega arith); streak = let q = (b.noted id v at).streak in let r = failures-fail (words_of n ws) (words_of n (set ws i y)) t there s in omega arith })
     (omega arith)
     (let l = settled_length t a Failed v is in let c = settled_fails t a Failed v is in omega arith)
 
@@ -160,7 +160,7 @@ win_kept n ws vs id t a i y v b at is word none e =
     let old = noted_still (words_of n ws) (words_of n (set ws i y)) v (Grows-win _ _ t a s) (b.noted id v at) in
     let total = total-win (words_of n ws) (words_of n (set ws i y)) t a s in
     changed n ws vs i y id v w b at kept (Grows-win _ _ t a s)
-    (record { known = old.known; winners = old.winners; counts = old.counts })
+    (record { known = old.known; winners = old.winners; counts = old.counts; streak = omega arith })
     (omega arith)
     (let l = settled_length t a Won v is in let c = settled_fails t a Won v is in omega arith)
 
@@ -177,7 +177,7 @@ late_kept n ws vs id t a c i y v b at is word found e =
     let old = noted_still (words_of n ws) (words_of n (set ws i y)) v (Grows-same _ _ s) (b.noted id v at) in
     let total = total-same (words_of n ws) (words_of n (set ws i y)) s in
     changed n ws vs i y id v w b at kept (Grows-same _ _ s)
-    (record { known = old.known; winners = All-push (λ p. (words_of n (set ws i y)).winner p.0 ≡ Some p.1) v.winners (t, c) old.winners (s.winner t ∙ winner); counts = old.counts })
+    (record { known = old.known; winners = All-push (λ p. (words_of n (set ws i y)).winner p.0 ≡ Some p.1) v.winners (t, c) old.winners (s.winner t ∙ winner); counts = old.counts; streak = omega arith })
     (omega arith)
     (let l = settled_length t a Late v is in let d = settled_fails t a Late v is in omega arith)
   where
@@ -210,7 +210,7 @@ winner_kept n ws vs id t i y v b at l word e = by_word (get_or ws i 0) refl
         let s = writes_same n ws i y l e in
         let winner : (words_of n (set ws i y)).winner t ≡ Some a = s.winner t ∙ ap (λ k. winner_of (get_or ws k 0)) (sym word) ∙ ap winner_of found in
         looked n ws vs id i y v (saw_winner t (Some a) v) b at l e refl refl refl
-        (λ o. record { known = o.known; winners = All-push (λ p. (words_of n (set ws i y)).winner p.0 ≡ Some p.1) v.winners (t, a) o.winners winner; counts = o.counts })
+        (λ o. record { known = o.known; winners = All-push (λ p. (words_of n (set ws i y)).winner p.0 ≡ Some p.1) v.winners (t, a) o.winners winner; counts = o.counts; streak = o.streak })
 
 pub count_kept : (n : ℕ) (ws : List ℕ) (vs : List View) (id t i y : ℕ) (v : View) → IsBoard n ws vs → get_elem? vs id ≡ some v → i < length ws → i ≡ 3 * t + 2 → y ≡ get_or ws i 0 → IsBoard n (set ws i y) (set vs id (saw_count t (get_or ws i 0) v))
 count_kept n ws vs id t i y v b at l word e =
@@ -218,4 +218,4 @@ count_kept n ws vs id t i y v b at l word e =
     let c = get_or ws i 0 in
     let now : (words_of n (set ws i y)).failed t ≡ c = s.failed t ∙ ap (λ k. get_or ws k 0) (sym word) in
     looked n ws vs id i y v (saw_count t c v) b at l e refl refl refl
-    (λ o. record { known = o.known; winners = o.winners; counts = All-push (λ p. p.1 ≤ (words_of n (set ws i y)).failed p.0) v.counts (t, c) o.counts (omega arith) })
+    (λ o. record { known = o.known; winners = o.winners; counts = All-push (λ p. p.1 ≤ (words_of n (set ws i y)).failed p.0) v.counts (t, c) o.counts (omega arith); streak = o.streak })

@@ -39,8 +39,14 @@ summand-le f (suc n) t l = elim (cases_eq n t) as (λ _. f t ≤ sum_below f (su
   | inr other ↦ let rest = summand-le f n t (omega arith) in omega arith
 ]
 
+-- a sum of functions of which one is below the other
+sum_below-le : (f g : ℕ → ℕ) (n : ℕ) → ((u : ℕ) → f u ≤ g u) → sum_below f n ≤ sum_below g n
+sum_below-le f g zero e = omega arith
+sum_below-le f g (suc n) e = let p = sum_below-le f g n e in let q = e n in omega arith
+
 -- the words say the same, or more
 pub record Grows (w v : Words) : Type 0 where
+  pub tasks : v.tasks ≡ w.tasks
   pub next : w.next ≤ v.next
   pub failed : (t : ℕ) → w.failed t ≤ v.failed t
   pub winner : (t a : ℕ) → w.winner t ≡ Some a → v.winner t ≡ Some a
@@ -51,10 +57,12 @@ noted_still w v u g n = record {
   known = let a = n.known in let b = g.next in omega arith;
   winners = λ k d l. g.winner _ _ (n.winners k d l);
   counts = λ k d l. let a = n.counts k d l in let b = g.failed (get_or u.counts k d).0 in omega arith;
+  streak = let a = n.streak in let b = sum_below-le w.failed v.failed w.tasks g.failed in let e = ap (sum_below v.failed) g.tasks in omega arith;
 }
 
 pub Grows-same : (w v : Words) → SameWords w v → Grows w v
 Grows-same w v s = record {
+  tasks = s.tasks;
   next = let e = s.next in omega arith;
   failed = λ t. let e = s.failed t in omega arith;
   winner = λ t a h. s.winner t ∙ h;
@@ -62,6 +70,7 @@ Grows-same w v s = record {
 
 pub Grows-draw : (w v : Words) → Draws w v → Grows w v
 Grows-draw w v s = record {
+  tasks = s.tasks;
   next = let e = s.next in omega arith;
   failed = λ t. let e = s.failed t in omega arith;
   winner = λ t a h. s.winner t ∙ h;
@@ -69,6 +78,7 @@ Grows-draw w v s = record {
 
 pub Grows-begin : (w v : Words) (t : ℕ) → Begins w v t → Grows w v
 Grows-begin w v t s = record {
+  tasks = s.tasks;
   next = let e = s.next in omega arith;
   failed = λ u. let e = s.failed u in omega arith;
   winner = λ u a h. s.winner u ∙ h;
@@ -76,6 +86,7 @@ Grows-begin w v t s = record {
 
 pub Grows-fail : (w v : Words) (t : ℕ) → Fails w v t → Grows w v
 Grows-fail w v t s = record {
+  tasks = s.tasks;
   next = let e = s.next in omega arith;
   failed = λ u. elim (cases_eq u t) as (λ _. w.failed u ≤ v.failed u) [
     | inl e ↦ let a = ap w.failed e in let b = ap v.failed e in let c = s.failed in omega arith
@@ -86,6 +97,7 @@ Grows-fail w v t s = record {
 
 pub Grows-win : (w v : Words) (t a : ℕ) → Wins w v t a → Grows w v
 Grows-win w v t a s = record {
+  tasks = s.tasks;
   next = let e = s.next in omega arith;
   failed = λ u. let e = s.failed u in omega arith;
   winner = λ u b h. elim (cases_eq u t) as (λ _. v.winner u ≡ Some b) [
@@ -116,11 +128,15 @@ total-begin w v t l s =
     let c : sum_below v.failed v.tasks ≡ sum_below w.failed w.tasks = ap (sum_below v.failed) s.tasks ∙ sum_below-same w.failed v.failed w.tasks (λ u m. s.failed u) in
     omega arith
 
+-- the failures of all tasks, once one more has failed
+pub failures-fail : (w v : Words) (t : ℕ) → t < w.tasks → Fails w v t → sum_below v.failed v.tasks ≡ sum_below w.failed w.tasks + 1
+failures-fail w v t l s = ap (sum_below v.failed) s.tasks ∙ sum_below-one w.failed v.failed w.tasks t l s.failed s.others
+
 pub total-fail : (w v : Words) (t : ℕ) → t < w.tasks → Fails w v t → total_of v ≡ total_of w + 1
 total-fail w v t l s =
     let a = s.next in
     let b : sum_below v.begun v.tasks ≡ sum_below w.begun w.tasks = ap (sum_below v.begun) s.tasks ∙ sum_below-same w.begun v.begun w.tasks (λ u m. s.begun u) in
-    let c : sum_below v.failed v.tasks ≡ sum_below w.failed w.tasks + 1 = ap (sum_below v.failed) s.tasks ∙ sum_below-one w.failed v.failed w.tasks t l s.failed s.others in
+    let c = failures-fail w v t l s in
     omega arith
 
 pub total-win : (w v : Words) (t a : ℕ) → Wins w v t a → total_of v ≡ total_of w

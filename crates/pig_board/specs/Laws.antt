@@ -27,13 +27,13 @@ tasks_in ws (suc n) = tasks_in ws n ++ task_in ws n ∷ []
 abbrev pub worker_of : View → WorkerState
 worker_of v = record { drawn = v.drawn; tried = v.tried; status = Running }
 
--- a board as a job: its words are the tasks, and its passes the workers
-abbrev pub job_of : ℕ → List ℕ → List View → Job
-job_of n ws vs = record { tasks = tasks_in ws n; next = slice_index ws 0; workers = map worker_of vs }
+-- a board as a job with the limit l, which no step on a board reads: its words are the tasks, its passes the workers
+abbrev pub job_of : ℕ → ℕ → List ℕ → List View → Job
+job_of n l ws vs = record { tasks = tasks_in ws n; limit = l; next = slice_index ws 0; workers = map worker_of vs }
 
 -- the words and the entries of all passes are those of a job that is reached from its opening by steps in order
 abbrev pub BoardIsReached : Type 0
-BoardIsReached = (n : ℕ) (ws : List ℕ) (vs : List View) → IsBoard n ws vs → IsReached (job_of n ws vs)
+BoardIsReached = (n l : ℕ) (ws : List ℕ) (vs : List View) → IsBoard n ws vs → IsReached (job_of n l ws vs)
 
 -- what the end of a job says of the pass that has all its entries
 pub record EndTells (v : View) (ends : List TaskEnd) : Type 0 where

@@ -31,11 +31,12 @@ sum_below f (suc n) = sum_below f n + f n
 abbrev pub total_of : Words → ℕ
 total_of w = w.next + sum_below w.begun w.tasks + sum_below w.failed w.tasks
 
--- the notes of a pass: what it noted was so, and still is or has grown
+-- the notes of a pass: what it noted was so, and still is or has grown. Its fails in a row are failures of the tasks
 pub record Noted (w : Words) (v : View) : Type 0 where
   pub known : v.known ≤ w.next
   pub winners : All (λ p. w.winner p.0 ≡ Some p.1) v.winners
   pub counts : All (λ p. p.1 ≤ w.failed p.0) v.counts
+  pub streak : v.streak ≤ sum_below w.failed w.tasks
 
 -- the rule of a board of n tasks with the words ws, whose passes have the views vs
 pub record IsBoard (n : ℕ) (ws : List ℕ) (vs : List View) : Type 0 where

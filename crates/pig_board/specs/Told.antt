@@ -16,6 +16,7 @@ pub record DrawTold {S : Type 0} (st : Step S) (m : Me S View) (x : ℕ) (m' : M
 pub record BeginTold {S : Type 0} (st : Step S) (m : Me S View) (x : ℕ) (m' : Me S View) : Type 0 where
   pub slots : m'.1 ≡ m.1
   pub room : m'.0.room ≡ m.0.room - 1
+  pub streak : m'.0.streak ≡ m.0.streak
   pub small : x < 2 ^ 31
   pub after : (t : ℕ) → st.word ≡ 3 * t + 1 → (m' ≡ (began t x m.0, m.1)) × (count_by (is_attempt t x) m.0.tried ≡ 0)
 
@@ -28,13 +29,17 @@ committed t a (suc b) v = came_late t a b v
 pub record CommitTold {S : Type 0} (st : Step S) (m : Me S View) (x : ℕ) (m' : Me S View) : Type 0 where
   pub slots : m'.1 ≡ m.1
   pub room : m'.0.room ≡ m.0.room
+  pub streak : m'.0.streak ≡ 0
   pub another : x ≢ st.second
+  pub known : (t : ℕ) → st.word ≡ 3 * t + 3 → x ≡ 0 → knows_winner t m.0 ≡ false
   pub after : (t a : ℕ) → st.word ≡ 3 * t + 3 → st.second ≡ a + 1 → m' ≡ (committed t a x m.0, m.1)
 
 -- a fail
 pub record FailTold {S : Type 0} (st : Step S) (m : Me S View) (x : ℕ) (m' : Me S View) : Type 0 where
   pub slots : m'.1 ≡ m.1
   pub room : m'.0.room ≡ m.0.room - 1
+  pub streak : m'.0.streak ≡ m.0.streak + 1
+  pub few : m.0.streak < 2 ^ 31
   pub small : x < 2 ^ 31
   pub after : (t : ℕ) → st.word ≡ 3 * t + 2 → m' ≡ (failed_at t (x + 1) m.0, m.1)
   pub own : (t : ℕ) → st.word ≡ 3 * t + 2 → fails_of t m'.0 ≤ x + 1
@@ -45,6 +50,7 @@ pub record FailTold {S : Type 0} (st : Step S) (m : Me S View) (x : ℕ) (m' : M
 pub record WinnerTold {S : Type 0} (st : Step S) (m : Me S View) (x : ℕ) (m' : Me S View) : Type 0 where
   pub slots : m'.1 ≡ m.1
   pub room : m'.0.room ≡ m.0.room
+  pub streak : m'.0.streak ≡ m.0.streak
   pub small : x ≤ 2 ^ 31
   pub after : (t : ℕ) → st.word ≡ 3 * t + 3 → m' ≡ (saw_winner t (winner_of x) m.0, m.1)
   pub none : (t : ℕ) → st.word ≡ 3 * t + 3 → x ≡ 0 → knows_winner t m.0 ≡ false
@@ -54,6 +60,7 @@ pub record WinnerTold {S : Type 0} (st : Step S) (m : Me S View) (x : ℕ) (m' :
 pub record CountTold {S : Type 0} (st : Step S) (m : Me S View) (x : ℕ) (m' : Me S View) : Type 0 where
   pub slots : m'.1 ≡ m.1
   pub room : m'.0.room ≡ m.0.room
+  pub streak : m'.0.streak ≡ m.0.streak
   pub small : x ≤ 2 ^ 31
   pub after : (t : ℕ) → st.word ≡ 3 * t + 2 → m' ≡ (saw_count t x m.0, m.1)
   pub own : (t : ℕ) → st.word ≡ 3 * t + 2 → fails_of t m.0 ≤ x

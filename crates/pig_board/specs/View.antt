@@ -48,7 +48,7 @@ wins_of t v = count_by (is_win_of t) v.tried
 
 -- a pass with this room that knows nothing
 abbrev pub blank : ℕ → View
-blank room = record { drawn = []; tried = []; known = 0; winners = []; counts = []; room = room }
+blank room = record { drawn = []; tried = []; known = 0; winners = []; counts = []; room = room; streak = 0 }
 
 -- the first pass as the board opens
 abbrev pub fresh : View
@@ -68,25 +68,27 @@ began t a v =
     let attempt : Attempt = record { task = t; number = a; fate = Unended } in
     record v { tried = v.tried ++ attempt ∷ []; room = v.room - 1 }
 
--- after attempt a of task t has won
+-- after attempt a of task t has won, which ends a streak of fails
 abbrev pub won : ℕ → ℕ → View → View
-won t a v = record v { tried = settle t a Won v.tried }
+won t a v = record v { tried = settle t a Won v.tried; streak = 0 }
 
--- after attempt a of task t came later than attempt b, which is noted as the winner
+-- after attempt a of task t came later than attempt b, which is noted as the winner; a streak of fails ends
 abbrev pub came_late : ℕ → ℕ → ℕ → View → View
-came_late t a b v = record v { tried = settle t a Late v.tried; winners = v.winners ++ (t, b) ∷ [] }
+came_late t a b v = record v { tried = settle t a Late v.tried; winners = v.winners ++ (t, b) ∷ []; streak = 0 }
 
 -- the number of the earliest attempt of task t that is not ended
 abbrev pub earliest : ℕ → List Attempt → ℕ
 earliest t [] = 0
 earliest t (x ∷ xs) = if is_open_of t x then x.number else earliest t xs
 
--- after the earliest attempt of task t that is not ended has failed, which makes c failures, and c is noted
+-- after the earliest attempt of task t that is not ended has failed, which makes c failures, c is noted,
+-- and the streak is one longer
 abbrev pub failed_at : ℕ → ℕ → View → View
 failed_at t c v = record v {
   tried = settle t (earliest t v.tried) Failed v.tried;
   counts = v.counts ++ (t, c) ∷ [];
   room = v.room - 1;
+  streak = v.streak + 1;
 }
 
 -- after a look at the winner of task t, which is noted if there is one
@@ -102,11 +104,11 @@ saw_count t c v = record v { counts = v.counts ++ (t, c) ∷ [] }
 abbrev pub kept_half : View → View
 kept_half v = record v { room = v.room - v.room / 2 }
 
--- what a split gives the new pass: no entry, the same notes, and that half of the room
+-- what a split gives the new pass: no entry, the same notes and streak, and that half of the room
 abbrev pub other_half : View → View
 other_half v = record v { drawn = []; tried = []; room = v.room / 2 }
 
--- after a join: lists and room are added, and the larger drawn count is known
+-- after a join: lists and room are added, the larger drawn count is known, and the larger streak stays
 abbrev pub both : View → View → View
 both v w = record {
   drawn = v.drawn ++ w.drawn;
@@ -115,6 +117,7 @@ both v w = record {
   winners = v.winners ++ w.winners;
   counts = v.counts ++ w.counts;
   room = v.room + w.room;
+  streak = max v.streak w.streak;
 }
 
 -- a draw on a board of n tasks: a number beyond all that were known is drawn, and given if it is a task

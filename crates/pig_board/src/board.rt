@@ -23,12 +23,16 @@ pub struct Board {
 }
 
 /// A worker's leave to step on a board, with the room that it has: so many more draws, begins and fails it may make.
-/// Contracts also see what it has drawn, tried and noted.
+/// Contracts also see what it has drawn, tried and noted. A pass that has failed three times in a row begins no
+/// attempt, unless it is firm.
 #[derive(Drop)]
 pub struct Pass {
     pub(crate) seat: Seat<(), View>,
     pub(crate) room: u64,
+    pub(crate) streak: u32,
+    pub(crate) is_firm: bool,
     ghost counted: { room ≡ seat.me.0.room },
+    ghost in_a_row: { streak ≡ seat.me.0.streak },
     ghost no_slot: { seat.me.1 ≡ [] },
     ghost small: { room ≤ 2 ^ 31 },
 }

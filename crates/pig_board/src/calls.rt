@@ -1,9 +1,11 @@
 //! The calls of a board.
 
-ghost use Rattle.std.specs.Prelude.{◌≡◌, ◌+◌, ◌*◌, ◌^◌, ◌<◌, ◌≤◌, true, false, length, slice_index, count_by, All, IfOk, IfNone, MatchBool, None};
+ghost use Rattle.std.specs.Prelude.{◌≡◌, ◌+◌, ◌*◌, ◌^◌, ◌<◌, ◌≤◌, true, false, length, slice_index, count_by, All, IfOk, IfNone, MatchBool, IsTrue, None};
 ghost use Rattle.pig_job.specs.Rule.{is_attempt};
 ghost use Rattle.pig_board.specs.View.{IsAlone, IsDraw, IsLate, has_open, has_open_of, knows_winner, fails_of, fresh, began, won, failed_at, saw_winner, saw_count, kept_half, other_half, both};
-ghost use Rattle.pig_board.specs.Pass.{tasks_of, view_of, OnBoard};
+ghost use Rattle.pig_board.specs.Pass.{tasks_of, view_of, is_firm, may_begin, OnBoard};
+ghost use Rattle.pig_job.specs.Job.{aside_limit};
+ghost use Rattle.pig_board.specs.declared.board.Board.{Board};
 ghost use Rattle.std.specs.Slots.{slots_items, slots_len, IsFull};
 ghost use Rattle.pig_board.specs.End.{AreSmall, IsEnd, end_in};
 ghost use Rattle.pig_board.specs.Rule.{winner_of};
@@ -19,12 +21,40 @@ use std::alloc::{AllocError, Global};
 /// The room of a board's first pass.
 const FULL_ROOM: u64 = 2_147_483_648;
 
+/// A pass that has failed so often in a row begins no attempt, unless it is firm.
+const ASIDE_LIMIT: u32 = 3;
+
 impl Pass {
     /// So many more draws, begins and fails this pass may make.
     pub fn room(&self) -> u64
         ensures { result ≡ (view_of self.now).room }
     {
         self.room
+    }
+
+    /// How often this pass has failed since its last commit.
+    pub fn streak(&self) -> u32
+        ensures { result ≡ (view_of self.now).streak }
+    {
+        self.streak
+    }
+
+    /// Whether this pass may begin attempts: it has failed less than three times in a row, or it is firm.
+    pub fn may_begin(&self) -> bool
+        ensures { result ≡ may_begin self.now }
+    {
+        self.streak < ASIDE_LIMIT || self.is_firm
+    }
+
+    /// Makes this pass firm, which no other pass can object to, since none holds an entry or room.
+    pub fn firm(&mut self)
+        requires streak { aside_limit ≤ (view_of self.old).streak }
+        requires alone { IsAlone (view_of self.old) }
+        ensures board { (b : Board) → OnBoard b self.old → OnBoard b self.new }
+        ensures view { view_of self.new ≡ view_of self.old }
+        ensures firm { is_firm self.new ≡ true }
+    {
+        self.is_firm = true;
     }
 }
 
@@ -35,6 +65,7 @@ impl Board {
         ensures tasks { IfOk result (λ r. tasks_of r.0 ≡ tasks) }
         ensures board { IfOk result (λ r. OnBoard r.0 r.1) }
         ensures view { IfOk result (λ r. view_of r.1 ≡ fresh) }
+        ensures firm { IfOk result (λ r. is_firm r.1 ≡ false) }
     {
         let untried = TaskEnd {
             attempts: 0,
@@ -48,6 +79,8 @@ impl Board {
         let pass = Pass {
             seat,
             room: FULL_ROOM,
+            streak: 0,
+            is_firm: false,
         };
         Ok((board, pass))
     }
@@ -58,6 +91,7 @@ impl Board {
         requires room { 0 < (view_of pass.old).room }
         ensures board { OnBoard self.now pass.new }
         ensures drawn { IsDraw (tasks_of self.now) (view_of pass.old) (view_of pass.new) result }
+        ensures firm { is_firm pass.new ≡ is_firm pass.old }
     {
         let number = self.table.shared.fetch_add::<Drawing>(&mut pass.seat, 0, 1);
         pass.room -= 1;
@@ -74,9 +108,11 @@ impl Board {
         requires task { t < tasks_of self.now }
         requires drawn { t < (view_of pass.old).known }
         requires room { 0 < (view_of pass.old).room }
+        requires streak { may_begin pass.old ≡ true }
         ensures board { OnBoard self.now pass.new }
         ensures view { view_of pass.new ≡ began t result (view_of pass.old) }
         ensures unused { count_by (is_attempt t result) (view_of pass.old).tried ≡ 0 }
+        ensures firm { is_firm pass.new ≡ is_firm pass.old }
     {
         let word = 3 * t as usize + 1;
         let number = self
@@ -95,6 +131,8 @@ impl Board {
         ensures board { OnBoard self.now pass.new }
         ensures view { MatchBool result (view_of pass.new
             ≡ won t a (view_of pass.old)) (IsLate t a (view_of pass.old) (view_of pass.new)) }
+        ensures firm { is_firm pass.new ≡ is_firm pass.old }
+        ensures known { IsTrue result → knows_winner t (view_of pass.old) ≡ false }
     {
         let word = 3 * t as usize + 3;
         let mark = a as u64 + 1;
@@ -102,6 +140,7 @@ impl Board {
             .table
             .shared
             .compare_exchange::<Committing>(&mut pass.seat, word, 0, mark);
+        pass.streak = 0;
         found == 0
     }
 
@@ -116,6 +155,7 @@ impl Board {
         ensures own { fails_of t (view_of pass.new) ≤ result }
         ensures noted { All (λ p. p.0 ≡ t → p.1 < result) (view_of pass.old).counts }
         ensures alone { IsAlone (view_of pass.old) → result ≡ fails_of t (view_of pass.new) }
+        ensures firm { is_firm pass.new ≡ is_firm pass.old }
     {
         let word = 3 * t as usize + 2;
         let before = self
@@ -123,6 +163,7 @@ impl Board {
             .shared
             .fetch_add::<Failing>(&mut pass.seat, word, 1);
         pass.room -= 1;
+        pass.streak += 1;
         before as u32 + 1
     }
 
@@ -135,6 +176,7 @@ impl Board {
         ensures none { IfNone result (knows_winner t (view_of pass.old) ≡ false) }
         ensures alone { IsAlone (view_of pass.old) → knows_winner t (view_of pass.old) ≡ false
             → result ≡ None }
+        ensures firm { is_firm pass.new ≡ is_firm pass.old }
     {
         let word = 3 * t as usize + 3;
         let found = self.table.shared.load::<WinnerLook>(&mut pass.seat, word);
@@ -150,37 +192,53 @@ impl Board {
         ensures own { fails_of t (view_of pass.old) ≤ result }
         ensures noted { All (λ p. p.0 ≡ t → p.1 ≤ result) (view_of pass.old).counts }
         ensures alone { IsAlone (view_of pass.old) → result ≡ fails_of t (view_of pass.old) }
+        ensures firm { is_firm pass.new ≡ is_firm pass.old }
     {
         let word = 3 * t as usize + 2;
         let found = self.table.shared.load::<CountLook>(&mut pass.seat, word);
         found as u32
     }
 
-    /// Makes a second pass, with half of the room, rounded down, no entry, and the same notes.
+    /// Makes a second pass, with half of the room, rounded down, no entry, and the same notes and
+    /// streak.
     pub fn split(&self, pass: &mut Pass) -> Pass
         requires { OnBoard self.now pass.old }
         ensures board { OnBoard self.now pass.new }
         ensures board_given { OnBoard self.now result }
         ensures left { view_of pass.new ≡ kept_half (view_of pass.old) }
         ensures given { view_of result ≡ other_half (view_of pass.old) }
+        ensures firm { is_firm pass.new ≡ is_firm pass.old }
+        ensures firm_given { is_firm result ≡ is_firm pass.old }
     {
         let seat = self.table.shared.split_seat::<Halves>(&mut pass.seat);
         let given = pass.room / 2;
         pass.room -= given;
-        Pass { seat, room: given }
+        Pass {
+            seat,
+            room: given,
+            streak: pass.streak,
+            is_firm: pass.is_firm,
+        }
     }
 
-    /// Takes in the entries, the notes and the room of `other`.
+    /// Takes in the entries, the notes and the room of `other`, and the longer of both streaks.
     pub fn join(&self, pass: &mut Pass, other: Pass)
         requires board { OnBoard self.now pass.old }
         requires other { OnBoard self.now other }
         ensures board { OnBoard self.now pass.new }
         ensures view { view_of pass.new ≡ both (view_of pass.old) (view_of other) }
+        ensures firm { is_firm pass.new ≡ is_firm pass.old }
     {
-        let Pass { seat, room } = other;
+        let Pass {
+            seat,
+            room,
+            streak,
+            is_firm: _,
+        } = other;
         self.table.shared.join_seat::<Both>(&mut pass.seat, seat);
         self.table.shared.load::<RoomLook>(&mut pass.seat, 0);
         pass.room += room;
+        pass.streak = pass.streak.max(streak);
     }
 
     /// The end of the job, which no other pass can change, since none holds an entry or room.
@@ -195,7 +253,7 @@ impl Board {
             tasks,
             mut ends,
         } = self;
-        let Pass { seat, room: _ } = pass;
+        let Pass { seat, .. } = pass;
         let closed = table.close_with(seat);
         for t in 0..tasks {
             ends[t as usize] = end_at(&closed, t);

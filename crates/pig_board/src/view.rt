@@ -3,7 +3,7 @@
 use pig_job::Attempt;
 use std::collections::LinkedList;
 
-/// What a pass has drawn and tried, what it noted, and its room. It exists in proofs alone; no value of it is made.
+/// What a pass has drawn and tried, what it noted, its room, and how often it failed in a row. It exists in proofs alone; no value of it is made.
 pub struct View {
     /// The numbers that it drew.
     pub drawn: LinkedList<u32>,
@@ -17,4 +17,6 @@ pub struct View {
     pub counts: LinkedList<(u32, u32)>,
     /// So many more draws, begins and fails it may make.
     pub room: u64,
+    /// Its fails since its last commit.
+    pub streak: u32,
 }

@@ -46,6 +46,7 @@ pub record BeforeEnd (j : Job) (f : Fate) : Type 0 where
   pub ready : Ready job
   pub tasks : length job.tasks ≡ length j.tasks
   pub workers : length job.workers ≡ length j.workers
+  pub limit : job.limit ≡ j.limit
   pub swap : Swaps (attempt task number Unended) (attempt task number f) (tried_of job) (tried_of j)
 
 -- worker w with its attempt a at task t under way again
@@ -125,6 +126,7 @@ before_late j w t a front back r l e =
         allowed = and_from (runs i w) (holds i w t a && is_some (task_of i t).winner) runs_still (and_from (holds i w t a) (is_some (task_of i t).winner) held won);
         done = record {
           tasks = refl;
+          limit = refl;
           next = refl;
           count = length-set (set ws w (reopened ws w t a front back)) w _ ∙ length-set ws w _;
           workers = workers_back ws w _ _ l (reopened-settled ws w t a Late front back l e);
@@ -133,6 +135,7 @@ before_late j w t a front back r l e =
       ready = record { entries = entries; run = reopened-all ws w t a front back l r.run; total = r.total };
       tasks = refl;
       workers = length-set ws w _;
+      limit = refl;
       swap = swap;
     }
   where
@@ -190,6 +193,7 @@ before_fail j w t a front back r l e =
         allowed = and_from (runs i w) (has_room i && holds i w t a) runs_still (and_from (has_room i) (holds i w t a) room held);
         done = record {
           tasks = tasks_back ts t x0 _ (ap {A = Task} {B = Task} (λ y. record y { failed = y.failed + 1 }) here ∙ ap {A = ℕ} {B = Task} (λ n. record x { failed = n }) one_less);
+          limit = refl;
           next = refl;
           count = length-set (set ws w (reopened ws w t a front back)) w _ ∙ length-set ws w _;
           workers = workers_back ws w _ _ l (reopened-settled ws w t a Failed front back l e);
@@ -198,6 +202,7 @@ before_fail j w t a front back r l e =
       ready = record { entries = entries; run = reopened-all ws w t a front back l r.run; total = omega arith };
       tasks = length-set ts t x0;
       workers = length-set ws w _;
+      limit = refl;
       swap = swap;
     }
   where
@@ -247,6 +252,7 @@ before_commit j w t a front back r none l e =
         allowed = and_from (runs i w) (holds i w t a && is_none (task_of i t).winner) runs_still (and_from (holds i w t a) (is_none (task_of i t).winner) held open_yet);
         done = record {
           tasks = tasks_back ts t x0 _ (ap {A = Task} {B = Task} (λ y. record y { winner = Some a }) here ∙ ap {A = Option ℕ} {B = Task} (λ o. record x { winner = o }) (sym winner));
+          limit = refl;
           next = refl;
           count = length-set (set ws w (reopened ws w t a front back)) w _ ∙ length-set ws w _;
           workers = workers_back ws w _ _ l (reopened-settled ws w t a Won front back l e);
@@ -255,6 +261,7 @@ before_commit j w t a front back r none l e =
       ready = record { entries = entries; run = reopened-all ws w t a front back l r.run; total = omega arith };
       tasks = length-set ts t x0;
       workers = length-set ws w _;
+      limit = refl;
       swap = swap;
     }
   where
@@ -280,6 +287,7 @@ pub record BeforeBegin (j : Job) (t a : ℕ) : Type 0 where
   pub ready : Ready job
   pub tasks : length job.tasks ≡ length j.tasks
   pub workers : length job.workers ≡ length j.workers
+  pub limit : job.limit ≡ j.limit
   pub begun : (task_of job t).begun ≡ a
   pub others : (u : ℕ) → u ≢ t → (task_of job u).begun ≡ (task_of j u).begun
   pub adds : Adds (attempt t a Unended) (tried_of job) (tried_of j)
@@ -335,6 +343,7 @@ before_begin j w t a front back r last l e =
         allowed = and_from (runs i w) (has_room i && (nat_lt t (length i.tasks) && nat_lt t j.next)) runs_still (and_from (has_room i) (nat_lt t (length i.tasks) && nat_lt t j.next) room (and_from (nat_lt t (length i.tasks)) (nat_lt t j.next) in_job drawn_yet));
         done = record {
           tasks = tasks_back ts t x0 _ (ap {A = Task} {B = Task} (λ y. record y { begun = y.begun + 1 }) here ∙ ap {A = ℕ} {B = Task} (λ n. record x { begun = n }) (sym last));
+          limit = refl;
           next = refl;
           count = length-set (set ws w v0) w _ ∙ length-set ws w _;
           workers = workers_back ws w v0 _ l (subst (λ z. P (task_of i t) z) (sym worker_here) (subst (λ y. P y v0) (sym here) same));
@@ -343,6 +352,7 @@ before_begin j w t a front back r last l e =
       ready = record { entries = entries; run = All-set (λ z. z.status ≡ Running) ws w v0 (r.run w no_worker l) r.run; total = omega arith };
       tasks = length-set ts t x0;
       workers = length-set ws w _;
+      limit = refl;
       begun = ap (λ y. y.begun) here;
       others = λ u n. ap (λ y. y.begun) (get_or-set_other ts t u x0 untried n);
       adds = adds;
@@ -357,6 +367,7 @@ pub record BeforeDraw (j : Job) (n : ℕ) : Type 0 where
   pub tasks : job.tasks ≡ j.tasks
   pub next : job.next ≡ n
   pub workers : length job.workers ≡ length j.workers
+  pub limit : job.limit ≡ j.limit
 
 pub before_draw : (j : Job) (w n : ℕ) (front back : List ℕ) → Ready j → j.next ≡ n + 1 → ((t : ℕ) → (task_of j t).begun ≡ 0) → w < length j.workers → (worker_of j w).drawn ≡ front ++ n ∷ back → BeforeDraw j n
 before_draw j w n front back r last none l e =
@@ -391,6 +402,7 @@ before_draw j w n front back r last none l e =
         allowed = and_from (runs i w) (has_room i) runs_still room;
         done = record {
           tasks = refl;
+          limit = refl;
           next = sym last;
           count = length-set (set ws w v0) w _ ∙ length-set ws w _;
           workers = workers_back ws w v0 _ l (subst P (sym worker_here) same);
@@ -400,4 +412,5 @@ before_draw j w n front back r last none l e =
       tasks = refl;
       next = refl;
       workers = length-set ws w _;
+      limit = refl;
     }

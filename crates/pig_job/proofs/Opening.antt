@@ -54,7 +54,7 @@ no_winner (Some b) h =
 once_below-zero : (n a : ℕ) → n ≡ 0 → once_below n a ≡ 0
 once_below-zero n a e = grind (arith, nat_tests)
 
-pub is_opening : (j : Job) → Ready j → j.next ≡ 0 → ((t : ℕ) → (task_of j t).begun ≡ 0) → opening (length j.tasks) (length j.workers) ≡ j
+pub is_opening : (j : Job) → Ready j → j.next ≡ 0 → ((t : ℕ) → (task_of j t).begun ≡ 0) → opening (length j.tasks) (length j.workers) j.limit ≡ j
 is_opening j r e none =
     let k = r.entries in
     let drawn = no_elements (λ x y. y == x) (drawn_of j) (λ x. eq-eqb x x refl) (λ x. k.draws x ∙ once_below-zero j.next x e) in
@@ -68,7 +68,7 @@ is_opening j r e none =
     let at_winner : Option ℕ → Task = λ o. record { begun = 0; failed = 0; winner = o } in
     ap (λ n. at_begun n (task_of j u)) (none u) ∙ ap at_failed failed ∙ ap at_winner winner in
     let tasks = tasks_untried j.tasks task in
-    let at_tasks : List Task → Job = λ ts. record { tasks = ts; next = 0; workers = replicate (length j.workers) fresh } in
-    let at_next : ℕ → Job = λ n. record { tasks = j.tasks; next = n; workers = replicate (length j.workers) fresh } in
-    let at_workers : List WorkerState → Job = λ vs. record { tasks = j.tasks; next = j.next; workers = vs } in
+    let at_tasks : List Task → Job = λ ts. record { tasks = ts; limit = j.limit; next = 0; workers = replicate (length j.workers) fresh } in
+    let at_next : ℕ → Job = λ n. record { tasks = j.tasks; limit = j.limit; next = n; workers = replicate (length j.workers) fresh } in
+    let at_workers : List WorkerState → Job = λ vs. record { tasks = j.tasks; limit = j.limit; next = j.next; workers = vs } in
     ap at_tasks (sym tasks) ∙ ap at_next (sym e) ∙ ap at_workers (sym workers)

@@ -29,10 +29,10 @@ runs_push i [] j e k r s = (k, (subst (λ z. IsStep z e k) (sym r) s, refl))
 runs_push i (d ∷ es) j e k (m, (t, r)) s = (m, (t, runs_push m es j e k r s))
 
 -- the same, from the opening of a job that is as large
-run_on : (i : Job) (es : List Event) (e : Event) (j : Job) → length i.tasks ≡ length j.tasks → length i.workers ≡ length j.workers → Runs (opening (length i.tasks) (length i.workers)) es i → IsStep i e j → Runs (opening (length j.tasks) (length j.workers)) (es ++ e ∷ []) j
-run_on i es e j ts ws r s =
-    let P : ℕ → ℕ → Type 0 = λ n k. Runs (opening n k) (es ++ e ∷ []) j in
-    subst (λ k. P (length j.tasks) k) ws (subst (λ n. P n (length i.workers)) ts (runs_push (opening (length i.tasks) (length i.workers)) es i e j r s))
+run_on : (i : Job) (es : List Event) (e : Event) (j : Job) → length i.tasks ≡ length j.tasks → length i.workers ≡ length j.workers → i.limit ≡ j.limit → Runs (opening (length i.tasks) (length i.workers) i.limit) es i → IsStep i e j → Runs (opening (length j.tasks) (length j.workers) j.limit) (es ++ e ∷ []) j
+run_on i es e j ts ws ls r s =
+    let P : ℕ → ℕ → ℕ → Type 0 = λ n k l. Runs (opening n k l) (es ++ e ∷ []) j in
+    subst (λ l. P (length j.tasks) (length j.workers) l) ls (subst (λ k. P (length j.tasks) k i.limit) ws (subst (λ n. P n (length i.workers) i.limit) ts (runs_push (opening (length i.tasks) (length i.workers) i.limit) es i e j r s)))
 
 all_push : (p : Event → Bool) (es : List Event) (e : Event) → list_all p es ≡ true → p e ≡ true → list_all p (es ++ e ∷ []) ≡ true
 all_push p es e h q = list_all-append p es (e ∷ []) ∙ and_from (list_all p es) (list_all p (e ∷ [])) h (and_from (p e) true q refl)
@@ -41,7 +41,7 @@ all_push p es e h q = list_all-append p es (e ∷ []) ∙ and_from (list_all p e
 record Drawn (j : Job) : Type 0 where
   draws : List Event
   are_draws : list_all is_draw draws ≡ true
-  run : Runs (opening (length j.tasks) (length j.workers)) draws j
+  run : Runs (opening (length j.tasks) (length j.workers) j.limit) draws j
 
 -- the last number can be taken back where no task was begun
 before_some_draw : (n : ℕ) (j : Job) → Ready j → j.next ≡ n + 1 → ((t : ℕ) → (task_of j t).begun ≡ 0) → BeforeDraw j n
@@ -68,7 +68,7 @@ draws_to (suc n) j r e none = more (λ i. draws_to n i) (before_some_draw n j r 
         record {
           draws = d.draws ++ event.Draw b.worker ∷ [];
           are_draws = all_push is_draw d.draws (event.Draw b.worker) d.are_draws refl;
-          run = run_on b.job d.draws (event.Draw b.worker) j (ap length b.tasks) b.workers d.run b.step;
+          run = run_on b.job d.draws (event.Draw b.worker) j (ap length b.tasks) b.workers b.limit d.run b.step;
         }
 
 -- the attempt has ended
@@ -87,7 +87,7 @@ record Begun (m : ℕ) (j : Job) : Type 0 where
   are_begins : list_all is_begin begins ≡ true
   by_task : IsNonDecreasingBy begun_task begins
   below : All (λ e. begun_task e < m) begins
-  run : Runs (opening (length j.tasks) (length j.workers)) (draws ++ begins) j
+  run : Runs (opening (length j.tasks) (length j.workers) j.limit) (draws ++ begins) j
 
 -- the last attempt of task m can be taken back
 before_some_begin : (m a : ℕ) (j : Job) → Ready j → count_by is_ended (tried_of j) ≡ 0 → (task_of j m).begun ≡ a + 1 → BeforeBegin j m a
@@ -128,7 +128,7 @@ begins_more m a j b d =
       are_begins = all_push is_begin d.begins begin d.are_begins refl;
       by_task = IsNonDecreasingBy-push begun_task d.begins begin d.by_task (λ x l. let q = d.below (length d.begins - 1) x (omega arith) in omega arith);
       below = All-append (λ e. begun_task e < suc m) d.begins (begin ∷ []) d.below (λ k x l. subst (λ n. begun_task (get_or (begin ∷ []) n x) < suc m) (zero_is k l) (omega arith));
-      run = subst (λ es. Runs (opening (length j.tasks) (length j.workers)) es j) (append_assoc d.draws d.begins (begin ∷ [])) (run_on b.job (d.draws ++ d.begins) begin j b.tasks b.workers d.run b.step);
+      run = subst (λ es. Runs (opening (length j.tasks) (length j.workers) j.limit) es j) (append_assoc d.draws d.begins (begin ∷ [])) (run_on b.job (d.draws ++ d.begins) begin j b.tasks b.workers b.limit d.run b.step);
     }
   where
     zero_is : (k : ℕ) → k < 1 → 0 ≡ k
@@ -165,7 +165,7 @@ begins_to zero j r open_all none =
       are_begins = refl;
       by_task = IsNonDecreasingBy-short begun_task [] (omega arith);
       below = λ k x l. absurd (omega arith);
-      run = subst (λ es. Runs (opening (length j.tasks) (length j.workers)) es j) (sym (append-nil d.draws)) d.run;
+      run = subst (λ es. Runs (opening (length j.tasks) (length j.workers) j.limit) es j) (sym (append-nil d.draws)) d.run;
     }
 begins_to (suc m) j r open_all none = begins_at m (begins_to m) (task_of j m).begun j r open_all none refl
 
@@ -178,7 +178,7 @@ record Committed (j : Job) : Type 0 where
   are_begins : list_all is_begin begins ≡ true
   by_task : IsNonDecreasingBy begun_task begins
   are_commits : list_all is_commit commits ≡ true
-  run : Runs (opening (length j.tasks) (length j.workers)) (draws ++ (begins ++ commits)) j
+  run : Runs (opening (length j.tasks) (length j.workers) j.limit) (draws ++ (begins ++ commits)) j
 
 -- an ended attempt is lost or has won
 ended-counts : (xs : List Attempt) → count_by is_ended xs ≡ count_by is_lost xs + count_by (λ x. has_won x.fate) xs
@@ -237,9 +237,9 @@ commits_more j b d = record {
   are_begins = d.are_begins;
   by_task = d.by_task;
   are_commits = all_push is_commit d.commits b.event d.are_commits b.ends;
-  run = subst (λ es. Runs (opening (length j.tasks) (length j.workers)) es j)
+  run = subst (λ es. Runs (opening (length j.tasks) (length j.workers) j.limit) es j)
       (append_assoc d.draws (d.begins ++ d.commits) (b.event ∷ []) ∙ ap (λ es. d.draws ++ es) (append_assoc d.begins d.commits (b.event ∷ [])))
-      (run_on b.job (d.draws ++ (d.begins ++ d.commits)) b.event j b.tasks b.workers d.run b.step);
+      (run_on b.job (d.draws ++ (d.begins ++ d.commits)) b.event j b.tasks b.workers b.limit d.run b.step);
 }
 
 commits_to : (k : ℕ) (j : Job) → Ready j → count_by is_lost (tried_of j) ≡ 0 → count_by (λ x. has_won x.fate) (tried_of j) ≡ k → Committed j
@@ -254,7 +254,7 @@ commits_to zero j r none e =
       are_begins = d.are_begins;
       by_task = d.by_task;
       are_commits = refl;
-      run = subst (λ es. Runs (opening (length j.tasks) (length j.workers)) (d.draws ++ es) j) (sym (append-nil d.begins)) d.run;
+      run = subst (λ es. Runs (opening (length j.tasks) (length j.workers) j.limit) (d.draws ++ es) j) (sym (append-nil d.begins)) d.run;
     }
 commits_to (suc k) j r none e = more (λ i. commits_to k i) (before_some_win j r none (omega arith))
   where
@@ -298,10 +298,10 @@ ends_more j f h b d = record {
   by_task = d.by_task;
   are_commits = d.are_commits;
   are_ends = all_push is_lost_end d.ends b.event d.are_ends (is_end f b.event h b.ends);
-  run = subst (λ es. Runs (opening (length j.tasks) (length j.workers)) es j)
+  run = subst (λ es. Runs (opening (length j.tasks) (length j.workers) j.limit) es j)
       (append_assoc d.draws (d.begins ++ (d.commits ++ d.ends)) (b.event ∷ [])
       ∙ ap (λ es. d.draws ++ es) (append_assoc d.begins (d.commits ++ d.ends) (b.event ∷ []) ∙ ap (λ es. d.begins ++ es) (append_assoc d.commits d.ends (b.event ∷ []))))
-      (run_on b.job (d.draws ++ (d.begins ++ (d.commits ++ d.ends))) b.event j b.tasks b.workers d.run b.step);
+      (run_on b.job (d.draws ++ (d.begins ++ (d.commits ++ d.ends))) b.event j b.tasks b.workers b.limit d.run b.step);
 }
   where
     is_end : (g : Fate) (e : Event) → is_lost_fate g ≡ true → ends_in g e ≡ true → is_lost_end e ≡ true
@@ -323,7 +323,7 @@ ends_to zero j r e =
       by_task = d.by_task;
       are_commits = d.are_commits;
       are_ends = refl;
-      run = subst (λ es. Runs (opening (length j.tasks) (length j.workers)) (d.draws ++ (d.begins ++ es)) j) (sym (append-nil d.commits)) d.run;
+      run = subst (λ es. Runs (opening (length j.tasks) (length j.workers) j.limit) (d.draws ++ (d.begins ++ es)) j) (sym (append-nil d.commits)) d.run;
     }
 ends_to (suc k) j r e = more (λ i. ends_to k i) (before_some_loss j r (omega arith))
   where

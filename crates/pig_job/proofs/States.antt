@@ -11,7 +11,7 @@ use Rattle.pig_job.specs.declared.Fate.{Fate}
 use Rattle.pig_job.specs.declared.Fate.TheVariants.{Unended, Won, Late, Failed}
 use Rattle.pig_job.specs.declared.Task.{Task}
 use Rattle.pig_job.specs.Rule.{is_attempt, is_open, is_unended, settle}
-use Rattle.pig_job.specs.Job.{WorkerState, no_worker, untried, is_running, failure_limit, has_winner, is_given_up}
+use Rattle.pig_job.specs.Job.{WorkerState, no_worker, untried, is_running, has_winner, is_given_up}
 use Rattle.pig_job.proofs.Bag.{SameBag, Adds, Swaps}
 use Rattle.pig_job.proofs.Keeps.{attempt}
 
@@ -122,8 +122,8 @@ kept_part part ts t x e u = elim (cases_eq u t) as (λ _. part (task_at (set ts 
 ]
 
 -- that every task has a winner, or one is given up, lasts
-abbrev pub over : List Task → Bool
-over ts = list_all has_winner ts || list_any is_given_up ts
+abbrev pub over : ℕ → List Task → Bool
+over l ts = list_all has_winner ts || list_any (is_given_up l) ts
 
 all_won-set : (ts : List Task) (t : ℕ) (x : Task) → (has_winner (task_at ts t) ≡ true → has_winner x ≡ true) → list_all has_winner ts ≡ true → list_all has_winner (set ts t x) ≡ true
 all_won-set [] t x w h = refl
@@ -134,21 +134,21 @@ all_won-set (y ∷ ys) (suc t) x w h =
     let p = and_parts (has_winner y) (list_all has_winner ys) h in
     and_from (has_winner y) (list_all has_winner (set ys t x)) p.0 (all_won-set ys t x w p.1)
 
-any_given_up-set : (ts : List Task) (t : ℕ) (x : Task) → (task_at ts t).failed ≤ x.failed → list_any is_given_up ts ≡ true → list_any is_given_up (set ts t x) ≡ true
-any_given_up-set [] t x f h = h
-any_given_up-set (y ∷ ys) zero x f h = elim (or_cases (is_given_up y) (list_any is_given_up ys) h) as (λ _. list_any is_given_up (x ∷ ys) ≡ true) [
-  | inl p ↦ or_left (is_given_up x) (list_any is_given_up ys) (le-leb failure_limit x.failed (let q = leb-true failure_limit y.failed p in omega arith))
-  | inr p ↦ or_right (is_given_up x) (list_any is_given_up ys) p
+any_given_up-set : (l : ℕ) (ts : List Task) (t : ℕ) (x : Task) → (task_at ts t).failed ≤ x.failed → list_any (is_given_up l) ts ≡ true → list_any (is_given_up l) (set ts t x) ≡ true
+any_given_up-set l [] t x f h = h
+any_given_up-set l (y ∷ ys) zero x f h = elim (or_cases (is_given_up l y) (list_any (is_given_up l) ys) h) as (λ _. list_any (is_given_up l) (x ∷ ys) ≡ true) [
+  | inl p ↦ or_left (is_given_up l x) (list_any (is_given_up l) ys) (le-leb l x.failed (let q = leb-true l y.failed p in omega arith))
+  | inr p ↦ or_right (is_given_up l x) (list_any (is_given_up l) ys) p
 ]
-any_given_up-set (y ∷ ys) (suc t) x f h = elim (or_cases (is_given_up y) (list_any is_given_up ys) h) as (λ _. list_any is_given_up (y ∷ set ys t x) ≡ true) [
-  | inl p ↦ or_left (is_given_up y) (list_any is_given_up (set ys t x)) p
-  | inr p ↦ or_right (is_given_up y) (list_any is_given_up (set ys t x)) (any_given_up-set ys t x f p)
+any_given_up-set l (y ∷ ys) (suc t) x f h = elim (or_cases (is_given_up l y) (list_any (is_given_up l) ys) h) as (λ _. list_any (is_given_up l) (y ∷ set ys t x) ≡ true) [
+  | inl p ↦ or_left (is_given_up l y) (list_any (is_given_up l) (set ys t x)) p
+  | inr p ↦ or_right (is_given_up l y) (list_any (is_given_up l) (set ys t x)) (any_given_up-set l ys t x f p)
 ]
 
-pub over-set : (ts : List Task) (t : ℕ) (x : Task) → (has_winner (task_at ts t) ≡ true → has_winner x ≡ true) → (task_at ts t).failed ≤ x.failed → over ts ≡ true → over (set ts t x) ≡ true
-over-set ts t x w f h = elim (or_cases (list_all has_winner ts) (list_any is_given_up ts) h) as (λ _. over (set ts t x) ≡ true) [
-  | inl p ↦ or_left (list_all has_winner (set ts t x)) (list_any is_given_up (set ts t x)) (all_won-set ts t x w p)
-  | inr p ↦ or_right (list_all has_winner (set ts t x)) (list_any is_given_up (set ts t x)) (any_given_up-set ts t x f p)
+pub over-set : (l : ℕ) (ts : List Task) (t : ℕ) (x : Task) → (has_winner (task_at ts t) ≡ true → has_winner x ≡ true) → (task_at ts t).failed ≤ x.failed → over l ts ≡ true → over l (set ts t x) ≡ true
+over-set l ts t x w f h = elim (or_cases (list_all has_winner ts) (list_any (is_given_up l) ts) h) as (λ _. over l (set ts t x) ≡ true) [
+  | inl p ↦ or_left (list_all has_winner (set ts t x)) (list_any (is_given_up l) (set ts t x)) (all_won-set ts t x w p)
+  | inr p ↦ or_right (list_all has_winner (set ts t x)) (list_any (is_given_up l) (set ts t x)) (any_given_up-set l ts t x f p)
 ]
 
 -- lists of workers with the same entries, worker by worker

@@ -1,16 +1,16 @@
 -- A job as a state machine: its states, its steps, and the states that lists of steps reach.
-use Rattle.std.specs.Prelude.{◌≡◌, ℕ, ◌+◌, ◌^◌, Bool, true, false, ◌&&◌, ◌||◌, not, nat_lt, nat_le, Some, None, is_some, is_none, List, [], ◌∷◌, ◌++◌, length, replicate, sum_by, All, IsPermutation, slice_set, slice_index_or}
+use Rattle.std.specs.Prelude.{◌≡◌, ℕ, ◌+◌, ◌^◌, Bool, true, false, ◌&&◌, ◌||◌, not, nat_lt, nat_le, Some, None, is_some, is_none, List, [], ◌∷◌, ◌++◌, length, replicate, count_by, sum_by, All, IsPermutation, slice_set, slice_index_or}
 use Rattle.std.specs.List.{list_all, list_any, flat_map}
 use Rattle.std.specs.List.Sorted.{IsNonDecreasingBy}
 use Rattle.pig_job.specs.declared.Attempt.{Attempt}
 use Rattle.pig_job.specs.declared.Event.{Event}
-use Rattle.pig_job.specs.declared.Event.TheVariants.{Draw, Begin, Commit, Late, Fail, Leave, Abort}
+use Rattle.pig_job.specs.declared.Event.TheVariants.{Draw, Begin, Commit, Late, Fail, Leave, Aside, Abort}
 use Rattle.pig_job.specs.declared.Fate.{Fate}
 use Rattle.pig_job.specs.declared.Fate.TheVariants as fate
 use Rattle.pig_job.specs.declared.Status.{Status}
-use Rattle.pig_job.specs.declared.Status.TheVariants.{Running, Left, Aborted}
+use Rattle.pig_job.specs.declared.Status.TheVariants.{Running, Left, PutAside, Aborted}
 use Rattle.pig_job.specs.declared.Task.{Task}
-use Rattle.pig_job.specs.Rule.{Words, Kept, is_unended, is_open, settle}
+use Rattle.pig_job.specs.Rule.{Words, Kept, is_unended, has_failed, is_open, settle}
 
 -- a worker: the numbers that it drew, its attempts, and whether it still runs
 pub record WorkerState : Type 0 where
@@ -18,9 +18,10 @@ pub record WorkerState : Type 0 where
   pub tried : List Attempt
   pub status : Status
 
--- a job: its tasks, the next number to draw, and its workers
+-- a job: its tasks, the number of failures of one task that end it, the next number to draw, and its workers
 pub record Job : Type 0 where
   pub tasks : List Task
+  pub limit : ℕ
   pub next : ℕ
   pub workers : List WorkerState
 
@@ -36,9 +37,9 @@ fresh = record { drawn = []; tried = []; status = Running }
 abbrev pub no_worker : WorkerState
 no_worker = record { drawn = []; tried = []; status = Aborted }
 
--- the job of n tasks and k workers as it opens
-abbrev pub opening : ℕ → ℕ → Job
-opening n k = record { tasks = replicate n untried; next = 0; workers = replicate k fresh }
+-- the job of n tasks and k workers with the limit l as it opens
+abbrev pub opening : ℕ → ℕ → ℕ → Job
+opening n k l = record { tasks = replicate n untried; limit = l; next = 0; workers = replicate k fresh }
 
 -- the job's task t
 abbrev pub task_of : Job → ℕ → Task
@@ -70,14 +71,15 @@ tried_of j = flat_map (λ v. v.tried) j.workers
 abbrev pub total_of : Job → ℕ
 total_of j = j.next + sum_by (λ t. t.begun) j.tasks + sum_by (λ t. t.failed) j.tasks
 
--- so many failures of one task end the job
-abbrev pub failure_limit : ℕ
-failure_limit = 4
+-- a worker with so many failed attempts may be put aside
+abbrev pub aside_limit : ℕ
+aside_limit = 3
 
 -- the worker still runs
 abbrev pub is_running : Status → Bool
 is_running Running = true
 is_running Left = false
+is_running PutAside = false
 is_running Aborted = false
 
 -- worker w is there, and runs
@@ -100,13 +102,17 @@ is_busy j w = list_any (λ x. is_unended x.fate) (worker_of j w).tried
 abbrev pub has_winner : Task → Bool
 has_winner t = is_some t.winner
 
--- the task failed too often
-abbrev pub is_given_up : Task → Bool
-is_given_up t = nat_le failure_limit t.failed
+-- worker w has failed often enough to be put aside
+abbrev pub is_failing : Job → ℕ → Bool
+is_failing j w = nat_le aside_limit (count_by (λ x. has_failed x.fate) (worker_of j w).tried)
+
+-- the task has failed as often as the limit l says
+abbrev pub is_given_up : ℕ → Task → Bool
+is_given_up l t = nat_le l t.failed
 
 -- every task has a winner, or some task is given up
 abbrev pub is_over : Job → Bool
-is_over j = list_all has_winner j.tasks || list_any is_given_up j.tasks
+is_over j = list_all has_winner j.tasks || list_any (is_given_up j.limit) j.tasks
 
 -- the event is a step of the job
 abbrev pub allows : Job → Event → Bool
@@ -116,6 +122,7 @@ allows j (Commit w t a) = runs j w && (holds j w t a && is_none (task_of j t).wi
 allows j (Late w t a) = runs j w && (holds j w t a && is_some (task_of j t).winner)
 allows j (Fail w t a) = runs j w && (has_room j && holds j w t a)
 allows j (Leave w) = runs j w && (not (is_busy j w) && is_over j)
+allows j (Aside w) = runs j w && (not (is_busy j w) && is_failing j w)
 allows j (Abort w) = runs j w
 
 -- the job with task t and worker w as given
@@ -147,6 +154,7 @@ after j (Fail w t a) =
     let x = task_of j t in
     with_both j t (record x { failed = x.failed + 1 }) w (settled (worker_of j w) t a fate.Failed)
 after j (Leave w) = with_worker j w (record (worker_of j w) { status = Left })
+after j (Aside w) = with_worker j w (record (worker_of j w) { status = PutAside })
 after j (Abort w) = with_worker j w (record (worker_of j w) { status = Aborted })
 
 -- the same worker: the order of its numbers and of its attempts does not matter
@@ -158,6 +166,7 @@ pub record IsSameWorker (v w : WorkerState) : Type 0 where
 -- the same job, but for the order of what its workers drew and tried
 pub record IsSameJob (i j : Job) : Type 0 where
   pub tasks : i.tasks ≡ j.tasks
+  pub limit : i.limit ≡ j.limit
   pub next : i.next ≡ j.next
   pub count : length i.workers ≡ length j.workers
   pub workers : (w : ℕ) → IsSameWorker (worker_of i w) (worker_of j w)
@@ -177,6 +186,8 @@ pub record IsKept (j : Job) : Type 0 where
   pub entries : Kept (words_of j) (drawn_of j) (tried_of j)
   -- a worker that has left has no attempt under way, and the job is over
   pub leavers : (w : ℕ) → (worker_of j w).status ≡ Left → (is_busy j w ≡ false) × (is_over j ≡ true)
+  -- one that was put aside has none either, and has failed often enough
+  pub asides : (w : ℕ) → (worker_of j w).status ≡ PutAside → (is_busy j w ≡ false) × (is_failing j w ≡ true)
 
 -- each worker of the job runs
 abbrev pub AllRun : Job → Type 0
@@ -220,4 +231,4 @@ pub record IsReached (j : Job) : Type 0 where
   pub by_task : IsNonDecreasingBy begun_task begins
   pub are_commits : list_all is_commit commits ≡ true
   pub are_ends : list_all is_lost_end ends ≡ true
-  pub run : Runs (opening (length j.tasks) (length j.workers)) (draws ++ (begins ++ (commits ++ ends))) j
+  pub run : Runs (opening (length j.tasks) (length j.workers) j.limit) (draws ++ (begins ++ (commits ++ ends))) j

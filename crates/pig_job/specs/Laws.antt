@@ -10,7 +10,7 @@ StepsKeepRule = (i j : Job) (e : Event) → IsKept i → IsStep i e j → IsKept
 
 -- every list of steps from an opening leads to a job that meets the rule
 abbrev pub RunsKeepRule : Type 0
-RunsKeepRule = (n k : ℕ) (es : List Event) (j : Job) → Runs (opening n k) es j → IsKept j
+RunsKeepRule = (n k l : ℕ) (es : List Event) (j : Job) → Runs (opening n k l) es j → IsKept j
 
 -- every job that meets the rule of its entries, whose workers all run and whose total is within its bound, is
 -- reached from its opening by steps in order

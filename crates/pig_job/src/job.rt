@@ -1,8 +1,8 @@
 //! The state of a job, and its steps.
 
-ghost use Rattle.std.specs.Prelude.{◌≡◌, ◌↔◌, ◌&&◌, false, length, OnOk, OnErr, IfOk, IsErrOf, is_some, nat_lt};
+ghost use Rattle.std.specs.Prelude.{◌≡◌, ◌<◌, ◌↔◌, ◌&&◌, false, length, OnOk, OnErr, IfOk, IsErrOf, is_some, nat_lt};
 ghost use Rattle.std.specs.List.{list_all, list_any};
-ghost use Rattle.pig_job.specs.Job.{opening, allows, after, runs, has_room, holds, is_busy, has_winner, is_given_up, is_over, task_of, IsStep};
+ghost use Rattle.pig_job.specs.Job.{opening, allows, after, runs, has_room, holds, is_busy, is_failing, has_winner, is_given_up, is_over, task_of, IsStep};
 
 use crate::worker::Worker;
 use crate::{Attempt, Event, Fate, Status, Task};
@@ -12,6 +12,9 @@ use std::marker::Model;
 /// So much may be drawn, begun and failed in one job, all together.
 const STEP_LIMIT: u32 = 2_147_483_648;
 
+/// A worker with so many failed attempts may be put aside.
+const ASIDE_LIMIT: usize = 3;
+
 /// Why a step was refused. The job is then as it was.
 #[derive(Clone, Copy, Debug, PartialEq)]
 pub enum JobFault {
@@ -20,10 +23,11 @@ pub enum JobFault {
     OutOfMemory,
 }
 
-/// A job: its tasks and its workers. Contracts see it as a `Job`.
+/// A job: its tasks, how often one of them may fail, and its workers. Contracts see it as a `Job`.
 #[derive(Drop)]
 pub struct Core {
     tasks: Vec<Task>,
+    limit: u32,
     next: u32,
     workers: Vec<Worker>,
     total: u32,
@@ -35,15 +39,17 @@ impl Model for Core {
 
     ghost Value = { Job };
 
-    ghost view = { λ c. record { tasks = c.tasks.items; next = c.next; workers = c.workers.items } };
+    ghost view = { λ c. record { tasks = c.tasks.items; limit = c.limit; next = c.next; workers = c.workers.items } };
 
-    ghost invariant = { λ c. (c.total ≡ total_of (record { tasks = c.tasks.items; next = c.next; workers = c.workers.items })) × (c.total ≤ 2 ^ 31) };
+    ghost invariant = { λ c. (c.total ≡ total_of (record { tasks = c.tasks.items; limit = c.limit; next = c.next; workers = c.workers.items })) × (c.total ≤ 2 ^ 31) × (1 ≤ c.limit) };
 }
 
 impl Core {
-    /// A job of `tasks` tasks, of which none was drawn, and `workers` workers, numbered from 0.
-    pub fn open(alloc: Global, tasks: u32, workers: u32) -> Result<Core, AllocError>
-        ensures { IfOk result (λ job. job ≡ opening tasks workers) }
+    /// A job of `tasks` tasks, of which none was drawn, and `workers` workers, numbered from 0. It ends where one
+    /// task has failed `limit` times.
+    pub fn open(alloc: Global, tasks: u32, workers: u32, limit: u32) -> Result<Core, AllocError>
+        requires { 0 < limit }
+        ensures { IfOk result (λ job. job ≡ opening tasks workers limit) }
     {
         let untried = Task {
             begun: 0,
@@ -57,6 +63,7 @@ impl Core {
         }
         Ok(Core {
             tasks: list,
+            limit,
             next: 0,
             workers: crew,
             total: 0,
@@ -88,6 +95,7 @@ impl Core {
                 attempt,
             } => self.fail(worker, task, attempt),
             Event::Leave { worker } => self.leave(worker),
+            Event::Aside { worker } => self.put_aside(worker),
             Event::Abort { worker } => self.abort(worker),
         }
     }
@@ -131,6 +139,15 @@ impl Core {
         }
     }
 
+    fn is_failing(&self, worker: u32) -> bool
+        ensures { result ≡ is_failing self.now worker }
+    {
+        match self.workers.get(worker as usize) {
+            Some(found) => found.failures() >= ASIDE_LIMIT,
+            None => false,
+        }
+    }
+
     fn is_won(&self, task: u32) -> bool
         ensures { result ≡ is_some (task_of self.now task).winner }
     {
@@ -153,9 +170,10 @@ impl Core {
     }
 
     fn is_some_given_up(&self) -> bool
-        ensures { result ≡ list_any is_given_up self.now.tasks }
+        ensures { result ≡ list_any (is_given_up self.now.limit) self.now.tasks }
     {
-        self.tasks.iter().any(|task| task.is_given_up())
+        let limit = self.limit;
+        self.tasks.iter().any(|task| task.is_given_up(limit))
     }
 
     fn draw(&mut self, worker: u32) -> Result<(), JobFault>
@@ -255,6 +273,19 @@ impl Core {
             return Err(JobFault::NotNow);
         }
         self.workers[worker as usize].stop(Status::Left);
+        Ok(())
+    }
+
+    fn put_aside(&mut self, worker: u32) -> Result<(), JobFault>
+        ensures refused { IsErrOf result JobFault.NotNow
+            ↔ (allows self.old (Event.Aside worker) ≡ false) }
+        ensures taken { OnOk result (self.new ≡ after self.old (Event.Aside worker)) }
+        ensures unchanged { OnErr result (self.new ≡ self.old) }
+    {
+        if !self.runs(worker) || self.is_busy(worker) || !self.is_failing(worker) {
+            return Err(JobFault::NotNow);
+        }
+        self.workers[worker as usize].stop(Status::PutAside);
         Ok(())
     }
 

@@ -2,7 +2,8 @@
 //!
 //! A worker draws tasks in order, begins attempts at tasks that were drawn, and ends each attempt: it wins its
 //! task, comes late after another has won, or fails. A worker may leave once every task is won or some task has
-//! failed too often, and it may abort at any time.
+//! failed as often as the job's limit says. It may be put aside once three of its attempts have failed, and it may
+//! abort at any time.
 //!
 //! `Core` holds such a job, and `Core::step` takes exactly the events that are steps of the job as it stands. It
 //! refuses each other one, and leaves the job as it was. Two laws hold of the definitions (`steps_keep_rule` and
@@ -16,7 +17,7 @@
 
 ghost use Rattle.std.specs.Prelude.{◌≡◌};
 ghost use Rattle.pig_job.specs.Job.{has_winner, is_given_up};
-ghost use Rattle.pig_job.specs.Rule.{is_unended, is_open};
+ghost use Rattle.pig_job.specs.Rule.{is_unended, has_failed, is_open};
 
 mod job;
 mod laws;
@@ -39,6 +40,12 @@ impl Fate {
         ensures { result ≡ is_unended self }
     {
         matches!(self, Fate::Unended)
+    }
+
+    pub fn has_failed(self) -> bool
+        ensures { result ≡ has_failed self }
+    {
+        matches!(self, Fate::Failed)
     }
 }
 
@@ -67,9 +74,6 @@ pub struct Task {
     pub winner: Option<u32>,
 }
 
-/// So many failures of one task end the job.
-pub const FAILURE_LIMIT: u32 = 4;
-
 impl Task {
     pub fn has_winner(&self) -> bool
         ensures { result ≡ has_winner self.now }
@@ -77,10 +81,11 @@ impl Task {
         self.winner.is_some()
     }
 
-    pub fn is_given_up(&self) -> bool
-        ensures { result ≡ is_given_up self.now }
+    /// Whether the task has failed `limit` times, or more often.
+    pub fn is_given_up(&self, limit: u32) -> bool
+        ensures { result ≡ is_given_up limit self.now }
     {
-        self.failed >= FAILURE_LIMIT
+        self.failed >= limit
     }
 }
 
@@ -89,6 +94,7 @@ impl Task {
 pub enum Status {
     Running,
     Left,
+    PutAside,
     Aborted,
 }
 
@@ -118,6 +124,9 @@ pub enum Event {
         attempt: u32,
     },
     Leave {
+        worker: u32,
+    },
+    Aside {
         worker: u32,
     },
     Abort {

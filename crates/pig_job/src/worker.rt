@@ -1,9 +1,9 @@
 //! One worker of a job.
 
-ghost use Rattle.std.specs.Prelude.{◌≡◌, [], ◌∷◌, ◌++◌, OnOk, OnErr, position};
+ghost use Rattle.std.specs.Prelude.{◌≡◌, [], ◌∷◌, ◌++◌, OnOk, OnErr, position, count_by};
 ghost use Rattle.std.specs.List.{list_any};
 ghost use Rattle.pig_job.specs.Job.{fresh, is_running, settled};
-ghost use Rattle.pig_job.specs.Rule.{is_unended, is_open};
+ghost use Rattle.pig_job.specs.Rule.{is_unended, has_failed, is_open};
 
 use crate::{Attempt, Fate, Status};
 use std::alloc::{AllocError, Global};
@@ -45,6 +45,13 @@ impl Worker {
         ensures { result ≡ list_any (λ x. is_unended x.fate) self.now.tried }
     {
         self.tried.iter().any(|x| x.fate.is_unended())
+    }
+
+    /// How many of this worker's attempts have failed.
+    pub fn failures(&self) -> usize
+        ensures { result ≡ count_by (λ x. has_failed x.fate) self.now.tried }
+    {
+        self.tried.iter().filter(|x| x.fate.has_failed()).count()
     }
 
     /// Whether the attempt `number` at `task` is this worker's, and under way.

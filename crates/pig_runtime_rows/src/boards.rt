@@ -2,7 +2,7 @@
 //!
 //! Where memory is wanting the process ends: that drops nothing, so its proof is short.
 
-ghost use Rattle.std.specs.Prelude.{◌≡◌, ◌+◌, ◌<◌, ◌≤◌};
+ghost use Rattle.std.specs.Prelude.{◌≡◌, ◌+◌, ◌<◌, ◌≤◌, MatchBool};
 ghost use Rattle.std.specs.Thread.{IsSync};
 ghost use Rattle.pig_board.specs.View.{steps_of};
 ghost use Rattle.pig_board.specs.Pass.{tasks_of, view_of, OnBoard};
@@ -55,6 +55,39 @@ fn two_passes(rt: HostRuntime) {
     assert!(rt; board.failures(&mut other, 0) == 1);
 }
 
+// Three fails in a row, and the pass begins no more until it is firm; so does each pass that is split from it. A commit
+// ends the streak.
+#[test]
+fn aside_and_firm(rt: HostRuntime) {
+    let opened = Board::open(rt.alloc(), 1);
+    let (board, mut pass) = opened.expect(&rt, "memory");
+    assert!(rt; board.draw(&mut pass) == Some(0));
+    assert!(rt; board.begin(&mut pass, 0) == 0);
+    assert!(rt; board.begin(&mut pass, 0) == 1);
+    assert!(rt; board.begin(&mut pass, 0) == 2);
+    assert!(rt; board.begin(&mut pass, 0) == 3);
+    assert!(rt; board.fail(&mut pass, 0) == 1);
+    assert!(rt; board.fail(&mut pass, 0) == 2);
+    assert!(rt; pass.streak() == 2);
+    assert!(rt; pass.may_begin());
+    assert!(rt; board.fail(&mut pass, 0) == 3);
+    assert!(rt; pass.streak() == 3);
+    assert!(rt; !pass.may_begin());
+    pass.firm();
+    assert!(rt; pass.streak() == 3);
+    assert!(rt; pass.may_begin());
+    let mut other = board.split(&mut pass);
+    assert!(rt; other.streak() == 3);
+    assert!(rt; other.may_begin());
+    assert!(rt; board.begin(&mut other, 0) == 4);
+    assert!(rt; board.commit(&mut other, 0, 4));
+    assert!(rt; other.streak() == 0);
+    board.join(&mut other, pass);
+    assert!(rt; other.streak() == 3);
+    assert!(rt; !board.commit(&mut other, 0, 3));
+    assert!(rt; other.streak() == 0);
+}
+
 // What a worker was told: the number that it drew, and for each of four tasks one more than its attempt that won.
 #[derive(Clone, Copy)]
 struct Told {
@@ -68,10 +101,13 @@ fn try_task(board: &Board, pass: &mut Pass, t: u32, fails: bool) -> u32
     requires task { t < tasks_of board.now }
     requires drawn { t < (view_of pass.old).known }
     requires room { 1 < (view_of pass.old).room }
+    requires streak { (view_of pass.old).streak ≤ 1 }
     ensures board { OnBoard board.now pass.new }
     ensures steps { steps_of (view_of pass.new) ≡ steps_of (view_of pass.old) }
     ensures known { (view_of pass.new).known ≡ (view_of pass.old).known }
     ensures room { (view_of pass.old).room ≤ (view_of pass.new).room + 2 }
+    ensures streak { MatchBool fails ((view_of pass.new).streak ≤ 1 + (view_of pass.old).streak)
+        ((view_of pass.new).streak ≡ 0) }
 {
     let attempt = board.begin(pass, t);
     if fails {
@@ -91,6 +127,7 @@ fn worker(board: &Board, mut pass: Pass, who: u32) -> (Pass, Told)
     requires tasks { 4 ≤ tasks_of board.now }
     requires drawn { 4 ≤ (view_of pass).known }
     requires room { 100 ≤ (view_of pass).room }
+    requires streak { (view_of pass).streak ≡ 0 }
     ensures board { OnBoard board.now result.0 }
     ensures steps { steps_of (view_of result.0) ≡ steps_of (view_of pass) }
 {
@@ -111,6 +148,7 @@ fn pair<R: Threads + Sync>(rt: &R, board: &Board, pass: Pass, who: u32) -> (Pass
     requires tasks { 4 ≤ tasks_of board.now }
     requires drawn { 4 ≤ (view_of pass).known }
     requires room { 300 ≤ (view_of pass).room }
+    requires streak { (view_of pass).streak ≡ 0 }
     ensures board { OnBoard board.now result.0 }
     ensures steps { steps_of (view_of result.0) ≡ steps_of (view_of pass) }
 {
@@ -120,13 +158,15 @@ fn pair<R: Threads + Sync>(rt: &R, board: &Board, pass: Pass, who: u32) -> (Pass
         rt,
         || -> (Pass, Told)
             requires { OnBoard board.now left × (4 ≤ tasks_of board.now)
-                × (4 ≤ (view_of left).known) × (100 ≤ (view_of left).room) }
+                × (4 ≤ (view_of left).known) × (100 ≤ (view_of left).room)
+                × ((view_of left).streak ≡ 0) }
             ensures { OnBoard board.entry.now result.0
                 × (steps_of (view_of result.0) ≡ steps_of (view_of left)) }
         { worker(board, left, who) },
         || -> (Pass, Told)
             requires { OnBoard board.now right × (4 ≤ tasks_of board.now)
-                × (4 ≤ (view_of right).known) × (100 ≤ (view_of right).room) }
+                × (4 ≤ (view_of right).known) × (100 ≤ (view_of right).room)
+                × ((view_of right).streak ≡ 0) }
             ensures { OnBoard board.entry.now result.0
                 × (steps_of (view_of result.0) ≡ steps_of (view_of right)) }
         { worker(board, right, who ^ 1) },
@@ -141,6 +181,7 @@ fn crew<R: Threads + Sync>(rt: &R, board: &Board, pass: Pass) -> (Pass, [Told; 4
     requires tasks { 4 ≤ tasks_of board.now }
     requires drawn { 4 ≤ (view_of pass).known }
     requires room { 700 ≤ (view_of pass).room }
+    requires streak { (view_of pass).streak ≡ 0 }
     ensures board { OnBoard board.now result.0 }
     ensures steps { steps_of (view_of result.0) ≡ steps_of (view_of pass) }
 {
@@ -150,13 +191,15 @@ fn crew<R: Threads + Sync>(rt: &R, board: &Board, pass: Pass) -> (Pass, [Told; 4
         rt,
         || -> (Pass, Told, Told)
             requires { IsSync R.row × OnBoard board.now left × (4 ≤ tasks_of board.now)
-                × (4 ≤ (view_of left).known) × (300 ≤ (view_of left).room) }
+                × (4 ≤ (view_of left).known) × (300 ≤ (view_of left).room)
+                × ((view_of left).streak ≡ 0) }
             ensures { OnBoard board.entry.now result.0
                 × (steps_of (view_of result.0) ≡ steps_of (view_of left)) }
         { pair(rt, board, left, 0) },
         || -> (Pass, Told, Told)
             requires { IsSync R.row × OnBoard board.now right × (4 ≤ tasks_of board.now)
-                × (4 ≤ (view_of right).known) × (300 ≤ (view_of right).room) }
+                × (4 ≤ (view_of right).known) × (300 ≤ (view_of right).room)
+                × ((view_of right).streak ≡ 0) }
             ensures { OnBoard board.entry.now result.0
                 × (steps_of (view_of result.0) ≡ steps_of (view_of right)) }
         { pair(rt, board, right, 2) },

@@ -43,6 +43,10 @@ fn leave(worker: u32) -> Event {
     Event::Leave { worker }
 }
 
+fn aside(worker: u32) -> Event {
+    Event::Aside { worker }
+}
+
 fn abort(worker: u32) -> Event {
     Event::Abort { worker }
 }
@@ -50,7 +54,7 @@ fn abort(worker: u32) -> Event {
 // Task 0 is won by its second attempt, and task 1 has failed once: nobody may leave.
 #[test]
 fn one_worker(rt: HostRuntime) {
-    let mut core = Core::open(rt.alloc(), 2, 1).expect(&rt, "memory");
+    let mut core = Core::open(rt.alloc(), 2, 1, 4).expect(&rt, "memory");
     let cases = [
         (draw(0), Ok(())),
         (begin(0, 0), Ok(())),
@@ -72,7 +76,7 @@ fn one_worker(rt: HostRuntime) {
 // The one task fails once and is then won: both may leave, and take no step more.
 #[test]
 fn two_workers(rt: HostRuntime) {
-    let mut core = Core::open(rt.alloc(), 1, 2).expect(&rt, "memory");
+    let mut core = Core::open(rt.alloc(), 1, 2, 4).expect(&rt, "memory");
     let cases = [
         (draw(0), Ok(())),
         (begin(0, 0), Ok(())),
@@ -175,8 +179,56 @@ fn end_both(rt: &impl Abort, core: &mut Core) {
 // Each kind of step, taken and refused for each of its reasons but the bound of the total.
 #[test]
 fn each_condition(rt: HostRuntime) {
-    let mut core = Core::open(rt.alloc(), 2, 2).expect(&rt, "memory");
+    let mut core = Core::open(rt.alloc(), 2, 2, 4).expect(&rt, "memory");
     win_first(&rt, &mut core);
     fail_second(&rt, &mut core);
     end_both(&rt, &mut core);
+}
+
+// Of a job with the limit 1 a worker may leave after one failure; it may be put aside after three of its own, and not
+// with an attempt under way. The other worker has no failures.
+#[test]
+fn limit_of_one(rt: HostRuntime) {
+    let mut core = Core::open(rt.alloc(), 3, 2, 1).expect(&rt, "memory");
+    let cases = [
+        (draw(0), Ok(())),
+        (draw(0), Ok(())),
+        (draw(0), Ok(())),
+        (begin(0, 0), Ok(())),
+        (leave(1), NOT_NOW),
+        (fail(0, 0, 0), Ok(())),
+        (begin(0, 1), Ok(())),
+        (fail(0, 1, 0), Ok(())),
+        (aside(0), NOT_NOW),
+        (begin(0, 2), Ok(())),
+        (begin(0, 2), Ok(())),
+        (fail(0, 2, 0), Ok(())),
+        (aside(0), NOT_NOW),
+        (fail(0, 2, 1), Ok(())),
+        (aside(1), NOT_NOW),
+        (aside(0), Ok(())),
+        (aside(0), NOT_NOW),
+        (draw(0), NOT_NOW),
+        (leave(0), NOT_NOW),
+        (leave(1), Ok(())),
+        (aside(1), NOT_NOW),
+    ];
+    for (event, answer) in cases {
+        assert!(rt; core.step(&event) == answer, "at {event:?}");
+    }
+}
+
+// Of a job with the limit 5 nobody may leave after four failures.
+#[test]
+fn limit_of_five(rt: HostRuntime) {
+    let mut core = Core::open(rt.alloc(), 1, 1, 5).expect(&rt, "memory");
+    assert!(rt; core.step(&draw(0)) == Ok(()));
+    for attempt in 0..4u32 {
+        assert!(rt; core.step(&begin(0, 0)) == Ok(()));
+        assert!(rt; core.step(&fail(0, 0, attempt)) == Ok(()));
+    }
+    assert!(rt; core.step(&leave(0)) == NOT_NOW);
+    assert!(rt; core.step(&begin(0, 0)) == Ok(()));
+    assert!(rt; core.step(&fail(0, 0, 4)) == Ok(()));
+    assert!(rt; core.step(&leave(0)) == Ok(()));
 }

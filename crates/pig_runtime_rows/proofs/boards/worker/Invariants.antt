@@ -8,5 +8,6 @@ invariant-loop-t l = record {
   board : OnBoard l.board l.pass;
   steps : steps_of (view_of l.pass) ≡ steps_of (view_of l.initial.pass);
   known : 4 ≤ (view_of l.pass).known;
+  streak : (view_of l.pass).streak ≡ 0;
   room : 90 ≤ (view_of l.pass).room + 4 * l.t;
 }
