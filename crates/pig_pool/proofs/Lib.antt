@@ -1,4 +1,7 @@
+mod Attempts
+mod Begins
 mod Crews
+mod Looks
 mod Placing
 mod Steps
 mod Waves

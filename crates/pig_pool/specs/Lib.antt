@@ -1,3 +1,4 @@
+pub mod Begins
 pub mod Crew
 pub mod Wave
 pub mod Workers

@@ -1,14 +1,18 @@
 //! One try at a task.
 
-ghost use Rattle.std.specs.Prelude.{◌≡◌, ◌<◌, ◌≤◌, ◌+◌, [], ◌∷◌, ◌++◌, true, IfOk, OnOk, IsErrOf, MatchBool};
-ghost use Rattle.pig_board.specs.View.{has_open, won, IsLate};
-ghost use Rattle.pig_board.specs.Pass.{tasks_of, view_of, OnBoard};
-ghost use Rattle.pig_pool.specs.Workers.{Works, HasWon, IsTried};
+ghost use Rattle.std.specs.Prelude.{◌≡◌, ◌<◌, ◌≤◌, ◌+◌, ◌*◌, [], ◌∷◌, ◌++◌, true, IfOk, IfSome, IfNone, OnOk, OnErr, IsErrOf, MatchBool};
+ghost use Rattle.std.specs.Option.{option_map};
+ghost use Rattle.pig_board.specs.View.{has_open, has_open_of, knows_winner, fails_of, won, IsLate};
+ghost use Rattle.pig_board.specs.Pass.{tasks_of, view_of, is_firm, may_begin, OnBoard};
+ghost use Rattle.pig_outside.specs.Calls.{and_attempt};
+ghost use Rattle.pig_pool.specs.Begins.{tells};
+ghost use Rattle.pig_pool.specs.Workers.{Works, HasRoom, IsFailed, FailedAs, IsTried, Stands, beside};
 
+use crate::stops::TaskStop;
 use crate::work::Work;
+use crate::worker::Worker;
 use pig_board::{Board, Pass};
-use pig_job::FAILURE_LIMIT;
-use pig_outside::{AttemptFault, Host};
+use pig_outside::{AttemptFault, Host, Stop};
 use std::alloc::{AllocError, Global};
 use std::collections::LinkedList;
 
@@ -21,27 +25,73 @@ pub enum Tried {
     Failed,
     /// The task has failed too often.
     GivenUp,
+    /// The attempt failed, as those before it, and the worker is put aside.
+    Aside,
 }
 
 /// Makes attempt `attempt` at task `t` on the host.
-fn make_attempt<W: Work, H: Host>(
+fn make_attempt<W: Work, H: Host, S: Stop>(
     work: &W,
     wave: u32,
     t: u32,
     attempt: u32,
     host: &mut H,
-) -> Result<W::Out, AttemptFault>
+    stop: &mut S,
+) -> Result<Option<W::Out>, AttemptFault>
     requires task { t < W.count work.now }
     requires suits { W.suits work.now (H.inputs host.old) }
-    ensures right { IfOk result (W.right work.now t) }
+    ensures right { IfOk result (λ o. IfSome o (W.right work.now t)) }
+    ensures stopped { IfOk result (λ o. IfNone o (S.won stop.new)) }
+    ensures kept { S.kept stop.new ≡ S.kept stop.old }
     ensures inputs { H.inputs host.new ≡ H.inputs host.old }
+    ensures begun { H.begun host.new
+        ≡ option_map (and_attempt wave t attempt (H.faults host.old)) (H.begun host.old) }
     ensures later { H.faults host.old ≤ H.faults host.new }
     ensures lost { IsErrOf result AttemptFault.Lost → H.faults host.old < H.faults host.new }
 {
     if let Err(_) = host.begin(wave, t, attempt) {
         return Err(AttemptFault::Lost);
     }
-    work.attempt(t, host)
+    work.attempt(t, host, stop)
+}
+
+/// Makes an attempt that may ask the board whether its task is won.
+fn try_attempt<W: Work, H: Host>(
+    work: &W,
+    wave: u32,
+    board: &Board,
+    pass: &mut Pass,
+    t: u32,
+    attempt: u32,
+    host: &mut H,
+) -> Result<Option<W::Out>, AttemptFault>
+    requires board { OnBoard board.now pass.old }
+    requires below { t < tasks_of board.now }
+    requires task { t < W.count work.now }
+    requires suits { W.suits work.now (H.inputs host.old) }
+    ensures board { OnBoard board.now pass.new }
+    ensures view { beside t (view_of pass.new) ≡ beside t (view_of pass.old) }
+    ensures firm { is_firm pass.new ≡ is_firm pass.old }
+    ensures right { IfOk result (λ o. IfSome o (W.right work.now t)) }
+    ensures stopped { IfOk result (λ o. IfNone o (knows_winner t (view_of pass.new) ≡ true)) }
+    ensures inputs { H.inputs host.new ≡ H.inputs host.old }
+    ensures begun { H.begun host.new
+        ≡ option_map (and_attempt wave t attempt (H.faults host.old)) (H.begun host.old) }
+    ensures later { H.faults host.old ≤ H.faults host.new }
+    ensures lost { IsErrOf result AttemptFault.Lost → H.faults host.old < H.faults host.new }
+{
+    let mut stop = TaskStop {
+        task: t,
+        board,
+        pass,
+    };
+    let ended = make_attempt(work, wave, t, attempt, host, &mut stop);
+    let TaskStop {
+        task: _,
+        board: _,
+        pass: _,
+    } = stop;
+    ended
 }
 
 /// Offers the output of an attempt: it is kept where the attempt wins, and else dropped at once. The answer is whether
@@ -57,12 +107,15 @@ fn offer<O: Drop>(
     requires board { OnBoard board.now pass.old }
     requires under_way { has_open t attempt (view_of pass.old) ≡ true }
     ensures board { OnBoard board.now pass.new }
+    ensures firm { is_firm pass.new ≡ is_firm pass.old }
     ensures view { IfOk result (λ b. MatchBool b
         (view_of pass.new ≡ won t attempt (view_of pass.old))
         (IsLate t attempt (view_of pass.old) (view_of pass.new))) }
     ensures outputs { IfOk result (λ b. MatchBool b
         (outputs.new ≡ outputs.old ++ (t, output) ∷ [])
         (outputs.new ≡ outputs.old)) }
+    ensures wanting { OnErr result
+        ((view_of pass.new ≡ view_of pass.old) × (outputs.new ≡ outputs.old)) }
 {
     outputs.push_back((t, output))?;
     if board.commit(pass, t, attempt) {
@@ -72,50 +125,91 @@ fn offer<O: Drop>(
     Ok(false)
 }
 
+/// Ends an attempt that stopped, since its task is won: it comes late.
+fn end_late(board: &Board, pass: &mut Pass, t: u32, attempt: u32)
+    requires board { OnBoard board.now pass.old }
+    requires under_way { has_open t attempt (view_of pass.old) ≡ true }
+    requires won { knows_winner t (view_of pass.old) ≡ true }
+    ensures board { OnBoard board.now pass.new }
+    ensures firm { is_firm pass.new ≡ is_firm pass.old }
+    ensures late { IsLate t attempt (view_of pass.old) (view_of pass.new) }
+{
+    if board.commit(pass, t, attempt) {
+        unreachable!();
+    }
+}
+
+/// Ends an attempt that failed.
+fn end_failed(board: &Board, pass: &mut Pass, t: u32, limit: u32) -> Tried
+    requires board { OnBoard board.now pass.old }
+    requires under_way { has_open_of t (view_of pass.old) ≡ true }
+    requires room { 0 < (view_of pass.old).room }
+    ensures board { OnBoard board.now pass.new }
+    ensures firm { is_firm pass.new ≡ is_firm pass.old }
+    ensures view { IsFailed t (view_of pass.old) (view_of pass.new) }
+    ensures failed { FailedAs limit t pass.new result }
+{
+    let failures = board.fail(pass, t);
+    if failures >= limit {
+        return Tried::GivenUp;
+    }
+    if pass.may_begin() {
+        Tried::Failed
+    } else {
+        Tried::Aside
+    }
+}
+
 /// Tries task `t` once, unless it has a winner or has failed too often.
 pub fn try_once<W: Work, H: Host>(
     work: &W,
     wave: u32,
+    limit: u32,
     board: &Board,
-    pass: &mut Pass,
-    outputs: &mut LinkedList<(u32, W::Out)>,
+    worker: &mut Worker<W::Out>,
     t: u32,
     host: &mut H,
 ) -> Result<Tried, AllocError>
-    requires board { OnBoard board.now pass.old }
     requires count { tasks_of board.now ≡ W.count work.now }
     requires task { t < tasks_of board.now }
-    requires drawn { t < (view_of pass.old).known }
-    requires room { 1 < (view_of pass.old).room }
+    requires stands { Stands (W.right work.now) limit board.now worker.old.pass worker.old.outputs }
+    requires drawn { t < (view_of worker.old.pass).known }
+    requires room { HasRoom 1 (limit * tasks_of board.now) (view_of worker.old.pass) }
+    requires may { may_begin worker.old.pass ≡ true }
     requires suits { W.suits work.now (H.inputs host.old) }
-    requires won { HasWon (W.right work.now) (view_of pass.old) outputs.old }
-    ensures board { OnBoard board.now pass.new }
-    ensures works { OnOk result
-        (Works (view_of pass.old) (view_of pass.new) (H.faults host.old) (H.faults host.new)) }
-    ensures won { OnOk result (HasWon (W.right work.now) (view_of pass.new) outputs.new) }
-    ensures tried { IfOk result (IsTried t (view_of pass.old) (view_of pass.new)) }
-    ensures room { OnOk result ((view_of pass.old).room ≤ (view_of pass.new).room + 2) }
+    ensures stands { Stands (W.right work.now) limit board.now worker.new.pass worker.new.outputs }
+    ensures firm { is_firm worker.new.pass ≡ is_firm worker.old.pass }
+    ensures works { OnOk result (Works wave (view_of worker.old.pass) (view_of worker.new.pass)
+        (tells (H.faults host.old) (H.begun host.old))
+        (tells (H.faults host.new) (H.begun host.new))) }
+    ensures tried { IfOk result (IsTried limit t worker.old.pass worker.new.pass) }
     ensures inputs { H.inputs host.new ≡ H.inputs host.old }
     ensures later { H.faults host.old ≤ H.faults host.new }
 {
-    if let Some(_) = board.closed(pass, t) {
+    if let Some(_) = board.closed(&mut worker.pass, t) {
         return Ok(Tried::Won);
     }
-    if board.failures(pass, t) >= FAILURE_LIMIT {
+    if board.failures(&mut worker.pass, t) >= limit {
         return Ok(Tried::GivenUp);
     }
-    let attempt = board.begin(pass, t);
-    match make_attempt(work, wave, t, attempt, host) {
-        Ok(output) => {
-            offer(board, pass, outputs, t, attempt, output)?;
+    let attempt = board.begin(&mut worker.pass, t);
+    match try_attempt(work, wave, board, &mut worker.pass, t, attempt, host) {
+        Ok(Some(output)) => {
+            offer(
+                board,
+                &mut worker.pass,
+                &mut worker.outputs,
+                t,
+                attempt,
+                output,
+            )?;
             Ok(Tried::Won)
         }
-        Err(AttemptFault::Lost) => {
-            if board.fail(pass, t) >= FAILURE_LIMIT {
-                return Ok(Tried::GivenUp);
-            }
-            Ok(Tried::Failed)
+        Ok(None) => {
+            end_late(board, &mut worker.pass, t, attempt);
+            Ok(Tried::Won)
         }
+        Err(AttemptFault::Lost) => Ok(end_failed(board, &mut worker.pass, t, limit)),
         Err(AttemptFault::OutOfMemory) => Err(AllocError),
     }
 }

@@ -1,9 +1,9 @@
 //! What a wave works on.
 
-ghost use Rattle.std.specs.Prelude.{◌≡◌, ◌<◌, ◌≤◌, ℕ, List, Option, IfOk, IsErrOf};
+ghost use Rattle.std.specs.Prelude.{◌≡◌, ◌<◌, ◌≤◌, ℕ, List, Option, IfOk, IfSome, IfNone, IsErrOf};
 ghost use Rattle.pig_value.specs.declared.inputs.Input.{Input};
 
-use pig_outside::{AttemptFault, Host};
+use pig_outside::{AttemptFault, Host, Stop};
 
 /// Tasks that are numbered from 0, each of which any host may attempt, any number of times.
 pub trait Work {
@@ -22,11 +22,19 @@ pub trait Work {
     fn tasks(&self) -> u32
         ensures { result ≡ count self.now };
 
-    /// Makes an attempt at task `t` on the host. It is lost only where the host has failed.
-    fn attempt<H: Host>(&self, t: u32, host: &mut H) -> Result<Self::Out, AttemptFault>
+    /// Makes an attempt at task `t` on the host. It is lost only where the host has failed. It gives no output only
+    /// where `stop` told that the task is won already.
+    fn attempt<H: Host, S: Stop>(
+        &self,
+        t: u32,
+        host: &mut H,
+        stop: &mut S,
+    ) -> Result<Option<Self::Out>, AttemptFault>
         requires task { t < count self.now }
         requires suits { suits self.now (H.inputs host.old) }
-        ensures right { IfOk result (right self.now t) }
+        ensures right { IfOk result (λ o. IfSome o (right self.now t)) }
+        ensures stopped { IfOk result (λ o. IfNone o (S.won stop.new)) }
+        ensures kept { S.kept stop.new ≡ S.kept stop.old }
         ensures inputs { H.inputs host.new ≡ H.inputs host.old }
         ensures begun { H.begun host.new ≡ H.begun host.old }
         ensures later { H.faults host.old ≤ H.faults host.new }

@@ -1,9 +1,11 @@
 //! What one worker does in a wave.
 
-ghost use Rattle.std.specs.Prelude.{◌≡◌, ◌<◌, ◌≤◌, ◌+◌, ◌*◌, ◌-◌, ◌^◌, [], true, IfOk, OnOk, MatchBool};
+ghost use Rattle.std.specs.Prelude.{◌≡◌, ◌<◌, ◌≤◌, ◌+◌, ◌*◌, ◌-◌, [], true, IfOk, OnOk};
 ghost use Rattle.pig_board.specs.View.{knows_winner};
-ghost use Rattle.pig_board.specs.Pass.{tasks_of, view_of, OnBoard};
-ghost use Rattle.pig_pool.specs.Workers.{Works, HasWon, IsDone, KnowsAll, saw_limit, worker_room};
+ghost use Rattle.pig_board.specs.Pass.{tasks_of, view_of, is_firm, may_begin, OnBoard};
+ghost use Rattle.pig_pool.specs.Begins.{tells};
+ghost use Rattle.pig_pool.specs.Workers.{Works, HasWon, HasRoom, Spends, Stands, KnowsAll, Went, Rested, was_aside, worker_cost};
+ghost use Rattle.pig_pool.specs.Crew.{IsReady};
 
 use crate::tries::{Tried, try_once};
 use crate::work::Work;
@@ -12,116 +14,179 @@ use pig_outside::Host;
 use std::alloc::{AllocError, Global};
 use std::collections::LinkedList;
 
-/// Tries task `t` until it has a winner. The answer is false where it has failed too often.
+/// What a worker has: its pass, the outputs with which it won, each with its task, and whether it was put aside. Of
+/// workers that were joined, each was.
+#[derive(Drop)]
+pub struct Worker<O> {
+    pub pass: Pass,
+    pub outputs: LinkedList<(u32, O)>,
+    pub is_aside: bool,
+}
+
+/// Where a worker's course has led.
+#[derive(Clone, Copy, Drop)]
+pub enum Course {
+    /// It may go on.
+    On,
+    /// A task has failed too often.
+    Over,
+    /// The worker is put aside.
+    Aside,
+}
+
+impl Course {
+    fn is_aside(self) -> bool
+        ensures { result ≡ was_aside self }
+    {
+        matches!(self, Course::Aside)
+    }
+}
+
+/// Tries task `t` until it has a winner.
 fn try_task<W: Work, H: Host>(
     work: &W,
     wave: u32,
+    limit: u32,
     board: &Board,
-    pass: &mut Pass,
-    outputs: &mut LinkedList<(u32, W::Out)>,
+    worker: &mut Worker<W::Out>,
     t: u32,
     host: &mut H,
-) -> Result<bool, AllocError>
-    requires board { OnBoard board.now pass.old }
+) -> Result<Course, AllocError>
     requires count { tasks_of board.now ≡ W.count work.now }
     requires task { t < tasks_of board.now }
-    requires drawn { t < (view_of pass.old).known }
-    requires room { 8 ≤ (view_of pass.old).room }
+    requires stands { Stands (W.right work.now) limit board.now worker.old.pass worker.old.outputs }
+    requires drawn { t < (view_of worker.old.pass).known }
+    requires room { HasRoom 1 (limit * tasks_of board.now) (view_of worker.old.pass) }
+    requires may { may_begin worker.old.pass ≡ true }
     requires suits { W.suits work.now (H.inputs host.old) }
-    requires won { HasWon (W.right work.now) (view_of pass.old) outputs.old }
-    ensures board { OnBoard board.now pass.new }
-    ensures works { OnOk result
-        (Works (view_of pass.old) (view_of pass.new) (H.faults host.old) (H.faults host.new)) }
-    ensures won { OnOk result (HasWon (W.right work.now) (view_of pass.new) outputs.new) }
-    ensures tried { IfOk result (λ b. MatchBool b
-        (knows_winner t (view_of pass.new) ≡ true)
-        (saw_limit (view_of pass.new) ≡ true)) }
-    ensures room { OnOk result ((view_of pass.old).room ≤ (view_of pass.new).room + 8) }
+    ensures stands { Stands (W.right work.now) limit board.now worker.new.pass worker.new.outputs }
+    ensures firm { is_firm worker.new.pass ≡ is_firm worker.old.pass }
+    ensures works { OnOk result (Works wave (view_of worker.old.pass) (view_of worker.new.pass)
+        (tells (H.faults host.old) (H.begun host.old))
+        (tells (H.faults host.new) (H.begun host.new))) }
+    ensures tried { IfOk result (Went limit worker.new.pass
+        (knows_winner t (view_of worker.new.pass) ≡ true)) }
+    ensures room { OnOk result (Spends 1 (view_of worker.old.pass) (view_of worker.new.pass)) }
     ensures inputs { H.inputs host.new ≡ H.inputs host.old }
     ensures later { H.faults host.old ≤ H.faults host.new }
 {
     loop {
-        match try_once(work, wave, board, pass, outputs, t, host)? {
-            Tried::Won => return Ok(true),
-            Tried::GivenUp => return Ok(false),
+        match try_once(work, wave, limit, board, worker, t, host)? {
+            Tried::Won => return Ok(Course::On),
+            Tried::GivenUp => return Ok(Course::Over),
+            Tried::Aside => return Ok(Course::Aside),
             Tried::Failed => {}
         }
     }
 }
 
-/// Draws tasks and tries them, until none is left. The answer is false where one has failed too often.
+/// Draws tasks and tries them, until none is left.
 fn try_drawn<W: Work, H: Host>(
     work: &W,
     wave: u32,
+    limit: u32,
     board: &Board,
-    pass: &mut Pass,
-    outputs: &mut LinkedList<(u32, W::Out)>,
+    worker: &mut Worker<W::Out>,
     host: &mut H,
-) -> Result<bool, AllocError>
-    requires board { OnBoard board.now pass.old }
+) -> Result<Course, AllocError>
     requires count { tasks_of board.now ≡ W.count work.now }
-    requires room { 9 * tasks_of board.now < (view_of pass.old).room }
+    requires stands { Stands (W.right work.now) limit board.now worker.old.pass worker.old.outputs }
+    requires room { HasRoom (3 * tasks_of board.now + 2) (limit * tasks_of board.now)
+        (view_of worker.old.pass) }
+    requires may { may_begin worker.old.pass ≡ true }
     requires suits { W.suits work.now (H.inputs host.old) }
-    requires won { HasWon (W.right work.now) (view_of pass.old) outputs.old }
-    ensures board { OnBoard board.now pass.new }
-    ensures works { OnOk result
-        (Works (view_of pass.old) (view_of pass.new) (H.faults host.old) (H.faults host.new)) }
-    ensures won { OnOk result (HasWon (W.right work.now) (view_of pass.new) outputs.new) }
-    ensures drawn { IfOk result (λ b. MatchBool b
-        (tasks_of board.now ≤ (view_of pass.new).known)
-        (saw_limit (view_of pass.new) ≡ true)) }
-    ensures room { OnOk result
-        ((view_of pass.old).room ≤ (view_of pass.new).room + 9 * tasks_of board.now + 1) }
+    ensures stands { Stands (W.right work.now) limit board.now worker.new.pass worker.new.outputs }
+    ensures firm { is_firm worker.new.pass ≡ is_firm worker.old.pass }
+    ensures works { OnOk result (Works wave (view_of worker.old.pass) (view_of worker.new.pass)
+        (tells (H.faults host.old) (H.begun host.old))
+        (tells (H.faults host.new) (H.begun host.new))) }
+    ensures drawn { IfOk result (Went limit worker.new.pass
+        (tasks_of board.now ≤ (view_of worker.new.pass).known)) }
+    ensures room { OnOk result (Spends (2 * tasks_of board.now + 1)
+        (view_of worker.old.pass) (view_of worker.new.pass)) }
     ensures inputs { H.inputs host.new ≡ H.inputs host.old }
     ensures later { H.faults host.old ≤ H.faults host.new }
 {
-    while let Some(t) = board.draw(pass) {
-        if !try_task(work, wave, board, pass, outputs, t, host)? {
-            return Ok(false);
+    while let Some(t) = board.draw(&mut worker.pass) {
+        match try_task(work, wave, limit, board, worker, t, host)? {
+            Course::On => {}
+            Course::Over => return Ok(Course::Over),
+            Course::Aside => return Ok(Course::Aside),
         }
     }
-    Ok(true)
+    Ok(Course::On)
 }
 
-/// Goes once through all tasks, which are all drawn, and tries each without a winner. The answer is false where one has
-/// failed too often.
+/// Goes once through all tasks, which are all drawn, and tries each without a winner.
 fn try_rest<W: Work, H: Host>(
     work: &W,
     wave: u32,
+    limit: u32,
     board: &Board,
-    pass: &mut Pass,
-    outputs: &mut LinkedList<(u32, W::Out)>,
+    worker: &mut Worker<W::Out>,
     host: &mut H,
-) -> Result<bool, AllocError>
-    requires board { OnBoard board.now pass.old }
+) -> Result<Course, AllocError>
     requires count { tasks_of board.now ≡ W.count work.now }
-    requires drawn { tasks_of board.now ≤ (view_of pass.old).known }
-    requires room { 8 * tasks_of board.now ≤ (view_of pass.old).room }
+    requires stands { Stands (W.right work.now) limit board.now worker.old.pass worker.old.outputs }
+    requires drawn { tasks_of board.now ≤ (view_of worker.old.pass).known }
+    requires room { HasRoom (tasks_of board.now + 1) (limit * tasks_of board.now)
+        (view_of worker.old.pass) }
+    requires may { may_begin worker.old.pass ≡ true }
     requires suits { W.suits work.now (H.inputs host.old) }
-    requires won { HasWon (W.right work.now) (view_of pass.old) outputs.old }
-    ensures board { OnBoard board.now pass.new }
-    ensures works { OnOk result
-        (Works (view_of pass.old) (view_of pass.new) (H.faults host.old) (H.faults host.new)) }
-    ensures won { OnOk result (HasWon (W.right work.now) (view_of pass.new) outputs.new) }
-    ensures all { IfOk result (λ b. MatchBool b
-        (KnowsAll (tasks_of board.now) (view_of pass.new))
-        (saw_limit (view_of pass.new) ≡ true)) }
+    ensures stands { Stands (W.right work.now) limit board.now worker.new.pass worker.new.outputs }
+    ensures firm { is_firm worker.new.pass ≡ is_firm worker.old.pass }
+    ensures works { OnOk result (Works wave (view_of worker.old.pass) (view_of worker.new.pass)
+        (tells (H.faults host.old) (H.begun host.old))
+        (tells (H.faults host.new) (H.begun host.new))) }
+    ensures all { IfOk result (Went limit worker.new.pass
+        (KnowsAll (tasks_of board.now) (view_of worker.new.pass))) }
+    ensures room { OnOk result (Spends (tasks_of board.now)
+        (view_of worker.old.pass) (view_of worker.new.pass)) }
     ensures inputs { H.inputs host.new ≡ H.inputs host.old }
     ensures later { H.faults host.old ≤ H.faults host.new }
 {
     for t in 0..work.tasks() {
-        if !try_task(work, wave, board, pass, outputs, t, host)? {
-            return Ok(false);
+        match try_task(work, wave, limit, board, worker, t, host)? {
+            Course::On => {}
+            Course::Over => return Ok(Course::Over),
+            Course::Aside => return Ok(Course::Aside),
         }
     }
-    Ok(true)
+    Ok(Course::On)
 }
 
-/// What a worker has at its end: its pass, and the outputs with which it won, each with its task.
-#[derive(Drop)]
-pub struct Worker<O> {
-    pub pass: Pass,
-    pub outputs: LinkedList<(u32, O)>,
+/// Goes the whole course on one host: first the tasks that are drawn, then those without a winner.
+fn try_all<W: Work, H: Host>(
+    work: &W,
+    wave: u32,
+    limit: u32,
+    board: &Board,
+    worker: &mut Worker<W::Out>,
+    host: &mut H,
+) -> Result<Course, AllocError>
+    requires count { tasks_of board.now ≡ W.count work.now }
+    requires stands { Stands (W.right work.now) limit board.now worker.old.pass worker.old.outputs }
+    requires room { HasRoom (3 * tasks_of board.now + 2) (limit * tasks_of board.now)
+        (view_of worker.old.pass) }
+    requires may { may_begin worker.old.pass ≡ true }
+    requires suits { W.suits work.now (H.inputs host.old) }
+    ensures stands { Stands (W.right work.now) limit board.now worker.new.pass worker.new.outputs }
+    ensures firm { is_firm worker.new.pass ≡ is_firm worker.old.pass }
+    ensures works { OnOk result (Works wave (view_of worker.old.pass) (view_of worker.new.pass)
+        (tells (H.faults host.old) (H.begun host.old))
+        (tells (H.faults host.new) (H.begun host.new))) }
+    ensures all { IfOk result (Went limit worker.new.pass
+        (KnowsAll (tasks_of board.now) (view_of worker.new.pass))) }
+    ensures room { OnOk result (Spends (3 * tasks_of board.now + 1)
+        (view_of worker.old.pass) (view_of worker.new.pass)) }
+    ensures inputs { H.inputs host.new ≡ H.inputs host.old }
+    ensures later { H.faults host.old ≤ H.faults host.new }
+{
+    match try_drawn(work, wave, limit, board, worker, host)? {
+        Course::On => try_rest(work, wave, limit, board, worker, host),
+        Course::Over => Ok(Course::Over),
+        Course::Aside => Ok(Course::Aside),
+    }
 }
 
 /// Works through the tasks on one host.
@@ -129,27 +194,34 @@ pub fn run_worker<W: Work, H: Host>(
     alloc: Global,
     work: &W,
     wave: u32,
+    limit: u32,
     board: &Board,
-    mut pass: Pass,
+    pass: Pass,
     host: &mut H,
 ) -> Result<Worker<W::Out>, AllocError>
-    requires board { OnBoard board.now pass }
     requires count { tasks_of board.now ≡ W.count work.now }
     requires few { tasks_of board.now ≤ 65536 }
-    requires idle { (view_of pass).tried ≡ [] }
-    requires room { worker_room ≤ (view_of pass).room }
+    requires limit { limit ≤ 16 }
+    requires ready { IsReady board.now 0 pass }
     requires suits { W.suits work.now (H.inputs host.old) }
     ensures board { IfOk result (λ r. OnBoard board.now r.pass) }
-    ensures works { IfOk result
-        (λ r. Works (view_of pass) (view_of r.pass) (H.faults host.old) (H.faults host.new)) }
+    ensures firm { IfOk result (λ r. is_firm r.pass ≡ is_firm pass) }
+    ensures works { IfOk result (λ r. Works wave (view_of pass) (view_of r.pass)
+        (tells (H.faults host.old) (H.begun host.old))
+        (tells (H.faults host.new) (H.begun host.new))) }
     ensures won { IfOk result (λ r. HasWon (W.right work.now) (view_of r.pass) r.outputs) }
-    ensures done { IfOk result (λ r. IsDone (tasks_of board.now) (view_of r.pass)) }
+    ensures rested { IfOk result (λ r. Rested limit (tasks_of board.now) (is_firm pass)
+        (view_of r.pass) r.is_aside) }
+    ensures room { IfOk result (λ r. Spends worker_cost (view_of pass) (view_of r.pass)) }
     ensures inputs { H.inputs host.new ≡ H.inputs host.old }
     ensures later { H.faults host.old ≤ H.faults host.new }
 {
-    let mut outputs = LinkedList::new(alloc);
-    if try_drawn(work, wave, board, &mut pass, &mut outputs, host)? {
-        try_rest(work, wave, board, &mut pass, &mut outputs, host)?;
-    }
-    Ok(Worker { pass, outputs })
+    let mut worker = Worker {
+        pass,
+        outputs: LinkedList::new(alloc),
+        is_aside: false,
+    };
+    let course = try_all(work, wave, limit, board, &mut worker, host)?;
+    worker.is_aside = course.is_aside();
+    Ok(worker)
 }

@@ -101,3 +101,53 @@ pub fn make_meeting<R: Abort>(rt: &R, alloc: Global, turns: u32) -> [Meeting; 2]
     };
     [first, second]
 }
+
+/// A host that tells nothing, and fails at these reads.
+#[derive(Drop)]
+pub struct Reader {
+    fails: &'static [u64],
+    reads: u64,
+    faults: u64,
+}
+
+impl Reader {
+    pub fn new(fails: &'static [u64]) -> Self
+        ensures { result.faults ≡ 0 }
+    {
+        Reader {
+            fails,
+            reads: 0,
+            faults: 0,
+        }
+    }
+}
+
+impl Host for Reader {
+    ghost inputs = { λ _. None };
+
+    ghost begun = { λ _. None };
+
+    ghost faults = { λ h. h.faults };
+
+    fn begin(&mut self, _wave: u32, _task: u32, _attempt: u32) -> Result<(), Failed> {
+        Ok(())
+    }
+
+    fn read(
+        &mut self,
+        _path: &str,
+        _piece: u32,
+        _from: u64,
+        _into: &mut [u8],
+    ) -> Result<(), OutsideError> {
+        self.reads = self.reads.saturating_add(1);
+        if !self.fails.contains(&self.reads) {
+            return Ok(());
+        }
+        if self.faults == u64::MAX {
+            return Err(OutsideError::OutOfMemory);
+        }
+        self.faults += 1;
+        Err(OutsideError::Failed)
+    }
+}

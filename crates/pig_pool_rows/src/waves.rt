@@ -2,31 +2,76 @@
 //
 // Where memory is wanting to a test itself the process ends: that drops nothing, so its proof is short.
 // Trees end by `drop`: one call is cheap to prove, and a tree that dies by name is taken apart variant by variant.
-use crate::hosts::{hosts, make_meeting};
-use crate::work::{Doubles, wave};
+use crate::hosts::{Reader, hosts, make_meeting};
+use crate::work::{Doubles, Reads, wave};
 use pig_board::JobEnd;
-use pig_pool::{WaveEnd, WaveFault};
+use pig_pool::{WaveEnd, WaveFault, run_wave};
 use std::alloc::Global;
 use std::process::Abort;
 
 /// No task wants memory.
 const NONE: u32 = 65536;
 
-/// The tasks of a wave on one host, the calls of `begin` that fail, the task that wants memory, and the answer: for
-/// each task its attempts, those that failed, and the winner.
-fn row(number: u32) -> (u32, &'static [u64], u32, &'static str) {
+/// A wave on one host.
+#[derive(Drop)]
+struct Case {
+    tasks: u32,
+    limit: u32,
+    /// The calls of `begin` that fail.
+    fails: &'static [u64],
+    /// The task that wants memory.
+    wants: u32,
+    /// The rounds, and of each task its attempts, those that failed, and the winner.
+    answer: &'static str,
+}
+
+fn make_row(
+    tasks: u32,
+    limit: u32,
+    fails: &'static [u64],
+    wants: u32,
+    answer: &'static str,
+) -> Case {
+    Case {
+        tasks,
+        limit,
+        fails,
+        wants,
+        answer,
+    }
+}
+
+const FIFTEEN: &[u64] = &[1, 2, 3, 4, 5, 6, 7, 8, 9, 10, 11, 12, 13, 14, 15];
+
+const SIXTEEN: &[u64] = &[1, 2, 3, 4, 5, 6, 7, 8, 9, 10, 11, 12, 13, 14, 15, 16];
+
+fn row(number: u32) -> Case {
     match number {
-        0 => (1, &[1, 2, 3], NONE, "done 4-3-3"),
-        1 => (1, &[1, 2, 3, 4], NONE, "task 0 failed 4-4-none"),
-        2 => (5, &[1, 3, 5, 7], NONE, "done 2-1-1 2-1-1 2-1-1 2-1-1 1-0-0"),
-        3 => (
-            3,
-            &[2, 3, 4, 5],
+        0 => make_row(1, 4, &[1, 2, 3], NONE, "done in 2: 4-3-3"),
+        1 => make_row(1, 4, &[1, 2, 3, 4], NONE, "task 0 failed 4-4-none"),
+        2 => make_row(
+            5,
+            4,
+            &[1, 3, 5, 7],
             NONE,
-            "task 1 failed 1-0-0 4-4-none 0-0-none",
+            "done in 1: 2-1-1 2-1-1 2-1-1 2-1-1 1-0-0",
         ),
-        4 => (0, &[], NONE, "done"),
-        _ => (3, &[1], 2, "out of memory"),
+        3 => make_row(3, 4, &[2, 3, 4, 5], NONE, "done in 2: 1-0-0 4-3-3 2-1-1"),
+        4 => make_row(
+            3,
+            4,
+            &[2, 3, 4, 6],
+            NONE,
+            "task 1 failed 1-0-0 4-4-none 1-0-0",
+        ),
+        5 => make_row(0, 4, &[], NONE, "done in 1:"),
+        6 => make_row(3, 4, &[1], 2, "out of memory"),
+        7 => make_row(1, 1, &[1], NONE, "task 0 failed 1-1-none"),
+        8 => make_row(1, 2, &[1], NONE, "done in 1: 2-1-1"),
+        9 => make_row(1, 3, &[1, 2, 3], NONE, "task 0 failed 3-3-none"),
+        10 => make_row(1, 16, FIFTEEN, NONE, "done in 2: 16-15-15"),
+        11 => make_row(1, 16, SIXTEEN, NONE, "task 0 failed 16-16-none"),
+        _ => make_row(2, 4, &[1, 2, 4, 5], NONE, "done in 1: 3-2-2 3-2-2"),
     }
 }
 
@@ -48,7 +93,8 @@ fn tell<R: Abort>(rt: &R, alloc: Global, end: &JobEnd, told: &mut String) {
 fn answer<R: Abort>(rt: &R, alloc: Global, ended: &Result<WaveEnd<u64>, WaveFault>) -> String {
     match ended {
         Ok(done) => {
-            let mut told = String::from_str(alloc, "done").expect(rt, "memory");
+            let rounds = done.rounds;
+            let mut told = format!(in alloc; "done in {rounds}:").expect(rt, "memory");
             tell(rt, alloc, &done.end, &mut told);
             told
         }
@@ -66,13 +112,17 @@ fn answer<R: Abort>(rt: &R, alloc: Global, ended: &Result<WaveEnd<u64>, WaveFaul
 #[test]
 fn one_host(rt: HostRuntime) {
     let alloc = rt.alloc();
-    for number in 0..6 {
-        let (tasks, fails, wants, wanted) = row(number);
-        let mut hosts = hosts(&rt, alloc, 1, fails);
-        let ended = wave(&rt, alloc, &Doubles { tasks, wants }, &mut hosts);
+    for number in 0..13 {
+        let row = row(number);
+        let mut hosts = hosts(&rt, alloc, 1, row.fails);
+        let work = Doubles {
+            tasks: row.tasks,
+            wants: row.wants,
+        };
+        let ended = wave(&rt, alloc, &work, &mut hosts, row.limit);
         let told = answer(&rt, alloc, &ended);
         drop(ended);
-        assert_eq!(rt; told.as_str(), wanted);
+        assert_eq!(rt; told.as_str(), row.answer);
     }
 }
 
@@ -121,29 +171,25 @@ fn many_hosts(rt: HostRuntime) {
     for number in 0..7 {
         let (count, tasks) = size(number);
         let mut hosts = hosts(&rt, alloc, count, &[]);
-        let ended = wave(&rt, alloc, &Doubles { tasks, wants: NONE }, &mut hosts);
+        let ended = wave(&rt, alloc, &Doubles { tasks, wants: NONE }, &mut hosts, 4);
         let whole = is_done(&ended, tasks);
         drop(ended);
         assert!(rt; whole);
     }
 }
 
-/// Whether a wave in which one of two hosts always fails ended as it may: each task is won, or the task that has
-/// failed four times is named, and those before it have failed less.
-fn may_be(ended: &Result<WaveEnd<u64>, WaveFault>) -> bool {
+/// Whether a wave in which one of two hosts always fails ended well, in one round, with three failures at most: the
+/// host that fails is put aside, also where it began attempts at several tasks.
+fn is_aside(ended: &Result<WaveEnd<u64>, WaveFault>) -> bool {
     match ended {
-        Ok(done) => done.outs.as_slice().len() == 20,
-        Err(WaveFault::TaskFailed { task, end }) => {
-            for t in 0..end.len() {
-                if (t < *task && end.task(t).failed >= 4)
-                    || (t == *task && end.task(t).failed < 4)
-                {
-                    return false;
-                }
+        Ok(done) => {
+            let mut failed = 0u32;
+            for t in 0..done.end.len() {
+                failed = failed.saturating_add(done.end.task(t).failed);
             }
-            *task < 20
+            done.rounds == 1 && failed <= 3 && done.outs.as_slice().len() == 20
         }
-        Err(WaveFault::OutOfMemory) => false,
+        Err(_) => false,
     }
 }
 
@@ -156,10 +202,20 @@ fn one_always_fails(rt: HostRuntime) {
         tasks: 20,
         wants: NONE,
     };
-    let ended = wave(&rt, alloc, &work, &mut hosts);
-    let may_be = may_be(&ended);
+    let ended = wave(&rt, alloc, &work, &mut hosts, 4);
+    let is_aside = is_aside(&ended);
     drop(ended);
-    assert!(rt; may_be);
+    assert!(rt; is_aside);
+}
+
+#[test]
+fn lost_reads(rt: HostRuntime) {
+    let alloc = rt.alloc();
+    let mut hosts = [Reader::new(&[1, 2, 4, 5, 6])];
+    let ended = run_wave(&rt, alloc, &Reads { tasks: 2 }, 0, &mut hosts, 4);
+    let told = answer(&rt, alloc, &ended);
+    drop(ended);
+    assert_eq!(rt; told.as_str(), "done in 2: 3-2-2 4-3-3");
 }
 
 /// Whether a wave of one task ended well.
@@ -178,7 +234,7 @@ fn two_hosts_meet(rt: HostRuntime) {
         tasks: 1,
         wants: NONE,
     };
-    let ended = wave(&rt, alloc, &work, &mut hosts);
+    let ended = wave(&rt, alloc, &work, &mut hosts, 2);
     let met = has_met(&ended);
     drop(ended);
     assert!(rt; met);

@@ -1,99 +1,347 @@
-use Rattle.std.proofs.Common.{◌<◌, rules, ◌∙◌, arith}
-use Rattle.pig_board.specs.Pass.{view_of}
-use Rattle.pig_pool.proofs.Steps.{works-trans, calm-trans, calm-works, calm-closed, calm-failures, calm-tried, room-tried, works-failed, works-offer, won-calm, won-offer, known-offer, open-begin, open_of-begin, own-failed, wins-failed}
+use Rattle.std.proofs.Common.{◌≡◌, ◌<◌, ◌≤◌, ◌+◌, ◌*◌, true, false, rules, refl, sym, ◌∙◌, ap, arith}
+use Rattle.pig_board.specs.View.{knows_winner, fails_of}
+use Rattle.pig_board.specs.Pass.{tasks_of, view_of, may_begin}
+use Rattle.pig_pool.specs.Begins.{tells}
+use Rattle.pig_pool.specs.Workers.{saw_limit}
+use Rattle.pig_pool.proofs.Steps.{calm-closed, room-closed, room-failures, calm-works, closed-offer, closed-failed, may-same}
+use Rattle.pig_pool.proofs.Looks.{begun}
+use Rattle.pig_pool.proofs.Attempts.{calm-both, stands-calm, stands-open, stands-offer, stands-late, stands-failed, stands-same, tried-open, tried-open_of, tried-own, tried-room, tried-works, tried-offer, tried-failed, tried-closed, tried-given_up, try-room}
 use Rattle.pig_pool.proofs.tries.try_once.Goals as goal
 
-pub returns-in-Some-clause-won : goal.returns-in-Some-clause-won
-returns-in-Some-clause-won g c =
-    let calm = calm-closed c.args.t c.closed.result (view_of c.args.pass.now) (view_of c.closed.new.pass) c.closed.ensures.view in
-    won-calm (g.W.Work.right c.args.work.now) (view_of c.args.pass.now) (view_of c.closed.new.pass) c.args.outputs.now calm.wins c.requires.won
-
-pub returns-then-failures-ge-FAILURE_LIMIT-clause-won : goal.returns-then-failures-ge-FAILURE_LIMIT-clause-won
-returns-then-failures-ge-FAILURE_LIMIT-clause-won g c =
-    let v = view_of c.args.pass.now in
-    let x = view_of c.closed.new.pass in
-    let y = view_of c.failures.new.pass in
-    let calm = calm-trans v x y (calm-closed c.args.t c.closed.result v x c.closed.ensures.view) (calm-failures c.args.t c.failures.result x y c.failures.ensures.view) in
-    won-calm (g.W.Work.right c.args.work.now) v y c.args.outputs.now calm.wins c.requires.won
-
-pub returns-then-fail-ge-FAILURE_LIMIT-clause-works : goal.returns-then-fail-ge-FAILURE_LIMIT-clause-works
-returns-then-fail-ge-FAILURE_LIMIT-clause-works g c =
-    let v = view_of c.args.pass.now in
-    let z = view_of c.begin-attempt.new.pass in
-    let w = view_of c.fail.new.pass in
-    let room = c.requires.room in
-    let calm = calm-tried c.args.t c.failures.result c.begin-attempt.result c.closed.result v (view_of c.closed.new.pass) (view_of c.failures.new.pass) z (omega arith) c.closed.ensures.view c.failures.ensures.view c.begin-attempt.ensures.view in
-    let left = room-tried c.args.t c.failures.result c.begin-attempt.result c.closed.result v (view_of c.closed.new.pass) (view_of c.failures.new.pass) z c.closed.ensures.view c.failures.ensures.view c.begin-attempt.ensures.view in
-    let rose : g.H.Host.faults c.args.host.now < g.H.Host.faults c.make_attempt.new.host = search rules in
-    works-trans v z w _ _ _ (calm-works v z (g.H.Host.faults c.args.host.now) (g.H.Host.faults c.args.host.now) (omega arith) calm) (works-failed c.args.t c.fail.result (g.H.Host.faults c.args.host.now) (g.H.Host.faults c.make_attempt.new.host) z w (open_of-begin c.args.t c.begin-attempt.result (view_of c.failures.new.pass) z c.begin-attempt.ensures.view) (omega arith) rose c.fail.ensures.view)
-
-pub returns-then-fail-ge-FAILURE_LIMIT-clause-won : goal.returns-then-fail-ge-FAILURE_LIMIT-clause-won
-returns-then-fail-ge-FAILURE_LIMIT-clause-won g c =
-    let v = view_of c.args.pass.now in
-    let z = view_of c.begin-attempt.new.pass in
-    let w = view_of c.fail.new.pass in
-    let room = c.requires.room in
-    let calm = calm-tried c.args.t c.failures.result c.begin-attempt.result c.closed.result v (view_of c.closed.new.pass) (view_of c.failures.new.pass) z (omega arith) c.closed.ensures.view c.failures.ensures.view c.begin-attempt.ensures.view in
-    let wins = wins-failed c.args.t c.fail.result z w (open_of-begin c.args.t c.begin-attempt.result (view_of c.failures.new.pass) z c.begin-attempt.ensures.view) c.fail.ensures.view in
-    won-calm (g.W.Work.right c.args.work.now) v w c.args.outputs.now (λ u. wins u ∙ calm.wins u) c.requires.won
-
-pub returns-in_ok-offer-in-Ok-clause-works : goal.returns-in_ok-offer-in-Ok-clause-works
-returns-in_ok-offer-in-Ok-clause-works g c =
-    let v = view_of c.args.pass.now in
-    let z = view_of c.begin-attempt.new.pass in
-    let w = view_of c.offer.new.pass in
-    let room = c.requires.room in
-    let f = g.H.Host.faults c.args.host.now in
-    let calm = calm-tried c.args.t c.failures.result c.begin-attempt.result c.closed.result v (view_of c.closed.new.pass) (view_of c.failures.new.pass) z (omega arith) c.closed.ensures.view c.failures.ensures.view c.begin-attempt.ensures.view in
-    works-trans v z w f f (g.H.Host.faults c.make_attempt.new.host) (calm-works v z f f (omega arith) calm)
-    (works-offer c.in_ok-offer-in-Ok.field-0 c.args.t c.begin-attempt.result f (g.H.Host.faults c.make_attempt.new.host) z w (open-begin c.args.t c.begin-attempt.result (view_of c.failures.new.pass) z c.begin-attempt.ensures.view) c.make_attempt.ensures.later c.in_ok-offer-in-Ok.ensures.view)
-
-pub returns-in_ok-offer-in-Ok-clause-won : goal.returns-in_ok-offer-in-Ok-clause-won
-returns-in_ok-offer-in-Ok-clause-won g c =
-    let v = view_of c.args.pass.now in
-    let z = view_of c.begin-attempt.new.pass in
-    let w = view_of c.offer.new.pass in
+pub returns-in-Some-clause-stands : goal.returns-in-Some-clause-stands
+returns-in-Some-clause-stands g c =
+    let p = c.args.worker.now.pass in
+    let os = c.args.worker.now.outputs in
     let right = g.W.Work.right c.args.work.now in
-    let room = c.requires.room in
-    let calm = calm-tried c.args.t c.failures.result c.begin-attempt.result c.closed.result v (view_of c.closed.new.pass) (view_of c.failures.new.pass) z (omega arith) c.closed.ensures.view c.failures.ensures.view c.begin-attempt.ensures.view in
-    won-offer right c.in_ok-offer-in-Ok.field-0 c.args.t c.begin-attempt.result z w c.args.outputs.now c.offer.new.outputs c.in-Ok.output (open-begin c.args.t c.begin-attempt.result (view_of c.failures.new.pass) z c.begin-attempt.ensures.view) c.in-Ok.ensures.right c.in_ok-offer-in-Ok.ensures.view c.in_ok-offer-in-Ok.ensures.outputs
-    (won-calm right v z c.args.outputs.now calm.wins c.requires.won)
+    let t = c.args.t in
+    let limit = c.args.limit in
+    let b = c.args.board.now in
+    let x = c.closed.new.pass in
+    stands-calm right limit b p x os c.requires.stands (calm-closed t c.closed.result (view_of p) (view_of x) c.closed.ensures.view) c.closed.ensures.board
 
-pub returns-in_ok-offer-in-Ok-clause-tried : goal.returns-in_ok-offer-in-Ok-clause-tried
-returns-in_ok-offer-in-Ok-clause-tried g c =
-    let z = view_of c.begin-attempt.new.pass in
-    known-offer c.in_ok-offer-in-Ok.field-0 c.args.t c.begin-attempt.result z (view_of c.offer.new.pass) (open-begin c.args.t c.begin-attempt.result (view_of c.failures.new.pass) z c.begin-attempt.ensures.view) c.in_ok-offer-in-Ok.ensures.view
+pub returns-in-Some-clause-works : goal.returns-in-Some-clause-works
+returns-in-Some-clause-works g c =
+    let p = c.args.worker.now.pass in
+    let os = c.args.worker.now.outputs in
+    let right = g.W.Work.right c.args.work.now in
+    let t = c.args.t in
+    let limit = c.args.limit in
+    let b = c.args.board.now in
+    let x = c.closed.new.pass in
+    calm-works c.args.wave (view_of p) (view_of x) (tells (g.H.Host.faults c.args.host.now) (g.H.Host.begun c.args.host.now)) (calm-closed t c.closed.result (view_of p) (view_of x) c.closed.ensures.view)
 
-pub returns-else-fail-ge-FAILURE_LIMIT-clause-works : goal.returns-else-fail-ge-FAILURE_LIMIT-clause-works
-returns-else-fail-ge-FAILURE_LIMIT-clause-works g c =
-    let v = view_of c.args.pass.now in
-    let z = view_of c.begin-attempt.new.pass in
-    let w = view_of c.fail.new.pass in
-    let room = c.requires.room in
-    let calm = calm-tried c.args.t c.failures.result c.begin-attempt.result c.closed.result v (view_of c.closed.new.pass) (view_of c.failures.new.pass) z (omega arith) c.closed.ensures.view c.failures.ensures.view c.begin-attempt.ensures.view in
-    let left = room-tried c.args.t c.failures.result c.begin-attempt.result c.closed.result v (view_of c.closed.new.pass) (view_of c.failures.new.pass) z c.closed.ensures.view c.failures.ensures.view c.begin-attempt.ensures.view in
-    let rose : g.H.Host.faults c.args.host.now < g.H.Host.faults c.make_attempt.new.host = search rules in
-    works-trans v z w _ _ _ (calm-works v z (g.H.Host.faults c.args.host.now) (g.H.Host.faults c.args.host.now) (omega arith) calm) (works-failed c.args.t c.fail.result (g.H.Host.faults c.args.host.now) (g.H.Host.faults c.make_attempt.new.host) z w (open_of-begin c.args.t c.begin-attempt.result (view_of c.failures.new.pass) z c.begin-attempt.ensures.view) (omega arith) rose c.fail.ensures.view)
+pub returns-then-failures-limit-clause-stands : goal.returns-then-failures-limit-clause-stands
+returns-then-failures-limit-clause-stands g c =
+    let p = c.args.worker.now.pass in
+    let os = c.args.worker.now.outputs in
+    let right = g.W.Work.right c.args.work.now in
+    let t = c.args.t in
+    let limit = c.args.limit in
+    let b = c.args.board.now in
+    let x = c.closed.new.pass in
+    let y = c.failures.new.pass in
+    stands-calm right limit b p y os c.requires.stands (calm-both t c.failures.result c.closed.result p x y c.closed.ensures.view c.failures.ensures.view) c.failures.ensures.board
 
-pub returns-else-fail-ge-FAILURE_LIMIT-clause-won : goal.returns-else-fail-ge-FAILURE_LIMIT-clause-won
-returns-else-fail-ge-FAILURE_LIMIT-clause-won g c =
-    let v = view_of c.args.pass.now in
-    let z = view_of c.begin-attempt.new.pass in
-    let w = view_of c.fail.new.pass in
-    let room = c.requires.room in
-    let calm = calm-tried c.args.t c.failures.result c.begin-attempt.result c.closed.result v (view_of c.closed.new.pass) (view_of c.failures.new.pass) z (omega arith) c.closed.ensures.view c.failures.ensures.view c.begin-attempt.ensures.view in
-    let wins = wins-failed c.args.t c.fail.result z w (open_of-begin c.args.t c.begin-attempt.result (view_of c.failures.new.pass) z c.begin-attempt.ensures.view) c.fail.ensures.view in
-    won-calm (g.W.Work.right c.args.work.now) v w c.args.outputs.now (λ u. wins u ∙ calm.wins u) c.requires.won
+pub returns-then-failures-limit-clause-works : goal.returns-then-failures-limit-clause-works
+returns-then-failures-limit-clause-works g c =
+    let p = c.args.worker.now.pass in
+    let os = c.args.worker.now.outputs in
+    let right = g.W.Work.right c.args.work.now in
+    let t = c.args.t in
+    let limit = c.args.limit in
+    let b = c.args.board.now in
+    let x = c.closed.new.pass in
+    let y = c.failures.new.pass in
+    calm-works c.args.wave (view_of p) (view_of y) (tells (g.H.Host.faults c.args.host.now) (g.H.Host.begun c.args.host.now)) (calm-both t c.failures.result c.closed.result p x y c.closed.ensures.view c.failures.ensures.view)
 
-pub returns-else-fail-ge-FAILURE_LIMIT-clause-tried : goal.returns-else-fail-ge-FAILURE_LIMIT-clause-tried
-returns-else-fail-ge-FAILURE_LIMIT-clause-tried g c =
-    let v = view_of c.args.pass.now in
-    let z = view_of c.begin-attempt.new.pass in
-    let w = view_of c.fail.new.pass in
-    let room = c.requires.room in
-    let calm = calm-tried c.args.t c.failures.result c.begin-attempt.result c.closed.result v (view_of c.closed.new.pass) (view_of c.failures.new.pass) z (omega arith) c.closed.ensures.view c.failures.ensures.view c.begin-attempt.ensures.view in
-    let more = own-failed c.args.t c.fail.result z w (open_of-begin c.args.t c.begin-attempt.result (view_of c.failures.new.pass) z c.begin-attempt.ensures.view) c.fail.ensures.view in
-    let same = calm.own c.args.t in
-    let few = c.if-fail-ge-FAILURE_LIMIT.false in
-    let own = c.fail.ensures.own in
-    (omega arith, omega arith)
+pub begin-attempt-requires-clause-room : goal.begin-attempt-requires-clause-room
+begin-attempt-requires-clause-room g c =
+    let p = c.args.worker.now.pass in
+    let os = c.args.worker.now.outputs in
+    let right = g.W.Work.right c.args.work.now in
+    let t = c.args.t in
+    let limit = c.args.limit in
+    let b = c.args.board.now in
+    let x = c.closed.new.pass in
+    let y = c.failures.new.pass in
+    let none : knows_winner t (view_of p) ≡ false = search rules in
+    let same : view_of x ≡ view_of p = search rules in
+    let less : fails_of t (view_of p) < limit = (let few = c.if-failures-limit.false in let own = c.failures.ensures.own in let e = ap (fails_of t) same in omega arith) in
+    let room = try-room right limit t b p os c.requires.stands c.requires.task less c.requires.room in
+    let there = room-closed t c.closed.result (view_of p) (view_of x) c.closed.ensures.view in
+    let here = room-failures t c.failures.result (view_of x) (view_of y) c.failures.ensures.view in
+    omega arith
+
+pub returns-in_err-offer-in-Ok-Some-clause-stands : goal.returns-in_err-offer-in-Ok-Some-clause-stands
+returns-in_err-offer-in-Ok-Some-clause-stands g c =
+    let p = c.args.worker.now.pass in
+    let os = c.args.worker.now.outputs in
+    let right = g.W.Work.right c.args.work.now in
+    let t = c.args.t in
+    let limit = c.args.limit in
+    let b = c.args.board.now in
+    let x = c.closed.new.pass in
+    let y = c.failures.new.pass in
+    let z = c.begin-attempt.new.pass in
+    let u = c.try_attempt.new.pass in
+    let a = c.begin-attempt.result in
+    let none : knows_winner t (view_of p) ≡ false = search rules in
+    let same : view_of x ≡ view_of p = search rules in
+    let began = begun t c.failures.result a (view_of p) (view_of x) (view_of y) (view_of z) none same c.failures.ensures.view c.begin-attempt.ensures.view in
+    let alike = c.try_attempt.ensures.view in
+    let held = stands-open right limit t a b p z u os c.requires.stands began alike c.try_attempt.ensures.board in
+    let q = c.offer.new.pass in
+    let seen : view_of q ≡ view_of u = search rules in
+    let kept : c.offer.new.outputs ≡ os = search rules in
+    stands-same right limit b u q os c.offer.new.outputs held seen kept c.offer.ensures.board
+
+pub end_failed-requires-clause-room : goal.end_failed-requires-clause-room
+end_failed-requires-clause-room g c =
+    let p = c.args.worker.now.pass in
+    let os = c.args.worker.now.outputs in
+    let right = g.W.Work.right c.args.work.now in
+    let t = c.args.t in
+    let limit = c.args.limit in
+    let b = c.args.board.now in
+    let x = c.closed.new.pass in
+    let y = c.failures.new.pass in
+    let z = c.begin-attempt.new.pass in
+    let u = c.try_attempt.new.pass in
+    let a = c.begin-attempt.result in
+    let none : knows_winner t (view_of p) ≡ false = search rules in
+    let same : view_of x ≡ view_of p = search rules in
+    let began = begun t c.failures.result a (view_of p) (view_of x) (view_of y) (view_of z) none same c.failures.ensures.view c.begin-attempt.ensures.view in
+    let alike = c.try_attempt.ensures.view in
+    let less : fails_of t (view_of p) < limit = (let few = c.if-failures-limit.false in let own = c.failures.ensures.own in let e = ap (fails_of t) same in omega arith) in
+    let room = try-room right limit t b p os c.requires.stands c.requires.task less c.requires.room in
+    let left = tried-room t a (view_of p) (view_of z) (view_of u) began alike in
+    omega arith
+
+pub returns-in_ok-offer-in-Ok-Some-clause-stands : goal.returns-in_ok-offer-in-Ok-Some-clause-stands
+returns-in_ok-offer-in-Ok-Some-clause-stands g c =
+    let p = c.args.worker.now.pass in
+    let os = c.args.worker.now.outputs in
+    let right = g.W.Work.right c.args.work.now in
+    let t = c.args.t in
+    let limit = c.args.limit in
+    let b = c.args.board.now in
+    let x = c.closed.new.pass in
+    let y = c.failures.new.pass in
+    let z = c.begin-attempt.new.pass in
+    let u = c.try_attempt.new.pass in
+    let a = c.begin-attempt.result in
+    let none : knows_winner t (view_of p) ≡ false = search rules in
+    let same : view_of x ≡ view_of p = search rules in
+    let began = begun t c.failures.result a (view_of p) (view_of x) (view_of y) (view_of z) none same c.failures.ensures.view c.begin-attempt.ensures.view in
+    let alike = c.try_attempt.ensures.view in
+    let held = stands-open right limit t a b p z u os c.requires.stands began alike c.try_attempt.ensures.board in
+    let h = tried-open t a (view_of p) (view_of z) (view_of u) began alike in
+    let q = c.offer.new.pass in
+    let good : right t c.in-Ok-Some.output = search rules in
+    stands-offer right limit t a b c.in_ok-offer-in-Ok-Some.field-0 u q os c.offer.new.outputs c.in-Ok-Some.output held h good c.in_ok-offer-in-Ok-Some.ensures.view c.in_ok-offer-in-Ok-Some.ensures.outputs c.offer.ensures.board
+
+pub returns-in_ok-offer-in-Ok-Some-clause-works : goal.returns-in_ok-offer-in-Ok-Some-clause-works
+returns-in_ok-offer-in-Ok-Some-clause-works g c =
+    let p = c.args.worker.now.pass in
+    let os = c.args.worker.now.outputs in
+    let right = g.W.Work.right c.args.work.now in
+    let t = c.args.t in
+    let limit = c.args.limit in
+    let b = c.args.board.now in
+    let x = c.closed.new.pass in
+    let y = c.failures.new.pass in
+    let z = c.begin-attempt.new.pass in
+    let u = c.try_attempt.new.pass in
+    let a = c.begin-attempt.result in
+    let none : knows_winner t (view_of p) ≡ false = search rules in
+    let same : view_of x ≡ view_of p = search rules in
+    let began = begun t c.failures.result a (view_of p) (view_of x) (view_of y) (view_of z) none same c.failures.ensures.view c.begin-attempt.ensures.view in
+    let alike = c.try_attempt.ensures.view in
+    let less : fails_of t (view_of p) < limit = (let few = c.if-failures-limit.false in let own = c.failures.ensures.own in let e = ap (fails_of t) same in omega arith) in
+    let room = try-room right limit t b p os c.requires.stands c.requires.task less c.requires.room in
+    let before = tells (g.H.Host.faults c.args.host.now) (g.H.Host.begun c.args.host.now) in
+    let after = tells (g.H.Host.faults c.try_attempt.new.host) (g.H.Host.begun c.try_attempt.new.host) in
+    let h = tried-open t a (view_of p) (view_of z) (view_of u) began alike in
+    let q = c.offer.new.pass in
+    tried-works c.args.wave t a 0 (view_of p) (view_of z) (view_of u) (view_of q) before after began alike (omega arith) (closed-offer c.in_ok-offer-in-Ok-Some.field-0 t a (view_of u) (view_of q) h c.in_ok-offer-in-Ok-Some.ensures.view) c.try_attempt.ensures.begun (let l = c.try_attempt.ensures.later in omega arith)
+
+pub returns-in_ok-offer-in-Ok-Some-clause-tried : goal.returns-in_ok-offer-in-Ok-Some-clause-tried
+returns-in_ok-offer-in-Ok-Some-clause-tried g c =
+    let p = c.args.worker.now.pass in
+    let os = c.args.worker.now.outputs in
+    let right = g.W.Work.right c.args.work.now in
+    let t = c.args.t in
+    let limit = c.args.limit in
+    let b = c.args.board.now in
+    let x = c.closed.new.pass in
+    let y = c.failures.new.pass in
+    let z = c.begin-attempt.new.pass in
+    let u = c.try_attempt.new.pass in
+    let a = c.begin-attempt.result in
+    let none : knows_winner t (view_of p) ≡ false = search rules in
+    let same : view_of x ≡ view_of p = search rules in
+    let began = begun t c.failures.result a (view_of p) (view_of x) (view_of y) (view_of z) none same c.failures.ensures.view c.begin-attempt.ensures.view in
+    let alike = c.try_attempt.ensures.view in
+    let q = c.offer.new.pass in
+    tried-offer limit t a c.in_ok-offer-in-Ok-Some.field-0 p z u q began alike c.in_ok-offer-in-Ok-Some.ensures.view
+
+pub returns-in-Ok-None-clause-stands : goal.returns-in-Ok-None-clause-stands
+returns-in-Ok-None-clause-stands g c =
+    let p = c.args.worker.now.pass in
+    let os = c.args.worker.now.outputs in
+    let right = g.W.Work.right c.args.work.now in
+    let t = c.args.t in
+    let limit = c.args.limit in
+    let b = c.args.board.now in
+    let x = c.closed.new.pass in
+    let y = c.failures.new.pass in
+    let z = c.begin-attempt.new.pass in
+    let u = c.try_attempt.new.pass in
+    let a = c.begin-attempt.result in
+    let none : knows_winner t (view_of p) ≡ false = search rules in
+    let same : view_of x ≡ view_of p = search rules in
+    let began = begun t c.failures.result a (view_of p) (view_of x) (view_of y) (view_of z) none same c.failures.ensures.view c.begin-attempt.ensures.view in
+    let alike = c.try_attempt.ensures.view in
+    let held = stands-open right limit t a b p z u os c.requires.stands began alike c.try_attempt.ensures.board in
+    let h = tried-open t a (view_of p) (view_of z) (view_of u) began alike in
+    let q = c.end_late.new.pass in
+    stands-late right limit t a b u q os held h c.end_late.ensures.late c.end_late.ensures.board
+
+pub returns-in-Ok-None-clause-works : goal.returns-in-Ok-None-clause-works
+returns-in-Ok-None-clause-works g c =
+    let p = c.args.worker.now.pass in
+    let os = c.args.worker.now.outputs in
+    let right = g.W.Work.right c.args.work.now in
+    let t = c.args.t in
+    let limit = c.args.limit in
+    let b = c.args.board.now in
+    let x = c.closed.new.pass in
+    let y = c.failures.new.pass in
+    let z = c.begin-attempt.new.pass in
+    let u = c.try_attempt.new.pass in
+    let a = c.begin-attempt.result in
+    let none : knows_winner t (view_of p) ≡ false = search rules in
+    let same : view_of x ≡ view_of p = search rules in
+    let began = begun t c.failures.result a (view_of p) (view_of x) (view_of y) (view_of z) none same c.failures.ensures.view c.begin-attempt.ensures.view in
+    let alike = c.try_attempt.ensures.view in
+    let less : fails_of t (view_of p) < limit = (let few = c.if-failures-limit.false in let own = c.failures.ensures.own in let e = ap (fails_of t) same in omega arith) in
+    let room = try-room right limit t b p os c.requires.stands c.requires.task less c.requires.room in
+    let before = tells (g.H.Host.faults c.args.host.now) (g.H.Host.begun c.args.host.now) in
+    let after = tells (g.H.Host.faults c.try_attempt.new.host) (g.H.Host.begun c.try_attempt.new.host) in
+    let h = tried-open t a (view_of p) (view_of z) (view_of u) began alike in
+    let q = c.end_late.new.pass in
+    tried-works c.args.wave t a 0 (view_of p) (view_of z) (view_of u) (view_of q) before after began alike (omega arith) (closed-offer false t a (view_of u) (view_of q) h c.end_late.ensures.late) c.try_attempt.ensures.begun (let l = c.try_attempt.ensures.later in omega arith)
+
+pub returns-in-Ok-None-clause-tried : goal.returns-in-Ok-None-clause-tried
+returns-in-Ok-None-clause-tried g c =
+    let p = c.args.worker.now.pass in
+    let os = c.args.worker.now.outputs in
+    let right = g.W.Work.right c.args.work.now in
+    let t = c.args.t in
+    let limit = c.args.limit in
+    let b = c.args.board.now in
+    let x = c.closed.new.pass in
+    let y = c.failures.new.pass in
+    let z = c.begin-attempt.new.pass in
+    let u = c.try_attempt.new.pass in
+    let a = c.begin-attempt.result in
+    let none : knows_winner t (view_of p) ≡ false = search rules in
+    let same : view_of x ≡ view_of p = search rules in
+    let began = begun t c.failures.result a (view_of p) (view_of x) (view_of y) (view_of z) none same c.failures.ensures.view c.begin-attempt.ensures.view in
+    let alike = c.try_attempt.ensures.view in
+    let q = c.end_late.new.pass in
+    tried-offer limit t a false p z u q began alike c.end_late.ensures.late
+
+pub returns-in-Err-Lost-clause-stands : goal.returns-in-Err-Lost-clause-stands
+returns-in-Err-Lost-clause-stands g c =
+    let p = c.args.worker.now.pass in
+    let os = c.args.worker.now.outputs in
+    let right = g.W.Work.right c.args.work.now in
+    let t = c.args.t in
+    let limit = c.args.limit in
+    let b = c.args.board.now in
+    let x = c.closed.new.pass in
+    let y = c.failures.new.pass in
+    let z = c.begin-attempt.new.pass in
+    let u = c.try_attempt.new.pass in
+    let a = c.begin-attempt.result in
+    let none : knows_winner t (view_of p) ≡ false = search rules in
+    let same : view_of x ≡ view_of p = search rules in
+    let began = begun t c.failures.result a (view_of p) (view_of x) (view_of y) (view_of z) none same c.failures.ensures.view c.begin-attempt.ensures.view in
+    let alike = c.try_attempt.ensures.view in
+    let less : fails_of t (view_of p) < limit = (let few = c.if-failures-limit.false in let own = c.failures.ensures.own in let e = ap (fails_of t) same in omega arith) in
+    let room = try-room right limit t b p os c.requires.stands c.requires.task less c.requires.room in
+    let held = stands-open right limit t a b p z u os c.requires.stands began alike c.try_attempt.ensures.board in
+    let h = tried-open_of t a (view_of p) (view_of z) (view_of u) began alike in
+    let left = tried-room t a (view_of p) (view_of z) (view_of u) began alike in
+    let still : fails_of t (view_of u) < limit = (let e = tried-own t a (view_of p) (view_of z) (view_of u) began alike t in omega arith) in
+    let q = c.end_failed.new.pass in
+    stands-failed right limit t b u q os held h (omega arith) still c.end_failed.ensures.view c.end_failed.ensures.board
+
+pub returns-in-Err-Lost-clause-works : goal.returns-in-Err-Lost-clause-works
+returns-in-Err-Lost-clause-works g c =
+    let p = c.args.worker.now.pass in
+    let os = c.args.worker.now.outputs in
+    let right = g.W.Work.right c.args.work.now in
+    let t = c.args.t in
+    let limit = c.args.limit in
+    let b = c.args.board.now in
+    let x = c.closed.new.pass in
+    let y = c.failures.new.pass in
+    let z = c.begin-attempt.new.pass in
+    let u = c.try_attempt.new.pass in
+    let a = c.begin-attempt.result in
+    let none : knows_winner t (view_of p) ≡ false = search rules in
+    let same : view_of x ≡ view_of p = search rules in
+    let began = begun t c.failures.result a (view_of p) (view_of x) (view_of y) (view_of z) none same c.failures.ensures.view c.begin-attempt.ensures.view in
+    let alike = c.try_attempt.ensures.view in
+    let less : fails_of t (view_of p) < limit = (let few = c.if-failures-limit.false in let own = c.failures.ensures.own in let e = ap (fails_of t) same in omega arith) in
+    let room = try-room right limit t b p os c.requires.stands c.requires.task less c.requires.room in
+    let before = tells (g.H.Host.faults c.args.host.now) (g.H.Host.begun c.args.host.now) in
+    let after = tells (g.H.Host.faults c.try_attempt.new.host) (g.H.Host.begun c.try_attempt.new.host) in
+    let h = tried-open_of t a (view_of p) (view_of z) (view_of u) began alike in
+    let left = tried-room t a (view_of p) (view_of z) (view_of u) began alike in
+    let q = c.end_failed.new.pass in
+    let rose : g.H.Host.faults c.args.host.now < g.H.Host.faults c.try_attempt.new.host = search rules in
+    tried-works c.args.wave t a 1 (view_of p) (view_of z) (view_of u) (view_of q) before after began alike (omega arith) (closed-failed t (view_of u) (view_of q) h (omega arith) c.end_failed.ensures.view) c.try_attempt.ensures.begun (omega arith)
+
+pub returns-in-Err-Lost-clause-tried : goal.returns-in-Err-Lost-clause-tried
+returns-in-Err-Lost-clause-tried g c =
+    let p = c.args.worker.now.pass in
+    let os = c.args.worker.now.outputs in
+    let right = g.W.Work.right c.args.work.now in
+    let t = c.args.t in
+    let limit = c.args.limit in
+    let b = c.args.board.now in
+    let x = c.closed.new.pass in
+    let y = c.failures.new.pass in
+    let z = c.begin-attempt.new.pass in
+    let u = c.try_attempt.new.pass in
+    let a = c.begin-attempt.result in
+    let none : knows_winner t (view_of p) ≡ false = search rules in
+    let same : view_of x ≡ view_of p = search rules in
+    let began = begun t c.failures.result a (view_of p) (view_of x) (view_of y) (view_of z) none same c.failures.ensures.view c.begin-attempt.ensures.view in
+    let alike = c.try_attempt.ensures.view in
+    let less : fails_of t (view_of p) < limit = (let few = c.if-failures-limit.false in let own = c.failures.ensures.own in let e = ap (fails_of t) same in omega arith) in
+    let room = try-room right limit t b p os c.requires.stands c.requires.task less c.requires.room in
+    let q = c.end_failed.new.pass in
+    tried-failed limit t a p z u q c.end_failed.result began alike (omega arith) c.end_failed.ensures.view c.end_failed.ensures.failed
+
+pub returns-in-Err-OutOfMemory-clause-stands : goal.returns-in-Err-OutOfMemory-clause-stands
+returns-in-Err-OutOfMemory-clause-stands g c =
+    let p = c.args.worker.now.pass in
+    let os = c.args.worker.now.outputs in
+    let right = g.W.Work.right c.args.work.now in
+    let t = c.args.t in
+    let limit = c.args.limit in
+    let b = c.args.board.now in
+    let x = c.closed.new.pass in
+    let y = c.failures.new.pass in
+    let z = c.begin-attempt.new.pass in
+    let u = c.try_attempt.new.pass in
+    let a = c.begin-attempt.result in
+    let none : knows_winner t (view_of p) ≡ false = search rules in
+    let same : view_of x ≡ view_of p = search rules in
+    let began = begun t c.failures.result a (view_of p) (view_of x) (view_of y) (view_of z) none same c.failures.ensures.view c.begin-attempt.ensures.view in
+    let alike = c.try_attempt.ensures.view in
+    stands-open right limit t a b p z u os c.requires.stands began alike c.try_attempt.ensures.board

@@ -1,144 +1,208 @@
-use Rattle.std.proofs.Common.{◌<◌, ◌≤◌, ◌+◌, Some, rules, refl, sym, ◌∙◌, ap, subst, arith}
-use Rattle.pig_board.specs.declared.view.View.{View}
-use Rattle.pig_board.specs.View.{IsDraw}
-use Rattle.pig_board.specs.Pass.{tasks_of, view_of}
-use Rattle.pig_pool.specs.Workers.{Works}
-use Rattle.pig_pool.proofs.Steps.{works-refl, works-trans, calm-works, calm-drawn, drawn-some, won-drawn}
+use Rattle.std.proofs.Common.{◌≡◌, ◌<◌, ◌≤◌, ◌+◌, ◌*◌, Some, None, true, false, rules, refl, sym, ◌∙◌, ap, subst, arith}
+use Rattle.pig_board.specs.View.{knows_winner, fails_of, IsDraw}
+use Rattle.pig_board.specs.Pass.{tasks_of, view_of, may_begin}
+use Rattle.pig_pool.specs.Begins.{tells}
+use Rattle.pig_pool.specs.Workers.{Works, Stands, IsTried, Went, KnowsAll, Spends, HasRoom}
+use Rattle.pig_pool.specs.declared.tries.Tried.TheVariants as tried
+use Rattle.pig_pool.specs.declared.worker.Course.TheVariants as course
+use Rattle.pig_pool.proofs.Steps.{works-refl, works-trans, calm-works, calm-drawn, room-drawn, drawn-some, drawn-none, knows-more, may-same, room-after, calm-all, drawn-room, drawn-room-left}
+use Rattle.pig_pool.proofs.Attempts.{stands-calm}
 use Rattle.pig_pool.proofs.worker.try_drawn.Goals as goal
 
 pub loop-t-init : goal.loop-t-init
 loop-t-init g c = record {
-  board = c.requires.board;
-  works = works-refl (view_of c.args.pass.now) (g.H.Host.faults c.args.host.now);
-  won = c.requires.won;
+  stands = c.requires.stands;
+  firm = refl;
+  works = works-refl c.args.wave (view_of c.args.worker.now.pass) (tells (g.H.Host.faults c.args.host.now) (g.H.Host.begun c.args.host.now));
+  room = omega arith;
+  may = c.requires.may;
   inputs = refl;
   later = omega arith;
-  room = omega arith;
 }
 
 pub draw-requires-clause-board : goal.draw-requires-clause-board
-draw-requires-clause-board g c = c.loop-t.invariant.board
+draw-requires-clause-board g c = c.loop-t.invariant.stands.board
 
 pub draw-requires-clause-room : goal.draw-requires-clause-room
-draw-requires-clause-room g c = let before = c.loop-t.invariant.room in let enough = c.requires.room in omega arith
+draw-requires-clause-room g c =
+    let some = drawn-room c.args.limit c.args.board.now c.loop-t.worker.pass (view_of c.args.worker.now.pass) c.requires.room c.loop-t.invariant.stands.board c.loop-t.invariant.stands.few c.loop-t.invariant.room in
+    some
+
+pub try_task-requires-clause-stands : goal.try_task-requires-clause-stands
+try_task-requires-clause-stands g c κs within =
+    let some = drawn-room c.args.limit c.args.board.now c.loop-t.worker.pass (view_of c.args.worker.now.pass) c.requires.room c.loop-t.invariant.stands.board c.loop-t.invariant.stands.few c.loop-t.invariant.room in
+    let calm = calm-drawn (tasks_of c.args.board.now) c.draw.result (view_of c.loop-t.worker.pass) (view_of c.draw.new.pass) some c.draw.ensures.drawn in
+    stands-calm (g.W.Work.right c.args.work.now) c.args.limit c.args.board.now c.loop-t.worker.pass c.draw.new.pass c.loop-t.worker.outputs c.loop-t.invariant.stands calm c.draw.ensures.board
 
 pub try_task-requires-clause-room : goal.try_task-requires-clause-room
 try_task-requires-clause-room g c κs within =
-    let told : IsDraw (tasks_of c.args.board.now) (view_of c.loop-t.pass) (view_of c.draw.new.pass) (Some c.in-Some.t) = search rules in
-    let at = drawn-some (tasks_of c.args.board.now) c.in-Some.t (view_of c.loop-t.pass) (view_of c.draw.new.pass) told in
+    let told : IsDraw (tasks_of c.args.board.now) (view_of c.loop-t.worker.pass) (view_of c.draw.new.pass) (Some c.in-Some.t) = search rules in
+    let at = drawn-some (tasks_of c.args.board.now) c.in-Some.t (view_of c.loop-t.worker.pass) (view_of c.draw.new.pass) told in
     let beyond = at.beyond in
     let below = at.below in
     let known = at.known in
     let left = at.room in
-    let before = c.loop-t.invariant.room in
-    let enough = c.requires.room in
-    omega arith
+    let some = drawn-room c.args.limit c.args.board.now c.loop-t.worker.pass (view_of c.args.worker.now.pass) c.requires.room c.loop-t.invariant.stands.board c.loop-t.invariant.stands.few c.loop-t.invariant.room in
+    let calm = calm-drawn (tasks_of c.args.board.now) c.draw.result (view_of c.loop-t.worker.pass) (view_of c.draw.new.pass) some c.draw.ensures.drawn in
+    drawn-room-left c.args.limit (tasks_of c.args.board.now) c.in-Some.t (view_of c.args.worker.now.pass) (view_of c.loop-t.worker.pass) (view_of c.draw.new.pass) c.requires.room c.loop-t.invariant.room beyond below left (calm-all (view_of c.loop-t.worker.pass) (view_of c.draw.new.pass) calm) some
+
+pub try_task-requires-clause-may : goal.try_task-requires-clause-may
+try_task-requires-clause-may g c κs within =
+    let some = drawn-room c.args.limit c.args.board.now c.loop-t.worker.pass (view_of c.args.worker.now.pass) c.requires.room c.loop-t.invariant.stands.board c.loop-t.invariant.stands.few c.loop-t.invariant.room in
+    let calm = calm-drawn (tasks_of c.args.board.now) c.draw.result (view_of c.loop-t.worker.pass) (view_of c.draw.new.pass) some c.draw.ensures.drawn in
+    may-same c.loop-t.worker.pass c.draw.new.pass calm.streak c.draw.ensures.firm ∙ c.loop-t.invariant.may
 
 pub try_task-requires-clause-suits : goal.try_task-requires-clause-suits
 try_task-requires-clause-suits g c κs within = subst (g.W.Work.suits c.args.work.now) (sym c.loop-t.invariant.inputs) c.requires.suits
 
-pub try_task-requires-clause-won : goal.try_task-requires-clause-won
-try_task-requires-clause-won g c κs within = won-drawn (g.W.Work.right c.args.work.now) (tasks_of c.args.board.now) c.draw.result (view_of c.loop-t.pass) (view_of c.draw.new.pass) c.loop-t.outputs c.draw.ensures.drawn c.loop-t.invariant.won
+pub returns-in_err-try_task-clause-firm : goal.returns-in_err-try_task-clause-firm
+returns-in_err-try_task-clause-firm g c = c.try_task.ensures.firm ∙ c.draw.ensures.firm ∙ c.loop-t.invariant.firm
 
 pub returns-in_err-try_task-clause-inputs : goal.returns-in_err-try_task-clause-inputs
-returns-in_err-try_task-clause-inputs g c =
-    c.try_task.ensures.inputs ∙ c.loop-t.invariant.inputs
+returns-in_err-try_task-clause-inputs g c = c.try_task.ensures.inputs ∙ c.loop-t.invariant.inputs
 
 pub returns-in_err-try_task-clause-later : goal.returns-in_err-try_task-clause-later
-returns-in_err-try_task-clause-later g c =
-    let before = c.loop-t.invariant.later in
-    let then = c.try_task.ensures.later in
-    omega arith
+returns-in_err-try_task-clause-later g c = let before = c.loop-t.invariant.later in let then = c.try_task.ensures.later in omega arith
 
-pub returns-then-not-branch-clause-works : goal.returns-then-not-branch-clause-works
-returns-then-not-branch-clause-works g c =
-    let room : 0 < (view_of c.loop-t.pass).room = (let before = c.loop-t.invariant.room in let enough = c.requires.room in omega arith) in
-    let calm = calm-works (view_of c.loop-t.pass) (view_of c.draw.new.pass) (g.H.Host.faults c.loop-t.host) (g.H.Host.faults c.loop-t.host) (omega arith) (calm-drawn (tasks_of c.args.board.now) c.draw.result (view_of c.loop-t.pass) (view_of c.draw.new.pass) room c.draw.ensures.drawn) in
-    let then : Works (view_of c.draw.new.pass) (view_of c.try_task.new.pass) (g.H.Host.faults c.loop-t.host) (g.H.Host.faults c.try_task.new.host) = search rules in
-    works-trans _ _ _ _ _ _ (works-trans _ _ _ _ _ _ c.loop-t.invariant.works calm) then
+pub returns-in-Over-clause-firm : goal.returns-in-Over-clause-firm
+returns-in-Over-clause-firm g c = c.try_task.ensures.firm ∙ c.draw.ensures.firm ∙ c.loop-t.invariant.firm
 
-pub returns-then-not-branch-clause-room : goal.returns-then-not-branch-clause-room
-returns-then-not-branch-clause-room g c =
-    let told : IsDraw (tasks_of c.args.board.now) (view_of c.loop-t.pass) (view_of c.draw.new.pass) (Some c.in-Some.t) = search rules in
-    let at = drawn-some (tasks_of c.args.board.now) c.in-Some.t (view_of c.loop-t.pass) (view_of c.draw.new.pass) told in
+pub returns-in-Aside-clause-firm : goal.returns-in-Aside-clause-firm
+returns-in-Aside-clause-firm g c = c.try_task.ensures.firm ∙ c.draw.ensures.firm ∙ c.loop-t.invariant.firm
+
+pub returns-in-Over-clause-inputs : goal.returns-in-Over-clause-inputs
+returns-in-Over-clause-inputs g c = c.try_task.ensures.inputs ∙ c.loop-t.invariant.inputs
+
+pub returns-in-Aside-clause-inputs : goal.returns-in-Aside-clause-inputs
+returns-in-Aside-clause-inputs g c = c.try_task.ensures.inputs ∙ c.loop-t.invariant.inputs
+
+pub returns-in-Over-clause-later : goal.returns-in-Over-clause-later
+returns-in-Over-clause-later g c = let before = c.loop-t.invariant.later in let then = c.try_task.ensures.later in omega arith
+
+pub returns-in-Aside-clause-later : goal.returns-in-Aside-clause-later
+returns-in-Aside-clause-later g c = let before = c.loop-t.invariant.later in let then = c.try_task.ensures.later in omega arith
+
+pub returns-in-Over-clause-works : goal.returns-in-Over-clause-works
+returns-in-Over-clause-works g c =
+    let some = drawn-room c.args.limit c.args.board.now c.loop-t.worker.pass (view_of c.args.worker.now.pass) c.requires.room c.loop-t.invariant.stands.board c.loop-t.invariant.stands.few c.loop-t.invariant.room in
+    let calm = calm-drawn (tasks_of c.args.board.now) c.draw.result (view_of c.loop-t.worker.pass) (view_of c.draw.new.pass) some c.draw.ensures.drawn in
+    let drawn = calm-works c.args.wave (view_of c.loop-t.worker.pass) (view_of c.draw.new.pass) (tells (g.H.Host.faults c.loop-t.host) (g.H.Host.begun c.loop-t.host)) calm in
+    let then : Works c.args.wave (view_of c.draw.new.pass) (view_of c.try_task.new.worker.pass) (tells (g.H.Host.faults c.loop-t.host) (g.H.Host.begun c.loop-t.host)) (tells (g.H.Host.faults c.try_task.new.host) (g.H.Host.begun c.try_task.new.host)) = search rules in
+    works-trans c.args.wave _ _ _ _ _ _ (works-trans c.args.wave _ _ _ _ _ _ c.loop-t.invariant.works drawn) then
+
+pub returns-in-Aside-clause-works : goal.returns-in-Aside-clause-works
+returns-in-Aside-clause-works g c =
+    let some = drawn-room c.args.limit c.args.board.now c.loop-t.worker.pass (view_of c.args.worker.now.pass) c.requires.room c.loop-t.invariant.stands.board c.loop-t.invariant.stands.few c.loop-t.invariant.room in
+    let calm = calm-drawn (tasks_of c.args.board.now) c.draw.result (view_of c.loop-t.worker.pass) (view_of c.draw.new.pass) some c.draw.ensures.drawn in
+    let drawn = calm-works c.args.wave (view_of c.loop-t.worker.pass) (view_of c.draw.new.pass) (tells (g.H.Host.faults c.loop-t.host) (g.H.Host.begun c.loop-t.host)) calm in
+    let then : Works c.args.wave (view_of c.draw.new.pass) (view_of c.try_task.new.worker.pass) (tells (g.H.Host.faults c.loop-t.host) (g.H.Host.begun c.loop-t.host)) (tells (g.H.Host.faults c.try_task.new.host) (g.H.Host.begun c.try_task.new.host)) = search rules in
+    works-trans c.args.wave _ _ _ _ _ _ (works-trans c.args.wave _ _ _ _ _ _ c.loop-t.invariant.works drawn) then
+
+pub returns-in-Over-clause-room : goal.returns-in-Over-clause-room
+returns-in-Over-clause-room g c =
+    let told : IsDraw (tasks_of c.args.board.now) (view_of c.loop-t.worker.pass) (view_of c.draw.new.pass) (Some c.in-Some.t) = search rules in
+    let at = drawn-some (tasks_of c.args.board.now) c.in-Some.t (view_of c.loop-t.worker.pass) (view_of c.draw.new.pass) told in
     let beyond = at.beyond in
     let below = at.below in
     let known = at.known in
     let left = at.room in
+    let some = drawn-room c.args.limit c.args.board.now c.loop-t.worker.pass (view_of c.args.worker.now.pass) c.requires.room c.loop-t.invariant.stands.board c.loop-t.invariant.stands.few c.loop-t.invariant.room in
+    let calm = calm-drawn (tasks_of c.args.board.now) c.draw.result (view_of c.loop-t.worker.pass) (view_of c.draw.new.pass) some c.draw.ensures.drawn in
+    let spent : Spends 1 (view_of c.draw.new.pass) (view_of c.try_task.new.worker.pass) = search rules in
     let before = c.loop-t.invariant.room in
-    let enough = c.requires.room in
-    let then : (view_of c.draw.new.pass).room ≤ (view_of c.try_task.new.pass).room + 8 = search rules in
+    let all = calm-all (view_of c.loop-t.worker.pass) (view_of c.draw.new.pass) calm in
     omega arith
 
-pub returns-then-not-branch-clause-inputs : goal.returns-then-not-branch-clause-inputs
-returns-then-not-branch-clause-inputs g c =
-    c.try_task.ensures.inputs ∙ c.loop-t.invariant.inputs
-
-pub returns-then-not-branch-clause-later : goal.returns-then-not-branch-clause-later
-returns-then-not-branch-clause-later g c =
-    let before = c.loop-t.invariant.later in
-    let then = c.try_task.ensures.later in
+pub returns-in-Aside-clause-room : goal.returns-in-Aside-clause-room
+returns-in-Aside-clause-room g c =
+    let told : IsDraw (tasks_of c.args.board.now) (view_of c.loop-t.worker.pass) (view_of c.draw.new.pass) (Some c.in-Some.t) = search rules in
+    let at = drawn-some (tasks_of c.args.board.now) c.in-Some.t (view_of c.loop-t.worker.pass) (view_of c.draw.new.pass) told in
+    let beyond = at.beyond in
+    let below = at.below in
+    let known = at.known in
+    let left = at.room in
+    let some = drawn-room c.args.limit c.args.board.now c.loop-t.worker.pass (view_of c.args.worker.now.pass) c.requires.room c.loop-t.invariant.stands.board c.loop-t.invariant.stands.few c.loop-t.invariant.room in
+    let calm = calm-drawn (tasks_of c.args.board.now) c.draw.result (view_of c.loop-t.worker.pass) (view_of c.draw.new.pass) some c.draw.ensures.drawn in
+    let spent : Spends 1 (view_of c.draw.new.pass) (view_of c.try_task.new.worker.pass) = search rules in
+    let before = c.loop-t.invariant.room in
+    let all = calm-all (view_of c.loop-t.worker.pass) (view_of c.draw.new.pass) calm in
     omega arith
 
 pub loop-t-smaller : goal.loop-t-smaller
 loop-t-smaller g c =
-    let told : IsDraw (tasks_of c.args.board.now) (view_of c.loop-t.pass) (view_of c.draw.new.pass) (Some c.in-Some.t) = search rules in
-    let at = drawn-some (tasks_of c.args.board.now) c.in-Some.t (view_of c.loop-t.pass) (view_of c.draw.new.pass) told in
+    let told : IsDraw (tasks_of c.args.board.now) (view_of c.loop-t.worker.pass) (view_of c.draw.new.pass) (Some c.in-Some.t) = search rules in
+    let at = drawn-some (tasks_of c.args.board.now) c.in-Some.t (view_of c.loop-t.worker.pass) (view_of c.draw.new.pass) told in
     let beyond = at.beyond in
     let below = at.below in
     let known = at.known in
     let left = at.room in
-    let before = c.loop-t.invariant.room in
-    let enough = c.requires.room in
-    let then : Works (view_of c.draw.new.pass) (view_of c.try_task.new.pass) (g.H.Host.faults c.loop-t.host) (g.H.Host.faults c.try_task.new.host) = search rules in
+    let then : Works c.args.wave (view_of c.draw.new.pass) (view_of c.try_task.new.worker.pass) (tells (g.H.Host.faults c.loop-t.host) (g.H.Host.begun c.loop-t.host)) (tells (g.H.Host.faults c.try_task.new.host) (g.H.Host.begun c.try_task.new.host)) = search rules in
     let stays = then.notes.known in
     omega arith
 
 pub loop-t-preserved : goal.loop-t-preserved
 loop-t-preserved g c =
-    let told : IsDraw (tasks_of c.args.board.now) (view_of c.loop-t.pass) (view_of c.draw.new.pass) (Some c.in-Some.t) = search rules in
-    let at = drawn-some (tasks_of c.args.board.now) c.in-Some.t (view_of c.loop-t.pass) (view_of c.draw.new.pass) told in
+    let told : IsDraw (tasks_of c.args.board.now) (view_of c.loop-t.worker.pass) (view_of c.draw.new.pass) (Some c.in-Some.t) = search rules in
+    let at = drawn-some (tasks_of c.args.board.now) c.in-Some.t (view_of c.loop-t.worker.pass) (view_of c.draw.new.pass) told in
     let beyond = at.beyond in
     let below = at.below in
     let known = at.known in
     let left = at.room in
+    let some = drawn-room c.args.limit c.args.board.now c.loop-t.worker.pass (view_of c.args.worker.now.pass) c.requires.room c.loop-t.invariant.stands.board c.loop-t.invariant.stands.few c.loop-t.invariant.room in
+    let calm = calm-drawn (tasks_of c.args.board.now) c.draw.result (view_of c.loop-t.worker.pass) (view_of c.draw.new.pass) some c.draw.ensures.drawn in
+    let drawn = calm-works c.args.wave (view_of c.loop-t.worker.pass) (view_of c.draw.new.pass) (tells (g.H.Host.faults c.loop-t.host) (g.H.Host.begun c.loop-t.host)) calm in
+    let then : Works c.args.wave (view_of c.draw.new.pass) (view_of c.try_task.new.worker.pass) (tells (g.H.Host.faults c.loop-t.host) (g.H.Host.begun c.loop-t.host)) (tells (g.H.Host.faults c.try_task.new.host) (g.H.Host.begun c.try_task.new.host)) = search rules in
+    let spent : Spends 1 (view_of c.draw.new.pass) (view_of c.try_task.new.worker.pass) = search rules in
     let before = c.loop-t.invariant.room in
-    let enough = c.requires.room in
-    let room : 0 < (view_of c.loop-t.pass).room = (let before = c.loop-t.invariant.room in let enough = c.requires.room in omega arith) in
-    let calm = calm-works (view_of c.loop-t.pass) (view_of c.draw.new.pass) (g.H.Host.faults c.loop-t.host) (g.H.Host.faults c.loop-t.host) (omega arith) (calm-drawn (tasks_of c.args.board.now) c.draw.result (view_of c.loop-t.pass) (view_of c.draw.new.pass) room c.draw.ensures.drawn) in
-    let then : Works (view_of c.draw.new.pass) (view_of c.try_task.new.pass) (g.H.Host.faults c.loop-t.host) (g.H.Host.faults c.try_task.new.host) = search rules in
-    let then-room : (view_of c.draw.new.pass).room ≤ (view_of c.try_task.new.pass).room + 8 = search rules in
+    let all = calm-all (view_of c.loop-t.worker.pass) (view_of c.draw.new.pass) calm in
     let stays = then.notes.known in
+    let went : Went c.args.limit c.try_task.new.worker.pass (knows_winner c.in-Some.t (view_of c.try_task.new.worker.pass) ≡ true) course.On = search rules in
     let later = c.try_task.ensures.later in
+    let was = c.loop-t.invariant in
     record {
-      board = c.try_task.ensures.board;
-      works = works-trans _ _ _ _ _ _ (works-trans _ _ _ _ _ _ c.loop-t.invariant.works calm) then;
-      won = search rules;
-      inputs = c.try_task.ensures.inputs ∙ c.loop-t.invariant.inputs;
-      later = let p = c.loop-t.invariant.later in omega arith;
+      stands = c.try_task.ensures.stands;
+      firm = c.try_task.ensures.firm ∙ c.draw.ensures.firm ∙ c.loop-t.invariant.firm;
+      works = works-trans c.args.wave _ _ _ _ _ _ (works-trans c.args.wave _ _ _ _ _ _ was.works drawn) then;
       room = omega arith;
+      may = went.1;
+      inputs = c.try_task.ensures.inputs ∙ was.inputs;
+      later = let p = was.later in omega arith;
     }
+
+pub returns-clause-stands : goal.returns-clause-stands
+returns-clause-stands g c =
+    let some = drawn-room c.args.limit c.args.board.now c.loop-t.worker.pass (view_of c.args.worker.now.pass) c.requires.room c.loop-t.invariant.stands.board c.loop-t.invariant.stands.few c.loop-t.invariant.room in
+    let calm = calm-drawn (tasks_of c.args.board.now) c.draw.result (view_of c.loop-t.worker.pass) (view_of c.draw.new.pass) some c.draw.ensures.drawn in
+    stands-calm (g.W.Work.right c.args.work.now) c.args.limit c.args.board.now c.loop-t.worker.pass c.draw.new.pass c.loop-t.worker.outputs c.loop-t.invariant.stands calm c.draw.ensures.board
+
+pub returns-clause-firm : goal.returns-clause-firm
+returns-clause-firm g c = c.draw.ensures.firm ∙ c.loop-t.invariant.firm
 
 pub returns-clause-works : goal.returns-clause-works
 returns-clause-works g c =
-    let room : 0 < (view_of c.loop-t.pass).room = (let before = c.loop-t.invariant.room in let enough = c.requires.room in omega arith) in
-    let calm = calm-works (view_of c.loop-t.pass) (view_of c.draw.new.pass) (g.H.Host.faults c.loop-t.host) (g.H.Host.faults c.loop-t.host) (omega arith) (calm-drawn (tasks_of c.args.board.now) c.draw.result (view_of c.loop-t.pass) (view_of c.draw.new.pass) room c.draw.ensures.drawn) in
-    works-trans _ _ _ _ _ _ c.loop-t.invariant.works calm
+    let some = drawn-room c.args.limit c.args.board.now c.loop-t.worker.pass (view_of c.args.worker.now.pass) c.requires.room c.loop-t.invariant.stands.board c.loop-t.invariant.stands.few c.loop-t.invariant.room in
+    let calm = calm-drawn (tasks_of c.args.board.now) c.draw.result (view_of c.loop-t.worker.pass) (view_of c.draw.new.pass) some c.draw.ensures.drawn in
+    let drawn = calm-works c.args.wave (view_of c.loop-t.worker.pass) (view_of c.draw.new.pass) (tells (g.H.Host.faults c.loop-t.host) (g.H.Host.begun c.loop-t.host)) calm in
+    works-trans c.args.wave _ _ _ _ _ _ c.loop-t.invariant.works drawn
 
-pub returns-clause-won : goal.returns-clause-won
-returns-clause-won g c =
-    won-drawn (g.W.Work.right c.args.work.now) (tasks_of c.args.board.now) c.draw.result (view_of c.loop-t.pass) (view_of c.draw.new.pass) c.loop-t.outputs c.draw.ensures.drawn c.loop-t.invariant.won
+pub returns-clause-drawn : goal.returns-clause-drawn
+returns-clause-drawn g c =
+    let some = drawn-room c.args.limit c.args.board.now c.loop-t.worker.pass (view_of c.args.worker.now.pass) c.requires.room c.loop-t.invariant.stands.board c.loop-t.invariant.stands.few c.loop-t.invariant.room in
+    let calm = calm-drawn (tasks_of c.args.board.now) c.draw.result (view_of c.loop-t.worker.pass) (view_of c.draw.new.pass) some c.draw.ensures.drawn in
+    let told : IsDraw (tasks_of c.args.board.now) (view_of c.loop-t.worker.pass) (view_of c.draw.new.pass) None = search rules in
+    (drawn-none (tasks_of c.args.board.now) (view_of c.loop-t.worker.pass) (view_of c.draw.new.pass) told, may-same c.loop-t.worker.pass c.draw.new.pass calm.streak c.draw.ensures.firm ∙ c.loop-t.invariant.may)
 
 pub returns-clause-room : goal.returns-clause-room
 returns-clause-room g c =
-    let left = ap (λ (z : View). z.room) c.draw.ensures.drawn.view in
+    let some = drawn-room c.args.limit c.args.board.now c.loop-t.worker.pass (view_of c.args.worker.now.pass) c.requires.room c.loop-t.invariant.stands.board c.loop-t.invariant.stands.few c.loop-t.invariant.room in
+    let calm = calm-drawn (tasks_of c.args.board.now) c.draw.result (view_of c.loop-t.worker.pass) (view_of c.draw.new.pass) some c.draw.ensures.drawn in
+    let left = room-drawn (tasks_of c.args.board.now) c.draw.result (view_of c.loop-t.worker.pass) (view_of c.draw.new.pass) c.draw.ensures.drawn in
     let before = c.loop-t.invariant.room in
+    let all = calm-all (view_of c.loop-t.worker.pass) (view_of c.draw.new.pass) calm in
     omega arith
 
 pub returns-clause-inputs : goal.returns-clause-inputs
-returns-clause-inputs g c =
-    c.loop-t.invariant.inputs
+returns-clause-inputs g c = c.loop-t.invariant.inputs
 
 pub returns-clause-later : goal.returns-clause-later
-returns-clause-later g c =
-    c.loop-t.invariant.later
+returns-clause-later g c = c.loop-t.invariant.later
