@@ -1,5 +1,5 @@
 -- What is held after bytes are added or taken off, or a row is ended.
-use Rattle.std.proofs.Common.{◌≡◌, ◌≤◌, ◌+◌, ℕ, List, [], ◌∷◌, ◌++◌, length, take, drop, refl, sym, ◌∙◌, ap, subst, arith}
+use Rattle.std.proofs.Common.{◌≡◌, ◌≤◌, ◌+◌, ℕ, List, [], ◌∷◌, ◌++◌, length, take, drop, sym, ◌∙◌, ap, subst, arith}
 use Rattle.std.specs.Prelude.{OnOk, OnErr, Result, Ok, Err}
 use Rattle.std.specs.Coded.{Coded-set, coded_ℕ, coded_list}
 use Rattle.std.proofs.Math.Logic.{∥∥₁_map, ∥∥₁_elim}

@@ -1,5 +1,5 @@
 -- Rows kept as their codes in one list of bytes: what stands there, and that it tells the rows.
-use Rattle.std.specs.Prelude.{◌≡◌, ◌+◌, ℕ, List, [], ◌∷◌, ◌++◌, length, refl}
+use Rattle.std.specs.Prelude.{◌≡◌, ◌+◌, ℕ, List, [], ◌∷◌, length, refl}
 use Rattle.std.proofs.Common.{sym, ◌∙◌, ap}
 use Rattle.std.specs.Coded.{Coded-set, coded_ℕ, coded_list, ×_prop}
 use Rattle.std.specs.List.{flat_map}

@@ -1,4 +1,4 @@
-ghost use Rattle.std.specs.Prelude.{◌≡◌, [], ◌++◌, length, drop, take, OnOk, OnErr};
+ghost use Rattle.std.specs.Prelude.{◌≡◌, [], length, drop, take, OnOk, OnErr};
 ghost use Rattle.pig_packed.specs.RowCodes.{HeldRows, held_rows_prop};
 
 use crate::bytes::{extend, push_end};

@@ -7,7 +7,8 @@
 //!
 //! The definitions stand in `specs/`: `RowCodes` (the codes of rows, where each ends, and that they tell the rows) and
 //! `Growth` (rows as they are added). The laws for crates above stand in `proofs/`: `Standing` (rows joined, taken, mapped
-//! and their codes, and where the code of a row stands) and `Lending` (what is lent is the code of a row).
+//! and their codes, and where the code of a row stands), `Lending` (what is lent is the code of a row) and `Adding` (rows
+//! that are added in turn).
 #![tactic(auto)]
 
 mod builder;

@@ -1,4 +1,4 @@
-use Rattle.std.proofs.Common.{◌≡◌, ◌∙◌, ap, sym, take, drop}
+use Rattle.std.proofs.Common.{◌≡◌, ◌∙◌, ap, sym, take}
 use Rattle.pig_packed.specs.RowCodes.{ends_from}
 use Rattle.pig_packed.proofs.Growing.{told, all_whole}
 use Rattle.pig_packed.proofs.builder.PackedBuilder.into_packed.Goals as goal

@@ -1,4 +1,4 @@
-use Rattle.std.proofs.Common.{◌≡◌, [], refl, ◌∙◌, ap, sym, take, arith}
+use Rattle.std.proofs.Common.{refl, ◌∙◌, ap, sym, take, arith}
 use Rattle.pig_packed.specs.RowCodes.{ends_from}
 use Rattle.pig_packed.proofs.Growing.{none_held}
 use Rattle.pig_packed.proofs.builder.PackedBuilder.new.Goals as goal
