@@ -1,0 +1,4 @@
+pub mod Standing
+mod Growing
+pub mod Lending
+pub mod Adding
