@@ -4,6 +4,7 @@
 ghost use Rattle.std.specs.Prelude.{◌≡◌, ◌<◌, [], length};
 ghost use Rattle.pig_value.specs.Trees.{row_tree};
 ghost use Rattle.pig_value.specs.Valid.{IsRow};
+ghost use Rattle.pig_packed.specs.Growth.{IsWhole};
 
 use pig_keycode::{decode_row, encode_row};
 use pig_packed::{Packed, PackedBuilder};
@@ -52,12 +53,19 @@ fn by_values<R: Abort>(rt: &R, alloc: Global) -> Packed {
     built.finish()
 }
 
+// Adds a row by its code, behind one that is taken back.
 fn add_code<R: Abort>(rt: &R, built: &mut PackedBuilder, rows: &Packed, at: usize)
-    requires none_begun { built.old.begun ≡ [] }
-    requires within { at < length rows.now }
-    ensures { built.new.begun ≡ [] }
+    requires { at < length rows.now }
 {
-    built.push_code(rows.code(at)).expect(rt, "memory");
+    built.undo();
+    push(rt, built, rows.code(at));
+}
+
+fn push<R: Abort>(rt: &R, built: &mut PackedBuilder, code: &[u8])
+    requires begun { built.old.begun ≡ [] }
+    requires whole { IsWhole code.now }
+{
+    built.push_code(code).expect(rt, "memory");
 }
 
 // The rows by their codes.
@@ -83,7 +91,6 @@ fn write_pieces<R: Abort>(rt: &R, built: &mut PackedBuilder, code: &[u8])
 // Adds a row in two pieces, behind one that is taken back.
 fn add_pieces<R: Abort>(rt: &R, built: &mut PackedBuilder, rows: &Packed, at: usize)
     requires { at < length rows.now }
-    ensures { built.new.begun ≡ [] }
 {
     built.write(&[6, 1, 0, 0]).expect(rt, "memory");
     built.undo();

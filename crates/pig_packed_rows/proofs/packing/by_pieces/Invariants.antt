@@ -1,6 +1,0 @@
-use Rattle.std.proofs.Common.{◌≡◌, []}
-use Rattle.pig_packed_rows.proofs.packing.by_pieces.Given as goal
-
--- no row is begun
-abbrev pub invariant-loop-at : goal.invariant-loop-at
-invariant-loop-at g l = l.built.begun ≡ []
