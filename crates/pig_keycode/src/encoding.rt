@@ -158,7 +158,8 @@ fn write_places(
 }
 
 fn write_place(row: &Tuple, place: u32, dir: Dir, out: &mut Vec<u8>) -> Result<(), AllocError>
-    ensures ok { OnOk result (out.new.items ≡ out.old.items ++ code_in dir (at place (row_tree row.now))) }
+    ensures ok { OnOk result
+        (out.new.items ≡ out.old.items ++ code_in dir (at place (row_tree row.now))) }
     ensures grows { IsExtended out.old.items out.new.items }
 {
     match field_at(row, place) {

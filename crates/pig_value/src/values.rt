@@ -141,7 +141,7 @@ impl Kind {
 
     /// The kinds of a tuple's fields or of a bag's rows, or the kind where it is neither.
     pub fn into_kinds(self) -> Result<Kinds, Kind>
-        ensures kinds { IfOk result (λ kinds. kinds_in (kind_tree self) ≡ Some (map kind_tree kinds)) }
+        ensures kinds { IfOk result (λ ks. kinds_in (kind_tree self) ≡ Some (map kind_tree ks)) }
         ensures other { IfErr result (λ k. k ≡ self) }
         ensures none { IfErr result (λ _. kinds_in (kind_tree self) ≡ None) }
     {
