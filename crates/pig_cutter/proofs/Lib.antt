@@ -1,0 +1,10 @@
+mod Among
+mod Keyed
+mod Boundaries
+mod Others
+mod Alone
+mod Ways
+mod Told
+mod Main
+mod Stores
+mod Asserts

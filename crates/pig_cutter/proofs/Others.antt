@@ -1,0 +1,150 @@
+-- DISTINCT, ORDER and LIMIT by their tasks.
+use Rattle.std.specs.Prelude.{◌≡◌, ◌<◌, ◌+◌, ℕ, Bool, true, false, List, [], ◌∷◌, ◌++◌, length, map, take, Option, None, Some, slice_get, refl}
+use Rattle.std.proofs.Common.{ap, sym, ◌∙◌, arith, subst, append-nil, true≢false}
+use Rattle.std.specs.List.{AllByRecursion, flat_map, range_with_len}
+use Rattle.std.specs.Option.{option_map, option_map_or}
+use Rattle.pig_value.specs.declared.inputs.Input.{Input}
+use Rattle.pig_value.specs.declared.outcomes.Kept.{Kept}
+use Rattle.pig_value.specs.Elementwise.{Each}
+use Rattle.pig_value.specs.Gathering.{Entry}
+use Rattle.pig_value.specs.Orders.{bag_of, row_cmp, tree_cmp}
+use Rattle.pig_value.specs.Sorts.{distinct, sort}
+use Rattle.pig_value.specs.Trees.{Tree, fields_of, v_tuple}
+use Rattle.pig_value.proofs.list_laws.Elementwise.{each_weaker_two}
+use Rattle.pig_value.proofs.list_laws.Listing.{each_of_all, each_weaker, flat_map_each}
+use Rattle.pig_value.proofs.list_laws.Elementwise.{range_below}
+use Rattle.pig_typed.specs.declared.blocks.SortKey.{SortKey}
+use Rattle.pig_algebra.specs.Combining.{combined, folded, parts_of_rows}
+use Rattle.pig_plan.specs.Entries.{dirs_of, entries_of, from_inputs, key_entries, sort_entry}
+use Rattle.pig_plan.specs.Meaning.{AreKept, setting, width_at}
+use Rattle.pig_plan.specs.Nodes.{inputs_of, is_live, is_sorted, op_at}
+use Rattle.pig_plan.specs.Operators.{Setting, operator_rows, order_rows}
+use Rattle.pig_plan.specs.Plans.{Plan, PlanOp, p_distinct, p_limit, p_order}
+use Rattle.pig_runs.specs.Cutting.{Point, slice_of}
+use Rattle.pig_runs.specs.Entries.{run_cmp}
+use Rattle.pig_physical.specs.Combining.{folds}
+use Rattle.pig_physical.specs.Outs.{Outs, TaskOut, entries_at, outs_at, rows_in}
+use Rattle.pig_physical.specs.Running.{AreCuts, IsRun, rows_given}
+use Rattle.pig_physical.specs.Stages.{MapTask, Stages, first_wave, map_tasks}
+use Rattle.pig_physical.specs.Values.{IsMapForm, IsMapValue, IsReduceForm, IsReduceValue, Keeps, brought_together, handed_on, key_row, reduced, slices, task_rows}
+use Rattle.pig_waves.proofs.Distinct.{rows_once}
+use Rattle.pig_waves.proofs.Given.{entries_of_part, map_values, reduce_values, reduce_task, rows_by_parts}
+use Rattle.pig_waves.proofs.Limits.{first_together, kept_together}
+use Rattle.pig_waves.proofs.Sorted.{in_slice_at, slices_together}
+use Rattle.pig_waves.proofs.Tasks.{from_tasks, rows_at_node}
+use Rattle.pig_waves.specs.Laws.{StandsAt}
+use Rattle.pig_cutter.proofs.Boundaries.{none_folds_at}
+use Rattle.pig_cutter.proofs.Keyed.{all_entries, given_by_parts, own_entries}
+
+abbrev Rows : Type 0
+Rows = List (List Tree)
+
+module _ (s : Stages) (inputs : List Input) (points : ℕ → List Point) (outs : Outs) (run : IsRun s inputs points outs) (some : 0 < s.sizing.reducers) (k input : ℕ) where
+  abbrev rows : Rows
+  rows = rows_at_node s inputs outs input
+
+  -- the rows of all tasks of a node with one input
+  tasks_rows : (o : PlanOp) → inputs_of o ≡ input ∷ [] → flat_map (task_rows s.plan inputs outs) (map_tasks s k o) ≡ rows
+  tasks_rows o one =
+      from_tasks s inputs outs (λ i rs. rs) (λ i. refl) (λ i xs ys. refl) k o
+      ∙ ap (λ nodes. from_inputs (λ i rs. rs) 0 nodes (rows_at_node s inputs outs)) one
+      ∙ append-nil rows
+
+  -- ---- DISTINCT
+
+  row_keys : (i : ℕ) (rs : Rows) → map (λ e. e.key) (entries_of (p_distinct input) i rs) ≡ map (λ row. v_tuple (fields_of row)) rs
+  row_keys i [] = refl
+  row_keys i (r ∷ rs) = ap (λ more. v_tuple (fields_of r) ∷ more) (row_keys i rs)
+
+  pub distinct_is : op_at s.plan k ≡ Some (p_distinct input) → StandsAt s k (p_distinct input)
+      → bag_of (rows_given s.plan outs k (p_distinct input)) ≡ bag_of (distinct row_cmp rows)
+  distinct_is at stands =
+      let o : PlanOp = p_distinct input in
+      let none = none_folds_at s.plan k o at refl in
+      ap bag_of
+      (given_by_parts s inputs points outs run some k o at stands refl (λ es. refl) (λ i rs form h. h) (λ p form h. h)
+      ∙ flat_map_each _ (λ p. map key_row (distinct tree_cmp (map (λ e. e.key) (flat_map _ (map_tasks s k o))))) (range_with_len 0 s.sizing.reducers)
+      (each_of_all _ (λ p. ap (λ f. option_map_or (λ block. folded block _) f (map key_row (distinct tree_cmp (map (λ e. e.key) _)))) none) (range_with_len 0 s.sizing.reducers)))
+      ∙ rows_once (task_rows s.plan inputs outs) (own_entries s inputs points outs run some k o at stands) (λ t. row_keys t.way.input (task_rows s.plan inputs outs t)) (map_tasks s k o) s.sizing.reducers some rows
+      (tasks_rows o refl)
+
+  -- ---- ORDER
+
+  module _ (keys : List SortKey) (at : op_at s.plan k ≡ Some (p_order input keys)) (alive : is_live s.plan k ≡ true) (stands : StandsAt s k (p_order input keys)) where
+    abbrev o : PlanOp
+    o = p_order input keys
+
+    abbrev pts : List Point
+    pts = points (first_wave s.plan k)
+
+    cuts : AreCuts s.sizing.reducers (dirs_of keys) pts
+    cuts = run.cuts k o keys at alive refl
+
+    none : folds s.plan k ≡ None
+    none = none_folds_at s.plan k o at refl
+
+    handed_is : (es : List Entry) → handed_on s.plan k o es ≡ es
+    handed_is es = ap (λ found. option_map_or (λ parts. combined parts es) (option_map parts_of_rows found) es) none
+
+    pub order_is : rows_given s.plan outs k o ≡ order_rows keys rows
+    order_is =
+        let tasks = map_tasks s k o in
+        let own = own_entries s inputs points outs run some k o at stands in
+        let outs_of = outs_at outs (first_wave s.plan k) in
+        let sorted : ℕ → MapTask → List Entry = λ p t. slice_of (dirs_of keys) pts p (sort (run_cmp (dirs_of keys)) (own t)) in
+        rows_by_parts s inputs points outs run k o at stands (λ p form h. h)
+        ∙ ap (λ n. flat_map (λ p. reduced s.plan k o (flat_map (entries_at p) outs_of)) (range_with_len 0 n)) (sym cuts.count)
+        ∙ flat_map_each (λ p. reduced s.plan k o (flat_map (entries_at p) outs_of)) (λ p. map (λ e. e.row) (sort (run_cmp (dirs_of keys)) (flat_map (λ t. slice_of (dirs_of keys) pts p (sort (run_cmp (dirs_of keys)) (own t))) tasks))) (range_with_len 0 (length pts + 1))
+        (each_weaker (λ p. p < 0 + (length pts + 1)) _
+        (λ p below.
+        ap (λ f. option_map_or (λ block. folded block (flat_map (entries_at p) outs_of)) f (map (λ e. e.row) (sort (run_cmp (dirs_of keys)) (flat_map (entries_at p) outs_of)))) none
+        ∙ ap (λ es. map (λ e. e.row) (sort (run_cmp (dirs_of keys)) es))
+        (entries_of_part s inputs points outs run k o at stands (λ i rs form h. h) (λ q es. slice_of (dirs_of keys) pts q (sort (run_cmp (dirs_of keys)) es)) p
+        (in_slice_at (dirs_of keys) pts p (omega (arith, below)))
+        ∙ flat_map_each _ (λ t. slice_of (dirs_of keys) pts p (sort (run_cmp (dirs_of keys)) (own t))) tasks
+        (each_of_all _ (λ t. ap (λ es. slice_of (dirs_of keys) pts p (sort (run_cmp (dirs_of keys)) es)) (handed_is (own t))) tasks)))
+        (range_with_len 0 (length pts + 1)) (range_below 0 (length pts + 1)))
+        ∙ slices_together keys pts cuts.ascend own tasks rows
+        (all_entries s inputs points outs run some k o at stands ∙ append-nil (map (sort_entry keys) rows))
+
+  -- ---- LIMIT
+
+  module _ (count : ℕ) (at : op_at s.plan k ≡ Some (p_limit input count)) (stands : StandsAt s k (p_limit input count)) where
+    abbrev limit : PlanOp
+    limit = p_limit input count
+
+    -- its one reduce task, and the rows that this gives
+    record HasOne (rs : Rows) : Type 0 where
+      pub out : TaskOut
+      pub is : rs ≡ rows_in out.form
+      pub keeps : Keeps (is_sorted s.plan input) count (flat_map (λ o. rows_in o.form) (outs_at outs (first_wave s.plan k))) out.form
+
+    one_alone : (found : List TaskOut) → Each (λ p out. IsReduceValue s outs (reduce_task s inputs points outs run k limit at stands p) limit out) (0 ∷ []) found → HasOne (flat_map (λ out. rows_in out.form) found)
+    one_alone [] h = absurd h
+    one_alone (out ∷ []) h = record { out = out; is = append-nil (rows_in out.form); keeps = h.0.form }
+    one_alone (out ∷ other ∷ more) h = absurd h.1
+
+    last_out : HasOne (rows_given s.plan outs k limit)
+    last_out = one_alone (outs_at outs (first_wave s.plan k + 1)) (reduce_values s inputs points outs run k limit at stands)
+
+    tasks_keep : Each (λ t out. Keeps (is_sorted s.plan input) count (task_rows s.plan inputs outs t) out.form) (map_tasks s k limit) (outs_at outs (first_wave s.plan k))
+    tasks_keep =
+        each_weaker_two _ (λ t out. Keeps (is_sorted s.plan input) count (task_rows s.plan inputs outs t) out.form)
+        (λ t out h. subst (λ n. IsMapForm s (Some (points (first_wave s.plan k))) n limit t.way.input (task_rows s.plan inputs outs t) out.form) h.0 h.1.form)
+        (map_tasks s k limit) (outs_at outs (first_wave s.plan k)) (map_values s inputs points outs run k limit at stands)
+
+    pub limit_is : is_sorted s.plan input ≡ true → rows_given s.plan outs k limit ≡ take count rows
+    limit_is sorted =
+        last_out.is
+        ∙ first_together count (task_rows s.plan inputs outs) (map_tasks s k limit) (outs_at outs (first_wave s.plan k)) last_out.out
+        (subst (λ b. Each (λ t out. Keeps b count (task_rows s.plan inputs outs t) out.form) (map_tasks s k limit) (outs_at outs (first_wave s.plan k))) sorted tasks_keep)
+        (subst (λ b. Keeps b count (flat_map (λ o. rows_in o.form) (outs_at outs (first_wave s.plan k))) last_out.out.form) sorted last_out.keeps)
+        ∙ ap (take count) (tasks_rows limit refl)
+
+    pub limit_keeps : is_sorted s.plan input ≡ false → AreKept count rows (rows_given s.plan outs k limit)
+    limit_keeps bare =
+        subst (AreKept count rows) (sym last_out.is)
+        (subst (λ all. AreKept count all (rows_in last_out.out.form)) (tasks_rows limit refl)
+        (kept_together count (task_rows s.plan inputs outs) (map_tasks s k limit) (outs_at outs (first_wave s.plan k)) last_out.out
+        (subst (λ b. Each (λ t out. Keeps b count (task_rows s.plan inputs outs t) out.form) (map_tasks s k limit) (outs_at outs (first_wave s.plan k))) bare tasks_keep)
+        (subst (λ b. Keeps b count (flat_map (λ o. rows_in o.form) (outs_at outs (first_wave s.plan k))) last_out.out.form) bare last_out.keeps)))

@@ -1,0 +1,156 @@
+-- Which ASSERTs tasks tell of: those that the meaning does not meet.
+use Rattle.std.specs.Prelude.{◌≡◌, ◌<◌, ◌+◌, ◌-◌, ◌==◌, ◌&&◌, ◌||◌, ℕ, zero, suc, Bool, true, false, not, List, [], ◌∷◌, ◌++◌, length, map, take, Option, None, Some, slice_get, refl, if◌then◌else◌}
+use Rattle.std.proofs.Common.{inl, inr, ap, sym, ◌∙◌, arith, subst, cond, true≢false}
+use Rattle.std.specs.List.{AllByRecursion, filter, flat_map, list_all, list_any, range_with_len}
+use Rattle.std.specs.Option.{option_map, option_map_or}
+use Rattle.std.specs.Ordering.{nat_cmp}
+use Rattle.std.proofs.lemmas.Bool.{cases_Bool, eq-eqb}
+use Rattle.std.proofs.lemmas.Bool.Decides.{nat_tests}
+use Rattle.pig_value.specs.declared.inputs.Input.{Input}
+use Rattle.pig_value.specs.Elementwise.{Each}
+use Rattle.pig_value.specs.Orders.{bag_of, row_cmp}
+use Rattle.pig_value.specs.Sorts.{sort}
+use Rattle.pig_value.specs.Trees.{Tree}
+use Rattle.pig_value.proofs.list_laws.Bags.{each-sort, permutation_from_bag, sort_permutes}
+use Rattle.pig_value.proofs.list_laws.Listing.{each_at, each_weaker, some_same}
+use Rattle.pig_value.proofs.list_laws.Permutations.{along_permutation}
+use Rattle.pig_typed.specs.Evaluation.{passes}
+use Rattle.pig_typed.specs.Typed.{Typed}
+use Rattle.pig_plan.specs.Nodes.{Entering, Path, and_then, entering, inputs_of, is_boundary, is_live, is_store, live, op_at, paths_of}
+use Rattle.pig_plan.specs.Plans.{Plan, PlanNode, PlanOp, p_load, p_filter, p_foreach, p_group_all, p_group, p_join, p_union, p_distinct, p_order, p_limit, p_store, p_assert, p_rank}
+use Rattle.pig_plan.specs.Results.{at_place}
+use Rattle.pig_plan.specs.Steps.{node_step, rows_along, through}
+use Rattle.pig_plan.specs.Valid.{IsPlan, are_twins}
+use Rattle.pig_runs.specs.Cutting.{Point}
+use Rattle.pig_physical.specs.Combining.{folds}
+use Rattle.pig_physical.specs.declared.parts.Part.{Part}
+use Rattle.pig_physical.specs.declared.waves.WaveHead.{WaveHead}
+use Rattle.pig_physical.specs.declared.waves.WaveKind.{WaveKind}
+use Rattle.pig_physical.specs.declared.waves.WaveKind.TheVariants as kinds
+use Rattle.pig_physical.specs.Outs.{Outs, TaskOut, outs_at}
+use Rattle.pig_physical.specs.Running.{IsRun, all_unmet}
+use Rattle.pig_physical.specs.Stages.{MapTask, Stages, Task, first_wave, heads, map_tasks, partition_tasks, parts_at, path_tasks, store_tasks, stores, t_map, t_reduce, tasks_by, tasks_in, tasks_of, tasks_on}
+use Rattle.pig_physical.specs.Values.{IsValue, not_met, not_met_at, read_rows, source_rows, task_unmet, unmet_on}
+use Rattle.pig_waves.proofs.Sources.{rows_of_parts}
+use Rattle.pig_waves.proofs.Tasks.{rows_at_node, through_parts}
+use Rattle.pig_cutter.proofs.Among.{Among, MadeOf, Side, among_behind, among_first, among_flat, among_front, among_later, among_map, any_holds, in_front, behind, made_of, mapped_from, not_all, side_of, some_fails, some_holds}
+use Rattle.pig_cutter.proofs.Ways.{Before, GoesOn, cut_path}
+
+abbrev Rows : Type 0
+Rows = List (List Tree)
+
+-- ---- tests and order
+
+all_swaps : {X : Type 0} (p : X → Bool) (x y : X) (zs : List X) → list_all p (x ∷ y ∷ zs) ≡ list_all p (y ∷ x ∷ zs)
+all_swaps p x y zs = swapped (p x) (p y) (list_all p zs)
+  where
+    swapped : (a b c : Bool) → (a && (b && c)) ≡ (b && (a && c))
+    swapped true true c = refl
+    swapped true false c = refl
+    swapped false true c = refl
+    swapped false false c = refl
+
+pub all_alike : (p : List Tree → Bool) (xs ys : Rows) → bag_of xs ≡ bag_of ys → list_all p xs ≡ list_all p ys
+all_alike p xs ys same =
+    along_permutation (list_all p) (λ x us vs h. ap (λ b. p x && b) h) (all_swaps p) xs ys (permutation_from_bag row_cmp xs ys same)
+
+pub all_among : {X : Type 0} (xs : List X) → AllByRecursion (λ x. Among x xs) xs
+all_among [] = tt
+all_among (x ∷ xs) = (among_first x xs, each_weaker (λ y. Among y xs) (λ y. Among y (x ∷ xs)) (λ y h. among_later y x xs h) xs (all_among xs))
+
+-- an element of a sorted list is one of the list, and the other way round
+pub from_sorted : (n : ℕ) (xs : List ℕ) → Among n (sort nat_cmp xs) → Among n xs
+from_sorted n xs h = each_at (λ m. Among m xs) (sort nat_cmp xs) h.at n h.is (each-sort nat_cmp (λ m. Among m xs) xs (all_among xs))
+
+any_swaps : (p : ℕ → Bool) (x y : ℕ) (zs : List ℕ) → list_any p (x ∷ y ∷ zs) ≡ list_any p (y ∷ x ∷ zs)
+any_swaps p x y zs = swapped (p x) (p y) (list_any p zs)
+  where
+    swapped : (a b c : Bool) → (a || (b || c)) ≡ (b || (a || c))
+    swapped true true c = refl
+    swapped true false c = refl
+    swapped false true c = refl
+    swapped false false c = refl
+
+pub any_sorted : (p : ℕ → Bool) (xs : List ℕ) → list_any p xs ≡ list_any p (sort nat_cmp xs)
+any_sorted p xs = along_permutation (list_any p) (λ x us vs h. ap (λ b. p x || b) h) (any_swaps p) xs (sort nat_cmp xs) (sort_permutes nat_cmp xs)
+
+pub in_none : {X : Type 0} {x : X} → Among x [] → ⊥
+in_none {x = x} h = let at = h.is in absurd (cc)
+
+-- ---- what is told on the way
+
+module _ (plan : Plan) where
+  abbrev put : List ℕ → Rows → Rows
+  put = through (folds plan) plan
+
+  pub record ToldAt (ns : List ℕ) (rs : Rows) (statement : ℕ) : Type 0 where
+    pub before : List ℕ
+    pub k : ℕ
+    pub after : List ℕ
+    pub is : ns ≡ before ++ k ∷ after
+    pub v : PlanNode
+    pub at : slice_get plan k ≡ Some v
+    pub input : ℕ
+    pub test : Typed
+    pub message : Option (List ℕ)
+    pub op : v.op ≡ p_assert input test message
+    pub statement_is : v.statement ≡ statement
+    pub fails : list_all (passes test) (put before rs) ≡ false
+
+  told_here : (k : ℕ) (ns : List ℕ) (rs : Rows) (statement : ℕ) → Among statement (not_met_at plan k rs) → ToldAt (k ∷ ns) rs statement
+  told_here k ns rs statement h = by_node (slice_get plan k) refl h
+    where
+      by_op : (v : PlanNode) → slice_get plan k ≡ Some v → (o : PlanOp) → v.op ≡ o → Among statement (not_met v.statement o rs) → ToldAt (k ∷ ns) rs statement
+      by_op v at (p_assert input test message) op g = by_test (list_all (passes test) rs) refl g
+        where
+          by_test : (b : Bool) → list_all (passes test) rs ≡ b → Among statement (cond b [] (v.statement ∷ [])) → ToldAt (k ∷ ns) rs statement
+          by_test true e none = absurd (in_none none)
+          by_test false e one = record {
+            before = []; k = k; after = ns; is = refl; v = v; at = at; input = input; test = test; message = message; op = op; statement_is = the_one one.at one.is; fails = e;
+          }
+            where
+              the_one : (i : ℕ) → slice_get (v.statement ∷ []) i ≡ Some statement → v.statement ≡ statement
+              the_one zero f = some_same v.statement statement f
+              the_one (suc i) f = absurd (cc)
+      by_op v at (p_load path delim columns) op g = absurd (in_none g)
+      by_op v at (p_filter input test) op g = absurd (in_none g)
+      by_op v at (p_foreach input block) op g = absurd (in_none g)
+      by_op v at (p_group_all input) op g = absurd (in_none g)
+      by_op v at (p_group keyed) op g = absurd (in_none g)
+      by_op v at (p_join keyed side replicated) op g = absurd (in_none g)
+      by_op v at (p_union numbers) op g = absurd (in_none g)
+      by_op v at (p_distinct input) op g = absurd (in_none g)
+      by_op v at (p_order input keys) op g = absurd (in_none g)
+      by_op v at (p_limit input count) op g = absurd (in_none g)
+      by_op v at (p_store input path delim) op g = absurd (in_none g)
+      by_op v at (p_rank input keys dense) op g = absurd (in_none g)
+
+      by_node : (found : Option PlanNode) → slice_get plan k ≡ found → Among statement (option_map_or (λ node. not_met node.statement node.op rs) found []) → ToldAt (k ∷ ns) rs statement
+      by_node None e g = absurd (in_none g)
+      by_node (Some v) e g = by_op v e v.op refl g
+
+  pub told_at : (ns : List ℕ) (rs : Rows) (statement : ℕ) → Among statement (unmet_on plan ns rs) → ToldAt ns rs statement
+  told_at [] rs statement h = absurd (in_none h)
+  told_at (k ∷ ns) rs statement h = by_side (side_of statement (not_met_at plan k rs) (unmet_on plan ns (node_step (folds plan) plan k rs)) h)
+    where
+      later : ToldAt ns (node_step (folds plan) plan k rs) statement → ToldAt (k ∷ ns) rs statement
+      later g = record {
+        before = k ∷ g.before; k = g.k; after = g.after; is = ap (λ more. k ∷ more) g.is; v = g.v; at = g.at; input = g.input; test = g.test; message = g.message;
+        op = g.op; statement_is = g.statement_is; fails = g.fails;
+      }
+
+      by_side : Side statement (not_met_at plan k rs) (unmet_on plan ns (node_step (folds plan) plan k rs)) → ToldAt (k ∷ ns) rs statement
+      by_side (in_front g) = told_here k ns rs statement g
+      by_side (behind g) = later (told_at ns (node_step (folds plan) plan k rs) statement g)
+
+  -- an ASSERT on the way tells of rows that it is not met by
+  pub tells : (before : List ℕ) (k : ℕ) (after : List ℕ) (rs : Rows) (statement input : ℕ) (test : Typed) (message : Option (List ℕ))
+      → slice_get plan k ≡ Some (record { op = p_assert input test message; statement = statement }) → list_all (passes test) (put before rs) ≡ false
+      → Among statement (unmet_on plan (before ++ k ∷ after) rs)
+  tells [] k after rs statement input test message at fails =
+      among_front statement (not_met_at plan k rs) (unmet_on plan after (node_step (folds plan) plan k rs))
+      (subst (Among statement)
+      (sym (ap (λ found. option_map_or (λ node. not_met node.statement node.op rs) found []) at ∙ ap (λ b. cond b [] (statement ∷ [])) fails)) (among_first statement []))
+  tells (j ∷ before) k after rs statement input test message at fails =
+      among_behind statement (not_met_at plan j rs) (unmet_on plan (before ++ k ∷ after) (node_step (folds plan) plan j rs))
+      (tells before k after (node_step (folds plan) plan j rs) statement input test message at fails)

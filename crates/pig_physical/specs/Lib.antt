@@ -1,0 +1,5 @@
+pub mod Combining
+pub mod Stages
+pub mod Outs
+pub mod Values
+pub mod Running

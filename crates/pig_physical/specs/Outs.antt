@@ -1,0 +1,45 @@
+-- What tasks hand on, as contracts see it.
+use Rattle.std.specs.Prelude.{ℕ, List, [], Option, slice_get}
+use Rattle.std.specs.Option.{option_map_or}
+use Rattle.pig_value.specs.Gathering.{Entry}
+use Rattle.pig_value.specs.Trees.{Tree}
+use Rattle.pig_plan.specs.Results.{at_place}
+use Rattle.pig_runs.specs.Entries.{InDirections}
+
+-- rows, sorted runs by partition, or the bytes of a STORE's part
+pub data Form : Type 0 where
+  o_rows : List (List Tree) → Form
+  o_runs : List InDirections → Form
+  o_bytes : List ℕ → Form
+
+-- what a task hands on, how many lines it read from its split, and the statements of the ASSERTs on its path that its rows don't meet
+pub record TaskOut : Type 0 where
+  pub form : Form
+  pub lines : ℕ
+  pub unmet : List ℕ
+
+-- the outputs of each wave that ended, in the order of its tasks
+abbrev pub Outs : Type 0
+Outs = List (List TaskOut)
+
+abbrev pub rows_in : Form → List (List Tree)
+rows_in (o_rows rows) = rows
+rows_in form = []
+
+abbrev pub runs_in : Form → List InDirections
+runs_in (o_runs runs) = runs
+runs_in form = []
+
+abbrev pub bytes_in : Form → List ℕ
+bytes_in (o_bytes bytes) = bytes
+bytes_in form = []
+
+abbrev pub outs_at : Outs → ℕ → List TaskOut
+outs_at = at_place []
+
+abbrev pub rows_at : Outs → ℕ → ℕ → List (List Tree)
+rows_at outs wave at = option_map_or (λ out. rows_in out.form) (slice_get (outs_at outs wave) at) []
+
+-- the entries of a partition
+abbrev pub entries_at : ℕ → TaskOut → List Entry
+entries_at p out = option_map_or (λ run. run.entries) (slice_get (runs_in out.form) p) []

@@ -1,0 +1,154 @@
+-- What each task must hand on: the value of a task.
+-- (Building a High-Level Dataflow System on top of Map-Reduce: "Map-Reduce Plan Compilation", "Use of the combiner". That lines belong to
+-- the split in which they start, how keys go to partitions, and what a LIMIT's tasks hand on, are choices of this profile.)
+use Rattle.std.specs.Prelude.{◌≡◌, ℕ, ◌+◌, Bool, true, false, List, [], ◌∷◌, ◌++◌, map, take, length, Option, Some, None, slice_get, if◌then◌else◌}
+use Rattle.std.specs.List.{flat_map, list_all, range_with_len}
+use Rattle.std.specs.Option.{option_map_or}
+use Rattle.std.specs.Ordering.{nat_cmp}
+use Rattle.pig_value.specs.declared.inputs.Input.{Input}
+use Rattle.pig_value.specs.declared.operators.Dir.{Dir}
+use Rattle.pig_value.specs.FieldRows.{row_of}
+use Rattle.pig_value.specs.Gathering.{Entry, in_part}
+use Rattle.pig_value.specs.Lines.{lines_within}
+use Rattle.pig_value.specs.Orders.{tree_cmp}
+use Rattle.pig_value.specs.Sorts.{distinct, sort}
+use Rattle.pig_value.specs.Texts.{rows_text}
+use Rattle.pig_value.specs.Trees.{Tree, fields_list, v_tuple}
+use Rattle.pig_typed.specs.Evaluation.{passes}
+use Rattle.pig_storage.specs.declared.splits.Split.{Split}
+use Rattle.pig_algebra.specs.Combining.{combined, folded}
+use Rattle.pig_plan.specs.ByKey.{gathered}
+use Rattle.pig_plan.specs.Entries.{dirs_of, entries_of, made_by, sort_keys}
+use Rattle.pig_plan.specs.Meaning.{AreKept, width_at}
+use Rattle.pig_plan.specs.Nodes.{is_sorted, op_at}
+use Rattle.pig_plan.specs.Operators.{pieces_of}
+use Rattle.pig_plan.specs.Plans.{Plan, PlanOp, p_load, p_assert, p_distinct, p_limit, p_store}
+use Rattle.pig_plan.specs.Results.{at_place}
+use Rattle.pig_plan.specs.Steps.{node_step, through}
+use Rattle.pig_runs.specs.Cutting.{Point, slice_of}
+use Rattle.pig_runs.specs.Entries.{InDirections, run_cmp, run_of}
+use Rattle.pig_runs.specs.Parts.{pn}
+use Rattle.pig_physical.specs.Combining.{combining, folds}
+use Rattle.pig_physical.specs.Outs.{Form, Outs, TaskOut, entries_at, o_bytes, o_rows, o_runs, outs_at, rows_at, rows_in}
+use Rattle.pig_physical.specs.Stages.{MapTask, Stages, Task, t_map, t_reduce}
+use Rattle.pig_physical.specs.declared.parts.Part.{Part}
+use Rattle.pig_physical.specs.declared.parts.Part.TheVariants as parts
+use Rattle.pig_physical.specs.declared.parts.ReduceTask.{ReduceTask}
+
+-- ---- a task's rows
+
+-- the lines that start in a split
+abbrev pub split_lines : List Input → List ℕ → Split → List (List ℕ)
+split_lines inputs path s = lines_within s.from s.to (at_place [] (pieces_of inputs path) s.piece)
+
+abbrev pub part_lines : List Input → Part → PlanOp → List (List ℕ)
+part_lines inputs (parts.Output wave at) o = []
+part_lines inputs (parts.Split s) (p_load path delim columns) = split_lines inputs path s
+part_lines inputs (parts.Split s) o = []
+
+-- the rows of a part of a source
+abbrev pub part_rows : List Input → Outs → Part → PlanOp → List (List Tree)
+part_rows inputs outs (parts.Output wave at) o = rows_at outs wave at
+part_rows inputs outs (parts.Split s) (p_load path delim columns) = map (row_of columns delim) (split_lines inputs path s)
+part_rows inputs outs (parts.Split s) o = []
+
+abbrev pub source_lines : Plan → List Input → ℕ → Part → List (List ℕ)
+source_lines plan inputs k part = option_map_or (part_lines inputs part) (op_at plan k) []
+
+abbrev pub source_rows : Plan → List Input → Outs → ℕ → Part → List (List Tree)
+source_rows plan inputs outs k part = option_map_or (part_rows inputs outs part) (op_at plan k) []
+
+abbrev pub lines_of : Plan → List Input → MapTask → List (List ℕ)
+lines_of plan inputs t = source_lines plan inputs t.way.path.source t.part
+
+abbrev pub read_rows : Plan → List Input → Outs → MapTask → List (List Tree)
+read_rows plan inputs outs t = source_rows plan inputs outs t.way.path.source t.part
+
+-- the rows of a task: those of its part, put through its path
+abbrev pub task_rows : Plan → List Input → Outs → MapTask → List (List Tree)
+task_rows plan inputs outs t = through (folds plan) plan t.way.path.nodes (read_rows plan inputs outs t)
+
+-- ---- ASSERTs that are not met
+
+abbrev pub not_met : ℕ → PlanOp → List (List Tree) → List ℕ
+not_met statement (p_assert input cond message) rows = if list_all (passes cond) rows then [] else statement ∷ []
+not_met statement o rows = []
+
+abbrev pub not_met_at : Plan → ℕ → List (List Tree) → List ℕ
+not_met_at plan k rows = option_map_or (λ node. not_met node.statement node.op rows) (slice_get plan k) []
+
+-- the statements of the ASSERTs among the nodes that the rows, put through them one behind the other, don't meet
+abbrev pub unmet_on : Plan → List ℕ → List (List Tree) → List ℕ
+unmet_on plan [] rows = []
+unmet_on plan (k ∷ nodes) rows = not_met_at plan k rows ++ unmet_on plan nodes (node_step (folds plan) plan k rows)
+
+abbrev pub task_unmet : Plan → List Input → Outs → MapTask → List ℕ
+task_unmet plan inputs outs t = sort nat_cmp (unmet_on plan t.way.path.nodes (read_rows plan inputs outs t))
+
+-- ---- runs
+
+-- the entries that a map task hands on, of those of its rows
+abbrev pub handed_on : Plan → ℕ → PlanOp → List Entry → List Entry
+handed_on plan k o entries = option_map_or (λ parts. combined parts entries) (combining plan k o) entries
+
+-- one run for each partition: an entry stands in the one that its key's text gives
+abbrev pub partitions : ℕ → List Entry → List InDirections
+partitions n entries = map (λ p. run_of [] (in_part (λ e. pn e.key n) p entries)) (range_with_len 0 n)
+
+-- the one run of an ORDER, and the slices that stand in its place once points are chosen
+abbrev pub slices : Option (List Point) → List Dir → List Entry → List InDirections
+slices None ds entries = run_of ds entries ∷ []
+slices (Some points) ds entries =
+    map (λ p. record { dirs = ds; entries = slice_of ds points p (sort (run_cmp ds) entries) }) (range_with_len 0 (length points + 1))
+
+abbrev pub runs_of : ℕ → Option (List Point) → PlanOp → List Entry → List InDirections
+runs_of n points o entries = option_map_or (λ keys. slices points (dirs_of keys) entries) (sort_keys o) (partitions n entries)
+
+-- ---- rows brought together
+
+abbrev pub key_row : Tree → List Tree
+key_row (v_tuple fields) = fields_list fields
+key_row key = []
+
+-- what a boundary node makes of the entries of a partition
+abbrev pub brought_together : (ℕ → ℕ) → PlanOp → List Entry → List (List Tree)
+brought_together width (p_distinct input) entries = map key_row (distinct tree_cmp (map (λ e. e.key) entries))
+brought_together width o entries =
+    option_map_or (λ keys. map (λ e. e.row) (sort (run_cmp (dirs_of keys)) entries)) (sort_keys o) (gathered (made_by width o) entries)
+
+-- A GROUP that folds gives the rows of its FOREACH.
+abbrev pub reduced : Plan → ℕ → PlanOp → List Entry → List (List Tree)
+reduced plan k o entries = option_map_or (λ block. folded block entries) (folds plan k) (brought_together (width_at plan) o entries)
+
+-- ---- the value of a task
+
+-- what the tasks of a LIMIT hand on: of a sorted node the first rows, else any that it may keep
+pub record Keeps (sorted : Bool) (count : ℕ) (rows : List (List Tree)) (form : Form) : Type 0 where
+  pub kept : List (List Tree)
+  pub is : form ≡ o_rows kept
+  pub first : sorted ≡ true → kept ≡ take count rows
+  pub some : sorted ≡ false → AreKept count rows kept
+
+-- of a map task of a node with these rows of the input at a place; `points` are those that cut an ORDER's runs, once they are chosen
+abbrev pub IsMapForm : Stages → Option (List Point) → ℕ → PlanOp → ℕ → List (List Tree) → Form → Type 0
+IsMapForm s points k (p_limit input count) i rows form = Keeps (is_sorted s.plan input) count rows form
+IsMapForm s points k (p_store input path delim) i rows form = form ≡ o_bytes (rows_text delim rows)
+IsMapForm s points k o i rows form = form ≡ o_runs (runs_of s.sizing.reducers points o (handed_on s.plan k o (entries_of o i rows)))
+
+abbrev pub IsReduceForm : Stages → ℕ → PlanOp → List TaskOut → ℕ → Form → Type 0
+IsReduceForm s k (p_limit input count) outs p form = Keeps (is_sorted s.plan input) count (flat_map (λ out. rows_in out.form) outs) form
+IsReduceForm s k o outs p form = form ≡ o_rows (reduced s.plan k o (flat_map (entries_at p) outs))
+
+pub record IsMapValue (s : Stages) (inputs : List Input) (points : Option (List Point)) (outs : Outs) (t : MapTask) (o : PlanOp) (out : TaskOut) : Type 0 where
+  pub form : IsMapForm s points t.node o t.way.input (task_rows s.plan inputs outs t) out.form
+  pub lines : out.lines ≡ length (lines_of s.plan inputs t)
+  pub unmet : out.unmet ≡ task_unmet s.plan inputs outs t
+
+pub record IsReduceValue (s : Stages) (outs : Outs) (t : ReduceTask) (o : PlanOp) (out : TaskOut) : Type 0 where
+  pub form : IsReduceForm s t.node o (outs_at outs t.wave) t.part out.form
+  pub lines : out.lines ≡ 0
+  pub unmet : out.unmet ≡ []
+
+abbrev pub IsValue : Stages → List Input → Option (List Point) → Outs → Task → TaskOut → Type 0
+IsValue s inputs points outs (t_map t) out = (o : PlanOp) → op_at s.plan t.node ≡ Some o → IsMapValue s inputs points outs t o out
+IsValue s inputs points outs (t_reduce t) out = (o : PlanOp) → op_at s.plan t.node ≡ Some o → IsReduceValue s outs t o out

@@ -1,0 +1,8 @@
+//! Stages: the waves of tasks that a plan is cut into, and what each task must give.
+#![tactic(auto)]
+
+mod parts;
+mod waves;
+
+pub use parts::{MapTask, Part, Path, ReduceTask, Task, Tasks, Way, Ways};
+pub use waves::{WaveHead, WaveHeads, WaveKind};

@@ -1,0 +1,94 @@
+-- Where the waves of a boundary node stand among all.
+use Rattle.std.specs.Prelude.{◌≡◌, ◌<◌, ◌+◌, ◌-◌, ℕ, zero, suc, Bool, true, false, ◌&&◌, nat_lt, List, [], ◌∷◌, ◌++◌, length, map, take, Option, None, Some, slice_get, refl}
+use Rattle.std.proofs.Common.{ap, sym, ◌∙◌, arith, subst, append_assoc, true≢false}
+use Rattle.std.specs.List.{AllByRecursion, filter, flat_map, range_with_len}
+use Rattle.std.specs.Option.{option_map_or}
+use Rattle.std.proofs.lemmas.Grind.{flat_map-append}
+use Rattle.std.proofs.lemmas.List.{length-append}
+use Rattle.pig_value.proofs.list_laws.Elementwise.{filter_rises, get-behind, range_rises, split_off}
+use Rattle.pig_value.specs.declared.operators.Side.{Side}
+use Rattle.pig_value.specs.Elementwise.{Rising}
+use Rattle.pig_plan.proofs.Meanings.{live_within}
+use Rattle.pig_plan.specs.Nodes.{is_boundary, is_live, live, op_at}
+use Rattle.pig_plan.specs.Plans.{Plan, PlanOp, p_load, p_filter, p_foreach, p_group_all, p_group, p_join, p_union, p_distinct, p_order, p_limit, p_store, p_assert, p_rank}
+use Rattle.pig_physical.specs.declared.waves.WaveHead.{WaveHead}
+use Rattle.pig_physical.specs.declared.waves.WaveKind.{WaveKind}
+use Rattle.pig_physical.specs.declared.waves.WaveKind.TheVariants as kinds
+use Rattle.pig_physical.specs.Stages.{Stages, boundaries, first_wave, head_of, heads, heads_at, map_tasks, partition_tasks, stores, t_map, t_reduce, tasks_by, tasks_in, tasks_of, waves_of}
+use Rattle.pig_waves.proofs.Places.{filtered_at, get_front, range_at}
+use Rattle.pig_waves.specs.Laws.{StandsAt, has_stages}
+
+module _ (plan : Plan) where
+  abbrev is_here : ℕ → Bool
+  is_here k = option_map_or is_boundary (op_at plan k) false
+
+  boundaries_rise : Rising (boundaries plan)
+  boundaries_rise = filter_rises is_here (live plan) (filter_rises (is_live plan) (range_with_len 0 (length plan)) (range_rises 0 (length plan)))
+
+  -- a live node stands among the live ones, and a live boundary node among these
+  pub live_at : (k : ℕ) → is_live plan k ≡ true → (i : ℕ) × (slice_get (live plan) i ≡ Some k)
+  live_at k alive =
+      let zeroth : 0 + k ≡ k = omega arith in
+      filtered_at (is_live plan) (range_with_len 0 (length plan)) k k (range_at 0 (length plan) k (live_within plan k alive) ∙ ap Some zeroth) alive
+
+  boundary_at : (k : ℕ) → is_live plan k ≡ true → is_here k ≡ true → (i : ℕ) × (slice_get (boundaries plan) i ≡ Some k)
+  boundary_at k alive here = let found = live_at k alive in filtered_at is_here (live plan) found.0 k found.1 here
+
+  abbrev last_heads : List WaveHead
+  last_heads = map (λ k. head_of plan k kinds.Store) (take 1 (stores plan))
+
+  -- the heads before a node's, its own, and those behind them
+  heads_cut : (k : ℕ) → is_live plan k ≡ true → is_here k ≡ true
+      → heads plan ≡ flat_map (heads_at plan) (filter (λ j. nat_lt j k) (boundaries plan)) ++ (heads_at plan k ++ (flat_map (heads_at plan) (filter (λ j. nat_lt k j) (boundaries plan)) ++ last_heads))
+  heads_cut k alive here =
+      let place = boundary_at k alive here in
+      let before = filter (λ j. nat_lt j k) (boundaries plan) in
+      let behind = filter (λ j. nat_lt k j) (boundaries plan) in
+      ap (λ ks. flat_map (heads_at plan) ks ++ last_heads) (split_off (boundaries plan) place.0 k boundaries_rise place.1)
+      ∙ ap (λ hs. hs ++ last_heads) (flat_map-append (heads_at plan) before (k ∷ behind))
+      ∙ append_assoc (flat_map (heads_at plan) before) (heads_at plan k ++ flat_map (heads_at plan) behind) last_heads
+      ∙ ap (λ hs. flat_map (heads_at plan) before ++ hs) (append_assoc (heads_at plan k) (flat_map (heads_at plan) behind) last_heads)
+
+  pub head_at : (k j : ℕ) (h : WaveHead) → is_live plan k ≡ true → is_here k ≡ true → slice_get (heads_at plan k) j ≡ Some h → slice_get (heads plan) (first_wave plan k + j) ≡ Some h
+  head_at k j h alive here at =
+      let before = flat_map (heads_at plan) (filter (λ i. nat_lt i k) (boundaries plan)) in
+      let own = heads_at plan k ++ (flat_map (heads_at plan) (filter (λ i. nat_lt k i) (boundaries plan)) ++ last_heads) in
+      ap (λ hs. slice_get hs (first_wave plan k + j)) (heads_cut k alive here)
+      ∙ get-behind before own j
+      ∙ get_front (heads_at plan k) (flat_map (heads_at plan) (filter (λ i. nat_lt k i) (boundaries plan)) ++ last_heads) j h at
+
+two_waves : (o : PlanOp) → has_stages o ≡ true → waves_of o ≡ kinds.Map ∷ kinds.Reduce ∷ []
+two_waves (p_join inputs side true) h = absurd (true≢false (sym h))
+two_waves (p_join inputs side false) h = refl
+two_waves (p_rank input keys dense) h = absurd (true≢false (sym h))
+two_waves (p_load path delim columns) h = refl
+two_waves (p_filter input test) h = refl
+two_waves (p_foreach input block) h = refl
+two_waves (p_group_all input) h = refl
+two_waves (p_group inputs) h = refl
+two_waves (p_union inputs) h = refl
+two_waves (p_distinct input) h = refl
+two_waves (p_order input keys) h = refl
+two_waves (p_limit input count) h = refl
+two_waves (p_store input path delim) h = refl
+two_waves (p_assert input test message) h = refl
+
+module _ (s : Stages) (k : ℕ) (o : PlanOp) (at : op_at s.plan k ≡ Some o) (alive : is_live s.plan k ≡ true) (here : is_boundary o ≡ true) (staged : has_stages o ≡ true) where
+  own_heads : heads_at s.plan k ≡ head_of s.plan k kinds.Map ∷ head_of s.plan k kinds.Reduce ∷ []
+  own_heads = ap (λ found. option_map_or (λ p. map (head_of s.plan k) (waves_of p)) found []) at ∙ ap (map (head_of s.plan k)) (two_waves o staged)
+
+  abbrev first : ℕ
+  first = first_wave s.plan k
+
+  tasks_at : (j : ℕ) (kind : WaveKind) → slice_get (head_of s.plan k kinds.Map ∷ head_of s.plan k kinds.Reduce ∷ []) j ≡ Some (head_of s.plan k kind)
+      → tasks_in s (first + j) ≡ tasks_by s (first + j) kind k o
+  tasks_at j kind own =
+      ap (λ found. option_map_or (tasks_of s (first + j)) found [])
+      (head_at s.plan k j (head_of s.plan k kind) alive (ap (λ found. option_map_or is_boundary found false) at ∙ here) (ap (λ hs. slice_get hs j) own_heads ∙ own))
+      ∙ ap (λ found. option_map_or (tasks_by s (first + j) kind k) found []) at
+
+  pub stands_at : StandsAt s k o
+  stands_at = record {
+    maps = (let e : first ≡ first + 0 = omega arith in ap (tasks_in s) e) ∙ tasks_at 0 kinds.Map refl;
+    reduces = tasks_at 1 kinds.Reduce refl ∙ (let e : first + 1 - 1 ≡ first = omega arith in ap (λ w. map t_reduce (partition_tasks s w k o)) e);
+  }

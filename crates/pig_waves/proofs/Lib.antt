@@ -1,0 +1,9 @@
+pub mod Places
+pub mod Heads
+pub mod Sources
+pub mod Tasks
+pub mod Given
+pub mod ByKey
+pub mod Distinct
+pub mod Sorted
+pub mod Limits
