@@ -8,7 +8,6 @@ use Rattle.pig_value.specs.Texts.{rows_text}
 use Rattle.pig_value.specs.Trees.{Tree}
 use Rattle.pig_typed.specs.Blocks.{foreach_all}
 use Rattle.pig_typed.specs.Typed.{Typed, TypedBlock}
-use Rattle.pig_algebra.specs.Combining.{SortedCombinersLaw}
 use Rattle.pig_plan.specs.Asserts.{met}
 use Rattle.pig_plan.specs.Meaning.{IsKept, meaning}
 use Rattle.pig_plan.specs.Nodes.{is_boundary, is_list, is_live}
@@ -48,5 +47,5 @@ pub record GiveMeaning (s : Stages) (inputs : List Input) (kept : List Kept) (ou
 
 -- Outputs that are the values of all tasks, wave by wave, give the meaning of the plan that is cut.
 abbrev pub StagesGiveMeaning : Type 0
-StagesGiveMeaning = SortedCombinersLaw → (s : Stages) (inputs : List Input) (kept : List Kept) (points : ℕ → List Point) (outs : Outs) → IsPlan s.plan → HaveStages s.plan
+StagesGiveMeaning = (s : Stages) (inputs : List Input) (kept : List Kept) (points : ℕ → List Point) (outs : Outs) → IsPlan s.plan → HaveStages s.plan
     → 0 < s.sizing.reducers → 0 < s.sizing.split → IsRun s inputs points outs → AreOutputs s.plan outs kept → GiveMeaning s inputs kept outs

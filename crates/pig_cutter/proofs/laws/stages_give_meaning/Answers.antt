@@ -5,7 +5,8 @@ use Rattle.pig_waves.proofs.Tasks.{rows_at_node}
 use Rattle.pig_cutter.proofs.laws.stages_give_meaning.Goals as goal
 
 pub returns : goal.returns
-returns c = λ law s inputs kept points outs valid staged some splits run given.
+returns c = λ s inputs kept points outs valid staged some splits run given.
+    let law = c.parts_make_the_rows.ensures.sorted in
     record {
       valid = kept_valid law s inputs kept points outs valid staged some splits run given;
       nodes = given_meant law s inputs kept points outs valid staged some splits run given;
