@@ -1,9 +1,9 @@
 -- A GROUP that folds has no other use than its FOREACH.
-use Rattle.std.specs.Prelude.{◌≡◌, ◌≤◌, ◌+◌, ◌==◌, ◌&&◌, ℕ, zero, suc, Bool, true, false, List, [], ◌∷◌, ◌++◌, length, map, Option, None, Some, slice_get, refl}
+use Rattle.std.specs.Prelude.{◌≡◌, ◌≤◌, ◌+◌, ◌==◌, ◌&&◌, ◌||◌, ℕ, zero, suc, Bool, true, false, List, [], ◌∷◌, ◌++◌, length, map, Option, None, Some, slice_get, refl}
 use Rattle.std.proofs.Common.{inl, inr, ap, sym, ◌∙◌, arith, subst, cond, true≢false}
-use Rattle.std.specs.List.{AllByRecursion, filter, filter_map, flat_map, list_any}
+use Rattle.std.specs.List.{AllByRecursion, cons_option, filter, filter_map, flat_map, list_any}
 use Rattle.std.specs.Option.{option_and_then, option_map, option_map_or}
-use Rattle.std.proofs.lemmas.Bool.{cases_Bool}
+use Rattle.std.proofs.lemmas.Bool.{cases_Bool, eqb-true}
 use Rattle.std.proofs.lemmas.List.{length-append}
 use Rattle.std.proofs.lemmas.List.Elements.{filter-append}
 use Rattle.pig_value.proofs.list_laws.Listing.{some_same}
@@ -17,11 +17,12 @@ use Rattle.pig_cutter.proofs.Boundaries.{folds_is}
 -- a number that is named is counted
 named_counts : (i : ℕ) (xs : List ℕ) → list_any (λ j. j == i) xs ≡ true → 1 ≤ length (filter (λ j. j == i) xs)
 named_counts i [] h = absurd (true≢false (sym h))
-named_counts i (x ∷ xs) h = by_test (x == i) refl h
+named_counts i (x ∷ xs) h = by_test (named_counts i xs) (x == i) h
   where
-    by_test : (b : Bool) → (x == i) ≡ b → (cond b true (list_any (λ j. j == i) xs)) ≡ true → 1 ≤ length (cond b (x ∷ filter (λ j. j == i) xs) (filter (λ j. j == i) xs))
-    by_test true e g = omega arith
-    by_test false e g = named_counts i xs g
+    by_test : (list_any (λ j. j == i) xs ≡ true → 1 ≤ length (filter (λ j. j == i) xs)) → (b : Bool)
+        → (b || list_any (λ j. j == i) xs) ≡ true → 1 ≤ length (cond b (x ∷ filter (λ j. j == i) xs) (filter (λ j. j == i) xs))
+    by_test rest true g = omega arith
+    by_test rest false g = rest g
 
 module _ (plan : Plan) (i : ℕ) where
   abbrev inputs_at : ℕ → List ℕ
@@ -47,7 +48,7 @@ module _ (plan : Plan) (i : ℕ) where
         where
           by_test : (t : Bool) → (input == i) ≡ t → cond t (Some b) None ≡ Some block → (op_at plan n ≡ Some (p_foreach i block)) × (1 ≤ own n)
           by_test true e found =
-              let same : input ≡ i = omega (arith, e) in
+              let same : input ≡ i = eqb-true input i e in
               let op_is : v.op ≡ p_foreach i block = is ∙ ap (λ j. p_foreach j b) same ∙ ap (p_foreach i) (some_same b block found) in
               let inputs_are : inputs_at n ≡ i ∷ [] = ap (λ found. option_map_or (λ node. inputs_of node.op) found []) at ∙ ap inputs_of op_is in
               let itself : (i == i) ≡ true = ap (λ j. j == i) (sym same) ∙ e in
@@ -74,17 +75,19 @@ module _ (plan : Plan) (i : ℕ) where
   -- where a block stands, its node is counted
   some_counted : (ns : List ℕ) (block : TypedBlock) → only (filter_map (block_at plan i) ns) ≡ Some block → 1 ≤ count ns
   some_counted [] block h = absurd (cc)
-  some_counted (n ∷ ns) block h = let first = count_first n ns in by_block (block_at plan i n) refl h
+  some_counted (n ∷ ns) block h = by_block (some_counted ns block) (block_at plan i n) refl h
     where
-      by_block : (found : Option TypedBlock) → block_at plan i n ≡ found → only (option_map_or (λ b. b ∷ filter_map (block_at plan i) ns) found (filter_map (block_at plan i) ns)) ≡ Some block → 1 ≤ count (n ∷ ns)
-      by_block (Some b) e g = let c = (block_is n b e).1 in let first = count_first n ns in omega (arith, c, first)
-      by_block None e g = let c = some_counted ns block g in let first = count_first n ns in omega (arith, c, first)
+      by_block : (only (filter_map (block_at plan i) ns) ≡ Some block → 1 ≤ count ns) → (found : Option TypedBlock) → block_at plan i n ≡ found
+          → only (cons_option found (filter_map (block_at plan i) ns)) ≡ Some block → 1 ≤ count (n ∷ ns)
+      by_block rest (Some b) e g = let c = (block_is n b e).1 in let first = count_first n ns in omega (arith, c, first)
+      by_block rest None e g = let c = rest g in let first = count_first n ns in omega (arith, c, first)
 
   -- the one node that names it is the FOREACH
   named_alone : (ns : List ℕ) (block : TypedBlock) → count ns ≤ 1 → only (filter_map (block_at plan i) ns) ≡ Some block
       → (j k : ℕ) (v : PlanNode) → slice_get ns j ≡ Some k → slice_get plan k ≡ Some v → names v.op i ≡ true → v.op ≡ p_foreach i block
   named_alone [] block few h j k v at found named = absurd (cc)
-  named_alone (n ∷ ns) block few h j k v at found named = by_block (block_at plan i n) refl h
+  named_alone (n ∷ ns) block few h j k v at found named =
+      by_block (λ fewer g l place. named_alone ns block fewer g l k v place found named) (block_at plan i n) refl h
     where
       own_of : 1 ≤ own k
       own_of = subst (λ xs. 1 ≤ length (filter (λ j. j == i) xs)) (sym (ap (λ f. option_map_or (λ node. inputs_of node.op) f []) found)) (named_counts i (inputs_of v.op) named)
@@ -94,8 +97,9 @@ module _ (plan : Plan) (i : ℕ) where
       counted (m ∷ ms) zero here = let is = some_same m k here in let own_m = subst (λ q. 1 ≤ own q) (sym is) own_of in let first = count_first m ms in omega (arith, own_m, first)
       counted (m ∷ ms) (suc l) here = let rest = counted ms l here in let first = count_first m ms in omega (arith, rest, first)
 
-      by_block : (f : Option TypedBlock) → block_at plan i n ≡ f → only (option_map_or (λ b. b ∷ filter_map (block_at plan i) ns) f (filter_map (block_at plan i) ns)) ≡ Some block → v.op ≡ p_foreach i block
-      by_block (Some b) e g = first_is b e (filter_map (block_at plan i) ns) g j at
+      by_block : (count ns ≤ 1 → only (filter_map (block_at plan i) ns) ≡ Some block → (l : ℕ) → slice_get ns l ≡ Some k → v.op ≡ p_foreach i block)
+          → (f : Option TypedBlock) → block_at plan i n ≡ f → only (cons_option f (filter_map (block_at plan i) ns)) ≡ Some block → v.op ≡ p_foreach i block
+      by_block rest (Some b) e g = first_is b e (filter_map (block_at plan i) ns) g j at
         where
           first_is : (c : TypedBlock) → block_at plan i n ≡ Some c → (others : List TypedBlock) → only (c ∷ others) ≡ Some block → (l : ℕ) → slice_get (n ∷ ns) l ≡ Some k → v.op ≡ p_foreach i block
           first_is c is (d ∷ others) only_is l place = absurd (cc)
@@ -104,13 +108,13 @@ module _ (plan : Plan) (i : ℕ) where
               some_same v.op (p_foreach i block) (sym (ap (option_map (λ node. node.op)) found) ∙ ap (op_at plan) (sym same) ∙ (block_is n c is).0 ∙ ap (λ d. Some (p_foreach i d)) (some_same c block only_is))
           first_is c is [] only_is (suc l) place =
               let one = (block_is n c is).1 in let more = counted ns l place in let first = count_first n ns in absurd (omega (arith, one, more, first, few))
-      by_block None e g = rest_is j at
+      by_block rest None e g = rest_is j at
         where
           rest_is : (l : ℕ) → slice_get (n ∷ ns) l ≡ Some k → v.op ≡ p_foreach i block
           rest_is zero place =
               let same = some_same n k place in let own_n = subst (λ q. 1 ≤ own q) (sym same) own_of in
               let more = some_counted ns block g in let first = count_first n ns in absurd (omega (arith, own_n, more, first, few))
-          rest_is (suc l) place = let first = count_first n ns in named_alone ns block (omega (arith, first, few)) g l k v place found named
+          rest_is (suc l) place = let first = count_first n ns in rest (omega (arith, first, few)) g l place
 
   pub folds_alone : (block : TypedBlock) → folds plan i ≡ Some block → (k : ℕ) (v : PlanNode) → slice_get plan k ≡ Some v → is_live plan k ≡ true → names v.op i ≡ true → v.op ≡ p_foreach i block
   folds_alone block folding k v found alive named =
@@ -123,4 +127,4 @@ module _ (plan : Plan) (i : ℕ) where
       both_second false b h = absurd (true≢false (sym h))
 
       at_most_one : (n : ℕ) → (n == 1) ≡ true → n ≤ 1
-      at_most_one n h = omega (arith, h)
+      at_most_one n h = let is = eqb-true n 1 h in omega (arith, is)

@@ -31,15 +31,15 @@ module _ {X : Type 0} where
 
   pub side_of : (x : X) (xs ys : List X) → Among x (xs ++ ys) → Side x xs ys
   side_of x [] ys h = behind h
-  side_of x (z ∷ xs) ys h = by_place h.at h.is
+  side_of x (z ∷ xs) ys h = by_place (λ i e. side_of x xs ys (record { at = i; is = e })) h.at h.is
     where
       later : Side x xs ys → Side x (z ∷ xs) ys
       later (in_front g) = in_front (among_later x z xs g)
       later (behind g) = behind g
 
-      by_place : (i : ℕ) → slice_get (z ∷ (xs ++ ys)) i ≡ Some x → Side x (z ∷ xs) ys
-      by_place zero e = in_front (record { at = 0; is = e })
-      by_place (suc i) e = later (side_of x xs ys (record { at = i; is = e }))
+      by_place : ((i : ℕ) → slice_get (xs ++ ys) i ≡ Some x → Side x xs ys) → (i : ℕ) → slice_get (z ∷ (xs ++ ys)) i ≡ Some x → Side x (z ∷ xs) ys
+      by_place rest zero e = in_front (record { at = 0; is = e })
+      by_place rest (suc i) e = later (rest i e)
 
   -- an element that a test holds of
   pub record Holds (p : X → Bool) (xs : List X) : Type 0 where
@@ -49,22 +49,22 @@ module _ {X : Type 0} where
 
   pub some_holds : (p : X → Bool) (xs : List X) → list_any p xs ≡ true → Holds p xs
   some_holds p [] h = absurd (true≢false (sym h))
-  some_holds p (x ∷ xs) h = by_test (p x) refl h
+  some_holds p (x ∷ xs) h = by_test (some_holds p xs) (p x) refl h
     where
       later : Holds p xs → Holds p (x ∷ xs)
       later g = record { x = g.x; among = among_later g.x x xs g.among; is = g.is }
 
-      by_test : (b : Bool) → p x ≡ b → (b || list_any p xs) ≡ true → Holds p (x ∷ xs)
-      by_test true e g = record { x = x; among = among_first x xs; is = e }
-      by_test false e g = later (some_holds p xs g)
+      by_test : (list_any p xs ≡ true → Holds p xs) → (b : Bool) → p x ≡ b → (b || list_any p xs) ≡ true → Holds p (x ∷ xs)
+      by_test rest true e g = record { x = x; among = among_first x xs; is = e }
+      by_test rest false e g = later (rest g)
 
   pub any_holds : (p : X → Bool) (xs : List X) (x : X) → Among x xs → p x ≡ true → list_any p xs ≡ true
   any_holds p [] x h is = absurd (cc)
-  any_holds p (z ∷ xs) x h is = by_place h.at h.is
+  any_holds p (z ∷ xs) x h is = by_place (λ i e. any_holds p xs x (record { at = i; is = e }) is) h.at h.is
     where
-      by_place : (i : ℕ) → slice_get (z ∷ xs) i ≡ Some x → (p z || list_any p xs) ≡ true
-      by_place zero e = ap (λ b. b || list_any p xs) (ap p (some_same z x e) ∙ is)
-      by_place (suc i) e = either (p z) (any_holds p xs x (record { at = i; is = e }) is)
+      by_place : ((i : ℕ) → slice_get xs i ≡ Some x → list_any p xs ≡ true) → (i : ℕ) → slice_get (z ∷ xs) i ≡ Some x → (p z || list_any p xs) ≡ true
+      by_place rest zero e = ap (λ b. b || list_any p xs) (ap p (some_same z x e) ∙ is)
+      by_place rest (suc i) e = either (p z) (rest i e)
         where
           either : (b : Bool) → list_any p xs ≡ true → (b || list_any p xs) ≡ true
           either true g = refl
@@ -78,22 +78,22 @@ module _ {X : Type 0} where
 
   pub some_fails : (p : X → Bool) (xs : List X) → list_all p xs ≡ false → Fails p xs
   some_fails p [] h = absurd (true≢false h)
-  some_fails p (x ∷ xs) h = by_test (p x) refl h
+  some_fails p (x ∷ xs) h = by_test (some_fails p xs) (p x) refl h
     where
       later : Fails p xs → Fails p (x ∷ xs)
       later g = record { x = g.x; among = among_later g.x x xs g.among; is = g.is }
 
-      by_test : (b : Bool) → p x ≡ b → (b && list_all p xs) ≡ false → Fails p (x ∷ xs)
-      by_test false e g = record { x = x; among = among_first x xs; is = e }
-      by_test true e g = later (some_fails p xs g)
+      by_test : (list_all p xs ≡ false → Fails p xs) → (b : Bool) → p x ≡ b → (b && list_all p xs) ≡ false → Fails p (x ∷ xs)
+      by_test rest false e g = record { x = x; among = among_first x xs; is = e }
+      by_test rest true e g = later (rest g)
 
   pub not_all : (p : X → Bool) (xs : List X) (x : X) → Among x xs → p x ≡ false → list_all p xs ≡ false
   not_all p [] x h is = absurd (cc)
-  not_all p (z ∷ xs) x h is = by_place h.at h.is
+  not_all p (z ∷ xs) x h is = by_place (λ i e. not_all p xs x (record { at = i; is = e }) is) h.at h.is
     where
-      by_place : (i : ℕ) → slice_get (z ∷ xs) i ≡ Some x → (p z && list_all p xs) ≡ false
-      by_place zero e = ap (λ b. b && list_all p xs) (ap p (some_same z x e) ∙ is)
-      by_place (suc i) e = both (p z) (not_all p xs x (record { at = i; is = e }) is)
+      by_place : ((i : ℕ) → slice_get xs i ≡ Some x → list_all p xs ≡ false) → (i : ℕ) → slice_get (z ∷ xs) i ≡ Some x → (p z && list_all p xs) ≡ false
+      by_place rest zero e = ap (λ b. b && list_all p xs) (ap p (some_same z x e) ∙ is)
+      by_place rest (suc i) e = both (p z) (rest i e)
         where
           both : (b : Bool) → list_all p xs ≡ false → (b && list_all p xs) ≡ false
           both true g = g
@@ -102,11 +102,11 @@ module _ {X : Type 0} where
 module _ {X Y : Type 0} where
   pub among_map : (f : X → Y) (xs : List X) (x : X) → Among x xs → Among (f x) (map f xs)
   among_map f [] x h = absurd (cc)
-  among_map f (z ∷ xs) x h = by_place h.at h.is
+  among_map f (z ∷ xs) x h = by_place (λ i e. among_map f xs x (record { at = i; is = e })) h.at h.is
     where
-      by_place : (i : ℕ) → slice_get (z ∷ xs) i ≡ Some x → Among (f x) (f z ∷ map f xs)
-      by_place zero e = record { at = 0; is = ap (λ y. Some (f y)) (some_same z x e) }
-      by_place (suc i) e = among_later (f x) (f z) (map f xs) (among_map f xs x (record { at = i; is = e }))
+      by_place : ((i : ℕ) → slice_get xs i ≡ Some x → Among (f x) (map f xs)) → (i : ℕ) → slice_get (z ∷ xs) i ≡ Some x → Among (f x) (f z ∷ map f xs)
+      by_place rest zero e = record { at = 0; is = ap (λ y. Some (f y)) (some_same z x e) }
+      by_place rest (suc i) e = among_later (f x) (f z) (map f xs) (rest i e)
 
   -- in what is made of which element it stands
   pub record MadeOf (f : X → List Y) (xs : List X) (y : Y) : Type 0 where
@@ -116,22 +116,22 @@ module _ {X Y : Type 0} where
 
   pub made_of : (f : X → List Y) (xs : List X) (y : Y) → Among y (flat_map f xs) → MadeOf f xs y
   made_of f [] y h = absurd (cc)
-  made_of f (x ∷ xs) y h = by_side (side_of y (f x) (flat_map f xs) h)
+  made_of f (x ∷ xs) y h = by_side (made_of f xs y) (side_of y (f x) (flat_map f xs) h)
     where
       later : MadeOf f xs y → MadeOf f (x ∷ xs) y
       later g = record { x = g.x; among = among_later g.x x xs g.among; made = g.made }
 
-      by_side : Side y (f x) (flat_map f xs) → MadeOf f (x ∷ xs) y
-      by_side (in_front g) = record { x = x; among = among_first x xs; made = g }
-      by_side (behind g) = later (made_of f xs y g)
+      by_side : (Among y (flat_map f xs) → MadeOf f xs y) → Side y (f x) (flat_map f xs) → MadeOf f (x ∷ xs) y
+      by_side rest (in_front g) = record { x = x; among = among_first x xs; made = g }
+      by_side rest (behind g) = later (rest g)
 
   pub among_flat : (f : X → List Y) (xs : List X) (x : X) (y : Y) → Among x xs → Among y (f x) → Among y (flat_map f xs)
   among_flat f [] x y h g = absurd (cc)
-  among_flat f (z ∷ xs) x y h g = by_place h.at h.is
+  among_flat f (z ∷ xs) x y h g = by_place (λ i e. among_flat f xs x y (record { at = i; is = e }) g) h.at h.is
     where
-      by_place : (i : ℕ) → slice_get (z ∷ xs) i ≡ Some x → Among y (f z ++ flat_map f xs)
-      by_place zero e = among_front y (f z) (flat_map f xs) (subst (λ w. Among y (f w)) (sym (some_same z x e)) g)
-      by_place (suc i) e = among_behind y (f z) (flat_map f xs) (among_flat f xs x y (record { at = i; is = e }) g)
+      by_place : ((i : ℕ) → slice_get xs i ≡ Some x → Among y (flat_map f xs)) → (i : ℕ) → slice_get (z ∷ xs) i ≡ Some x → Among y (f z ++ flat_map f xs)
+      by_place rest zero e = among_front y (f z) (flat_map f xs) (subst (λ w. Among y (f w)) (sym (some_same z x e)) g)
+      by_place rest (suc i) e = among_behind y (f z) (flat_map f xs) (rest i e)
 
   pub record MappedFrom (f : X → Y) (xs : List X) (y : Y) : Type 0 where
     pub x : X
@@ -140,11 +140,11 @@ module _ {X Y : Type 0} where
 
   pub mapped_from : (f : X → Y) (xs : List X) (y : Y) → Among y (map f xs) → MappedFrom f xs y
   mapped_from f [] y h = absurd (cc)
-  mapped_from f (x ∷ xs) y h = by_place h.at h.is
+  mapped_from f (x ∷ xs) y h = by_place (λ i e. mapped_from f xs y (record { at = i; is = e })) h.at h.is
     where
       later : MappedFrom f xs y → MappedFrom f (x ∷ xs) y
       later g = record { x = g.x; among = among_later g.x x xs g.among; is = g.is }
 
-      by_place : (i : ℕ) → slice_get (f x ∷ map f xs) i ≡ Some y → MappedFrom f (x ∷ xs) y
-      by_place zero e = record { x = x; among = among_first x xs; is = some_same (f x) y e }
-      by_place (suc i) e = later (mapped_from f xs y (record { at = i; is = e }))
+      by_place : ((i : ℕ) → slice_get (map f xs) i ≡ Some y → MappedFrom f xs y) → (i : ℕ) → slice_get (f x ∷ map f xs) i ≡ Some y → MappedFrom f (x ∷ xs) y
+      by_place rest zero e = record { x = x; among = among_first x xs; is = some_same (f x) y e }
+      by_place rest (suc i) e = later (rest i e)

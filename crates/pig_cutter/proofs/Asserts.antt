@@ -4,7 +4,7 @@ use Rattle.std.proofs.Common.{inl, inr, ap, sym, ◌∙◌, arith, subst, append
 use Rattle.std.specs.List.{AllByRecursion, filter, flat_map, list_all, list_any}
 use Rattle.std.specs.Option.{option_map, option_map_or, unwrap_or}
 use Rattle.std.specs.Ordering.{nat_cmp}
-use Rattle.std.proofs.lemmas.Bool.{cases_Bool, eq-eqb}
+use Rattle.std.proofs.lemmas.Bool.{cases_Bool, eq-eqb, eqb-true}
 use Rattle.std.proofs.lemmas.Bool.{cases_lt}
 use Rattle.std.proofs.lemmas.Option.{slice_get_within}
 use Rattle.pig_value.specs.declared.inputs.Input.{Input}
@@ -215,16 +215,16 @@ module _ (s : Stages) (inputs : List Input) (points : ℕ → List Point) (outs 
         let place = subst (λ os. slice_get os out.among.at ≡ Some out.x) (sym there) out.among.is in
         let beside = beside_right (IsValue s inputs (Some (points w)) outs) (tasks_in s w) (outs_at outs w) (run.values w) out.among.at out.x place in
         let same_out : beside.y ≡ out.x = some_same beside.y out.x (sym beside.second ∙ place) in
-        let ours : held.x ≡ statement = (let eqb = held.is in omega (arith, eqb)) in
+        let ours : held.x ≡ statement = eqb-true held.x statement held.is in
         let said : Among statement beside.y.unmet = subst (λ n. Among n beside.y.unmet) ours (subst (λ o. Among held.x o.unmet) (sym same_out) out.made) in
         sym (all_alike (passes test) rows (meaning s.plan inputs kept input) same_rows)
-        ∙ by_task beside.x beside.y beside.both (each_at IsKnown (tasks_in s w) out.among.at beside.x beside.first (known_tasks w)) said
+        ∙ by_task (Some (points w)) beside.x beside.y beside.both (each_at IsKnown (tasks_in s w) out.among.at beside.x beside.first (known_tasks w)) said
       where
-        by_task : {pts : Option (List Point)} (task : Task) (out : TaskOut) → IsValue s inputs pts outs task out → IsKnown task → Among statement out.unmet → list_all (passes test) rows ≡ false
-        by_task (t_map t) out value reads said =
+        by_task : (pts : Option (List Point)) (task : Task) (out : TaskOut) → IsValue s inputs pts outs task out → IsKnown task → Among statement out.unmet → list_all (passes test) rows ≡ false
+        by_task pts (t_map t) out value reads said =
             let is = value reads.o reads.known in
             told_by_task t reads (from_sorted statement _ (subst (Among statement) is.unmet said))
-        by_task (t_reduce t) out value known said = let is = value known.0 known.1 in absurd (in_none (subst (Among statement) is.unmet said))
+        by_task pts (t_reduce t) out value known said = let is = value known.0 known.1 in absurd (in_none (subst (Among statement) is.unmet said))
 
     -- not met, and told by a task
     told_in : (w : ℕ) (t : MapTask) (o : PlanOp) → Among (t_map t) (tasks_in s w) → op_at s.plan t.node ≡ Some o → Among statement (unmet_on s.plan t.way.path.nodes (read_rows s.plan inputs outs t))

@@ -1,9 +1,9 @@
 -- The rows that come to each live node are what it means, by induction over the nodes.
-use Rattle.std.specs.Prelude.{◌≡◌, ◌<◌, ◌≤◌, ◌+◌, ◌==◌, ℕ, zero, suc, Bool, true, false, List, [], ◌∷◌, ◌++◌, length, map, min, take, Option, None, Some, slice_get, refl}
+use Rattle.std.specs.Prelude.{◌≡◌, ◌<◌, ◌≤◌, ◌+◌, ◌==◌, ◌||◌, ℕ, zero, suc, Bool, true, false, List, [], ◌∷◌, ◌++◌, length, map, min, take, Option, None, Some, slice_get, refl}
 use Rattle.std.proofs.Common.{inl, inr, ap, sym, ◌∙◌, arith, subst, append-nil, cond, true≢false}
 use Rattle.std.specs.List.{AllByRecursion, flat_map, range_with_len}
 use Rattle.std.specs.Option.{is_some, option_map, option_map_or}
-use Rattle.std.proofs.lemmas.Bool.{cases_Bool, eq-eqb}
+use Rattle.std.proofs.lemmas.Bool.{cases_Bool, eq-eqb, eqb-true}
 use Rattle.std.proofs.lemmas.List.Sorted.{length_permutation}
 use Rattle.std.proofs.lemmas.Option.{slice_get_within}
 use Rattle.pig_value.specs.declared.inputs.Column.{Column}
@@ -59,7 +59,7 @@ kept_alike count xs ys kept same h =
     let permuted = permutation_from_bag row_cmp xs ys same in
     record {
       held = λ row. let most = h.held row in let times = times_from_permutation row_cmp xs ys permuted row in omega (arith, most, times);
-      size = h.size ∙ ap (min count) (length_permutation xs ys permuted);
+      size = h.size ∙ ap (min count) (sym (length_permutation xs ys permuted));
     }
 
 abbrev is_foreach : PlanOp → Bool
@@ -108,7 +108,7 @@ module _ (law : SortedCombinersLaw) (s : Stages) (inputs : List Input) (kept : L
           rows_are = outputs s inputs outs k (p_limit input count) at refl (λ part. refl) (as_many s inputs points outs run k (p_limit input count) at stands);
           bag = λ none. ap bag_of is;
           list = λ e. is;
-          folded = never k (p_limit input count) at refl;
+          folded = λ b is. never k (p_limit input count) at refl b is;
         }
     | inr bare ↦
         record {
@@ -118,7 +118,7 @@ module _ (law : SortedCombinersLaw) (s : Stages) (inputs : List Input) (kept : L
               ∙ ap (λ rs. bag_of (bag_of rs)) (sym (given.each k statement input count found alive bare))
               ∙ ap bag_of (sym (ap (λ b. limit_rows b count (kept_at kept statement) (rows input)) bare));
           list = λ e. absurd (true≢false (sym e ∙ bare));
-          folded = never k (p_limit input count) at refl;
+          folded = λ b is. never k (p_limit input count) at refl b is;
         }
   ]
 
@@ -152,14 +152,14 @@ module _ (law : SortedCombinersLaw) (s : Stages) (inputs : List Input) (kept : L
           let stands = stands_at s k (p_distinct input) at alive bounds has in
           record {
             rows_are = outputs s inputs outs k (p_distinct input) at refl (λ part. refl) (as_many s inputs points outs run k (p_distinct input) at stands);
-            bag = λ none. distinct_is s inputs points outs run some k input at stands; list = λ e. absurd (true≢false (sym e)); folded = never k (p_distinct input) at refl;
+            bag = λ none. distinct_is s inputs points outs run some k input at stands; list = λ e. absurd (true≢false (sym e)); folded = λ b is. never k (p_distinct input) at refl b is;
           }
       by_op (p_order input keys) is at bounds has =
           let stands = stands_at s k (p_order input keys) at alive bounds has in
           let sorted = order_is s inputs points outs run some k input keys at alive stands in
           record {
             rows_are = outputs s inputs outs k (p_order input keys) at refl (λ part. refl) (as_many s inputs points outs run k (p_order input keys) at stands);
-            bag = λ none. ap bag_of sorted; list = λ e. sorted; folded = never k (p_order input keys) at refl;
+            bag = λ none. ap bag_of sorted; list = λ e. sorted; folded = λ b is. never k (p_order input keys) at refl b is;
           }
       by_op (p_limit input count) is at bounds has = limit_found k statement input count is alive at (stands_at s k (p_limit input count) at alive bounds has)
       by_op (p_rank input keys dense) is at bounds has = absurd (true≢false (sym has))
@@ -235,13 +235,17 @@ module _ (law : SortedCombinersLaw) (s : Stages) (inputs : List Input) (kept : L
             bag_from_permutation row_cmp row_total row_same (foreach_all block xs) (foreach_all block ys)
             (IsPermutation-flat_map (foreach_rows block) xs ys (permutation_from_bag row_cmp xs ys same))
 
+  -- a node whose operator makes no list is none
+  unlisted : (k : ℕ) (v : PlanNode) → slice_get s.plan k ≡ Some v → lists (is_sorted s.plan) v.op (is_list s.plan) ≡ false → is_list s.plan k ≡ true → {G : Type 0} → G
+  unlisted k v at none e = absurd (true≢false (sym e ∙ list_of_node s.plan valid k v at ∙ none))
+
   -- a FOREACH on a GROUP that folds hands its rows on
   folded_foreach : (k statement input : ℕ) (block : TypedBlock) (at : slice_get s.plan k ≡ Some (node (p_foreach input block) statement)) → is_live s.plan k ≡ true
       → IsMeant input → (b : TypedBlock) → folds s.plan input ≡ Some b → IsMeant k
   folded_foreach k statement input block at alive before b folding =
       let v : PlanNode = node (p_foreach input block) statement in
       let itself : (input == input) ≡ true = eq-eqb input input refl in
-      let named : names v.op input ≡ true = ap (λ t. cond t true false) itself in
+      let named : names v.op input ≡ true = ap (λ t. t || false) itself in
       let same : p_foreach input block ≡ p_foreach input b = folds_alone s.plan input b folding k v at alive named in
       let come : rows k ≡ rows input =
       rows_step (folds s.plan) s.plan (rows_of_parts s inputs outs) valid k v at refl
@@ -252,8 +256,8 @@ module _ (law : SortedCombinersLaw) (s : Stages) (inputs : List Input) (kept : L
             ∙ sym (once (foreach_all b (meant input)))
             ∙ ap (λ o. bag_of (operator_rows st statement o meant)) (sym same)
             ∙ ap bag_of (sym (meaning_of_node s.plan inputs kept valid k v at));
-        list = λ none e. absurd (true≢false (sym (sym (list_of_node s.plan valid k v at) ∙ e)));
-        folded = never k (p_foreach input block) (ap (option_map (λ n. n.op)) at) refl;
+        list = λ none e. unlisted k v at refl e;
+        folded = λ b is. never k (p_foreach input block) (ap (option_map (λ n. n.op)) at) refl b is;
       }
 
   node_is : (k statement : ℕ) (o : PlanOp) → slice_get s.plan k ≡ Some (node o statement) → is_live s.plan k ≡ true → ((i : ℕ) → i < k → is_live s.plan i ≡ true → IsMeant i) → IsMeant k
@@ -264,15 +268,15 @@ module _ (law : SortedCombinersLaw) (s : Stages) (inputs : List Input) (kept : L
       ∙ load_parts s inputs outs k path delim columns (ap (option_map (λ n. n.op)) at) splits (run.sizes k statement delim path columns at alive) in
       record {
         bag = λ none. ap bag_of come ∙ sym (once (load_rows inputs path delim columns)) ∙ ap bag_of (sym (meaning_of_node s.plan inputs kept valid k v at));
-        list = λ none e. absurd (true≢false (sym (sym (list_of_node s.plan valid k v at) ∙ e)));
-        folded = never k (p_load path delim columns) (ap (option_map (λ n. n.op)) at) refl;
+        list = λ none e. unlisted k v at refl e;
+        folded = λ b is. never k (p_load path delim columns) (ap (option_map (λ n. n.op)) at) refl b is;
       }
   node_is k statement (p_filter input test) at alive lower =
       let v : PlanNode = node (p_filter input test) statement in
       record {
         bag = λ none. row_wise k v at alive lower refl (no_other k v at alive lower refl) (λ rs. refl);
-        list = λ none e. absurd (true≢false (sym (listed k v at alive lower e)));
-        folded = never k (p_filter input test) (ap (option_map (λ n. n.op)) at) refl;
+        list = λ none e. unlisted k v at refl e;
+        folded = λ b is. never k (p_filter input test) (ap (option_map (λ n. n.op)) at) refl b is;
       }
   node_is k statement (p_foreach input block) at alive lower = by_fold (folds s.plan input) refl
     where
@@ -282,8 +286,8 @@ module _ (law : SortedCombinersLaw) (s : Stages) (inputs : List Input) (kept : L
       only_input : (i : ℕ) → names v.op i ≡ true → i ≡ input
       only_input i h = by_test (input == i) refl h
         where
-          by_test : (b : Bool) → (input == i) ≡ b → cond b true false ≡ true → i ≡ input
-          by_test true e g = sym (omega (arith, e))
+          by_test : (b : Bool) → (input == i) ≡ b → (b || false) ≡ true → i ≡ input
+          by_test true e g = sym (eqb-true input i e)
           by_test false e g = absurd (true≢false (sym g))
 
       below : input < k
@@ -293,7 +297,7 @@ module _ (law : SortedCombinersLaw) (s : Stages) (inputs : List Input) (kept : L
       before =
           let found = some_at s.plan input (let short = slice_get_within s.plan k v at in omega (arith, below, short)) in
           let itself : (input == input) ≡ true = eq-eqb input input refl in
-          lower input below (live_input s.plan k v at alive input below found.0 found.1 (ap (λ t. cond t true false) itself))
+          lower input below (live_input s.plan k v at alive input below found.0 found.1 (ap (λ t. t || false) itself))
 
       by_fold : (f : Option TypedBlock) → folds s.plan input ≡ f → IsMeant k
       by_fold (Some b) e = folded_foreach k statement input block at alive before b e
@@ -301,22 +305,22 @@ module _ (law : SortedCombinersLaw) (s : Stages) (inputs : List Input) (kept : L
         bag = λ none.
             row_wise k v at alive lower refl (λ i name. ap (folds s.plan) (only_input i name) ∙ e)
             (λ rs. ap (λ f. cond (is_some f) rs (foreach_all block rs)) e);
-        list = λ none is. absurd (true≢false (sym (listed k v at alive lower is)));
-        folded = never k (p_foreach input block) (ap (option_map (λ n. n.op)) at) refl;
+        list = λ none is. unlisted k v at refl is;
+        folded = λ b is. never k (p_foreach input block) (ap (option_map (λ n. n.op)) at) refl b is;
       }
   node_is k statement (p_union numbers) at alive lower =
       let v : PlanNode = node (p_union numbers) statement in
       record {
         bag = λ none. row_wise k v at alive lower refl (no_other k v at alive lower refl) (λ rs. refl);
-        list = λ none e. absurd (true≢false (sym (listed k v at alive lower e)));
-        folded = never k (p_union numbers) (ap (option_map (λ n. n.op)) at) refl;
+        list = λ none e. unlisted k v at refl e;
+        folded = λ b is. never k (p_union numbers) (ap (option_map (λ n. n.op)) at) refl b is;
       }
   node_is k statement (p_store input path delim) at alive lower =
       let v : PlanNode = node (p_store input path delim) statement in
       record {
         bag = λ none. row_wise k v at alive lower refl (no_other k v at alive lower refl) (λ rs. refl);
-        list = λ none e. absurd (true≢false (sym (listed k v at alive lower e)));
-        folded = never k (p_store input path delim) (ap (option_map (λ n. n.op)) at) refl;
+        list = λ none e. unlisted k v at refl e;
+        folded = λ b is. never k (p_store input path delim) (ap (option_map (λ n. n.op)) at) refl b is;
       }
   node_is k statement (p_assert input test message) at alive lower =
       let v : PlanNode = node (p_assert input test message) statement in
@@ -327,7 +331,7 @@ module _ (law : SortedCombinersLaw) (s : Stages) (inputs : List Input) (kept : L
             rows_step (folds s.plan) s.plan (rows_of_parts s inputs outs) valid k v at refl ∙ append-nil (rows input)
             ∙ (seen_alike k v at alive lower unfolded).1 (listed k v at alive lower e)
             ∙ sym (meaning_of_node s.plan inputs kept valid k v at);
-        folded = never k (p_assert input test message) (ap (option_map (λ n. n.op)) at) refl;
+        folded = λ b is. never k (p_assert input test message) (ap (option_map (λ n. n.op)) at) refl b is;
       }
   node_is k statement (p_group_all input) at alive lower = boundary k (node (p_group_all input) statement) at alive lower refl refl refl
   node_is k statement (p_group keyed) at alive lower = boundary k (node (p_group keyed) statement) at alive lower refl refl refl
@@ -375,7 +379,7 @@ module _ (law : SortedCombinersLaw) (s : Stages) (inputs : List Input) (kept : L
         let v : PlanNode = node (p_limit input count) statement in
         let own : op_at s.plan k ≡ Some (p_limit input count) = ap (option_map (λ n. n.op)) at in
         let itself : (input == input) ≡ true = eq-eqb input input refl in
-        let named : names v.op input ≡ true = ap (λ t. cond t true false) itself in
+        let named : names v.op input ≡ true = ap (λ t. t || false) itself in
         let below : input < k = (names_lower s.plan valid k v at).0 in
         let found = some_at s.plan input (let short = slice_get_within s.plan k v at in omega (arith, below, short)) in
         let is = rows_meant input (live_input s.plan k v at alive input below found.0 found.1 named) in
@@ -399,7 +403,7 @@ module _ (law : SortedCombinersLaw) (s : Stages) (inputs : List Input) (kept : L
   assert_rows k statement input test message at alive =
       let v : PlanNode = node (p_assert input test message) statement in
       let itself : (input == input) ≡ true = eq-eqb input input refl in
-      let named : names v.op input ≡ true = ap (λ t. cond t true false) itself in
+      let named : names v.op input ≡ true = ap (λ t. t || false) itself in
       let below : input < k = (names_lower s.plan valid k v at).0 in
       let found = some_at s.plan input (let short = slice_get_within s.plan k v at in omega (arith, below, short)) in
       (rows_meant input (live_input s.plan k v at alive input below found.0 found.1 named)).bag (no_other k v at alive (λ i less live_too. rows_meant i live_too) refl input named)

@@ -6,7 +6,7 @@ use Rattle.std.specs.Option.{option_map, option_map_or}
 use Rattle.pig_value.specs.declared.inputs.Input.{Input}
 use Rattle.pig_value.specs.declared.outcomes.Kept.{Kept}
 use Rattle.pig_value.specs.Elementwise.{Each}
-use Rattle.pig_value.specs.Gathering.{Entry}
+use Rattle.pig_value.specs.Gathering.{Entry, in_part}
 use Rattle.pig_value.specs.Orders.{bag_of, row_cmp, tree_cmp}
 use Rattle.pig_value.specs.Sorts.{distinct, sort}
 use Rattle.pig_value.specs.Trees.{Tree, fields_of, v_tuple}
@@ -22,12 +22,13 @@ use Rattle.pig_plan.specs.Operators.{Setting, operator_rows, order_rows}
 use Rattle.pig_plan.specs.Plans.{Plan, PlanOp, p_distinct, p_limit, p_order}
 use Rattle.pig_runs.specs.Cutting.{Point, slice_of}
 use Rattle.pig_runs.specs.Entries.{run_cmp}
+use Rattle.pig_runs.specs.Parts.{pn}
 use Rattle.pig_physical.specs.Combining.{folds}
 use Rattle.pig_physical.specs.Outs.{Outs, TaskOut, entries_at, outs_at, rows_in}
 use Rattle.pig_physical.specs.Running.{AreCuts, IsRun, rows_given}
 use Rattle.pig_physical.specs.Stages.{MapTask, Stages, first_wave, map_tasks}
 use Rattle.pig_physical.specs.Values.{IsMapForm, IsMapValue, IsReduceForm, IsReduceValue, Keeps, brought_together, handed_on, key_row, reduced, slices, task_rows}
-use Rattle.pig_waves.proofs.Distinct.{rows_once}
+use Rattle.pig_waves.proofs.Distinct.{key_alone, rows_once}
 use Rattle.pig_waves.proofs.Given.{entries_of_part, map_values, reduce_values, reduce_task, rows_by_parts}
 use Rattle.pig_waves.proofs.Limits.{first_together, kept_together}
 use Rattle.pig_waves.proofs.Sorted.{in_slice_at, slices_together}
@@ -60,12 +61,16 @@ module _ (s : Stages) (inputs : List Input) (points : ℕ → List Point) (outs 
       → bag_of (rows_given s.plan outs k (p_distinct input)) ≡ bag_of (distinct row_cmp rows)
   distinct_is at stands =
       let o : PlanOp = p_distinct input in
+      let tasks : List MapTask = map_tasks s k o in
       let none = none_folds_at s.plan k o at refl in
+      let taken : ℕ → MapTask → List Entry = λ p t. sort (run_cmp []) (in_part (λ e. pn e.key s.sizing.reducers) p (combined key_alone (own_entries s inputs points outs run some k o at stands t))) in
+      let once : ℕ → Rows = λ p. map key_row (distinct tree_cmp (map {A = Entry} (λ e. e.key) (flat_map (taken p) tasks))) in
       ap bag_of
       (given_by_parts s inputs points outs run some k o at stands refl (λ es. refl) (λ i rs form h. h) (λ p form h. h)
-      ∙ flat_map_each _ (λ p. map key_row (distinct tree_cmp (map (λ e. e.key) (flat_map _ (map_tasks s k o))))) (range_with_len 0 s.sizing.reducers)
-      (each_of_all _ (λ p. ap (λ f. option_map_or (λ block. folded block _) f (map key_row (distinct tree_cmp (map (λ e. e.key) _)))) none) (range_with_len 0 s.sizing.reducers)))
-      ∙ rows_once (task_rows s.plan inputs outs) (own_entries s inputs points outs run some k o at stands) (λ t. row_keys t.way.input (task_rows s.plan inputs outs t)) (map_tasks s k o) s.sizing.reducers some rows
+      ∙ flat_map_each (λ p. reduced s.plan k o (flat_map (taken p) tasks)) once (range_with_len 0 s.sizing.reducers)
+      (each_of_all (λ p. reduced s.plan k o (flat_map (taken p) tasks) ≡ once p)
+      (λ p. ap (λ f. option_map_or (λ block. folded block (flat_map (taken p) tasks)) f (once p)) none) (range_with_len 0 s.sizing.reducers)))
+      ∙ rows_once (task_rows s.plan inputs outs) (own_entries s inputs points outs run some k o at stands) (λ t. row_keys t.way.input (task_rows s.plan inputs outs t)) tasks s.sizing.reducers some rows
       (tasks_rows o refl)
 
   -- ---- ORDER

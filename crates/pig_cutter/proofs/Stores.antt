@@ -3,7 +3,7 @@ use Rattle.std.specs.Prelude.{◌≡◌, ◌<◌, ◌+◌, ◌-◌, ◌==◌, �
 use Rattle.std.proofs.Common.{inl, inr, ap, sym, ◌∙◌, arith, subst, append-nil, cond, true≢false}
 use Rattle.std.specs.List.{AllByRecursion, filter, flat_map, range_with_len}
 use Rattle.std.specs.Option.{option_map, option_map_or}
-use Rattle.std.proofs.lemmas.Bool.{eq-eqb}
+use Rattle.std.proofs.lemmas.Bool.{eq-eqb, eqb-true}
 use Rattle.std.proofs.lemmas.Bool.Decides.{nat_tests}
 use Rattle.std.proofs.lemmas.Grind.{flat_map-append}
 use Rattle.std.proofs.lemmas.List.{length-append}
@@ -114,7 +114,7 @@ module _ (s : Stages) (inputs : List Input) (points : ℕ → List Point) (outs 
     where
       first : (b : Bool) → (t.node == k) ≡ b → cond b (bytes_in out.form) [] ≡ cond b (text t) []
       first true e =
-          let same : t.node ≡ k = omega (arith, e) in
+          let same : t.node ≡ k = eqb-true t.node k e in
           let value = h.0 (p_store input path delim) (ap (op_at s.plan) same ∙ own) in
           ap bytes_in value.form
       first false e = refl

@@ -131,7 +131,7 @@ module _ (plan : Plan) where
 
   pub told_at : (ns : List ℕ) (rs : Rows) (statement : ℕ) → Among statement (unmet_on plan ns rs) → ToldAt ns rs statement
   told_at [] rs statement h = absurd (in_none h)
-  told_at (k ∷ ns) rs statement h = by_side (side_of statement (not_met_at plan k rs) (unmet_on plan ns (node_step (folds plan) plan k rs)) h)
+  told_at (k ∷ ns) rs statement h = by_side (told_at ns (node_step (folds plan) plan k rs) statement) (side_of statement (not_met_at plan k rs) (unmet_on plan ns (node_step (folds plan) plan k rs)) h)
     where
       later : ToldAt ns (node_step (folds plan) plan k rs) statement → ToldAt (k ∷ ns) rs statement
       later g = record {
@@ -139,9 +139,10 @@ module _ (plan : Plan) where
         op = g.op; statement_is = g.statement_is; fails = g.fails;
       }
 
-      by_side : Side statement (not_met_at plan k rs) (unmet_on plan ns (node_step (folds plan) plan k rs)) → ToldAt (k ∷ ns) rs statement
-      by_side (in_front g) = told_here k ns rs statement g
-      by_side (behind g) = later (told_at ns (node_step (folds plan) plan k rs) statement g)
+      by_side : (Among statement (unmet_on plan ns (node_step (folds plan) plan k rs)) → ToldAt ns (node_step (folds plan) plan k rs) statement)
+          → Side statement (not_met_at plan k rs) (unmet_on plan ns (node_step (folds plan) plan k rs)) → ToldAt (k ∷ ns) rs statement
+      by_side rest (in_front g) = told_here k ns rs statement g
+      by_side rest (behind g) = later (rest g)
 
   -- an ASSERT on the way tells of rows that it is not met by
   pub tells : (before : List ℕ) (k : ℕ) (after : List ℕ) (rs : Rows) (statement input : ℕ) (test : Typed) (message : Option (List ℕ))

@@ -3,7 +3,7 @@ use Rattle.std.specs.Prelude.{◌≡◌, ◌<◌, ◌≤◌, ◌+◌, ◌-◌, �
 use Rattle.std.proofs.Common.{inl, inr, ap, sym, ◌∙◌, arith, subst, append_assoc, append-nil, cond, true≢false}
 use Rattle.std.specs.List.{AllByRecursion, flat_map, list_any}
 use Rattle.std.specs.Option.{option_map, option_map_or}
-use Rattle.std.proofs.lemmas.Bool.{cases_Bool, eq-eqb}
+use Rattle.std.proofs.lemmas.Bool.{cases_Bool, eq-eqb, eqb-true}
 use Rattle.std.proofs.lemmas.Bool.{cases_lt}
 use Rattle.std.proofs.lemmas.Bool.Decides.{nat_tests}
 use Rattle.std.proofs.lemmas.List.{length-append}
@@ -69,15 +69,17 @@ module _ (plan : Plan) (valid : IsPlan plan) where
         (subst (Among path) (paths_of_node plan valid j w there ∙ ap (λ b. cond b (record { source = j; nodes = [] } ∷ []) (flat_map (λ i. map (and_then j) (paths_of plan i)) (inputs_of w.op))) by_row) among) in
         let from = mapped_from (and_then j) (paths_of plan found.x) path found.made in
         let lower : found.x < j = each_at (λ i. i < j) (inputs_of w.op) found.among.at found.x found.among.is (names_lower plan valid j w there) in
-        by_cut found.x found.among from.x from.among from.is lower (cut_at from.x.nodes j before k after (ap (λ p. p.nodes) from.is ∙ e))
+        by_cut (path_cut n) found.x found.among from.x from.among from.is lower (cut_at from.x.nodes j before k after (ap (λ p. p.nodes) from.is ∙ e))
   ]
     where
       single : (own : Path) (i : ℕ) → slice_get (own ∷ []) i ≡ Some path → own ≡ path
       single own zero h = some_same own path h
       single own (suc i) h = absurd (cc)
 
-      by_cut : (i : ℕ) → Among i (inputs_of w.op) → (p : Path) → Among p (paths_of plan i) → and_then j p ≡ path → i < j → CutAt p.nodes j before k after → Before path before v
-      by_cut i named p there_too is lower (at_last none same cut) =
+      by_cut : ((i : ℕ) → i < n → (u : PlanNode) → slice_get plan i ≡ Some u → (p : Path) → Among p (paths_of plan i)
+              → (front : List ℕ) (l : ℕ) (rest : List ℕ) → p.nodes ≡ front ++ l ∷ rest → (x : PlanNode) → slice_get plan l ≡ Some x → Before p front x)
+          → (i : ℕ) → Among i (inputs_of w.op) → (p : Path) → Among p (paths_of plan i) → and_then j p ≡ path → i < j → CutAt p.nodes j before k after → Before path before v
+      by_cut inside i named p there_too is lower (at_last none same cut) =
           let node_is : w ≡ v = some_same w v (sym there ∙ ap (slice_get plan) same ∙ at) in
           let path_is : p ≡ record { source = path.source; nodes = before } = λ l. record { source = ap (λ q. q.source) is l; nodes = cut l } in
           record {
@@ -85,10 +87,10 @@ module _ (plan : Plan) (valid : IsPlan plan) where
             among = subst (λ u. Among i (inputs_of u.op)) node_is named;
             path_there = subst (λ q. Among q (paths_of plan i)) path_is there_too;
           }
-      by_cut i named p there_too is lower (at_inner rest end cut) =
+      by_cut inside i named p there_too is lower (at_inner rest end cut) =
           let short = slice_get_within plan j w there in
           let found = some_at plan i (omega (arith, lower, short)) in
-          let inner = path_cut n i (omega (arith, lower, below)) found.0 found.1 p there_too before k rest cut v at in
+          let inner = inside i (omega (arith, lower, below)) found.0 found.1 p there_too before k rest cut v at in
           record {
             input = inner.input;
             among = inner.among;
@@ -126,7 +128,7 @@ module _ (plan : Plan) (valid : IsPlan plan) where
 
   named_by : (k n : ℕ) (nodes : Plan) → is_used k n nodes ≡ true → Named k n nodes
   named_by k n [] h = absurd (true≢false (sym h))
-  named_by k n (v ∷ nodes) h = by_test (names v.op k && (is_store v.op || is_used n (n + 1) nodes)) refl h
+  named_by k n (v ∷ nodes) h = by_test (named_by k (n + 1) nodes) (names v.op k && (is_store v.op || is_used n (n + 1) nodes)) refl h
     where
       both : (a b : Bool) → (a && b) ≡ true → (a ≡ true) × (b ≡ true)
       both true b e = (refl, e)
@@ -143,27 +145,28 @@ module _ (plan : Plan) (valid : IsPlan plan) where
                 ∙ (λ i. is_store g.v.op || is_used (sym place i) (sym place i + 1) (drop (g.j + 1) nodes)) ∙ g.live;
           }
 
-      by_test : (b : Bool) → (names v.op k && (is_store v.op || is_used n (n + 1) nodes)) ≡ b → (b || is_used k (n + 1) nodes) ≡ true → Named k n (v ∷ nodes)
-      by_test true e g =
+      by_test : (is_used k (n + 1) nodes ≡ true → Named k (n + 1) nodes) → (b : Bool) → (names v.op k && (is_store v.op || is_used n (n + 1) nodes)) ≡ b → (b || is_used k (n + 1) nodes) ≡ true → Named k n (v ∷ nodes)
+      by_test rest true e g =
           let two = both (names v.op k) (is_store v.op || is_used n (n + 1) nodes) e in
           let here : n + 0 ≡ n = omega arith in
           record { j = 0; v = v; at = refl; name = two.0; live = (λ i. is_store v.op || is_used (here i) (here i + 1) nodes) ∙ two.1 }
-      by_test false e g = later (named_by k (n + 1) nodes g)
+      by_test rest false e g = later (rest g)
 
   -- the place of an input, and the ways by it
   entered : (i : ℕ) (ns : List ℕ) (k : ℕ) → list_any (λ n. n == k) ns ≡ true → (path : Path) → Among path (paths_of plan k)
       → (j : ℕ) × Among (record { input = j; path = path }) (entering (paths_of plan) i ns)
   entered i [] k h path among = absurd (true≢false (sym h))
-  entered i (n ∷ ns) k h path among = by_test (n == k) refl h
+  entered i (n ∷ ns) k h path among = by_test (λ g. entered (i + 1) ns k g path among) (n == k) refl h
     where
-      by_test : (b : Bool) → (n == k) ≡ b → (b || list_any (λ m. m == k) ns) ≡ true → (j : ℕ) × Among (record { input = j; path = path }) (entering (paths_of plan) i (n ∷ ns))
-      by_test true e g =
-          let same : n ≡ k = omega (arith, e) in
+      by_test : (list_any (λ m. m == k) ns ≡ true → (j : ℕ) × Among (record { input = j; path = path }) (entering (paths_of plan) (i + 1) ns))
+          → (b : Bool) → (n == k) ≡ b → (b || list_any (λ m. m == k) ns) ≡ true → (j : ℕ) × Among (record { input = j; path = path }) (entering (paths_of plan) i (n ∷ ns))
+      by_test more true e g =
+          let same : n ≡ k = eqb-true n k e in
           let way : Entering = record { input = i; path = path } in
           (i, among_front way (map (λ p. record { input = i; path = p }) (paths_of plan n)) (entering (paths_of plan) (i + 1) ns)
           (among_map (λ p. record { input = i; path = p }) (paths_of plan n) path (subst (λ m. Among path (paths_of plan m)) (sym same) among)))
-      by_test false e g =
-          let rest = entered (i + 1) ns k g path among in
+      by_test more false e g =
+          let rest = more g in
           (rest.0, among_behind (record { input = rest.0; path = path }) (map (λ p. record { input = i; path = p }) (paths_of plan n)) (entering (paths_of plan) (i + 1) ns) rest.1)
 
   -- a node that names another, and brings nothing together, works row by row
@@ -194,16 +197,19 @@ module _ (plan : Plan) (valid : IsPlan plan) where
 
   goes_on : (fuel k : ℕ) → length plan ≤ k + fuel → (v : PlanNode) → slice_get plan k ≡ Some v → is_live plan k ≡ true → (path : Path) → Among path (paths_of plan k) → GoesOn path
   goes_on zero k far v at alive path among = let within = slice_get_within plan k v at in absurd (omega (arith, far, within))
-  goes_on (suc fuel) k far v at alive path among = by_store (is_store v.op) refl
+  goes_on (suc fuel) k far v at alive path among = by_store (goes_on fuel) (is_store v.op) refl
     where
       itself : list_any (λ n. n == k) (k ∷ []) ≡ true
       itself = ap (λ b. b || false) (eq-eqb k k refl)
 
-      by_store : (b : Bool) → is_store v.op ≡ b → GoesOn path
-      by_store true e =
+      Onwards : Type 0
+      Onwards = (m : ℕ) → length plan ≤ m + fuel → (u : PlanNode) → slice_get plan m ≡ Some u → is_live plan m ≡ true → (p : Path) → Among p (paths_of plan m) → GoesOn p
+
+      by_store : Onwards → (b : Bool) → is_store v.op ≡ b → GoesOn path
+      by_store onwards true e =
           let way = entered 0 (k ∷ []) k itself path among in
           record { node = k; v = v; at = at; alive = alive; way = record { input = way.0; path = path }; read = stored e way.1; rest = []; is = same_path path }
-      by_store false e = by_user (named_by k (k + 1) (drop (k + 1) plan) used)
+      by_store onwards false e = by_user (named_by k (k + 1) (drop (k + 1) plan) used)
         where
           used : is_used k (k + 1) (drop (k + 1) plan) ≡ true
           used =
@@ -232,9 +238,9 @@ module _ (plan : Plan) (valid : IsPlan plan) where
               by_bounds false bounds =
                   let by_row = by_row_of user.v.op k user.name bounds in
                   let held = some_holds (λ n. n == k) (inputs_of user.v.op) user.name in
-                  let same : held.x ≡ k = (let eqb = held.is in omega (arith, eqb)) in
+                  let same : held.x ≡ k = eqb-true held.x k held.is in
                   let on = handed_path m user.v there by_row k (subst (λ n. Among n (inputs_of user.v.op)) same held.among) path among in
-                  let next = goes_on fuel m (omega (arith, far)) user.v there lives (and_then m path) on in
+                  let next = onwards m (omega (arith, far)) user.v there lives (and_then m path) on in
                   record {
                     node = next.node; v = next.v; at = next.at; alive = next.alive; way = next.way; read = next.read; rest = m ∷ next.rest;
                     is = next.is ∙ (λ i. record { source = path.source; nodes = append_assoc path.nodes (m ∷ []) next.rest i });

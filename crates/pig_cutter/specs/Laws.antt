@@ -21,31 +21,44 @@ use Rattle.pig_physical.specs.Running.{AreOutputs, IsRun, all_unmet, bytes_given
 use Rattle.pig_physical.specs.Stages.{Stages}
 use Rattle.pig_waves.specs.Laws.{HaveStages}
 
--- Rows answer for a node: they are its meaning, as a bag and, where it is a list, in its order. For a GROUP that folds they are, as a
--- bag, the rows of its FOREACH.
+-- Rows answer for a node: they are its meaning, as a bag and, where it is a list, in its order. For a GROUP that folds they
+-- are, as a bag, the rows of its FOREACH.
 pub record Answers (plan : Plan) (inputs : List Input) (kept : List Kept) (k : ℕ) (rows : List (List Tree)) : Type 0 where
   pub bag : folds plan k ≡ None → bag_of rows ≡ bag_of (meaning plan inputs kept k)
   pub list : folds plan k ≡ None → is_list plan k ≡ true → rows ≡ meaning plan inputs kept k
-  pub folded : (block : TypedBlock) → folds plan k ≡ Some block → bag_of rows ≡ bag_of (foreach_all block (meaning plan inputs kept k))
+  pub folded : (block : TypedBlock) → folds plan k ≡ Some block
+      → bag_of rows ≡ bag_of (foreach_all block (meaning plan inputs kept k))
 
--- the bytes of a STORE's parts, joined, are the texts of rows that answer for it, each with a line end: so they store what it means
+-- the bytes of a STORE's parts, joined, are the texts of rows that answer for it, each with a line end: so they store what it
+-- means
 pub record StoresAnswer (s : Stages) (inputs : List Input) (kept : List Kept) (outs : Outs) (k delim : ℕ) : Type 0 where
   pub rows : List (List Tree)
   pub bytes : bytes_given s outs k ≡ rows_text delim rows
   pub answers : AnswersFor s.plan inputs kept k rows
 
--- what was kept is valid; each live boundary node's outputs answer for it, and so does what each STORE's parts hold; and tasks tell of just
--- the live ASSERTs that the meaning does not meet
+-- nodes by their operators
+abbrev pub stores_at : ℕ → List ℕ → ℕ → ℕ → PlanNode
+stores_at input path delim statement = record { op = p_store input path delim; statement = statement }
+
+abbrev pub asserts_at : ℕ → Typed → Option (List ℕ) → ℕ → PlanNode
+asserts_at input cond message statement = record { op = p_assert input cond message; statement = statement }
+
+-- what was kept is valid; each live boundary node's outputs answer for it, and so does what each STORE's parts hold; and tasks
+-- tell of just the live ASSERTs that the meaning does not meet
 pub record GiveMeaning (s : Stages) (inputs : List Input) (kept : List Kept) (outs : Outs) : Type 0 where
   pub valid : IsKept s.plan inputs kept
-  pub nodes : (k : ℕ) (node : PlanNode) → slice_get s.plan k ≡ Some node → is_live s.plan k ≡ true → is_boundary node.op ≡ true
+  pub nodes : (k : ℕ) (node : PlanNode)
+      → slice_get s.plan k ≡ Some node → is_live s.plan k ≡ true → is_boundary node.op ≡ true
       → Answers s.plan inputs kept k (rows_given s.plan outs k node.op)
-  pub stores : (k statement input delim : ℕ) (path : List ℕ) → slice_get s.plan k ≡ Some (record { op = p_store input path delim; statement = statement })
-      → StoresAnswer s inputs kept outs k delim
-  pub asserts : (k statement input : ℕ) (cond : Typed) (message : Option (List ℕ)) → slice_get s.plan k ≡ Some (record { op = p_assert input cond message; statement = statement })
-      → is_live s.plan k ≡ true → list_any (λ n. n == statement) (all_unmet outs) ≡ not (met (meaning s.plan inputs kept) (p_assert input cond message))
+  pub stores : (k statement input delim : ℕ) (path : List ℕ)
+      → slice_get s.plan k ≡ Some (stores_at input path delim statement) → StoresAnswer s inputs kept outs k delim
+  pub asserts : (k statement input : ℕ) (cond : Typed) (message : Option (List ℕ))
+      → slice_get s.plan k ≡ Some (asserts_at input cond message statement) → is_live s.plan k ≡ true
+      → list_any (λ n. n == statement) (all_unmet outs)
+          ≡ not (met (meaning s.plan inputs kept) (p_assert input cond message))
 
 -- Outputs that are the values of all tasks, wave by wave, give the meaning of the plan that is cut.
 abbrev pub StagesGiveMeaning : Type 0
-StagesGiveMeaning = (s : Stages) (inputs : List Input) (kept : List Kept) (points : ℕ → List Point) (outs : Outs) → IsPlan s.plan → HaveStages s.plan
-    → 0 < s.sizing.reducers → 0 < s.sizing.split → IsRun s inputs points outs → AreOutputs s.plan outs kept → GiveMeaning s inputs kept outs
+StagesGiveMeaning = (s : Stages) (inputs : List Input) (kept : List Kept) (points : ℕ → List Point) (outs : Outs)
+    → IsPlan s.plan → HaveStages s.plan → 0 < s.sizing.reducers → 0 < s.sizing.split
+    → IsRun s inputs points outs → AreOutputs s.plan outs kept → GiveMeaning s inputs kept outs

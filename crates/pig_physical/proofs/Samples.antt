@@ -1,15 +1,15 @@
 -- Stages of small plans, and what their tasks hand on, computed.
-use Rattle.std.specs.Prelude.{◌≡◌, ℕ, Bool, true, false, List, [], ◌∷◌, ◌++◌, codes, length, map, None, Some, refl, pos, slice_get}
+use Rattle.std.specs.Prelude.{◌≡◌, ℕ, Bool, true, false, List, [], ◌∷◌, codes, length, map, None, refl}
 use Rattle.pig_value.specs.declared.functions.Function.TheVariants as f
 use Rattle.pig_value.specs.declared.inputs.Input.{Input}
 use Rattle.pig_value.specs.declared.operators.Side.TheVariants as side
 use Rattle.pig_value.specs.Gathering.{Entry}
-use Rattle.pig_value.specs.Trees.{Tree, v_chars, v_int, v_null, v_long}
+use Rattle.pig_value.specs.Trees.{Tree, v_chars, v_null}
 use Rattle.pig_typed.specs.Typed.{Typed, TypedBlock, TypedItem, more_args, no_args, x_bool, x_call, x_field, x_project}
 use Rattle.pig_storage.specs.Splits.{splits_of}
-use Rattle.pig_plan.specs.Plans.{Keyed, Plan, PlanNode, PlanOp, p_load, p_filter, p_foreach, p_group, p_group_all, p_join, p_union, p_distinct, p_order, p_limit, p_store, p_assert, p_rank}
-use Rattle.pig_physical.specs.Combining.{combining, folds}
-use Rattle.pig_physical.specs.Stages.{Sizing, Stages, heads, is_map_task, tasks_in, wave_size}
+use Rattle.pig_plan.specs.Plans.{Keyed, Plan, PlanNode, PlanOp, p_load, p_filter, p_foreach, p_group, p_group_all, p_join, p_union, p_distinct, p_limit, p_store, p_assert, p_rank}
+use Rattle.pig_physical.specs.Combining.{folds}
+use Rattle.pig_physical.specs.Stages.{Stages, heads, tasks_in, wave_size}
 use Rattle.pig_physical.specs.Values.{handed_on, split_lines, unmet_on}
 use Rattle.pig_physical.specs.declared.waves.WaveHead.{WaveHead}
 use Rattle.pig_physical.specs.declared.waves.WaveKind.{WaveKind}

@@ -1,4 +1,5 @@
--- Which nodes of a plan combine: their map tasks hand on no key twice, but one entry for each key that holds what is found in its rows.
+-- Which nodes of a plan combine: their map tasks hand on no key twice, but one entry for each key that holds what is found in
+-- its rows.
 -- (Building a High-Level Dataflow System on top of Map-Reduce: "Use of the combiner".)
 use Rattle.std.specs.Prelude.{ℕ, ◌==◌, Bool, true, false, ◌&&◌, List, [], ◌∷◌, Option, Some, None, if◌then◌else◌}
 use Rattle.std.specs.List.{filter_map}
@@ -38,9 +39,11 @@ where_combinable block = if is_combinable block then Some block else None
 -- A GROUP of one input folds where its only use is a FOREACH whose block is combinable: this block.
 abbrev pub folds : Plan → ℕ → Option TypedBlock
 folds plan k =
-    if option_map_or groups_one (op_at plan k) false && (uses plan k == 1) then option_and_then where_combinable (only (blocks_on plan k)) else None
+    if option_map_or groups_one (op_at plan k) false && (uses plan k == 1)
+    then option_and_then where_combinable (only (blocks_on plan k)) else None
 
--- what the entry of a key holds of the rows that have it: of a DISTINCT the key itself, of a GROUP that folds the parts of its functions
+-- what the entry of a key holds of the rows that have it: of a DISTINCT the key itself, of a GROUP that folds the parts of
+-- its functions
 abbrev pub combining : Plan → ℕ → PlanOp → Option (Tree → List (List Tree) → List Tree)
 combining plan k (p_distinct input) = Some (λ key rows. key ∷ [])
 combining plan k o = option_map parts_of_rows (folds plan k)

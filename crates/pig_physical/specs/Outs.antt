@@ -1,5 +1,5 @@
 -- What tasks hand on, as contracts see it.
-use Rattle.std.specs.Prelude.{ℕ, List, [], Option, slice_get}
+use Rattle.std.specs.Prelude.{ℕ, List, [], slice_get}
 use Rattle.std.specs.Option.{option_map_or}
 use Rattle.pig_value.specs.Gathering.{Entry}
 use Rattle.pig_value.specs.Trees.{Tree}
@@ -12,7 +12,8 @@ pub data Form : Type 0 where
   o_runs : List InDirections → Form
   o_bytes : List ℕ → Form
 
--- what a task hands on, how many lines it read from its split, and the statements of the ASSERTs on its path that its rows don't meet
+-- what a task hands on, how many lines it read from its split, and the statements of the ASSERTs on its path that its rows
+-- don't meet
 pub record TaskOut : Type 0 where
   pub form : Form
   pub lines : ℕ

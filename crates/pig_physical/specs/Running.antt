@@ -1,5 +1,6 @@
--- A run of stages: outputs that are the values of all tasks, wave by wave; and the rows, what was kept and the bytes that they give.
-use Rattle.std.specs.Prelude.{◌≡◌, ℕ, ◌==◌, ◌+◌, ◌-◌, Bool, true, false, List, [], ◌∷◌, ◌++◌, map, length, Option, Some, slice_get, if◌then◌else◌}
+-- A run of stages: outputs that are the values of all tasks, wave by wave; and the rows, what was kept and the bytes that
+-- they give.
+use Rattle.std.specs.Prelude.{◌≡◌, ℕ, ◌==◌, ◌+◌, ◌-◌, Bool, true, false, List, [], ◌∷◌, ◌++◌, map, length, Some, slice_get, if◌then◌else◌}
 use Rattle.std.specs.List.{flat_map}
 use Rattle.pig_value.specs.declared.inputs.Column.{Column}
 use Rattle.pig_value.specs.declared.inputs.Input.{Input}
@@ -27,13 +28,15 @@ pub record AreCuts (n : ℕ) (ds : List Dir) (points : List Point) : Type 0 wher
 -- the lengths by which the stages are cut are those of the inputs that a STORE reaches
 abbrev pub AreSizes : Stages → List Input → Type 0
 AreSizes s inputs = (k statement delim : ℕ) (path : List ℕ) (columns : List Column)
-    → slice_get s.plan k ≡ Some (record { op = p_load path delim columns; statement = statement }) → is_live s.plan k ≡ true
+    → slice_get s.plan k ≡ Some (record { op = p_load path delim columns; statement = statement })
+    → is_live s.plan k ≡ true
     → map length (pieces_of inputs path) ≡ s.sizing.lengths path
 
 -- `points` has those of each wave
 pub record IsRun (s : Stages) (inputs : List Input) (points : ℕ → List Point) (outs : Outs) : Type 0 where
   pub sizes : AreSizes s inputs
-  pub cuts : (k : ℕ) (o : PlanOp) (keys : List SortKey) → op_at s.plan k ≡ Some o → is_live s.plan k ≡ true → sort_keys o ≡ Some keys
+  pub cuts : (k : ℕ) (o : PlanOp) (keys : List SortKey)
+      → op_at s.plan k ≡ Some o → is_live s.plan k ≡ true → sort_keys o ≡ Some keys
       → AreCuts s.sizing.reducers (dirs_of keys) (points (first_wave s.plan k))
   pub values : (w : ℕ) → Each (IsValue s inputs (Some (points w)) outs) (tasks_in s w) (outs_at outs w)
 
@@ -44,8 +47,10 @@ rows_given plan outs k o = flat_map (λ out. rows_in out.form) (outs_at outs (la
 -- what was kept is what the waves of the bare LIMITs give
 pub record AreOutputs (plan : Plan) (outs : Outs) (kept : List Kept) : Type 0 where
   pub statements : map (λ k. k.statement) kept ≡ map (λ node. node.statement) (bare_limits plan)
-  pub each : (k statement input count : ℕ) → slice_get plan k ≡ Some (record { op = p_limit input count; statement = statement })
-      → is_live plan k ≡ true → is_sorted plan input ≡ false → kept_at kept statement ≡ rows_given plan outs k (p_limit input count)
+  pub each : (k statement input count : ℕ)
+      → slice_get plan k ≡ Some (record { op = p_limit input count; statement = statement })
+      → is_live plan k ≡ true → is_sorted plan input ≡ false
+      → kept_at kept statement ≡ rows_given plan outs k (p_limit input count)
 
 -- the bytes of a STORE's parts, joined in the order of the tasks
 abbrev pub is_for : ℕ → Task → Bool

@@ -1,11 +1,11 @@
 -- Stages: a plan, the sizes of its inputs, and the waves of tasks that it is cut into.
--- (Building a High-Level Dataflow System on top of Map-Reduce: "Map-Reduce Plan Compilation". That a task reads one split on one
--- path, and the order of waves and of tasks, are choices of this profile.)
-use Rattle.std.specs.Prelude.{ℕ, ◌==◌, ◌+◌, ◌-◌, Bool, true, false, ◌&&◌, not, nat_lt, List, [], ◌∷◌, ◌++◌, map, take, length, Option, slice_get}
+-- (Building a High-Level Dataflow System on top of Map-Reduce: "Map-Reduce Plan Compilation". That a task reads one split on
+-- one path, and the order of waves and of tasks, are choices of this profile.)
+use Rattle.std.specs.Prelude.{ℕ, ◌==◌, ◌+◌, ◌-◌, Bool, true, false, ◌&&◌, not, nat_lt, List, [], ◌∷◌, ◌++◌, map, take, length, slice_get}
 use Rattle.std.specs.List.{filter, flat_map, range_with_len}
-use Rattle.std.specs.Option.{option_map, option_map_or}
+use Rattle.std.specs.Option.{option_map_or}
 use Rattle.pig_storage.specs.Splits.{splits_of}
-use Rattle.pig_plan.specs.Nodes.{Entering, Path, entering, inputs_of, is_boundary, is_store, live, op_at, paths_of}
+use Rattle.pig_plan.specs.Nodes.{Entering, entering, inputs_of, is_boundary, is_store, live, op_at, paths_of}
 use Rattle.pig_plan.specs.Plans.{Plan, PlanOp, p_load, p_join, p_limit, p_rank}
 use Rattle.pig_physical.specs.Combining.{combines}
 use Rattle.pig_physical.specs.declared.parts.Part.{Part}
@@ -107,7 +107,8 @@ abbrev pub store_tasks : Stages → ℕ → List MapTask
 store_tasks s k = tasks_on s k (ways_to s.plan k)
 
 abbrev pub partition_tasks : Stages → ℕ → ℕ → PlanOp → List ReduceTask
-partition_tasks s wave k o = map (λ p. record { node = k; wave = wave; part = p }) (range_with_len 0 (reduce_count s.sizing.reducers o))
+partition_tasks s wave k o =
+    map (λ p. record { node = k; wave = wave; part = p }) (range_with_len 0 (reduce_count s.sizing.reducers o))
 
 abbrev pub enters_first : MapTask → Bool
 enters_first t = t.way.input == 0
@@ -138,7 +139,8 @@ ways_by plan kinds.Store k o = flat_map (ways_to plan) (stores plan)
 ways_by plan kind k o = []
 
 abbrev pub ways_in : Plan → ℕ → List Entering
-ways_in plan w = option_map_or (λ head. option_map_or (ways_by plan head.kind head.node) (op_at plan head.node) []) (slice_get (heads plan) w) []
+ways_in plan w =
+    option_map_or (λ head. option_map_or (ways_by plan head.kind head.node) (op_at plan head.node) []) (slice_get (heads plan) w) []
 
 -- how much a wave counts against the limit: its tasks that are no reduce tasks, and its ways
 abbrev pub is_map_task : Task → Bool

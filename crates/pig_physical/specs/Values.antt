@@ -1,6 +1,7 @@
 -- What each task must hand on: the value of a task.
--- (Building a High-Level Dataflow System on top of Map-Reduce: "Map-Reduce Plan Compilation", "Use of the combiner". That lines belong to
--- the split in which they start, how keys go to partitions, and what a LIMIT's tasks hand on, are choices of this profile.)
+-- (Building a High-Level Dataflow System on top of Map-Reduce: "Map-Reduce Plan Compilation", "Use of the combiner". That lines
+-- belong to the split in which they start, how keys go to partitions, and what a LIMIT's tasks hand on, are choices of this
+-- profile.)
 use Rattle.std.specs.Prelude.{◌≡◌, ℕ, ◌+◌, Bool, true, false, List, [], ◌∷◌, ◌++◌, map, take, length, Option, Some, None, slice_get, if◌then◌else◌}
 use Rattle.std.specs.List.{flat_map, list_all, range_with_len}
 use Rattle.std.specs.Option.{option_map_or}
@@ -99,10 +100,12 @@ partitions n entries = map (λ p. run_of [] (in_part (λ e. pn e.key n) p entrie
 abbrev pub slices : Option (List Point) → List Dir → List Entry → List InDirections
 slices None ds entries = run_of ds entries ∷ []
 slices (Some points) ds entries =
-    map (λ p. record { dirs = ds; entries = slice_of ds points p (sort (run_cmp ds) entries) }) (range_with_len 0 (length points + 1))
+    map (λ p. record { dirs = ds; entries = slice_of ds points p (sort (run_cmp ds) entries) })
+    (range_with_len 0 (length points + 1))
 
 abbrev pub runs_of : ℕ → Option (List Point) → PlanOp → List Entry → List InDirections
-runs_of n points o entries = option_map_or (λ keys. slices points (dirs_of keys) entries) (sort_keys o) (partitions n entries)
+runs_of n points o entries =
+    option_map_or (λ keys. slices points (dirs_of keys) entries) (sort_keys o) (partitions n entries)
 
 -- ---- rows brought together
 
@@ -114,11 +117,13 @@ key_row key = []
 abbrev pub brought_together : (ℕ → ℕ) → PlanOp → List Entry → List (List Tree)
 brought_together width (p_distinct input) entries = map key_row (distinct tree_cmp (map (λ e. e.key) entries))
 brought_together width o entries =
-    option_map_or (λ keys. map (λ e. e.row) (sort (run_cmp (dirs_of keys)) entries)) (sort_keys o) (gathered (made_by width o) entries)
+    option_map_or (λ keys. map (λ e. e.row) (sort (run_cmp (dirs_of keys)) entries)) (sort_keys o)
+    (gathered (made_by width o) entries)
 
 -- A GROUP that folds gives the rows of its FOREACH.
 abbrev pub reduced : Plan → ℕ → PlanOp → List Entry → List (List Tree)
-reduced plan k o entries = option_map_or (λ block. folded block entries) (folds plan k) (brought_together (width_at plan) o entries)
+reduced plan k o entries =
+    option_map_or (λ block. folded block entries) (folds plan k) (brought_together (width_at plan) o entries)
 
 -- ---- the value of a task
 
@@ -129,17 +134,21 @@ pub record Keeps (sorted : Bool) (count : ℕ) (rows : List (List Tree)) (form :
   pub first : sorted ≡ true → kept ≡ take count rows
   pub some : sorted ≡ false → AreKept count rows kept
 
--- of a map task of a node with these rows of the input at a place; `points` are those that cut an ORDER's runs, once they are chosen
+-- of a map task of a node with these rows of the input at a place; `points` are those that cut an ORDER's runs, once they are
+-- chosen
 abbrev pub IsMapForm : Stages → Option (List Point) → ℕ → PlanOp → ℕ → List (List Tree) → Form → Type 0
 IsMapForm s points k (p_limit input count) i rows form = Keeps (is_sorted s.plan input) count rows form
 IsMapForm s points k (p_store input path delim) i rows form = form ≡ o_bytes (rows_text delim rows)
-IsMapForm s points k o i rows form = form ≡ o_runs (runs_of s.sizing.reducers points o (handed_on s.plan k o (entries_of o i rows)))
+IsMapForm s points k o i rows form =
+    form ≡ o_runs (runs_of s.sizing.reducers points o (handed_on s.plan k o (entries_of o i rows)))
 
 abbrev pub IsReduceForm : Stages → ℕ → PlanOp → List TaskOut → ℕ → Form → Type 0
-IsReduceForm s k (p_limit input count) outs p form = Keeps (is_sorted s.plan input) count (flat_map (λ out. rows_in out.form) outs) form
+IsReduceForm s k (p_limit input count) outs p form =
+    Keeps (is_sorted s.plan input) count (flat_map (λ out. rows_in out.form) outs) form
 IsReduceForm s k o outs p form = form ≡ o_rows (reduced s.plan k o (flat_map (entries_at p) outs))
 
-pub record IsMapValue (s : Stages) (inputs : List Input) (points : Option (List Point)) (outs : Outs) (t : MapTask) (o : PlanOp) (out : TaskOut) : Type 0 where
+pub record IsMapValue (s : Stages) (inputs : List Input) (points : Option (List Point)) (outs : Outs)
+    (t : MapTask) (o : PlanOp) (out : TaskOut) : Type 0 where
   pub form : IsMapForm s points t.node o t.way.input (task_rows s.plan inputs outs t) out.form
   pub lines : out.lines ≡ length (lines_of s.plan inputs t)
   pub unmet : out.unmet ≡ task_unmet s.plan inputs outs t
@@ -150,5 +159,7 @@ pub record IsReduceValue (s : Stages) (outs : Outs) (t : ReduceTask) (o : PlanOp
   pub unmet : out.unmet ≡ []
 
 abbrev pub IsValue : Stages → List Input → Option (List Point) → Outs → Task → TaskOut → Type 0
-IsValue s inputs points outs (t_map t) out = (o : PlanOp) → op_at s.plan t.node ≡ Some o → IsMapValue s inputs points outs t o out
-IsValue s inputs points outs (t_reduce t) out = (o : PlanOp) → op_at s.plan t.node ≡ Some o → IsReduceValue s outs t o out
+IsValue s inputs points outs (t_map t) out =
+    (o : PlanOp) → op_at s.plan t.node ≡ Some o → IsMapValue s inputs points outs t o out
+IsValue s inputs points outs (t_reduce t) out =
+    (o : PlanOp) → op_at s.plan t.node ≡ Some o → IsReduceValue s outs t o out

@@ -3,14 +3,14 @@ use pig_storage::Split;
 use pig_value::{Numbers, Seq};
 
 /// A way that rows come: from a source through nodes that work row by row, one behind the other, all by their numbers.
-#[derive(Debug, Drop)]
+#[derive(Drop)]
 pub struct Path {
     pub source: u32,
     pub nodes: Numbers,
 }
 
 /// A path, and the place that the input which it enters has among those of its node, counted from 0.
-#[derive(Debug, Drop)]
+#[derive(Drop)]
 pub struct Way {
     pub input: u32,
     pub path: Path,
@@ -19,7 +19,7 @@ pub struct Way {
 pub type Ways = Seq<Way>;
 
 /// What a task reads.
-#[derive(Clone, Copy, Debug, PartialEq, Eq, Drop)]
+#[derive(Clone, Copy, Drop)]
 pub enum Part {
     /// A split of the input of a LOAD.
     Split(Split),
@@ -28,7 +28,7 @@ pub enum Part {
 }
 
 /// One part of a path's source, put through the path and handed to a node. What a STORE's tasks are, too.
-#[derive(Clone, Copy, Debug, PartialEq, Eq, Drop)]
+#[derive(Clone, Copy, Drop)]
 pub struct MapTask {
     pub node: u32,
     /// The number of its wave, and of its way among those of the wave.
@@ -38,7 +38,7 @@ pub struct MapTask {
 }
 
 /// One partition of a node, brought together from what the tasks of a wave handed on.
-#[derive(Clone, Copy, Debug, PartialEq, Eq, Drop)]
+#[derive(Clone, Copy, Drop)]
 pub struct ReduceTask {
     pub node: u32,
     /// The number of the wave whose outputs it reads.
@@ -47,7 +47,7 @@ pub struct ReduceTask {
 }
 
 /// A task of a wave.
-#[derive(Clone, Copy, Debug, PartialEq, Eq, Drop)]
+#[derive(Clone, Copy, Drop)]
 pub enum Task {
     Map(MapTask),
     Reduce(ReduceTask),

@@ -2,7 +2,7 @@
 use pig_value::Seq;
 
 /// What the tasks of a wave do.
-#[derive(Clone, Copy, Debug, PartialEq, Eq)]
+#[derive(Clone, Copy)]
 pub enum WaveKind {
     /// Put the rows of a path's source through the path, and hand them to a boundary node by partitions.
     Map,
@@ -19,7 +19,7 @@ pub enum WaveKind {
 }
 
 /// A wave: its kind, the number of its boundary node or of the first live STORE, and whether its tasks fold rows.
-#[derive(Clone, Copy, Debug, PartialEq, Eq)]
+#[derive(Clone, Copy)]
 pub struct WaveHead {
     pub kind: WaveKind,
     pub node: u32,

@@ -29,9 +29,9 @@ pub in_slice_at : (ds : List Dir) (points : List Point) (p : ℕ) → p < length
     → option_map_or (λ r. r.entries) (slice_get (slices (Some points) ds es) p) [] ≡ slice_of ds points p (sort (run_cmp ds) es)
 in_slice_at ds points p below es =
     let zeroth : 0 + p ≡ p = omega arith in
-    ap (λ found. option_map_or (λ r. r.entries) found [])
-    (get_map (λ q. record { dirs = ds; entries = slice_of ds points q (sort (run_cmp ds) es) }) (range_with_len 0 (length points + 1)) p)
-    ∙ ap (λ found. option_map_or (λ r. r.entries) (option_map (λ q. record { dirs = ds; entries = slice_of ds points q (sort (run_cmp ds) es) }) found) [])
+    let run_at : ℕ → InDirections = λ q. record { dirs = ds; entries = slice_of ds points q (sort (run_cmp ds) es) } in
+    ap (λ found. option_map_or {T = InDirections} (λ r. r.entries) found []) (get_map run_at (range_with_len 0 (length points + 1)) p)
+    ∙ ap (λ found. option_map_or {T = InDirections} (λ r. r.entries) (option_map run_at found) [])
     (range_at 0 (length points + 1) p below ∙ ap Some zeroth)
 
 module _ {T : Type 0} (keys : List SortKey) (points : List Point) (rise : Ascends (point_cmp (dirs_of keys)) points) (entries : T → List Entry) (tasks : List T) where

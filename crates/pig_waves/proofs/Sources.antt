@@ -1,5 +1,5 @@
 -- The rows of a source, part by part: those of a LOAD's splits are its rows, those of a boundary node's partitions what its last wave gives.
-use Rattle.std.specs.Prelude.{◌≡◌, ◌<◌, ◌+◌, ℕ, zero, suc, List, [], ◌∷◌, ◌++◌, length, map, Option, Some, slice_get, refl}
+use Rattle.std.specs.Prelude.{◌≡◌, ◌<◌, ◌≤◌, ◌+◌, ℕ, zero, suc, List, [], ◌∷◌, ◌++◌, length, map, Option, Some, slice_get, refl}
 use Rattle.std.proofs.Common.{ap, sym, ◌∙◌, arith, subst}
 use Rattle.std.specs.List.{AllByRecursion, flat_map, range_with_len}
 use Rattle.std.specs.Option.{option_map_or}
@@ -80,10 +80,10 @@ module _ (s : Stages) (inputs : List Input) (outs : Outs) (k : ℕ) where
   given_parts wave n size =
       ap (λ m. flat_map (λ part. rows_at outs wave part) (range_with_len 0 m)) (sym size) ∙ of_places (λ out. rows_in out.form) (outs_at outs wave)
 
-  abbrev IsGiven : PlanOp → Type 0
+  abbrev pub IsGiven : PlanOp → Type 0
   IsGiven o = length (outs_at outs (last_wave s.plan k o)) ≡ reduce_count s.sizing.reducers o → rows_of_parts s inputs outs k ≡ rows_given s.plan outs k o
 
-  outputs : (o : PlanOp) → op_at s.plan k ≡ Some o → parts_of s k o ≡ map (parts.Output (last_wave s.plan k o)) (range_with_len 0 (reduce_count s.sizing.reducers o))
+  pub outputs : (o : PlanOp) → op_at s.plan k ≡ Some o → parts_of s k o ≡ map (parts.Output (last_wave s.plan k o)) (range_with_len 0 (reduce_count s.sizing.reducers o))
       → ((part : ℕ) → part_rows inputs outs (parts.Output (last_wave s.plan k o) part) o ≡ rows_at outs (last_wave s.plan k o) part) → IsGiven o
   outputs o at are rows size =
       parts_known o at

@@ -20,5 +20,5 @@ pub record StandsAt (s : Stages) (k : ℕ) (o : PlanOp) : Type 0 where
   pub reduces : tasks_in s (first_wave s.plan k + 1) ≡ map t_reduce (partition_tasks s (first_wave s.plan k) k o)
 
 abbrev pub TasksStandInWaves : Type 0
-TasksStandInWaves = (s : Stages) (k : ℕ) (o : PlanOp) → op_at s.plan k ≡ Some o → is_live s.plan k ≡ true → is_boundary o ≡ true
-    → has_stages o ≡ true → StandsAt s k o
+TasksStandInWaves = (s : Stages) (k : ℕ) (o : PlanOp)
+    → op_at s.plan k ≡ Some o → is_live s.plan k ≡ true → is_boundary o ≡ true → has_stages o ≡ true → StandsAt s k o
