@@ -1,1 +1,5 @@
 mod Samples
+mod CombiningSamples
+mod Arguments
+mod Combined
+mod Folded

@@ -1,3 +1,5 @@
 pub mod Parts
 pub mod PartLaws
 pub mod RowLaws
+pub mod Cuts
+pub mod Combining

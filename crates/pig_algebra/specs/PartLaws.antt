@@ -1,6 +1,6 @@
 -- Parts are merged in any order and grouping, and end with what the function gives of the bag of all rows.
 use Rattle.std.proofs.Common.{◌≡◌, refl, sym, ap, ◌∙◌, subst, inl, inr}
-use Rattle.std.specs.Prelude.{ℤ, Bool, pos, ◌+ℤ◌, true, false, List, [], ◌∷◌, ◌++◌, length, map, Option, Some, None, ⊤, ◌⊎◌, slice_get, if◌then◌else◌}
+use Rattle.std.specs.Prelude.{ℤ, Bool, pos, ◌+ℤ◌, true, false, List, [], ◌∷◌, ◌++◌, length, map, Option, Some, None, ⊤, ◌⊎◌, if◌then◌else◌}
 use Rattle.std.specs.Int.{w64, int_wrap}
 use Rattle.std.specs.List.{filter, filter_map}
 use Rattle.std.specs.List.Sorted.{IsPermutation}
@@ -9,9 +9,9 @@ use Rattle.std.proofs.lemmas.Int.{SFits-int_wrap, int_wrap_fits, int_wrap-add_le
 use Rattle.std.proofs.lemmas.List.{map-append}
 use Rattle.std.proofs.lemmas.List.Sorted.{IsPermutation-map, IsPermutation-sym}
 use Rattle.std.proofs.Math.IntN.{+ℤ_idl}
-use Rattle.pig_value.specs.Functions.{aggregate, apply_tree, bag_tree, column_found, column_tree, first_found, is_present, is_ranked, length_of, long_of, looked_at, sum_found, whole_of}
+use Rattle.pig_value.specs.Functions.{aggregate, apply_tree, bag_tree, column_found, column_tree, first_found, is_present, is_ranked, long_of, looked_at, sum_found, whole_of}
 use Rattle.pig_value.specs.Orders.{bag_of, dir_cmp, row_cmp}
-use Rattle.pig_value.specs.Trees.{Tree, or_null, tuples_list, tuples_of, v_bool, v_bytes, v_chars, v_int, v_long, v_null}
+use Rattle.pig_value.specs.Trees.{Tree, or_null, v_chars, v_int, v_long, v_null}
 use Rattle.pig_value.specs.declared.functions.Function.{Function}
 use Rattle.pig_value.specs.declared.functions.Function.TheVariants as f
 use Rattle.pig_value.specs.declared.operators.Dir.{Dir}
@@ -22,7 +22,7 @@ use Rattle.pig_value.proofs.list_laws.Permutations.{neighbours}
 use Rattle.pig_builtins.specs.Folds.{first_of, is_algebraic, merge_found}
 use Rattle.pig_builtins.proofs.Merging.{in_any_order, merged}
 use Rattle.pig_builtins.proofs.Sums.{sum_alone}
-use Rattle.pig_algebra.specs.Parts.{IsLong, IsPart, Way, both, initial_part, is_long, merge_parts, merged_by, merging, no_row, one_row, part_found, parts_of, rows_in, value_of}
+use Rattle.pig_algebra.specs.Parts.{IsLong, IsPart, Way, both, is_long, merge_parts, merged_by, merging, no_row, one_row, part_found, parts_of, rows_in, value_of}
 
 -- ---- what is found is no null
 

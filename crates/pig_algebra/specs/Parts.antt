@@ -1,5 +1,5 @@
 -- Parts: what an algebraic function finds in some of the rows of a bag, and what two parts are together.
-use Rattle.std.specs.Prelude.{◌≡◌, ℤ, FitsSigned, true, List, [], ◌∷◌, ◌++◌, map, Option, Some, None, ⊤, ◌⊎◌, if◌then◌else◌}
+use Rattle.std.specs.Prelude.{◌≡◌, ℤ, FitsSigned, true, List, [], ◌∷◌, ◌++◌, Option, Some, None, ⊤, ◌⊎◌, if◌then◌else◌}
 use Rattle.std.specs.Int.{w64}
 use Rattle.std.specs.List.{AllByRecursion}
 use Rattle.pig_value.specs.Functions.{apply_tree, bag_tree, column_tree, is_present, is_ranked, looked_at}

@@ -1,6 +1,6 @@
 -- The parts of DISTINCT are merged in any order and grouping, and end with the one row.
 use Rattle.std.proofs.Common.{◌≡◌, refl, sym, ap, ◌∙◌, inl, inr}
-use Rattle.std.specs.Prelude.{List, [], ◌∷◌, ◌++◌, ⊤, ◌⊎◌}
+use Rattle.std.specs.Prelude.{List, [], ◌∷◌, ◌++◌, ⊤}
 use Rattle.std.specs.List.{AllByRecursion}
 use Rattle.std.specs.List.Sorted.{IsPermutation}
 use Rattle.pig_value.specs.Trees.{Tree, v_null}

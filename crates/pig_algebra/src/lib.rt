@@ -4,7 +4,11 @@
 
 mod aggregates;
 mod algebraic;
+mod combining;
+mod cuts;
 mod merging;
 
 pub use aggregates::{CountPart, DistinctPart, MaxPart, MinPart, StarPart, SumPart};
 pub use algebraic::Algebraic;
+pub use combining::{combinable, parts_make_the_rows};
+pub use cuts::{Cut, Cuts};
