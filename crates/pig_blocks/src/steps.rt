@@ -58,7 +58,7 @@ fn before<'a>(alloc: Global, columns: &'a Schema) -> Stepped<'a>
     Stepped {
         steps: Seq::new(alloc),
         columns,
-        locals: Seq::new(alloc),
+        locals: Locals::new(alloc),
     }
 }
 
@@ -121,7 +121,7 @@ fn condition(alloc: Global, columns: &Schema, cond: &Expr) -> Result<Boxed<TExpr
     ensures { Tells typed (condition_on (row_place (schema_tree columns.now))
         (expr_form cond.now)) result }
 {
-    let locals: Locals = Seq::new(alloc);
+    let locals = Locals::new(alloc);
     let scope = Scope {
         columns,
         locals: &locals,

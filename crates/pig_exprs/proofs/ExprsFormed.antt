@@ -1,9 +1,10 @@
 -- Names, types and expressions that are read from tokens without an LF have trees as the grammar gives them.
-use Rattle.std.specs.Prelude.{◌≡◌, ◌≢◌, ℕ, true, false, List, [], ◌∷◌, ◌++◌, length, map, Option, Some, None, All, IfSome, codes}
+use Rattle.std.specs.Prelude.{◌≡◌, ◌≢◌, ℕ, true, false, List, [], ◌∷◌, ◌++◌, map, Option, Some, None, All, IfSome, codes}
 use Rattle.std.proofs.Common.{refl, sym, subst, arith}
 use Rattle.std.proofs.lemmas.List.Elements.{All-append, All-cons, All-nil}
 use Rattle.pig_value.specs.declared.operators.ChainOp.{ChainOp}
 use Rattle.pig_value.specs.declared.operators.ChainOp.TheVariants as op
+use Rattle.pig_value.specs.declared.operators.Rel.TheVariants as rel
 use Rattle.pig_value.specs.Texts.{HasNoLf}
 use Rattle.pig_syntax.specs.declared.tokens.Keyword.{Keyword}
 use Rattle.pig_syntax.specs.declared.tokens.Keyword.TheVariants as k
@@ -24,7 +25,7 @@ use Rattle.pig_syntax.specs.Formed.{AtLeast, FieldRefFormed, PostStepFormed, Sel
 use Rattle.pig_syntax.specs.Tokens.{HoldsNoLf, is_in_line}
 use Rattle.pig_syntax.proofs.LineFree.{no_lf}
 use Rattle.pig_syntax.proofs.ExprTreeLaws.{form-Int, form-Long, form-Float, form-Text, form-Bool, form-Null, form-Field, form-Chain, form-Compare, form-IsNull, form-Not, form-Minus, form-Cast, form-Post, form-Call, form-Choose, link_is, form-TypeInt, form-TypeLong, form-Chararray, form-Bytearray, form-Boolean, form-TypeFloat, form-Tuple, form-Bag, form-Map, form-MapBare, field_typed as typed_is, field_bare as bare_is}
-use Rattle.pig_exprs.specs.Grammar.{Forms, Listed, part_of, IsName, IsFieldRef, IsSelection, scalar_of, IsType, IsTuple, IsBag, IsMap, IsSchema, AreSchemaFields, IsSchemaField, IsCastType, Level, expr, conj, sum, term, chain_op, token_literal, ArePostSteps, ReadsExpr, Links, AreExprs}
+use Rattle.pig_exprs.specs.Grammar.{Forms, Listed, part_of, IsName, IsFieldRef, IsSelection, scalar_of, IsType, IsTuple, IsBag, IsMap, IsSchema, AreSchemaFields, IsSchemaField, IsCastType, Level, expr, conj, sum, term, chain_op, token_literal, chain_of, equals, is_among, choice_of, compared, ArePostSteps, ReadsExpr, AreWhens, IsLast, Links, AreExprs}
 
 -- no token holds an LF
 abbrev pub Free : Forms → Type 0
@@ -206,6 +207,37 @@ of_term o t h = absurd (cc)
 chain_formed : (a : Expr) (l : Link) (ls : List Link) (rule : ChainRule) → IsExprFormed a → LinksFormed rule (link_forms (map link_form (l ∷ ls))) → IsExprFormed (e.Chain a (l ∷ ls))
 chain_formed a l ls rule h g = subst ExprFormed (sym (form-Chain a (l ∷ ls))) (h, g.1, subst (λ r. LinksFormed r (link_forms (map link_form ls))) (sym g.0) g.2)
 
+-- ---- the trees that IN and CASE stand for
+
+equals_formed : (x v : Expr) → IsExprFormed x → IsExprFormed v → IsExprFormed (equals x v)
+equals_formed x v h g = subst ExprFormed (sym (form-Compare rel.Eq x v)) (h, g)
+
+or_formed : (x : Expr) (vs : List Expr) → IsExprFormed x → ExprsFormed (expr_forms (map expr_form vs))
+    → LinksFormed disjunction (link_forms (map link_form (map (λ w. record { op = op.Or; a = equals x w }) vs)))
+or_formed x [] h g = tt
+or_formed x (v ∷ vs) h g =
+    subst (λ p. LinksFormed disjunction (more_links p.0 p.1 (link_forms (map link_form (map (λ w. record { op = op.Or; a = equals x w }) vs)))))
+    (sym (link_is (record { op = op.Or; a = equals x v }))) (refl, equals_formed x v h g.0, or_formed x vs h g.1)
+
+among_formed : (x v : Expr) (others : List Expr) → IsExprFormed x → ExprsFormed (expr_forms (map expr_form (v ∷ others))) → IsExprFormed (is_among x v others)
+unfolding chain_of
+among_formed x v [] h g = equals_formed x v h g.0
+among_formed x v (w ∷ ws) h g =
+    chain_formed (equals x v) (record { op = op.Or; a = equals x w }) (map (λ u. record { op = op.Or; a = equals x u }) ws) disjunction (equals_formed x v h g.0) (or_formed x (w ∷ ws) h g.1)
+
+abbrev WhensFormed : List (Expr × Expr) → Type 0
+WhensFormed [] = Unit {0}
+WhensFormed (w ∷ ws) = IsExprFormed w.0 × IsExprFormed w.1 × WhensFormed ws
+
+choice_formed : (ws : List (Expr × Expr)) (default : Expr) → WhensFormed ws → IsExprFormed default → IsExprFormed (choice_of ws default)
+unfolding choice_of
+choice_formed [] default h g = g
+choice_formed (w ∷ ws) default h g = subst ExprFormed (sym (form-Choose w.0 w.1 (choice_of ws default))) (h.0, h.1, choice_formed ws default h.2 g)
+
+compared_formed : (x : Expr) (ws : List (Expr × Expr)) → IsExprFormed x → WhensFormed ws → WhensFormed (compared x ws)
+compared_formed x [] h g = tt
+compared_formed x (w ∷ ws) h g = (equals_formed x w.0 h g.0, g.1, compared_formed x ws h g.2)
+
 mutual
   pub expr_formed : {level : Level} {ts rest : Forms} {a : Expr} → ReadsExpr level ts a rest → Free ts → Formed (IsExprFormed a) rest
   expr_formed (ReadsExpr.expr_one h) free = expr_formed h free
@@ -227,6 +259,10 @@ mutual
       record { tree = subst ExprFormed (sym (form-Compare r a b)) (first.tree, second.tree); free = second.free }
   expr_formed (ReadsExpr.comp_null {a = a} h) free = let inner = expr_formed h free in record { tree = subst ExprFormed (sym (form-IsNull a false)) inner.tree; free = inner.free.1.1 }
   expr_formed (ReadsExpr.comp_not_null {a = a} h) free = let inner = expr_formed h free in record { tree = subst ExprFormed (sym (form-IsNull a true)) inner.tree; free = inner.free.1.1.1 }
+  expr_formed (ReadsExpr.comp_in {a = x} {v = v} {others = others} h values) free =
+      let operand = expr_formed h free in
+      let inner = exprs_formed values operand.free.1.1 in
+      record { tree = among_formed x v others operand.tree inner.tree; free = inner.free.1 }
   expr_formed (ReadsExpr.sum_one h) free = expr_formed h free
   expr_formed (ReadsExpr.sum_more {a = a} {l = l} {ls = ls} h links) free =
       let first = expr_formed h free in
@@ -261,6 +297,27 @@ mutual
       let second = expr_formed g first.free.1 in
       let third = expr_formed i second.free.1 in
       record { tree = subst ExprFormed (sym (form-Choose a b c)) (first.tree, second.tree, third.tree); free = third.free.1 }
+  expr_formed (ReadsExpr.prim_case {w = w} {others = others} {default = default} whens h) free =
+      let tests = whens_formed whens free.1 in
+      let inner = last_formed h tests.free in
+      record { tree = choice_formed (w ∷ others) default tests.tree inner.tree; free = inner.free }
+  expr_formed (ReadsExpr.prim_case_of {x = x} {w = w} {others = others} {default = default} g whens h) free =
+      let operand = expr_formed g free.1 in
+      let tests = whens_formed whens operand.free in
+      let inner = last_formed h tests.free in
+      record { tree = choice_formed (compared x (w ∷ others)) default (compared_formed x (w ∷ others) operand.tree tests.tree) inner.tree; free = inner.free }
+
+  whens_formed : {ts rest : Forms} {ws : List (Expr × Expr)} → AreWhens ts ws rest → Free ts → Formed (WhensFormed ws) rest
+  whens_formed AreWhens.whens_none free = record { tree = tt; free = free }
+  whens_formed (AreWhens.whens_more c a later) free =
+      let test = expr_formed c free.1 in
+      let value = expr_formed a test.free.1 in
+      let others = whens_formed later value.free in
+      record { tree = (test.tree, value.tree, others.tree); free = others.free }
+
+  last_formed : {ts rest : Forms} {a : Expr} → IsLast ts a rest → Free ts → Formed (IsExprFormed a) rest
+  last_formed IsLast.last_none free = record { tree = subst ExprFormed (sym form-Null) tt; free = free.1 }
+  last_formed (IsLast.last_else h) free = let inner = expr_formed h free.1 in record { tree = inner.tree; free = inner.free.1 }
 
   links_formed : {chain member : Level} {ts rest : Forms} {ls : List Link} → Links chain member ts ls rest → (rule : ChainRule) → OfRule chain rule → Free ts → Formed (LinksFormed rule (link_forms (map link_form ls))) rest
   links_formed Links.links_none rule same free = record { tree = tt; free = free }

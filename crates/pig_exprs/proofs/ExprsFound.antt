@@ -2,19 +2,22 @@
 use Rattle.std.proofs.Common.{◌≡◌, ℕ, zero, suc, ◌<◌, ◌≤◌, refl, ◌∙◌, List, [], ◌∷◌, length, arith}
 use Rattle.std.specs.Prelude.{Some, None}
 use Rattle.pig_value.specs.declared.operators.Rel.{Rel}
+use Rattle.pig_syntax.specs.declared.tokens.Keyword.TheVariants as k
+use Rattle.pig_syntax.specs.declared.tokens.Symbol.TheVariants as s
 use Rattle.pig_syntax.specs.declared.tokens.TokenForm.{TokenForm}
+use Rattle.pig_syntax.specs.declared.tokens.TokenForm.TheVariants as f
 use Rattle.pig_syntax.specs.declared.trees.Expr.{Expr}
 use Rattle.pig_syntax.specs.declared.trees.Expr.TheVariants as ex
 use Rattle.pig_syntax.specs.declared.trees.Link.{Link}
 use Rattle.pig_syntax.specs.declared.trees.PostStep.{PostStep}
-use Rattle.pig_exprs.specs.Grammar.{Forms, Level, expr, conj, neg, comp, sum, term, unary, casted, post, prim, rel_of, ArePostSteps, none, project, look, ReadsExpr, expr_one, expr_more, conj_one, conj_more, neg_none, neg_not, comp_one, comp_rel, comp_null, comp_not_null, sum_one, sum_more, term_one, term_more, unary_none, unary_minus, casted_none, casted_cast, post_one, post_more, prim_literal, prim_field, prim_call_none, prim_call, prim_paren, prim_choose, Links, links_none, links_link, AreExprs, exprs_last, exprs_more}
+use Rattle.pig_exprs.specs.Grammar.{Forms, Level, expr, conj, neg, comp, sum, term, unary, casted, post, prim, rel_of, chain_of, is_among, ArePostSteps, none, project, look, ReadsExpr, expr_one, expr_more, conj_one, conj_more, neg_none, neg_not, comp_one, comp_rel, comp_null, comp_not_null, sum_one, sum_more, term_one, term_more, unary_none, unary_minus, casted_none, casted_cast, post_one, post_more, prim_literal, prim_field, prim_call_none, prim_call, prim_paren, prim_choose, comp_in, prim_case, prim_case_of, AreWhens, whens_none, whens_more, IsLast, last_none, last_else, Links, links_none, links_link, AreExprs, exprs_last, exprs_more}
 use Rattle.pig_exprs.specs.Reader.{FoundPart, comma_turn, close_paren}
-use Rattle.pig_exprs.specs.ExprReader.{link_turn, chain_of, chain_at, post_turn, post_of, colon, both_at, paren_after, call_at, prim_at, post_at, cast_at, casted_at, unary_at, term_at, sum_at, null_test, rel_ahead, comp_after, comp_at, neg_at, conj_at, expr_with, expr_at}
+use Rattle.pig_exprs.specs.ExprReader.{link_turn, chain_at, post_turn, post_of, colon, both_at, paren_after, call_at, then_word, end_word, when_at, when_turn, first_when, last_at, cases_at, case_bare_at, case_of_at, prim_at, post_at, cast_at, casted_at, unary_at, term_at, sum_at, null_test, rel_ahead, in_ahead, among_at, comp_after, comp_at, neg_at, conj_at, expr_with, expr_at}
 use Rattle.pig_exprs.proofs.Fits.{Fits}
-use Rattle.pig_exprs.proofs.Finds.{Finds, stops, goes, repeat_run, FindsRun, FindsAll, finds_map, finds_last, finds_more, finds_listed}
+use Rattle.pig_exprs.proofs.Finds.{Finds, Run, stops, goes, unmapped, repeat_run, FindsRun, FindsAll, finds_map, finds_last, finds_more, finds_listed}
 use Rattle.pig_exprs.proofs.NamesFound.{field_ref_found, selection_found}
 use Rattle.pig_exprs.proofs.TypesFound.{cast_type_found}
-use Rattle.pig_exprs.proofs.Follow.{rank, rank_some, rank_few, binds, binds_ahead, binder_fits, op_binds, chain_stops, links_ahead, rel_binds, rel_no_null, no_null, no_rel, post_stops, name_stops, steps_ahead, literal_fits, reads_begin, neg_plain, unary_plain, casted_plain, casted_cast_at, prim_of_literal, prim_of_field, call_args}
+use Rattle.pig_exprs.proofs.Follow.{rank, rank_some, rank_few, binds, binds_ahead, binder_fits, op_binds, chain_stops, links_ahead, rel_binds, rel_no_null, no_null, no_rel, no_in, post_stops, name_stops, steps_ahead, literal_fits, reads_begin, neg_plain, unary_plain, casted_plain, casted_cast_at, prim_of_literal, prim_of_field, call_args, last_ahead, last_ends, whens_ahead, case_bare, case_of}
 
 -- the reader of a rule
 abbrev pub read_at : Level → ℕ → (Forms → FoundPart Expr) → Forms → FoundPart Expr
@@ -63,13 +66,35 @@ post_found inner {mid = mid} first steps = record { finds = rw (first.finds, rep
 -- nothing of a comparison follows
 comp_alone : (most : ℕ) (inner : Forms → FoundPart Expr) (ts rest : Forms) (a : Expr) → sum_at most inner ts ≡ Some (a, rest) → binds_ahead rest < 4 → comp_at most inner ts ≡ Some (a, rest)
 unfolding comp_at comp_after
-comp_alone most inner ts rest a h ends = rw (h, no_null rest ends, no_rel rest ends) refl
+comp_alone most inner ts rest a h ends = rw (h, no_null rest ends, no_rel rest ends, no_in rest ends) refl
 
 -- a sign and a second operand follow
 comp_both : (most : ℕ) (inner : Forms → FoundPart Expr) (ts mid rest : Forms) (t : TokenForm) (r : Rel) (a b : Expr) → sum_at most inner ts ≡ Some (a, t ∷ mid) → rel_of t ≡ Some r
     → sum_at most inner mid ≡ Some (b, rest) → comp_at most inner ts ≡ Some (ex.Compare r a b, rest)
 unfolding comp_at comp_after rel_ahead
 comp_both most inner ts mid rest t r a b h is g = rw (h, rel_no_null t mid r is, is, g) refl
+
+-- IN and its values follow
+among_found : (inner : Forms → FoundPart Expr) (a : Expr) {ts rest : Forms} {v : Expr} {others : List Expr} → Run (comma_turn inner) (f.Symbol s.Comma ∷ ts) (v ∷ others) (f.Symbol s.CloseParen ∷ rest)
+    → among_at inner a ts ≡ Some (is_among a v others, rest)
+unfolding among_at comma_turn close_paren
+among_found inner a {ts = ts} {v = v} (goes {mid = mid} h less later) = rw (unmapped (inner ts) (v, mid) h, repeat_run later (length mid) [] (omega arith)) refl
+
+comp_among : (most : ℕ) (inner : Forms → FoundPart Expr) (ts mid rest : Forms) (a b : Expr) → sum_at most inner ts ≡ Some (a, f.Keyword k.In ∷ f.Symbol s.OpenParen ∷ mid) → among_at inner a mid ≡ Some (b, rest)
+    → comp_at most inner ts ≡ Some (b, rest)
+unfolding comp_at comp_after null_test rel_ahead in_ahead
+comp_among most inner ts mid rest a b h g = rw (h, g) refl
+
+-- the first WHEN, which a turn finds too
+first_found : (inner : Forms → FoundPart Expr) (ts mid : Forms) (w : Expr × Expr) → when_turn inner ts ≡ Some (Some (w, mid)) → first_when inner ts ≡ Some (w, mid)
+unfolding when_turn first_when
+first_found inner (f.Keyword k.When ∷ ts) mid w h = unmapped (when_at inner ts) (w, mid) h
+first_found inner ts mid w h = absurd (cc)
+
+cases_found : (inner : Forms → FoundPart Expr) {ts mid rest : Forms} {w : Expr × Expr} {others : List (Expr × Expr)} {a : Expr} → Run (when_turn inner) ts (w ∷ others) mid → last_at inner mid ≡ Some (a, rest)
+    → cases_at inner ts ≡ Some (((w, others), a), rest)
+unfolding cases_at
+cases_found inner {ts = ts} {w = w} (goes {mid = behind} h less later) g = rw (first_found inner ts behind w h, repeat_run later (length behind) [] (omega arith), g) refl
 
 -- an expression inside one bracket more
 inside : (most : ℕ) {ts rest : Forms} {a : Expr} (n d : ℕ) → d < n → ((m : ℕ) → d ≤ m → Finds (expr_with most (expr_at most m)) ts a rest d) → Finds (expr_at most n) ts a rest d
@@ -82,7 +107,7 @@ inside most (suc m) d low given =
 -- ---- expressions
 
 mutual
-  unfolding Fits comma_turn close_paren colon link_turn chain_of post_of both_at paren_after call_at prim_at cast_at unary_at term_at sum_at null_test comp_after comp_at neg_at conj_at expr_with
+  unfolding Fits comma_turn close_paren colon link_turn chain_of post_of both_at paren_after call_at then_word end_word when_at when_turn last_at case_bare_at case_of_at prim_at cast_at unary_at term_at sum_at null_test comp_after comp_at neg_at conj_at expr_with
 
   pub reads_found : {l : Level} {ts rest : Forms} {a : Expr} → ReadsExpr l ts a rest → (d most depth : ℕ) → Fits ts d → d < most → d ≤ depth → binds_ahead rest < rank l
       → Finds (read_at l most (expr_at most depth)) ts a rest d
@@ -120,6 +145,15 @@ mutual
   reads_found (comp_not_null h) d most depth fits low below ends =
       let found = reads_found h d most depth fits low below (omega arith) in
       record { finds = rw found.finds refl; fits = found.fits; shorter = omega (arith, found.shorter) }
+  reads_found (comp_in h values) zero most depth fits low below ends = absurd (reads_found h zero most depth fits low below (omega arith)).fits
+  reads_found (comp_in {ts = ts} {mid = mid} {rest = rest} {a = a} {v = v} {others = others} h values) (suc d) most depth fits low below ends =
+      let first = reads_found h (suc d) most depth fits low below (omega arith) in
+      let all = exprs_found values d most depth first.fits (omega (arith, low)) (omega (arith, below)) (omega arith) refl in
+      record {
+        finds = comp_among most (expr_at most depth) ts mid rest a (is_among a v others) first.finds (among_found (expr_at most depth) a all.run);
+        fits = all.fits;
+        shorter = omega (arith, first.shorter, all.shorter);
+      }
   reads_found (sum_one h) d most depth fits low below ends =
       let found = chain_alone sum (read_at term most (expr_at most depth)) (reads_found h d most depth fits low below (omega (arith, ends))) ends in
       record { finds = found.finds; fits = found.fits; shorter = found.shorter }
@@ -176,6 +210,36 @@ mutual
       let left = inside most depth d (omega (arith, below)) (λ m less. reads_found b d most m first.fits (omega (arith, low)) less (omega arith)) in
       let right = inside most depth d (omega (arith, below)) (λ m less. reads_found c d most m left.fits (omega (arith, low)) less (omega arith)) in
       record { finds = rw (first.finds, left.finds, right.finds) refl; fits = right.fits; shorter = omega (arith, first.shorter, left.shorter, right.shorter) }
+  reads_found (prim_case whens default) zero most depth fits low below ends = absurd fits
+  reads_found (prim_case whens default) (suc d) most depth fits low below ends =
+      let run = whens_found whens d most depth fits (omega (arith, low)) (omega (arith, below)) (last_ahead default) (last_ends (expr_at most depth) default) in
+      let end = last_found default d most depth run.fits (omega (arith, low)) (omega (arith, below)) in
+      record { finds = case_bare (expr_at most depth) whens ∙ rw (cases_found (expr_at most depth) run.run end.finds) refl; fits = end.fits; shorter = omega (arith, run.shorter, end.shorter) }
+  reads_found (prim_case_of x whens default) zero most depth fits low below ends = absurd fits
+  reads_found (prim_case_of {ts = ts} x whens default) (suc d) most depth fits low below ends =
+      let first = inside most depth d (omega (arith, below)) (λ m less. reads_found x d most m fits (omega (arith, low)) less (whens_ahead whens (last_ahead default))) in
+      let run = whens_found whens d most depth first.fits (omega (arith, low)) (omega (arith, below)) (last_ahead default) (last_ends (expr_at most depth) default) in
+      let end = last_found default d most depth run.fits (omega (arith, low)) (omega (arith, below)) in
+      record {
+        finds = case_of (expr_at most depth) ts (reads_begin x) ∙ rw (first.finds, cases_found (expr_at most depth) run.run end.finds) refl;
+        fits = end.fits;
+        shorter = omega (arith, first.shorter, run.shorter, end.shorter);
+      }
+
+  whens_found : {ts rest : Forms} {ws : List (Expr × Expr)} → AreWhens ts ws rest → (d most depth : ℕ) → Fits ts d → d < most → d < depth → binds_ahead rest < 1
+      → when_turn (expr_at most depth) rest ≡ Some None → FindsRun (when_turn (expr_at most depth)) ts ws rest d
+  whens_found whens_none d most depth fits low below loose ends = record { run = stops ends; fits = fits; shorter = omega arith }
+  whens_found (whens_more c a later) d most depth fits low below loose ends =
+      let test = inside most depth d below (λ m less. reads_found c d most m fits low less (omega arith)) in
+      let value = inside most depth d below (λ m less. reads_found a d most m test.fits low less (whens_ahead later loose)) in
+      let next = whens_found later d most depth value.fits low below loose ends in
+      record { run = goes (rw (test.finds, value.finds) refl) (omega (arith, test.shorter, value.shorter)) next.run; fits = next.fits; shorter = omega (arith, test.shorter, value.shorter, next.shorter) }
+
+  last_found : {ts rest : Forms} {a : Expr} → IsLast ts a rest → (d most depth : ℕ) → Fits ts d → d < most → d < depth → Finds (last_at (expr_at most depth)) ts a rest (suc d)
+  last_found last_none d most depth fits low below = record { finds = refl; fits = fits; shorter = omega arith }
+  last_found (last_else h) d most depth fits low below =
+      let found = inside most depth d below (λ m less. reads_found h d most m fits low less (omega arith)) in
+      record { finds = rw found.finds refl; fits = found.fits; shorter = omega (arith, found.shorter) }
 
   links_found : {chain member : Level} {ts rest : Forms} {ls : List Link} → Links chain member ts ls rest → (d most depth : ℕ) → Fits ts d → d < most → d ≤ depth → rank chain < rank member
       → binds_ahead rest < rank chain → FindsRun (link_turn chain (read_at member most (expr_at most depth))) ts ls rest d

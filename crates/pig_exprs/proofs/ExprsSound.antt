@@ -7,11 +7,11 @@ use Rattle.pig_syntax.specs.declared.trees.Expr.{Expr}
 use Rattle.pig_syntax.specs.declared.trees.Expr.TheVariants as e
 use Rattle.pig_syntax.specs.declared.trees.Link.{Link}
 use Rattle.pig_syntax.specs.declared.trees.PostStep.{PostStep}
-use Rattle.pig_exprs.specs.Grammar.{Forms, Listed, Level, expr, conj, neg, comp, sum, term, unary, casted, post, prim, chain_op, rel_of, token_literal, IsCastType, ArePostSteps, ReadsExpr, Links, AreExprs}
-use Rattle.pig_exprs.specs.Reader.{FoundPart, type_at}
-use Rattle.pig_exprs.specs.ExprReader.{link_turn, chain_of, chain_at, post_turn, post_of, colon, both_at, paren_after, call_at, simple_at, prim_at, post_at, begins_type, cast_at, casted_at, unary_at, term_at, sum_at, null_test, rel_ahead, comp_after, comp_at, neg_at, conj_at, expr_with, expr_at}
+use Rattle.pig_exprs.specs.Grammar.{Forms, Listed, Level, expr, conj, neg, comp, sum, term, unary, casted, post, prim, chain_op, rel_of, token_literal, chain_of, IsCastType, ArePostSteps, ReadsExpr, Links, AreExprs, AreWhens, IsLast}
+use Rattle.pig_exprs.specs.Reader.{FoundPart, comma_turn, type_at}
+use Rattle.pig_exprs.specs.ExprReader.{link_turn, chain_at, post_turn, post_of, colon, both_at, paren_after, call_at, simple_at, then_word, end_word, when_at, when_turn, first_when, last_at, cases_at, case_bare_at, case_of_at, case_at, prim_at, post_at, begins_type, cast_at, casted_at, unary_at, term_at, sum_at, null_test, rel_ahead, in_ahead, among_at, comp_after, comp_at, neg_at, conj_at, expr_with, expr_at}
 use Rattle.pig_exprs.proofs.Options.{Holds, itself, holds_then, holds_map, holds_map_or, holds_weaken, holds_if}
-use Rattle.pig_exprs.proofs.ListSound.{Upholds, TurnsLead, repeat_runs, listed_upholds, closes}
+use Rattle.pig_exprs.proofs.ListSound.{Upholds, Leads, TurnsLead, GoesOn, comma_leads, repeat_runs, listed_upholds, closes}
 use Rattle.pig_exprs.proofs.NamesSound.{field_ref_upholds, selection_upholds}
 use Rattle.pig_exprs.proofs.TypesSound.{cast_type_upholds, type_upholds}
 
@@ -89,6 +89,29 @@ unfolding rel_ahead
 rel_stands [] first = Holds.nothing
 rel_stands (t ∷ ts) first = holds_map _ (itself (rel_of t)) (λ r is_rel b rest second. ReadsExpr.comp_rel first is_rel second)
 
+-- what stands in front of IN and its `(`
+in_stands : (P : Forms → Type 0) (ts : Forms) → P ts → Holds (λ rest. P (f.Keyword k.In ∷ f.Symbol s.OpenParen ∷ rest)) (in_ahead ts)
+unfolding in_ahead
+in_stands P (f.Keyword k.In ∷ f.Symbol s.OpenParen ∷ ts) p = Holds.just p
+in_stands P ts p = Holds.nothing
+
+-- what stands in front of THEN, and of END
+then_stands : (P : Forms → Type 0) (ts : Forms) → P ts → Holds (λ rest. P (f.Keyword k.Then ∷ rest)) (then_word ts)
+unfolding then_word
+then_stands P (f.Keyword k.Then ∷ ts) p = Holds.just p
+then_stands P _ p = Holds.nothing
+
+end_stands : (P : Forms → Type 0) (ts : Forms) → P ts → Holds (λ rest. P (f.Keyword k.End ∷ rest)) (end_word ts)
+unfolding end_word
+end_stands P (f.Keyword k.End ∷ ts) p = Holds.just p
+end_stands P _ p = Holds.nothing
+
+-- the WHENs of a CASE, and what stands behind them
+record AreCases (ts : Forms) (whens : List (Expr × Expr)) (last : Expr) (rest : Forms) : Type 0 where
+  mid : Forms
+  whens_are : AreWhens ts whens mid
+  last_is : IsLast mid last rest
+
 -- by the expressions inside brackets
 module _ (most : ℕ) (inner : Forms → FoundPart Expr) (inside : Upholds inner (ReadsExpr expr)) where
   both_stand : (ts : Forms)
@@ -114,9 +137,59 @@ module _ (most : ℕ) (inner : Forms → FoundPart Expr) (inside : Upholds inner
       holds_then _ (listed_upholds inner (ReadsExpr expr) inside ts) (λ args l.
       holds_then _ (closes (Listed (ReadsExpr expr) ts args.0) args.1 l) (λ rest l. Holds.just (ReadsExpr.prim_call (are_exprs l))))
 
+  when_stands : (ts : Forms) → Holds (Leads AreWhens (f.Keyword k.When ∷ ts)) (when_at inner ts)
+  unfolding when_at
+  when_stands ts =
+      holds_then _ (inside ts) (λ test c.
+      holds_then _ (then_stands (ReadsExpr expr ts test.0) test.1 c) (λ behind c.
+      holds_then _ (inside behind) (λ value a.
+      Holds.just (λ others rest more. AreWhens.whens_more c a more))))
+
+  whens_lead : TurnsLead (when_turn inner) AreWhens
+  unfolding when_turn
+  whens_lead (f.Keyword k.When ∷ ts) = holds_map _ (when_stands ts) (λ p leads. Holds.just leads)
+  whens_lead ts = Holds.just Holds.nothing
+
+  first_stands : (ts : Forms) → Holds (Leads AreWhens ts) (first_when inner ts)
+  unfolding first_when
+  first_stands (f.Keyword k.When ∷ ts) = when_stands ts
+  first_stands _ = Holds.nothing
+
+  last_upholds : Upholds (last_at inner) IsLast
+  unfolding last_at
+  last_upholds (f.Keyword k.End ∷ ts) = Holds.just IsLast.last_none
+  last_upholds (f.Keyword k.Else ∷ ts) =
+      holds_then _ (inside ts) (λ a is_else.
+      holds_then _ (end_stands (ReadsExpr expr ts a.0) a.1 is_else) (λ rest is_else. Holds.just (IsLast.last_else is_else)))
+  last_upholds _ = Holds.nothing
+
+  cases_stand : (ts : Forms) → Holds (λ p. AreCases ts (p.0.0.0 ∷ p.0.0.1) p.0.1 p.1) (cases_at inner ts)
+  unfolding cases_at
+  cases_stand ts =
+      holds_then _ (first_stands ts) (λ first leads.
+      holds_then _ (repeat_runs (when_turn inner) AreWhens (λ mid. AreWhens.whens_none) whens_lead (length first.1) first.1) (λ others ws.
+      holds_then _ (last_upholds others.1) (λ last is_last.
+      Holds.just (record { mid = others.1; whens_are = leads others.0 others.1 ws; last_is = is_last }))))
+
+  case_bare_stands : (ts : Forms) → Holds (λ p. ReadsExpr prim (f.Keyword k.Case ∷ ts) p.0 p.1) (case_bare_at inner ts)
+  unfolding case_bare_at
+  case_bare_stands ts = holds_then _ (cases_stand ts) (λ p cases. Holds.just (ReadsExpr.prim_case cases.whens_are cases.last_is))
+
+  case_of_stands : (ts : Forms) → Holds (λ p. ReadsExpr prim (f.Keyword k.Case ∷ ts) p.0 p.1) (case_of_at inner ts)
+  unfolding case_of_at
+  case_of_stands ts =
+      holds_then _ (inside ts) (λ x operand.
+      holds_then _ (cases_stand x.1) (λ p cases. Holds.just (ReadsExpr.prim_case_of operand cases.whens_are cases.last_is)))
+
+  case_stands : (ts : Forms) → Holds (λ p. ReadsExpr prim (f.Keyword k.Case ∷ ts) p.0 p.1) (case_at inner ts)
+  unfolding case_at
+  case_stands (f.Keyword k.When ∷ ts) = case_bare_stands (f.Keyword k.When ∷ ts)
+  case_stands ts = case_of_stands ts
+
   prim_upholds : Upholds (prim_at inner) (ReadsExpr prim)
   unfolding prim_at
   prim_upholds (f.Ident name ∷ f.Symbol s.OpenParen ∷ ts) = call_stands name ts
+  prim_upholds (f.Keyword k.Case ∷ ts) = case_stands ts
   prim_upholds (f.Symbol s.OpenParen ∷ ts) = holds_then _ (inside ts) (λ p a. paren_stands ts p.0 p.1 a)
   prim_upholds ts = simple_upholds ts
 
@@ -160,11 +233,20 @@ module _ (most : ℕ) (inner : Forms → FoundPart Expr) (inside : Upholds inner
       (record { one = λ ts a rest first. ReadsExpr.sum_one first; more = λ ts mid a l ls rest first links. ReadsExpr.sum_more first links })
       term_upholds ts
 
+  among_stands : (start : Forms) (a : Expr) (ts : Forms) → ReadsExpr sum start a (f.Keyword k.In ∷ f.Symbol s.OpenParen ∷ ts) → Holds (λ p. ReadsExpr comp start p.0 p.1) (among_at inner a ts)
+  unfolding among_at
+  among_stands start a ts operand =
+      holds_then _ (inside ts) (λ first v.
+      holds_then _ (repeat_runs (comma_turn inner) (GoesOn (ReadsExpr expr)) (λ mid before b r. Listed.last r) (comma_leads inner (ReadsExpr expr) inside) (length first.1) first.1) (λ others goes.
+      holds_then _ (closes (Listed (ReadsExpr expr) ts (first.0 ∷ others.0)) others.1 (goes ts first.0 v)) (λ rest l.
+      Holds.just (ReadsExpr.comp_in operand (are_exprs l)))))
+
   comp_stands : (start : Forms) (a : Expr) (ts : Forms) → ReadsExpr sum start a ts → Holds (λ p. ReadsExpr comp start p.0 p.1) (comp_after most inner a ts)
   unfolding comp_after
   comp_stands start a ts first =
       holds_map_or _ (null_stands ts first) (λ n test. Holds.just test)
-      (holds_map_or _ (rel_stands ts first) (λ r compare. holds_map _ (sum_upholds r.1) (λ p b. compare p.0 p.1 b)) (Holds.just (ReadsExpr.comp_one first)))
+      (holds_map_or _ (rel_stands ts first) (λ r compare. holds_map _ (sum_upholds r.1) (λ p b. compare p.0 p.1 b))
+      (holds_map_or _ (in_stands (ReadsExpr sum start a) ts first) (λ behind operand. among_stands start a behind operand) (Holds.just (ReadsExpr.comp_one first))))
 
   comp_upholds : Upholds (comp_at most inner) (ReadsExpr comp)
   unfolding comp_at

@@ -48,7 +48,7 @@ pub record FindsMaybe {A : Type 0} (reader : Forms → FoundPart A) (ts : Forms)
 
 -- ---- X { ',' X }
 
-unmapped : {A : Type 0} (o : Option A) (x : A) → option_map Some o ≡ Some (Some x) → o ≡ Some x
+pub unmapped : {A : Type 0} (o : Option A) (x : A) → option_map Some o ≡ Some (Some x) → o ≡ Some x
 unmapped None x h = absurd (cc)
 unmapped (Some y) x h = cc
 

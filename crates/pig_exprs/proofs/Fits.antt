@@ -1,7 +1,6 @@
 -- Whether the brackets of some tokens nest within a budget.
-use Rattle.std.proofs.Common.{◌≡◌, ℕ, zero, suc, ◌≤◌, Bool, true, false, [], ◌∷◌, length, arith}
+use Rattle.std.proofs.Common.{ℕ, zero, suc, ◌≤◌, Bool, true, false, [], ◌∷◌, length, arith}
 use Rattle.pig_syntax.specs.Cutting.{opens_bracket, closes_bracket}
-use Rattle.pig_syntax.specs.declared.tokens.TokenForm.{TokenForm}
 use Rattle.pig_exprs.specs.Grammar.{Forms}
 
 -- a token that opens a bracket takes one from the budget of what follows, and one that closes a bracket gives one back

@@ -15,9 +15,9 @@ use Rattle.pig_syntax.specs.declared.trees.FieldRef.{FieldRef}
 use Rattle.pig_syntax.specs.declared.trees.Link.{Link}
 use Rattle.pig_syntax.specs.declared.trees.PostStep.{PostStep}
 use Rattle.pig_syntax.specs.declared.trees.TypeTree.{TypeTree}
-use Rattle.pig_exprs.specs.Grammar.{Forms, part_of, scalar_of, part, parts, IsFieldRef, name as by_name, position as by_position, IsCastType, cast_scalar, cast_tuple, cast_bag, cast_map, Level, expr, conj, neg, comp, sum, term, unary, casted, post, prim, rel_of, chain_op, token_literal, ArePostSteps, none, project, look, ReadsExpr, expr_one, expr_more, conj_one, conj_more, neg_none, neg_not, comp_one, comp_rel, comp_null, comp_not_null, sum_one, sum_more, term_one, term_more, unary_none, unary_minus, casted_none, casted_cast, post_one, post_more, prim_literal, prim_field, prim_call_none, prim_call, prim_paren, prim_choose, Links, links_none, links_link, AreExprs, exprs_last, exprs_more}
+use Rattle.pig_exprs.specs.Grammar.{Forms, part_of, scalar_of, part, parts, IsFieldRef, name as by_name, position as by_position, IsCastType, cast_scalar, cast_tuple, cast_bag, cast_map, Level, expr, conj, neg, comp, sum, term, unary, casted, post, prim, rel_of, chain_op, token_literal, ArePostSteps, none, project, look, ReadsExpr, expr_one, expr_more, conj_one, conj_more, neg_none, neg_not, comp_one, comp_rel, comp_null, comp_not_null, sum_one, sum_more, term_one, term_more, unary_none, unary_minus, casted_none, casted_cast, post_one, post_more, prim_literal, prim_field, prim_call_none, prim_call, prim_paren, prim_choose, comp_in, prim_case, prim_case_of, AreWhens, whens_none, whens_more, IsLast, last_none, last_else, Links, links_none, links_link, AreExprs, exprs_last, exprs_more}
 use Rattle.pig_exprs.specs.Reader.{FoundPart, part_turn, listed, close_paren, field_ref_at}
-use Rattle.pig_exprs.specs.ExprReader.{link_turn, post_turn, call_at, simple_at, prim_at, post_at, is_type_word, begins_type, cast_at, casted_at, unary_at, null_test, rel_ahead, comp_at, neg_at}
+use Rattle.pig_exprs.specs.ExprReader.{link_turn, post_turn, call_at, simple_at, when_turn, case_bare_at, case_of_at, case_at, prim_at, post_at, is_type_word, begins_type, cast_at, casted_at, unary_at, null_test, rel_ahead, in_ahead, comp_at, neg_at}
 use Rattle.pig_exprs.proofs.Fits.{Fits}
 
 -- how tight a rule binds
@@ -48,6 +48,7 @@ abbrev pub binds : TokenForm → ℕ
 binds (f.Keyword k.Or) = 1
 binds (f.Keyword k.And) = 2
 binds (f.Keyword k.Is) = 4
+binds (f.Keyword k.In) = 4
 binds (f.Symbol s.Equal) = 4
 binds (f.Symbol s.NotEqual) = 4
 binds (f.Symbol s.Less) = 4
@@ -143,6 +144,11 @@ no_rel (f.Symbol s.Greater ∷ ts) h = absurd (omega (arith, h))
 no_rel (f.Symbol s.GreaterEqual ∷ ts) h = absurd (omega (arith, h))
 no_rel ts h = refl
 
+pub no_in : (ts : Forms) → binds_ahead ts < 4 → in_ahead ts ≡ None
+unfolding in_ahead
+no_in (f.Keyword k.In ∷ ts) h = absurd (omega (arith, h))
+no_in ts h = refl
+
 pub post_stops : (ts : Forms) → binds_ahead ts < 9 → post_turn ts ≡ Some None
 unfolding post_turn
 post_stops (f.Symbol s.Dot ∷ ts) h = absurd (omega (arith, h))
@@ -167,6 +173,7 @@ abbrev pub begins : TokenForm → ℕ
 begins (f.Keyword k.Not) = 3
 begins (f.Symbol s.Minus) = 7
 begins (f.Symbol s.OpenParen) = 10
+begins (f.Keyword k.Case) = 10
 begins (f.Int n) = 11
 begins (f.Long n) = 11
 begins f.Float = 11
@@ -225,6 +232,7 @@ reads_begin (comp_one h) = omega (arith, reads_begin h)
 reads_begin (comp_rel h is b) = omega (arith, reads_begin h)
 reads_begin (comp_null h) = omega (arith, reads_begin h)
 reads_begin (comp_not_null h) = omega (arith, reads_begin h)
+reads_begin (comp_in h values) = omega (arith, reads_begin h)
 reads_begin (sum_one h) = omega (arith, reads_begin h)
 reads_begin (sum_more h links) = omega (arith, reads_begin h)
 reads_begin (term_one h) = omega (arith, reads_begin h)
@@ -241,6 +249,8 @@ reads_begin prim_call_none = omega arith
 reads_begin (prim_call h) = omega arith
 reads_begin (prim_paren h) = omega arith
 reads_begin (prim_choose a b c) = omega arith
+reads_begin (prim_case whens default) = omega arith
+reads_begin (prim_case_of x whens default) = omega arith
 
 exprs_begin : {ts rest : Forms} {args : List Expr} → AreExprs ts args rest → 1 ≤ begins_ahead ts
 exprs_begin (exprs_last h) = reads_begin h
@@ -263,6 +273,7 @@ pub no_type : (ts : Forms) → 1 ≤ begins_ahead ts → begins_type ts ≡ fals
 no_type [] h = refl
 no_type (f.Keyword k.Not ∷ ts) h = refl
 no_type (f.Keyword k.Group ∷ ts) h = refl
+no_type (f.Keyword k.Case ∷ ts) h = refl
 no_type (f.Keyword k.True ∷ ts) h = refl
 no_type (f.Keyword k.False ∷ ts) h = refl
 no_type (f.Keyword k.Null ∷ ts) h = refl
@@ -307,6 +318,7 @@ pub prim_of_literal : (inner : Forms → FoundPart Expr) (t : TokenForm) (ts : F
 unfolding prim_at simple_at
 prim_of_literal inner (f.Ident text) ts a h = absurd (cc)
 prim_of_literal inner (f.Symbol s.OpenParen) ts a h = absurd (cc)
+prim_of_literal inner (f.Keyword k.Case) ts a h = absurd (cc)
 prim_of_literal inner t ts a h = ap (λ o. option_map_or (λ a. Some (a, ts)) o (option_map (λ p. (ex.Field p.0, p.1)) (field_ref_at (t ∷ ts)))) h
 
 no_literal : (t : TokenForm) → begins t ≡ 12 → token_literal t ≡ None
@@ -327,6 +339,7 @@ prim_simple : (inner : Forms → FoundPart Expr) (t : TokenForm) (ts : Forms) �
 unfolding prim_at
 prim_simple inner (f.Ident text) (f.Symbol s.OpenParen ∷ ts) h ends = absurd (omega (arith, ends))
 prim_simple inner (f.Symbol s.OpenParen) ts h ends = absurd (omega (arith, h))
+prim_simple inner (f.Keyword k.Case) ts h ends = absurd (omega (arith, h))
 prim_simple inner t ts h ends = refl
 
 -- a field is no call
@@ -346,3 +359,29 @@ call_plain inner text ts h = refl
 pub call_args : (inner : Forms → FoundPart Expr) (text : List ℕ) {ts rest : Forms} {args : List Expr} → AreExprs ts args rest
     → call_at inner text ts ≡ option_and_then (λ args. option_and_then (λ rest. Some (ex.Call text args.0, rest)) (close_paren args.1)) (listed inner ts)
 call_args inner text {ts = ts} h = call_plain inner text ts (exprs_begin h)
+
+-- ---- CASE
+
+-- what stands behind the last WHEN goes on neither with it nor with the WHENs
+pub last_ahead : {ts rest : Forms} {a : Expr} → IsLast ts a rest → binds_ahead ts < 1
+last_ahead last_none = omega arith
+last_ahead (last_else h) = omega arith
+
+pub last_ends : (inner : Forms → FoundPart Expr) {ts rest : Forms} {a : Expr} → IsLast ts a rest → when_turn inner ts ≡ Some None
+unfolding when_turn
+last_ends inner last_none = refl
+last_ends inner (last_else h) = refl
+
+pub whens_ahead : {ts rest : Forms} {ws : List (Expr × Expr)} → AreWhens ts ws rest → binds_ahead rest < 1 → binds_ahead ts < 1
+whens_ahead whens_none ends = ends
+whens_ahead (whens_more c a more) ends = omega arith
+
+-- a WHEN behind CASE is none of an operand
+pub case_bare : (inner : Forms → FoundPart Expr) {ts rest : Forms} {w : Expr × Expr} {ws : List (Expr × Expr)} → AreWhens ts (w ∷ ws) rest → case_at inner ts ≡ case_bare_at inner ts
+unfolding case_at
+case_bare inner (whens_more c a more) = refl
+
+pub case_of : (inner : Forms → FoundPart Expr) (ts : Forms) → 1 ≤ begins_ahead ts → case_at inner ts ≡ case_of_at inner ts
+unfolding case_at
+case_of inner (f.Keyword k.When ∷ ts) h = absurd (omega (arith, h))
+case_of inner ts h = refl

@@ -1,3 +1,5 @@
+mod CasesRead
+mod Chosen
 pub mod ExprsFormed
 pub mod ExprsFound
 pub mod ExprsSound

@@ -56,7 +56,7 @@ repeat_runs turn run none leads most ts =
 abbrev pub GoesOn : {A : Type 0} → (Forms → A → Forms → Type 0) → Forms → List A → Forms → Type 0
 GoesOn {A = A} rule ts others rest = (before : Forms) (a : A) → rule before a ts → Listed rule before (a ∷ others) rest
 
-comma_leads : {A : Type 0} (member : Forms → FoundPart A) (rule : Forms → A → Forms → Type 0) → Upholds member rule → TurnsLead (comma_turn member) (GoesOn rule)
+pub comma_leads : {A : Type 0} (member : Forms → FoundPart A) (rule : Forms → A → Forms → Type 0) → Upholds member rule → TurnsLead (comma_turn member) (GoesOn rule)
 unfolding comma_turn
 comma_leads member rule upholds (f.Symbol s.Comma ∷ ts) =
     holds_map Some (upholds ts) (λ p r. Holds.just (λ others rest after before a first. Listed.more first (after ts p.0 r)))

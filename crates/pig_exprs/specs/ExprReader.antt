@@ -13,8 +13,8 @@ use Rattle.pig_syntax.specs.declared.trees.PostStep.TheVariants as step
 use Rattle.pig_value.specs.declared.operators.Rel.{Rel}
 use Rattle.pig_exprs.specs.declared.exprs.Chain.{Chain}
 use Rattle.pig_exprs.specs.declared.exprs.Chain.TheVariants as chain
-use Rattle.pig_exprs.specs.Grammar.{Forms, scalar_of, Level, expr, conj, sum, term, chain_op, rel_of, token_literal}
-use Rattle.pig_exprs.specs.Reader.{FoundPart, Turn, repeat, listed, close_paren, field_ref_at, selection_at, cast_type_with, type_at}
+use Rattle.pig_exprs.specs.Grammar.{Forms, scalar_of, Level, expr, conj, sum, term, chain_op, rel_of, token_literal, chain_of, is_among, choice_of, compared}
+use Rattle.pig_exprs.specs.Reader.{FoundPart, Turn, repeat, comma_turn, listed, close_paren, field_ref_at, selection_at, cast_type_with, type_at}
 use Rattle.pig_value.specs.Results.{◌>>=◌}
 
 -- ---- expressions, by the reader of the expressions inside brackets, with types in casts whose brackets nest less deep than `most`
@@ -30,10 +30,6 @@ level_of chain.Product = term
 unfoldable pub link_turn : Level → (Forms → FoundPart Expr) → Forms → Turn Link
 link_turn level member [] = Some None
 link_turn level member (t ∷ ts) = option_map_or (λ o. option_map (λ p. Some (record { op = o; a = p.0 }, p.1)) (member ts)) (chain_op level t) (Some None)
-
-unfoldable pub chain_of : Expr → List Link → Expr
-chain_of a [] = a
-chain_of a (l ∷ ls) = e.Chain a (l ∷ ls)
 
 unfoldable pub chain_at : Level → (Forms → FoundPart Expr) → Forms → FoundPart Expr
 chain_at level member ts = do
@@ -83,8 +79,71 @@ unfoldable pub simple_at : Forms → FoundPart Expr
 simple_at [] = None
 simple_at (t ∷ ts) = option_map_or (λ a. Some (a, ts)) (token_literal t) (option_map (λ p. (e.Field p.0, p.1)) (field_ref_at (t ∷ ts)))
 
+-- ---- CASE
+
+unfoldable pub then_word : Forms → Option Forms
+then_word (f.Keyword k.Then ∷ ts) = Some ts
+then_word _ = None
+
+unfoldable pub end_word : Forms → Option Forms
+end_word (f.Keyword k.End ∷ ts) = Some ts
+end_word _ = None
+
+-- a condition and its value, behind WHEN
+unfoldable pub when_at : (Forms → FoundPart Expr) → Forms → FoundPart (Expr × Expr)
+when_at inner ts = do
+  test ← inner ts
+  behind ← then_word test.1
+  value ← inner behind
+  Some ((test.0, value.0), value.1)
+
+unfoldable pub when_turn : (Forms → FoundPart Expr) → Forms → Turn (Expr × Expr)
+when_turn inner (f.Keyword k.When ∷ ts) = option_map Some (when_at inner ts)
+when_turn inner ts = Some None
+
+unfoldable pub first_when : (Forms → FoundPart Expr) → Forms → FoundPart (Expr × Expr)
+first_when inner (f.Keyword k.When ∷ ts) = when_at inner ts
+first_when inner _ = None
+
+-- what stands behind the last WHEN: the value of ELSE, or NULL, and END
+unfoldable pub last_at : (Forms → FoundPart Expr) → Forms → FoundPart Expr
+last_at inner (f.Keyword k.End ∷ ts) = Some (e.Null, ts)
+last_at inner (f.Keyword k.Else ∷ ts) = do
+  a ← inner ts
+  rest ← end_word a.1
+  Some (a.0, rest)
+last_at inner _ = None
+
+-- the first WHEN, the others, and the value where none holds
+unfoldable pub cases_at : (Forms → FoundPart Expr) → Forms → FoundPart (((Expr × Expr) × List (Expr × Expr)) × Expr)
+cases_at inner ts = do
+  first ← first_when inner ts
+  others ← repeat (when_turn inner) (length first.1) [] first.1
+  last ← last_at inner others.1
+  Some (((first.0, others.0), last.0), last.1)
+
+-- a CASE of conditions, behind its word
+unfoldable pub case_bare_at : (Forms → FoundPart Expr) → Forms → FoundPart Expr
+case_bare_at inner ts = do
+  cases ← cases_at inner ts
+  Some (choice_of (cases.0.0.0 ∷ cases.0.0.1) cases.0.1, cases.1)
+
+-- a CASE of an operand, behind its word
+unfoldable pub case_of_at : (Forms → FoundPart Expr) → Forms → FoundPart Expr
+case_of_at inner ts = do
+  x ← inner ts
+  cases ← cases_at inner x.1
+  Some (choice_of (compared x.0 (cases.0.0.0 ∷ cases.0.0.1)) cases.0.1, cases.1)
+
+unfoldable pub case_at : (Forms → FoundPart Expr) → Forms → FoundPart Expr
+case_at inner (f.Keyword k.When ∷ ts) = case_bare_at inner (f.Keyword k.When ∷ ts)
+case_at inner ts = case_of_at inner ts
+
+-- ---- operands
+
 unfoldable pub prim_at : (Forms → FoundPart Expr) → Forms → FoundPart Expr
 prim_at inner (f.Ident name ∷ f.Symbol s.OpenParen ∷ ts) = call_at inner name ts
+prim_at inner (f.Keyword k.Case ∷ ts) = case_at inner ts
 prim_at inner (f.Symbol s.OpenParen ∷ ts) = option_and_then (λ p. paren_after inner p.0 p.1) (inner ts)
 prim_at inner ts = simple_at ts
 
@@ -138,11 +197,25 @@ unfoldable pub rel_ahead : Forms → Option (Rel × Forms)
 rel_ahead [] = None
 rel_ahead (t ∷ ts) = option_map (λ r. (r, ts)) (rel_of t)
 
+-- the tokens behind IN and its `(`
+unfoldable pub in_ahead : Forms → Option Forms
+in_ahead (f.Keyword k.In ∷ f.Symbol s.OpenParen ∷ ts) = Some ts
+in_ahead ts = None
+
+-- the values behind IN and its `(`
+unfoldable pub among_at : (Forms → FoundPart Expr) → Expr → Forms → FoundPart Expr
+among_at inner a ts = do
+  first ← inner ts
+  others ← repeat (comma_turn inner) (length first.1) [] first.1
+  rest ← close_paren others.1
+  Some (is_among a first.0 others.0, rest)
+
 -- what may follow the first operand of a comparison
 unfoldable pub comp_after : ℕ → (Forms → FoundPart Expr) → Expr → Forms → FoundPart Expr
 comp_after most inner a ts =
     option_map_or (λ n. Some (e.IsNull a n.0, n.1)) (null_test ts)
-    (option_map_or (λ r. option_map (λ p. (e.Compare r.0 a p.0, p.1)) (sum_at most inner r.1)) (rel_ahead ts) (Some (a, ts)))
+    (option_map_or (λ r. option_map (λ p. (e.Compare r.0 a p.0, p.1)) (sum_at most inner r.1)) (rel_ahead ts)
+    (option_map_or (λ behind. among_at inner a behind) (in_ahead ts) (Some (a, ts))))
 
 unfoldable pub comp_at : ℕ → (Forms → FoundPart Expr) → Forms → FoundPart Expr
 comp_at most inner ts = option_and_then (λ p. comp_after most inner p.0 p.1) (sum_at most inner ts)

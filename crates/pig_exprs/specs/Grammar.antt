@@ -1,6 +1,6 @@
 -- The grammar of fields, types and expressions: what is read from the front of some tokens, its tree, and what is left. Each rule
 -- stands beside the alternative that it is. Names in capitals are keywords, [ ] is what may be left out, { } what may be repeated.
-use Rattle.std.specs.Prelude.{◌≡◌, ℕ, true, false, List, [], ◌∷◌, ◌++◌, Option, Some, None, codes}
+use Rattle.std.specs.Prelude.{◌≡◌, ℕ, true, false, List, [], ◌∷◌, ◌++◌, map, Option, Some, None, codes}
 use Rattle.pig_value.specs.declared.operators.ChainOp.{ChainOp}
 use Rattle.pig_value.specs.declared.operators.ChainOp.TheVariants as op
 use Rattle.pig_value.specs.declared.operators.Rel.{Rel}
@@ -162,6 +162,30 @@ pub data ArePostSteps : Forms → List PostStep → Forms → Type 0 where
   project : {ts mid rest : Forms} {p : PostStep} {ps : List PostStep} → IsSelection ts p mid → ArePostSteps mid ps rest → ArePostSteps (f.Symbol s.Dot ∷ ts) (p ∷ ps) rest
   look : {ts rest : Forms} {key : List ℕ} {ps : List PostStep} → ArePostSteps ts ps rest → ArePostSteps (f.Symbol s.Hash ∷ f.Text key ∷ ts) (step.Look key ∷ ps) rest
 
+-- ---- the trees that IN and CASE stand for
+
+-- an operand by itself, or the chain that it begins
+unfoldable pub chain_of : Expr → List Link → Expr
+chain_of a [] = a
+chain_of a (l ∷ ls) = e.Chain a (l ∷ ls)
+
+-- x == v
+abbrev pub equals : Expr → Expr → Expr
+equals x v = e.Compare rel.Eq x v
+
+-- x IN (v, w, ..) is x == v OR x == w OR ..
+abbrev pub is_among : Expr → Expr → List Expr → Expr
+is_among x v others = chain_of (equals x v) (map (λ w. record { op = op.Or; a = equals x w }) others)
+
+-- CASE WHEN c THEN a WHEN d THEN b ELSE e END is c ? a : (d ? b : e)
+unfoldable pub choice_of : List (Expr × Expr) → Expr → Expr
+choice_of [] default = default
+choice_of (w ∷ others) default = e.Choose w.0 w.1 (choice_of others default)
+
+-- CASE x WHEN v THEN a is CASE WHEN x == v THEN a
+abbrev pub compared : Expr → List (Expr × Expr) → List (Expr × Expr)
+compared x whens = map (λ w. (equals x w.0, w.1)) whens
+
 mutual
   pub data ReadsExpr : Level → Forms → Expr → Forms → Type 0 where
     -- expr = conj { OR conj }
@@ -173,11 +197,13 @@ mutual
     -- neg = [ NOT ] comp
     neg_none : {ts rest : Forms} {a : Expr} → ReadsExpr comp ts a rest → ReadsExpr neg ts a rest
     neg_not : {ts rest : Forms} {a : Expr} → ReadsExpr comp ts a rest → ReadsExpr neg (f.Keyword k.Not ∷ ts) (e.Not a) rest
-    -- comp = sum [ relop sum ] | sum IS [ NOT ] NULL
+    -- comp = sum [ relop sum ] | sum IS [ NOT ] NULL | sum IN '(' expr { ',' expr } ')'
     comp_one : {ts rest : Forms} {a : Expr} → ReadsExpr sum ts a rest → ReadsExpr comp ts a rest
     comp_rel : {ts mid rest : Forms} {t : TokenForm} {r : Rel} {a b : Expr} → ReadsExpr sum ts a (t ∷ mid) → rel_of t ≡ Some r → ReadsExpr sum mid b rest → ReadsExpr comp ts (e.Compare r a b) rest
     comp_null : {ts rest : Forms} {a : Expr} → ReadsExpr sum ts a (f.Keyword k.Is ∷ f.Keyword k.Null ∷ rest) → ReadsExpr comp ts (e.IsNull a false) rest
     comp_not_null : {ts rest : Forms} {a : Expr} → ReadsExpr sum ts a (f.Keyword k.Is ∷ f.Keyword k.Not ∷ f.Keyword k.Null ∷ rest) → ReadsExpr comp ts (e.IsNull a true) rest
+    comp_in : {ts mid rest : Forms} {a v : Expr} {others : List Expr} → ReadsExpr sum ts a (f.Keyword k.In ∷ f.Symbol s.OpenParen ∷ mid) → AreExprs mid (v ∷ others) (f.Symbol s.CloseParen ∷ rest)
+        → ReadsExpr comp ts (is_among a v others) rest
     -- sum = term { ( '+' | '-' ) term }
     sum_one : {ts rest : Forms} {a : Expr} → ReadsExpr term ts a rest → ReadsExpr sum ts a rest
     sum_more : {ts mid rest : Forms} {a : Expr} {l : Link} {ls : List Link} → ReadsExpr term ts a mid → Links sum term mid (l ∷ ls) rest → ReadsExpr sum ts (e.Chain a (l ∷ ls)) rest
@@ -196,6 +222,7 @@ mutual
     -- prim = Int | Long | Float | Text | TRUE | FALSE | NULL | fref
     --      | Ident '(' [ expr { ',' expr } ] ')'
     --      | '(' expr ')' | '(' expr '?' expr ':' expr ')'
+    --      | CASE [ expr ] WHEN expr THEN expr { WHEN expr THEN expr } [ ELSE expr ] END
     prim_literal : {ts : Forms} {t : TokenForm} {a : Expr} → token_literal t ≡ Some a → ReadsExpr prim (t ∷ ts) a ts
     prim_field : {ts rest : Forms} {r : FieldRef} → IsFieldRef ts r rest → ReadsExpr prim ts (e.Field r) rest
     prim_call_none : {ts : Forms} {name : List ℕ} → ReadsExpr prim (f.Ident name ∷ f.Symbol s.OpenParen ∷ f.Symbol s.CloseParen ∷ ts) (e.Call name []) ts
@@ -203,6 +230,21 @@ mutual
     prim_paren : {ts rest : Forms} {a : Expr} → ReadsExpr expr ts a (f.Symbol s.CloseParen ∷ rest) → ReadsExpr prim (f.Symbol s.OpenParen ∷ ts) a rest
     prim_choose : {ts left right rest : Forms} {a b c : Expr} → ReadsExpr expr ts a (f.Symbol s.Question ∷ left) → ReadsExpr expr left b (f.Symbol s.Colon ∷ right)
         → ReadsExpr expr right c (f.Symbol s.CloseParen ∷ rest) → ReadsExpr prim (f.Symbol s.OpenParen ∷ ts) (e.Choose a b c) rest
+    prim_case : {ts mid rest : Forms} {w : Expr × Expr} {others : List (Expr × Expr)} {default : Expr} → AreWhens ts (w ∷ others) mid → IsLast mid default rest
+        → ReadsExpr prim (f.Keyword k.Case ∷ ts) (choice_of (w ∷ others) default) rest
+    prim_case_of : {ts mid behind rest : Forms} {x : Expr} {w : Expr × Expr} {others : List (Expr × Expr)} {default : Expr} → ReadsExpr expr ts x mid → AreWhens mid (w ∷ others) behind
+        → IsLast behind default rest → ReadsExpr prim (f.Keyword k.Case ∷ ts) (choice_of (compared x (w ∷ others)) default) rest
+
+  -- { WHEN expr THEN expr }
+  pub data AreWhens : Forms → List (Expr × Expr) → Forms → Type 0 where
+    whens_none : {ts : Forms} → AreWhens ts [] ts
+    whens_more : {ts mid behind rest : Forms} {c a : Expr} {others : List (Expr × Expr)} → ReadsExpr expr ts c (f.Keyword k.Then ∷ mid) → ReadsExpr expr mid a behind → AreWhens behind others rest
+        → AreWhens (f.Keyword k.When ∷ ts) ((c, a) ∷ others) rest
+
+  -- [ ELSE expr ] END, where a missing ELSE is NULL
+  pub data IsLast : Forms → Expr → Forms → Type 0 where
+    last_none : {ts : Forms} → IsLast (f.Keyword k.End ∷ ts) e.Null ts
+    last_else : {ts rest : Forms} {a : Expr} → ReadsExpr expr ts a (f.Keyword k.End ∷ rest) → IsLast (f.Keyword k.Else ∷ ts) a rest
 
   -- { operator operand }, of one chain
   pub data Links : Level → Level → Forms → List Link → Forms → Type 0 where

@@ -1,13 +1,16 @@
-ghost use Rattle.std.specs.Prelude.{◌≡◌, [], ◌∷◌, IfOk, IfSome, length, map, option_map};
+ghost use Rattle.std.specs.Prelude.{◌≡◌, [], ◌∷◌, IfOk, IfSome, Some, length, map, option_map};
 ghost use Rattle.pig_exprs.specs.Grammar.{Forms, chain_op, rel_of, token_literal};
-ghost use Rattle.pig_exprs.specs.Nests.{Nests};
+ghost use Rattle.pig_exprs.specs.Nests.{NestsWithin};
 ghost use Rattle.pig_exprs.specs.Reader.{forms, Gives, GivesBeside, GivesBehind, GivesRest};
-ghost use Rattle.pig_exprs.specs.ExprReader.{both_at, level_of, chain_of, link_turn, chain_at, post_turn, post_of, colon, paren_after, call_at, simple_at, prim_at, post_at, begins_type, is_type_word, cast_at, casted_at, unary_at, term_at, sum_at, null_test, rel_ahead, comp_after, comp_at, neg_at, conj_at, expr_with, expr_at};
+ghost use Rattle.pig_exprs.specs.ExprReader.{both_at, level_of, link_turn, chain_at, post_turn, colon, paren_after, call_at, simple_at, case_bare_at, case_of_at, case_at, prim_at, post_at, begins_type, is_type_word, cast_at, casted_at, unary_at, term_at, sum_at, null_test, rel_ahead, in_ahead, among_at, comp_after, comp_at, neg_at, conj_at, expr_with, expr_at};
 
+use crate::cases::{Cases, Operand, choice};
+use crate::limits::Limits;
 use crate::names::{field_ref, selection};
 use crate::reading::{
-    ParseFault, Rule, Turning, before, beside, close_paren, closed, listed, repeat,
+    ParseFault, Rule, Turning, before, beside, close_paren, closed, listed, other_members,
 };
+use crate::trees::{chain_of, choose, compare, is_null, post_of};
 use crate::types::cast_type;
 use pig_syntax::{
     Expr, Exprs, Keyword, Link, Links, PostStep, PostSteps, Symbol, Token, TokenForm,
@@ -30,29 +33,32 @@ enum Chain {
 
 // Expressions whose brackets nest less deep than `depth`, by a function that reads them.
 #[derive(Clone, Copy)]
-struct ExpressionsWithin<F> {
+struct ExpressionsWithin<'l, F> {
     alloc: Global,
+    limits: &'l Limits,
     depth: u32,
     function: F,
 }
 
-impl<F: Fn(Global, &[Token], u32) -> Result<(Expr, &[Token]), ParseFault>> Rule
-    for ExpressionsWithin<F> {
+impl<
+    F: for<'a> Fn(Global, &Limits, &'a [Token], u32) -> Result<(Expr, &'a [Token]), ParseFault>,
+> Rule for ExpressionsWithin<'_, F> {
     type Tree = Expr;
 
-    ghost ready = { λ r. Nests (expr_at 65) r.depth (F.pre r.function) (F.post r.function) };
+    ghost ready = { λ r. NestsWithin (expr_at 65) r.depth (F.pre r.function) (F.post r.function) };
 
     ghost finds = { λ r. expr_at 65 r.depth };
 
     fn read<'a>(&self, tokens: &'a [Token]) -> Result<(Expr, &'a [Token]), ParseFault> {
-        (self.function)(self.alloc, tokens, self.depth)
+        (self.function)(self.alloc, self.limits, tokens, self.depth)
     }
 }
 
 // The rules of expressions, with the rule of the expressions inside brackets.
 #[derive(Clone, Copy)]
-struct Grammar<R> {
+struct Grammar<'l, R> {
     alloc: Global,
+    limits: &'l Limits,
     inner: R,
 }
 
@@ -140,6 +146,27 @@ fn comparison_ahead(tokens: &[Token]) -> Option<(Rel, &[Token])>
     }
 }
 
+// The tokens behind IN and its `(`.
+#[tactic(auto, unfolding(crate::specs::ExprReader::in_ahead))]
+fn in_ahead(tokens: &[Token]) -> Option<&[Token]>
+    ensures { option_map (λ rest. forms rest.now) result ≡ in_ahead (forms tokens.now) }
+{
+    match tokens {
+        [
+            Token {
+                form: TokenForm::Keyword(Keyword::In),
+                ..
+            },
+            Token {
+                form: TokenForm::Symbol(Symbol::OpenParen),
+                ..
+            },
+            rest @ ..,
+        ] => Some(rest),
+        _ => None,
+    }
+}
+
 // The literal that a token is.
 fn literal(alloc: Global, token: &Token) -> Result<Option<Expr>, AllocError>
     ensures { IfOk result (λ found. found ≡ token_literal token.now.form) }
@@ -154,30 +181,6 @@ fn literal(alloc: Global, token: &Token) -> Result<Option<Expr>, AllocError>
         TokenForm::Keyword(Keyword::Null) => Ok(Some(Expr::Null)),
         _ => Ok(None),
     }
-}
-
-// The operand by itself, or the chain that it begins.
-#[tactic(auto, unfolding(crate::specs::ExprReader::chain_of))]
-fn chain_of(alloc: Global, first: Expr, rest: Links) -> Result<Expr, AllocError>
-    ensures { IfOk result (λ e. e ≡ chain_of first rest) }
-{
-    if rest.is_empty() {
-        return Ok(first);
-    }
-    let first = Boxed::new(alloc, first)?;
-    Ok(Expr::Chain { first, rest })
-}
-
-// The expression by itself, or with the steps behind it.
-#[tactic(auto, unfolding(crate::specs::ExprReader::post_of))]
-fn post_of(alloc: Global, a: Expr, steps: PostSteps) -> Result<Expr, AllocError>
-    ensures { IfOk result (λ e. e ≡ post_of a steps) }
-{
-    if steps.is_empty() {
-        return Ok(a);
-    }
-    let a = Boxed::new(alloc, a)?;
-    Ok(Expr::Post { a, steps })
 }
 
 // The links of a chain over operands of a rule.
@@ -229,11 +232,12 @@ fn chained<'a, R: Rule<Tree = Expr>>(
 
 // The projections and look-ups behind an expression.
 #[derive(Drop)]
-struct Stepping {
+struct Stepping<'l> {
     alloc: Global,
+    limits: &'l Limits,
 }
 
-impl Turning for Stepping {
+impl Turning for Stepping<'_> {
     type Tree = PostStep;
 
     ghost ready = { λ _. Unit {0} };
@@ -250,6 +254,7 @@ impl Turning for Stepping {
                 },
                 rest @ ..,
             ] => {
+                self.limits.step()?;
                 let (step, rest) = selection(self.alloc, rest)?;
                 Ok(Some((step, rest)))
             }
@@ -264,6 +269,7 @@ impl Turning for Stepping {
                 },
                 rest @ ..,
             ] => {
+                self.limits.step()?;
                 let key = key.copy(self.alloc)?;
                 Ok(Some((PostStep::Look(key), rest)))
             }
@@ -353,65 +359,13 @@ fn is_type_word(word: Keyword) -> bool
     )
 }
 
-// Two trees, boxed.
-fn both_boxed<A: Drop, B: Drop>(
-    alloc: Global,
-    a: A,
-    b: B,
-) -> Result<(Boxed<A>, Boxed<B>), AllocError>
-    ensures { IfOk result (λ r. r ≡ (a, b)) }
-{
-    let a = Boxed::new(alloc, a)?;
-    let b = Boxed::new(alloc, b)?;
-    Ok((a, b))
-}
-
-// Three trees, boxed.
-fn all_boxed<T: Drop>(
-    alloc: Global,
-    a: T,
-    b: T,
-    c: T,
-) -> Result<(Boxed<T>, Boxed<T>, Boxed<T>), AllocError>
-    ensures { IfOk result (λ r. r ≡ (a, b, c)) }
-{
-    let a = Boxed::new(alloc, a)?;
-    let b = Boxed::new(alloc, b)?;
-    let c = Boxed::new(alloc, c)?;
-    Ok((a, b, c))
-}
-
-// A comparison of two expressions.
-fn compare(alloc: Global, op: Rel, a: Expr, b: Expr) -> Result<Expr, AllocError>
-    ensures { IfOk result (λ e. e ≡ Expr.Compare op a b) }
-{
-    let (a, b) = both_boxed(alloc, a, b)?;
-    Ok(Expr::Compare { op, a, b })
-}
-
-// A test for null.
-fn is_null(alloc: Global, a: Expr, not: bool) -> Result<Expr, AllocError>
-    ensures { IfOk result (λ e. e ≡ Expr.IsNull a not) }
-{
-    let a = Boxed::new(alloc, a)?;
-    Ok(Expr::IsNull { a, not })
-}
-
-// A choice between two expressions.
-fn choose(alloc: Global, cond: Expr, yes: Expr, no: Expr) -> Result<Expr, AllocError>
-    ensures { IfOk result (λ e. e ≡ Expr.Choose cond yes no) }
-{
-    let (cond, yes, no) = all_boxed(alloc, cond, yes, no)?;
-    Ok(Expr::Choose { cond, yes, no })
-}
-
 // Operands of OR, as members of a list.
 #[derive(Drop)]
-struct Conjunctions<'g, R> {
-    grammar: &'g Grammar<R>,
+struct Conjunctions<'g, 'l, R> {
+    grammar: &'g Grammar<'l, R>,
 }
 
-impl<R: Rule<Tree = Expr>> Rule for Conjunctions<'_, R> {
+impl<R: Rule<Tree = Expr>> Rule for Conjunctions<'_, '_, R> {
     type Tree = Expr;
 
     ghost ready = { λ r. R.ready r.grammar.now.inner };
@@ -425,11 +379,11 @@ impl<R: Rule<Tree = Expr>> Rule for Conjunctions<'_, R> {
 
 // Operands of AND, as members of a list.
 #[derive(Drop)]
-struct Negations<'g, R> {
-    grammar: &'g Grammar<R>,
+struct Negations<'g, 'l, R> {
+    grammar: &'g Grammar<'l, R>,
 }
 
-impl<R: Rule<Tree = Expr>> Rule for Negations<'_, R> {
+impl<R: Rule<Tree = Expr>> Rule for Negations<'_, '_, R> {
     type Tree = Expr;
 
     ghost ready = { λ r. R.ready r.grammar.now.inner };
@@ -443,11 +397,11 @@ impl<R: Rule<Tree = Expr>> Rule for Negations<'_, R> {
 
 // Operands of `+` and `-`, as members of a list.
 #[derive(Drop)]
-struct Products<'g, R> {
-    grammar: &'g Grammar<R>,
+struct Products<'g, 'l, R> {
+    grammar: &'g Grammar<'l, R>,
 }
 
-impl<R: Rule<Tree = Expr>> Rule for Products<'_, R> {
+impl<R: Rule<Tree = Expr>> Rule for Products<'_, '_, R> {
     type Tree = Expr;
 
     ghost ready = { λ r. R.ready r.grammar.now.inner };
@@ -459,13 +413,31 @@ impl<R: Rule<Tree = Expr>> Rule for Products<'_, R> {
     }
 }
 
-// Operands of `*`, `/` and `%`, as members of a list.
+// Sums, as operands of IN.
 #[derive(Drop)]
-struct Signed<'g, R> {
-    grammar: &'g Grammar<R>,
+struct Sums<'g, 'l, R> {
+    grammar: &'g Grammar<'l, R>,
 }
 
-impl<R: Rule<Tree = Expr>> Rule for Signed<'_, R> {
+impl<R: Rule<Tree = Expr>> Rule for Sums<'_, '_, R> {
+    type Tree = Expr;
+
+    ghost ready = { λ r. R.ready r.grammar.now.inner };
+
+    ghost finds = { λ r. sum_at 65 (R.finds r.grammar.now.inner) };
+
+    fn read<'a>(&self, tokens: &'a [Token]) -> Result<(Expr, &'a [Token]), ParseFault> {
+        self.grammar.sum(tokens)
+    }
+}
+
+// Operands of `*`, `/` and `%`, as members of a list.
+#[derive(Drop)]
+struct Signed<'g, 'l, R> {
+    grammar: &'g Grammar<'l, R>,
+}
+
+impl<R: Rule<Tree = Expr>> Rule for Signed<'_, '_, R> {
     type Tree = Expr;
 
     ghost ready = { λ r. R.ready r.grammar.now.inner };
@@ -477,7 +449,7 @@ impl<R: Rule<Tree = Expr>> Rule for Signed<'_, R> {
     }
 }
 
-impl<R: Rule<Tree = Expr>> Grammar<R> {
+impl<R: Rule<Tree = Expr>> Grammar<'_, R> {
     // What stands behind the `?` of a choice.
     #[tactic(auto, unfolding(crate::specs::ExprReader::both_at))]
     fn both<'a, K: Drop>(
@@ -555,7 +527,68 @@ impl<R: Rule<Tree = Expr>> Grammar<R> {
         }
     }
 
-    // A literal, a field, a call, or an expression or a choice in parentheses.
+    // A CASE of conditions, behind its word.
+    #[tactic(auto, unfolding(crate::specs::ExprReader::case_bare_at))]
+    fn case_bare<'a>(&self, tokens: &'a [Token]) -> Result<(Expr, &'a [Token]), ParseFault>
+        requires { R.ready self.now.inner }
+        ensures { Gives (case_bare_at (R.finds self.now.inner) (forms tokens.now)) result }
+    {
+        let (cases, rest) = self.cases().read(tokens)?;
+        let ((first, others), default) = cases;
+        let tree = choice(self.alloc, first, others, default)?;
+        Ok((tree, rest))
+    }
+
+    // A CASE of an operand, behind its word.
+    #[tactic(auto, unfolding(crate::specs::ExprReader::case_of_at))]
+    fn case_of<'a>(&self, tokens: &'a [Token]) -> Result<(Expr, &'a [Token]), ParseFault>
+        requires { R.ready self.now.inner }
+        ensures { Gives (case_of_at (R.finds self.now.inner) (forms tokens.now)) result }
+    {
+        let (tree, rest) = self.inner.read(tokens)?;
+        let ((tree, cases), rest) = beside(tree, &self.cases(), rest)?;
+        let ((first, others), default) = cases;
+        let operand = Operand {
+            alloc: self.alloc,
+            limits: self.limits,
+            rule: &self.inner,
+            tokens,
+            tree,
+        };
+        let tree = operand.choice(first, others, default)?;
+        Ok((tree, rest))
+    }
+
+    // The rule of what stands in a CASE.
+    fn cases(&self) -> Cases<'_, R>
+        ensures { result.rule.now ≡ self.now.inner }
+    {
+        Cases {
+            alloc: self.alloc,
+            limits: self.limits,
+            rule: &self.inner,
+        }
+    }
+
+    // A CASE, behind its word.
+    #[tactic(auto, unfolding(crate::specs::ExprReader::case_at))]
+    fn case<'a>(&self, tokens: &'a [Token]) -> Result<(Expr, &'a [Token]), ParseFault>
+        requires { R.ready self.now.inner }
+        ensures { Gives (case_at (R.finds self.now.inner) (forms tokens.now)) result }
+    {
+        match tokens {
+            [
+                Token {
+                    form: TokenForm::Keyword(Keyword::When),
+                    ..
+                },
+                ..
+            ] => self.case_bare(tokens),
+            _ => self.case_of(tokens),
+        }
+    }
+
+    // A literal, a field, a call, a CASE, or an expression or a choice in parentheses.
     #[tactic(auto, unfolding(crate::specs::ExprReader::prim_at))]
     fn prim<'a>(&self, tokens: &'a [Token]) -> Result<(Expr, &'a [Token]), ParseFault>
         requires { R.ready self.now.inner }
@@ -573,6 +606,13 @@ impl<R: Rule<Tree = Expr>> Grammar<R> {
                 },
                 rest @ ..,
             ] => self.call(name, rest),
+            [
+                Token {
+                    form: TokenForm::Keyword(Keyword::Case),
+                    ..
+                },
+                rest @ ..,
+            ] => self.case(rest),
             [
                 Token {
                     form: TokenForm::Symbol(Symbol::OpenParen),
@@ -594,7 +634,10 @@ impl<R: Rule<Tree = Expr>> Grammar<R> {
         ensures { Gives (post_at (R.finds self.now.inner) (forms tokens.now)) result }
     {
         let (first, rest) = self.prim(tokens)?;
-        let stepping = Stepping { alloc: self.alloc };
+        let stepping = Stepping {
+            alloc: self.alloc,
+            limits: self.limits,
+        };
         let steps = PostSteps::new(self.alloc);
         let ((first, steps), rest) = before(first, &stepping, steps, rest)?;
         let whole = post_of(self.alloc, first, steps)?;
@@ -711,14 +754,44 @@ impl<R: Rule<Tree = Expr>> Grammar<R> {
         Ok(((kept, sum), rest))
     }
 
-    // A comparison or a test for null behind its first operand, or neither.
+    // The values that an operand is to be among, behind IN and its `(`. The operand was read from `read`.
+    #[tactic(auto, unfolding(crate::specs::ExprReader::among_at))]
+    fn among<'a>(
+        &self,
+        a: Expr,
+        read: &[Token],
+        tokens: &'a [Token],
+    ) -> Result<(Expr, &'a [Token]), ParseFault>
+        requires ready { R.ready self.now.inner }
+        requires read { option_map (λ p. p.0) (sum_at 65 (R.finds self.now.inner) (forms read.now))
+            ≡ Some a }
+        ensures { Gives (among_at (R.finds self.now.inner) a (forms tokens.now)) result }
+    {
+        let ((a, first), rest) = beside(a, &self.inner, tokens)?;
+        let ((first, others), rest) = other_members(self.alloc, first, &self.inner, rest)?;
+        let (others, rest) = closed(others, rest)?;
+        let operand = Operand {
+            alloc: self.alloc,
+            limits: self.limits,
+            rule: &Sums { grammar: self },
+            tokens: read,
+            tree: a,
+        };
+        let tree = operand.is_among(first, others)?;
+        Ok((tree, rest))
+    }
+
+    // What stands behind the first operand of a comparison, which was read from `read`; or nothing.
     #[tactic(auto, unfolding(crate::specs::ExprReader::comp_after))]
     fn comp_after<'a>(
         &self,
         a: Expr,
+        read: &[Token],
         tokens: &'a [Token],
     ) -> Result<(Expr, &'a [Token]), ParseFault>
-        requires { R.ready self.now.inner }
+        requires ready { R.ready self.now.inner }
+        requires read { option_map (λ p. p.0) (sum_at 65 (R.finds self.now.inner) (forms read.now))
+            ≡ Some a }
         ensures { Gives (comp_after 65 (R.finds self.now.inner) a (forms tokens.now)) result }
     {
         match null_test(tokens) {
@@ -732,7 +805,10 @@ impl<R: Rule<Tree = Expr>> Grammar<R> {
                     let whole = compare(self.alloc, op, a, b)?;
                     Ok((whole, rest))
                 }
-                None => Ok((a, tokens)),
+                None => match in_ahead(tokens) {
+                    Some(rest) => self.among(a, read, rest),
+                    None => Ok((a, tokens)),
+                },
             },
         }
     }
@@ -744,7 +820,7 @@ impl<R: Rule<Tree = Expr>> Grammar<R> {
         ensures { Gives (comp_at 65 (R.finds self.now.inner) (forms tokens.now)) result }
     {
         let (a, rest) = self.sum(tokens)?;
-        self.comp_after(a, rest)
+        self.comp_after(a, tokens, rest)
     }
 
     // A comparison with NOT before it, or without.
@@ -795,7 +871,12 @@ impl<R: Rule<Tree = Expr>> Grammar<R> {
 
 // An expression whose brackets nest less deep than `depth`.
 #[tactic(auto, unfolding(crate::specs::ExprReader::expr_at))]
-fn expr(alloc: Global, tokens: &[Token], depth: u32) -> Result<(Expr, &[Token]), ParseFault>
+fn expr<'a>(
+    alloc: Global,
+    limits: &Limits,
+    tokens: &'a [Token],
+    depth: u32,
+) -> Result<(Expr, &'a [Token]), ParseFault>
     ensures { Gives (expr_at 65 depth (forms tokens.now)) result }
 {
     if depth == 0 {
@@ -803,8 +884,10 @@ fn expr(alloc: Global, tokens: &[Token], depth: u32) -> Result<(Expr, &[Token]),
     }
     Grammar {
         alloc,
+        limits,
         inner: ExpressionsWithin {
             alloc,
+            limits,
             depth: depth - 1,
             function: expr,
         },
@@ -812,9 +895,14 @@ fn expr(alloc: Global, tokens: &[Token], depth: u32) -> Result<(Expr, &[Token]),
     .disj(tokens)
 }
 
-/// An expression.
-pub fn expression(alloc: Global, tokens: &[Token]) -> Result<(Expr, &[Token]), ParseFault>
+/// An expression. Its steps that no bracket bounds, and the copies that it makes, are counted by the limits.
+pub fn expression<'a>(
+    alloc: Global,
+    limits: &Limits,
+    tokens: &'a [Token],
+) -> Result<(Expr, &'a [Token]), ParseFault>
     ensures { Gives (expr_at 65 65 (forms tokens.now)) result }
 {
-    expr(alloc, tokens, MOST_NESTED)
+    limits.steps_from(0);
+    expr(alloc, limits, tokens, MOST_NESTED)
 }

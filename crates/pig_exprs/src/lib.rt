@@ -10,12 +10,16 @@
 //! `proofs/`.
 #![tactic(auto)]
 
+mod cases;
 mod exprs;
+mod limits;
 mod names;
 mod reading;
+mod trees;
 mod types;
 
 pub use exprs::{MOST_NESTED, expression};
+pub use limits::{Limits, MOST_COPIED, MOST_STEPS};
 pub use names::{field_ref, selection};
 pub use reading::{
     ParseFault, Rule, Turning, before, beside, close_paren, closed, listed, one, repeat,

@@ -206,6 +206,21 @@ pub fn before<'a, K: Drop, T: Turning>(
     Ok(((kept, elements), rest))
 }
 
+/// What is kept, and the members of a list behind a first one, each behind a comma.
+pub fn other_members<'a, K: Drop, R: Rule>(
+    alloc: Global,
+    kept: K,
+    rule: &R,
+    tokens: &'a [Token],
+) -> Result<((K, Seq<R::Tree>), &'a [Token]), ParseFault>
+    requires { R.ready rule.now }
+    ensures kept { IfOk result (λ r. r.0.0 ≡ kept) }
+    ensures found { GivesBeside (repeat
+        (comma_turn (R.finds rule.now)) (length tokens.now) [] (forms tokens.now)) result }
+{
+    before(kept, &Commas { rule }, Seq::new(alloc), tokens)
+}
+
 /// The tokens behind a `}`.
 #[tactic(auto, unfolding(crate::specs::Reader::close_brace))]
 pub fn close_brace(tokens: &[Token]) -> Result<&[Token], ParseFault>

@@ -31,7 +31,7 @@ use Rattle.pig_exprs.specs.Grammar.{Forms, Listed, IsSchemaField}
 use Rattle.pig_exprs.specs.Reader.{forms}
 use Rattle.pig_exprs.proofs.ExprsFormed.{Free, Formed, listed_formed, field_ref_formed, selection_formed, type_formed, schema_formed, field_formed, expr_formed}
 use Rattle.pig_parser.specs.Parsing.{AreTrees, no_trees, trees}
-use Rattle.pig_parser.specs.Statements.{AreKeys, IsDir, IsOrderField, AreOrderKeys, IsTextToken, IsIdent, IsFunc, IsUsingFunc, IsUsingText, IsParallel, AreNames, IsNaming, IsItem, IsBagRef, IsNested, AreSteps, IsGroupInput, IsJoinInput, IsSide, IsOnSchema, IsOp, IsBranch, IsOtherwise, IsStatement}
+use Rattle.pig_parser.specs.Statements.{AreKeys, IsDir, IsOrderField, AreOrderKeys, IsTextToken, IsIdent, IsFunc, IsUsingFunc, IsUsingText, IsParallel, AreNames, IsNaming, IsItem, IsBagRef, IsNested, AreSteps, IsGroupInput, IsJoinInput, IsSide, IsOnSchema, IsOp, IsBranch, IsOtherwise, IsMessage, IsStatement}
 
 -- ---- parts
 
@@ -195,6 +195,10 @@ otherwise_formed : {ts rest : Forms} {name : Option (List ℕ)} → IsOtherwise 
 otherwise_formed IsOtherwise.no_otherwise free = tt
 otherwise_formed IsOtherwise.otherwise free = free.1.0
 
+message_formed : {ts rest : Forms} {content : Option (List ℕ)} → IsMessage ts content rest → Free ts → IfSome content HasNoLf
+message_formed IsMessage.no_message free = tt
+message_formed IsMessage.with_message free = free.1.0
+
 statement_formed : {ts : Forms} {tree : Stmt} → IsStatement ts tree → Free ts → StmtFormed tree
 statement_formed IsStatement.empty free = tt
 statement_formed (IsStatement.assign h) free = (free.0, (op_formed h free.1.1).tree)
@@ -202,6 +206,9 @@ statement_formed (IsStatement.split b o) free =
     let branches = listed_formed BranchFormed (λ ts x rest is from. branch_formed is from) b free.1.1.1 in
     (free.1.0, branches.tree, otherwise_formed o branches.free)
 statement_formed (IsStatement.store h) free = (free.1.0, free.1.1.1.0, (using_func_formed h free.1.1.1.1).tree)
+statement_formed (IsStatement.assertion h m) free =
+    let met = expr_formed h free.1.1.1 in
+    (free.1.0, met.tree, message_formed m met.free)
 statement_formed (IsStatement.unsupported is) free = tt
 statement_formed (IsStatement.unsupported_named is) free = tt
 

@@ -13,10 +13,10 @@ use Rattle.pig_syntax.specs.declared.trees.Op.TheVariants as op
 use Rattle.pig_syntax.specs.declared.trees.Stmt.{Stmt}
 use Rattle.pig_syntax.specs.declared.trees.Stmt.TheVariants as stmt
 use Rattle.pig_exprs.specs.Grammar.{Forms, Listed, last, more}
-use Rattle.pig_parser.specs.Statements.{IsIdent, ident, IsUsingText, no_text, using_text, IsParallel, no_par, par, IsItem, IsGroupInput, input_bare, input_inner, input_outer, IsJoinInput, IsSide, IsOnSchema, by_place, by_name, is_group_word, IsOp, load, filter, foreach, foreach_block, group_all, group, join, union, distinct, order, limit, IsBranch, branch, IsOtherwise, no_otherwise, otherwise, is_unsupported_word, IsStatement, empty, assign, split, store, unsupported, unsupported_named}
+use Rattle.pig_parser.specs.Statements.{IsIdent, ident, IsUsingText, no_text, using_text, IsParallel, no_par, par, IsItem, IsGroupInput, input_bare, input_inner, input_outer, IsJoinInput, IsSide, IsOnSchema, by_place, by_name, is_group_word, IsOp, load, filter, foreach, foreach_block, group_all, group, join, union, distinct, order, limit, IsBranch, branch, IsOtherwise, no_otherwise, otherwise, IsMessage, no_message, with_message, is_unsupported_word, IsStatement, empty, assign, split, store, assertion, unsupported, unsupported_named}
 use Rattle.pig_exprs.specs.Reader.{listed, part_turn}
 use Rattle.pig_exprs.specs.ExprReader.{colon}
-use Rattle.pig_parser.specs.StatementReader.{comma, as_word, generate_word, block_end, several, dir_at, ident_at, using_func_at, using_text_at, after_parallel, naming_at, item_at, step_turn, steps_at, inner_at, group_input_at, join_input_at, after_outer, side_at, on_schema_at, load_at, filter_at, block_at, foreach_at, groups_at, group_at, join_at, union_at, distinct_at, order_at, limit_at, op_at, branch_with, branch_at, branch_turn, branches_at, otherwise_at, split_at, store_at, is_unsupported, assign_at, front_at, ended, statement_at}
+use Rattle.pig_parser.specs.StatementReader.{comma, as_word, generate_word, block_end, several, dir_at, ident_at, using_func_at, using_text_at, after_parallel, naming_at, item_at, step_turn, steps_at, inner_at, group_input_at, join_input_at, after_outer, side_at, on_schema_at, load_at, filter_at, block_at, foreach_at, groups_at, group_at, join_at, union_at, distinct_at, order_at, limit_at, op_at, branch_with, branch_at, branch_turn, branches_at, otherwise_at, split_at, store_at, message_at, assert_at, is_unsupported, assign_at, front_at, ended, statement_at}
 use Rattle.pig_exprs.proofs.Fits.{Fits}
 use Rattle.pig_exprs.proofs.Finds.{Finds, Run, stops, goes, repeat_run, finds_more, finds_listed, listed_finds}
 use Rattle.pig_exprs.proofs.TypesFound.{schema_found}
@@ -208,6 +208,15 @@ unfolding otherwise_at
 otherwise_found no_otherwise = refl
 otherwise_found otherwise = refl
 
+message_loose : {ts : Forms} {o : Option (List ℕ)} → IsMessage ts o [] → binds_ahead ts < 1
+message_loose no_message = omega arith
+message_loose with_message = omega arith
+
+message_found : {ts : Forms} {o : Option (List ℕ)} → IsMessage ts o [] → message_at ts ≡ Some (o, [])
+unfolding message_at
+message_found no_message = refl
+message_found with_message = refl
+
 -- a word of an operator is none of a statement that is left out
 supported_group : (word : Keyword) → is_group_word word ≡ true → is_unsupported_word word ≡ false
 supported_group k.Group h = refl
@@ -232,14 +241,16 @@ unsupported_front : (most : ℕ) (word : Keyword) (ts : Forms) → is_unsupporte
 unfolding front_at is_unsupported
 unsupported_front most k.Split ts h = absurd (cc)
 unsupported_front most k.Store ts h = absurd (cc)
+unsupported_front most k.Assert ts h = absurd (cc)
 unsupported_front most word ts h = ap (λ b. if b then Some (stmt.Unsupported, []) else None) h
 
 -- a statement whose brackets nest less deep than `most` is found
 pub statement_complete : (ts : Forms) (tree : Stmt) → IsStatement ts tree → (d most : ℕ) → Fits ts d → d < most → statement_at most ts ≡ Some tree
-unfolding Fits front_at assign_at split_at store_at ended statement_at is_unsupported using_func_at
+unfolding Fits front_at assign_at split_at store_at assert_at ended statement_at is_unsupported using_func_at
 statement_complete ts tree empty d most fits low = refl
 statement_complete ts tree (assign h) d most fits low = rw (supported h, op_found h d most fits low) refl
 statement_complete ts tree (split list o) d most fits low = rw (branches_found list d most fits low (otherwise_loose o) (otherwise_ends most o), otherwise_found o) refl
 statement_complete ts tree (store h) d most fits low = rw (using_func_found h d fits refl).finds refl
+statement_complete ts tree (assertion h m) d most fits low = rw ((expr_found h d most most fits low low (message_loose m)).finds, message_found m) refl
 statement_complete ts tree (unsupported {word = word} {ts = behind} h) d most fits low = rw (unsupported_front most word behind h) refl
 statement_complete ts tree (unsupported_named h) d most fits low = rw h refl

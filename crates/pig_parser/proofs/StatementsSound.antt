@@ -17,10 +17,10 @@ use Rattle.pig_syntax.specs.declared.trees.Op.TheVariants as op
 use Rattle.pig_syntax.specs.declared.trees.Stmt.{Stmt}
 use Rattle.pig_syntax.specs.declared.trees.Stmt.TheVariants as stmt
 use Rattle.pig_exprs.specs.Grammar.{Forms, Listed, IsFieldRef, IsSchemaField}
-use Rattle.pig_parser.specs.Statements.{IsExpr, AreKeys, IsDir, IsOrderField, AreOrderKeys, IsTextToken, IsIdent, IsFunc, IsUsingFunc, IsUsingText, IsParallel, count_of, AreNames, IsNaming, IsItem, IsBagRef, IsNested, AreSteps, IsGroupInput, IsJoinInput, side_of, IsSide, IsOnSchema, is_group_word, IsOp, IsBranch, IsOtherwise, is_unsupported_word, IsStatement}
+use Rattle.pig_parser.specs.Statements.{IsExpr, AreKeys, IsDir, IsOrderField, AreOrderKeys, IsTextToken, IsIdent, IsFunc, IsUsingFunc, IsUsingText, IsParallel, count_of, AreNames, IsNaming, IsItem, IsBagRef, IsNested, AreSteps, IsGroupInput, IsJoinInput, side_of, IsSide, IsOnSchema, is_group_word, IsOp, IsBranch, IsOtherwise, IsMessage, is_unsupported_word, IsStatement}
 use Rattle.pig_exprs.specs.Reader.{type_at}
 use Rattle.pig_exprs.specs.ExprReader.{expr_at}
-use Rattle.pig_parser.specs.StatementReader.{comma, semicolon, as_word, by_word, generate_word, block_end, several, key_list_at, keys_at, dir_at, order_field_at, order_keys_at, text_at, ident_at, func_at, using_func_at, using_text_at, after_parallel, count_at, names_at, naming_at, flattened_at, value_at, item_at, bag_selection_at, bag_ref_at, nested_filter_at, nested_order_at, nested_limit_at, nested_at, step_turn, steps_at, inner_at, group_input_at, join_input_at, after_outer, side_at, on_schema_at, load_at, filter_at, block_at, foreach_at, groups_at, group_at, join_at, union_at, distinct_at, order_at, limit_at, op_at, branch_with, branch_at, branch_turn, branches_at, otherwise_at, split_at, store_at, is_unsupported, assign_at, front_at, ended, statement_at}
+use Rattle.pig_parser.specs.StatementReader.{comma, semicolon, as_word, by_word, generate_word, block_end, several, key_list_at, keys_at, dir_at, order_field_at, order_keys_at, text_at, ident_at, func_at, using_func_at, using_text_at, after_parallel, count_at, names_at, naming_at, flattened_at, value_at, item_at, bag_selection_at, bag_ref_at, nested_filter_at, nested_order_at, nested_limit_at, nested_at, step_turn, steps_at, inner_at, group_input_at, join_input_at, after_outer, side_at, on_schema_at, load_at, filter_at, block_at, foreach_at, groups_at, group_at, join_at, union_at, distinct_at, order_at, limit_at, op_at, branch_with, branch_at, branch_turn, branches_at, otherwise_at, split_at, store_at, message_at, assert_at, is_unsupported, assign_at, front_at, ended, statement_at}
 use Rattle.pig_exprs.proofs.Options.{Holds, of_known, itself, holds_then, holds_map, holds_map_or, holds_if}
 use Rattle.pig_exprs.proofs.ListSound.{Upholds, TurnsLead, GoesOn, repeat_runs, members_listed, listed_upholds, closes}
 use Rattle.pig_exprs.proofs.NamesSound.{field_ref_upholds, selection_upholds}
@@ -415,6 +415,18 @@ store_stands (f.Ident name ∷ f.Keyword k.Into ∷ f.Text path ∷ ts) =
     holds_map _ (using_func_upholds ts) (λ p u end. IsStatement.store (subst (λ rest. IsUsingFunc ts p.0 rest) end u))
 store_stands _ = Holds.nothing
 
+message_upholds : Upholds message_at IsMessage
+unfolding message_at
+message_upholds (f.Symbol s.Comma ∷ f.Text content ∷ ts) = Holds.just IsMessage.with_message
+message_upholds ts = Holds.just IsMessage.no_message
+
+assert_stands : (most : ℕ) (ts : Forms) → Holds (λ p. IsFront (f.Keyword k.Assert ∷ ts) p.0 p.1) (assert_at most ts)
+unfolding assert_at
+assert_stands most (f.Ident name ∷ f.Keyword k.By ∷ ts) =
+    holds_then _ (expr_upholds most most ts) (λ met a.
+    holds_then _ (message_upholds met.1) (λ message m. Holds.just (λ end. IsStatement.assertion a (subst (λ rest. IsMessage met.1 message.0 rest) end m))))
+assert_stands most _ = Holds.nothing
+
 assign_stands : (most : ℕ) (name : List ℕ) (ts : Forms) → Holds (λ p. IsFront (f.Ident name ∷ f.Symbol s.Assign ∷ ts) p.0 p.1) (assign_at most name ts)
 unfolding assign_at
 assign_stands most name ts =
@@ -433,6 +445,7 @@ unfolding front_at
 front_upholds most (f.Ident name ∷ f.Symbol s.Assign ∷ ts) = assign_stands most name ts
 front_upholds most (f.Keyword k.Split ∷ ts) = split_stands most ts
 front_upholds most (f.Keyword k.Store ∷ ts) = store_stands ts
+front_upholds most (f.Keyword k.Assert ∷ ts) = assert_stands most ts
 front_upholds most ts = unsupported_stands ts
 
 ended_stands : {ts : Forms} (tree : Stmt) (rest : Forms) → IsFront ts tree rest → Holds (IsStatement ts) (ended tree rest)

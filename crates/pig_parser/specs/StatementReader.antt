@@ -373,6 +373,19 @@ unfoldable pub store_at : Forms → FoundPart Stmt
 store_at (f.Ident name ∷ f.Keyword k.Into ∷ f.Text path ∷ ts) = option_map (λ p. (stmt.Store name path p.0, p.1)) (using_func_at ts)
 store_at _ = None
 
+-- the message behind a condition, where one stands
+unfoldable pub message_at : Forms → FoundPart (Option (List ℕ))
+message_at (f.Symbol s.Comma ∷ f.Text content ∷ ts) = Some (Some content, ts)
+message_at ts = Some (None, ts)
+
+-- an ASSERT behind its first word
+unfoldable pub assert_at : ℕ → Forms → FoundPart Stmt
+assert_at most (f.Ident name ∷ f.Keyword k.By ∷ ts) = do
+  met ← expr_at most most ts
+  message ← message_at met.1
+  Some (stmt.Assert name met.0 message.0, message.1)
+assert_at most _ = None
+
 -- a statement that is left out, by its first word
 unfoldable pub is_unsupported : Forms → Bool
 is_unsupported (f.Keyword word ∷ ts) = is_unsupported_word word
@@ -387,6 +400,7 @@ unfoldable pub front_at : ℕ → Forms → FoundPart Stmt
 front_at most (f.Ident name ∷ f.Symbol s.Assign ∷ ts) = assign_at most name ts
 front_at most (f.Keyword k.Split ∷ ts) = split_at most ts
 front_at most (f.Keyword k.Store ∷ ts) = store_at ts
+front_at most (f.Keyword k.Assert ∷ ts) = assert_at most ts
 front_at most ts = if is_unsupported ts then Some (stmt.Unsupported, []) else None
 
 -- the tree, where no token is left

@@ -227,6 +227,11 @@ pub data IsOtherwise : Forms → Option (List ℕ) → Forms → Type 0 where
   no_otherwise : {ts : Forms} → IsOtherwise ts None ts
   otherwise : {ts : Forms} {name : List ℕ} → IsOtherwise (f.Symbol s.Comma ∷ f.Ident name ∷ f.Keyword k.Otherwise ∷ ts) (Some name) ts
 
+-- [ ',' Text ]
+pub data IsMessage : Forms → Option (List ℕ) → Forms → Type 0 where
+  no_message : {ts : Forms} → IsMessage ts None ts
+  with_message : {ts : Forms} {content : List ℕ} → IsMessage (f.Symbol s.Comma ∷ f.Text content ∷ ts) (Some content) ts
+
 -- uword = REGISTER | DEFINE | STREAM | MAPREDUCE | SAMPLE | CROSS | DUMP | ILLUSTRATE | DESCRIBE | EXPLAIN | IMPORT | SET
 abbrev pub is_unsupported_word : Keyword → Bool
 is_unsupported_word k.Register = true
@@ -255,6 +260,9 @@ pub data IsStatement : Forms → Stmt → Type 0 where
   -- STORE Ident INTO Text [ USING func ]
   store : {ts : Forms} {name path : List ℕ} {func : Option Func} → IsUsingFunc ts func []
       → IsStatement (f.Keyword k.Store ∷ f.Ident name ∷ f.Keyword k.Into ∷ f.Text path ∷ ts) (stmt.Store name path func)
+  -- ASSERT Ident BY expr [ ',' Text ]
+  assertion : {ts mid : Forms} {name : List ℕ} {a : Expr} {message : Option (List ℕ)} → IsExpr ts a mid → IsMessage mid message []
+      → IsStatement (f.Keyword k.Assert ∷ f.Ident name ∷ f.Keyword k.By ∷ ts) (stmt.Assert name a message)
   -- [ Ident '=' ] uword { any token }
   unsupported : {word : Keyword} {ts : Forms} → is_unsupported_word word ≡ true → IsStatement (f.Keyword word ∷ ts) stmt.Unsupported
   unsupported_named : {word : Keyword} {ts : Forms} {name : List ℕ} → is_unsupported_word word ≡ true

@@ -5,8 +5,8 @@ ghost use Rattle.pig_parser.specs.StatementReader.{semicolon, by_word, names_at,
 
 use crate::parts::{ExpressionRule, by_word, count, order_keys, semicolon};
 use pig_exprs::{
-    MOST_NESTED, ParseFault, Rule, Turning, beside, closed, expression, field, field_ref, repeat,
-    schema, selection,
+    Limits, MOST_NESTED, ParseFault, Rule, Turning, beside, closed, expression, field, field_ref,
+    repeat, schema, selection,
 };
 use pig_syntax::{
     AsNames, BagRef, Item, Keyword, Nested, PostStep, Step, Steps, Symbol, Token, TokenForm,
@@ -71,10 +71,14 @@ fn and_naming<K: Drop>(
 
 // An item behind FLATTEN and `(`.
 #[tactic(auto, unfolding(crate::specs::StatementReader::flattened_at))]
-fn flattened(alloc: Global, tokens: &[Token]) -> Result<(Item, &[Token]), ParseFault>
+fn flattened<'a>(
+    alloc: Global,
+    limits: &Limits,
+    tokens: &'a [Token],
+) -> Result<(Item, &'a [Token]), ParseFault>
     ensures { Gives (flattened_at 65 (forms tokens.now)) result }
 {
-    let (value, rest) = expression(alloc, tokens)?;
+    let (value, rest) = expression(alloc, limits, tokens)?;
     let (value, rest) = closed(value, rest)?;
     let ((value, names), rest) = and_naming(alloc, value, rest)?;
     let flatten = true;
@@ -90,10 +94,14 @@ fn flattened(alloc: Global, tokens: &[Token]) -> Result<(Item, &[Token]), ParseF
 
 // An item that is an expression.
 #[tactic(auto, unfolding(crate::specs::StatementReader::value_at))]
-fn value(alloc: Global, tokens: &[Token]) -> Result<(Item, &[Token]), ParseFault>
+fn value<'a>(
+    alloc: Global,
+    limits: &Limits,
+    tokens: &'a [Token],
+) -> Result<(Item, &'a [Token]), ParseFault>
     ensures { Gives (value_at 65 (forms tokens.now)) result }
 {
-    let (value, rest) = expression(alloc, tokens)?;
+    let (value, rest) = expression(alloc, limits, tokens)?;
     let ((value, names), rest) = and_naming(alloc, value, rest)?;
     let flatten = false;
     Ok((
@@ -108,11 +116,12 @@ fn value(alloc: Global, tokens: &[Token]) -> Result<(Item, &[Token]), ParseFault
 
 /// Items as members of a list.
 #[derive(Drop)]
-pub struct ItemRule {
+pub struct ItemRule<'l> {
     pub alloc: Global,
+    pub limits: &'l Limits,
 }
 
-impl Rule for ItemRule {
+impl Rule for ItemRule<'_> {
     type Tree = Item;
 
     ghost ready = { λ _. Unit {0} };
@@ -139,8 +148,8 @@ impl Rule for ItemRule {
                     ..
                 },
                 rest @ ..,
-            ] => flattened(self.alloc, rest),
-            _ => value(self.alloc, tokens),
+            ] => flattened(self.alloc, self.limits, rest),
+            _ => value(self.alloc, self.limits, tokens),
         }
     }
 }
@@ -200,12 +209,16 @@ fn bag_ref(alloc: Global, tokens: &[Token]) -> Result<(BagRef, &[Token]), ParseF
 
 // What stands behind FILTER in a block.
 #[tactic(auto, unfolding(crate::specs::StatementReader::nested_filter_at))]
-fn nested_filter(alloc: Global, tokens: &[Token]) -> Result<(Nested, &[Token]), ParseFault>
+fn nested_filter<'a>(
+    alloc: Global,
+    limits: &Limits,
+    tokens: &'a [Token],
+) -> Result<(Nested, &'a [Token]), ParseFault>
     ensures { Gives (nested_filter_at 65 (forms tokens.now)) result }
 {
     let (from, rest) = bag_ref(alloc, tokens)?;
     let (from, rest) = behind_by(from, rest)?;
-    let ((from, cond), rest) = beside(from, &ExpressionRule { alloc }, rest)?;
+    let ((from, cond), rest) = beside(from, &ExpressionRule { alloc, limits }, rest)?;
     Ok((Nested::Filter { from, cond }, rest))
 }
 
@@ -232,7 +245,11 @@ fn nested_limit(alloc: Global, tokens: &[Token]) -> Result<(Nested, &[Token]), P
 
 // What a nested alias is made by.
 #[tactic(auto, unfolding(crate::specs::StatementReader::nested_at))]
-fn nested(alloc: Global, tokens: &[Token]) -> Result<(Nested, &[Token]), ParseFault>
+fn nested<'a>(
+    alloc: Global,
+    limits: &Limits,
+    tokens: &'a [Token],
+) -> Result<(Nested, &'a [Token]), ParseFault>
     ensures { Gives (nested_at 65 (forms tokens.now)) result }
 {
     match tokens {
@@ -242,7 +259,7 @@ fn nested(alloc: Global, tokens: &[Token]) -> Result<(Nested, &[Token]), ParseFa
                 ..
             },
             rest @ ..,
-        ] => nested_filter(alloc, rest),
+        ] => nested_filter(alloc, limits, rest),
         [
             Token {
                 form: TokenForm::Keyword(Keyword::Distinct),
@@ -276,11 +293,12 @@ fn nested(alloc: Global, tokens: &[Token]) -> Result<(Nested, &[Token]), ParseFa
 
 // The steps of a block.
 #[derive(Drop)]
-struct StepTurns {
+struct StepTurns<'l> {
     alloc: Global,
+    limits: &'l Limits,
 }
 
-impl Turning for StepTurns {
+impl Turning for StepTurns<'_> {
     type Tree = Step;
 
     ghost ready = { λ _. Unit {0} };
@@ -302,7 +320,7 @@ impl Turning for StepTurns {
                 rest @ ..,
             ] => {
                 let alias = name.copy(self.alloc)?;
-                let (nested, rest) = nested(self.alloc, rest)?;
+                let (nested, rest) = nested(self.alloc, self.limits, rest)?;
                 let (nested, rest) = behind_semicolon(nested, rest)?;
                 Ok(Some((Step { alias, nested }, rest)))
             }
@@ -313,8 +331,12 @@ impl Turning for StepTurns {
 
 /// The steps of a block.
 #[tactic(auto, unfolding(crate::specs::StatementReader::steps_at))]
-pub fn steps(alloc: Global, tokens: &[Token]) -> Result<(Steps, &[Token]), ParseFault>
+pub fn steps<'a>(
+    alloc: Global,
+    limits: &Limits,
+    tokens: &'a [Token],
+) -> Result<(Steps, &'a [Token]), ParseFault>
     ensures { Gives (steps_at 65 (forms tokens.now)) result }
 {
-    repeat(&StepTurns { alloc }, Steps::new(alloc), tokens)
+    repeat(&StepTurns { alloc, limits }, Steps::new(alloc), tokens)
 }

@@ -10,7 +10,7 @@ use crate::parts::{
     IdentRule, after_parallel, as_word, comma, count, keys, order_keys, several, using_func,
     using_text,
 };
-use pig_exprs::{MOST_NESTED, ParseFault, Rule, expression, listed, one, schema};
+use pig_exprs::{Limits, MOST_NESTED, ParseFault, Rule, expression, listed, one, schema};
 use pig_syntax::{GroupInput, JoinInput, Keyword, Op, Steps, Symbol, Token, TokenForm};
 use pig_value::{Side, Text};
 use std::alloc::Global;
@@ -79,11 +79,12 @@ fn inner(tokens: &[Token]) -> (bool, &[Token])
 
 // Inputs of a GROUP as members of a list.
 #[derive(Drop)]
-struct GroupInputRule {
+struct GroupInputRule<'l> {
     alloc: Global,
+    limits: &'l Limits,
 }
 
-impl Rule for GroupInputRule {
+impl Rule for GroupInputRule<'_> {
     type Tree = GroupInput;
 
     ghost ready = { λ _. Unit {0} };
@@ -105,7 +106,7 @@ impl Rule for GroupInputRule {
                 rest @ ..,
             ] => {
                 let from = name.copy(self.alloc)?;
-                let (keys, rest) = keys(self.alloc, rest)?;
+                let (keys, rest) = keys(self.alloc, self.limits, rest)?;
                 let (inner, rest) = inner(rest);
                 Ok((GroupInput { from, keys, inner }, rest))
             }
@@ -116,11 +117,12 @@ impl Rule for GroupInputRule {
 
 // Inputs of a JOIN as members of a list.
 #[derive(Drop)]
-struct JoinInputRule {
+struct JoinInputRule<'l> {
     alloc: Global,
+    limits: &'l Limits,
 }
 
-impl Rule for JoinInputRule {
+impl Rule for JoinInputRule<'_> {
     type Tree = JoinInput;
 
     ghost ready = { λ _. Unit {0} };
@@ -142,7 +144,7 @@ impl Rule for JoinInputRule {
                 rest @ ..,
             ] => {
                 let from = name.copy(self.alloc)?;
-                let (keys, rest) = keys(self.alloc, rest)?;
+                let (keys, rest) = keys(self.alloc, self.limits, rest)?;
                 Ok((JoinInput { from, keys }, rest))
             }
             _ => Err(ParseFault::Off),
@@ -235,7 +237,11 @@ fn load(alloc: Global, tokens: &[Token]) -> Result<(Op, &[Token]), ParseFault>
 
 // A FILTER, behind its word.
 #[tactic(auto, unfolding(crate::specs::StatementReader::filter_at))]
-fn filter(alloc: Global, tokens: &[Token]) -> Result<(Op, &[Token]), ParseFault>
+fn filter<'a>(
+    alloc: Global,
+    limits: &Limits,
+    tokens: &'a [Token],
+) -> Result<(Op, &'a [Token]), ParseFault>
     ensures { Gives (filter_at 65 (forms tokens.now)) result }
 {
     match tokens {
@@ -251,7 +257,7 @@ fn filter(alloc: Global, tokens: &[Token]) -> Result<(Op, &[Token]), ParseFault>
             rest @ ..,
         ] => {
             let from = name.copy(alloc)?;
-            let (cond, rest) = expression(alloc, rest)?;
+            let (cond, rest) = expression(alloc, limits, rest)?;
             Ok((Op::Filter { from, cond }, rest))
         }
         _ => Err(ParseFault::Off),
@@ -262,22 +268,27 @@ fn filter(alloc: Global, tokens: &[Token]) -> Result<(Op, &[Token]), ParseFault>
 #[tactic(auto, unfolding(crate::specs::StatementReader::block_at))]
 fn block<'a>(
     alloc: Global,
+    limits: &Limits,
     name: &Text,
     tokens: &'a [Token],
 ) -> Result<(Op, &'a [Token]), ParseFault>
     ensures { Gives (block_at 65 name.now (forms tokens.now)) result }
 {
     let from = name.copy(alloc)?;
-    let (steps, rest) = steps(alloc, tokens)?;
+    let (steps, rest) = steps(alloc, limits, tokens)?;
     let rest = generate_word(rest)?;
-    let (items, rest) = listed(alloc, &ItemRule { alloc }, rest)?;
+    let (items, rest) = listed(alloc, &ItemRule { alloc, limits }, rest)?;
     let rest = block_end(rest)?;
     Ok((Op::Foreach { from, steps, items }, rest))
 }
 
 // A FOREACH, behind its word.
 #[tactic(auto, unfolding(crate::specs::StatementReader::foreach_at))]
-fn foreach(alloc: Global, tokens: &[Token]) -> Result<(Op, &[Token]), ParseFault>
+fn foreach<'a>(
+    alloc: Global,
+    limits: &Limits,
+    tokens: &'a [Token],
+) -> Result<(Op, &'a [Token]), ParseFault>
     ensures { Gives (foreach_at 65 (forms tokens.now)) result }
 {
     match tokens {
@@ -294,7 +305,7 @@ fn foreach(alloc: Global, tokens: &[Token]) -> Result<(Op, &[Token]), ParseFault
         ] => {
             let from = name.copy(alloc)?;
             let steps = Steps::new(alloc);
-            let (items, rest) = listed(alloc, &ItemRule { alloc }, rest)?;
+            let (items, rest) = listed(alloc, &ItemRule { alloc, limits }, rest)?;
             Ok((Op::Foreach { from, steps, items }, rest))
         }
         [
@@ -307,24 +318,32 @@ fn foreach(alloc: Global, tokens: &[Token]) -> Result<(Op, &[Token]), ParseFault
                 ..
             },
             rest @ ..,
-        ] => block(alloc, name, rest),
+        ] => block(alloc, limits, name, rest),
         _ => Err(ParseFault::Off),
     }
 }
 
 // The inputs of a GROUP, and what stands behind them.
 #[tactic(auto, unfolding(crate::specs::StatementReader::groups_at))]
-fn groups(alloc: Global, tokens: &[Token]) -> Result<(Op, &[Token]), ParseFault>
+fn groups<'a>(
+    alloc: Global,
+    limits: &Limits,
+    tokens: &'a [Token],
+) -> Result<(Op, &'a [Token]), ParseFault>
     ensures { Gives (groups_at 65 (forms tokens.now)) result }
 {
-    let (inputs, rest) = listed(alloc, &GroupInputRule { alloc }, tokens)?;
+    let (inputs, rest) = listed(alloc, &GroupInputRule { alloc, limits }, tokens)?;
     let (using, rest) = using_text(alloc, rest)?;
     Ok((Op::Group { inputs, using }, after_parallel(rest)))
 }
 
 // A GROUP or COGROUP, behind its word.
 #[tactic(auto, unfolding(crate::specs::StatementReader::group_at))]
-fn group(alloc: Global, tokens: &[Token]) -> Result<(Op, &[Token]), ParseFault>
+fn group<'a>(
+    alloc: Global,
+    limits: &Limits,
+    tokens: &'a [Token],
+) -> Result<(Op, &'a [Token]), ParseFault>
     ensures { Gives (group_at 65 (forms tokens.now)) result }
 {
     match tokens {
@@ -343,20 +362,24 @@ fn group(alloc: Global, tokens: &[Token]) -> Result<(Op, &[Token]), ParseFault>
             let (using, rest) = using_text(alloc, rest)?;
             Ok((Op::GroupAll { from, using }, after_parallel(rest)))
         }
-        _ => groups(alloc, tokens),
+        _ => groups(alloc, limits, tokens),
     }
 }
 
 // A JOIN, behind its word.
 #[tactic(auto, unfolding(crate::specs::StatementReader::join_at))]
-fn join(alloc: Global, tokens: &[Token]) -> Result<(Op, &[Token]), ParseFault>
+fn join<'a>(
+    alloc: Global,
+    limits: &Limits,
+    tokens: &'a [Token],
+) -> Result<(Op, &'a [Token]), ParseFault>
     ensures { Gives (join_at 65 (forms tokens.now)) result }
 {
-    let (first, rest) = JoinInputRule { alloc }.read(tokens)?;
+    let (first, rest) = JoinInputRule { alloc, limits }.read(tokens)?;
     let mut inputs = one(alloc, first)?;
     let (side, rest) = side(rest);
     let rest = comma(rest)?;
-    let (others, rest) = listed(alloc, &JoinInputRule { alloc }, rest)?;
+    let (others, rest) = listed(alloc, &JoinInputRule { alloc, limits }, rest)?;
     inputs.extend(others)?;
     let (using, rest) = using_text(alloc, rest)?;
     Ok((
@@ -448,7 +471,11 @@ fn limit(alloc: Global, tokens: &[Token]) -> Result<(Op, &[Token]), ParseFault>
 
 /// What a relation is made by.
 #[tactic(auto, unfolding(crate::specs::StatementReader::op_at))]
-pub fn operator(alloc: Global, tokens: &[Token]) -> Result<(Op, &[Token]), ParseFault>
+pub fn operator<'a>(
+    alloc: Global,
+    limits: &Limits,
+    tokens: &'a [Token],
+) -> Result<(Op, &'a [Token]), ParseFault>
     ensures { Gives (op_at 65 (forms tokens.now)) result }
 {
     match tokens {
@@ -458,22 +485,27 @@ pub fn operator(alloc: Global, tokens: &[Token]) -> Result<(Op, &[Token]), Parse
                 ..
             },
             rest @ ..,
-        ] => operator_of(alloc, *word, rest),
+        ] => operator_of(alloc, limits, *word, rest),
         _ => Err(ParseFault::Off),
     }
 }
 
 // The operator that begins with the word, behind it.
 #[tactic(auto, unfolding(crate::specs::StatementReader::op_at))]
-fn operator_of(alloc: Global, word: Keyword, tokens: &[Token]) -> Result<(Op, &[Token]), ParseFault>
+fn operator_of<'a>(
+    alloc: Global,
+    limits: &Limits,
+    word: Keyword,
+    tokens: &'a [Token],
+) -> Result<(Op, &'a [Token]), ParseFault>
     ensures { Gives (op_at 65 (f.Keyword word ∷ forms tokens.now)) result }
 {
     match word {
         Keyword::Load => load(alloc, tokens),
-        Keyword::Filter => filter(alloc, tokens),
-        Keyword::Foreach => foreach(alloc, tokens),
-        Keyword::Group | Keyword::Cogroup => group(alloc, tokens),
-        Keyword::Join => join(alloc, tokens),
+        Keyword::Filter => filter(alloc, limits, tokens),
+        Keyword::Foreach => foreach(alloc, limits, tokens),
+        Keyword::Group | Keyword::Cogroup => group(alloc, limits, tokens),
+        Keyword::Join => join(alloc, limits, tokens),
         Keyword::Union => union(alloc, tokens),
         Keyword::Distinct => distinct(alloc, tokens),
         Keyword::Order => order(alloc, tokens),

@@ -11,7 +11,7 @@ ghost use Rattle.pig_parser.specs.Statements.{IsStatement};
 ghost use Rattle.pig_parser.specs.Parsing.{AreTrees, IsFirstOff, IsSyntaxFault, IsShallow, GivesTree};
 
 use crate::statements::statement;
-use pig_exprs::ParseFault;
+use pig_exprs::{Limits, ParseFault};
 use pig_syntax::{
     Piece, Pieces, Stmt, Stmts, Symbol, Token, TokenForm, Tokens, statements_lie_within,
 };
@@ -45,7 +45,9 @@ impl From<AllocError> for SyntaxFault {
 ///
 /// Where a statement is off the grammar, `Syntax` has the number of the first such, counted from 1. The
 /// tokens behind the last `;` are off the grammar too, whatever they are. The brackets of each statement
-/// may nest at most 64 deep, which [`depth`](pig_syntax::depth) tells.
+/// may nest at most 64 deep, which [`depth`](pig_syntax::depth) tells. An expression in which more than
+/// [`MOST_STEPS`](pig_exprs::MOST_STEPS) steps nest without a bracket, and operands of IN and CASE that are
+/// copied more than [`MOST_COPIED`](pig_exprs::MOST_COPIED) lets be, are want of memory.
 ///
 /// Where the names and texts among the tokens hold no LF, as those of [`lex`](pig_syntax::lex) do, each tree
 /// is as the grammar gives it (`specs/Formed` of pig_syntax).
@@ -61,9 +63,10 @@ pub fn parse(alloc: Global, tokens: &Tokens, pieces: &Pieces) -> Result<Stmts, S
 {
     statements_lie_within();
     let tokens = tokens.as_slice();
+    let limits = Limits::new();
     let mut trees = Seq::new(alloc);
     for (index, piece) in pieces.as_slice().iter().enumerate() {
-        match tree(alloc, tokens, piece) {
+        match tree(alloc, &limits, tokens, piece) {
             Ok(tree) => trees.push(tree)?,
             Err(ParseFault::Off) => return Err(off(index)),
             Err(ParseFault::OutOfMemory) => return Err(SyntaxFault::OutOfMemory),
@@ -83,7 +86,7 @@ fn off(index: usize) -> SyntaxFault
 }
 
 // The tree of a statement.
-fn tree(alloc: Global, tokens: &[Token], piece: &Piece) -> Result<Stmt, ParseFault>
+fn tree(alloc: Global, limits: &Limits, tokens: &[Token], piece: &Piece) -> Result<Stmt, ParseFault>
     requires within { IsWithin tokens.now piece.now }
     requires shallow { IsShallow tokens.now piece.now }
     ensures { GivesTree tokens.now piece.now result }
@@ -91,7 +94,7 @@ fn tree(alloc: Global, tokens: &[Token], piece: &Piece) -> Result<Stmt, ParseFau
     if !is_ended(tokens, piece) {
         return Err(ParseFault::Off);
     }
-    statement(alloc, &tokens[piece.from..piece.to])
+    statement(alloc, limits, &tokens[piece.from..piece.to])
 }
 
 // Whether a `;` stands behind the statement.

@@ -5,7 +5,9 @@ ghost use Rattle.pig_exprs.specs.Reader.{forms, Gives, GivesBeside, GivesRest};
 ghost use Rattle.pig_exprs.specs.ExprReader.{expr_at};
 ghost use Rattle.pig_parser.specs.StatementReader.{GivesFound, comma, semicolon, as_word, by_word, several, key_list_at, keys_at, dir_at, order_field_at, order_keys_at, text_at, ident_at, func_at, using_func_at, using_text_at, after_parallel, count_at};
 
-use pig_exprs::{ParseFault, Rule, close_paren, closed, expression, field_ref, listed, one};
+use pig_exprs::{
+    Limits, ParseFault, Rule, close_paren, closed, expression, field_ref, listed, one,
+};
 use pig_syntax::{
     Expr, Exprs, Func, Keyword, OrderField, OrderKeys, Symbol, Texts, Token, TokenForm,
 };
@@ -93,11 +95,12 @@ pub fn several<T: Drop>(members: Seq<T>) -> Result<Seq<T>, ParseFault>
 
 /// Expressions as members of a list.
 #[derive(Drop)]
-pub struct ExpressionRule {
+pub struct ExpressionRule<'l> {
     pub alloc: Global,
+    pub limits: &'l Limits,
 }
 
-impl Rule for ExpressionRule {
+impl Rule for ExpressionRule<'_> {
     type Tree = Expr;
 
     ghost ready = { λ _. Unit {0} };
@@ -105,13 +108,17 @@ impl Rule for ExpressionRule {
     ghost finds = { λ _. expr_at 65 65 };
 
     fn read<'a>(&self, tokens: &'a [Token]) -> Result<(Expr, &'a [Token]), ParseFault> {
-        expression(self.alloc, tokens)
+        expression(self.alloc, self.limits, tokens)
     }
 }
 
 // Two keys or more in parentheses.
 #[tactic(auto, unfolding(crate::specs::StatementReader::key_list_at))]
-fn key_list(alloc: Global, tokens: &[Token]) -> Result<(Exprs, &[Token]), ParseFault>
+fn key_list<'a>(
+    alloc: Global,
+    limits: &Limits,
+    tokens: &'a [Token],
+) -> Result<(Exprs, &'a [Token]), ParseFault>
     ensures { Gives (key_list_at 65 (forms tokens.now)) result }
 {
     match tokens {
@@ -122,7 +129,7 @@ fn key_list(alloc: Global, tokens: &[Token]) -> Result<(Exprs, &[Token]), ParseF
             },
             rest @ ..,
         ] => {
-            let (keys, rest) = listed(alloc, &ExpressionRule { alloc }, rest)?;
+            let (keys, rest) = listed(alloc, &ExpressionRule { alloc, limits }, rest)?;
             let keys = several(keys)?;
             let (keys, rest) = closed(keys, rest)?;
             Ok((keys, rest))
@@ -134,15 +141,23 @@ fn key_list(alloc: Global, tokens: &[Token]) -> Result<(Exprs, &[Token]), ParseF
 /// Keys: one expression, or several in parentheses. Parentheses may also be those of the one expression,
 /// so it is tried first.
 #[tactic(auto, unfolding(crate::specs::StatementReader::keys_at))]
-pub fn keys(alloc: Global, tokens: &[Token]) -> Result<(Exprs, &[Token]), ParseFault>
+pub fn keys<'a>(
+    alloc: Global,
+    limits: &Limits,
+    tokens: &'a [Token],
+) -> Result<(Exprs, &'a [Token]), ParseFault>
     ensures { Gives (keys_at 65 (forms tokens.now)) result }
 {
-    match expression(alloc, tokens) {
+    let copied = limits.copied();
+    match expression(alloc, limits, tokens) {
         Ok((key, rest)) => {
             let keys = one(alloc, key)?;
             Ok((keys, rest))
         }
-        Err(ParseFault::Off) => key_list(alloc, tokens),
+        Err(ParseFault::Off) => {
+            limits.forget_copies(copied);
+            key_list(alloc, limits, tokens)
+        }
         Err(ParseFault::OutOfMemory) => Err(ParseFault::OutOfMemory),
     }
 }

@@ -2,11 +2,11 @@ ghost use Rattle.std.specs.Prelude.{◌≡◌, [], ◌∷◌, Some, length, map}
 ghost use Rattle.pig_exprs.specs.Grammar.{Forms};
 ghost use Rattle.pig_parser.specs.Statements.{is_unsupported_word};
 ghost use Rattle.pig_exprs.specs.Reader.{forms, Gives};
-ghost use Rattle.pig_parser.specs.StatementReader.{GivesFound, branch_with, branch_at, branch_turn, branches_at, otherwise_at, split_at, store_at, is_unsupported, assign_at, front_at, ended, statement_at};
+ghost use Rattle.pig_parser.specs.StatementReader.{GivesFound, branch_with, branch_at, branch_turn, branches_at, otherwise_at, split_at, store_at, message_at, assert_at, is_unsupported, assign_at, front_at, ended, statement_at};
 
 use crate::operators::operator;
 use crate::parts::using_func;
-use pig_exprs::{ParseFault, Turning, expression, one, repeat};
+use pig_exprs::{Limits, ParseFault, Turning, expression, one, repeat};
 use pig_syntax::{Branch, Branches, Keyword, Stmt, Symbol, Token, TokenForm};
 use pig_value::Text;
 use std::alloc::Global;
@@ -15,19 +15,24 @@ use std::alloc::Global;
 #[tactic(auto, unfolding(crate::specs::StatementReader::branch_with))]
 fn branch_with<'a>(
     alloc: Global,
+    limits: &Limits,
     name: &Text,
     tokens: &'a [Token],
 ) -> Result<(Branch, &'a [Token]), ParseFault>
     ensures { Gives (branch_with 65 name.now (forms tokens.now)) result }
 {
     let alias = name.copy(alloc)?;
-    let (cond, rest) = expression(alloc, tokens)?;
+    let (cond, rest) = expression(alloc, limits, tokens)?;
     Ok((Branch { alias, cond }, rest))
 }
 
 // A branch of a SPLIT.
 #[tactic(auto, unfolding(crate::specs::StatementReader::branch_at))]
-fn branch(alloc: Global, tokens: &[Token]) -> Result<(Branch, &[Token]), ParseFault>
+fn branch<'a>(
+    alloc: Global,
+    limits: &Limits,
+    tokens: &'a [Token],
+) -> Result<(Branch, &'a [Token]), ParseFault>
     ensures { Gives (branch_at 65 (forms tokens.now)) result }
 {
     match tokens {
@@ -41,18 +46,19 @@ fn branch(alloc: Global, tokens: &[Token]) -> Result<(Branch, &[Token]), ParseFa
                 ..
             },
             rest @ ..,
-        ] => branch_with(alloc, name, rest),
+        ] => branch_with(alloc, limits, name, rest),
         _ => Err(ParseFault::Off),
     }
 }
 
 // The branches of a SPLIT behind the first.
 #[derive(Drop)]
-struct BranchTurns {
+struct BranchTurns<'l> {
     alloc: Global,
+    limits: &'l Limits,
 }
 
-impl Turning for BranchTurns {
+impl Turning for BranchTurns<'_> {
     type Tree = Branch;
 
     ghost ready = { λ _. Unit {0} };
@@ -77,7 +83,7 @@ impl Turning for BranchTurns {
                 },
                 rest @ ..,
             ] => {
-                let (branch, rest) = branch_with(self.alloc, name, rest)?;
+                let (branch, rest) = branch_with(self.alloc, self.limits, name, rest)?;
                 Ok(Some((branch, rest)))
             }
             _ => Ok(None),
@@ -87,12 +93,16 @@ impl Turning for BranchTurns {
 
 // The branches of a SPLIT.
 #[tactic(auto, unfolding(crate::specs::StatementReader::branches_at))]
-fn branches(alloc: Global, tokens: &[Token]) -> Result<(Branches, &[Token]), ParseFault>
+fn branches<'a>(
+    alloc: Global,
+    limits: &Limits,
+    tokens: &'a [Token],
+) -> Result<(Branches, &'a [Token]), ParseFault>
     ensures { Gives (branches_at 65 (forms tokens.now)) result }
 {
-    let (first, rest) = branch(alloc, tokens)?;
+    let (first, rest) = branch(alloc, limits, tokens)?;
     let branches = one(alloc, first)?;
-    repeat(&BranchTurns { alloc }, branches, rest)
+    repeat(&BranchTurns { alloc, limits }, branches, rest)
 }
 
 // The relation of the tuples that no branch takes, where there is one.
@@ -125,7 +135,11 @@ fn otherwise(alloc: Global, tokens: &[Token]) -> Result<(Option<Text>, &[Token])
 
 // A SPLIT, behind its word.
 #[tactic(auto, unfolding(crate::specs::StatementReader::split_at))]
-fn split(alloc: Global, tokens: &[Token]) -> Result<(Stmt, &[Token]), ParseFault>
+fn split<'a>(
+    alloc: Global,
+    limits: &Limits,
+    tokens: &'a [Token],
+) -> Result<(Stmt, &'a [Token]), ParseFault>
     ensures { Gives (split_at 65 (forms tokens.now)) result }
 {
     match tokens {
@@ -141,7 +155,7 @@ fn split(alloc: Global, tokens: &[Token]) -> Result<(Stmt, &[Token]), ParseFault
             rest @ ..,
         ] => {
             let from = name.copy(alloc)?;
-            let (branches, rest) = branches(alloc, rest)?;
+            let (branches, rest) = branches(alloc, limits, rest)?;
             let (otherwise, rest) = otherwise(alloc, rest)?;
             Ok((
                 Stmt::Split {
@@ -181,6 +195,67 @@ fn store(alloc: Global, tokens: &[Token]) -> Result<(Stmt, &[Token]), ParseFault
             let path = path.copy(alloc)?;
             let (func, rest) = using_func(alloc, rest)?;
             Ok((Stmt::Store { from, path, func }, rest))
+        }
+        _ => Err(ParseFault::Off),
+    }
+}
+
+// The message behind a condition, where one stands.
+#[tactic(auto, unfolding(crate::specs::StatementReader::message_at))]
+fn message(alloc: Global, tokens: &[Token]) -> Result<(Option<Text>, &[Token]), ParseFault>
+    ensures { Gives (message_at (forms tokens.now)) result }
+{
+    match tokens {
+        [
+            Token {
+                form: TokenForm::Symbol(Symbol::Comma),
+                ..
+            },
+            Token {
+                form: TokenForm::Text(content),
+                ..
+            },
+            rest @ ..,
+        ] => {
+            let content = content.copy(alloc)?;
+            Ok((Some(content), rest))
+        }
+        _ => Ok((None, tokens)),
+    }
+}
+
+// An ASSERT, behind its word.
+#[tactic(auto, unfolding(crate::specs::StatementReader::assert_at))]
+fn assertion<'a>(
+    alloc: Global,
+    limits: &Limits,
+    tokens: &'a [Token],
+) -> Result<(Stmt, &'a [Token]), ParseFault>
+    ensures { Gives (assert_at 65 (forms tokens.now)) result }
+{
+    match tokens {
+        [
+            Token {
+                form: TokenForm::Ident(name),
+                ..
+            },
+            Token {
+                form: TokenForm::Keyword(Keyword::By),
+                ..
+            },
+            rest @ ..,
+        ] => {
+            let from = name.copy(alloc)?;
+            let (cond, rest) = expression(alloc, limits, rest)?;
+            let (message, rest) = message(alloc, rest)?;
+            Ok((
+                Stmt::Assert {
+                    from,
+                    cond,
+                    message,
+                },
+                rest,
+            ))
         }
         _ => Err(ParseFault::Off),
     }
@@ -228,6 +303,7 @@ fn is_unsupported(tokens: &[Token]) -> bool
 #[tactic(auto, unfolding(crate::specs::StatementReader::assign_at))]
 fn assign<'a>(
     alloc: Global,
+    limits: &Limits,
     name: &Text,
     tokens: &'a [Token],
 ) -> Result<(Stmt, &'a [Token]), ParseFault>
@@ -237,13 +313,17 @@ fn assign<'a>(
         return Ok((Stmt::Unsupported, &[]));
     }
     let alias = name.copy(alloc)?;
-    let (op, rest) = operator(alloc, tokens)?;
+    let (op, rest) = operator(alloc, limits, tokens)?;
     Ok((Stmt::Assign { alias, op }, rest))
 }
 
 // A statement that isn't empty.
 #[tactic(auto, unfolding(crate::specs::StatementReader::front_at))]
-fn front(alloc: Global, tokens: &[Token]) -> Result<(Stmt, &[Token]), ParseFault>
+fn front<'a>(
+    alloc: Global,
+    limits: &Limits,
+    tokens: &'a [Token],
+) -> Result<(Stmt, &'a [Token]), ParseFault>
     ensures { Gives (front_at 65 (forms tokens.now)) result }
 {
     match tokens {
@@ -257,14 +337,14 @@ fn front(alloc: Global, tokens: &[Token]) -> Result<(Stmt, &[Token]), ParseFault
                 ..
             },
             rest @ ..,
-        ] => assign(alloc, name, rest),
+        ] => assign(alloc, limits, name, rest),
         [
             Token {
                 form: TokenForm::Keyword(Keyword::Split),
                 ..
             },
             rest @ ..,
-        ] => split(alloc, rest),
+        ] => split(alloc, limits, rest),
         [
             Token {
                 form: TokenForm::Keyword(Keyword::Store),
@@ -272,6 +352,13 @@ fn front(alloc: Global, tokens: &[Token]) -> Result<(Stmt, &[Token]), ParseFault
             },
             rest @ ..,
         ] => store(alloc, rest),
+        [
+            Token {
+                form: TokenForm::Keyword(Keyword::Assert),
+                ..
+            },
+            rest @ ..,
+        ] => assertion(alloc, limits, rest),
         _ => {
             if is_unsupported(tokens) {
                 return Ok((Stmt::Unsupported, &[]));
@@ -297,13 +384,13 @@ fn ended(tree: Stmt, rest: &[Token]) -> Result<Stmt, ParseFault>
 
 /// The tree of a statement's tokens.
 #[tactic(auto, unfolding(crate::specs::StatementReader::statement_at))]
-pub fn statement(alloc: Global, tokens: &[Token]) -> Result<Stmt, ParseFault>
+pub fn statement(alloc: Global, limits: &Limits, tokens: &[Token]) -> Result<Stmt, ParseFault>
     ensures { GivesFound (statement_at 65 (forms tokens.now)) result }
 {
     match tokens {
         [] => Ok(Stmt::Empty),
         _ => {
-            let (tree, rest) = front(alloc, tokens)?;
+            let (tree, rest) = front(alloc, limits, tokens)?;
             ended(tree, rest)
         }
     }

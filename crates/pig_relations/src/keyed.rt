@@ -17,7 +17,7 @@ use pig_plan::{KeyedInput, KeyedInputs};
 use pig_schema::Field;
 use pig_syntax::{Exprs, GroupInput, JoinInput};
 use pig_typed::{TExpr, TExprs};
-use pig_typing::{CheckKind, Scope, TypeFault, TypedExpr, TypedExprs, type_keys};
+use pig_typing::{CheckKind, Locals, Scope, TypeFault, TypedExpr, TypedExprs, type_keys};
 use pig_value::{Kind, Kinds, Seq, Text};
 use std::alloc::{AllocError, Global};
 
@@ -128,7 +128,7 @@ fn type_input<'a>(
     ensures { Tells input_tree (input_of (aliases_of relations.now) (form_of form.entry)) result }
 {
     let relation = relations.find(form.from)?;
-    let locals = Seq::new(alloc);
+    let locals = Locals::new(alloc);
     let scope = Scope {
         columns: &relation.columns,
         locals: &locals,

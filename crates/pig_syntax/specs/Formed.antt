@@ -186,11 +186,11 @@ OpFormed (operator.Order name o) = HasNoLf name × OrderKeysFormed o
 OpFormed (operator.Limit name n) = HasNoLf name
 OpFormed _ = ⊥
 
--- a statement's tree as the grammar gives it; no rule gives ASSERT
+-- a statement's tree as the grammar gives it
 abbrev pub StmtFormed : Stmt → Type 0
 StmtFormed stmt.Empty = Unit {0}
 StmtFormed (stmt.Assign alias o) = HasNoLf alias × OpFormed o
 StmtFormed (stmt.Split name branches otherwise) = HasNoLf name × AtLeast 1 BranchFormed branches × IfSome otherwise HasNoLf
 StmtFormed (stmt.Store name path func) = HasNoLf name × HasNoLf path × IfSome func FuncFormed
+StmtFormed (stmt.Assert name a message) = HasNoLf name × IsExprFormed a × IfSome message HasNoLf
 StmtFormed stmt.Unsupported = Unit {0}
-StmtFormed _ = ⊥

@@ -1,6 +1,7 @@
 -- Lists that the code keeps, as the definitions see them.
-use Rattle.std.proofs.Common.{◌≡◌, ◌∙◌, ◌+◌, ◌-◌, ◌<◌, ℕ, suc, List, [], ◌∷◌, ◌++◌, map, length, refl, sym, ap, subst, arith}
+use Rattle.std.proofs.Common.{◌≡◌, ◌∙◌, ◌+◌, ◌-◌, ◌<◌, Bool, true, false, ℕ, suc, List, [], ◌∷◌, ◌++◌, map, length, refl, sym, ap, subst, arith}
 use Rattle.std.specs.Prelude.{Option, Some, None, slice_get}
+use Rattle.std.specs.Bool.{Decides}
 use Rattle.std.specs.Option.{option_and_then, option_map}
 use Rattle.std.proofs.lemmas.List.{append_assoc, length-append, length-map}
 use Rattle.pig_value.specs.Trees.{KindTree, kind_tree}
@@ -17,7 +18,7 @@ use Rattle.std.specs.declared.result.Result.TheVariants.{Ok}
 use Rattle.pig_typing.specs.Results.{Checked}
 use Rattle.pig_typing.specs.declared.calls.Casting.{Casting}
 use Rattle.pig_typing.specs.Calls.{cast_by, cast_maybe, casting, fields_from, given, kind_after, sized}
-use Rattle.pig_typing.specs.Items.{plain_item}
+use Rattle.pig_typing.specs.Items.{NameForm, as_many, plain_item}
 use Rattle.pig_typing.specs.Parts.{Typing, typing, typed_of, typed_column, kind_in}
 use Rattle.pig_typing.specs.Reader.{call_typing}
 use Rattle.pig_typing.specs.Typing.{call_kind, called, cast_args, cast_kinds, kinds_as_given}
@@ -44,6 +45,15 @@ inner_is f = sym (ap tree_inner (fold_out-Field FieldTree field_step f))
 pub inner_back : (columns : List FieldTree) → inner_list (inner_of columns) ≡ columns
 inner_back [] = refl
 inner_back (c ∷ columns) = ap (λ cs. c ∷ cs) (inner_back columns)
+
+-- two lists of one length are as many names as fields
+pub many_is : {A B : Type 0} (f : A → FieldTree) (g : B → NameForm) (cs : List A) (fs : List B) (b : Bool) → Decides b (length cs ≡ length fs) → b ≡ as_many (map f cs) (map g fs)
+many_is f g [] [] b d = d.1 refl
+many_is f g [] (x ∷ fs) true d = let e = d.0 refl in absurd (omega (arith, e))
+many_is f g [] (x ∷ fs) false d = refl
+many_is f g (c ∷ cs) [] true d = let e = d.0 refl in absurd (omega (arith, e))
+many_is f g (c ∷ cs) [] false d = refl
+many_is f g (c ∷ cs) (x ∷ fs) b d = many_is f g cs fs b (λ h. let e = d.0 h in omega (arith, e), λ e. d.1 (ap suc e))
 
 pub later_none : {A : Type 0} (a : Option A) → later_or a None ≡ a
 later_none (Some x) = refl

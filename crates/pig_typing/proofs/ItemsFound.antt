@@ -1,5 +1,5 @@
 -- What holds of conditions, keys and items is found, so there is one typing of them, or a refusal, and never both.
-use Rattle.std.proofs.Common.{◌≡◌, ◌∙◌, List, refl, sym}
+use Rattle.std.proofs.Common.{◌≡◌, ◌∙◌, List, refl, sym, true}
 use Rattle.std.specs.Prelude.{Option}
 use Rattle.std.specs.declared.result.Result.TheVariants.{Ok}
 use Rattle.pig_schema.specs.FieldTrees.{FieldTree, tree_kind}
@@ -10,7 +10,7 @@ use Rattle.pig_typed.specs.Typed.{Typed}
 use Rattle.pig_typing.specs.declared.faults.CheckKind.{CheckKind}
 use Rattle.pig_typing.specs.Columns.{Place}
 use Rattle.pig_typing.specs.Conditions.{Conditions, ConditionsNot, a_condition, untyped, of_no_truth, condition_on, Keys, KeysNot, no_keys, more_keys, untyped_key, bad_key, later_key, as_key, key_on, keys_on}
-use Rattle.pig_typing.specs.Items.{Generated, NameForm, Named, NamedNot, named_bare, named_cast, of_float, of_size, of_no_cast, Renamed, RenamedNot, renamed_bare, renamed_typed, of_float_field, of_field_size, of_other_field, AllRenamed, AllRenamedNot, none_renamed, one_renamed, too_few_names, too_many_names, here_renamed_not, later_renamed_not, Plain, PlainNot, plain_bare, plain_named, not_one_name, not_named, Flat, FlatNot, flat_bare, flat_named, of_a_map, not_renamed, Generates, GeneratesNot, generates_all, generates_value, generates_flat, untyped_item, no_plain, no_flat, AllGenerate, AllGenerateNot, none_generate, more_generate, here_not, later_not, cast_named, named_of, same_named, renamed_of, all_renamed, plain_of, names_for, flat_of, item_of, items_of}
+use Rattle.pig_typing.specs.Items.{Generated, NameForm, Named, NamedNot, named_bare, named_cast, of_float, of_size, of_no_cast, Renamed, RenamedNot, renamed_bare, renamed_typed, of_float_field, of_field_size, of_other_field, AllRenamed, AllRenamedNot, OneRenamedNot, as_many, none_renamed, one_renamed, another_number, one_renamed_not, here_renamed_not, later_renamed_not, Plain, PlainNot, plain_bare, plain_named, not_one_name, not_named, Flat, FlatNot, flat_bare, flat_named, of_a_map, not_renamed, Generates, GeneratesNot, generates_all, generates_value, generates_flat, untyped_item, no_plain, no_flat, AllGenerate, AllGenerateNot, none_generate, more_generate, here_not, later_not, cast_named, named_of, same_named, renamed_of, each_renamed, all_renamed, plain_of, names_for, flat_of, item_of, items_of}
 use Rattle.pig_typing.specs.Limits.{limited}
 use Rattle.pig_typing.specs.Parts.{Typing}
 use Rattle.pig_typing.specs.Reader.{condition_of, type_of_cast}
@@ -57,10 +57,18 @@ unfolding renamed_of type_of_cast same_named
 renamed_found renamed_bare = refl
 renamed_found (renamed_typed e within t) = rw (e, within, t) refl
 
+each_renamed_found : {cs ds : List FieldTree} {fs : List NameForm} → AllRenamed cs fs ds → each_renamed cs fs ≡ Ok ds
+unfolding each_renamed
+each_renamed_found none_renamed = refl
+each_renamed_found (one_renamed h g) = rw (renamed_found h, each_renamed_found g) refl
+
+as_many_found : {cs ds : List FieldTree} {fs : List NameForm} → AllRenamed cs fs ds → as_many cs fs ≡ true
+as_many_found none_renamed = refl
+as_many_found (one_renamed h g) = as_many_found g
+
 all_renamed_found : {cs ds : List FieldTree} {fs : List NameForm} → AllRenamed cs fs ds → all_renamed cs fs ≡ Ok ds
 unfolding all_renamed
-all_renamed_found none_renamed = refl
-all_renamed_found (one_renamed h g) = rw (renamed_found h, all_renamed_found g) refl
+all_renamed_found h = rw (as_many_found h) (each_renamed_found h)
 
 plain_found : {p : Typing} {names : Option AsNames} {g : Generated} → Plain p names g → plain_of p names ≡ Ok g
 unfolding plain_of
@@ -89,12 +97,15 @@ renamed_fails (of_float_field e) = rw (e) failed
 renamed_fails (of_field_size e past) = rw (e, past) failed
 renamed_fails (of_other_field {d = d} e t) = rw (e) (kept_fails d _ (limited (tree_kind d)) (rw (t) failed))
 
+each_renamed_fails : {cs : List FieldTree} {fs : List NameForm} {r : CheckKind} → OneRenamedNot cs fs r → Fails (each_renamed cs fs)
+unfolding each_renamed
+each_renamed_fails (here_renamed_not h) = fails_first _ (renamed_fails h)
+each_renamed_fails (later_renamed_not {c = c} {f = f} h) = fails_next _ (renamed_of c f) (λ d. fails_first _ (each_renamed_fails h))
+
 all_renamed_fails : {cs : List FieldTree} {fs : List NameForm} {r : CheckKind} → AllRenamedNot cs fs r → Fails (all_renamed cs fs)
 unfolding all_renamed
-all_renamed_fails too_few_names = failed
-all_renamed_fails too_many_names = failed
-all_renamed_fails (here_renamed_not h) = fails_first _ (renamed_fails h)
-all_renamed_fails (later_renamed_not {c = c} {f = f} h) = fails_next _ (renamed_of c f) (λ d. fails_first _ (all_renamed_fails h))
+all_renamed_fails (another_number e) = rw (e) failed
+all_renamed_fails (one_renamed_not e h) = rw (e) (each_renamed_fails h)
 
 plain_fails : {p : Typing} {names : Option AsNames} {r : CheckKind} → PlainNot p names r → Fails (plain_of p names)
 unfolding plain_of

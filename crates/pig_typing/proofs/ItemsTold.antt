@@ -15,7 +15,7 @@ use Rattle.pig_typing.specs.declared.faults.CheckKind.{CheckKind}
 use Rattle.pig_typing.specs.declared.faults.CheckKind.TheVariants as kind
 use Rattle.pig_typing.specs.Columns.{Place}
 use Rattle.pig_typing.specs.Conditions.{Conditions, ConditionsNot, a_condition, untyped, of_no_truth, condition_on, Keys, KeysNot, no_keys, more_keys, untyped_key, bad_key, later_key, as_key, key_on, keys_on}
-use Rattle.pig_typing.specs.Items.{Generated, NameForm, one_column, name_forms, flattened_columns, Named, NamedNot, named_bare, named_cast, of_float, of_size, of_no_cast, Renamed, RenamedNot, renamed_bare, renamed_typed, of_float_field, of_field_size, of_other_field, AllRenamed, AllRenamedNot, none_renamed, one_renamed, too_few_names, too_many_names, here_renamed_not, later_renamed_not, only_name, Plain, PlainNot, plain_bare, plain_named, not_one_name, not_named, Flat, FlatNot, flat_bare, flat_named, of_a_map, not_renamed, Generates, GeneratesNot, generates_all, generates_value, generates_flat, untyped_item, no_plain, no_flat, AllGenerate, AllGenerateNot, none_generate, more_generate, here_not, later_not, cast_named, named_of, same_named, renamed_of, all_renamed, plain_of, names_for, flat_of, item_value, item_of, items_of}
+use Rattle.pig_typing.specs.Items.{Generated, NameForm, one_column, name_forms, flattened_columns, Named, NamedNot, named_bare, named_cast, of_float, of_size, of_no_cast, Renamed, RenamedNot, renamed_bare, renamed_typed, of_float_field, of_field_size, of_other_field, AllRenamed, AllRenamedNot, OneRenamedNot, as_many, none_renamed, one_renamed, another_number, one_renamed_not, here_renamed_not, later_renamed_not, only_name, Plain, PlainNot, plain_bare, plain_named, not_one_name, not_named, Flat, FlatNot, flat_bare, flat_named, of_a_map, not_renamed, Generates, GeneratesNot, generates_all, generates_value, generates_flat, untyped_item, no_plain, no_flat, AllGenerate, AllGenerateNot, none_generate, more_generate, here_not, later_not, cast_named, named_of, same_named, renamed_of, each_renamed, all_renamed, plain_of, names_for, flat_of, item_value, item_of, items_of}
 use Rattle.pig_typing.specs.Joins.{condition}
 use Rattle.pig_typing.specs.Limits.{limited}
 use Rattle.pig_typing.specs.Parts.{Typing, typed_of, typed_column, kind_in}
@@ -139,15 +139,27 @@ abbrev pub AreRenamed : List FieldTree → List NameForm → Checked (List Field
 AreRenamed cs fs (Ok ds) = AllRenamed cs fs ds
 AreRenamed cs fs (Err r) = AllRenamedNot cs fs r
 
+abbrev EachRenamed : List FieldTree → List NameForm → Checked (List FieldTree) → Type 0
+EachRenamed cs fs (Ok ds) = AllRenamed cs fs ds
+EachRenamed cs fs (Err r) = OneRenamedNot cs fs r
+
+each_renamed_told : (cs : List FieldTree) (fs : List NameForm) → as_many cs fs ≡ true → EachRenamed cs fs (each_renamed cs fs)
+unfolding each_renamed
+each_renamed_told [] [] e = none_renamed
+each_renamed_told [] (f ∷ fs) e = absurd (cc)
+each_renamed_told (c ∷ cs) [] e = absurd (cc)
+each_renamed_told (c ∷ cs) (f ∷ fs) e =
+    then_told (IsRenamed c f) (EachRenamed (c ∷ cs) (f ∷ fs)) _ (renamed_of c f) (renamed_told c f)
+    (λ d h. then_told (EachRenamed cs fs) (EachRenamed (c ∷ cs) (f ∷ fs)) _ (each_renamed cs fs) (each_renamed_told cs fs e) (λ ds g. one_renamed h g) (λ r g. later_renamed_not g))
+    (λ r h. here_renamed_not h)
+
 pub all_renamed_told : (cs : List FieldTree) (fs : List NameForm) → AreRenamed cs fs (all_renamed cs fs)
 unfolding all_renamed
-all_renamed_told [] [] = none_renamed
-all_renamed_told [] (f ∷ fs) = too_many_names
-all_renamed_told (c ∷ cs) [] = too_few_names
-all_renamed_told (c ∷ cs) (f ∷ fs) =
-    then_told (IsRenamed c f) (AreRenamed (c ∷ cs) (f ∷ fs)) _ (renamed_of c f) (renamed_told c f)
-    (λ d h. then_told (AreRenamed cs fs) (AreRenamed (c ∷ cs) (f ∷ fs)) _ (all_renamed cs fs) (all_renamed_told cs fs) (λ ds g. one_renamed h g) (λ r g. later_renamed_not g))
-    (λ r h. here_renamed_not h)
+all_renamed_told cs fs = by (as_many cs fs) refl
+  where
+    by : (b : Bool) → as_many cs fs ≡ b → AreRenamed cs fs (if b then each_renamed cs fs else Err kind.SchemaMismatch)
+    by true e = passes (EachRenamed cs fs) (AreRenamed cs fs) (each_renamed cs fs) (each_renamed_told cs fs e) (λ ds h. h) (λ r h. one_renamed_not e h)
+    by false e = another_number e
 
 -- ---- an item
 

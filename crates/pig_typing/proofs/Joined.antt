@@ -9,9 +9,10 @@ use Rattle.pig_value.specs.declared.operators.ChainOp.{ChainOp}
 use Rattle.pig_value.specs.declared.operators.ChainOp.TheVariants as op
 use Rattle.pig_value.specs.declared.operators.Rel.{Rel}
 use Rattle.pig_value.proofs.KindLaws.{kind_itself, kind_same}
+use Rattle.pig_schema.specs.FieldTrees.{FieldTree, tree_inner, tree_kind, HasInner, IsColumn}
 use Rattle.pig_typed.specs.ExprKinds.{chain_kind, choose_kind, compare_kind, expr_kind, may_compare, number_kind, truth_kind}
 use Rattle.pig_typed.specs.Typed.{Typed}
-use Rattle.pig_typing.specs.Joins.{Join, join, alike, cast_if, chained, compared, condition, conditions, numbers}
+use Rattle.pig_typing.specs.Joins.{Join, join, alike, cast_if, chained, chosen, compared, condition, conditions, numbers}
 
 -- the kind of a side once it is cast, where it is
 abbrev pub side : Bool → KindTree → KindTree → KindTree
@@ -33,9 +34,10 @@ pub record Joined (k l : KindTree) (j : Join) : Type 0 where
   pub left : Castable j.left j.kind k
   pub right : Castable j.right j.kind l
 
--- and both of one kind then
+-- and both of one kind then, to which the second is not cast where the first is
 pub record Alike (k l : KindTree) (j : Join) : Type 0 where
   pub both : Joined k l j
+  pub second : j.left ≡ true → l ≡ j.kind
   pub left : side j.left j.kind k ≡ j.kind
   pub right : side j.right j.kind l ≡ j.kind
 
@@ -46,15 +48,15 @@ same_holds : (k l : KindTree) (j : Join) → (if kind_eq k l then Some (join k f
 same_holds k l j = by (kind_eq k l) refl
   where
     by : (b : Bool) → kind_eq k l ≡ b → (if b then Some (join k false false) else None) ≡ Some j → Alike k l j
-    by true t e = one_of (Alike k l) (join k false false) j e (record { both = record { left = as_is; right = as_is }; left = refl; right = sym (kind_same k l t) })
+    by true t e = one_of (Alike k l) (join k false false) j e (record { both = record { left = as_is; right = as_is }; second = λ h. absurd (cc); left = refl; right = sym (kind_same k l t) })
     by false t e = absurd (cc)
 
 pub alike_holds : (k l : KindTree) (j : Join) → alike k l ≡ Some j → Alike k l j
-alike_holds k_bytes k_bytes j e = one_of (Alike k_bytes k_bytes) _ j e (record { both = record { left = as_is; right = as_is }; left = refl; right = refl })
-alike_holds k_bytes l j e = one_of (Alike k_bytes l) _ j e (record { both = record { left = is_cast refl; right = as_is }; left = refl; right = refl })
-alike_holds k k_bytes j e = one_of (Alike k k_bytes) _ j e (record { both = record { left = as_is; right = is_cast refl }; left = refl; right = refl })
-alike_holds k_int k_long j e = one_of (Alike k_int k_long) _ j e (record { both = record { left = is_cast refl; right = as_is }; left = refl; right = refl })
-alike_holds k_long k_int j e = one_of (Alike k_long k_int) _ j e (record { both = record { left = as_is; right = is_cast refl }; left = refl; right = refl })
+alike_holds k_bytes k_bytes j e = one_of (Alike k_bytes k_bytes) _ j e (record { both = record { left = as_is; right = as_is }; second = λ h. refl; left = refl; right = refl })
+alike_holds k_bytes l j e = one_of (Alike k_bytes l) _ j e (record { both = record { left = is_cast refl; right = as_is }; second = λ h. refl; left = refl; right = refl })
+alike_holds k k_bytes j e = one_of (Alike k k_bytes) _ j e (record { both = record { left = as_is; right = is_cast refl }; second = λ h. absurd (cc); left = refl; right = refl })
+alike_holds k_int k_long j e = one_of (Alike k_int k_long) _ j e (record { both = record { left = is_cast refl; right = as_is }; second = λ h. refl; left = refl; right = refl })
+alike_holds k_long k_int j e = one_of (Alike k_long k_int) _ j e (record { both = record { left = as_is; right = is_cast refl }; second = λ h. absurd (cc); left = refl; right = refl })
 alike_holds k l j e = same_holds k l j e
 
 pub compared_alike : (r : Rel) (k l : KindTree) (j : Join) → compared r k l ≡ Some j → (alike k l ≡ Some j) × (may_compare r j.kind ≡ true)
@@ -88,6 +90,14 @@ condition_holds k_chars cast_so e = absurd (cc)
 condition_holds (k_tuple ks) cast_so e = absurd (cc)
 condition_holds (k_bag ks) cast_so e = absurd (cc)
 condition_holds (k_map k) cast_so e = absurd (cc)
+
+-- inside the column of a choice is what is of its kind
+pub chosen_is_column : (c d : FieldTree) (j : Join) → alike (tree_kind c) (tree_kind d) ≡ Some j → IsColumn c → IsColumn d → IsColumn (chosen j c d)
+chosen_is_column c d j e h g = let a = alike_holds (tree_kind c) (tree_kind d) j e in by j.left a.left a.second
+  where
+    by : (is_left : Bool) → side is_left j.kind (tree_kind c) ≡ j.kind → (is_left ≡ true → tree_kind d ≡ j.kind) → HasInner j.kind (tree_inner (if is_left then d else c))
+    by true first second = subst (λ k. HasInner k (tree_inner d)) (second refl) g
+    by false first second = subst (λ k. HasInner k (tree_inner c)) first h
 
 -- ---- chains
 

@@ -1,29 +1,31 @@
 -- What is typed has its kind, over the kinds of the columns and of the nested aliases.
 use Rattle.std.proofs.Common.{◌≡◌, ◌∙◌, ℕ, suc, ◌+◌, List, [], ◌∷◌, ◌++◌, map, length, refl, sym, ap, subst, Bool, true, false, inl, inr, arith}
-use Rattle.std.specs.Prelude.{◌⊎◌, ⊤, Option, Some, None, slice_get, if◌then◌else◌}
+use Rattle.std.specs.Prelude.{◌⊎◌, ◌==◌, ⊤, Option, Some, None, slice_get, if◌then◌else◌}
 use Rattle.std.specs.Option.{option_and_then, option_map}
 use Rattle.std.specs.Str.{bytes_eq}
 use Rattle.pig_value.specs.Casts.{may_cast}
-use Rattle.pig_value.specs.FunctionKinds.{function_kind}
-use Rattle.pig_value.specs.Trees.{KindTree, k_boolean, k_int, k_long, k_chars, k_bytes, k_tuple, k_bag, k_map, no_kinds, more_kinds, kinds_of, kinds_list, look_kind}
+use Rattle.std.specs.List.{list_all}
+use Rattle.pig_value.specs.FunctionKinds.{function_kind, tobag_kind}
+use Rattle.pig_value.specs.Kinds.{kind_eq}
+use Rattle.pig_value.specs.Trees.{KindTree, KindTrees, k_boolean, k_int, k_long, k_chars, k_bytes, k_tuple, k_bag, k_map, no_kinds, more_kinds, kinds_of, kinds_list, look_kind}
 use Rattle.pig_value.specs.declared.functions.Function.{Function}
 use Rattle.pig_value.specs.declared.functions.Function.TheVariants as f
 use Rattle.pig_value.specs.declared.operators.ChainOp.{ChainOp}
-use Rattle.pig_schema.specs.FieldTrees.{FieldTree, a_field, inner_of, inner_list, tree_name, tree_kind, HasInner, IsColumn}
+use Rattle.pig_schema.specs.FieldTrees.{FieldTree, FieldTrees, a_field, inner_of, inner_list, tree_name, tree_kind, tree_inner, AreInner, HasInner, IsColumn}
 use Rattle.pig_syntax.specs.ExprTrees.{ExprForm, LinkForms, ExprForms, type_form}
 use Rattle.pig_syntax.specs.declared.trees.PostStep.{PostStep}
 use Rattle.pig_typed.specs.ExprKinds.{args_kinds, chain_kind, expr_kind, links_kind, project_kind, picked_kinds}
 use Rattle.pig_typed.specs.Typed.{Typed, links_of, args_of}
 use Rattle.pig_typing.specs.declared.calls.Casting.{Casting}
 use Rattle.pig_typing.specs.declared.calls.Casting.TheVariants as c
-use Rattle.pig_typing.specs.Calls.{casting, cast_by, cast_maybe, kind_after, given}
+use Rattle.pig_typing.specs.Calls.{all_held, casting, cast_by, cast_maybe, kind_after, given, one_held, tuple_width}
 use Rattle.pig_typing.specs.Columns.{AreColumns, IsPlace, Place, locals_of, place_row, latest_from, later_or, named_here}
 use Rattle.pig_typing.specs.Joins.{Join, cast_if, chained}
 use Rattle.pig_typing.specs.Parts.{Typing, Picks, typed_of, typed_column, kind_in, pick_places, picked, projected, renamed, inner_columns, values_column, Steps, projects, looks, Walks, ends, goes}
 use Rattle.pig_typing.specs.Typing.{Types, Links, Args, Sofar, begun, after, chain_typing, call_kind, kinds_as_given, type_int, type_long, type_text, type_bool, type_null, type_local, type_named, type_numbered, type_chain, type_compare, type_is_null, type_not, type_minus, type_cast, type_post, type_call, type_choose, links_end, links_go, args_end, args_go}
 use Rattle.pig_typing.specs.Written.{of_fields}
 use Rattle.pig_typing.proofs.Inside.{all_inner, inner_all, inner_kinds, unnamed_field, written_field_is, meant_field, meant_kind, picked_fields, picked_kind}
-use Rattle.pig_typing.proofs.Joined.{side, cast_kind_of, compare_holds, choose_holds, condition_holds, Settled, Chained, chained_holds}
+use Rattle.pig_typing.proofs.Joined.{side, cast_kind_of, chosen_is_column, compare_holds, choose_holds, condition_holds, Settled, Chained, chained_holds}
 
 -- a typing has its kind, and inside what is of it
 pub record Holds (s : Place) (p : Typing) : Type 0 where
@@ -233,9 +235,45 @@ tokens_given : (kinds : List KindTree) (k : KindTree) → function_kind f.Tokeni
 tokens_given (k_chars ∷ []) k e = cc
 tokens_given kinds k e = absurd (cc)
 
+-- inside a bag of what a value is cast to, where it is, stands what is of its kind
+held_alone : (l : KindTree) (inner : FieldTrees) (more : List KindTree) (k : KindTree)
+    → HasInner l inner → (if list_all (kind_eq l) more then Some (k_bag (more_kinds l no_kinds)) else None) ≡ Some k → HasInner k (one_held k inner)
+held_alone l inner more k h = by (list_all (kind_eq l) more)
+  where
+    by : (b : Bool) → (if b then Some (k_bag (more_kinds l no_kinds)) else None) ≡ Some k → HasInner k (one_held k inner)
+    by true e = let is : k_bag (more_kinds l no_kinds) ≡ k = cc in subst (λ x. HasInner x (one_held x inner)) is (refl, h, refl)
+    by false e = absurd (cc)
+
+tuples_held : (ks : KindTrees) (inner : FieldTrees) (fits alike : Bool) (k : KindTree)
+    → AreInner ks inner → (if fits then (if alike then Some (k_bag ks) else None) else None) ≡ Some k → HasInner k inner
+tuples_held ks inner true true k h e = let is : k_bag ks ≡ k = cc in subst (λ x. HasInner x inner) is h
+tuples_held ks inner true false k h e = absurd (cc)
+tuples_held ks inner false alike k h e = absurd (cc)
+
+held : (width : Option ℕ) (l : KindTree) (inner : FieldTrees) (more : List KindTree) (k : KindTree)
+    → HasInner l inner → tobag_kind width (l ∷ more) ≡ Some k → HasInner k (all_held l inner k)
+held None k_boolean inner more k h e = held_alone k_boolean inner more k h e
+held None k_int inner more k h e = held_alone k_int inner more k h e
+held None k_long inner more k h e = held_alone k_long inner more k h e
+held None k_chars inner more k h e = held_alone k_chars inner more k h e
+held None k_bytes inner more k h e = held_alone k_bytes inner more k h e
+held None (k_tuple ks) inner more k h e = absurd (cc)
+held None (k_bag ks) inner more k h e = held_alone (k_bag ks) inner more k h e
+held None (k_map l) inner more k h e = held_alone (k_map l) inner more k h e
+held (Some width) (k_tuple ks) inner more k h e = tuples_held ks inner (length (kinds_list ks) == width) (list_all (kind_eq (k_tuple ks)) more) k h e
+held (Some width) l inner more k h e = absurd (cc)
+
+bag_held : (how : Casting) (width : Option ℕ) (l : KindTree) (inner : FieldTrees) (more : List KindTree) (k : KindTree)
+    → HasInner l inner → tobag_kind width (kind_after (cast_by how l) l ∷ more) ≡ Some k → HasInner k (all_held l inner k)
+bag_held c.AsText width k_bytes inner more k h e = held width k_chars inner more k h e
+bag_held c.AsLong width k_int inner more k h e = held width k_long inner more k h e
+bag_held how width l inner more k h e = held width l inner more k h e
+
 given_kind : (g : Function) (k : KindTree) (columns : List FieldTree) → tree_kind (given g k columns) ≡ k
 given_kind f.ToTuple k columns = refl
 given_kind f.Tokenize k columns = refl
+given_kind (f.ToBag width) k [] = refl
+given_kind (f.ToBag width) k (c ∷ columns) = refl
 given_kind g k columns = refl
 
 given_field : (s : Place) (g : Function) (ps : List Typing) (k : KindTree) → AllHold s ps → call_kind g ps ≡ Some k → IsColumn (given g k (map typed_column ps))
@@ -244,6 +282,8 @@ given_field s f.ToTuple ps k h e =
     let is : k ≡ k_tuple (kinds_of (map tree_kind (map typed_column ps))) = tuple_given _ k e ∙ ap (λ ks. k_tuple (kinds_of ks)) kinds in
     subst (λ x. HasInner x (inner_of (map typed_column ps))) (sym is) (all_inner (map typed_column ps) (columns_hold s ps h))
 given_field s f.Tokenize ps k h e = subst (λ x. IsColumn (given f.Tokenize x (map typed_column ps))) (sym (tokens_given _ k e)) (refl, refl, refl)
+given_field s (f.ToBag width) [] k h e = unnamed_field k
+given_field s (f.ToBag width) (p ∷ ps) k h e = bag_held (casting (f.ToBag width) (kinds_as_given (p ∷ ps))) (tuple_width (kinds_as_given (p ∷ ps))) (kind_in p) (tree_inner (typed_column p)) _ k h.0.field e
 given_field s g ps k h e = unnamed_field k
 
 -- ---- expressions
@@ -288,7 +328,7 @@ mutual
       let v = choose_holds (kind_in y) (kind_in z) j e' in
       record {
         kind = rw (cast_kind_of (place_row s) (locals_of s) cast_so k_boolean (kind_in x) (typed_of x) t.0 hx.kind, t.1, cast_kind_of (place_row s) (locals_of s) j.left j.kind (kind_in y) (typed_of y) v.0.left hy.kind, cast_kind_of (place_row s) (locals_of s) j.right j.kind (kind_in z) (typed_of z) v.0.right hz.kind) v.1;
-        field = unnamed_field j.kind;
+        field = chosen_is_column (typed_column y) (typed_column z) j e' hy.field hz.field;
       }
 
   links_hold : (s : Place) → IsPlace s → (c whole : Sofar) (ls : LinkForms) → HoldsSofar s c → Links s c ls whole → HoldsSofar s whole

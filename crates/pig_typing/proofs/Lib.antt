@@ -1,6 +1,7 @@
 mod Samples
 pub mod Chains
 pub mod References
+mod Latest
 pub mod Told
 pub mod Found
 mod Joined

@@ -2,10 +2,10 @@
 -- (Built In Functions. Which casts are inserted is a choice of this profile.)
 use Rattle.std.specs.Prelude.{◌+◌, ℕ, zero, suc, ◌==◌, Bool, true, false, List, [], ◌∷◌, length, nat_lt, codes, Option, Some, None, if◌then◌else◌}
 use Rattle.std.specs.List.{list_all, list_any}
-use Rattle.pig_value.specs.Trees.{KindTree, k_int, k_long, k_chars, k_bytes, k_tuple, kinds_list}
+use Rattle.pig_value.specs.Trees.{KindTree, k_int, k_long, k_chars, k_bytes, k_tuple, k_bag, more_kinds, kinds_list}
 use Rattle.pig_value.specs.declared.functions.Function.{Function}
 use Rattle.pig_value.specs.declared.functions.Function.TheVariants as f
-use Rattle.pig_schema.specs.FieldTrees.{FieldTree, a_field, no_inner, more_inner, inner_of}
+use Rattle.pig_schema.specs.FieldTrees.{FieldTree, FieldTrees, a_field, no_inner, more_inner, inner_of, tree_kind, tree_inner}
 use Rattle.pig_typed.specs.Typed.{Typed, x_cast, x_field}
 use Rattle.pig_typing.specs.declared.calls.Casting.{Casting}
 use Rattle.pig_typing.specs.declared.calls.Casting.TheVariants as c
@@ -73,9 +73,25 @@ abbrev pub sized : Function → List KindTree → Function
 sized (f.ToBag width) ks = f.ToBag (tuple_width ks)
 sized f ks = f
 
--- The column of what a function gives of these columns: TOTUPLE keeps their names, and TOKENIZE gives a field `token`.
+-- inside a bag of tuples of one field: that field, without a name, and with these inside
+abbrev pub one_held : KindTree → FieldTrees → FieldTrees
+one_held (k_bag (more_kinds k ks)) inner = more_inner (a_field None k inner) no_inner
+one_held k inner = no_inner
+
+-- inside a bag of this kind, of values of which the first has these inside: of tuples, that itself
+abbrev pub all_held : KindTree → FieldTrees → KindTree → FieldTrees
+all_held (k_tuple ks) inner bag = inner
+all_held first inner bag = one_held bag inner
+
+abbrev pub bag_column : KindTree → List FieldTree → FieldTree
+bag_column k [] = unnamed k
+bag_column k (c ∷ cs) = a_field None k (all_held (tree_kind c) (tree_inner c) k)
+
+-- The column of what a function gives of these columns: TOTUPLE keeps their names, TOBAG those inside the first, and TOKENIZE gives a
+-- field `token`.
 abbrev pub given : Function → KindTree → List FieldTree → FieldTree
 given f.ToTuple k columns = a_field None k (inner_of columns)
+given (f.ToBag width) k columns = bag_column k columns
 given f.Tokenize k columns = a_field None k (more_inner (a_field (Some (codes "token")) k_chars no_inner) no_inner)
 given f k columns = unnamed k
 

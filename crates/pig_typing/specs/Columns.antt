@@ -1,13 +1,12 @@
 -- Columns: what stands in a place of a row or is given by an expression. A column has a kind, the name that it keeps, if any, and
 -- the columns inside it. Here is which column of some a reference means, and what an expression may refer to.
 -- (Pig Latin Basics: "Schemas", "Referencing Fields". That a nested alias is no field is a choice of this profile.)
-use Rattle.std.specs.Prelude.{⊤, ◌≡◌, ◌≤◌, ◌+◌, ℕ, List, [], ◌∷◌, map, length, slice_get, Option, Some, None, if◌then◌else◌}
+use Rattle.std.specs.Prelude.{⊤, ◌≡◌, ◌≤◌, ℕ, List, [], ◌∷◌, map, length, slice_get, Option, Some, None}
 use Rattle.std.specs.Option.{option_map}
-use Rattle.std.specs.Str.{bytes_eq}
 use Rattle.std.specs.declared.result.Result.{Result}
 use Rattle.std.specs.declared.result.Result.TheVariants.{Ok, Err}
 use Rattle.pig_value.specs.Trees.{KindTree, KindTrees, k_tuple, k_bag, k_map, no_kinds, more_kinds}
-use Rattle.pig_schema.specs.FieldTrees.{FieldTree, a_field, inner_of, tree_name, tree_kind, tree_inner, named_tree, schema_tree, IsColumn}
+use Rattle.pig_schema.specs.FieldTrees.{FieldTree, a_field, inner_of, tree_name, tree_kind, tree_inner, schema_tree, IsColumn}
 use Rattle.pig_schema.specs.Names.{IsMeant, IsUnknown, IsAmbiguous, meaning}
 use Rattle.pig_schema.specs.declared.naming.NameFault.{NameFault}
 use Rattle.pig_schema.specs.declared.naming.NameFault.TheVariants as fault
@@ -15,8 +14,8 @@ use Rattle.pig_syntax.specs.declared.trees.FieldRef.{FieldRef}
 use Rattle.pig_syntax.specs.declared.trees.FieldRef.TheVariants as ref
 use Rattle.pig_typing.specs.declared.faults.CheckKind.{CheckKind}
 use Rattle.pig_typing.specs.declared.faults.CheckKind.TheVariants as kind
-use Rattle.pig_typing.specs.declared.scope.Local.{Local}
 use Rattle.pig_typing.specs.declared.scope.Scope.{Scope}
+pub use Rattle.pig_typing.specs.Latest.{later_or, latest, latest_from, local_of, named_here}
 use Rattle.pig_typing.specs.Results.{Checked, due, ◌>>=◌}
 
 -- a column of this kind, with no name of its own nor inside
@@ -58,27 +57,8 @@ pub record Place : Type 0 where
   pub columns : List FieldTree
   pub locals : List (List ℕ × FieldTree)
 
-abbrev pub local_of : Local → List ℕ × FieldTree
-local_of l = (l.alias, named_tree l.column)
-
 abbrev pub place_of : Scope → Place
 place_of s = record { columns = schema_tree s.columns.now; locals = map local_of s.locals.now }
-
--- what is found later, or else what is found here
-abbrev pub later_or : {A : Type 0} → Option A → Option A → Option A
-later_or (Some later) here = Some later
-later_or None here = here
-
-abbrev pub named_here : List ℕ → ℕ → List ℕ × FieldTree → Option (ℕ × FieldTree)
-named_here alias n l = if bytes_eq l.0 alias then Some (n, l.1) else None
-
--- the number of the last step that has the alias, the first step having the number `n`, and its column
-abbrev pub latest_from : ℕ → List ℕ → List (List ℕ × FieldTree) → Option (ℕ × FieldTree)
-latest_from n alias [] = None
-latest_from n alias (l ∷ ls) = later_or (latest_from (n + 1) alias ls) (named_here alias n l)
-
-abbrev pub latest : List ℕ → List (List ℕ × FieldTree) → Option (ℕ × FieldTree)
-latest = latest_from 0
 
 -- the kinds of the row and of the nested aliases
 abbrev pub place_row : Place → List KindTree

@@ -105,16 +105,26 @@ pub data RenamedNot : FieldTree → NameForm → CheckKind → Type 0 where
   of_other_field : {c d : FieldTree} {name : List ℕ} {type : TypeForm}
       → written type ≡ Some d → kind_eq (tree_kind d) (tree_kind c) ≡ false → RenamedNot c (name, Some type) kind.TypeMismatch
 
--- as many names as fields, each with its own
+-- as many names as fields
+abbrev pub as_many : List FieldTree → List NameForm → Bool
+as_many [] [] = true
+as_many (c ∷ cs) (f ∷ fs) = as_many cs fs
+as_many cs fs = false
+
+-- each field with its own name
 pub data AllRenamed : List FieldTree → List NameForm → List FieldTree → Type 0 where
   none_renamed : AllRenamed [] [] []
   one_renamed : {c d : FieldTree} {cs ds : List FieldTree} {f : NameForm} {fs : List NameForm} → Renamed c f d → AllRenamed cs fs ds → AllRenamed (c ∷ cs) (f ∷ fs) (d ∷ ds)
 
-pub data AllRenamedNot : List FieldTree → List NameForm → CheckKind → Type 0 where
-  too_few_names : {c : FieldTree} {cs : List FieldTree} → AllRenamedNot (c ∷ cs) [] kind.SchemaMismatch
-  too_many_names : {f : NameForm} {fs : List NameForm} → AllRenamedNot [] (f ∷ fs) kind.SchemaMismatch
-  here_renamed_not : {c : FieldTree} {cs : List FieldTree} {f : NameForm} {fs : List NameForm} {r : CheckKind} → RenamedNot c f r → AllRenamedNot (c ∷ cs) (f ∷ fs) r
-  later_renamed_not : {c : FieldTree} {cs : List FieldTree} {f : NameForm} {fs : List NameForm} {r : CheckKind} → AllRenamedNot cs fs r → AllRenamedNot (c ∷ cs) (f ∷ fs) r
+-- one of them can't have its name
+pub data OneRenamedNot : List FieldTree → List NameForm → CheckKind → Type 0 where
+  here_renamed_not : {c : FieldTree} {cs : List FieldTree} {f : NameForm} {fs : List NameForm} {r : CheckKind} → RenamedNot c f r → OneRenamedNot (c ∷ cs) (f ∷ fs) r
+  later_renamed_not : {c : FieldTree} {cs : List FieldTree} {f : NameForm} {fs : List NameForm} {r : CheckKind} → OneRenamedNot cs fs r → OneRenamedNot (c ∷ cs) (f ∷ fs) r
+
+-- Another number of names than of fields is that alone: where no field has its name, no kinds are compared.
+pub data AllRenamedNot (cs : List FieldTree) (fs : List NameForm) : CheckKind → Type 0 where
+  another_number : as_many cs fs ≡ false → AllRenamedNot cs fs kind.SchemaMismatch
+  one_renamed_not : {r : CheckKind} → as_many cs fs ≡ true → OneRenamedNot cs fs r → AllRenamedNot cs fs r
 
 -- ---- an item
 
@@ -188,14 +198,16 @@ renamed_of c (name, Some type) = do
   d ← type_of_cast type
   same_named c name d
 
-unfoldable pub all_renamed : List FieldTree → List NameForm → Checked (List FieldTree)
-all_renamed [] [] = Ok []
-all_renamed [] (f ∷ fs) = Err kind.SchemaMismatch
-all_renamed (c ∷ cs) [] = Err kind.SchemaMismatch
-all_renamed (c ∷ cs) (f ∷ fs) = do
+-- as many names as fields
+unfoldable pub each_renamed : List FieldTree → List NameForm → Checked (List FieldTree)
+each_renamed (c ∷ cs) (f ∷ fs) = do
   d ← renamed_of c f
-  ds ← all_renamed cs fs
+  ds ← each_renamed cs fs
   Ok (d ∷ ds)
+each_renamed cs fs = Ok []
+
+unfoldable pub all_renamed : List FieldTree → List NameForm → Checked (List FieldTree)
+all_renamed cs fs = if as_many cs fs then each_renamed cs fs else Err kind.SchemaMismatch
 
 unfoldable pub plain_of : Typing → Option AsNames → Checked Generated
 plain_of p None = Ok (one_column (typed_of p) (typed_column p))

@@ -8,6 +8,7 @@ use Rattle.pig_value.specs.Trees.{KindTree, k_boolean, k_int, k_long, k_bytes}
 use Rattle.pig_value.specs.declared.operators.ChainOp.{ChainOp}
 use Rattle.pig_value.specs.declared.operators.ChainOp.TheVariants as op
 use Rattle.pig_value.specs.declared.operators.Rel.{Rel}
+use Rattle.pig_schema.specs.FieldTrees.{FieldTree, a_field, tree_inner}
 use Rattle.pig_typed.specs.ExprKinds.{may_compare}
 use Rattle.pig_typed.specs.Typed.{Typed, x_cast}
 
@@ -41,6 +42,11 @@ alike k k_bytes = Some (join k false true)
 alike k_int k_long = Some (join k_long true false)
 alike k_long k_int = Some (join k_long false true)
 alike k l = if kind_eq k l then Some (join k false false) else None
+
+-- The column of a choice of two: it has no name, and inside it stands what is inside the first, or inside the second where the first
+-- is cast to its kind.
+abbrev pub chosen : Join → FieldTree → FieldTree → FieldTree
+chosen j c d = a_field None j.kind (tree_inner (if j.left then d else c))
 
 -- alike, and of a kind that the comparison takes
 abbrev pub compared : Rel → KindTree → KindTree → Option Join

@@ -1,4 +1,5 @@
 pub mod Results
+pub mod Latest
 pub mod Columns
 pub mod Joins
 pub mod Limits

@@ -13,7 +13,7 @@ use Rattle.pig_syntax.specs.ExprTrees.{TypeForm, ExprForm, LinkForms, ExprForms,
 use Rattle.pig_syntax.specs.declared.trees.FieldRef.{FieldRef}
 use Rattle.pig_syntax.specs.declared.trees.FieldRef.TheVariants as ref
 use Rattle.pig_typed.specs.ExprKinds.{minus_kind}
-use Rattle.pig_typed.specs.Typed.{Typed, x_null, x_bool, x_int, x_long, x_chars, x_field, x_local, x_compare, x_is_null, x_not, x_minus, x_choose, x_cast, x_call, args_of}
+use Rattle.pig_typed.specs.Typed.{Typed, x_null, x_bool, x_int, x_long, x_chars, x_field, x_local, x_compare, x_is_null, x_not, x_minus, x_cast, x_call, args_of}
 use Rattle.pig_typing.specs.declared.faults.CheckKind.TheVariants as kind
 use Rattle.pig_typing.specs.Calls.{average, allows, given}
 use Rattle.pig_typing.specs.Columns.{Place, latest, nameless, refer, unnamed}
@@ -21,7 +21,7 @@ use Rattle.pig_typing.specs.Joins.{alike, cast_if, chained, compared, condition}
 use Rattle.pig_typing.specs.Limits.{limited}
 use Rattle.pig_typing.specs.Parts.{Typing, typing, typed_of, typed_column, kind_in, steps_of}
 use Rattle.pig_typing.specs.Results.{Checked, due, ◌>>=◌}
-use Rattle.pig_typing.specs.Typing.{Sofar, begun, after, chain_typing, called, call_kind, cast_args, count}
+use Rattle.pig_typing.specs.Typing.{Sofar, begun, after, chain_typing, choice, called, call_kind, cast_args, count}
 use Rattle.pig_typing.specs.Written.{written}
 
 -- ---- names
@@ -67,7 +67,7 @@ minus_of p = do
 unfoldable pub choose_of : Typed → Typing → Typing → Checked Typing
 choose_of t p q = do
   j ← due kind.TypeMismatch (alike (kind_in p) (kind_in q))
-  Ok (typing (x_choose t (cast_if j.left j.kind (typed_of p)) (cast_if j.right j.kind (typed_of q))) (unnamed j.kind))
+  Ok (choice t j p q)
 
 -- what a type says, within the limits
 unfoldable pub type_of_cast : TypeForm → Checked FieldTree

@@ -19,7 +19,7 @@ use Rattle.pig_typed.specs.ExprKinds.{minus_kind}
 use Rattle.pig_typed.specs.Typed.{Typed, x_null, x_bool, x_int, x_long, x_chars, x_field, x_local, x_chain, x_compare, x_is_null, x_not, x_minus, x_choose, x_cast, x_call, links_of, args_of}
 use Rattle.pig_typing.specs.Calls.{allows, casting, cast_by, cast_maybe, kind_after, sized, given}
 use Rattle.pig_typing.specs.Columns.{RefersTo, Place, latest, nameless, unnamed}
-use Rattle.pig_typing.specs.Joins.{Join, alike, cast_if, chained, compared, condition}
+use Rattle.pig_typing.specs.Joins.{Join, alike, cast_if, chained, chosen, compared, condition}
 use Rattle.pig_typing.specs.Limits.{limited}
 use Rattle.pig_typing.specs.Parts.{Typing, typing, typed_of, typed_column, kind_in, Walks}
 use Rattle.pig_typing.specs.Written.{written}
@@ -41,6 +41,12 @@ after c o j u = record { first = cast_if j.left j.kind c.first; links = c.links 
 
 abbrev pub chain_typing : Sofar → Typing
 chain_typing c = typing (x_chain c.first (links_of c.links)) (unnamed c.kind)
+
+-- ---- choices
+
+-- one of two results, each cast where it is to be
+abbrev pub choice : Typed → Join → Typing → Typing → Typing
+choice t j p q = typing (x_choose t (cast_if j.left j.kind (typed_of p)) (cast_if j.right j.kind (typed_of q))) (chosen j (typed_column p) (typed_column q))
 
 -- ---- calls
 
@@ -95,8 +101,7 @@ mutual
         → Types s (e_call name args) (typing (x_call (called f ps) (args_of (cast_args f ps))) (given f k (map typed_column ps)))
     type_choose : {a b c : ExprForm} {p q r : Typing} {is_cast : Bool} {j : Join}
         → Types s a p → condition (kind_in p) ≡ Some is_cast → Types s b q → Types s c r → alike (kind_in q) (kind_in r) ≡ Some j
-        → Types s (e_choose a b c)
-        (typing (x_choose (cast_if is_cast k_boolean (typed_of p)) (cast_if j.left j.kind (typed_of q)) (cast_if j.right j.kind (typed_of r))) (unnamed j.kind))
+        → Types s (e_choose a b c) (choice (cast_if is_cast k_boolean (typed_of p)) j q r)
 
   -- the links of a chain, from left to right
   pub data Links (s : Place) : Sofar → LinkForms → Sofar → Type 0 where

@@ -1,9 +1,7 @@
 -- What the code holds, as the definitions see it.
-use Rattle.std.specs.Borrow.{Bor}
 use Rattle.std.specs.Prelude.{ℕ, map}
 use Rattle.pig_value.specs.Trees.{kind_tree}
 use Rattle.pig_schema.specs.FieldTrees.{FieldTree, named_tree, schema_tree}
-use Rattle.pig_schema.specs.declared.schema.Field.{Field}
 use Rattle.pig_typed.specs.Typed.{typed, item_typed, link_of}
 use Rattle.pig_typing.specs.declared.columns.Column.{Column}
 use Rattle.pig_typing.specs.declared.columns.Column.TheVariants as column
@@ -45,7 +43,3 @@ generated_tree g = record { items = map item_typed g.items; columns = schema_tre
 
 abbrev pub pick_tree : Pick → ℕ × FieldTree
 pick_tree p = (p.place, named_tree p.column)
-
--- a place, and the column that stands there
-abbrev pub step_tree : ℕ × Bor Field → ℕ × FieldTree
-step_tree p = (p.0, named_tree p.1.now)

@@ -1,22 +1,22 @@
-ghost use Rattle.std.specs.Prelude.{◌≡◌, [], ◌∷◌, ◌++◌, IfOk, Ok, OnOk, length, map};
+ghost use Rattle.std.specs.Prelude.{◌≡◌, [], ◌∷◌, ◌++◌, IfOk, None, Ok, OnOk, length, map};
 ghost use Rattle.std.specs.List.{list_all, list_any};
 ghost use Rattle.std.specs.Option.{option_map};
 ghost use Rattle.pig_value.specs.FunctionKinds.{function_kind};
 ghost use Rattle.pig_value.specs.Trees.{kind_tree, kinds_list, kinds_of};
-ghost use Rattle.pig_schema.specs.FieldTrees.{named_tree, schema_tree};
+ghost use Rattle.pig_schema.specs.FieldTrees.{a_field, inner_of, named_tree, schema_tree, tree_inner, tree_kind};
 ghost use Rattle.pig_typed.specs.Typed.{args_of, typed, x_call, x_field};
-ghost use Rattle.pig_typing.specs.Calls.{cast_by, cast_maybe, casting, fields_from, given, is_bytes, is_long, kind_after, sized, allows, tuple_width};
+ghost use Rattle.pig_typing.specs.Calls.{all_held, bag_column, cast_by, cast_maybe, casting, fields_from, given, is_bytes, is_long, kind_after, one_held, sized, allows, tuple_width};
 ghost use Rattle.pig_typing.specs.Parts.{typed_column, kind_in, typed_of};
 ghost use Rattle.pig_typing.specs.Reader.{call_of, call_typing, function_of, kind_due, with_count};
 ghost use Rattle.pig_typing.specs.Results.{Tells};
 ghost use Rattle.pig_typing.specs.Typing.{call_kind, kinds_as_given};
-ghost use Rattle.pig_typing.specs.Views.{typing_tree};
+ghost use Rattle.pig_typing.specs.Views.{column_seen, typing_tree};
 
-use crate::columns::{Typing, copied, holding, kind, made, unnamed};
+use crate::columns::{Column, Typing, copied, holding, inner, kind, made, unnamed};
 use crate::faults::{CheckKind, TypeFault, in_memory};
 use crate::limits::within_limits;
 use crate::names::narrow;
-use pig_schema::{Field, Schema};
+use pig_schema::{Field, Schema, copy_schema};
 use pig_typed::{TExpr, TExprs, kind_of};
 use pig_value::{Function, Kind, Kinds, Seq, Text, beside, copy_kind};
 use std::alloc::{AllocError, Global};
@@ -355,6 +355,7 @@ fn given(
 {
     match function {
         Function::ToTuple => Ok(holding(kind, columns(alloc, args)?)),
+        Function::ToBag { .. } => bag_column(alloc, kind, args),
         Function::Tokenize => tokens(alloc, kind),
         _ => unnamed(alloc, kind),
     }
@@ -368,6 +369,57 @@ fn columns(alloc: Global, args: &[Typing]) -> Result<Schema, AllocError>
         columns.push(copied(alloc, &arg.column)?)?;
     }
     Ok(Seq::from_vec(columns))
+}
+
+// A bag of values, inside which stands what is inside the first.
+fn bag_column(alloc: Global, kind: Kind, args: &[Typing]) -> Result<Field, AllocError>
+    ensures { IfOk result (λ f. named_tree f
+        ≡ bag_column (kind_tree kind) (map typed_column (map typing_tree args.now))) }
+{
+    match args {
+        [first, ..] => {
+            let inner = all_held(alloc, &first.column, &kind);
+            let (kind, inner) = beside(kind, inner)?;
+            Ok(holding(kind, inner))
+        }
+        [] => unnamed(alloc, kind),
+    }
+}
+
+fn all_held(alloc: Global, first: &Column, bag: &Kind) -> Result<Schema, AllocError>
+    ensures { IfOk result (λ s. inner_of (schema_tree s) ≡ all_held
+        (tree_kind (column_seen first.now)) (tree_inner (column_seen first.now))
+        (kind_tree bag.now)) }
+{
+    match kind(first) {
+        Kind::Tuple(_) => copy_schema(alloc, inner(first)),
+        _ => one_held(alloc, bag, inner(first)),
+    }
+}
+
+// The one field of a bag's tuples.
+fn one_held(alloc: Global, bag: &Kind, inner: &Schema) -> Result<Schema, AllocError>
+    ensures { IfOk result (λ s. inner_of (schema_tree s)
+        ≡ one_held (kind_tree bag.now) (inner_of (schema_tree inner.now))) }
+{
+    match bag {
+        Kind::Bag(kinds) => match kinds.as_slice() {
+            [kind, ..] => one_field(alloc, kind, inner),
+            [] => Ok(Seq::new(alloc)),
+        },
+        _ => Ok(Seq::new(alloc)),
+    }
+}
+
+fn one_field(alloc: Global, kind: &Kind, inner: &Schema) -> Result<Schema, AllocError>
+    ensures { IfOk result (λ s. schema_tree s
+        ≡ a_field None (kind_tree kind.now) (inner_of (schema_tree inner.now)) ∷ []) }
+{
+    let inner = copy_schema(alloc, inner)?;
+    let kind = copy_kind(alloc, kind)?;
+    let mut fields = Seq::new(alloc);
+    fields.push(holding(kind, inner))?;
+    Ok(fields)
 }
 
 fn tokens(alloc: Global, kind: Kind) -> Result<Field, AllocError>

@@ -75,6 +75,30 @@ pub fn copied(alloc: Global, column: &Column) -> Result<Field, AllocError>
     }
 }
 
+/// What stands inside a column, with memory of its own.
+pub fn into_inner(alloc: Global, column: Column) -> Result<Schema, AllocError>
+    ensures { IfOk result (λ s. inner_of (schema_tree s) ≡ tree_inner (column_seen column.entry)) }
+{
+    match column {
+        Column::Lent(field) => copy_inner(alloc, field),
+        Column::Nameless(field) => copy_inner(alloc, field),
+        Column::Made(field) => Ok(inner_columns(field.into_inner())),
+    }
+}
+
+fn copy_inner(alloc: Global, field: &Field) -> Result<Schema, AllocError>
+    ensures { IfOk result (λ s. inner_of (schema_tree s) ≡ tree_inner (named_tree field.now)) }
+{
+    copy_schema(alloc, &field.inner)
+}
+
+fn inner_columns(field: Field) -> Schema
+    ensures { inner_of (schema_tree result) ≡ tree_inner (named_tree field) }
+{
+    let Field { inner, .. } = field;
+    inner
+}
+
 fn nameless(alloc: Global, field: &Field) -> Result<Field, AllocError>
     ensures { IfOk result (λ f. named_tree f ≡ nameless (named_tree field.now)) }
 {

@@ -1,19 +1,19 @@
-ghost use Rattle.std.specs.Prelude.{◌≡◌, IfOk, Ok, map};
+ghost use Rattle.std.specs.Prelude.{◌≡◌, IfOk, Ok, map, if◌then◌else◌};
 ghost use Rattle.pig_value.specs.Trees.{k_boolean, k_chars, kind_tree};
-ghost use Rattle.pig_schema.specs.FieldTrees.{named_tree, tree_kind};
+ghost use Rattle.pig_schema.specs.FieldTrees.{inner_of, named_tree, schema_tree, tree_inner, tree_kind};
 ghost use Rattle.pig_syntax.specs.ExprTrees.{e_choose, e_compare, expr_form, expr_forms, link_form, link_forms, type_form};
-ghost use Rattle.pig_typed.specs.Typed.{typed, x_cast, x_chars, x_choose, x_compare, x_is_null, x_minus, x_not};
+ghost use Rattle.pig_typed.specs.Typed.{typed, x_cast, x_chars, x_compare, x_is_null, x_minus, x_not};
 ghost use Rattle.pig_typing.specs.Columns.{place_of, unnamed};
 ghost use Rattle.pig_typing.specs.Faults.{Faults};
 ghost use Rattle.pig_typing.specs.Parts.{typed_of, typing};
 ghost use Rattle.pig_typing.specs.Reader.{args_on, typed_cast, choose_of, compare_of, condition_of, function_of, typed_link, links_on, minus_of, type_of, type_of_cast, with_count};
 ghost use Rattle.pig_typing.specs.Results.{checked_then, IfRefused, Tells};
 ghost use Rattle.pig_typing.specs.Joins.{cast_if};
-ghost use Rattle.pig_typing.specs.Typing.{Types, after, begun, chain_typing, count};
-ghost use Rattle.pig_typing.specs.Views.{join_tree, sofar_tree, typed_tree, typing_tree};
+ghost use Rattle.pig_typing.specs.Typing.{Types, after, begun, chain_typing, choice, count};
+ghost use Rattle.pig_typing.specs.Views.{column_seen, join_tree, sofar_tree, typed_tree, typing_tree};
 
 use crate::calls::{call, function, with_count};
-use crate::columns::{Typing, kind, made, owned, plain};
+use crate::columns::{Column, Typing, holding, into_inner, kind, made, owned, plain};
 use crate::faults::{CheckKind, TypeFault, in_memory, refused};
 use crate::joins::{
     Join, Operands, alike, cast_both, cast_if, chained, compared, condition, minus,
@@ -23,7 +23,7 @@ use crate::names::named;
 use crate::parts::walk;
 use crate::scope::Scope;
 use crate::written::written_type;
-use pig_schema::Field;
+use pig_schema::{Field, Schema};
 use pig_syntax::{Expr, Exprs, Links, TypeTree};
 use pig_typed::{TExpr, TLink, TLinks};
 use pig_value::{Boxed, ChainOp, Function, Kind, Rel, Seq, Text, beside, casts_to, copy_kind};
@@ -422,7 +422,7 @@ fn choose<'a>(
     let join = in_memory(alike(alloc, kind(&yes.column), kind(&no.column)));
     let ((cond, yes, no), join) = beside((cond, yes, no), join)?;
     match join {
-        Some(join) => in_memory(choice(alloc, cond, yes.expr, no.expr, join)),
+        Some(join) => in_memory(choice(alloc, cond, yes, no, join)),
         None => refused((cond, yes, no), CheckKind::TypeMismatch),
     }
 }
@@ -430,19 +430,44 @@ fn choose<'a>(
 fn choice<'a>(
     alloc: Global,
     cond: Boxed<TExpr>,
-    yes: Boxed<TExpr>,
-    no: Boxed<TExpr>,
+    yes: Typing<'a>,
+    no: Typing<'a>,
     join: Join,
 ) -> Result<Typing<'a>, AllocError>
-    ensures { IfOk result (λ p. typing_tree p ≡ typing (x_choose (typed cond)
-        (cast_if join.left (kind_tree join.kind) (typed yes))
-        (cast_if join.right (kind_tree join.kind) (typed no))) (unnamed (kind_tree join.kind))) }
+    ensures { IfOk result (λ p. typing_tree p ≡ choice (typed cond) (join_tree join)
+        (typing_tree yes.entry) (typing_tree no.entry)) }
 {
-    let Operands { kind, left, right } = cast_both(alloc, join, yes, no)?;
+    let Typing {
+        expr: a,
+        column: first,
+    } = yes;
+    let Typing {
+        expr: b,
+        column: second,
+    } = no;
+    let inner = one_inside(alloc, join.left, first, second)?;
+    let Operands { kind, left, right } = cast_both(alloc, join, a, b)?;
     let form = TExpr::Choose {
         cond,
         yes: left,
         no: right,
     };
-    plain(alloc, form, kind.into_inner())
+    made(alloc, form, holding(kind.into_inner(), inner))
+}
+
+// What stands inside one of two columns.
+fn one_inside<'a>(
+    alloc: Global,
+    is_second: bool,
+    first: Column<'a>,
+    second: Column<'a>,
+) -> Result<Schema, AllocError>
+    ensures { IfOk result (λ s. inner_of (schema_tree s)
+        ≡ tree_inner (if is_second then column_seen second.entry else column_seen first.entry)) }
+{
+    if is_second {
+        into_inner(alloc, second)
+    } else {
+        into_inner(alloc, first)
+    }
 }

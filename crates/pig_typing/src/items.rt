@@ -6,7 +6,7 @@ ghost use Rattle.pig_syntax.specs.ExprTrees.{field_form};
 ghost use Rattle.pig_typed.specs.Typed.{item_typed, typed, x_cast, x_field};
 ghost use Rattle.pig_typing.specs.Columns.{place_of};
 ghost use Rattle.pig_typing.specs.Calls.{fields_from};
-ghost use Rattle.pig_typing.specs.Items.{AllGenerate, AllGenerateNot, all_renamed, cast_named, flat_columns, flat_of, flattened_columns, item_of, item_value, items_of, name_forms, name_under, named_of, names_for, nothing_generated, one_column, only_name, plain_item, plain_of, renamed_of, same_named, both_items, under_name, whole_row};
+ghost use Rattle.pig_typing.specs.Items.{AllGenerate, AllGenerateNot, all_renamed, as_many, cast_named, each_renamed, flat_columns, flat_of, flattened_columns, item_of, item_value, items_of, name_forms, name_under, named_of, names_for, nothing_generated, one_column, only_name, plain_item, plain_of, renamed_of, same_named, both_items, under_name, whole_row};
 ghost use Rattle.pig_typing.specs.Parts.{typed_of};
 ghost use Rattle.pig_typing.specs.Results.{IfRefused, Tells};
 ghost use Rattle.pig_typing.specs.Written.{with_name};
@@ -22,6 +22,7 @@ use pig_syntax::{AsNames, FieldTree, Item};
 use pig_typed::{BlockItem, BlockItems, TExpr};
 use pig_value::{Boxed, Kind, Seq, Text, beside, casts_to, copy_kind, same_kind};
 use std::alloc::{AllocError, Global};
+use std::slice;
 
 /// Typed items of GENERATE, and the columns of all fields that they give.
 #[derive(Debug, Drop)]
@@ -353,52 +354,44 @@ fn names_for(alloc: Global, columns: Schema, names: &Option<AsNames>) -> Result<
     ensures { Tells schema_tree (names_for (schema_tree columns) names.now) result }
 {
     match names {
-        Some(AsNames::One(field)) => one_renamed(alloc, columns.as_slice(), field),
-        Some(AsNames::Several(fields)) => {
-            all_renamed(alloc, columns.as_slice(), fields.as_slice())
-        }
+        Some(names) => all_renamed(alloc, columns.as_slice(), name_fields(names)),
         None => Ok(columns),
     }
 }
 
-#[tactic(auto, unfolding(crate::specs::Items::all_renamed))]
-fn one_renamed(alloc: Global, columns: &[Field], field: &FieldTree) -> Result<Schema, TypeFault>
-    ensures { Tells schema_tree (all_renamed (schema_tree columns.now) (field_form field.now ∷ []))
-        result }
+// What is written behind AS, in parentheses or not.
+fn name_fields(names: &AsNames) -> &[FieldTree]
+    ensures { map field_form result.now ≡ name_forms names.now }
 {
-    match columns {
-        [column, rest @ ..] => {
-            let column = renamed(alloc, column, field)?;
-            let others = none_left(alloc, rest)?;
-            Ok(in_front(alloc, column, others)?)
-        }
-        [] => Err(TypeFault::Refused(CheckKind::SchemaMismatch)),
+    match names {
+        AsNames::One(field) => slice::from_ref(field),
+        AsNames::Several(fields) => fields.as_slice(),
     }
 }
 
-#[tactic(auto, unfolding(crate::specs::Items::all_renamed))]
-fn none_left(alloc: Global, columns: &[Field]) -> Result<Schema, TypeFault>
-    ensures { Tells schema_tree (all_renamed (schema_tree columns.now) []) result }
-{
-    match columns {
-        [_, ..] => Err(TypeFault::Refused(CheckKind::SchemaMismatch)),
-        [] => Ok(Seq::new(alloc)),
-    }
-}
-
-fn in_front(alloc: Global, column: Field, others: Schema) -> Result<Schema, AllocError>
-    ensures { IfOk result (λ s. schema_tree s ≡ named_tree column ∷ schema_tree others) }
-{
-    let mut columns = Seq::new(alloc);
-    columns.push(column)?;
-    columns.extend(others)?;
-    Ok(columns)
-}
-
+// Each column with its name, where there are as many names as columns.
 #[tactic(auto, unfolding(crate::specs::Items::all_renamed))]
 fn all_renamed(alloc: Global, columns: &[Field], fields: &[FieldTree]) -> Result<Schema, TypeFault>
     ensures { Tells schema_tree (all_renamed (schema_tree columns.now) (map field_form fields.now))
         result }
+{
+    if as_many(columns, fields) {
+        each_renamed(alloc, columns, fields)
+    } else {
+        Err(TypeFault::Refused(CheckKind::SchemaMismatch))
+    }
+}
+
+fn as_many(columns: &[Field], fields: &[FieldTree]) -> bool
+    ensures { result ≡ as_many (schema_tree columns.now) (map field_form fields.now) }
+{
+    columns.len() == fields.len()
+}
+
+#[tactic(auto, unfolding(crate::specs::Items::each_renamed))]
+fn each_renamed(alloc: Global, columns: &[Field], fields: &[FieldTree]) -> Result<Schema, TypeFault>
+    ensures { Tells schema_tree
+        (each_renamed (schema_tree columns.now) (map field_form fields.now)) result }
 {
     let mut made = Seq::with_capacity(alloc, columns.len())?;
     let mut left = fields;
@@ -409,14 +402,10 @@ fn all_renamed(alloc: Global, columns: &[Field], fields: &[FieldTree]) -> Result
                 made.push(column)?;
                 left = rest;
             }
-            [] => return Err(TypeFault::Refused(CheckKind::SchemaMismatch)),
+            [] => return Ok(made),
         }
     }
-    if left.is_empty() {
-        Ok(made)
-    } else {
-        Err(TypeFault::Refused(CheckKind::SchemaMismatch))
-    }
+    Ok(made)
 }
 
 #[tactic(auto, unfolding(crate::specs::Items::renamed_of))]

@@ -16,6 +16,7 @@ mod items;
 mod joins;
 mod laws;
 mod limits;
+mod locals;
 mod names;
 mod parts;
 mod referring;
@@ -32,7 +33,8 @@ pub use laws::{
     typings_have_their_kinds, typings_write_no_line_end,
 };
 pub use limits::{row_within_limits, within_limits};
+pub use locals::{Local, Locals};
 pub use names::{narrow, refer};
 pub use referring::{type_reference, type_step};
-pub use scope::{Local, Locals, Scope};
+pub use scope::Scope;
 pub use written::{written_schema, written_type};

@@ -1,16 +1,15 @@
 ghost use Rattle.std.specs.Prelude.{◌≡◌, map, Ok};
-ghost use Rattle.std.specs.Option.{option_map};
-ghost use Rattle.std.specs.Str.{bytes_eq};
 ghost use Rattle.pig_schema.specs.FieldTrees.{named_tree, schema_tree, tree_name};
 ghost use Rattle.pig_schema.specs.Names.{meaning};
-ghost use Rattle.pig_typing.specs.Columns.{column_at, later_or, latest, local_of, name_place, name_refusal, named_here, place_of, refer};
+ghost use Rattle.pig_typing.specs.Columns.{column_at, name_place, name_refusal, place_of, refer};
 ghost use Rattle.pig_typing.specs.Reader.{field_of, field_typing, local_typing, reference_of};
 ghost use Rattle.pig_typing.specs.Results.{checked_then, Tells};
-ghost use Rattle.pig_typing.specs.Views.{step_tree, typing_tree};
+ghost use Rattle.pig_typing.specs.Latest.{step_tree};
+ghost use Rattle.pig_typing.specs.Views.{typing_tree};
 
 use crate::columns::{Column, Typing};
 use crate::faults::{CheckKind, TypeFault};
-use crate::scope::{Local, Scope};
+use crate::scope::Scope;
 use pig_schema::{Field, NameFault, Schema, find};
 use pig_syntax::FieldRef;
 use pig_typed::TExpr;
@@ -27,7 +26,7 @@ pub fn named<'a>(
     ensures { Tells typing_tree (reference_of (place_of scope.now) field.now) result }
 {
     match field {
-        FieldRef::Name(text) => match latest(scope.locals.as_slice(), text.as_bytes()) {
+        FieldRef::Name(text) => match scope.locals.latest(text) {
             Some((number, column)) => local(alloc, number, column),
             None => of_columns(alloc, scope.columns, field),
         },
@@ -125,44 +124,4 @@ fn column_at<'a>(columns: &'a Schema, place: usize) -> Result<(usize, &'a Field)
         Some(column) => Ok((place, column)),
         None => Err(TypeFault::Refused(CheckKind::PositionOut)),
     }
-}
-
-// The last step of an alias, with its number.
-fn latest<'a>(locals: &'a [Local], alias: &[u8]) -> Option<(usize, &'a Field)>
-    ensures { option_map step_tree result ≡ latest alias.now (map local_of locals.now) }
-{
-    let mut found = None;
-    for number in 0..locals.len() {
-        found = later_or(here(&locals[number], number, alias), found);
-    }
-    found
-}
-
-fn later_or<'a>(
-    later: Option<(usize, &'a Field)>,
-    here: Option<(usize, &'a Field)>,
-) -> Option<(usize, &'a Field)>
-    ensures { option_map step_tree result
-        ≡ later_or (option_map step_tree later.entry) (option_map step_tree here.entry) }
-{
-    match later {
-        Some(step) => Some(step),
-        None => here,
-    }
-}
-
-fn here<'a>(step: &'a Local, number: usize, alias: &[u8]) -> Option<(usize, &'a Field)>
-    ensures { option_map step_tree result ≡ named_here alias.now number (local_of step.now) }
-{
-    if is_same(step.alias.as_bytes(), alias) {
-        Some((number, &step.column))
-    } else {
-        None
-    }
-}
-
-fn is_same(a: &[u8], b: &[u8]) -> bool
-    ensures { result ≡ bytes_eq a.now b.now }
-{
-    a == b
 }

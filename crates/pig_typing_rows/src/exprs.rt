@@ -11,8 +11,8 @@ use std::alloc::Global;
 use std::process::Abort;
 
 // Each expression, and what it is typed as: the typed expression, the name that it keeps, its kind. The columns are
-// a:int, b:bytearray, s:chararray, n:long, m:map[], t:(x:int, y:chararray), g:{(r:long)}, p::k:int, q::k:int; the
-// nested alias n is a bag {(z:int)}.
+// a:int, b:bytearray, s:chararray, n:long, m:map[], t:(x:int, y:chararray), g:{(r:long)}, p::k:int, q::k:int, p::p:int,
+// u:(p:int, w:chararray); the nested alias n is a bag {(z:int)}.
 const ROWS: &str = "\
 a + 1 => Chain { first: Field(0), rest: [TLink { op: Add, a: Int(1) }] } None Int\n\
 b + a => Chain { first: Cast { to: Int, a: Field(1) }, rest: [TLink { op: Add, a: Field(0) }] } None Int\n\
@@ -22,7 +22,7 @@ s == a => Refused(TypeMismatch)\n\
 k => Refused(AmbiguousField)\n\
 p::k => Field(7) Some('p::k') Int\n\
 zz => Refused(UnknownField)\n\
-$9 => Refused(PositionOut)\n\
+$11 => Refused(PositionOut)\n\
 n => Local(0) None Bag([Int])\n\
 $3 => Field(3) Some('n') Long\n\
 m#'c' == 'x' => Compare { op: Eq, a: Cast { to: Chararray, a: Look { a: Field(4), key: 'c' } }, b: Chars('x') } None Boolean\n\
@@ -50,7 +50,7 @@ fn expression<R: Abort>(rt: &R, alloc: Global, row: usize) -> Expr {
         5 => field(rt, alloc, "k"),
         6 => field(rt, alloc, "p::k"),
         7 => field(rt, alloc, "zz"),
-        8 => Expr::Field(FieldRef::Position(9)),
+        8 => Expr::Field(FieldRef::Position(11)),
         9 => field(rt, alloc, "n"),
         10 => Expr::Field(FieldRef::Position(3)),
         11 => looked_equal(rt, alloc, "x"),

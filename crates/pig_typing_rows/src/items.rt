@@ -31,6 +31,12 @@ FLATTEN(m) => Refused(TypeMismatch)\n\
 FLATTEN(t) AS (p, q:chararray) => Field(5) true 2: Some('p') Int Some('q') Chararray\n\
 FLATTEN(t) AS (p:long, q) => Refused(TypeMismatch)\n\
 FLATTEN(t) AS p => Refused(SchemaMismatch)\n\
+FLATTEN(t) AS p:long => Refused(SchemaMismatch)\n\
+FLATTEN(t) AS p:float => Refused(SchemaMismatch)\n\
+FLATTEN(g) AS (p:int, q) => Refused(SchemaMismatch)\n\
+FLATTEN(a) AS (p:long, q:float) => Refused(SchemaMismatch)\n\
+FLATTEN(g) AS p:float => Refused(FloatType)\n\
+FLATTEN(m) AS (p, q) => Refused(TypeMismatch)\n\
 FLATTEN(g) AS p => Field(6) true 1: Some('p') Long\n\
 zz AS x => Refused(UnknownField)";
 
@@ -101,9 +107,20 @@ fn flattened<R: Abort>(rt: &R, alloc: Global, row: usize) -> Item {
             ("q", Written::Bare),
         ),
         17 => named(rt, alloc, "t", true, "p", Written::Bare),
-        18 => named(rt, alloc, "g", true, "p", Written::Bare),
+        18 => named(rt, alloc, "t", true, "p", Written::Long),
+        19 => named(rt, alloc, "t", true, "p", Written::Float),
+        20 => counted(rt, alloc, "g", Written::Int, Written::Bare),
+        21 => counted(rt, alloc, "a", Written::Long, Written::Float),
+        22 => named(rt, alloc, "g", true, "p", Written::Float),
+        23 => counted(rt, alloc, "m", Written::Bare, Written::Bare),
+        24 => named(rt, alloc, "g", true, "p", Written::Bare),
         _ => named(rt, alloc, "zz", false, "x", Written::Bare),
     }
+}
+
+// A flattened field with two names.
+fn counted<R: Abort>(rt: &R, alloc: Global, of: &str, first: Written, second: Written) -> Item {
+    pair(rt, alloc, of, true, ("p", first), ("q", second))
 }
 
 fn value(value: Expr, flatten: bool, names: Option<AsNames>) -> Item {
@@ -250,6 +267,6 @@ fn gives_all_fields(rt: HostRuntime) {
         locals: &locals,
     };
     let (count, names) = all_and_one(&rt, alloc, &scope);
-    assert!(rt; count == 10);
-    assert_eq!(rt; names.as_str(), "a b s n m t g p::k q::k s ");
+    assert!(rt; count == 12);
+    assert_eq!(rt; names.as_str(), "a b s n m t g p::k q::k p::p u s ");
 }

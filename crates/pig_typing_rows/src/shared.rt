@@ -87,9 +87,25 @@ pub fn choose<R: Abort>(rt: &R, alloc: Global) -> Expr {
     Expr::Choose { cond, yes, no }
 }
 
+/// A choice by the field `b`.
+pub fn choice<R: Abort>(rt: &R, alloc: Global, yes: Expr, no: Expr) -> Expr {
+    choice_by(rt, alloc, "b", yes, no)
+}
+
+pub fn choice_by<R: Abort>(rt: &R, alloc: Global, cond: &str, yes: Expr, no: Expr) -> Expr {
+    let cond = boxed(rt, alloc, cond);
+    let yes = Boxed::new(alloc, yes).expect(rt, "memory");
+    let no = Boxed::new(alloc, no).expect(rt, "memory");
+    Expr::Choose { cond, yes, no }
+}
+
 fn behind<R: Abort>(rt: &R, alloc: Global, a: &str, step: PostStep) -> Expr {
+    behind_expr(rt, alloc, field(rt, alloc, a), step)
+}
+
+fn behind_expr<R: Abort>(rt: &R, alloc: Global, a: Expr, step: PostStep) -> Expr {
     let steps = only_step(rt, alloc, step);
-    let a = boxed(rt, alloc, a);
+    let a = Boxed::new(alloc, a).expect(rt, "memory");
     Expr::Post { a, steps }
 }
 
@@ -105,13 +121,24 @@ pub fn look<R: Abort>(rt: &R, alloc: Global) -> Expr {
 }
 
 pub fn part<R: Abort>(rt: &R, alloc: Global, of: &str, part: &str) -> Expr {
+    part_of(rt, alloc, field(rt, alloc, of), part)
+}
+
+pub fn part_of<R: Abort>(rt: &R, alloc: Global, of: Expr, part: &str) -> Expr {
+    behind_expr(rt, alloc, of, single(rt, alloc, name(rt, alloc, part)))
+}
+
+pub fn place_of<R: Abort>(rt: &R, alloc: Global, of: Expr, place: u32) -> Expr {
+    behind_expr(rt, alloc, of, single(rt, alloc, FieldRef::Position(place)))
+}
+
+fn single<R: Abort>(rt: &R, alloc: Global, field: FieldRef) -> PostStep {
     let mut fields = Seq::new(alloc);
-    push(rt, &mut fields, name(rt, alloc, part));
-    let step = PostStep::Project {
+    push(rt, &mut fields, field);
+    PostStep::Project {
         fields,
         single: true,
-    };
-    behind(rt, alloc, of, step)
+    }
 }
 
 pub fn call<R: Abort>(rt: &R, alloc: Global, function: &str, a: &str) -> Expr {
@@ -142,7 +169,7 @@ pub fn call_long<R: Abort>(rt: &R, alloc: Global, function: &str, a: &str, b: i6
     called(rt, alloc, function, args)
 }
 
-fn called<R: Abort>(rt: &R, alloc: Global, function: &str, args: Exprs) -> Expr {
+pub fn called<R: Abort>(rt: &R, alloc: Global, function: &str, args: Exprs) -> Expr {
     let name = Text::from_str(alloc, function).expect(rt, "memory");
     Expr::Call { name, args }
 }
@@ -170,12 +197,12 @@ pub fn one_kind<R: Abort>(rt: &R, alloc: Global, kind: Kind) -> Kinds {
     kinds
 }
 
-pub fn tuple<R: Abort>(rt: &R, alloc: Global) -> Field {
-    let mut inner = one(rt, alloc, "x", Kind::Int);
-    push(rt, &mut inner, scalar(rt, alloc, "y", Kind::Chararray));
+pub fn tuple<R: Abort>(rt: &R, alloc: Global, of: &str, first: &str, second: &str) -> Field {
+    let mut inner = one(rt, alloc, first, Kind::Int);
+    push(rt, &mut inner, scalar(rt, alloc, second, Kind::Chararray));
     let mut kinds = one_kind(rt, alloc, Kind::Int);
     push(rt, &mut kinds, Kind::Chararray);
-    column(rt, alloc, "t", Kind::Tuple(kinds), inner)
+    column(rt, alloc, of, Kind::Tuple(kinds), inner)
 }
 
 pub fn bag<R: Abort>(rt: &R, alloc: Global, name: &str, part: &str, kind: Kind) -> Field {
@@ -199,18 +226,20 @@ pub fn columns<R: Abort>(rt: &R, alloc: Global) -> Schema {
     push(rt, &mut columns, scalar(rt, alloc, "s", Kind::Chararray));
     push(rt, &mut columns, scalar(rt, alloc, "n", Kind::Long));
     push(rt, &mut columns, map(rt, alloc));
-    push(rt, &mut columns, tuple(rt, alloc));
+    push(rt, &mut columns, tuple(rt, alloc, "t", "x", "y"));
     push(rt, &mut columns, bag(rt, alloc, "g", "r", Kind::Long));
     push(rt, &mut columns, scalar(rt, alloc, "p::k", Kind::Int));
     push(rt, &mut columns, scalar(rt, alloc, "q::k", Kind::Int));
+    push(rt, &mut columns, scalar(rt, alloc, "p::p", Kind::Int));
+    push(rt, &mut columns, tuple(rt, alloc, "u", "p", "w"));
     columns
 }
 
 pub fn locals<R: Abort>(rt: &R, alloc: Global) -> Locals {
     let alias = Text::from_str(alloc, "n").expect(rt, "memory");
     let column = bag(rt, alloc, "g", "z", Kind::Int);
-    let mut locals = Seq::new(alloc);
-    push(rt, &mut locals, Local { alias, column });
+    let mut locals = Locals::new(alloc);
+    locals.push(Local { alias, column }).expect(rt, "memory");
     locals
 }
 

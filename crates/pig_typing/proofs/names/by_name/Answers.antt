@@ -2,7 +2,7 @@ use Rattle.std.proofs.Common.{subst}
 use Rattle.pig_schema.specs.FieldTrees.{schema_tree}
 use Rattle.pig_typing.specs.Columns.{column_at, name_place}
 use Rattle.pig_typing.specs.Results.{◌>>=◌, Tells}
-use Rattle.pig_typing.specs.Views.{step_tree}
+use Rattle.pig_typing.specs.Latest.{step_tree}
 use Rattle.pig_typing.proofs.names.by_name.Goals as goal
 
 pub returns-in-Ok : goal.returns-in-Ok

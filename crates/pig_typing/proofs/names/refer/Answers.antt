@@ -3,7 +3,7 @@ use Rattle.pig_schema.specs.FieldTrees.{schema_tree, tree_name}
 use Rattle.pig_schema.specs.Names.{meaning}
 use Rattle.pig_typing.specs.Columns.{column_at, name_place, refer}
 use Rattle.pig_typing.specs.Results.{◌>>=◌, Tells}
-use Rattle.pig_typing.specs.Views.{step_tree}
+use Rattle.pig_typing.specs.Latest.{step_tree}
 use Rattle.pig_typing.proofs.names.refer.Goals as goal
 
 pub returns-in-Name : goal.returns-in-Name
