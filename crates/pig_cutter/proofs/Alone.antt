@@ -1,16 +1,16 @@
 -- A GROUP that folds has no other use than its FOREACH.
-use Rattle.std.specs.Prelude.{◌≡◌, ◌≤◌, ◌+◌, ◌==◌, ◌&&◌, ◌||◌, ℕ, zero, suc, Bool, true, false, List, [], ◌∷◌, ◌++◌, length, map, Option, None, Some, slice_get, refl}
-use Rattle.std.proofs.Common.{inl, inr, ap, sym, ◌∙◌, arith, subst, cond, true≢false}
-use Rattle.std.specs.List.{AllByRecursion, cons_option, filter, filter_map, flat_map, list_any}
+use Rattle.std.specs.Prelude.{◌≡◌, ◌≤◌, ◌+◌, ◌==◌, ◌&&◌, ◌||◌, ℕ, zero, suc, Bool, true, false, List, [], ◌∷◌, length, Option, None, Some, slice_get, refl}
+use Rattle.std.proofs.Common.{ap, sym, ◌∙◌, arith, subst, cond, true≢false}
+use Rattle.std.specs.List.{cons_option, filter, filter_map, flat_map, list_any}
 use Rattle.std.specs.Option.{option_and_then, option_map, option_map_or}
-use Rattle.std.proofs.lemmas.Bool.{cases_Bool, eqb-true}
+use Rattle.std.proofs.lemmas.Bool.{eqb-true}
 use Rattle.std.proofs.lemmas.List.{length-append}
 use Rattle.std.proofs.lemmas.List.Elements.{filter-append}
 use Rattle.pig_value.proofs.list_laws.Listing.{some_same}
 use Rattle.pig_typed.specs.Typed.{TypedBlock}
 use Rattle.pig_plan.specs.Nodes.{inputs_of, is_live, live, names, op_at, uses}
 use Rattle.pig_plan.specs.Plans.{Plan, PlanNode, PlanOp, p_load, p_filter, p_foreach, p_group_all, p_group, p_join, p_union, p_distinct, p_order, p_limit, p_store, p_assert, p_rank}
-use Rattle.pig_physical.specs.Combining.{block_at, block_on, blocks_on, folds, only}
+use Rattle.pig_physical.specs.Combining.{block_at, block_on, folds, only}
 use Rattle.pig_waves.proofs.Heads.{live_at}
 use Rattle.pig_cutter.proofs.Boundaries.{folds_is}
 

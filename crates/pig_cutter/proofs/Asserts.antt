@@ -1,17 +1,14 @@
 -- A live ASSERT is met by the meaning just where no task tells of it.
-use Rattle.std.specs.Prelude.{◌≡◌, ◌<◌, ◌+◌, ◌==◌, ◌&&◌, ◌||◌, ℕ, zero, suc, Bool, true, false, not, List, [], ◌∷◌, ◌++◌, length, map, Option, None, Some, slice_get, refl}
-use Rattle.std.proofs.Common.{inl, inr, ap, sym, ◌∙◌, arith, subst, append_assoc, cond, true≢false}
-use Rattle.std.specs.List.{AllByRecursion, filter, flat_map, list_all, list_any}
+use Rattle.std.specs.Prelude.{◌≡◌, ◌<◌, ◌+◌, ◌==◌, ℕ, zero, suc, Bool, true, false, not, List, [], ◌∷◌, ◌++◌, map, Option, None, Some, slice_get, refl}
+use Rattle.std.proofs.Common.{inl, inr, ap, sym, ◌∙◌, arith, subst, append_assoc, true≢false}
+use Rattle.std.specs.List.{AllByRecursion, flat_map, list_all, list_any}
 use Rattle.std.specs.Option.{option_map, option_map_or, unwrap_or}
-use Rattle.std.specs.Ordering.{nat_cmp}
 use Rattle.std.proofs.lemmas.Bool.{cases_Bool, eq-eqb, eqb-true}
-use Rattle.std.proofs.lemmas.Bool.{cases_lt}
 use Rattle.std.proofs.lemmas.Option.{slice_get_within}
 use Rattle.pig_value.specs.declared.inputs.Input.{Input}
 use Rattle.pig_value.specs.declared.outcomes.Kept.{Kept}
 use Rattle.pig_value.specs.Elementwise.{Each}
 use Rattle.pig_value.specs.Orders.{bag_of}
-use Rattle.pig_value.specs.Sorts.{sort}
 use Rattle.pig_value.specs.Trees.{Tree}
 use Rattle.pig_value.proofs.list_laws.Indexing.{some_at}
 use Rattle.pig_value.proofs.list_laws.Listing.{each-append, each-filter, each-map, each_at, each_filtered, each_of_all, each_weaker, some_same}
@@ -19,8 +16,8 @@ use Rattle.pig_typed.specs.Evaluation.{passes}
 use Rattle.pig_typed.specs.Typed.{Typed}
 use Rattle.pig_plan.proofs.Lower.{names_lower}
 use Rattle.pig_plan.specs.Meaning.{meaning}
-use Rattle.pig_plan.specs.Nodes.{Entering, Path, and_then, entering, inputs_of, is_boundary, is_live, is_store, live, op_at, paths_of}
-use Rattle.pig_plan.specs.Plans.{Plan, PlanNode, PlanOp, p_load, p_filter, p_foreach, p_group_all, p_group, p_join, p_union, p_distinct, p_order, p_limit, p_store, p_assert, p_rank}
+use Rattle.pig_plan.specs.Nodes.{Entering, Path, and_then, entering, inputs_of, is_live, is_store, live, op_at, paths_of}
+use Rattle.pig_plan.specs.Plans.{PlanNode, PlanOp, p_assert}
 use Rattle.pig_plan.specs.Steps.{rows_along, through}
 use Rattle.pig_plan.specs.Valid.{IsPlan}
 use Rattle.pig_runs.specs.Cutting.{Point}
@@ -38,10 +35,10 @@ use Rattle.pig_waves.proofs.Places.{all_flat_where}
 use Rattle.pig_waves.proofs.Sources.{rows_of_parts}
 use Rattle.pig_waves.proofs.Tasks.{rows_at_node, through_parts}
 use Rattle.pig_waves.specs.Laws.{HaveStages, has_stages}
-use Rattle.pig_cutter.proofs.Among.{Among, MadeOf, among_flat, among_map, any_holds, made_of, not_all, some_fails, some_holds}
+use Rattle.pig_cutter.proofs.Among.{Among, among_flat, among_map, any_holds, made_of, not_all, some_fails, some_holds}
 use Rattle.pig_cutter.proofs.Stores.{store_among, store_tasks_last}
 use Rattle.pig_cutter.proofs.Told.{all_alike, all_among, in_none, any_sorted, from_sorted, told_at, tells}
-use Rattle.pig_cutter.proofs.Ways.{GoesOn, IsRead, asserts_differ, cut_path, handed_path, into, path_goes_on, stored}
+use Rattle.pig_cutter.proofs.Ways.{IsRead, asserts_differ, cut_path, handed_path, into, path_goes_on, stored}
 
 -- ---- two lists element beside element
 

@@ -1,44 +1,37 @@
 -- Each boundary node by its tasks: the rows that its last wave gives are its operator's on the rows that come to its inputs.
-use Rattle.std.specs.Prelude.{◌≡◌, ◌<◌, ◌+◌, ◌==◌, ◌&&◌, ℕ, Bool, true, false, List, [], ◌∷◌, ◌++◌, length, map, take, Option, None, Some, slice_get, refl, if◌then◌else◌}
-use Rattle.std.proofs.Common.{inl, inr, ap, sym, ◌∙◌, arith, subst, append-nil, cond, true≢false}
-use Rattle.std.specs.List.{AllByRecursion, flat_map, range_with_len}
+use Rattle.std.specs.Prelude.{◌≡◌, ◌<◌, ◌==◌, ◌&&◌, ℕ, Bool, true, false, List, [], ◌∷◌, Option, None, Some, refl}
+use Rattle.std.proofs.Common.{ap, sym, ◌∙◌, cond}
 use Rattle.std.specs.Option.{option_and_then, option_map, option_map_or}
-use Rattle.std.proofs.lemmas.Bool.{cases_Bool}
 use Rattle.pig_value.specs.declared.inputs.Input.{Input}
 use Rattle.pig_value.specs.declared.operators.Side.{Side}
 use Rattle.pig_value.specs.declared.outcomes.Kept.{Kept}
 use Rattle.pig_value.specs.Gathering.{Entry}
-use Rattle.pig_value.specs.Elementwise.{Each}
 use Rattle.pig_value.specs.Orders.{bag_of, row_cmp}
-use Rattle.pig_value.specs.Trees.{Tree, fields_of, v_tuple}
+use Rattle.pig_value.specs.Trees.{Tree}
 use Rattle.pig_value.proofs.OrderLaws.{row_same, row_total}
 use Rattle.pig_value.proofs.list_laws.Bags.{bag_from_permutation, bag_once, sort_permutes}
-use Rattle.pig_value.proofs.list_laws.Elementwise.{each_weaker_two}
 use Rattle.pig_value.proofs.list_laws.Listing.{some_same}
 use Rattle.pig_value.proofs.list_laws.Permutations.{IsPermutation-flat_map}
-use Rattle.pig_typed.specs.declared.blocks.SortKey.{SortKey}
 use Rattle.pig_typed.specs.Blocks.{foreach_all, foreach_rows}
 use Rattle.pig_typed.specs.Typed.{TypedBlock}
 use Rattle.pig_algebra.specs.Combining.{SortedCombinersLaw, combined, folded, parts_of_rows}
 use Rattle.pig_algebra.specs.Cuts.{is_combinable}
 use Rattle.pig_plan.proofs.KeyedOnce.{by_key_is}
 use Rattle.pig_plan.specs.ByKey.{gathered, group_of}
-use Rattle.pig_plan.specs.Entries.{dirs_of, is_by_key, key_entries, made_by, sort_entry}
-use Rattle.pig_plan.specs.Meaning.{AreKept, kept_at, setting, width_at}
-use Rattle.pig_plan.specs.Nodes.{is_boundary, is_live, is_sorted, op_at, uses}
+use Rattle.pig_plan.specs.Entries.{key_entries, made_by}
+use Rattle.pig_plan.specs.Meaning.{setting, width_at}
+use Rattle.pig_plan.specs.Nodes.{op_at, uses}
 use Rattle.pig_plan.specs.Operators.{Setting, operator_rows}
-use Rattle.pig_plan.specs.Plans.{Keyed, Plan, PlanNode, PlanOp, p_load, p_filter, p_foreach, p_group_all, p_group, p_join, p_union, p_distinct, p_order, p_limit, p_store, p_assert, p_rank}
-use Rattle.pig_runs.specs.Cutting.{Point, point_cmp}
+use Rattle.pig_plan.specs.Plans.{Keyed, Plan, PlanOp, p_group_all, p_group, p_join}
+use Rattle.pig_runs.specs.Cutting.{Point}
 use Rattle.pig_physical.specs.Combining.{blocks_on, combining, folds, groups_one, only, where_combinable}
-use Rattle.pig_physical.specs.Outs.{Outs, TaskOut, rows_in}
-use Rattle.pig_physical.specs.Running.{AreCuts, AreOutputs, IsRun, rows_given}
-use Rattle.pig_physical.specs.Stages.{MapTask, Stages, first_wave, map_tasks}
-use Rattle.pig_physical.specs.Values.{Keeps, brought_together, handed_on, key_row, reduced, task_rows}
-use Rattle.pig_waves.proofs.Distinct.{rows_once}
-use Rattle.pig_waves.proofs.Limits.{first_together, kept_together}
-use Rattle.pig_waves.proofs.Tasks.{enter_first, from_tasks, rows_at_node}
+use Rattle.pig_physical.specs.Outs.{Outs}
+use Rattle.pig_physical.specs.Running.{IsRun, rows_given}
+use Rattle.pig_physical.specs.Stages.{Stages}
+use Rattle.pig_physical.specs.Values.{brought_together, handed_on, reduced}
+use Rattle.pig_waves.proofs.Tasks.{enter_first, rows_at_node}
 use Rattle.pig_waves.specs.Laws.{StandsAt}
-use Rattle.pig_cutter.proofs.Keyed.{all_entries, given_by_key, given_folded, own_entries}
+use Rattle.pig_cutter.proofs.Keyed.{given_by_key, given_folded}
 
 abbrev Rows : Type 0
 Rows = List (List Tree)

@@ -1,41 +1,34 @@
 -- What the partitions of an operator by key, or of a DISTINCT, are made of.
-use Rattle.std.specs.Prelude.{◌≡◌, ◌<◌, ◌+◌, ◌==◌, ℕ, Bool, true, false, List, [], ◌∷◌, ◌++◌, length, map, Option, None, Some, slice_get, refl}
-use Rattle.std.proofs.Common.{ap, sym, ◌∙◌, arith, subst}
+use Rattle.std.specs.Prelude.{◌≡◌, ◌<◌, ◌+◌, ℕ, true, List, [], ◌∷◌, ◌++◌, map, Some, slice_get, refl}
+use Rattle.std.proofs.Common.{ap, sym, ◌∙◌, arith}
 use Rattle.std.specs.List.{AllByRecursion, flat_map, range_with_len}
-use Rattle.std.specs.List.Sorted.{IsPermutation}
-use Rattle.std.specs.Option.{option_map, option_map_or}
+use Rattle.std.specs.Option.{option_map_or}
 use Rattle.std.proofs.Math.Nat.{mod-lt}
 use Rattle.std.proofs.lemmas.List.Folds.{flat_map-map}
-use Rattle.std.proofs.lemmas.List.Sorted.{IsPermutation-sym}
 use Rattle.pig_value.specs.declared.inputs.Input.{Input}
 use Rattle.pig_value.specs.Gathering.{Entry, in_part}
-use Rattle.pig_value.specs.Orders.{bag_of, row_cmp}
+use Rattle.pig_value.specs.Orders.{bag_of}
 use Rattle.pig_value.specs.Sorts.{sort}
 use Rattle.pig_value.specs.Trees.{Tree}
-use Rattle.pig_value.proofs.OrderLaws.{row_same, row_total}
-use Rattle.pig_value.proofs.list_laws.Bags.{bag_from_permutation, permutation_from_bag, sort_permutes}
 use Rattle.pig_value.proofs.list_laws.Elementwise.{range_below}
-use Rattle.pig_value.proofs.list_laws.Listing.{each_weaker, each_of_all, flat_map_each, map_each}
-use Rattle.pig_value.proofs.list_laws.Permutations.{IsPermutation-flat_map}
-use Rattle.pig_typed.specs.Blocks.{foreach_all, foreach_rows}
+use Rattle.pig_value.proofs.list_laws.Listing.{each_weaker, each_of_all, flat_map_each}
+use Rattle.pig_typed.specs.Blocks.{foreach_all}
 use Rattle.pig_typed.specs.Typed.{TypedBlock}
 use Rattle.pig_algebra.specs.Combining.{SortedCombinersLaw, combined, folded, grouped, parts_of_rows}
 use Rattle.pig_algebra.specs.Cuts.{is_combinable}
 use Rattle.pig_plan.specs.ByKey.{gathered, group_of}
-use Rattle.pig_plan.specs.Entries.{entries_of, from_inputs, key_at, key_entries, made_by}
-use Rattle.pig_plan.specs.Meaning.{width_at}
-use Rattle.pig_plan.specs.Nodes.{inputs_of, op_at}
-use Rattle.pig_plan.specs.Plans.{Plan, PlanOp}
+use Rattle.pig_plan.specs.Entries.{entries_of, key_at, key_entries}
+use Rattle.pig_plan.specs.Nodes.{op_at}
+use Rattle.pig_plan.specs.Plans.{PlanOp}
 use Rattle.pig_runs.specs.Cutting.{Point}
 use Rattle.pig_runs.specs.Entries.{run_cmp}
 use Rattle.pig_runs.specs.Parts.{pn}
-use Rattle.pig_physical.specs.Combining.{combining, folds}
-use Rattle.pig_physical.specs.Outs.{Form, Outs, TaskOut, entries_at, o_rows, o_runs, outs_at, rows_in}
+use Rattle.pig_physical.specs.Outs.{Form, Outs, entries_at, o_rows, o_runs, outs_at, rows_in}
 use Rattle.pig_physical.specs.Running.{IsRun}
 use Rattle.pig_physical.specs.Stages.{MapTask, Stages, first_wave, map_tasks, reduce_count}
-use Rattle.pig_physical.specs.Values.{IsMapForm, IsReduceForm, brought_together, handed_on, partitions, reduced, runs_of, task_rows}
+use Rattle.pig_physical.specs.Values.{IsMapForm, IsReduceForm, handed_on, partitions, reduced, runs_of, task_rows}
 use Rattle.pig_waves.proofs.ByKey.{parts_together}
-use Rattle.pig_waves.proofs.Given.{entries_of_part, in_partition, map_outs, reduce_outs, rows_by_parts, task_entries}
+use Rattle.pig_waves.proofs.Given.{entries_of_part, in_partition, reduce_outs, rows_by_parts, task_entries}
 use Rattle.pig_waves.proofs.Tasks.{from_tasks, rows_at_node}
 use Rattle.pig_waves.specs.Laws.{StandsAt}
 

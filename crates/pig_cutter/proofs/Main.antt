@@ -1,12 +1,11 @@
 -- The rows that come to each live node are what it means, by induction over the nodes.
-use Rattle.std.specs.Prelude.{◌≡◌, ◌<◌, ◌≤◌, ◌+◌, ◌==◌, ◌||◌, ℕ, zero, suc, Bool, true, false, List, [], ◌∷◌, ◌++◌, length, map, min, take, Option, None, Some, slice_get, refl}
+use Rattle.std.specs.Prelude.{◌≡◌, ◌<◌, ◌+◌, ◌==◌, ◌||◌, ℕ, zero, suc, Bool, true, false, List, [], ◌∷◌, length, min, Option, None, Some, slice_get, refl}
 use Rattle.std.proofs.Common.{inl, inr, ap, sym, ◌∙◌, arith, subst, append-nil, cond, true≢false}
-use Rattle.std.specs.List.{AllByRecursion, flat_map, range_with_len}
-use Rattle.std.specs.Option.{is_some, option_map, option_map_or}
+use Rattle.std.specs.List.{AllByRecursion, flat_map}
+use Rattle.std.specs.Option.{is_some, option_map}
 use Rattle.std.proofs.lemmas.Bool.{cases_Bool, eq-eqb, eqb-true}
 use Rattle.std.proofs.lemmas.List.Sorted.{length_permutation}
 use Rattle.std.proofs.lemmas.Option.{slice_get_within}
-use Rattle.pig_value.specs.declared.inputs.Column.{Column}
 use Rattle.pig_value.specs.declared.inputs.Input.{Input}
 use Rattle.pig_value.specs.declared.outcomes.Kept.{Kept}
 use Rattle.pig_value.specs.Orders.{bag_of, row_cmp}
@@ -14,7 +13,7 @@ use Rattle.pig_value.specs.Trees.{Tree}
 use Rattle.pig_value.proofs.OrderLaws.{row_total, row_same}
 use Rattle.pig_value.proofs.list_laws.Bags.{bag_from_permutation, bag_once, permutation_from_bag, times_from_permutation}
 use Rattle.pig_value.proofs.list_laws.Indexing.{some_at}
-use Rattle.pig_value.proofs.list_laws.Listing.{each_at, each_weaker, some_same}
+use Rattle.pig_value.proofs.list_laws.Listing.{each_at}
 use Rattle.pig_value.proofs.list_laws.Permutations.{IsPermutation-flat_map}
 use Rattle.pig_typed.specs.Blocks.{foreach_all, foreach_rows}
 use Rattle.pig_typed.specs.Typed.{Typed, TypedBlock}
@@ -43,7 +42,7 @@ use Rattle.pig_waves.proofs.Sources.{load_parts, outputs, rows_of_parts}
 use Rattle.pig_waves.proofs.Tasks.{rows_at_node}
 use Rattle.pig_waves.specs.Laws.{HaveStages, StandsAt, has_stages}
 use Rattle.pig_cutter.proofs.Alone.{folds_alone}
-use Rattle.pig_cutter.proofs.Boundaries.{AreOf, group_all_of, group_by, join_by, none_folds_at}
+use Rattle.pig_cutter.proofs.Boundaries.{group_all_of, group_by, join_by, none_folds_at}
 use Rattle.pig_cutter.proofs.Others.{distinct_is, limit_is, limit_keeps, order_is}
 use Rattle.pig_cutter.specs.Laws.{Answers}
 

@@ -1,10 +1,9 @@
 -- DISTINCT, ORDER and LIMIT by their tasks.
-use Rattle.std.specs.Prelude.{◌≡◌, ◌<◌, ◌+◌, ℕ, Bool, true, false, List, [], ◌∷◌, ◌++◌, length, map, take, Option, None, Some, slice_get, refl}
-use Rattle.std.proofs.Common.{ap, sym, ◌∙◌, arith, subst, append-nil, true≢false}
-use Rattle.std.specs.List.{AllByRecursion, flat_map, range_with_len}
+use Rattle.std.specs.Prelude.{◌≡◌, ◌<◌, ◌+◌, ℕ, true, false, List, [], ◌∷◌, length, map, take, None, Some, refl}
+use Rattle.std.proofs.Common.{ap, sym, ◌∙◌, arith, subst, append-nil}
+use Rattle.std.specs.List.{flat_map, range_with_len}
 use Rattle.std.specs.Option.{option_map, option_map_or}
 use Rattle.pig_value.specs.declared.inputs.Input.{Input}
-use Rattle.pig_value.specs.declared.outcomes.Kept.{Kept}
 use Rattle.pig_value.specs.Elementwise.{Each}
 use Rattle.pig_value.specs.Gathering.{Entry, in_part}
 use Rattle.pig_value.specs.Orders.{bag_of, row_cmp, tree_cmp}
@@ -15,11 +14,11 @@ use Rattle.pig_value.proofs.list_laws.Listing.{each_of_all, each_weaker, flat_ma
 use Rattle.pig_value.proofs.list_laws.Elementwise.{range_below}
 use Rattle.pig_typed.specs.declared.blocks.SortKey.{SortKey}
 use Rattle.pig_algebra.specs.Combining.{combined, folded, parts_of_rows}
-use Rattle.pig_plan.specs.Entries.{dirs_of, entries_of, from_inputs, key_entries, sort_entry}
-use Rattle.pig_plan.specs.Meaning.{AreKept, setting, width_at}
+use Rattle.pig_plan.specs.Entries.{dirs_of, entries_of, from_inputs, sort_entry}
+use Rattle.pig_plan.specs.Meaning.{AreKept}
 use Rattle.pig_plan.specs.Nodes.{inputs_of, is_live, is_sorted, op_at}
-use Rattle.pig_plan.specs.Operators.{Setting, operator_rows, order_rows}
-use Rattle.pig_plan.specs.Plans.{Plan, PlanOp, p_distinct, p_limit, p_order}
+use Rattle.pig_plan.specs.Operators.{order_rows}
+use Rattle.pig_plan.specs.Plans.{PlanOp, p_distinct, p_limit, p_order}
 use Rattle.pig_runs.specs.Cutting.{Point, slice_of}
 use Rattle.pig_runs.specs.Entries.{run_cmp}
 use Rattle.pig_runs.specs.Parts.{pn}
@@ -27,7 +26,7 @@ use Rattle.pig_physical.specs.Combining.{folds}
 use Rattle.pig_physical.specs.Outs.{Outs, TaskOut, entries_at, outs_at, rows_in}
 use Rattle.pig_physical.specs.Running.{AreCuts, IsRun, rows_given}
 use Rattle.pig_physical.specs.Stages.{MapTask, Stages, first_wave, map_tasks}
-use Rattle.pig_physical.specs.Values.{IsMapForm, IsMapValue, IsReduceForm, IsReduceValue, Keeps, brought_together, handed_on, key_row, reduced, slices, task_rows}
+use Rattle.pig_physical.specs.Values.{IsMapForm, IsReduceValue, Keeps, handed_on, key_row, reduced, task_rows}
 use Rattle.pig_waves.proofs.Distinct.{key_alone, rows_once}
 use Rattle.pig_waves.proofs.Given.{entries_of_part, map_values, reduce_values, reduce_task, rows_by_parts}
 use Rattle.pig_waves.proofs.Limits.{first_together, kept_together}

@@ -1,6 +1,6 @@
 -- The bytes of a STORE's parts, joined, are the texts of the rows that come to it.
-use Rattle.std.specs.Prelude.{◌≡◌, ◌<◌, ◌+◌, ◌-◌, ◌==◌, ℕ, zero, suc, Bool, true, false, ◌||◌, nat_lt, List, [], ◌∷◌, ◌++◌, length, map, take, drop, Option, None, Some, slice_get, refl}
-use Rattle.std.proofs.Common.{inl, inr, ap, sym, ◌∙◌, arith, subst, append-nil, cond, true≢false}
+use Rattle.std.specs.Prelude.{◌≡◌, ◌+◌, ◌==◌, ℕ, Bool, true, false, ◌||◌, nat_lt, List, [], ◌∷◌, ◌++◌, length, map, take, drop, Option, None, Some, slice_get, refl}
+use Rattle.std.proofs.Common.{ap, sym, ◌∙◌, arith, subst, append-nil, cond, true≢false}
 use Rattle.std.specs.List.{AllByRecursion, filter, flat_map, range_with_len}
 use Rattle.std.specs.Option.{option_map, option_map_or}
 use Rattle.std.proofs.lemmas.Bool.{eq-eqb, eqb-true}
@@ -10,18 +10,16 @@ use Rattle.std.proofs.lemmas.List.{length-append}
 use Rattle.pig_value.specs.declared.inputs.Input.{Input}
 use Rattle.pig_value.specs.Elementwise.{Each, Rising}
 use Rattle.pig_value.specs.Texts.{row_text, rows_text}
-use Rattle.pig_value.specs.Trees.{Tree}
 use Rattle.pig_value.proofs.list_laws.Elementwise.{filter_rises, get-behind, range_rises, split_off}
-use Rattle.pig_value.proofs.list_laws.Listing.{each-filter, each_weaker, each_filtered, flat_map-flat_map, flat_map_each, flat_map_none, each_of_all}
-use Rattle.pig_plan.specs.Nodes.{entering, is_live, is_store, is_used, live, op_at, paths_of}
+use Rattle.pig_value.proofs.list_laws.Listing.{each_weaker, each_filtered, flat_map-flat_map, flat_map_each, flat_map_none, each_of_all}
+use Rattle.pig_plan.specs.Nodes.{is_live, is_store, is_used, live, op_at}
 use Rattle.pig_plan.specs.Plans.{Plan, PlanNode, PlanOp, p_store}
 use Rattle.pig_runs.specs.Cutting.{Point}
-use Rattle.pig_physical.specs.declared.waves.WaveHead.{WaveHead}
 use Rattle.pig_physical.specs.declared.waves.WaveKind.TheVariants as kinds
-use Rattle.pig_physical.specs.Outs.{Outs, TaskOut, bytes_in, o_bytes, outs_at}
-use Rattle.pig_physical.specs.Running.{IsRun, bytes_for, bytes_given, is_for, store_wave}
-use Rattle.pig_physical.specs.Stages.{MapTask, Stages, Task, boundaries, head_of, heads, heads_at, store_tasks, stores, t_map, tasks_by, tasks_in, tasks_of, ways_to}
-use Rattle.pig_physical.specs.Values.{IsMapForm, IsMapValue, IsValue, task_rows}
+use Rattle.pig_physical.specs.Outs.{Outs, TaskOut, bytes_in, outs_at}
+use Rattle.pig_physical.specs.Running.{IsRun, bytes_for, bytes_given, store_wave}
+use Rattle.pig_physical.specs.Stages.{MapTask, Stages, boundaries, head_of, heads, heads_at, store_tasks, stores, t_map, tasks_by, tasks_in, tasks_of, ways_to}
+use Rattle.pig_physical.specs.Values.{IsValue, task_rows}
 use Rattle.pig_waves.proofs.Heads.{live_at}
 use Rattle.pig_waves.proofs.Places.{each_left, filtered_at}
 use Rattle.pig_waves.proofs.Tasks.{from_store_tasks, name_node, rows_at_node}

@@ -1,13 +1,9 @@
 -- Which ASSERTs tasks tell of: those that the meaning does not meet.
-use Rattle.std.specs.Prelude.{◌≡◌, ◌<◌, ◌+◌, ◌-◌, ◌==◌, ◌&&◌, ◌||◌, ℕ, zero, suc, Bool, true, false, not, List, [], ◌∷◌, ◌++◌, length, map, take, Option, None, Some, slice_get, refl, if◌then◌else◌}
-use Rattle.std.proofs.Common.{inl, inr, ap, sym, ◌∙◌, arith, subst, cond, true≢false}
-use Rattle.std.specs.List.{AllByRecursion, filter, flat_map, list_all, list_any, range_with_len}
-use Rattle.std.specs.Option.{option_map, option_map_or}
+use Rattle.std.specs.Prelude.{◌≡◌, ◌&&◌, ◌||◌, ℕ, zero, suc, Bool, true, false, List, [], ◌∷◌, ◌++◌, Option, None, Some, slice_get, refl}
+use Rattle.std.proofs.Common.{ap, sym, ◌∙◌, subst, cond}
+use Rattle.std.specs.List.{AllByRecursion, list_all, list_any}
+use Rattle.std.specs.Option.{option_map_or}
 use Rattle.std.specs.Ordering.{nat_cmp}
-use Rattle.std.proofs.lemmas.Bool.{cases_Bool, eq-eqb}
-use Rattle.std.proofs.lemmas.Bool.Decides.{nat_tests}
-use Rattle.pig_value.specs.declared.inputs.Input.{Input}
-use Rattle.pig_value.specs.Elementwise.{Each}
 use Rattle.pig_value.specs.Orders.{bag_of, row_cmp}
 use Rattle.pig_value.specs.Sorts.{sort}
 use Rattle.pig_value.specs.Trees.{Tree}
@@ -16,25 +12,11 @@ use Rattle.pig_value.proofs.list_laws.Listing.{each_at, each_weaker, some_same}
 use Rattle.pig_value.proofs.list_laws.Permutations.{along_permutation}
 use Rattle.pig_typed.specs.Evaluation.{passes}
 use Rattle.pig_typed.specs.Typed.{Typed}
-use Rattle.pig_plan.specs.Nodes.{Entering, Path, and_then, entering, inputs_of, is_boundary, is_live, is_store, live, op_at, paths_of}
 use Rattle.pig_plan.specs.Plans.{Plan, PlanNode, PlanOp, p_load, p_filter, p_foreach, p_group_all, p_group, p_join, p_union, p_distinct, p_order, p_limit, p_store, p_assert, p_rank}
-use Rattle.pig_plan.specs.Results.{at_place}
-use Rattle.pig_plan.specs.Steps.{node_step, rows_along, through}
-use Rattle.pig_plan.specs.Valid.{IsPlan, are_twins}
-use Rattle.pig_runs.specs.Cutting.{Point}
+use Rattle.pig_plan.specs.Steps.{node_step, through}
 use Rattle.pig_physical.specs.Combining.{folds}
-use Rattle.pig_physical.specs.declared.parts.Part.{Part}
-use Rattle.pig_physical.specs.declared.waves.WaveHead.{WaveHead}
-use Rattle.pig_physical.specs.declared.waves.WaveKind.{WaveKind}
-use Rattle.pig_physical.specs.declared.waves.WaveKind.TheVariants as kinds
-use Rattle.pig_physical.specs.Outs.{Outs, TaskOut, outs_at}
-use Rattle.pig_physical.specs.Running.{IsRun, all_unmet}
-use Rattle.pig_physical.specs.Stages.{MapTask, Stages, Task, first_wave, heads, map_tasks, partition_tasks, parts_at, path_tasks, store_tasks, stores, t_map, t_reduce, tasks_by, tasks_in, tasks_of, tasks_on}
-use Rattle.pig_physical.specs.Values.{IsValue, not_met, not_met_at, read_rows, source_rows, task_unmet, unmet_on}
-use Rattle.pig_waves.proofs.Sources.{rows_of_parts}
-use Rattle.pig_waves.proofs.Tasks.{rows_at_node, through_parts}
-use Rattle.pig_cutter.proofs.Among.{Among, MadeOf, Side, among_behind, among_first, among_flat, among_front, among_later, among_map, any_holds, in_front, behind, made_of, mapped_from, not_all, side_of, some_fails, some_holds}
-use Rattle.pig_cutter.proofs.Ways.{Before, GoesOn, cut_path}
+use Rattle.pig_physical.specs.Values.{not_met, not_met_at, unmet_on}
+use Rattle.pig_cutter.proofs.Among.{Among, Side, among_behind, among_first, among_front, among_later, in_front, behind, side_of}
 
 abbrev Rows : Type 0
 Rows = List (List Tree)

@@ -1,11 +1,10 @@
 -- Paths, cut at a node on them, and taken on to where rows are read.
-use Rattle.std.specs.Prelude.{◌≡◌, ◌<◌, ◌≤◌, ◌+◌, ◌-◌, ◌==◌, ◌&&◌, ◌||◌, ℕ, zero, suc, Bool, true, false, not, List, [], ◌∷◌, ◌++◌, length, map, take, drop, Option, None, Some, slice_get, get_or, refl}
+use Rattle.std.specs.Prelude.{◌≡◌, ◌<◌, ◌≤◌, ◌+◌, ◌==◌, ◌&&◌, ◌||◌, ℕ, zero, suc, Bool, true, false, not, List, [], ◌∷◌, ◌++◌, length, map, take, drop, Option, Some, slice_get, get_or, refl}
 use Rattle.std.proofs.Common.{inl, inr, ap, sym, ◌∙◌, arith, subst, append_assoc, append-nil, cond, true≢false}
-use Rattle.std.specs.List.{AllByRecursion, flat_map, list_any}
-use Rattle.std.specs.Option.{option_map, option_map_or}
+use Rattle.std.specs.List.{flat_map, list_any}
+use Rattle.std.specs.Option.{option_map_or}
 use Rattle.std.proofs.lemmas.Bool.{cases_Bool, eq-eqb, eqb-true}
 use Rattle.std.proofs.lemmas.Bool.{cases_lt}
-use Rattle.std.proofs.lemmas.Bool.Decides.{nat_tests}
 use Rattle.std.proofs.lemmas.List.{length-append}
 use Rattle.std.proofs.lemmas.Option.{slice_get_within}
 use Rattle.pig_value.proofs.list_laws.Indexing.{drop-add, get-drop, some_at}
@@ -13,10 +12,10 @@ use Rattle.pig_value.proofs.list_laws.Listing.{each_at, some_same}
 use Rattle.pig_typed.specs.Typed.{Typed}
 use Rattle.pig_plan.proofs.Lower.{names_lower}
 use Rattle.pig_plan.proofs.Paths.{paths_of_node}
-use Rattle.pig_plan.specs.Nodes.{Entering, Path, and_then, entering, inputs_of, is_boundary, is_live, is_source, is_store, is_used, names, op_at, paths_of}
+use Rattle.pig_plan.specs.Nodes.{Entering, Path, and_then, entering, inputs_of, is_boundary, is_live, is_source, is_store, is_used, names, paths_of}
 use Rattle.pig_plan.specs.Plans.{Plan, PlanNode, PlanOp, p_load, p_filter, p_foreach, p_group_all, p_group, p_join, p_union, p_distinct, p_order, p_limit, p_store, p_assert, p_rank}
 use Rattle.pig_plan.specs.Valid.{IsPlan, are_twins, fits, is_twin}
-use Rattle.pig_cutter.proofs.Among.{Among, Holds, MadeOf, MappedFrom, among_behind, among_first, among_flat, among_front, among_later, among_map, any_holds, made_of, mapped_from, some_holds}
+use Rattle.pig_cutter.proofs.Among.{Among, MadeOf, among_behind, among_flat, among_front, among_map, any_holds, made_of, mapped_from, some_holds}
 
 -- ---- a list with one more element, cut
 

@@ -1,8 +1,7 @@
 -- GROUP, COGROUP and the joins by tasks: what the partitions give is what is made of the entries of all rows.
-use Rattle.std.specs.Prelude.{◌≡◌, ◌<◌, ◌+◌, ◌%◌, ℕ, List, [], ◌∷◌, ◌++◌, length, map, Option, None, Some, slice_get, refl}
-use Rattle.std.proofs.Common.{ap, sym, ◌∙◌, arith, subst}
-use Rattle.std.specs.List.{AllByRecursion, flat_map, range_with_len}
-use Rattle.std.specs.List.Sorted.{IsPermutation}
+use Rattle.std.specs.Prelude.{◌≡◌, ◌<◌, ℕ, List, [], map}
+use Rattle.std.proofs.Common.{ap, sym, ◌∙◌}
+use Rattle.std.specs.List.{flat_map, range_with_len}
 use Rattle.std.proofs.Math.Nat.{mod-lt}
 use Rattle.std.proofs.lemmas.List.Folds.{flat_map-map}
 use Rattle.std.proofs.lemmas.List.Sorted.{IsPermutation-sym}
@@ -18,7 +17,6 @@ use Rattle.pig_plan.proofs.Gathered.{gathered_parts, gathered_same}
 use Rattle.pig_plan.specs.ByKey.{gathered}
 use Rattle.pig_runs.specs.Entries.{run_cmp}
 use Rattle.pig_runs.specs.Parts.{pn}
-use Rattle.pig_runs.proofs.Order.{run_total}
 
 abbrev Rows : Type 0
 Rows = List (List Tree)

@@ -1,7 +1,7 @@
 -- DISTINCT by tasks that combine: each hands on each of its rows once, as a key.
-use Rattle.std.specs.Prelude.{◌≡◌, ◌<◌, ◌==◌, ℕ, List, [], ◌∷◌, ◌++◌, map, refl}
+use Rattle.std.specs.Prelude.{◌≡◌, ◌<◌, ◌==◌, ℕ, List, [], ◌∷◌, map, refl}
 use Rattle.std.proofs.Common.{ap, sym, subst, ◌∙◌}
-use Rattle.std.specs.List.{AllByRecursion, filter, flat_map, range_with_len}
+use Rattle.std.specs.List.{filter, flat_map, range_with_len}
 use Rattle.std.specs.List.Sorted.{IsPermutation}
 use Rattle.std.proofs.Math.Nat.{mod-lt}
 use Rattle.std.proofs.lemmas.List.Concat.{flat_map_single}
@@ -10,12 +10,12 @@ use Rattle.std.proofs.lemmas.List.Sorted.{IsPermutation-map, IsPermutation-sym}
 use Rattle.pig_value.specs.Gathering.{Entry, in_part, with_key}
 use Rattle.pig_value.specs.Orders.{bag_of, row_cmp, tree_cmp}
 use Rattle.pig_value.specs.Sorts.{distinct, sort}
-use Rattle.pig_value.specs.Trees.{Tree, fields_list, fields_of, v_tuple}
+use Rattle.pig_value.specs.Trees.{Tree, fields_of, v_tuple}
 use Rattle.pig_value.proofs.OrderLaws.{fields_are, row_same, row_total, tree_same, tree_total}
 use Rattle.pig_value.proofs.TreeLaws.{fields_back}
 use Rattle.pig_value.proofs.list_laws.Bags.{bag_from_permutation, sort_permutes}
 use Rattle.pig_value.proofs.list_laws.Distinct.{distinct_flat, distinct_map, distinct_permuted, filter-distinct}
-use Rattle.pig_value.proofs.list_laws.Listing.{each_of_all, filter-flat_map, filter-map, flat_map_each, map-flat_map}
+use Rattle.pig_value.proofs.list_laws.Listing.{each_of_all, filter-map, flat_map_each, map-flat_map}
 use Rattle.pig_value.proofs.list_laws.Permutations.{IsPermutation-flat_map_each, IsPermutation-same}
 use Rattle.pig_algebra.specs.Combining.{combined}
 use Rattle.pig_plan.proofs.ByTasks.{distinct_parts}

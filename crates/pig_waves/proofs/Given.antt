@@ -1,7 +1,7 @@
 -- What a run says of the two waves of a boundary node: its map tasks' outputs, and the rows that its reduce tasks give.
-use Rattle.std.specs.Prelude.{◌≡◌, ◌<◌, ◌+◌, ◌-◌, ℕ, List, [], ◌∷◌, ◌++◌, length, map, Option, None, Some, slice_get, refl}
+use Rattle.std.specs.Prelude.{◌≡◌, ◌<◌, ◌+◌, ℕ, List, [], length, Some, slice_get}
 use Rattle.std.proofs.Common.{ap, sym, ◌∙◌, arith, subst}
-use Rattle.std.specs.List.{AllByRecursion, flat_map, range_with_len}
+use Rattle.std.specs.List.{flat_map, range_with_len}
 use Rattle.std.specs.Option.{option_map, option_map_or}
 use Rattle.std.proofs.lemmas.List.FromFn.{length-range_with_len}
 use Rattle.pig_value.specs.declared.inputs.Input.{Input}
@@ -9,19 +9,18 @@ use Rattle.pig_value.specs.Elementwise.{Each}
 use Rattle.pig_value.specs.Gathering.{Entry, in_part}
 use Rattle.pig_value.specs.Sorts.{sort}
 use Rattle.pig_value.specs.Trees.{Tree}
-use Rattle.pig_value.proofs.list_laws.Elementwise.{each_flat, each_length, each_weaker_two, range_below}
+use Rattle.pig_value.proofs.list_laws.Elementwise.{each_flat, each_length, each_weaker_two}
 use Rattle.pig_value.proofs.list_laws.Indexing.{get_map}
-use Rattle.pig_value.proofs.list_laws.Listing.{each_weaker, flat_map_each}
-use Rattle.pig_plan.specs.Entries.{entries_of, sort_keys}
-use Rattle.pig_plan.specs.Nodes.{entering, inputs_of, op_at, paths_of}
-use Rattle.pig_plan.specs.Plans.{Plan, PlanOp}
+use Rattle.pig_plan.specs.Entries.{entries_of}
+use Rattle.pig_plan.specs.Nodes.{op_at}
+use Rattle.pig_plan.specs.Plans.{PlanOp}
 use Rattle.pig_runs.specs.Cutting.{Point}
 use Rattle.pig_runs.specs.Entries.{InDirections, run_cmp, run_of}
 use Rattle.pig_runs.specs.Parts.{pn}
 use Rattle.pig_physical.specs.declared.parts.ReduceTask.{ReduceTask}
 use Rattle.pig_physical.specs.Outs.{Form, Outs, TaskOut, entries_at, o_rows, o_runs, outs_at, rows_in, runs_in}
-use Rattle.pig_physical.specs.Running.{IsRun, rows_given}
-use Rattle.pig_physical.specs.Stages.{MapTask, Stages, Task, first_wave, last_wave, map_tasks, partition_tasks, reduce_count, t_map, t_reduce, tasks_in, ways_into}
+use Rattle.pig_physical.specs.Running.{IsRun}
+use Rattle.pig_physical.specs.Stages.{MapTask, Stages, first_wave, map_tasks, partition_tasks, reduce_count, t_map, t_reduce, ways_into}
 use Rattle.pig_physical.specs.Values.{IsMapForm, IsMapValue, IsReduceForm, IsReduceValue, IsValue, handed_on, partitions, reduced, runs_of, task_rows}
 use Rattle.pig_waves.proofs.Places.{each_known, each_left, range_at}
 use Rattle.pig_waves.proofs.Tasks.{name_node}

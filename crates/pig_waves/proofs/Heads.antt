@@ -1,12 +1,10 @@
 -- Where the waves of a boundary node stand among all.
-use Rattle.std.specs.Prelude.{◌≡◌, ◌<◌, ◌+◌, ◌-◌, ℕ, zero, suc, Bool, true, false, ◌&&◌, nat_lt, List, [], ◌∷◌, ◌++◌, length, map, take, Option, None, Some, slice_get, refl}
-use Rattle.std.proofs.Common.{ap, sym, ◌∙◌, arith, subst, append_assoc, true≢false}
-use Rattle.std.specs.List.{AllByRecursion, filter, flat_map, range_with_len}
+use Rattle.std.specs.Prelude.{◌≡◌, ◌+◌, ◌-◌, ℕ, Bool, true, false, nat_lt, List, [], ◌∷◌, ◌++◌, length, map, take, Some, slice_get, refl}
+use Rattle.std.proofs.Common.{ap, sym, ◌∙◌, arith, append_assoc, true≢false}
+use Rattle.std.specs.List.{filter, flat_map, range_with_len}
 use Rattle.std.specs.Option.{option_map_or}
 use Rattle.std.proofs.lemmas.Grind.{flat_map-append}
-use Rattle.std.proofs.lemmas.List.{length-append}
 use Rattle.pig_value.proofs.list_laws.Elementwise.{filter_rises, get-behind, range_rises, split_off}
-use Rattle.pig_value.specs.declared.operators.Side.{Side}
 use Rattle.pig_value.specs.Elementwise.{Rising}
 use Rattle.pig_plan.proofs.Meanings.{live_within}
 use Rattle.pig_plan.specs.Nodes.{is_boundary, is_live, live, op_at}
@@ -14,7 +12,7 @@ use Rattle.pig_plan.specs.Plans.{Plan, PlanOp, p_load, p_filter, p_foreach, p_gr
 use Rattle.pig_physical.specs.declared.waves.WaveHead.{WaveHead}
 use Rattle.pig_physical.specs.declared.waves.WaveKind.{WaveKind}
 use Rattle.pig_physical.specs.declared.waves.WaveKind.TheVariants as kinds
-use Rattle.pig_physical.specs.Stages.{Stages, boundaries, first_wave, head_of, heads, heads_at, map_tasks, partition_tasks, stores, t_map, t_reduce, tasks_by, tasks_in, tasks_of, waves_of}
+use Rattle.pig_physical.specs.Stages.{Stages, boundaries, first_wave, head_of, heads, heads_at, partition_tasks, stores, t_reduce, tasks_by, tasks_in, tasks_of, waves_of}
 use Rattle.pig_waves.proofs.Places.{filtered_at, get_front, range_at}
 use Rattle.pig_waves.specs.Laws.{StandsAt, has_stages}
 

@@ -1,9 +1,8 @@
 -- Elements of lists by their places, and lists that are made of lists.
-use Rattle.std.specs.Prelude.{◌≡◌, ◌<◌, ◌+◌, ℕ, zero, suc, Bool, true, false, List, [], ◌∷◌, ◌++◌, length, map, Option, None, Some, slice_get, refl}
-use Rattle.std.proofs.Common.{ap, sym, ◌∙◌, arith, cond, subst, true≢false}
+use Rattle.std.specs.Prelude.{◌≡◌, ◌<◌, ◌+◌, ℕ, zero, suc, Bool, true, false, List, [], ◌∷◌, ◌++◌, length, map, Some, slice_get}
+use Rattle.std.proofs.Common.{ap, sym, ◌∙◌, arith, cond}
 use Rattle.std.specs.List.{AllByRecursion, filter, flat_map, range_with_len}
 use Rattle.std.specs.Option.{option_map_or}
-use Rattle.std.proofs.lemmas.Grind.{flat_map-append}
 use Rattle.std.proofs.lemmas.List.Folds.{flat_map-map}
 use Rattle.pig_value.proofs.list_laws.Elementwise.{placed}
 use Rattle.pig_value.proofs.list_laws.Listing.{each-append, some_same}

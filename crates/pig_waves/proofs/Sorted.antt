@@ -1,7 +1,7 @@
 -- ORDER by tasks: the slices of their runs between points, each brought together and sorted, are in turn the rows in order.
-use Rattle.std.specs.Prelude.{◌≡◌, ◌<◌, ◌+◌, ℕ, List, [], ◌∷◌, ◌++◌, length, map, Option, Some, slice_get, refl}
+use Rattle.std.specs.Prelude.{◌≡◌, ◌<◌, ◌+◌, ℕ, List, [], length, map, Some, slice_get}
 use Rattle.std.proofs.Common.{ap, sym, ◌∙◌, arith}
-use Rattle.std.specs.List.{AllByRecursion, flat_map, range_with_len}
+use Rattle.std.specs.List.{flat_map, range_with_len}
 use Rattle.std.specs.Option.{option_map, option_map_or}
 use Rattle.std.proofs.lemmas.List.Folds.{flat_map-map}
 use Rattle.std.proofs.lemmas.List.Sorted.{IsPermutation-sym}
@@ -9,10 +9,10 @@ use Rattle.pig_value.specs.declared.operators.Dir.{Dir}
 use Rattle.pig_value.specs.Gathering.{Entry}
 use Rattle.pig_value.specs.Sorts.{Ascends, sort}
 use Rattle.pig_value.specs.Trees.{Tree}
-use Rattle.pig_value.proofs.list_laws.Bags.{bag_from_permutation, sort_map, sort_permutes}
+use Rattle.pig_value.proofs.list_laws.Bags.{bag_from_permutation, sort_permutes}
 use Rattle.pig_value.proofs.list_laws.Indexing.{get_map}
 use Rattle.pig_value.proofs.list_laws.Listing.{each_of_all, flat_map_each, map-flat_map}
-use Rattle.pig_value.proofs.list_laws.Permutations.{IsPermutation-flat_map_each, IsPermutation-same}
+use Rattle.pig_value.proofs.list_laws.Permutations.{IsPermutation-flat_map_each}
 use Rattle.pig_typed.specs.declared.blocks.SortKey.{SortKey}
 use Rattle.pig_operators.proofs.SortEntries.{ordering_rows}
 use Rattle.pig_plan.specs.Entries.{dirs_of, sort_entry}

@@ -1,7 +1,7 @@
 -- The rows of a source, part by part: those of a LOAD's splits are its rows, those of a boundary node's partitions what its last wave gives.
-use Rattle.std.specs.Prelude.{◌≡◌, ◌<◌, ◌≤◌, ◌+◌, ℕ, zero, suc, List, [], ◌∷◌, ◌++◌, length, map, Option, Some, slice_get, refl}
-use Rattle.std.proofs.Common.{ap, sym, ◌∙◌, arith, subst}
-use Rattle.std.specs.List.{AllByRecursion, flat_map, range_with_len}
+use Rattle.std.specs.Prelude.{◌≡◌, ◌<◌, ◌≤◌, ◌+◌, ℕ, suc, List, [], ◌∷◌, ◌++◌, length, map, Some, refl}
+use Rattle.std.proofs.Common.{ap, sym, ◌∙◌, arith}
+use Rattle.std.specs.List.{flat_map, range_with_len}
 use Rattle.std.specs.Option.{option_map_or}
 use Rattle.std.proofs.lemmas.Grind.{flat_map-append}
 use Rattle.std.proofs.lemmas.List.Folds.{flat_map-map}
@@ -16,11 +16,10 @@ use Rattle.pig_storage.specs.Splits.{splits_from, splits_of, splits_of_piece}
 use Rattle.pig_storage.proofs.SplitLines.{splits_are, splits_within}
 use Rattle.pig_plan.specs.Nodes.{op_at}
 use Rattle.pig_plan.specs.Operators.{load_rows, pieces_of}
-use Rattle.pig_plan.specs.Plans.{Plan, PlanOp, p_load, p_group_all, p_group, p_join, p_distinct, p_order, p_limit, p_rank}
+use Rattle.pig_plan.specs.Plans.{PlanOp, p_load}
 use Rattle.pig_plan.specs.Results.{at_place}
-use Rattle.pig_physical.specs.declared.parts.Part.{Part}
 use Rattle.pig_physical.specs.declared.parts.Part.TheVariants as parts
-use Rattle.pig_physical.specs.Outs.{Outs, TaskOut, outs_at, rows_at, rows_in}
+use Rattle.pig_physical.specs.Outs.{Outs, outs_at, rows_at, rows_in}
 use Rattle.pig_physical.specs.Running.{rows_given}
 use Rattle.pig_physical.specs.Stages.{Stages, last_wave, parts_at, parts_of, reduce_count}
 use Rattle.pig_physical.specs.Values.{part_rows, source_rows, split_lines}

@@ -1,5 +1,5 @@
 -- What the waves of a plan give, node by node.
-use Rattle.std.specs.Prelude.{◌≡◌, ℕ, ◌+◌, Bool, true, false, not, List, map, Some}
+use Rattle.std.specs.Prelude.{◌≡◌, ℕ, ◌+◌, Bool, true, false, not, map, Some}
 use Rattle.std.specs.List.{AllByRecursion}
 use Rattle.pig_plan.specs.Nodes.{is_boundary, is_live, op_at}
 use Rattle.pig_plan.specs.Plans.{Plan, PlanOp, p_join, p_rank}
