@@ -10,7 +10,7 @@ use Rattle.pig_value.proofs.list_laws.Listing.{each-append, each_weaker}
 use Rattle.pig_syntax.specs.declared.trees.Op.{Op}
 use Rattle.pig_syntax.specs.declared.trees.Stmt.{Stmt}
 use Rattle.pig_typed.specs.Typed.{Typed, TypedBlock}
-use Rattle.pig_plan.specs.Plans.{Plan, PlanOp, p_filter, p_store}
+use Rattle.pig_plan.specs.Plans.{Plan, PlanOp, p_assert, p_filter, p_store}
 use Rattle.pig_relations.specs.Operators.{TypedOp, groups, groups_all, joins}
 use Rattle.pig_relations.specs.Unions.{UnionInput}
 use Rattle.pig_check.specs.Operators.{OpTypes, distinct, filter, foreach, group, group_all, join, limit, load, order}
@@ -18,7 +18,7 @@ use Rattle.pig_check.specs.Paths.{collide, is_within}
 use Rattle.pig_check.proofs.Within.{within_itself}
 use Rattle.pig_check.specs.Scripts.{IsPlanOf, TypesAll, next_types, none_left, plan_of_all}
 use Rattle.pig_check.specs.States.{Added, NoStoresCollide, State, after, is_stored, node_of_statement, stored_path, stored_paths, stores_beside}
-use Rattle.pig_check.specs.Statements.{StatementTypes, assigns, nothing, splits, stores, unites}
+use Rattle.pig_check.specs.Statements.{StatementTypes, asserts, assigns, nothing, splits, stores, unites}
 use Rattle.pig_check.specs.Unions.{widening_ops, widenings}
 
 -- ---- paths
@@ -88,7 +88,7 @@ op_stores_none (filter e h) = refl
 op_stores_none (foreach e h) = refl
 op_stores_none (group_all (groups_all e g)) = refl
 op_stores_none (group (groups h g)) = refl
-op_stores_none (join (joins e h g)) = refl
+op_stores_none (join (joins j e h g)) = refl
 op_stores_none (distinct e) = refl
 op_stores_none (order e h) = refl
 op_stores_none (limit e) = refl
@@ -111,6 +111,7 @@ statement_keeps n {s = s} (assigns {t = t} h) none = still_none n s.nodes (t.op 
 statement_keeps n {s = s} (unites {t = t} h) none =
     still_none n s.nodes _ (each-append StoresNone (widenings t.inputs) _ (widenings_store_none t.inputs) (refl, tt)) none
 statement_keeps n {s = s} (splits {r = r} e h) none = still_none n s.nodes _ (filters_store_none r.node _) none
+statement_keeps n {s = s} (asserts {message = message} {r = r} {t = t} e h) none = still_none n s.nodes (p_assert r.node t message ∷ []) (refl, tt) none
 statement_keeps n {s = s} (stores {path = path} {r = r} {d = d} e h g w v) none =
     subst (IsDistinct collide) (sym (paths_behind n s.nodes (p_store r.node path d ∷ [])))
     (one_more (stored_paths s.nodes) path none (sym (stored_is path s.nodes) ∙ g))

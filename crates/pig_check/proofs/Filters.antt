@@ -1,4 +1,4 @@
--- The FILTERs of a SPLIT fit in turn, and each gives the rows of the relation that is split.
+-- The FILTERs of a SPLIT fit in turn, and each gives the rows of the relation that is split. So does an ASSERT.
 use Rattle.std.proofs.Common.{◌≡◌, ◌∙◌, ◌+◌, ◌++◌, ℕ, List, [], ◌∷◌, map, length, true, false, refl, sym, ap, subst, arith, append-nil}
 use Rattle.std.specs.Prelude.{⊤, Option, Some, None}
 use Rattle.std.specs.List.{AllByRecursion}
@@ -10,7 +10,7 @@ use Rattle.pig_syntax.specs.declared.trees.Branch.{Branch}
 use Rattle.pig_typed.specs.ExprKinds.{expr_kind, links_kind}
 use Rattle.pig_typed.specs.Typed.{Typed, links_of, x_not}
 use Rattle.pig_plan.specs.NodeKinds.{kinds_at}
-use Rattle.pig_plan.specs.Plans.{Plan, PlanOp, p_filter}
+use Rattle.pig_plan.specs.Plans.{Plan, PlanOp, p_assert, p_filter}
 use Rattle.pig_plan.specs.Valid.{fits}
 use Rattle.pig_plan.specs.Written.{links_write_lf, writes_lf}
 use Rattle.pig_relations.specs.Aliases.{IsRelation, RelationTree}
@@ -30,6 +30,9 @@ module _ (statement : ℕ) (r : RelationTree) where
 
   pub filter_may : (p : Plan) (t : Typed) → IsRelation (kinds_at p) r → IsTest row t → MayAdd p (p_filter r.node t) (Some row)
   filter_may p t h test = record { gives = rw (h.rows, test.kind) refl; plain = test.plain }
+
+  pub assert_may : (p : Plan) (t : Typed) (message : Option (List ℕ)) → IsRelation (kinds_at p) r → IsTest row t → MayAdd p (p_assert r.node t message) (Some row)
+  assert_may p t message h test = record { gives = rw (h.rows, test.kind) refl; plain = test.plain }
 
   filter_fits : (p : Plan) (t : Typed) → IsRelation (kinds_at p) r → IsTest row t → fits p (node_of_statement statement (p_filter r.node t)) ≡ true
   filter_fits p t h test = it_fits statement p (p_filter r.node t) (Some row) (filter_may p t h test) (never_twins statement (p_filter r.node t) (λ other. refl) p)

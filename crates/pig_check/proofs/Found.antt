@@ -30,7 +30,7 @@ use Rattle.pig_check.specs.Operators.{OpTypes, OpNot, load, filter, foreach, gro
 use Rattle.pig_check.specs.Paths.{GivesPath, GivesNoPath, a_path, not_plain, compressed, is_compressed, is_plain, kept, path_of}
 use Rattle.pig_check.specs.Splits.{AllConditions, AllConditionsNot, no_branches, more_branches, here_not, later_not, conditions_of, split_of}
 use Rattle.pig_check.specs.States.{Added, State, is_loaded, is_stored}
-use Rattle.pig_check.specs.Statements.{StatementTypes, StatementNot, nothing, assigns, unites, splits, stores, left_out, no_assert, assigns_not, unites_not, split_of_none, no_branch, store_of_none, stored_at_none, stored_twice, stored_over_input, stored_by_none, apart_from, output_of, store_of, op_of, node_of, assign_of, statement_of}
+use Rattle.pig_check.specs.Statements.{StatementTypes, StatementNot, nothing, assigns, unites, splits, stores, asserts, left_out, assigns_not, unites_not, split_of_none, no_branch, store_of_none, stored_at_none, stored_twice, stored_over_input, stored_by_none, assert_of_none, no_test, assert_of, apart_from, output_of, store_of, op_of, node_of, assign_of, statement_of}
 use Rattle.pig_check.specs.Unions.{union_at}
 
 -- ---- paths and storage functions
@@ -159,17 +159,19 @@ unfolding output_of apart_from
 over_input nodes {path = path} h e = rw (path_found h, e) (either_fails (is_stored path nodes) kind.OutputTwice kind.SelfLoad)
 
 pub statement_found : {s : State} {st : Stmt} {added : Added} → StatementTypes s st added → statement_of s st ≡ Ok added
-unfolding statement_of node_of union_at split_of store_of output_of apart_from relation_of
+unfolding statement_of node_of union_at split_of store_of output_of apart_from relation_of assert_of
 statement_found nothing = refl
 statement_found (assigns {alias = alias} h) = node_found alias h ∙ (rw (op_found h) refl)
 statement_found (unites h) = rw (union_found h) refl
 statement_found (splits e h) = rw (e, conditions_found h) refl
 statement_found (stores e h g w d) = rw (e, path_found h, g, w, delimiter_found d) refl
+statement_found (asserts e h) = rw (e, condition_found h) refl
 
 pub statement_fails : {s : State} {st : Stmt} {f : CheckKind} → StatementNot s st f → Fails (statement_of s st)
-unfolding statement_of node_of union_at split_of store_of output_of apart_from relation_of
+unfolding statement_of node_of union_at split_of store_of output_of apart_from relation_of assert_of
 statement_fails left_out = failed
-statement_fails no_assert = failed
+statement_fails (assert_of_none e) = rw (e) failed
+statement_fails (no_test e h) = rw (e) (fails_first _ (condition_fails h))
 statement_fails (assigns_not {alias = alias} h) = subst Fails (sym (node_not alias h)) (fails_first _ (op_fails h))
 statement_fails (unites_not h) = fails_first _ (union_fails h)
 statement_fails (split_of_none e) = rw (e) failed

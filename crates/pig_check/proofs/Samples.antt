@@ -1,7 +1,11 @@
--- Paths and delimiters of texts, computed.
-use Rattle.std.specs.Prelude.{◌≡◌, true, false, [], ◌∷◌, codes, Some, None, refl}
+-- Paths and delimiters of texts, and an ASSERT on what is ordered, computed.
+use Rattle.std.specs.Prelude.{◌≡◌, true, false, [], ◌∷◌, codes, map, Some, None, refl}
+use Rattle.pig_typed.specs.Typed.{x_bool}
+use Rattle.pig_plan.specs.Nodes.{is_list, is_sorted}
+use Rattle.pig_plan.specs.Plans.{Plan, p_assert, p_limit, p_load, p_order}
 use Rattle.pig_check.specs.Functions.{delimiter_in, tab}
 use Rattle.pig_check.specs.Paths.{collide, components, is_compressed, is_plain, kept}
+use Rattle.pig_check.specs.States.{node_of_statement}
 
 -- ---- paths
 
@@ -68,3 +72,18 @@ two_bytes = refl
 
 two_arguments : delimiter_in (codes "a" ∷ codes "b" ∷ []) ≡ None
 two_arguments = refl
+
+-- ---- a list stays a list
+
+-- LOAD, ORDER, an ASSERT on that, and a LIMIT on the ASSERT
+abbrev ordered : Plan
+ordered = map (node_of_statement 1) (p_load (codes "i") tab [] ∷ p_order 0 [] ∷ p_assert 1 (x_bool true) None ∷ p_limit 2 1 ∷ [])
+
+assert_of_order : is_sorted ordered 2 ≡ true
+assert_of_order = refl
+
+limit_of_assert : is_list ordered 3 ≡ true
+limit_of_assert = refl
+
+limit_of_load : is_list (map (node_of_statement 1) (p_load (codes "i") tab [] ∷ p_limit 0 1 ∷ [])) 1 ≡ false
+limit_of_load = refl

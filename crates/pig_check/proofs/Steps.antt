@@ -12,14 +12,14 @@ use Rattle.pig_syntax.specs.declared.trees.Branch.{Branch}
 use Rattle.pig_syntax.specs.declared.trees.Stmt.{Stmt}
 use Rattle.pig_typed.specs.Typed.{Typed}
 use Rattle.pig_plan.specs.NodeKinds.{Before, kinds_at}
-use Rattle.pig_plan.specs.Plans.{Plan, PlanOp, p_store}
+use Rattle.pig_plan.specs.Plans.{Plan, PlanOp, p_assert, p_store}
 use Rattle.pig_typing.specs.Columns.{AreColumns}
 use Rattle.pig_relations.specs.Aliases.{Aliases, IsRelation, IsTable, RelationTree}
 use Rattle.pig_relations.proofs.Tables.{table_behind, table_stays}
 use Rattle.pig_check.specs.Splits.{AllConditions, more_branches, no_branches}
 use Rattle.pig_check.specs.States.{Added, AllFit, IsEarlier, IsSound, State, after, node_of_statement, row_of}
-use Rattle.pig_check.specs.Statements.{StatementTypes, assigns, nothing, splits, statement_of, stores, unites}
-use Rattle.pig_check.proofs.Filters.{IsTest, all_test, as_many, filters_fit, filters_give}
+use Rattle.pig_check.specs.Statements.{StatementTypes, asserts, assigns, nothing, splits, statement_of, stores, unites}
+use Rattle.pig_check.proofs.Filters.{IsTest, all_test, assert_may, as_many, filters_fit, filters_give}
 use Rattle.pig_check.proofs.Grown.{MayAdd, all_stay, it_fits, last_gives, no_twins}
 use Rattle.pig_check.proofs.Unites.{union_fits, union_given}
 use Rattle.pig_check.proofs.Told.{IsStatementTold, statement_told}
@@ -90,6 +90,13 @@ module _ (statement : ℕ) (s : State) (sound : IsSound statement s) where
   statement_steps st added formed (stores {from = from} {path = path} {r = r} {d = d} e h g w v) =
       let is = sound.table from r e in
       record { fit = one_fits (p_store r.node path d) None (record { gives = rw (is.rows) refl; plain = refl }); given = tt }
+  statement_steps st added formed (asserts {from = from} {cond = cond} {message = message} {r = r} {t = t} e h) =
+      let is = sound.table from r e in
+      let may = assert_may statement r s.nodes t message is (condition_tests r cond t is.columns (absurd formed) h) in
+      record {
+        fit = one_fits (p_assert r.node t message) _ may;
+        given = (record { rows = last_gives s.nodes (node_of_statement statement (p_assert r.node t message)) _ may.gives; columns = is.columns }, tt);
+      }
 
 -- ---- by what is told of a statement
 

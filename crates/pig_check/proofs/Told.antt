@@ -42,7 +42,7 @@ use Rattle.pig_check.specs.Operators.{OpTypes, OpNot, load, filter, foreach, gro
 use Rattle.pig_check.specs.Paths.{GivesPath, GivesNoPath, a_path, not_plain, compressed, is_compressed, is_plain, kept, path_of}
 use Rattle.pig_check.specs.Splits.{AllConditions, AllConditionsNot, no_branches, more_branches, here_not, later_not, conditions_of, split_of}
 use Rattle.pig_check.specs.States.{Added, State, is_loaded, is_stored, row_of}
-use Rattle.pig_check.specs.Statements.{StatementTypes, StatementNot, nothing, assigns, unites, splits, stores, left_out, no_assert, assigns_not, unites_not, split_of_none, no_branch, store_of_none, stored_at_none, stored_twice, stored_over_input, stored_by_none, apart_from, output_of, store_of, op_of, node_of, assign_of, statement_of}
+use Rattle.pig_check.specs.Statements.{StatementTypes, StatementNot, nothing, assigns, unites, splits, stores, asserts, left_out, assigns_not, unites_not, split_of_none, no_branch, store_of_none, stored_at_none, stored_twice, stored_over_input, stored_by_none, assert_of_none, no_test, assert_of, apart_from, output_of, store_of, op_of, node_of, assign_of, statement_of}
 use Rattle.pig_check.specs.Unions.{union_at}
 
 -- ---- paths and storage functions
@@ -251,11 +251,20 @@ store_told s from text func =
     (λ f w. w from func))
     (λ e. store_of_none e)
 
+assert_told : (s : State) (from : List ℕ) (cond : Expr) (message : Option (List ℕ)) → IsStatementTold s (stmt.Assert from cond message) (assert_of s from cond message)
+unfolding assert_of relation_of
+assert_told s from cond message =
+    due_is (IsStatementTold s (stmt.Assert from cond message)) _ kind.UnknownAlias (relation_at from s.aliases)
+    (λ r e. then_told (IsConditionTold (row_of r.columns) (expr_form cond)) (IsStatementTold s (stmt.Assert from cond message)) _
+    (condition_on (row_of r.columns) (expr_form cond)) (condition_told (row_of r.columns) (expr_form cond))
+    (λ t h. asserts e h) (λ f h. no_test e h))
+    (λ e. assert_of_none e)
+
 pub statement_told : (s : State) (st : Stmt) → IsStatementTold s st (statement_of s st)
 unfolding statement_of
 statement_told s stmt.Empty = nothing
 statement_told s (stmt.Assign alias o) = assign_told s alias o
 statement_told s (stmt.Split from bs otherwise) = split_told s from bs otherwise
 statement_told s (stmt.Store from text func) = store_told s from text func
-statement_told s (stmt.Assert from cond message) = no_assert
+statement_told s (stmt.Assert from cond message) = assert_told s from cond message
 statement_told s stmt.Unsupported = left_out

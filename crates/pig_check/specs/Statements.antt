@@ -2,6 +2,7 @@
 -- (Pig Latin Basics: "LOAD" to "UNION". That an output is not an input of the same script is a choice of this profile.)
 use Rattle.std.specs.Prelude.{◌≡◌, ℕ, Bool, true, false, List, [], ◌∷◌, length, map, Option, Some, None, if◌then◌else◌}
 use Rattle.std.specs.declared.result.Result.TheVariants.{Ok, Err}
+use Rattle.pig_syntax.specs.ExprTrees.{expr_form}
 use Rattle.pig_syntax.specs.declared.trees.Branch.{Branch}
 use Rattle.pig_syntax.specs.declared.trees.Expr.{Expr}
 use Rattle.pig_syntax.specs.declared.trees.Func.{Func}
@@ -10,16 +11,17 @@ use Rattle.pig_syntax.specs.declared.trees.Op.TheVariants as operator
 use Rattle.pig_syntax.specs.declared.trees.Stmt.{Stmt}
 use Rattle.pig_syntax.specs.declared.trees.Stmt.TheVariants as stmt
 use Rattle.pig_typed.specs.Typed.{Typed}
-use Rattle.pig_plan.specs.Plans.{Plan, p_store}
+use Rattle.pig_plan.specs.Plans.{Plan, p_assert, p_store}
 use Rattle.pig_typing.specs.declared.faults.CheckKind.{CheckKind}
 use Rattle.pig_typing.specs.declared.faults.CheckKind.TheVariants as kind
+use Rattle.pig_typing.specs.Conditions.{Conditions, ConditionsNot, condition_on}
 use Rattle.pig_typing.specs.Results.{Checked, ◌>>=◌}
 use Rattle.pig_relations.specs.Aliases.{RelationTree, relation_at, relation_of}
 use Rattle.pig_relations.specs.Keyed.{group_form, join_form}
 use Rattle.pig_relations.specs.Operators.{TypedOp, group_all_of, group_of, join_of}
 use Rattle.pig_relations.specs.Unions.{TypedUnion, Unions, UnionsNot}
 use Rattle.pig_check.specs.Functions.{HasDelimiter, HasNoDelimiter, delimiter_by}
-use Rattle.pig_check.specs.Operators.{OpNot, OpTypes, load_of, filter_of, block_of, distinct_of, order_of, limit_of}
+use Rattle.pig_check.specs.Operators.{OpNot, OpTypes, made, load_of, filter_of, block_of, distinct_of, order_of, limit_of}
 use Rattle.pig_check.specs.Paths.{GivesNoPath, GivesPath, path_of}
 use Rattle.pig_check.specs.Splits.{AllConditions, AllConditionsNot, split_into, split_of}
 use Rattle.pig_check.specs.Unions.{union_at, united}
@@ -32,6 +34,10 @@ assigned n alias t = record { ops = t.op ∷ []; given = (alias, record { node =
 abbrev pub stored_at : RelationTree → List ℕ → ℕ → Added
 stored_at r path d = record { ops = p_store r.node path d ∷ []; given = [] }
 
+-- ASSERT makes its alias anew: the same columns, at a node of the condition
+abbrev pub asserted : ℕ → List ℕ → RelationTree → Typed → Option (List ℕ) → Added
+asserted n alias r t message = assigned n alias (made (p_assert r.node t message) r.columns)
+
 pub data StatementTypes (s : State) : Stmt → Added → Type 0 where
   nothing : StatementTypes s stmt.Empty adds_nothing
   assigns : {alias : List ℕ} {o : Op} {t : TypedOp} → OpTypes s o t → StatementTypes s (stmt.Assign alias o) (assigned (length s.nodes) alias t)
@@ -43,10 +49,12 @@ pub data StatementTypes (s : State) : Stmt → Added → Type 0 where
   stores : {from text path : List ℕ} {func : Option Func} {r : RelationTree} {d : ℕ}
       → relation_at from s.aliases ≡ Some r → GivesPath text path → is_stored path s.nodes ≡ false → is_loaded path s.nodes ≡ false → HasDelimiter func d
       → StatementTypes s (stmt.Store from text func) (stored_at r path d)
+  asserts : {from : List ℕ} {cond : Expr} {message : Option (List ℕ)} {r : RelationTree} {t : Typed}
+      → relation_at from s.aliases ≡ Some r → Conditions (row_of r.columns) (expr_form cond) t
+      → StatementTypes s (stmt.Assert from cond message) (asserted (length s.nodes) from r t message)
 
 pub data StatementNot (s : State) : Stmt → CheckKind → Type 0 where
   left_out : StatementNot s stmt.Unsupported kind.Unsupported
-  no_assert : {from : List ℕ} {cond : Expr} {message : Option (List ℕ)} → StatementNot s (stmt.Assert from cond message) kind.Unsupported
   assigns_not : {alias : List ℕ} {o : Op} {f : CheckKind} → OpNot s o f → StatementNot s (stmt.Assign alias o) f
   unites_not : {alias : List ℕ} {onschema : Bool} {names : List (List ℕ)} {f : CheckKind}
       → UnionsNot s.aliases onschema names f → StatementNot s (stmt.Assign alias (operator.Union onschema names)) f
@@ -61,6 +69,11 @@ pub data StatementNot (s : State) : Stmt → CheckKind → Type 0 where
   stored_over_input : {from text path : List ℕ} {func : Option Func}
       → GivesPath text path → is_loaded path s.nodes ≡ true → StatementNot s (stmt.Store from text func) kind.SelfLoad
   stored_by_none : {from text : List ℕ} {func : Option Func} {f : CheckKind} → HasNoDelimiter func f → StatementNot s (stmt.Store from text func) f
+  assert_of_none : {from : List ℕ} {cond : Expr} {message : Option (List ℕ)}
+      → relation_at from s.aliases ≡ None → StatementNot s (stmt.Assert from cond message) kind.UnknownAlias
+  no_test : {from : List ℕ} {cond : Expr} {message : Option (List ℕ)} {r : RelationTree} {f : CheckKind}
+      → relation_at from s.aliases ≡ Some r → ConditionsNot (row_of r.columns) (expr_form cond) f
+      → StatementNot s (stmt.Assert from cond message) f
 
 -- ---- the same as functions
 
@@ -79,6 +92,12 @@ store_of s from text func = do
   d ← delimiter_by func
   Ok (stored_at r path d)
 
+unfoldable pub assert_of : State → List ℕ → Expr → Option (List ℕ) → Checked Added
+assert_of s from cond message = do
+  r ← relation_of s.aliases from
+  t ← condition_on (row_of r.columns) (expr_form cond)
+  Ok (asserted (length s.nodes) from r t message)
+
 unfoldable pub op_of : State → Op → Checked TypedOp
 op_of s (operator.Load text func fields) = load_of s.nodes text func fields
 op_of s (operator.Filter from cond) = filter_of s.aliases from cond
@@ -89,7 +108,10 @@ op_of s (operator.Join inputs side using) = join_of s.aliases (map join_form inp
 op_of s (operator.Distinct from) = distinct_of s.aliases from
 op_of s (operator.Order from keys) = order_of s.aliases from keys
 op_of s (operator.Limit from count) = limit_of s.aliases from count
-op_of s o = Err kind.Unsupported
+op_of s (operator.Cube from rollup dims) = Err kind.Unsupported
+op_of s (operator.Rank from keys dense) = Err kind.Unsupported
+-- nodes may stand before that of a UNION
+op_of s (operator.Union onschema names) = Err kind.Unsupported
 
 unfoldable pub node_of : State → List ℕ → Op → Checked Added
 node_of s alias o = do
@@ -105,5 +127,5 @@ statement_of s stmt.Empty = Ok adds_nothing
 statement_of s (stmt.Assign alias o) = assign_of s alias o
 statement_of s (stmt.Split from bs otherwise) = split_of s from bs otherwise
 statement_of s (stmt.Store from text func) = store_of s from text func
-statement_of s (stmt.Assert from cond message) = Err kind.Unsupported
+statement_of s (stmt.Assert from cond message) = assert_of s from cond message
 statement_of s stmt.Unsupported = Err kind.Unsupported

@@ -9,6 +9,7 @@
 //! STOREs of a plan have one path.
 #![tactic(auto)]
 
+mod asserts;
 mod checking;
 mod faults;
 mod functions;

@@ -6,6 +6,7 @@ ghost use Rattle.pig_relations.specs.Operators.{op_tree};
 ghost use Rattle.pig_check.specs.Statements.{assign_of, assigned, node_of, op_of, statement_of};
 ghost use Rattle.pig_check.specs.Views.{added_tree, state_tree};
 
+use crate::asserts::assert;
 use crate::operators::{distinct, filter, foreach, limit, load, order};
 use crate::splits::split;
 use crate::state::{Addition, GivenRelations, Progress, next_number};
@@ -36,7 +37,11 @@ pub fn statement(alloc: Global, state: &Progress, stmt: &Stmt) -> Result<Additio
             otherwise,
         } => split(alloc, state, from, branches, otherwise),
         Stmt::Store { from, path, func } => store(alloc, state, from, path, func),
-        Stmt::Assert { .. } => Err(TypeFault::Refused(CheckKind::Unsupported)),
+        Stmt::Assert {
+            from,
+            cond,
+            message,
+        } => assert(alloc, state, from, cond, message),
         Stmt::Unsupported => Err(TypeFault::Refused(CheckKind::Unsupported)),
     }
 }
@@ -54,7 +59,17 @@ fn assign(alloc: Global, state: &Progress, alias: &Text, op: &Op) -> Result<Addi
 {
     match op {
         Op::Union { onschema, from } => union(alloc, state, alias, *onschema, from),
-        _ => node(alloc, state, alias, op),
+        Op::Load { .. }
+        | Op::Filter { .. }
+        | Op::Foreach { .. }
+        | Op::GroupAll { .. }
+        | Op::Group { .. }
+        | Op::Join { .. }
+        | Op::Distinct { .. }
+        | Op::Order { .. }
+        | Op::Limit { .. }
+        | Op::Cube { .. }
+        | Op::Rank { .. } => node(alloc, state, alias, op),
     }
 }
 
@@ -67,7 +82,13 @@ fn node(alloc: Global, state: &Progress, alias: &Text, op: &Op) -> Result<Additi
     Ok(assigned(alloc, next, alias, typed)?)
 }
 
-fn assigned(alloc: Global, next: u32, alias: &Text, typed: TypedOp) -> Result<Addition, AllocError>
+/// The node of an operator, and the relation that it makes.
+pub fn assigned(
+    alloc: Global,
+    next: u32,
+    alias: &Text,
+    typed: TypedOp,
+) -> Result<Addition, AllocError>
     ensures { IfOk result (λ a. added_tree a ≡ assigned next alias.now (op_tree typed)) }
 {
     let TypedOp { op, columns } = typed;
@@ -113,6 +134,9 @@ fn operator(alloc: Global, state: &Progress, op: &Op) -> Result<TypedOp, TypeFau
         Op::Distinct { from } => distinct(alloc, relations, from),
         Op::Order { from, keys } => order(alloc, relations, from, keys),
         Op::Limit { from, count } => limit(alloc, relations, from, *count),
-        _ => Err(TypeFault::Refused(CheckKind::Unsupported)),
+        Op::Cube { .. } => Err(TypeFault::Refused(CheckKind::Unsupported)),
+        Op::Rank { .. } => Err(TypeFault::Refused(CheckKind::Unsupported)),
+        // Nodes may stand before that of a UNION.
+        Op::Union { .. } => Err(TypeFault::Refused(CheckKind::Unsupported)),
     }
 }

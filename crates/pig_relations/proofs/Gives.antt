@@ -114,11 +114,11 @@ never_inner aliases (i ∷ inputs) ts ks (more_inputs {ts = more} (types_input e
 
 pub join_gives : (before : Before) (aliases : Aliases) (inputs : List JoinInput) (side : Side) (hint : Option (List ℕ)) (t : TypedOp) → IsTable before aliases
     → Joins aliases (map join_form inputs) side hint t → (node_gives before t.op ≡ Some (Some (map tree_kind t.columns))) × AreColumns t.columns
-join_gives before aliases inputs side hint t table (joins {k = k} two h e) =
+join_gives before aliases inputs side hint t table (joins {replicated = replicated} {k = k} j two h e) =
     let w = keyed_hold before aliases (map join_form inputs) k table h in
     by k h w
   where
     by : (k : Keyable) → TypesKeyed aliases (map join_form inputs) k → KeyedHold before k
-        → (node_gives before (join_op side k) ≡ Some (Some (map tree_kind (join_columns k)))) × AreColumns (join_columns k)
+        → (node_gives before (join_op side replicated k) ≡ Some (Some (map tree_kind (join_columns k)))) × AreColumns (join_columns k)
     by k (types_keyed {ts = ts} {ks = ks} g u) w =
         (rw (w.kinds, inputs_count aliases (map join_form inputs) ts ks g, two, never_inner aliases inputs ts ks g) (ap (λ row. Some (Some row)) (rows_joined ks ts)), joined_are ts w.columns)

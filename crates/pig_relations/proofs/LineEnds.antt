@@ -124,7 +124,7 @@ group_all_free aliases alias hint t (groups_all h e) = refl
 
 pub join_free : (aliases : Aliases) (inputs : List JoinInput) (side : Side) (hint : Option (List ℕ)) (t : TypedOp) → All JoinInputFormed inputs
     → Joins aliases (map join_form inputs) side hint t → op_writes_lf t.op ≡ false
-join_free aliases inputs side hint t formed (joins two (types_keyed {ts = ts} {ks = ks} h e) w) = inputs_write_none aliases (map join_form inputs) ts ks (joins_formed inputs formed) h
+join_free aliases inputs side hint t formed (joins j two (types_keyed {ts = ts} {ks = ks} h e) w) = inputs_write_none aliases (map join_form inputs) ts ks (joins_formed inputs formed) h
 
 -- ---- the FOREACH before a UNION
 

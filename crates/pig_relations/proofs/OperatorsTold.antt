@@ -15,7 +15,7 @@ use Rattle.pig_typing.proofs.Chains.{then_told, then_is, due_is}
 use Rattle.pig_typing.proofs.References.{Fails, failed, fails_first, fails_next}
 use Rattle.pig_relations.specs.Aliases.{Aliases, RelationTree, relation_at, relation_of}
 use Rattle.pig_relations.specs.Keyed.{KeyedForm, keyed_of}
-use Rattle.pig_relations.specs.Operators.{TypedOp, Groups, GroupsNot, groups, group_using, group_untyped, group_past_limits, GroupsAll, GroupsAllNot, groups_all, group_all_using, group_all_unknown, group_all_past_limits, Joins, JoinsNot, joins, join_using, join_of_side, join_untyped, join_past_limits, group_columns, group_op, group_all_columns, join_columns, join_op, limited_op, sided, without, group_of, group_all_of, join_of}
+use Rattle.pig_relations.specs.Operators.{TypedOp, Groups, GroupsNot, groups, group_using, group_untyped, group_past_limits, GroupsAll, GroupsAllNot, groups_all, group_all_using, group_all_unknown, group_all_past_limits, JoinedBy, JoinedByNot, by_default, join_using, Joins, JoinsNot, joins, joined_by_none, join_of_side, join_untyped, join_past_limits, group_columns, group_op, group_all_columns, join_columns, join_op, joined_by, limited_op, sided, without, group_of, group_all_of, join_of}
 use Rattle.pig_relations.specs.Together.{all_together}
 use Rattle.pig_relations.specs.Unions.{TypedUnion, AllMeant, AllMeantNot, none_meant, more_meant, here_unknown, later_unknown, column_kinds, Unions, UnionsNot, unions, on_schema, of_one_input, of_unknown, of_other_columns, of_two, relations_of, agreed_union, union_of}
 use Rattle.pig_relations.proofs.KeyedTold.{IsKeyedTold, keyed_told, keyed_found, keyed_fails}
@@ -86,38 +86,60 @@ group_all_fails (group_all_past_limits {alias = alias} {hint = hint} {r = r} h e
 
 -- ---- JOIN
 
-side_fails : (side : Side) (count : ℕ) → is_join side false count ≡ false → Fails (sided side count)
+abbrev IsJoinedTold : Side → Option (List ℕ) → Checked Bool → Type 0
+IsJoinedTold side hint (Ok replicated) = JoinedBy side hint replicated
+IsJoinedTold side hint (Err f) = JoinedByNot side hint f
+
+joined_told : (side : Side) (hint : Option (List ℕ)) → IsJoinedTold side hint (joined_by side hint)
+unfolding joined_by
+joined_told side None = by_default
+joined_told side (Some word) = join_using
+
+joined_found : {side : Side} {hint : Option (List ℕ)} {replicated : Bool} → JoinedBy side hint replicated → joined_by side hint ≡ Ok replicated
+unfolding joined_by
+joined_found by_default = refl
+
+joined_fails : {side : Side} {hint : Option (List ℕ)} {f : CheckKind} → JoinedByNot side hint f → Fails (joined_by side hint)
+unfolding joined_by
+joined_fails join_using = failed
+
+side_fails : (side : Side) (replicated : Bool) (count : ℕ) → is_join side replicated count ≡ false → Fails (sided side replicated count)
 unfolding sided
-side_fails side count e = rw (e) failed
+side_fails side replicated count e = rw (e) failed
 
 abbrev pub IsJoinTold : Aliases → List KeyedForm → Side → Option (List ℕ) → Checked TypedOp → Type 0
 IsJoinTold known is side hint (Ok t) = Joins known is side hint t
 IsJoinTold known is side hint (Err f) = JoinsNot known is side hint f
 
 pub join_told : (known : Aliases) (is : List KeyedForm) (side : Side) (hint : Option (List ℕ)) → IsJoinTold known is side hint (join_of known is side hint)
-unfolding join_of without sided
-join_told known is side (Some word) = join_using
-join_told known is side None = by (is_join side false (length is)) refl
+unfolding join_of sided
+join_told known is side hint =
+    then_told (IsJoinedTold side hint) (IsJoinTold known is side hint) _ (joined_by side hint) (joined_told side hint)
+    (λ replicated j. by replicated j (is_join side replicated (length is)) refl)
+    (λ f h. joined_by_none h)
   where
-    by : (b : Bool) → is_join side false (length is) ≡ b
-        → IsJoinTold known is side None ((if b then Ok (tt {0}) else Err kind.Unsupported) >>= λ two. keyed_of known is >>= λ k. limited_op (join_op side k) (join_columns k))
-    by true e =
-        then_told (IsKeyedTold known is) (IsJoinTold known is side None) _ (keyed_of known is) (keyed_told known is)
-        (λ k h. limited_told (IsJoinTold known is side None) (join_op side k) (join_columns k) (λ within w. joins e h w) (λ f w. join_past_limits h w))
+    by : (replicated : Bool) → JoinedBy side hint replicated → (b : Bool) → is_join side replicated (length is) ≡ b
+        → IsJoinTold known is side hint ((if b then Ok (tt {0}) else Err kind.Unsupported) >>= λ two. keyed_of known is >>= λ k. limited_op (join_op side replicated k) (join_columns k))
+    by replicated j true e =
+        then_told (IsKeyedTold known is) (IsJoinTold known is side hint) _ (keyed_of known is) (keyed_told known is)
+        (λ k h. limited_told (IsJoinTold known is side hint) (join_op side replicated k) (join_columns k) (λ within w. joins j e h w) (λ f w. join_past_limits h w))
         (λ f h. join_untyped h)
-    by false e = join_of_side e
+    by replicated j false e = join_of_side j e
 
 pub join_found : {known : Aliases} {is : List KeyedForm} {side : Side} {hint : Option (List ℕ)} {t : TypedOp} → Joins known is side hint t → join_of known is side hint ≡ Ok t
-unfolding join_of without sided
-join_found (joins {side = side} {k = k} two h e) = rw (two, keyed_found h) (limited_found (join_op side k) (join_columns k) _ e)
+unfolding join_of sided
+join_found (joins {side = side} {replicated = replicated} {k = k} j two h e) =
+    rw (joined_found j, two, keyed_found h) (limited_found (join_op side replicated k) (join_columns k) _ e)
 
 pub join_fails : {known : Aliases} {is : List KeyedForm} {side : Side} {hint : Option (List ℕ)} {f : CheckKind} → JoinsNot known is side hint f → Fails (join_of known is side hint)
-unfolding join_of without
-join_fails join_using = failed
-join_fails (join_of_side {is = is} {side = side} {hint = hint} e) = fails_next _ (without hint) (λ done. fails_first _ (side_fails side (length is) e))
-join_fails (join_untyped {is = is} {side = side} {hint = hint} h) = fails_next _ (without hint) (λ done. fails_next _ (sided side (length is)) (λ two. fails_first _ (keyed_fails h)))
+unfolding join_of
+join_fails (joined_by_none h) = fails_first _ (joined_fails h)
+join_fails (join_of_side {is = is} {side = side} {replicated = replicated} j e) = rw (joined_found j) (fails_first _ (side_fails side replicated (length is) e))
+join_fails (join_untyped {is = is} {side = side} {hint = hint} h) =
+    fails_next _ (joined_by side hint) (λ replicated. fails_next _ (sided side replicated (length is)) (λ two. fails_first _ (keyed_fails h)))
 join_fails (join_past_limits {is = is} {side = side} {hint = hint} {k = k} h e) =
-    fails_next _ (without hint) (λ done. fails_next _ (sided side (length is)) (λ two. rw (keyed_found h) (limited_fails (join_op side k) (join_columns k) _ e)))
+    fails_next _ (joined_by side hint)
+    (λ replicated. fails_next _ (sided side replicated (length is)) (λ two. rw (keyed_found h) (limited_fails (join_op side replicated k) (join_columns k) _ e)))
 
 -- ---- UNION
 

@@ -16,7 +16,7 @@ use Rattle.pig_typing.specs.Limits.{limited_row}
 use Rattle.pig_typing.specs.Reader.{field_of, reference_of, type_of}
 use Rattle.pig_relations.specs.Aliases.{Aliases, RelationTree, relation_at, relation_of}
 use Rattle.pig_relations.specs.Keyed.{KeyedForm, input_of, inputs_of, keyed_of}
-use Rattle.pig_relations.specs.Operators.{group_all_of, group_of, join_of, limited_op, sided, without}
+use Rattle.pig_relations.specs.Operators.{group_all_of, group_of, join_of, joined_by, limited_op, sided, without}
 use Rattle.pig_relations.specs.Together.{all_together, together}
 use Rattle.pig_relations.specs.Unions.{agreed_union, of_two, relations_of, union_of}
 
@@ -79,12 +79,12 @@ joins_two : join_of known (by_key (codes "a") ∷ by_key (codes "b") ∷ []) sid
   op = p_join (record { input = 0; keys = x_field 0 ∷ []; inner = false } ∷ record { input = 0; keys = x_field 0 ∷ []; inner = false } ∷ []) side.Inner false;
   columns = column (codes "a::k") k_int ∷ column (codes "a::v") k_chars ∷ column (codes "b::k") k_int ∷ column (codes "b::v") k_chars ∷ [];
 })
-unfolding join_of without sided keyed_of inputs_of input_of relation_of keys_on key_on as_key type_of reference_of field_of refer column_at limited_op limited_row
+unfolding join_of joined_by sided keyed_of inputs_of input_of relation_of keys_on key_on as_key type_of reference_of field_of refer column_at limited_op limited_row
 joins_two = refl
 
 -- a side takes just two inputs
 joins_three : join_of known (by_key (codes "a") ∷ by_key (codes "b") ∷ by_key (codes "c") ∷ []) side.Left None ≡ Err kind.Unsupported
-unfolding join_of without sided
+unfolding join_of joined_by sided
 joins_three = refl
 
 -- ---- UNION

@@ -1,7 +1,7 @@
 -- The operators over relations that go by keys: the node that each gives, and the columns of its rows.
 -- (Pig Latin Basics: "GROUP", "COGROUP", "JOIN (inner)", "JOIN (outer)". USING is left out here, and names of fields are choices of this
 -- profile.)
-use Rattle.std.specs.Prelude.{◌≡◌, ℕ, true, false, List, [], ◌∷◌, map, length, codes, Option, Some, None, if◌then◌else◌}
+use Rattle.std.specs.Prelude.{◌≡◌, ℕ, Bool, true, false, List, [], ◌∷◌, map, length, codes, Option, Some, None, if◌then◌else◌}
 use Rattle.std.specs.List.{flat_map}
 use Rattle.std.specs.declared.result.Result.TheVariants.{Ok, Err}
 use Rattle.pig_value.specs.Trees.{k_chars, k_tuple, k_bag}
@@ -96,19 +96,29 @@ columns_under t = map (under_name (Some t.alias)) t.relation.columns
 abbrev pub join_columns : Keyable → List FieldTree
 join_columns k = flat_map columns_under k.inputs
 
-abbrev pub join_op : Side → Keyable → PlanOp
-join_op side k = p_join (map (keyed k.kinds) k.inputs) side false
+abbrev pub join_op : Side → Bool → Keyable → PlanOp
+join_op side replicated k = p_join (map (keyed k.kinds) k.inputs) side replicated
+
+-- whether a JOIN of a side, with a word behind USING or none, is replicated
+pub data JoinedBy : Side → Option (List ℕ) → Bool → Type 0 where
+  by_default : {side : Side} → JoinedBy side None false
+
+pub data JoinedByNot : Side → Option (List ℕ) → CheckKind → Type 0 where
+  join_using : {side : Side} {word : List ℕ} → JoinedByNot side (Some word) kind.Unsupported
 
 -- Two inputs at least, and just two where the side is not INNER.
 pub data Joins (aliases : Aliases) : List KeyedForm → Side → Option (List ℕ) → TypedOp → Type 0 where
-  joins : {is : List KeyedForm} {side : Side} {k : Keyable} {columns : List FieldTree}
-      → is_join side false (length is) ≡ true → TypesKeyed aliases is k → limited_row (join_columns k) ≡ Ok columns
-      → Joins aliases is side None (record { op = join_op side k; columns = join_columns k })
+  joins : {is : List KeyedForm} {side : Side} {hint : Option (List ℕ)} {replicated : Bool} {k : Keyable}
+      {columns : List FieldTree} → JoinedBy side hint replicated → is_join side replicated (length is) ≡ true
+      → TypesKeyed aliases is k → limited_row (join_columns k) ≡ Ok columns
+      → Joins aliases is side hint (record { op = join_op side replicated k; columns = join_columns k })
 
 pub data JoinsNot (aliases : Aliases) : List KeyedForm → Side → Option (List ℕ) → CheckKind → Type 0 where
-  join_using : {is : List KeyedForm} {side : Side} {word : List ℕ} → JoinsNot aliases is side (Some word) kind.Unsupported
-  join_of_side : {is : List KeyedForm} {side : Side} {hint : Option (List ℕ)}
-      → is_join side false (length is) ≡ false → JoinsNot aliases is side hint kind.Unsupported
+  joined_by_none : {is : List KeyedForm} {side : Side} {hint : Option (List ℕ)} {f : CheckKind}
+      → JoinedByNot side hint f → JoinsNot aliases is side hint f
+  join_of_side : {is : List KeyedForm} {side : Side} {hint : Option (List ℕ)} {replicated : Bool}
+      → JoinedBy side hint replicated → is_join side replicated (length is) ≡ false
+      → JoinsNot aliases is side hint kind.Unsupported
   join_untyped : {is : List KeyedForm} {side : Side} {hint : Option (List ℕ)} {f : CheckKind}
       → TypesKeyedNot aliases is f → JoinsNot aliases is side hint f
   join_past_limits : {is : List KeyedForm} {side : Side} {hint : Option (List ℕ)} {k : Keyable} {f : CheckKind}
@@ -128,12 +138,16 @@ group_all_of aliases alias hint = do
   r ← relation_of aliases alias
   limited_op (p_group_all r.node) (group_all_columns alias r)
 
-unfoldable pub sided : Side → ℕ → Checked (Unit {0})
-sided side count = if is_join side false count then Ok tt else Err kind.Unsupported
+unfoldable pub joined_by : Side → Option (List ℕ) → Checked Bool
+joined_by side None = Ok false
+joined_by side (Some word) = Err kind.Unsupported
+
+unfoldable pub sided : Side → Bool → ℕ → Checked (Unit {0})
+sided side replicated count = if is_join side replicated count then Ok tt else Err kind.Unsupported
 
 unfoldable pub join_of : Aliases → List KeyedForm → Side → Option (List ℕ) → Checked TypedOp
 join_of aliases is side hint = do
-  plain ← without hint
-  two ← sided side (length is)
+  replicated ← joined_by side hint
+  two ← sided side replicated (length is)
   k ← keyed_of aliases is
-  limited_op (join_op side k) (join_columns k)
+  limited_op (join_op side replicated k) (join_columns k)

@@ -1,4 +1,4 @@
-ghost use Rattle.std.specs.Prelude.{◌≡◌, ◌++◌, Err, IfOk, codes, false, length, map};
+ghost use Rattle.std.specs.Prelude.{◌≡◌, ◌++◌, Err, IfOk, codes, length, map};
 ghost use Rattle.std.specs.List.{flat_map};
 ghost use Rattle.pig_value.specs.Trees.{kind_tree};
 ghost use Rattle.pig_schema.specs.FieldTrees.{named_tree, schema_tree};
@@ -8,7 +8,7 @@ ghost use Rattle.pig_typing.specs.Results.{IfRefused, Tells};
 ghost use Rattle.pig_typing.specs.Written.{with_name};
 ghost use Rattle.pig_relations.specs.Aliases.{aliases_of, relation_tree};
 ghost use Rattle.pig_relations.specs.Keyed.{group_form, join_form};
-ghost use Rattle.pig_relations.specs.Operators.{Groups, GroupsAll, GroupsAllNot, GroupsNot, Joins, JoinsNot, columns_under, first_keys, group_all_columns, group_all_of, group_column, group_columns, group_of, group_op, join_columns, join_of, join_op, limited_op, op_tree, sided, without};
+ghost use Rattle.pig_relations.specs.Operators.{Groups, GroupsAll, GroupsAllNot, GroupsNot, Joins, JoinsNot, columns_under, first_keys, group_all_columns, group_all_of, group_column, group_columns, group_of, group_op, join_columns, join_of, join_op, joined_by, limited_op, op_tree, sided, without};
 ghost use Rattle.pig_relations.specs.Together.{of_kinds};
 ghost use Rattle.pig_relations.specs.Views.{input_tree, keyable_tree};
 
@@ -154,11 +154,11 @@ fn join_told(
     ensures { Tells op_tree (join_of (aliases_of relations.now) (map join_form inputs.now) side
         hint.now) result }
 {
-    without(hint)?;
-    sided(side, count(inputs))?;
+    let replicated = joined_by(side, hint)?;
+    sided(side, replicated, count(inputs))?;
     let forms = join_forms(alloc, inputs)?;
     let keyed = type_keyed(alloc, relations, forms.as_slice())?;
-    joined(alloc, side, keyed)
+    joined(alloc, side, replicated, keyed)
 }
 
 // ---- what is left out, and limits
@@ -173,11 +173,22 @@ fn without(hint: &Option<Text>) -> Result<(), TypeFault>
     }
 }
 
-#[tactic(auto, unfolding(crate::specs::Operators::sided))]
-fn sided(side: Side, count: usize) -> Result<(), TypeFault>
-    ensures { Tells (λ done. tt) (sided side count) result }
+// Whether a JOIN of a side is replicated, by the word behind USING, which is left out.
+#[tactic(auto, unfolding(crate::specs::Operators::joined_by))]
+fn joined_by(side: Side, hint: &Option<Text>) -> Result<bool, TypeFault>
+    ensures { Tells (λ replicated. replicated) (joined_by side hint.now) result }
 {
-    if joins(side, count) {
+    match hint {
+        Some(_) => Err(TypeFault::Refused(CheckKind::Unsupported)),
+        None => Ok(false),
+    }
+}
+
+#[tactic(auto, unfolding(crate::specs::Operators::sided))]
+fn sided(side: Side, replicated: bool, count: usize) -> Result<(), TypeFault>
+    ensures { Tells (λ done. tt) (sided side replicated count) result }
+{
+    if joins(side, replicated, count) {
         Ok(())
     } else {
         Err(TypeFault::Refused(CheckKind::Unsupported))
@@ -190,12 +201,14 @@ fn count(inputs: &[JoinInput]) -> usize
     inputs.len()
 }
 
-fn joins(side: Side, count: usize) -> bool
-    ensures { result ≡ is_join side false count }
+fn joins(side: Side, replicated: bool, count: usize) -> bool
+    ensures { result ≡ is_join side replicated count }
 {
     match side {
         Side::Inner => count >= 2,
-        _ => count == 2,
+        Side::Left => count == 2,
+        Side::Right => count == 2 && !replicated,
+        Side::Full => count == 2 && !replicated,
     }
 }
 
@@ -291,23 +304,28 @@ fn group_all_columns(alloc: Global, alias: &Text, relation: &Relation) -> Result
 
 // ---- JOIN
 
-fn joined(alloc: Global, side: Side, keyed: Keyable) -> Result<TypedOp, TypeFault>
-    ensures { Tells op_tree (limited_op (join_op side (keyable_tree keyed.entry))
+fn joined(alloc: Global, side: Side, replicated: bool, keyed: Keyable) -> Result<TypedOp, TypeFault>
+    ensures { Tells op_tree (limited_op (join_op side replicated (keyable_tree keyed.entry))
         (join_columns (keyable_tree keyed.entry))) result }
 {
     let columns = join_columns(alloc, keyed.inputs.as_slice())?;
-    let op = join_op(alloc, side, keyed)?;
+    let op = join_op(alloc, side, replicated, keyed)?;
     limited_op(alloc, op, columns)
 }
 
-fn join_op(alloc: Global, side: Side, keyed: Keyable) -> Result<NodeOp, AllocError>
-    ensures { IfOk result (λ op. op_of op ≡ join_op side (keyable_tree keyed.entry)) }
+fn join_op(
+    alloc: Global,
+    side: Side,
+    replicated: bool,
+    keyed: Keyable,
+) -> Result<NodeOp, AllocError>
+    ensures { IfOk result (λ op. op_of op ≡ join_op side replicated (keyable_tree keyed.entry)) }
 {
     let inputs = keyed_inputs(alloc, keyed)?;
     Ok(NodeOp::Join {
         inputs,
         side,
-        replicated: false,
+        replicated,
     })
 }
 
