@@ -92,7 +92,7 @@ module _ (statement : ℕ) (s : State) (sound : IsSound statement s) where
       record { fit = one_fits (p_store r.node path d) None (record { gives = rw (is.rows) refl; plain = refl }); given = tt }
   statement_steps st added formed (asserts {from = from} {cond = cond} {message = message} {r = r} {t = t} e h) =
       let is = sound.table from r e in
-      let may = assert_may statement r s.nodes t message is (condition_tests r cond t is.columns (absurd formed) h) in
+      let may = assert_may statement r s.nodes t message is (condition_tests r cond t is.columns formed.1 h) in
       record {
         fit = one_fits (p_assert r.node t message) _ may;
         given = (record { rows = last_gives s.nodes (node_of_statement statement (p_assert r.node t message)) _ may.gives; columns = is.columns }, tt);

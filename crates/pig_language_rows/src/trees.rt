@@ -67,6 +67,27 @@ a.b.c => Post { a: Field(Name('a')), steps: [Project { fields: [Name('b')], sing
 (a).b => Post { a: Field(Name('a')), steps: [Project { fields: [Name('b')], single: true }] }\n\
 f() => Call { name: 'f', args: [] }\n\
 f(a, b + 1) => Call { name: 'f', args: [Field(Name('a')), Chain { first: Field(Name('b')), rest: [Link { op: Add, a: Int(1) }] }] }\n\
+a IN (b) => Compare { op: Eq, a: Field(Name('a')), b: Field(Name('b')) }\n\
+a IN (1, 2, 3) => Chain { first: Compare { op: Eq, a: Field(Name('a')), b: Int(1) }, rest: [Link { op: Or, a: Compare { op: Eq, a: Field(Name('a')), b: Int(2) } }, Link { op: Or, a: Compare { op: Eq, a: Field(Name('a')), b: Int(3) } }] }\n\
+a in (b OR c, (d)) => Chain { first: Compare { op: Eq, a: Field(Name('a')), b: Chain { first: Field(Name('b')), rest: [Link { op: Or, a: Field(Name('c')) }] } }, rest: [Link { op: Or, a: Compare { op: Eq, a: Field(Name('a')), b: Field(Name('d')) } }] }\n\
+NOT a IN (1, 2) => Not(Chain { first: Compare { op: Eq, a: Field(Name('a')), b: Int(1) }, rest: [Link { op: Or, a: Compare { op: Eq, a: Field(Name('a')), b: Int(2) } }] })\n\
+a + b IN (1, 2, 3) => Chain { first: Compare { op: Eq, a: Chain { first: Field(Name('a')), rest: [Link { op: Add, a: Field(Name('b')) }] }, b: Int(1) }, rest: [Link { op: Or, a: Compare { op: Eq, a: Chain { first: Field(Name('a')), rest: [Link { op: Add, a: Field(Name('b')) }] }, b: Int(2) } }, Link { op: Or, a: Compare { op: Eq, a: Chain { first: Field(Name('a')), rest: [Link { op: Add, a: Field(Name('b')) }] }, b: Int(3) } }] }\n\
+a IN (1) AND b IN (2) => Chain { first: Compare { op: Eq, a: Field(Name('a')), b: Int(1) }, rest: [Link { op: And, a: Compare { op: Eq, a: Field(Name('b')), b: Int(2) } }] }\n\
+a IN (b IN (1, 2), c) => Chain { first: Compare { op: Eq, a: Field(Name('a')), b: Chain { first: Compare { op: Eq, a: Field(Name('b')), b: Int(1) }, rest: [Link { op: Or, a: Compare { op: Eq, a: Field(Name('b')), b: Int(2) } }] } }, rest: [Link { op: Or, a: Compare { op: Eq, a: Field(Name('a')), b: Field(Name('c')) } }] }\n\
+(a IN (1, 2)) IN (b, c) => Chain { first: Compare { op: Eq, a: Chain { first: Compare { op: Eq, a: Field(Name('a')), b: Int(1) }, rest: [Link { op: Or, a: Compare { op: Eq, a: Field(Name('a')), b: Int(2) } }] }, b: Field(Name('b')) }, rest: [Link { op: Or, a: Compare { op: Eq, a: Chain { first: Compare { op: Eq, a: Field(Name('a')), b: Int(1) }, rest: [Link { op: Or, a: Compare { op: Eq, a: Field(Name('a')), b: Int(2) } }] }, b: Field(Name('c')) } }] }\n\
+(int) a.b IN ('1', '2') => Chain { first: Compare { op: Eq, a: Cast { to: Int, a: Post { a: Field(Name('a')), steps: [Project { fields: [Name('b')], single: true }] } }, b: Text('1') }, rest: [Link { op: Or, a: Compare { op: Eq, a: Cast { to: Int, a: Post { a: Field(Name('a')), steps: [Project { fields: [Name('b')], single: true }] } }, b: Text('2') } }] }\n\
+CASE WHEN a THEN b END => Choose { cond: Field(Name('a')), yes: Field(Name('b')), no: Null }\n\
+CASE WHEN a THEN 1 WHEN b THEN 2 WHEN c THEN 3 ELSE 4 END => Choose { cond: Field(Name('a')), yes: Int(1), no: Choose { cond: Field(Name('b')), yes: Int(2), no: Choose { cond: Field(Name('c')), yes: Int(3), no: Int(4) } } }\n\
+case When a tHEN b eLsE c enD => Choose { cond: Field(Name('a')), yes: Field(Name('b')), no: Field(Name('c')) }\n\
+CASE a WHEN 1 THEN b END => Choose { cond: Compare { op: Eq, a: Field(Name('a')), b: Int(1) }, yes: Field(Name('b')), no: Null }\n\
+CASE a + b WHEN 1 THEN 'p' WHEN c THEN 'q' WHEN 3 THEN 'r' ELSE 's' END => Choose { cond: Compare { op: Eq, a: Chain { first: Field(Name('a')), rest: [Link { op: Add, a: Field(Name('b')) }] }, b: Int(1) }, yes: Text('p'), no: Choose { cond: Compare { op: Eq, a: Chain { first: Field(Name('a')), rest: [Link { op: Add, a: Field(Name('b')) }] }, b: Field(Name('c')) }, yes: Text('q'), no: Choose { cond: Compare { op: Eq, a: Chain { first: Field(Name('a')), rest: [Link { op: Add, a: Field(Name('b')) }] }, b: Int(3) }, yes: Text('r'), no: Text('s') } } }\n\
+CASE a WHEN b OR c THEN d END => Choose { cond: Compare { op: Eq, a: Field(Name('a')), b: Chain { first: Field(Name('b')), rest: [Link { op: Or, a: Field(Name('c')) }] } }, yes: Field(Name('d')), no: Null }\n\
+CASE WHEN a THEN CASE b WHEN 1 THEN 2 END ELSE CASE WHEN c THEN 3 ELSE 4 END END => Choose { cond: Field(Name('a')), yes: Choose { cond: Compare { op: Eq, a: Field(Name('b')), b: Int(1) }, yes: Int(2), no: Null }, no: Choose { cond: Field(Name('c')), yes: Int(3), no: Int(4) } }\n\
+CASE CASE WHEN a THEN 1 END WHEN b THEN 2 WHEN c THEN 3 END => Choose { cond: Compare { op: Eq, a: Choose { cond: Field(Name('a')), yes: Int(1), no: Null }, b: Field(Name('b')) }, yes: Int(2), no: Choose { cond: Compare { op: Eq, a: Choose { cond: Field(Name('a')), yes: Int(1), no: Null }, b: Field(Name('c')) }, yes: Int(3), no: Null } }\n\
+CASE a IN (1) WHEN b THEN c END => Choose { cond: Compare { op: Eq, a: Compare { op: Eq, a: Field(Name('a')), b: Int(1) }, b: Field(Name('b')) }, yes: Field(Name('c')), no: Null }\n\
+(CASE WHEN a THEN b END) + 1 => Chain { first: Choose { cond: Field(Name('a')), yes: Field(Name('b')), no: Null }, rest: [Link { op: Add, a: Int(1) }] }\n\
+CASE WHEN a THEN b END.c => Post { a: Choose { cond: Field(Name('a')), yes: Field(Name('b')), no: Null }, steps: [Project { fields: [Name('c')], single: true }] }\n\
+f(CASE WHEN a THEN b END, a IN (1)) => Call { name: 'f', args: [Choose { cond: Field(Name('a')), yes: Field(Name('b')), no: Null }, Compare { op: Eq, a: Field(Name('a')), b: Int(1) }] }\n\
 f(g(1)).x => Post { a: Call { name: 'f', args: [Call { name: 'g', args: [Int(1)] }] }, steps: [Project { fields: [Name('x')], single: true }] }\n\
 a == b == c\n\
 a < b > c\n\
@@ -110,8 +131,35 @@ a::f(b)\n\
 (map) a\n\
 (int a)\n\
 *\n\
-a IN (b)\n\
-CASE WHEN a THEN b END\n\
+a IN ()\n\
+a IN b\n\
+a IN (b,)\n\
+a IN (,b)\n\
+a IN (b\n\
+a NOT IN (b)\n\
+a IN (b) IN (c)\n\
+a == b IN (c)\n\
+a IN (b) == c\n\
+a IN (b) IS NULL\n\
+IN (a)\n\
+a IN (b c)\n\
+CASE END\n\
+CASE a END\n\
+CASE ELSE a END\n\
+CASE a ELSE b END\n\
+CASE WHEN a END\n\
+CASE WHEN a THEN END\n\
+CASE WHEN THEN a END\n\
+CASE WHEN a THEN b\n\
+CASE WHEN a THEN b ELSE c\n\
+CASE WHEN a THEN b ELSE END\n\
+CASE WHEN a THEN b ELSE c ELSE d END\n\
+CASE WHEN a THEN b ELSE c WHEN d THEN e END\n\
+CASE a b WHEN c THEN d END\n\
+CASE WHEN a, b THEN c END\n\
+WHEN a THEN b END\n\
+CASE WHEN a THEN b END END\n\
+(CASE WHEN a THEN b)\n\
 INT\n\
 a = b";
 
@@ -288,6 +336,10 @@ SPLIT a INTO b IF c; => [Split { from: 'a', branches: [Branch { alias: 'b', cond
 SPLIT a INTO b IF c, d IF NOT e, f OTHERWISE; => [Split { from: 'a', branches: [Branch { alias: 'b', cond: Field(Name('c')) }, Branch { alias: 'd', cond: Not(Field(Name('e'))) }], otherwise: Some('f') }]\n\
 STORE a INTO 'o'; => [Store { from: 'a', path: 'o', func: None }]\n\
 STORE a INTO 'o' USING F(','); => [Store { from: 'a', path: 'o', func: Some(Func { name: 'F', args: [','] }) }]\n\
+ASSERT a BY b; => [Assert { from: 'a', cond: Field(Name('b')), message: None }]\n\
+ASSERT a BY b > 0, 'm'; => [Assert { from: 'a', cond: Compare { op: Gt, a: Field(Name('b')), b: Int(0) }, message: Some('m') }]\n\
+assert a by a IN (1, 2), 'it\\'s, 1 or 2'; => [Assert { from: 'a', cond: Chain { first: Compare { op: Eq, a: Field(Name('a')), b: Int(1) }, rest: [Link { op: Or, a: Compare { op: Eq, a: Field(Name('a')), b: Int(2) } }] }, message: Some('it\'s, 1 or 2') }]\n\
+ASSERT a BY CASE WHEN b THEN c END, ''; => [Assert { from: 'a', cond: Choose { cond: Field(Name('b')), yes: Field(Name('c')), no: Null }, message: Some('') }]\n\
 REGISTER 'a'; DEFINE x; STREAM; MAPREDUCE ); SAMPLE a 1; CROSS a, b; DUMP a; ILLUSTRATE; DESCRIBE a; EXPLAIN; IMPORT; SET a { ; }; => [Unsupported, Unsupported, Unsupported, Unsupported, Unsupported, Unsupported, Unsupported, Unsupported, Unsupported, Unsupported, Unsupported, Unsupported]\n\
 x = CROSS a, b; y = STREAM; z = SAMPLE a 1.5; => [Unsupported, Unsupported, Unsupported]\n\
 x = DISTINCT a; x = ; => syntax at 2\n\
@@ -315,7 +367,15 @@ STORE a INTO 'o' USING F(x); => syntax at 1\n\
 STORE 'o'; => syntax at 1\n\
 x = STORE a INTO 'o'; => syntax at 1\n\
 STORE a INTO 'o' USING 'u'; => syntax at 1\n\
-ASSERT a BY b; => syntax at 1\n\
+ASSERT a; => syntax at 1\n\
+ASSERT a BY; => syntax at 1\n\
+ASSERT a BY b,; => syntax at 1\n\
+ASSERT a BY b, c; => syntax at 1\n\
+ASSERT a BY b, 'm', 'n'; => syntax at 1\n\
+ASSERT a BY b 'm'; => syntax at 1\n\
+ASSERT a, 'm' BY b; => syntax at 1\n\
+ASSERT 'a' BY b; => syntax at 1\n\
+x = ASSERT a BY b; => syntax at 1\n\
 }{; x = DISTINCT a; => syntax at 1";
 
 // Whole scripts, each with the number of its trees.
@@ -347,6 +407,7 @@ v = LOAD 'visits' AS (user:chararray, page:chararray, time:int); g = GROUP v BY 
 enum Answer {
     Trees(Stmts),
     SyntaxAt(u32),
+    OutOfMemory,
     Other,
 }
 
@@ -376,7 +437,7 @@ fn parsed<R: Abort>(rt: &R, alloc: Global, script: &str) -> Answer {
     match parse(alloc, &tokens, &pieces) {
         Ok(trees) => Answer::Trees(trees),
         Err(SyntaxFault::Syntax { statement }) => Answer::SyntaxAt(statement),
-        Err(SyntaxFault::OutOfMemory) => Answer::Other,
+        Err(SyntaxFault::OutOfMemory) => Answer::OutOfMemory,
     }
 }
 
@@ -431,7 +492,7 @@ fn shown<R: Abort>(rt: &R, alloc: Global, script: &str) -> String {
     let shown = match &found {
         Answer::Trees(trees) => shown_trees(rt, alloc, trees),
         Answer::SyntaxAt(statement) => shown_place(rt, alloc, *statement),
-        Answer::Other => String::from_str(alloc, "no answer").expect(rt, "memory"),
+        _ => String::from_str(alloc, "no answer").expect(rt, "memory"),
     };
     drop(found);
     shown
@@ -618,6 +679,155 @@ fn reads_brackets_64_deep(rt: HostRuntime) {
         let number = counted(&rt, rt.alloc(), script.as_str());
         assert_eq!(rt; number, 1, "{script}");
     }
+}
+
+// How the reading of a script ends.
+fn ended<R: Abort>(rt: &R, alloc: Global, script: &str) -> &'static str {
+    let found = parsed(rt, alloc, script);
+    let end = match &found {
+        Answer::Trees(_) => "trees",
+        Answer::SyntaxAt(_) => "syntax",
+        Answer::OutOfMemory => "memory",
+        Answer::Other => "no answer",
+    };
+    drop(found);
+    end
+}
+
+// Steps that no bracket bounds: 1,024 in one expression, wherever they stand in it, and no more.
+#[test]
+fn bounds_steps_without_brackets(rt: HostRuntime) {
+    let sixteen = ".y.y.y.y.y.y.y.y.y.y.y.y.y.y.y.y)";
+    let cases: [((&str, &str, &str, &str, &str), usize, &str); 14] = [
+        (("x = FILTER a BY b", ".y", "", "", ";"), 1_024, "trees"),
+        (("x = FILTER a BY b", ".y", "", "", ";"), 1_025, "memory"),
+        (("x = FILTER a BY b", "#'k'", "", "", ";"), 1_024, "trees"),
+        (
+            ("x = FILTER a BY b", "#'k'", ".y", "", ";"),
+            1_024,
+            "memory",
+        ),
+        (("x = FILTER a BY ", "(", "b", sixteen, ";"), 64, "trees"),
+        (("x = FILTER a BY ", "(", "b", sixteen, ".y;"), 64, "memory"),
+        (
+            ("x = FILTER a BY CASE", " WHEN b THEN c", " END", "", ";"),
+            1_000,
+            "trees",
+        ),
+        (
+            ("x = FILTER a BY CASE b", " WHEN 1 THEN c", " END", "", ";"),
+            1_024,
+            "trees",
+        ),
+        (
+            ("x = FILTER a BY CASE", " WHEN b THEN c", " END.y", "", ";"),
+            1_024,
+            "memory",
+        ),
+        (
+            ("x = FILTER a BY ", "CASE WHEN b THEN ", "c", " END", ";"),
+            64,
+            "trees",
+        ),
+        (
+            ("x = FOREACH a GENERATE b", ".y", ", c", ".y", ";"),
+            1_024,
+            "trees",
+        ),
+        (
+            ("x = FOREACH a GENERATE b", ".y", " + c", ".y", ";"),
+            513,
+            "memory",
+        ),
+        (
+            ("x = GROUP a BY (b", ".y", ", c", ".y", ");"),
+            1_024,
+            "trees",
+        ),
+        (
+            ("x = FILTER a BY b", ".y", " IN (1, 2, 3)", "", ";"),
+            1_024,
+            "trees",
+        ),
+    ];
+    for (parts, times, wanted) in cases {
+        let script = nested(&rt, rt.alloc(), parts, times);
+        let end = ended(&rt, rt.alloc(), script.as_str());
+        assert_eq!(rt; end, wanted, "{times} times: {script}");
+    }
+}
+
+// An operand of 1,024 tokens may be copied 1,024 times in one script, and no more; what is tried in vain doesn't count.
+#[test]
+fn bounds_copies(rt: HostRuntime) {
+    let cases: [((&str, &str, &str, &str, &str), &str); 4] = [
+        (
+            (
+                "x = FILTER a BY - b",
+                " + b",
+                " IN (1, 1, 1",
+                ", 1, 1",
+                ");",
+            ),
+            "trees",
+        ),
+        (
+            (
+                "x = FILTER a BY - b",
+                " + b",
+                " IN (1, 1, 1, 1",
+                ", 1, 1",
+                ");",
+            ),
+            "memory",
+        ),
+        (
+            (
+                "x = FILTER a BY b IN (1, 1); x = FILTER a BY - b",
+                " + b",
+                " IN (1, 1, 1",
+                ", 1, 1",
+                ");",
+            ),
+            "memory",
+        ),
+        (
+            (
+                "x = GROUP a BY (- b",
+                " + b",
+                " IN (1, 1, 1",
+                ", 1, 1",
+                "), c);",
+            ),
+            "trees",
+        ),
+    ];
+    for (parts, wanted) in cases {
+        let script = nested(&rt, rt.alloc(), parts, 511);
+        let end = ended(&rt, rt.alloc(), script.as_str());
+        assert_eq!(rt; end, wanted, "{script}");
+    }
+}
+
+// The deepest tree that is let through: 1,024 choices with as many levels around as 64 brackets can have.
+#[test]
+fn reads_the_deepest_tree(rt: HostRuntime) {
+    let alloc = rt.alloc();
+    let front = "x = FILTER a BY ";
+    let mut script = String::from_str(alloc, front).expect(&rt, "memory");
+    add_times(
+        &rt,
+        &mut script,
+        "a OR b AND NOT 1 == 1 + 2 * - (int) f(",
+        63,
+    );
+    script.push_str("CASE").expect(&rt, "memory");
+    add_times(&rt, &mut script, " WHEN b THEN c", 1_024);
+    script.push_str(" END").expect(&rt, "memory");
+    add_times(&rt, &mut script, ")", 63);
+    script.push_str(";").expect(&rt, "memory");
+    let end = ended(&rt, alloc, script.as_str());
+    assert_eq!(rt; end, "trees");
 }
 
 #[test]
