@@ -51,9 +51,10 @@ module _ (plan : Plan) (i : ℕ) where
               let same : input ≡ i = eqb-true input i e in
               let op_is : v.op ≡ p_foreach i block = is ∙ ap (λ j. p_foreach j b) same ∙ ap (p_foreach i) (some_same b block found) in
               let inputs_are : inputs_at n ≡ i ∷ [] = ap (λ found. option_map_or (λ node. inputs_of node.op) found []) at ∙ ap inputs_of op_is in
-              let itself : (i == i) ≡ true = ap (λ j. j == i) (sym same) ∙ e in
-              (ap (option_map (λ node. node.op)) at ∙ ap Some op_is,
-              subst (λ m. 1 ≤ m) (sym (ap (λ xs. length (filter (λ j. j == i) xs)) inputs_are ∙ ap (λ t. length (cond t (i ∷ []) [])) itself)) (omega arith))
+              let itself : (i == i) ≡ true = ap (λ j. j == i) (sym same) ∙ e in (
+                ap (option_map (λ node. node.op)) at ∙ ap Some op_is,
+                subst (λ m. 1 ≤ m) (sym (ap (λ xs. length (filter (λ j. j == i) xs)) inputs_are ∙ ap (λ t. length (cond t (i ∷ []) [])) itself)) (omega arith),
+              )
           by_test false e found = absurd (cc)
       by_op v at (p_load path delim columns) is g = absurd (cc)
       by_op v at (p_filter input test) is g = absurd (cc)

@@ -288,8 +288,8 @@ module _ (s : Stages) (inputs : List Input) (points : ℕ → List Point) (outs 
     pub told_just : list_any is_ours (all_unmet outs) ≡ not (list_all (passes test) (meaning s.plan inputs kept input))
     told_just = elim (cases_Bool (list_all (passes test) (meaning s.plan inputs kept input))) [
       | inl holds ↦ elim (cases_Bool (list_any is_ours (all_unmet outs))) [
-          | inl told ↦ absurd (true≢false (sym holds ∙ told_unmet told))
-          | inr silent ↦ silent ∙ sym (ap not holds)
-        ]
+        | inl told ↦ absurd (true≢false (sym holds ∙ told_unmet told))
+        | inr silent ↦ silent ∙ sym (ap not holds)
+      ]
       | inr fails ↦ unmet_told fails ∙ sym (ap not fails)
     ]

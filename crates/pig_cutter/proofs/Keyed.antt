@@ -68,9 +68,9 @@ module _ (s : Stages) (inputs : List Input) (points : ℕ → List Point) (outs 
   module _ (count_is : reduce_count s.sizing.reducers o ≡ s.sizing.reducers)
       (runs_are : (es : List Entry) → runs_of s.sizing.reducers (Some (points (first_wave s.plan k))) o es ≡ partitions s.sizing.reducers es)
       (map_form : (i : ℕ) (rows : Rows) (form : Form) → IsMapForm s (Some (points (first_wave s.plan k))) k o i rows form
-          → form ≡ o_runs (runs_of s.sizing.reducers (Some (points (first_wave s.plan k))) o (handed_on s.plan k o (entries_of o i rows))))
+      → form ≡ o_runs (runs_of s.sizing.reducers (Some (points (first_wave s.plan k))) o (handed_on s.plan k o (entries_of o i rows))))
       (reduce_form : (p : ℕ) (form : Form) → IsReduceForm s k o (outs_at outs (first_wave s.plan k)) p form
-          → form ≡ o_rows (reduced s.plan k o (flat_map (entries_at p) (outs_at outs (first_wave s.plan k))))) where
+      → form ≡ o_rows (reduced s.plan k o (flat_map (entries_at p) (outs_at outs (first_wave s.plan k))))) where
     pub given_by_parts : given ≡ flat_map (λ p. reduced s.plan k o (flat_map (in_run p) tasks)) (range_with_len 0 s.sizing.reducers)
     given_by_parts =
         rows_by_parts s inputs points outs run k o at stands reduce_form

@@ -130,14 +130,18 @@ module _ (law : SortedCombinersLaw) (s : Stages) (inputs : List Input) (kept : L
           let are = group_all_of law s inputs kept points outs run some k statement input at stands in
           record {
             rows_are = outputs s inputs outs k (p_group_all input) at refl (λ part. refl) (as_many s inputs points outs run k (p_group_all input) at stands);
-            bag = are.bag; list = λ e. absurd (true≢false (sym e)); folded = are.folded;
+            bag = are.bag;
+            list = λ e. absurd (true≢false (sym e));
+            folded = are.folded;
           }
       by_op (p_group keyed) is at bounds has =
           let stands = stands_at s k (p_group keyed) at alive bounds has in
           let are = group_by law s inputs kept points outs run some k statement keyed at stands in
           record {
             rows_are = outputs s inputs outs k (p_group keyed) at refl (λ part. refl) (as_many s inputs points outs run k (p_group keyed) at stands);
-            bag = are.bag; list = λ e. absurd (true≢false (sym e)); folded = are.folded;
+            bag = are.bag;
+            list = λ e. absurd (true≢false (sym e));
+            folded = are.folded;
           }
       by_op (p_join keyed side true) is at bounds has = absurd (true≢false (sym has))
       by_op (p_join keyed side false) is at bounds has =
@@ -145,20 +149,26 @@ module _ (law : SortedCombinersLaw) (s : Stages) (inputs : List Input) (kept : L
           let are = join_by law s inputs kept points outs run some k statement keyed side at stands in
           record {
             rows_are = outputs s inputs outs k (p_join keyed side false) at refl (λ part. refl) (as_many s inputs points outs run k (p_join keyed side false) at stands);
-            bag = are.bag; list = λ e. absurd (true≢false (sym e)); folded = are.folded;
+            bag = are.bag;
+            list = λ e. absurd (true≢false (sym e));
+            folded = are.folded;
           }
       by_op (p_distinct input) is at bounds has =
           let stands = stands_at s k (p_distinct input) at alive bounds has in
           record {
             rows_are = outputs s inputs outs k (p_distinct input) at refl (λ part. refl) (as_many s inputs points outs run k (p_distinct input) at stands);
-            bag = λ none. distinct_is s inputs points outs run some k input at stands; list = λ e. absurd (true≢false (sym e)); folded = λ b is. never k (p_distinct input) at refl b is;
+            bag = λ none. distinct_is s inputs points outs run some k input at stands;
+            list = λ e. absurd (true≢false (sym e));
+            folded = λ b is. never k (p_distinct input) at refl b is;
           }
       by_op (p_order input keys) is at bounds has =
           let stands = stands_at s k (p_order input keys) at alive bounds has in
           let sorted = order_is s inputs points outs run some k input keys at alive stands in
           record {
             rows_are = outputs s inputs outs k (p_order input keys) at refl (λ part. refl) (as_many s inputs points outs run k (p_order input keys) at stands);
-            bag = λ none. ap bag_of sorted; list = λ e. sorted; folded = λ b is. never k (p_order input keys) at refl b is;
+            bag = λ none. ap bag_of sorted;
+            list = λ e. sorted;
+            folded = λ b is. never k (p_order input keys) at refl b is;
           }
       by_op (p_limit input count) is at bounds has = limit_found k statement input count is alive at (stands_at s k (p_limit input count) at alive bounds has)
       by_op (p_rank input keys dense) is at bounds has = absurd (true≢false (sym has))

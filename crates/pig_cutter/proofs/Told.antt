@@ -88,7 +88,18 @@ module _ (plan : Plan) where
           by_test : (b : Bool) → list_all (passes test) rs ≡ b → Among statement (cond b [] (v.statement ∷ [])) → ToldAt (k ∷ ns) rs statement
           by_test true e none = absurd (in_none none)
           by_test false e one = record {
-            before = []; k = k; after = ns; is = refl; v = v; at = at; input = input; test = test; message = message; op = op; statement_is = the_one one.at one.is; fails = e;
+            before = [];
+            k = k;
+            after = ns;
+            is = refl;
+            v = v;
+            at = at;
+            input = input;
+            test = test;
+            message = message;
+            op = op;
+            statement_is = the_one one.at one.is;
+            fails = e;
           }
             where
               the_one : (i : ℕ) → slice_get (v.statement ∷ []) i ≡ Some statement → v.statement ≡ statement
@@ -117,8 +128,18 @@ module _ (plan : Plan) where
     where
       later : ToldAt ns (node_step (folds plan) plan k rs) statement → ToldAt (k ∷ ns) rs statement
       later g = record {
-        before = k ∷ g.before; k = g.k; after = g.after; is = ap (λ more. k ∷ more) g.is; v = g.v; at = g.at; input = g.input; test = g.test; message = g.message;
-        op = g.op; statement_is = g.statement_is; fails = g.fails;
+        before = k ∷ g.before;
+        k = g.k;
+        after = g.after;
+        is = ap (λ more. k ∷ more) g.is;
+        v = g.v;
+        at = g.at;
+        input = g.input;
+        test = g.test;
+        message = g.message;
+        op = g.op;
+        statement_is = g.statement_is;
+        fails = g.fails;
       }
 
       by_side : (Among statement (unmet_on plan ns (node_step (folds plan) plan k rs)) → ToldAt ns (node_step (folds plan) plan k rs) statement)

@@ -76,7 +76,7 @@ module _ (plan : Plan) (valid : IsPlan plan) where
       single own (suc i) h = absurd (cc)
 
       by_cut : ((i : ℕ) → i < n → (u : PlanNode) → slice_get plan i ≡ Some u → (p : Path) → Among p (paths_of plan i)
-              → (front : List ℕ) (l : ℕ) (rest : List ℕ) → p.nodes ≡ front ++ l ∷ rest → (x : PlanNode) → slice_get plan l ≡ Some x → Before p front x)
+          → (front : List ℕ) (l : ℕ) (rest : List ℕ) → p.nodes ≡ front ++ l ∷ rest → (x : PlanNode) → slice_get plan l ≡ Some x → Before p front x)
           → (i : ℕ) → Among i (inputs_of w.op) → (p : Path) → Among p (paths_of plan i) → and_then j p ≡ path → i < j → CutAt p.nodes j before k after → Before path before v
       by_cut inside i named p there_too is lower (at_last none same cut) =
           let node_is : w ≡ v = some_same w v (sym there ∙ ap (slice_get plan) same ∙ at) in
@@ -139,7 +139,10 @@ module _ (plan : Plan) (valid : IsPlan plan) where
           let one : g.j + 1 ≡ suc g.j = omega arith in
           let two : suc g.j + 1 ≡ suc (g.j + 1) = omega arith in
           record {
-            j = suc g.j; v = g.v; at = g.at; name = g.name;
+            j = suc g.j;
+            v = g.v;
+            at = g.at;
+            name = g.name;
             live = ap (λ m. is_store g.v.op || is_used (n + suc g.j) (n + suc g.j + 1) (drop m (v ∷ nodes))) two
                 ∙ (λ i. is_store g.v.op || is_used (sym place i) (sym place i + 1) (drop (g.j + 1) nodes)) ∙ g.live;
           }
@@ -161,9 +164,11 @@ module _ (plan : Plan) (valid : IsPlan plan) where
           → (b : Bool) → (n == k) ≡ b → (b || list_any (λ m. m == k) ns) ≡ true → (j : ℕ) × Among (record { input = j; path = path }) (entering (paths_of plan) i (n ∷ ns))
       by_test more true e g =
           let same : n ≡ k = eqb-true n k e in
-          let way : Entering = record { input = i; path = path } in
-          (i, among_front way (map (λ p. record { input = i; path = p }) (paths_of plan n)) (entering (paths_of plan) (i + 1) ns)
-          (among_map (λ p. record { input = i; path = p }) (paths_of plan n) path (subst (λ m. Among path (paths_of plan m)) (sym same) among)))
+          let way : Entering = record { input = i; path = path } in (
+            i,
+            among_front way (map (λ p. record { input = i; path = p }) (paths_of plan n)) (entering (paths_of plan) (i + 1) ns)
+                (among_map (λ p. record { input = i; path = p }) (paths_of plan n) path (subst (λ m. Among path (paths_of plan m)) (sym same) among)),
+          )
       by_test more false e g =
           let rest = more g in
           (rest.0, among_behind (record { input = rest.0; path = path }) (map (λ p. record { input = i; path = p }) (paths_of plan n)) (entering (paths_of plan) (i + 1) ns) rest.1)
@@ -241,7 +246,13 @@ module _ (plan : Plan) (valid : IsPlan plan) where
                   let on = handed_path m user.v there by_row k (subst (λ n. Among n (inputs_of user.v.op)) same held.among) path among in
                   let next = onwards m (omega (arith, far)) user.v there lives (and_then m path) on in
                   record {
-                    node = next.node; v = next.v; at = next.at; alive = next.alive; way = next.way; read = next.read; rest = m ∷ next.rest;
+                    node = next.node;
+                    v = next.v;
+                    at = next.at;
+                    alive = next.alive;
+                    way = next.way;
+                    read = next.read;
+                    rest = m ∷ next.rest;
                     is = next.is ∙ (λ i. record { source = path.source; nodes = append_assoc path.nodes (m ∷ []) next.rest i });
                   }
 
@@ -280,7 +291,7 @@ module _ (plan : Plan) (valid : IsPlan plan) where
       elim (cases_lt j k) [
         | inl less ↦ absurd (not_before j k v w at there one same less)
         | inr more ↦ elim (cases_lt k j) [
-            | inl less ↦ absurd (not_before k j w v there at other (sym same) less)
-            | inr most ↦ omega (arith, more, most)
-          ]
+          | inl less ↦ absurd (not_before k j w v there at other (sym same) less)
+          | inr most ↦ omega (arith, more, most)
+        ]
       ]

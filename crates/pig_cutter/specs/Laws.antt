@@ -55,7 +55,7 @@ pub record GiveMeaning (s : Stages) (inputs : List Input) (kept : List Kept) (ou
   pub asserts : (k statement input : ℕ) (cond : Typed) (message : Option (List ℕ))
       → slice_get s.plan k ≡ Some (asserts_at input cond message statement) → is_live s.plan k ≡ true
       → list_any (λ n. n == statement) (all_unmet outs)
-          ≡ not (met (meaning s.plan inputs kept) (p_assert input cond message))
+      ≡ not (met (meaning s.plan inputs kept) (p_assert input cond message))
 
 -- Outputs that are the values of all tasks, wave by wave, give the meaning of the plan that is cut.
 abbrev pub StagesGiveMeaning : Type 0

@@ -72,9 +72,9 @@ module _ (s : Stages) (inputs : List Input) (points : ℕ → List Point) (outs 
   module _ (form_is : (p : ℕ) (form : Form) → IsReduceForm s k o map_outs p form → form ≡ o_rows (reduced s.plan k o (flat_map (entries_at p) map_outs))) where
     pub rows_by_parts : flat_map (λ out. rows_in out.form) reduce_outs ≡ flat_map (λ p. reduced s.plan k o (flat_map (entries_at p) map_outs)) (range_with_len 0 count)
     rows_by_parts = sym (
-      each_flat (λ p. reduced s.plan k o (flat_map (entries_at p) map_outs)) (λ out. rows_in out.form) (range_with_len 0 count) reduce_outs
-      (each_weaker_two (λ p out. IsReduceValue s outs (reduce_task p) o out) (λ p out. reduced s.plan k o (flat_map (entries_at p) map_outs) ≡ rows_in out.form)
-      (λ p out h. sym (ap rows_in (form_is p out.form h.form))) (range_with_len 0 count) reduce_outs reduce_values))
+        each_flat (λ p. reduced s.plan k o (flat_map (entries_at p) map_outs)) (λ out. rows_in out.form) (range_with_len 0 count) reduce_outs
+        (each_weaker_two (λ p out. IsReduceValue s outs (reduce_task p) o out) (λ p out. reduced s.plan k o (flat_map (entries_at p) map_outs) ≡ rows_in out.form)
+        (λ p out h. sym (ap rows_in (form_is p out.form h.form))) (range_with_len 0 count) reduce_outs reduce_values))
 
   -- what map tasks of a node hand on that is neither a LIMIT nor a STORE
   abbrev pub task_entries : MapTask → List Entry
@@ -93,9 +93,9 @@ module _ (s : Stages) (inputs : List Input) (points : ℕ → List Point) (outs 
         (has : (es : List Entry) → option_map_or (λ r. r.entries) (slice_get (runs_of s.sizing.reducers (Some (points wave)) o es) p) [] ≡ taken p es) where
       pub entries_of_part : flat_map (entries_at p) map_outs ≡ flat_map (λ t. taken p (task_entries t)) (map_tasks s k o)
       entries_of_part = sym (
-        each_flat (λ t. taken p (task_entries t)) (entries_at p) (map_tasks s k o) map_outs
-        (each_weaker_two (λ t out. out.form ≡ o_runs (runs_of s.sizing.reducers (Some (points wave)) o (task_entries t))) (λ t out. taken p (task_entries t) ≡ entries_at p out)
-        (λ t out h. sym (ap (λ form. option_map_or (λ r. r.entries) (slice_get (runs_in form) p) []) h ∙ has (task_entries t))) (map_tasks s k o) map_outs map_forms))
+          each_flat (λ t. taken p (task_entries t)) (entries_at p) (map_tasks s k o) map_outs
+          (each_weaker_two (λ t out. out.form ≡ o_runs (runs_of s.sizing.reducers (Some (points wave)) o (task_entries t))) (λ t out. taken p (task_entries t) ≡ entries_at p out)
+          (λ t out h. sym (ap (λ form. option_map_or (λ r. r.entries) (slice_get (runs_in form) p) []) h ∙ has (task_entries t))) (map_tasks s k o) map_outs map_forms))
 
 -- the entries of one partition of several
 pub in_partition : (n p : ℕ) → p < n → (es : List Entry)
