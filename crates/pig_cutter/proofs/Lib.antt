@@ -8,3 +8,4 @@ mod Told
 mod Main
 mod Stores
 mod Asserts
+mod Samples
