@@ -1,0 +1,6 @@
+mod Samples
+mod Found
+mod Added
+mod Coded
+mod Placed
+mod Flushed
