@@ -242,3 +242,22 @@ fn ordered_rows_are_lists(rt: HostRuntime) {
     let want = "0 kept 0\nstored p 2\ndone 2 0 2\np whole\n1\n2147483648\n\nq none\n";
     assert_eq!(rt; got.as_str(), want);
 }
+
+/// Whether a script answers and leaves this over an input `a`.
+fn is_told<R: Threads + Sync + Abort>(rt: &R, script: &str, want: &str, alloc: Global) -> bool {
+    of(rt, alloc, script, "1\n2\n", "").as_str() == want
+}
+
+/// An ASSERT that a STORE reaches isn't run yet, which is told before an input is looked for; another is no obstacle.
+#[test]
+fn asserts_are_held_back(rt: HostRuntime) {
+    let held = "3 kept 0\npig: statement 2: Unsupported\np none\nq none\n";
+    let script = "a = LOAD 'a' AS (x:int); ASSERT a BY x > 0, 'positive'; STORE a INTO 'p';";
+    assert!(rt; is_told(&rt, script, held, rt.alloc()));
+    let script =
+        "a = LOAD 'zz' AS (x:int); ASSERT a BY x > 0; ASSERT a BY x > 1; STORE a INTO 'p';";
+    assert!(rt; is_told(&rt, script, held, rt.alloc()));
+    let run = "0 kept 0\nstored p 2\ndone 2 0 2\np whole\n1\n2\n\nq none\n";
+    let script = "a = LOAD 'a' AS (x:int); STORE a INTO 'p'; ASSERT a BY x > 1, 'never asked';";
+    assert!(rt; is_told(&rt, script, run, rt.alloc()));
+}

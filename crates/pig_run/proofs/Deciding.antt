@@ -13,9 +13,9 @@ use Rattle.pig_words.specs.declared.words.Verb.TheVariants as verbs
 use Rattle.pig_words.proofs.Commands.{one_command}
 use Rattle.pig_words.proofs.Decisions.{command_decided}
 use Rattle.pig_run.specs.declared.outcome.TooLarge.TheVariants as large
-use Rattle.pig_run.specs.Due.{AreWords, HasWords, InputsDue, IsDue, Line, Looks, OutputsDue, RunDue, ScriptDue, SizeDue, Stage, call, is_missing, no_words, passed, runs, script_found, script_missing, script_refused, size_of, small, stopped, store_calls, through, too_big, with_words}
+use Rattle.pig_run.specs.Due.{AreWords, AssertsDue, HasWords, InputsDue, IsDue, Line, Looks, OutputsDue, RunDue, ScriptDue, SizeDue, Stage, asserts, asserts_none, call, first_assert, is_missing, no_words, passed, runs, script_found, script_missing, script_refused, size_of, small, stopped, store_calls, through, too_big, with_words}
 use Rattle.pig_run.specs.Reading.{IsFound, Refuses, Runs, Verdict}
-use Rattle.pig_run.specs.Refusals.{Refusal, no_command, no_input, no_script, output_there, too_large}
+use Rattle.pig_run.specs.Refusals.{Refusal, no_command, no_input, no_script, not_run, output_there, too_large}
 use Rattle.pig_run.proofs.Readings.{PlanLaws, one_found, some_found}
 
 pub just : {A : Type 0} {x y : A} → Some x ≡ Some y → x ≡ y
@@ -96,6 +96,19 @@ one_inputs plan s = one_looks (is_missing s) no_input method.Pieces (live_paths 
 some_inputs : (plan : Plan) (s : Shelf) → IsSome (InputsDue plan s)
 some_inputs plan s = some_looks (is_missing s) no_input method.Pieces (live_paths plan) (SizeDue plan s) (some_size plan s)
 
+one_asserts : (plan : Plan) (s : Shelf) → IsOne (AssertsDue plan s)
+one_asserts plan s _ _ _ _ (asserts h) (asserts k) = (ap (λ n. Refuses (not_run n)) (just (sym h ∙ k)), refl)
+one_asserts plan s _ b _ w (asserts h) (asserts_none k due) = not_none (sym k ∙ h)
+one_asserts plan s a _ v _ (asserts_none h due) (asserts k) = not_none (sym h ∙ k)
+one_asserts plan s a b v w (asserts_none h due) (asserts_none k other) = one_inputs plan s a b v w due other
+
+some_asserts : (plan : Plan) (s : Shelf) → IsSome (AssertsDue plan s)
+some_asserts plan s = by_first (first_assert plan) refl
+  where
+    by_first : (o : Option ℕ) → first_assert plan ≡ o → IsSome (AssertsDue plan s)
+    by_first None e = let rest = some_inputs plan s in (rest.0, rest.1, asserts_none e rest.2)
+    by_first (Some n) e = ([], Refuses (not_run n), asserts e)
+
 module _ (laws : PlanLaws) (path : List ℕ) (s : Shelf) where
   same_verdict : (t u : List ℕ) (v w : Verdict) → script_of path s ≡ Some t → script_of path s ≡ Some u → IsFound t v → IsFound u w → v ≡ w
   same_verdict t u v w h k is js = one_found laws t v w is (subst (λ x. IsFound x w) (sym (just (sym h ∙ k))) js)
@@ -112,7 +125,7 @@ module _ (laws : PlanLaws) (path : List ℕ) (s : Shelf) where
   one_script _ _ v w (script_found {script = t} {plan = p} {asked = a} h is due) (script_found {script = u} {plan = q} {asked = b} k js other) =
       let e = same_verdict t u (Runs p) (Runs q) h k is js in
       let plans : q ≡ p = cc in
-      let same = one_inputs p s a b v w due (subst (λ x. InputsDue x s b w) plans other) in
+      let same = one_asserts p s a b v w due (subst (λ x. AssertsDue x s b w) plans other) in
       (same.0, ap (λ xs. call method.Script path ∷ xs) same.1)
 
   some_script : IsSome (ScriptDue path s)
@@ -120,7 +133,7 @@ module _ (laws : PlanLaws) (path : List ℕ) (s : Shelf) where
     where
       by_verdict : (script : List ℕ) (v : Verdict) → script_of path s ≡ Some script → IsFound script v → IsSome (ScriptDue path s)
       by_verdict script (Refuses r) h is = (call method.Script path ∷ [], Refuses r, script_refused h is)
-      by_verdict script (Runs plan) h is = let rest = some_inputs plan s in (call method.Script path ∷ rest.0, rest.1, script_found h is rest.2)
+      by_verdict script (Runs plan) h is = let rest = some_asserts plan s in (call method.Script path ∷ rest.0, rest.1, script_found h is rest.2)
 
       by_script : (o : Option (List ℕ)) → script_of path s ≡ o → IsSome (ScriptDue path s)
       by_script None e = (call method.Script path ∷ [], Refuses no_script, script_missing e)

@@ -2,6 +2,7 @@ mod Apart
 mod Deciding
 mod Ending
 mod Found
+mod Held
 mod LookUps
 mod Pieces
 mod Readings

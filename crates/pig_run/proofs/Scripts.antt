@@ -11,7 +11,7 @@ use Rattle.pig_plan.specs.declared.plan.Plan.{Plan}
 use Rattle.pig_run.specs.declared.outcome.RunFault.{RunFault}
 use Rattle.pig_run.specs.declared.outcome.RunFault.TheVariants as fault
 use Rattle.pig_run.specs.declared.outcome.TooLarge.TheVariants as large
-use Rattle.pig_run.specs.Due.{InputsDue, ScriptDue, call, script_found, script_missing, script_refused}
+use Rattle.pig_run.specs.Due.{AssertsDue, ScriptDue, call, script_found, script_missing, script_refused}
 use Rattle.pig_run.specs.Looking.{IsRead}
 use Rattle.pig_run.specs.Reading.{IsFound, Refuses, Runs, Verdict, too_long}
 use Rattle.pig_run.specs.Refusals.{no_script, too_large}
@@ -60,25 +60,25 @@ module _ (laws : PlanLaws) (path : List ℕ) (s : Shelf) where
     pub script_gone : script_of path s ≡ None → StopsIn (ScriptDue path s) old new fault.NoScript
     script_gone none = record { made = call method.Script path ∷ []; asked = asked; ends = inl (record { refusal = no_script; due = script_missing none; names = refl }) }
 
-    script_is : (script : List ℕ) → script_of path s ≡ Some script → (plan : List PlanNode) → IsFound script (Runs plan) → Passes (ScriptDue path s) (InputsDue plan s) old new
+    script_is : (script : List ℕ) → script_of path s ≡ Some script → (plan : List PlanNode) → IsFound script (Runs plan) → Passes (ScriptDue path s) (AssertsDue plan s) old new
     script_is script there plan is = record {
       made = call method.Script path ∷ [];
       asked = asked;
       hands = record { on = λ more v due. script_found there is due; back = λ all v due. behind all v due };
     }
       where
-        behind : (all : List DepotCall) (v : Verdict) → ScriptDue path s all v → (more : List DepotCall) × (all ≡ (call method.Script path ∷ []) ++ more) × InputsDue plan s more v
+        behind : (all : List DepotCall) (v : Verdict) → ScriptDue path s all v → (more : List DepotCall) × (all ≡ (call method.Script path ∷ []) ++ more) × AssertsDue plan s more v
         behind _ _ (script_missing h) = not_none (sym h ∙ there)
         behind _ _ (script_refused {script = t} {refusal = r} h js) =
             absurd (let e = one_found laws script (Runs plan) (Refuses r) is (subst (λ x. IsFound x (Refuses r)) (just (sym h ∙ there)) js) in cc)
         behind _ v (script_found {script = t} {plan = q} {asked = more} h js due) =
             let e = one_found laws script (Runs q) (Runs plan) (subst (λ x. IsFound x (Runs q)) (just (sym h ∙ there)) js) is in
             let same : q ≡ plan = cc in
-            (more, refl, subst (λ x. InputsDue x s more v) same due)
+            (more, refl, subst (λ x. AssertsDue x s more v) same due)
 
     -- how the reading of a script that is there ends
     pub script_step : (n : ℕ) → n ≡ 2 ^ 20 → (bytes : List ℕ) → IsRead n (script_of path s) bytes → (result : Result Plan RunFault) → TellsPlan (IsFound bytes) result
-        → Step (ScriptDue path s) (λ plan. InputsDue (plan_of plan) s) old new result
+        → Step (ScriptDue path s) (λ plan. AssertsDue (plan_of plan) s) old new result
     script_step n limit bytes r (Ok plan) h = script_is r.script r.there (plan_of plan) (found_whole n limit bytes r (Runs (plan_of plan)) h)
     script_step n limit bytes r (Err f) (inl h) = record {
       made = call method.Script path ∷ [];

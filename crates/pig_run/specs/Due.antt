@@ -1,18 +1,20 @@
 -- What is due of the words and the shelf, stage by stage in the order of the refusals, and what the depot is asked for it.
-use Rattle.std.specs.Prelude.{◌≡◌, ◌<◌, ◌≤◌, ◌^◌, ℕ, Bool, List, [], ◌∷◌, ◌++◌, length, map, Some, None, is_none, unwrap_or, if◌then◌else◌}
-use Rattle.std.specs.List.{find, flat_map, sum_by}
+use Rattle.std.specs.Prelude.{◌≡◌, ◌<◌, ◌≤◌, ◌^◌, ℕ, Bool, List, [], ◌∷◌, ◌++◌, length, map, Option, Some, None, is_none, unwrap_or, slice_get, if◌then◌else◌}
+use Rattle.std.specs.List.{filter_map, find, flat_map, sum_by}
+use Rattle.std.specs.Option.{option_and_then}
 use Rattle.pig_outside.specs.Calls.{DepotCall}
 use Rattle.pig_outside.specs.declared.failing.Method.{Method}
 use Rattle.pig_outside.specs.declared.failing.Method.TheVariants as method
 use Rattle.pig_outside.specs.Shelf.{Shelf, script_of, pieces_of, has_dir}
-use Rattle.pig_plan.specs.Plans.{Plan}
+use Rattle.pig_plan.specs.Nodes.{live}
+use Rattle.pig_plan.specs.Plans.{Plan, PlanNode, PlanOp, p_assert}
 use Rattle.pig_reach.specs.Reach.{live_paths, dirs_of}
 use Rattle.pig_words.specs.CommandWords.{IsCommand}
 use Rattle.pig_words.specs.declared.words.Command.{Command}
 use Rattle.pig_words.specs.declared.words.Verb.TheVariants as verbs
 use Rattle.pig_run.specs.declared.outcome.TooLarge.TheVariants as large
 use Rattle.pig_run.specs.Reading.{Verdict, Refuses, Runs, IsFound}
-use Rattle.pig_run.specs.Refusals.{Refusal, no_command, no_input, no_script, output_there, too_large}
+use Rattle.pig_run.specs.Refusals.{Refusal, no_command, no_input, no_script, not_run, output_there, too_large}
 
 -- ---- words
 
@@ -82,13 +84,34 @@ is_missing shelf path = is_none (pieces_of path shelf.inputs)
 abbrev pub InputsDue : Plan → Shelf → Stage
 InputsDue plan shelf = Looks (is_missing shelf) no_input method.Pieces (live_paths plan) (SizeDue plan shelf)
 
+-- the statement of an ASSERT
+abbrev pub assert_in : PlanNode → Option ℕ
+assert_in node = statement_in node.op
+  where
+    statement_in : PlanOp → Option ℕ
+    statement_in (p_assert input cond message) = Some node.statement
+    statement_in o = None
+
+abbrev pub assert_at : Plan → ℕ → Option ℕ
+assert_at plan n = option_and_then assert_in (slice_get plan n)
+
+-- the statement of the first ASSERT that a STORE reaches
+abbrev pub first_assert : Plan → Option ℕ
+first_assert plan = slice_get (filter_map (assert_at plan) (live plan)) 0
+
+-- no ASSERT is run, before a run goes by tasks
+pub data AssertsDue (plan : Plan) (shelf : Shelf) : List DepotCall → Verdict → Type 0 where
+  asserts : {n : ℕ} → first_assert plan ≡ Some n → AssertsDue plan shelf [] (Refuses (not_run n))
+  asserts_none : {asked : List DepotCall} {verdict : Verdict} → first_assert plan ≡ None
+      → InputsDue plan shelf asked verdict → AssertsDue plan shelf asked verdict
+
 -- the depot has the script, and it is found to be a plan
 pub data ScriptDue (path : List ℕ) (shelf : Shelf) : List DepotCall → Verdict → Type 0 where
   script_missing : script_of path shelf ≡ None → ScriptDue path shelf (call method.Script path ∷ []) (Refuses no_script)
   script_refused : {script : List ℕ} {refusal : Refusal} → script_of path shelf ≡ Some script → IsFound script (Refuses refusal)
       → ScriptDue path shelf (call method.Script path ∷ []) (Refuses refusal)
   script_found : {script : List ℕ} {plan : Plan} {asked : List DepotCall} {verdict : Verdict} → script_of path shelf ≡ Some script
-      → IsFound script (Runs plan) → InputsDue plan shelf asked verdict → ScriptDue path shelf (call method.Script path ∷ asked) verdict
+      → IsFound script (Runs plan) → AssertsDue plan shelf asked verdict → ScriptDue path shelf (call method.Script path ∷ asked) verdict
 
 -- What is due, and all that the depot is asked before it is done.
 pub data IsDue (line : Line) (shelf : Shelf) : List DepotCall → Verdict → Type 0 where

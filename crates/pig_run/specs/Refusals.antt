@@ -2,6 +2,7 @@
 use Rattle.std.specs.Prelude.{◌≡◌, ℕ, List, Option, Some, None}
 use Rattle.pig_syntax.specs.declared.trees.Stmt.{Stmt}
 use Rattle.pig_typing.specs.declared.faults.CheckKind.{CheckKind}
+use Rattle.pig_typing.specs.declared.faults.CheckKind.TheVariants as kind
 use Rattle.pig_check.specs.Scripts.{IsFirstUntyped}
 use Rattle.pig_run.specs.declared.outcome.RunFault.{RunFault}
 use Rattle.pig_run.specs.declared.outcome.RunFault.TheVariants as fault
@@ -14,6 +15,8 @@ pub data Refusal : Type 0 where
   off_grammar : ℕ → Refusal
   -- of these statements, the one of this number has no typing
   untyped : List Stmt → ℕ → Refusal
+  -- an ASSERT at the statement of this number, which is not run yet
+  not_run : ℕ → Refusal
   no_input : List ℕ → Refusal
   output_there : List ℕ → Refusal
   too_large : TooLarge → Refusal
@@ -25,6 +28,7 @@ Names no_script found = found ≡ fault.NoScript
 Names (no_token offset) found = found ≡ fault.Lex offset
 Names (off_grammar n) found = found ≡ fault.Syntax n
 Names (untyped ss n) found = (kind : CheckKind) × IsFirstUntyped ss n kind × (found ≡ fault.Check n kind)
+Names (not_run n) found = found ≡ fault.Check n kind.Unsupported
 Names (no_input path) found = found ≡ fault.NoInput path
 Names (output_there dir) found = found ≡ fault.OutputExists dir
 Names (too_large which) found = found ≡ fault.TooLarge which

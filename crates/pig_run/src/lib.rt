@@ -11,6 +11,7 @@
 //! files of `specs/` are how the code's steps speak of each other; only private functions cite them.
 #![tactic(auto)]
 
+mod asserts;
 mod commit;
 mod inputs;
 mod line;

@@ -5,13 +5,14 @@ ghost use Rattle.pig_outside.specs.declared.failing.Method.TheVariants as method
 ghost use Rattle.pig_plan.specs.Plans.{PlanNode, plan_of};
 ghost use Rattle.pig_reach.specs.Reach.{live_paths, stores_of};
 ghost use Rattle.pig_check.specs.States.{StoresAreApart};
-ghost use Rattle.pig_run.specs.Due.{AreWords, HasWords, InputsDue, IsDue, OutputsDue, RunDue, ScriptDue, SizeDue, call};
+ghost use Rattle.pig_run.specs.Due.{AreWords, AssertsDue, HasWords, InputsDue, IsDue, OutputsDue, RunDue, ScriptDue, SizeDue, call};
 ghost use Rattle.pig_run.specs.Looking.{HasSize, IsAbsentIn, IsPrepared, IsReady, LooksForInput, LooksForOutput, LooksForScript, LooksForSize, line_given, total_of};
 ghost use Rattle.pig_run.specs.Steps.{DepotCause, IsPlanFault, SaysWords, Step, depot_fault_of};
 ghost use Rattle.pig_run.specs.Told.{Asked};
 ghost use Rattle.pig_run.specs.declared.outcome.RunFault.TheVariants as fault;
 ghost use Rattle.pig_run.specs.declared.outcome.TooLarge.TheVariants as large;
 
+use crate::asserts::first_assert;
 use crate::line::CommandLine;
 use crate::reading::{MOST_SCRIPT, read_script};
 use crate::{RunFault, TooLarge};
@@ -19,6 +20,7 @@ use pig_check::a_script_has_one_plan;
 use pig_outside::{Depot, OutsideError};
 use pig_plan::Plan;
 use pig_reach::{Stores, live_paths, stores};
+use pig_typing::CheckKind;
 use pig_value::{Lengths, Seq, Text, WordFault};
 use pig_words::{Verb, read_words};
 use std::alloc::Global;
@@ -84,7 +86,7 @@ fn script_bytes<D: Depot>(alloc: Global, depot: &mut D, path: &str) -> Result<Ve
 /// The plan of the script at a path.
 fn load_plan<D: Depot>(alloc: Global, depot: &mut D, path: &str) -> Result<Plan, RunFault>
     ensures told { ForSome (D.shelf depot.old) (λ s. Step (ScriptDue path.now s)
-        (λ plan. InputsDue (plan_of plan) s) (D.calls depot.old) (D.calls depot.new) result) }
+        (λ plan. AssertsDue (plan_of plan) s) (D.calls depot.old) (D.calls depot.new) result) }
     ensures apart { IfOk result (λ plan. StoresAreApart (plan_of plan)) }
     ensures fault { IfErr result IsPlanFault }
     ensures shelf { D.shelf depot.new ≡ D.shelf depot.old }
@@ -269,6 +271,32 @@ fn look<D: Depot>(alloc: Global, depot: &mut D, plan: Plan) -> Result<Prepared, 
     })
 }
 
+/// The same, where no ASSERT stands in the way: the first that a STORE reaches is refused, until a run goes by tasks.
+fn look_without_asserts<D: Depot>(
+    alloc: Global,
+    depot: &mut D,
+    plan: Plan,
+) -> Result<Prepared, RunFault>
+    requires apart { StoresAreApart (plan_of plan) }
+    ensures told { ForSome (D.shelf depot.old) (λ s. Step (AssertsDue (plan_of plan) s)
+        (λ p. RunDue (plan_of p.plan)) (D.calls depot.old) (D.calls depot.new) result) }
+    ensures ready { ForSome (D.shelf depot.old) (λ s. IfOk result (IsReady s)) }
+    ensures prepared { IfOk result IsPrepared }
+    ensures fault { IfErr result IsPlanFault }
+    ensures shelf { D.shelf depot.new ≡ D.shelf depot.old }
+    ensures cause { DepotCause (D.faults depot.old) (D.faults depot.new) result }
+    ensures stores { D.store_faults depot.new ≡ D.store_faults depot.old }
+{
+    let first = first_assert(alloc, &plan)?;
+    if let Some(statement) = first {
+        return Err(RunFault::Check {
+            statement,
+            kind: CheckKind::Unsupported,
+        });
+    }
+    look(alloc, depot, plan)
+}
+
 /// What is to be run: the plan of the script that the words name, where nothing stands in its way.
 pub fn prepare<D: Depot>(
     alloc: Global,
@@ -288,5 +316,5 @@ pub fn prepare<D: Depot>(
 {
     let path = read_path(alloc, line)?;
     let plan = load_plan(alloc, depot, path.as_str())?;
-    look(alloc, depot, plan)
+    look_without_asserts(alloc, depot, plan)
 }

@@ -3,7 +3,7 @@ use Rattle.std.proofs.lemmas.Result.{MatchResult-weaker}
 use Rattle.pig_outside.specs.Shelf.{script_of}
 use Rattle.pig_plan.specs.Plans.{plan_of}
 use Rattle.pig_run.specs.declared.outcome.RunFault.TheVariants as fault
-use Rattle.pig_run.specs.Due.{InputsDue, ScriptDue}
+use Rattle.pig_run.specs.Due.{AssertsDue, ScriptDue}
 use Rattle.pig_run.specs.Looking.{IsRead}
 use Rattle.pig_run.specs.Steps.{IsLookFault, Passes}
 use Rattle.pig_run.proofs.Readings.{PlanLaws}
@@ -17,7 +17,7 @@ returns-in_err-script-clause-told g c s told =
     let path = c.args.path.now in
     let old = g.D.Depot.calls c.args.depot.now in
     let new = g.D.Depot.calls c.script_bytes.new.depot in
-    let refused : MatchResult c.from_residual.result (λ plan. Passes (ScriptDue c.args.path.now s) (InputsDue (plan_of plan) s) (g.D.Depot.calls c.args.depot.now) (g.D.Depot.calls c.script_bytes.new.depot))
+    let refused : MatchResult c.from_residual.result (λ plan. Passes (ScriptDue c.args.path.now s) (AssertsDue (plan_of plan) s) (g.D.Depot.calls c.args.depot.now) (g.D.Depot.calls c.script_bytes.new.depot))
     (λ f. ((f ≡ fault.NoScript) × (script_of c.args.path.now s ≡ None)) ⊎ IsLookFault f) = search rules in
     MatchResult-weaker c.from_residual.result refused (λ plan h. h) (λ f h. script_stops laws path s old new c.script_bytes.ensures.asked f h)
 
