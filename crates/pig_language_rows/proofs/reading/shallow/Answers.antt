@@ -3,7 +3,7 @@ use Rattle.std.specs.List.{All}
 use Rattle.std.proofs.lemmas.List.{take_all}
 use Rattle.std.proofs.lemmas.List.Elements.{All-more}
 use Rattle.pig_parser.specs.Parsing.{IsShallow}
-use Rattle.pig_language_rows.proofs.trees.shallow.Goals as goal
+use Rattle.pig_language_rows.proofs.reading.shallow.Goals as goal
 
 pub loop-piece-preserved : goal.loop-piece-preserved
 loop-piece-preserved c = All-more (IsShallow c.args.tokens.now) c.as_slice-piece-items.result.now c.loop-piece.piece-index _ c.loop-piece-test.true c.loop-piece.invariant
