@@ -27,6 +27,8 @@ const SCRIPTS: &str = "\
 2 UnknownFunction: a = LOAD 'i' AS (x:int); STORE a INTO 'o' USING BinStorage('a', 'b');\n\
 1 WrongArguments: a = LOAD 'i' USING PigStorage('ab') AS (x:int);\n\
 2 WrongArguments: a = LOAD 'i' AS (x:int); STORE a INTO 'o' USING PigStorage('a', 'b');\n\
+1 WrongArguments: a = LOAD 'i' USING PigStorage('\\u000d') AS (x:int);\n\
+2 WrongArguments: a = LOAD 'i' AS (x:int); STORE a INTO 'o' USING PigStorage('\\u0080');\n\
 3 SchemaMismatch: a = LOAD 'a' AS (x:int); b = LOAD 'b' AS (x:chararray); u = UNION a, b;\n\
 2 SchemaMismatch: a = LOAD 'a' AS (x:int); b = FOREACH a GENERATE x AS (y, z);\n\
 3 OutputTwice: a = LOAD 'i' AS (x:int); STORE a INTO 'o'; STORE a INTO 'o/';\n\
@@ -37,6 +39,8 @@ const SCRIPTS: &str = "\
 3 SelfLoad: a = LOAD 'i' AS (x:int); STORE a INTO 'o'; b = LOAD 'o/part' AS (x:int);\n\
 1 Compressed: y = LOAD 'i.gz' AS (a:int);\n\
 2 Compressed: a = LOAD 'i' AS (x:int); STORE a INTO 'o.bz2/';\n\
+1 Compressed: y = LOAD 'd/i.lzo' AS (a:int);\n\
+2 Compressed: a = LOAD 'i' AS (x:int); STORE a INTO 'o.zst';\n\
 1 Unsupported: a = LOAD '' AS (x:int);\n\
 1 Unsupported: a = LOAD '/' AS (x:int);\n\
 1 Unsupported: a = LOAD 'd//i' AS (x:int);\n\

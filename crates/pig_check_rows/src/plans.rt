@@ -91,7 +91,10 @@ a = LOAD 'a' AS (k:int, v:int); b = LOAD 'b' AS (k:int, w:int); j = JOIN a BY k 
 - 2: Load { path: 'b', delim: Delim { byte: 9 }, columns: [Column { position: 0, kind: Int }, Column { position: 1, kind: Int }] }\n\
 - 3: Join { inputs: [KeyedInput { input: 0, keys: [Field(0)], inner: false }, KeyedInput { input: 1, keys: [Field(0)], inner: false }], side: Left, replicated: false }\n\
 - 4: Filter { input: 2, cond: Chain { first: Compare { op: Gt, a: Field(1), b: Int(1) }, rest: [TLink { op: And, a: Compare { op: Gt, a: Field(3), b: Int(2) } }] } }\n\
-- 5: Store { input: 3, path: 'o', delim: Delim { byte: 9 } }\n";
+- 5: Store { input: 3, path: 'o', delim: Delim { byte: 9 } }\n\
+a = LOAD 'in' USING PigStorage('\\u0000') AS (x:int); STORE a INTO 'o' USING PigStorage('\\u007f');\n\
+- 1: Load { path: 'in', delim: Delim { byte: 0 }, columns: [Column { position: 0, kind: Int }] }\n\
+- 2: Store { input: 0, path: 'o', delim: Delim { byte: 127 } }\n";
 
 // Adds the script and the nodes of its plan, as the table has them.
 fn add_shown<R: Abort>(rt: &R, alloc: Global, text: &mut String, script: &str) {
@@ -114,14 +117,20 @@ fn add_nodes<R: Abort>(rt: &R, alloc: Global, text: &mut String, plan: &Plan) {
     }
 }
 
-#[test]
-fn gives_the_nodes_of_scripts(rt: HostRuntime) {
-    let mut found = String::new(rt.alloc());
-    for line in PLANS.lines() {
+/// The scripts of a table, each with the nodes of its plan.
+pub fn shown_plans<R: Abort>(rt: &R, alloc: Global, table: &str) -> String {
+    let mut found = String::new(alloc);
+    for line in table.lines() {
         if !line.starts_with("- ") {
-            add_shown(&rt, rt.alloc(), &mut found, line);
+            add_shown(rt, alloc, &mut found, line);
         }
     }
+    found
+}
+
+#[test]
+fn gives_the_nodes_of_scripts(rt: HostRuntime) {
+    let found = shown_plans(&rt, rt.alloc(), PLANS);
     for (found, wanted) in found.lines().zip(PLANS.lines()) {
         assert_eq!(rt; found, wanted);
     }
