@@ -2,7 +2,9 @@
 #![tactic(auto)]
 
 mod parts;
+mod splitting;
 mod waves;
 
 pub use parts::{MapTask, Part, Path, ReduceTask, Task, Tasks, Way, Ways};
+pub use splitting::splits;
 pub use waves::{WaveHead, WaveHeads, WaveKind};
