@@ -1,1 +1,3 @@
 mod Samples
+pub mod Loops
+pub mod Headings

@@ -1,8 +1,13 @@
 //! Stages: the waves of tasks that a plan is cut into, and what each task must give.
 #![tactic(auto)]
 
+mod folding;
+mod listing;
 mod parts;
+mod splitting;
 mod waves;
 
+pub use listing::heads;
 pub use parts::{MapTask, Part, Path, ReduceTask, Task, Tasks, Way, Ways};
+pub use splitting::splits;
 pub use waves::{WaveHead, WaveHeads, WaveKind};
