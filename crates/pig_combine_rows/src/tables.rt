@@ -1,17 +1,21 @@
 //! What a table gives of rows: one entry for each key, ascending, with its parts.
 //!
 //! Where memory is wanting the process ends: that drops nothing, so its proof is short.
-ghost use Rattle.std.specs.Prelude.{◌≡◌, []};
+ghost use Rattle.std.specs.Prelude.{◌≡◌, [], map, IfOk};
 ghost use Rattle.pig_value.specs.Trees.{row_tree, tree};
 ghost use Rattle.pig_value.specs.Valid.{IsRow, IsValue};
+ghost use Rattle.pig_algebra.specs.Combining.{combined, parts_by};
+ghost use Rattle.pig_algebra.specs.Cuts.{cut_typed};
+ghost use Rattle.pig_runs.specs.Entries.{AreKeyed, keyed, run_of as run_of_tree};
+ghost use Rattle.pig_combine_rows.specs.Added.{as_added};
 
 use pig_algebra::{Cut, Cuts};
 use pig_combine::Table;
 use pig_keycode::{decode, decode_row, encode, encode_row};
-use pig_runs::Run;
+use pig_runs::{Entry, Run};
 use pig_typed::TExpr;
 use pig_value::{Dir, Function, Positions, Seq, Text, Tuple, Value, order_rows, same};
-use std::alloc::Global;
+use std::alloc::{AllocError, Global};
 use std::process::Abort;
 
 // The cuts, the rows and the entries of tables, with `;` between. A cut is `key`, `row`, a function, or a function of a
@@ -141,6 +145,19 @@ fn run_of<R: Abort>(rt: &R, alloc: Global, cut_words: &str, rows: &str) -> Run
     table.flush().expect(rt, "memory")
 }
 
+// The run of entries that are added in turn.
+fn combined_run(alloc: Global, cuts: Cuts, entries: &[Entry]) -> Result<Run, AllocError>
+    requires { AreKeyed [] (map keyed entries.now) }
+    ensures { IfOk result (λ run. run ≡ run_of_tree []
+        (combined (parts_by (map cut_typed cuts)) (map as_added entries.now))) }
+{
+    let mut table = Table::new(alloc, cuts)?;
+    for entry in entries {
+        table.add(&entry.key, &entry.row)?;
+    }
+    table.flush()
+}
+
 // Whether the entry at a place is that of the word.
 fn has_entry<R: Abort>(rt: &R, alloc: Global, run: &Run, at: usize, word: &str) -> bool
     requires { run.now.dirs ≡ [] }
@@ -186,4 +203,29 @@ fn a_table_has_one_entry_for_each_key(rt: HostRuntime) {
     for line in TABLE.lines() {
         assert!(rt; holds(&rt, rt.alloc(), line), "{line}");
     }
+}
+
+fn entry<R: Abort>(rt: &R, alloc: Global, key: &str, row: &str) -> Entry
+    ensures key { IsValue (tree result.key) }
+    ensures row { IsRow (row_tree result.row) }
+{
+    Entry {
+        key: sound(rt, alloc, key),
+        input: 0,
+        row: sound_row(rt, alloc, row),
+    }
+}
+
+#[test]
+fn entries_are_combined(rt: HostRuntime) {
+    let alloc = rt.alloc();
+    let cuts = cuts(&rt, alloc, "COUNT SUM.1");
+    let entries = [
+        entry(&rt, alloc, "b", "x,1"),
+        entry(&rt, alloc, "a", "-,2"),
+        entry(&rt, alloc, "b", "y,3"),
+    ];
+    let run = combined_run(alloc, cuts, entries.as_slice()).expect(&rt, "memory");
+    assert!(rt; has_entries(&rt, alloc, &run, "a:0,2 b:2,4"), "the parts");
+    drop((run, entries));
 }
