@@ -1,11 +1,12 @@
 -- Begins that are told after one another.
 use Rattle.std.proofs.Common.{◌≡◌, ℕ, ◌+◌, ◌<◌, ◌≤◌, Bool, true, false, ◌&&◌, Option, Some, None, List, [], ◌∷◌, ◌++◌, cond, refl, sym, ◌∙◌, ap, arith, inl, inr}
 use Rattle.std.specs.Prelude.{◌==◌, nat_lt}
-use Rattle.std.specs.Option.{option_map}
+use Rattle.std.specs.Option.{option_map, ForSome}
 use Rattle.std.proofs.lemmas.Bool.{cases_lt, lt-ltb, le-ltb}
 use Rattle.std.proofs.lemmas.List.{append-nil, append_assoc}
-use Rattle.pig_outside.specs.Calls.{Attempt}
-use Rattle.pig_pool.specs.Begins.{next_count, lost_of}
+use Rattle.std.proofs.lemmas.Option.{same_Some, none-some}
+use Rattle.pig_outside.specs.Calls.{Attempt, and_attempt}
+use Rattle.pig_pool.specs.Begins.{TellsLast, next_count, lost_of}
 
 pub nothing_told : (b : Option (List Attempt)) → b ≡ option_map (λ x. x ++ []) b
 nothing_told None = refl
@@ -14,6 +15,17 @@ nothing_told (Some x) = ap {A = List Attempt} {B = Option (List Attempt)} (λ z.
 pub told_twice : (a b c : Option (List Attempt)) (xs ys : List Attempt) → b ≡ option_map (λ z. z ++ xs) a → c ≡ option_map (λ z. z ++ ys) b → c ≡ option_map (λ z. z ++ (xs ++ ys)) a
 told_twice None b c xs ys e f = f ∙ ap (option_map (λ z. z ++ ys)) e
 told_twice (Some a) b c xs ys e f = f ∙ ap (option_map (λ z. z ++ ys)) e ∙ ap {A = List Attempt} {B = Option (List Attempt)} (λ z. Some z) (append_assoc a xs ys)
+
+-- a begin that is told is the last one
+pub just_told : (u wave t a f : ℕ) (b c : Option (List Attempt)) → u ≡ wave → c ≡ option_map (and_attempt wave t a f) b → ForSome c (TellsLast u t)
+just_told u wave t a f None c same e xs is = absurd (none-some xs (sym e ∙ is))
+just_told u wave t a f (Some b) c same e xs is = record {
+  before = b;
+  last = record { wave = wave; task = t; attempt = a; faults = f };
+  is = sym (same_Some (and_attempt wave t a f b) xs (sym e ∙ is));
+  of_wave = sym same;
+  of_task = refl;
+}
 
 pub next-append : (xs ys : List Attempt) (end : ℕ) → next_count (xs ++ ys) end ≡ next_count xs (next_count ys end)
 next-append [] ys end = refl

@@ -1,9 +1,9 @@
 -- A pass cut in two, what two workers have, joined, and two rounds.
-use Rattle.std.proofs.Common.{◌≡◌, ℕ, ◌+◌, ◌-◌, ◌*◌, ◌/◌, ◌^◌, ◌<◌, ◌≤◌, Bool, true, false, ◌&&◌, Option, Some, None, List, [], ◌∷◌, ◌++◌, cond, map, length, get_or, set, refl, sym, ◌∙◌, ap, subst, arith, zero, suc}
-use Rattle.std.specs.Prelude.{◌==◌, nat_le, count_by, All, Result, Ok, Err, IfOk, OnOk}
-use Rattle.std.specs.List.{sum_by, list_any}
+use Rattle.std.proofs.Common.{◌≡◌, ℕ, ◌+◌, ◌-◌, ◌*◌, ◌/◌, ◌^◌, ◌<◌, ◌≤◌, Bool, true, false, ◌&&◌, Option, None, List, [], ◌∷◌, ◌++◌, cond, map, length, get_or, set, refl, sym, ◌∙◌, ap, subst, arith, zero, suc}
+use Rattle.std.specs.Prelude.{◌==◌, nat_le, count_by, Result, Ok, Err, IfOk, OnOk}
+use Rattle.std.specs.List.{sum_by}
 use Rattle.std.specs.Option.{option_map}
-use Rattle.std.proofs.lemmas.Bool.{or_left, or_right, false_from_ne_true, false≢true, cases_Bool}
+use Rattle.std.proofs.lemmas.Bool.{or_left, or_right, false_from_ne_true, false≢true}
 use Rattle.std.proofs.lemmas.List.{map-append}
 use Rattle.std.proofs.lemmas.List.Folds.{list_any-append}
 use Rattle.std.proofs.lemmas.List.Elements.{All-append, All-nil}
@@ -16,13 +16,12 @@ use Rattle.pig_outside.specs.Calls as outside
 use Rattle.pig_board.specs.declared.board.Board.{Board}
 use Rattle.pig_board.specs.declared.board.Pass.{Pass}
 use Rattle.pig_board.specs.declared.view.View.{View}
-use Rattle.pig_board.specs.Pass.{tasks_of, view_of, is_firm, may_begin, OnBoard}
-use Rattle.pig_board.specs.View.{steps_of, fails_of, all_fails, wins_of, is_win_of, kept_half, other_half, both}
-use Rattle.pig_board.specs.Laws.{NotesStay}
+use Rattle.pig_board.specs.Pass.{view_of, is_firm, OnBoard}
+use Rattle.pig_board.specs.View.{steps_of, fails_of, all_fails, is_win_of, kept_half, other_half, both}
 use Rattle.pig_board.proofs.Notes.{steps_keep}
 use Rattle.pig_board.proofs.CountLaws.{steps_cut, steps_both, wins_both}
 use Rattle.pig_pool.specs.Begins.{Tells, tells, Turn, turn_begins, turn_lost, is_begin, next_count, CrewTells, crew_tells, Rise}
-use Rattle.pig_pool.specs.Workers.{HasWon, Works, Stands, IsDone, KnowsAll, Rested, Spends, saw_limit, worker_room, worker_cost, again_room}
+use Rattle.pig_pool.specs.Workers.{HasWon, Works, Stands, IsDone, Rested, Spends, saw_limit, worker_room, worker_cost, again_room}
 use Rattle.pig_pool.specs.Crew.{IsReady, CrewWorks, IsEnded, Rose, total}
 use Rattle.pig_pool.proofs.Begins.{told_twice, next-append, next-rises, lost-append, lost-rises}
 use Rattle.pig_pool.proofs.Steps.{IsCalm, notes-trans, works-trans, calm-all, calm-own}

@@ -1,15 +1,15 @@
 -- What a pass learns while an attempt asks for its task's winner alone.
-use Rattle.std.proofs.Common.{◌≡◌, ℕ, ◌+◌, ◌-◌, ◌<◌, ◌≤◌, Bool, true, false, ◌||◌, not, Option, Some, None, List, [], ◌∷◌, ◌++◌, cond, length, refl, sym, ◌∙◌, ap, subst, arith, inl, inr}
+use Rattle.std.proofs.Common.{◌≡◌, ℕ, ◌-◌, Bool, true, false, ◌||◌, not, None, List, [], ◌∷◌, cond, length, refl, sym, ◌∙◌, ap, arith, inl, inr}
 use Rattle.std.specs.Prelude.{◌==◌, count_by}
 use Rattle.std.specs.List.{list_any, filter}
-use Rattle.std.proofs.lemmas.Bool.{cases_Bool, or_cases, or_left, or_right, false≢true, false_from_ne_true}
+use Rattle.std.proofs.lemmas.Bool.{cases_Bool, or_cases, or_left, or_right, false≢true}
 use Rattle.std.proofs.lemmas.List.Folds.{list_any-append}
 use Rattle.pig_job.specs.declared.Attempt.{Attempt}
 use Rattle.pig_job.specs.declared.Fate.TheVariants.{Unended}
 use Rattle.pig_job.specs.Rule.{has_failed}
 use Rattle.pig_job.proofs.Keeps.{attempt}
 use Rattle.pig_board.specs.declared.view.View.{View}
-use Rattle.pig_board.specs.View.{steps_of, knows_winner, is_win_of, began, saw_winner, saw_count}
+use Rattle.pig_board.specs.View.{knows_winner, is_win_of, began, saw_count}
 use Rattle.pig_pool.specs.Workers.{beside}
 use Rattle.pig_pool.proofs.Steps.{IsCalm, calm-closed, calm-failures, calm-trans, room-closed, room-failures}
 

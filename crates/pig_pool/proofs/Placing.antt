@@ -8,7 +8,6 @@ use Rattle.std.proofs.lemmas.List.Elements.{All-head, All-tail}
 use Rattle.std.proofs.lemmas.List.Sums.{sum_by-cons}
 use Rattle.pig_job.specs.Rule.{once_below}
 use Rattle.pig_pool.specs.Workers.{outputs_of}
-use Rattle.pig_pool.specs.Wave.{AreOutputs, ArePlaced}
 
 -- each of n tasks has a right output at its place, or one ahead; those ahead are right, and of these tasks, each once at most
 pub record ArePlacing {O : Type 0} (is_right : ℕ → O → Type 0) (n : ℕ) (places : List (Option O)) (ahead : List (ℕ × O)) : Type 0 where

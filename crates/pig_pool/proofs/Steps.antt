@@ -1,10 +1,10 @@
 -- What each call of a worker does, and calls after one another.
-use Rattle.std.proofs.Common.{◌≡◌, ℕ, ◌+◌, ◌-◌, ◌*◌, ◌<◌, ◌≤◌, Bool, true, false, ◌&&◌, ◌||◌, Option, Some, None, List, [], ◌∷◌, ◌++◌, cond, length, refl, sym, ◌∙◌, ap, subst, arith, inl, inr, zero, suc}
-use Rattle.std.specs.Prelude.{◌==◌, nat_le, nat_lt, min, is_some, count_by, sum_by, All, MatchBool}
+use Rattle.std.proofs.Common.{◌≡◌, ℕ, ◌+◌, ◌-◌, ◌*◌, ◌<◌, ◌≤◌, Bool, true, false, ◌||◌, Option, Some, None, List, [], ◌∷◌, ◌++◌, cond, length, refl, sym, ◌∙◌, ap, subst, arith, inl, inr, zero, suc}
+use Rattle.std.specs.Prelude.{◌==◌, nat_lt, min, is_some, count_by, MatchBool}
 use Rattle.std.specs.List.{list_any}
 use Rattle.std.specs.Option.{option_map}
 use Rattle.std.proofs.Math.Nat.{mul-suc}
-use Rattle.std.proofs.lemmas.Bool.{cases_eq, cases_lt, lt-ltb, le-ltb, eq-eqb, ne_eqb, or_left, or_right, le-leb, false≢true}
+use Rattle.std.proofs.lemmas.Bool.{cases_eq, cases_lt, lt-ltb, le-ltb, eq-eqb, ne_eqb, or_left, or_right, false≢true}
 use Rattle.std.proofs.lemmas.List.Folds.{list_any-append}
 use Rattle.std.proofs.lemmas.List.Elements.{All-push, All-append, All-cons, All-nil}
 use Rattle.std.proofs.lemmas.List.Sums.{sum_by_push, sum_by-append, sum_by-cons}
@@ -20,16 +20,16 @@ use Rattle.pig_board.specs.declared.board.Board.{Board}
 use Rattle.pig_board.specs.declared.board.Pass.{Pass}
 use Rattle.pig_board.specs.declared.view.View.{View}
 use Rattle.pig_board.specs.Pass.{tasks_of, view_of, is_firm, may_begin, OnBoard}
-use Rattle.pig_board.specs.View.{steps_of, has_open, has_open_of, knows_winner, fails_of, all_fails, wins_of, drew, began, won, came_late, failed_at, earliest, saw_winner, saw_count, is_win_of, IsLate, IsDraw}
+use Rattle.pig_board.specs.View.{steps_of, has_open, has_open_of, knows_winner, fails_of, all_fails, wins_of, drew, began, won, came_late, earliest, saw_winner, saw_count, is_win_of, IsLate, IsDraw}
 use Rattle.pig_board.specs.Rule.{sum_below}
 use Rattle.pig_board.specs.Laws.{NotesStay}
 use Rattle.pig_board.proofs.Notes.{steps_keep}
 use Rattle.pig_board.proofs.EndLaws.{failures_add}
 use Rattle.pig_board.proofs.Counts.{earliest-open, counted-any}
 use Rattle.pig_board.proofs.Steps.{settled_fails}
-use Rattle.pig_board.proofs.CountLaws.{steps_drew, steps_began, steps_won, steps_late, steps_failed, began-open, began-open_of, fails_began, fails_failed, wins_began, wins_won, wins_won_other, wins_late, wins_failed}
-use Rattle.pig_pool.specs.Begins.{Tells, is_begin, begins_of, next_count, lost_of}
-use Rattle.pig_pool.specs.Workers.{outputs_of, HasWon, Works, KnowsAll, Looks, IsBelow, IsFailed, Spends, HasRoom, saw_limit}
+use Rattle.pig_board.proofs.CountLaws.{steps_drew, steps_began, steps_won, steps_late, steps_failed, began-open, began-open_of, fails_began, wins_won, wins_won_other, wins_late}
+use Rattle.pig_pool.specs.Begins.{Tells, is_begin, next_count}
+use Rattle.pig_pool.specs.Workers.{outputs_of, HasWon, Works, KnowsAll, Looks, IsBelow, IsFailed, Spends, HasRoom}
 use Rattle.pig_pool.proofs.Begins.{nothing_told, told_twice, next-append, next-rises, lost-append, lost-rises, lost_one}
 
 -- notes that stay twice stay

@@ -8,7 +8,6 @@ use Rattle.std.proofs.lemmas.List.{get_or_past}
 use Rattle.std.proofs.lemmas.List.Elements.{All-head, All-tail, All-nil, All-cons}
 use Rattle.std.proofs.lemmas.List.Sums.{get_or-le-sum_by, sum_by-cons}
 use Rattle.std.proofs.Math.Nat.{mul-le-mul_left}
-use Rattle.pig_job.specs.Job.{aside_limit}
 use Rattle.pig_job.specs.Rule.{has_failed, is_attempt, is_failure_of, once_below}
 use Rattle.pig_job.specs.declared.Attempt.{Attempt}
 use Rattle.pig_outside.specs.Calls as outside
@@ -22,7 +21,7 @@ use Rattle.pig_board.specs.End.{untried, end_of, IsEnd}
 use Rattle.pig_board.proofs.EndLaws.{an_end}
 use Rattle.pig_board.specs.Laws.{EndTells}
 use Rattle.pig_pool.specs.Begins.{CrewTells, crew_tells}
-use Rattle.pig_pool.specs.Workers.{outputs_of, HasWon, IsDone, IsBelow, KnowsAll, Looks, Went, Rested, was_aside, Spends, HasRoom, saw_limit, worker_room, worker_cost, again_room}
+use Rattle.pig_pool.specs.Workers.{outputs_of, HasWon, IsDone, IsBelow, KnowsAll, Looks, Went, Rested, was_aside, Spends, HasRoom, saw_limit, worker_cost, again_room}
 use Rattle.pig_pool.specs.declared.worker.Course.{Course}
 use Rattle.pig_pool.specs.declared.worker.Course.TheVariants as course
 use Rattle.pig_pool.specs.Crew.{IsReady, CrewWorks}

@@ -1,5 +1,5 @@
 -- The begins that hosts tell of a wave, and which of them were followed by a failure of the host.
-use Rattle.std.specs.Prelude.{◌≡◌, ℕ, ◌+◌, ◌≤◌, ⊤, Bool, ◌&&◌, ◌==◌, nat_lt, Option, List, [], ◌∷◌, ◌++◌, count_by, sum_by, All, if◌then◌else◌}
+use Rattle.std.specs.Prelude.{◌≡◌, ℕ, ◌+◌, ◌≤◌, ⊤, Bool, ◌&&◌, ◌==◌, nat_lt, Option, List, [], ◌∷◌, ◌++◌, count_by, All, if◌then◌else◌}
 use Rattle.std.specs.Option.{option_map}
 use Rattle.pig_outside.specs.Calls.{Attempt}
 
@@ -10,6 +10,14 @@ pub record Tells : Type 0 where
 
 abbrev pub tells : ℕ → Option (List Attempt) → Tells
 tells f b = record { faults = f; begun = b }
+
+-- the last begin told is one of task t in this wave
+pub record TellsLast (wave t : ℕ) (begins : List Attempt) : Type 0 where
+  pub before : List Attempt
+  pub last : Attempt
+  pub is : begins ≡ before ++ last ∷ []
+  pub of_wave : last.wave ≡ wave
+  pub of_task : last.task ≡ t
 
 -- a begin of attempt a at task t
 abbrev pub is_begin : ℕ → ℕ → Attempt → Bool

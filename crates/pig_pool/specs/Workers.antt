@@ -1,5 +1,5 @@
 -- What the steps of a worker do.
-use Rattle.std.specs.Prelude.{◌≡◌, ℕ, ◌+◌, ◌*◌, ◌<◌, ◌≤◌, Bool, true, false, not, ◌==◌, nat_le, Option, List, ◌++◌, count_by, All}
+use Rattle.std.specs.Prelude.{◌≡◌, ℕ, ◌+◌, ◌*◌, ◌<◌, ◌≤◌, Bool, true, false, not, ◌==◌, nat_le, List, ◌++◌, count_by, All}
 use Rattle.std.specs.List.{list_any, filter}
 use Rattle.std.specs.Option.{option_map}
 use Rattle.pig_job.specs.Job.{aside_limit}
@@ -9,7 +9,7 @@ use Rattle.pig_board.specs.declared.board.Board.{Board}
 use Rattle.pig_board.specs.declared.board.Pass.{Pass}
 use Rattle.pig_board.specs.declared.view.View.{View}
 use Rattle.pig_board.specs.View.{steps_of, knows_winner, fails_of, all_fails, wins_of, failed_at}
-use Rattle.pig_board.specs.Pass.{view_of, is_firm, may_begin, OnBoard}
+use Rattle.pig_board.specs.Pass.{view_of, may_begin, OnBoard}
 use Rattle.pig_board.specs.Laws.{NotesStay}
 use Rattle.pig_pool.specs.Begins.{Tells, begins_of, next_count, lost_of}
 use Rattle.pig_pool.specs.declared.tries.Tried.{Tried}

@@ -80,6 +80,7 @@ fn run_half<R: Threads + Sync, W: Work + Sync, H: Host + Send>(
         × (tasks_of board.now ≤ 65536) × (limit ≤ 16) }
     requires ready { Holds half.old.pass (IsReady board.now depth) }
     requires fit { (0 < length half.old.hosts.now) × (length half.old.hosts.now ≤ 2 ^ depth) }
+    requires wave { W.wave work.now ≡ wave }
     requires suit { All (λ h. W.suits work.now (H.inputs h)) half.old.hosts.now }
     ensures ended { IfOk result (λ r. Holds half.old.pass (λ p. IsEnded
         (W.right work.now) limit (tasks_of board.now) wave board.now depth
@@ -114,6 +115,7 @@ pub fn run_crew<R: Threads + Sync, W: Work + Sync, H: Host + Send>(
         × (tasks_of board.now ≤ 65536) × (limit ≤ 16) }
     requires ready { IsReady board.now depth pass }
     requires fit { (0 < length hosts.old) × (length hosts.old ≤ 2 ^ depth) }
+    requires wave { W.wave work.now ≡ wave }
     requires suit { All (λ h. W.suits work.now (H.inputs h)) hosts.old }
     ensures ended { IfOk result (λ r. IsEnded
         (W.right work.now) limit (tasks_of board.now) wave board.now depth
@@ -147,13 +149,16 @@ pub fn run_crew<R: Threads + Sync, W: Work + Sync, H: Host + Send>(
                 × (tasks_of board.now ≤ 65536) × (limit ≤ 16) }
             requires ready { Holds left.pass (IsReady board.now below) }
             requires fit { (0 < length left.hosts.now) × (length left.hosts.now ≤ 2 ^ below) }
+            requires wave { W.wave work.now ≡ wave }
             requires suit { All (λ h. W.suits work.now (H.inputs h)) left.hosts.now }
             ensures ended { IfOk result (λ r. Holds left.entry.pass (λ p. IsEnded
                 (W.right work.entry.now) limit (tasks_of board.entry.now) wave
                 board.entry.now below
                 p
-                (crew_tells (map H.faults left.entry.hosts.now) (map H.begun left.entry.hosts.now))
-                (crew_tells (map H.faults left.exit.hosts.now) (map H.begun left.exit.hosts.now))
+                (crew_tells (map H.faults left.entry.hosts.now)
+                (map H.begun left.entry.hosts.now))
+                (crew_tells (map H.faults left.exit.hosts.now)
+                (map H.begun left.exit.hosts.now))
                 r.pass r.outputs r.is_aside)) }
             ensures inputs { map H.inputs left.exit.hosts.now ≡ map H.inputs left.entry.hosts.now }
             ensures later { sum_by H.faults left.entry.hosts.now
@@ -166,15 +171,19 @@ pub fn run_crew<R: Threads + Sync, W: Work + Sync, H: Host + Send>(
                 × (tasks_of board.now ≤ 65536) × (limit ≤ 16) }
             requires ready { Holds right.pass (IsReady board.now below) }
             requires fit { (0 < length right.hosts.now) × (length right.hosts.now ≤ 2 ^ below) }
+            requires wave { W.wave work.now ≡ wave }
             requires suit { All (λ h. W.suits work.now (H.inputs h)) right.hosts.now }
             ensures ended { IfOk result (λ r. Holds right.entry.pass (λ p. IsEnded
                 (W.right work.entry.now) limit (tasks_of board.entry.now) wave
                 board.entry.now below
                 p
-                (crew_tells (map H.faults right.entry.hosts.now) (map H.begun right.entry.hosts.now))
-                (crew_tells (map H.faults right.exit.hosts.now) (map H.begun right.exit.hosts.now))
+                (crew_tells (map H.faults right.entry.hosts.now)
+                (map H.begun right.entry.hosts.now))
+                (crew_tells (map H.faults right.exit.hosts.now)
+                (map H.begun right.exit.hosts.now))
                 r.pass r.outputs r.is_aside)) }
-            ensures inputs { map H.inputs right.exit.hosts.now ≡ map H.inputs right.entry.hosts.now }
+            ensures inputs { map H.inputs right.exit.hosts.now
+                ≡ map H.inputs right.entry.hosts.now }
             ensures later { sum_by H.faults right.entry.hosts.now
                 ≤ sum_by H.faults right.exit.hosts.now }
             ensures same_reference { right.exit.hosts.ghost_name ≡ right.entry.hosts.ghost_name }

@@ -39,6 +39,7 @@ fn make_attempt<W: Work, H: Host, S: Stop>(
     stop: &mut S,
 ) -> Result<Option<W::Out>, AttemptFault>
     requires task { t < W.count work.now }
+    requires wave { W.wave work.now ≡ wave }
     requires suits { W.suits work.now (H.inputs host.old) }
     ensures right { IfOk result (λ o. IfSome o (W.right work.now t)) }
     ensures stopped { IfOk result (λ o. IfNone o (S.won stop.new)) }
@@ -68,6 +69,7 @@ fn try_attempt<W: Work, H: Host>(
     requires board { OnBoard board.now pass.old }
     requires below { t < tasks_of board.now }
     requires task { t < W.count work.now }
+    requires wave { W.wave work.now ≡ wave }
     requires suits { W.suits work.now (H.inputs host.old) }
     ensures board { OnBoard board.now pass.new }
     ensures view { beside t (view_of pass.new) ≡ beside t (view_of pass.old) }
@@ -176,6 +178,7 @@ pub fn try_once<W: Work, H: Host>(
     requires drawn { t < (view_of worker.old.pass).known }
     requires room { HasRoom 1 (limit * tasks_of board.now) (view_of worker.old.pass) }
     requires may { may_begin worker.old.pass ≡ true }
+    requires wave { W.wave work.now ≡ wave }
     requires suits { W.suits work.now (H.inputs host.old) }
     ensures stands { Stands (W.right work.now) limit board.now worker.new.pass worker.new.outputs }
     ensures firm { is_firm worker.new.pass ≡ is_firm worker.old.pass }

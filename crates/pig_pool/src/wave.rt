@@ -219,6 +219,7 @@ fn run_again<R: Threads + Sync, W: Work + Sync, H: Host + Send>(
     requires count { (tasks_of board.now ≡ W.count work.now)
         × (tasks_of board.now ≤ 65536) × (limit ≤ 16) }
     requires fit { (0 < length hosts.old) × (length hosts.old ≤ 2 ^ 8) }
+    requires wave { W.wave work.now ≡ wave }
     requires suit { All (λ h. W.suits work.now (H.inputs h)) hosts.old }
     ensures board { IfOk result (λ r. OnBoard board.now r.pass) }
     ensures works { IfOk result (λ r. CrewWorks wave (view_of worker.pass) (view_of r.pass)
@@ -253,6 +254,7 @@ fn run_rounds<R: Threads + Sync, W: Work + Sync, H: Host + Send>(
     requires count { (tasks_of board.now ≡ W.count work.now)
         × (tasks_of board.now ≤ 65536) × (limit ≤ 16) }
     requires fit { (0 < length hosts.old) × (length hosts.old ≤ 2 ^ 8) }
+    requires wave { W.wave work.now ≡ wave }
     requires suit { All (λ h. W.suits work.now (H.inputs h)) hosts.old }
     ensures board { IfOk result (λ r. OnBoard board.now r.pass) }
     ensures works { IfOk result (λ r. CrewWorks wave (view_of pass) (view_of r.pass)
@@ -301,6 +303,7 @@ pub fn run_wave<R: Threads + Sync, W: Work + Sync, H: Host + Send>(
     requires hosts { (0 < length hosts.old) × (length hosts.old ≤ 256) }
     requires tasks { W.count work.now ≤ 65536 }
     requires limit { (0 < limit) × (limit ≤ 16) }
+    requires wave { W.wave work.now ≡ wave }
     requires suit { All (λ h. W.suits work.now (H.inputs h)) hosts.old }
     ensures outs { IfOk result (λ r. AreOutputs (W.right work.now) (W.count work.now) r.outs) }
     ensures won { IfOk result (λ r. IsWonWave (W.count work.now) r.end) }

@@ -1,6 +1,8 @@
 //! What a wave works on.
 
 ghost use Rattle.std.specs.Prelude.{◌≡◌, ◌<◌, ◌≤◌, ℕ, List, Option, IfOk, IfSome, IfNone, IsErrOf};
+ghost use Rattle.std.specs.Option.{ForSome};
+ghost use Rattle.pig_pool.specs.Begins.{TellsLast};
 ghost use Rattle.pig_value.specs.declared.inputs.Input.{Input};
 
 use pig_outside::{AttemptFault, Host, Stop};
@@ -13,6 +15,9 @@ pub trait Work {
     /// The number of tasks.
     ghost count: { Self → ℕ };
 
+    /// The number of the wave, by which hosts are told of its attempts.
+    ghost wave: { Self → ℕ };
+
     /// What a right output of a task is.
     ghost right: { Self → ℕ → Self.Out → Type 0 };
 
@@ -22,8 +27,8 @@ pub trait Work {
     fn tasks(&self) -> u32
         ensures { result ≡ count self.now };
 
-    /// Makes an attempt at task `t` on the host. It is lost only where the host has failed. It gives no output only
-    /// where `stop` told that the task is won already.
+    /// Makes an attempt at task `t` on the host, which was told last that it begins. It is lost only where the host has
+    /// failed. It gives no output only where `stop` told that the task is won already.
     fn attempt<H: Host, S: Stop>(
         &self,
         t: u32,
@@ -32,6 +37,7 @@ pub trait Work {
     ) -> Result<Option<Self::Out>, AttemptFault>
         requires task { t < count self.now }
         requires suits { suits self.now (H.inputs host.old) }
+        requires told { ForSome (H.begun host.old) (TellsLast (wave self.now) t) }
         ensures right { IfOk result (λ o. IfSome o (right self.now t)) }
         ensures stopped { IfOk result (λ o. IfNone o (S.won stop.new)) }
         ensures kept { S.kept stop.new ≡ S.kept stop.old }

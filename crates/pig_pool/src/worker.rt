@@ -58,6 +58,7 @@ fn try_task<W: Work, H: Host>(
     requires drawn { t < (view_of worker.old.pass).known }
     requires room { HasRoom 1 (limit * tasks_of board.now) (view_of worker.old.pass) }
     requires may { may_begin worker.old.pass ≡ true }
+    requires wave { W.wave work.now ≡ wave }
     requires suits { W.suits work.now (H.inputs host.old) }
     ensures stands { Stands (W.right work.now) limit board.now worker.new.pass worker.new.outputs }
     ensures firm { is_firm worker.new.pass ≡ is_firm worker.old.pass }
@@ -94,6 +95,7 @@ fn try_drawn<W: Work, H: Host>(
     requires room { HasRoom (3 * tasks_of board.now + 2) (limit * tasks_of board.now)
         (view_of worker.old.pass) }
     requires may { may_begin worker.old.pass ≡ true }
+    requires wave { W.wave work.now ≡ wave }
     requires suits { W.suits work.now (H.inputs host.old) }
     ensures stands { Stands (W.right work.now) limit board.now worker.new.pass worker.new.outputs }
     ensures firm { is_firm worker.new.pass ≡ is_firm worker.old.pass }
@@ -132,6 +134,7 @@ fn try_rest<W: Work, H: Host>(
     requires room { HasRoom (tasks_of board.now + 1) (limit * tasks_of board.now)
         (view_of worker.old.pass) }
     requires may { may_begin worker.old.pass ≡ true }
+    requires wave { W.wave work.now ≡ wave }
     requires suits { W.suits work.now (H.inputs host.old) }
     ensures stands { Stands (W.right work.now) limit board.now worker.new.pass worker.new.outputs }
     ensures firm { is_firm worker.new.pass ≡ is_firm worker.old.pass }
@@ -169,6 +172,7 @@ fn try_all<W: Work, H: Host>(
     requires room { HasRoom (3 * tasks_of board.now + 2) (limit * tasks_of board.now)
         (view_of worker.old.pass) }
     requires may { may_begin worker.old.pass ≡ true }
+    requires wave { W.wave work.now ≡ wave }
     requires suits { W.suits work.now (H.inputs host.old) }
     ensures stands { Stands (W.right work.now) limit board.now worker.new.pass worker.new.outputs }
     ensures firm { is_firm worker.new.pass ≡ is_firm worker.old.pass }
@@ -203,6 +207,7 @@ pub fn run_worker<W: Work, H: Host>(
     requires few { tasks_of board.now ≤ 65536 }
     requires limit { limit ≤ 16 }
     requires ready { IsReady board.now 0 pass }
+    requires wave { W.wave work.now ≡ wave }
     requires suits { W.suits work.now (H.inputs host.old) }
     ensures board { IfOk result (λ r. OnBoard board.now r.pass) }
     ensures firm { IfOk result (λ r. is_firm r.pass ≡ is_firm pass) }

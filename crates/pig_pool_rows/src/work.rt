@@ -18,6 +18,8 @@ impl Work for Doubles {
 
     ghost count = { λ w. w.tasks };
 
+    ghost wave = { λ _. 0 };
+
     ghost right = { λ _ t o. o ≡ 2 * t };
 
     ghost suits = { λ _ _. ⊤ };
@@ -52,6 +54,8 @@ impl Work for Reads {
     type Out = u64;
 
     ghost count = { λ w. w.tasks };
+
+    ghost wave = { λ _. 0 };
 
     ghost right = { λ _ t o. o ≡ t };
 

@@ -1,10 +1,10 @@
-use Rattle.std.proofs.Common.{◌≡◌, ◌<◌, ◌+◌, ◌-◌, length, map, rules, sym, subst, arith}
+use Rattle.std.proofs.Common.{◌≡◌, ◌<◌, ◌+◌, ◌-◌, length, rules, sym, subst, arith}
 use Rattle.std.specs.Prelude.{All}
 use Rattle.std.proofs.lemmas.List.Elements.{All-take, All-drop}
 use Rattle.pig_board.specs.View.{kept_half, other_half}
 use Rattle.pig_board.specs.Pass.{tasks_of, view_of, is_firm}
 use Rattle.pig_pool.specs.Crew.{IsReady}
-use Rattle.pig_pool.proofs.Crews.{halves_fit, ready-kept, ready-given, ready-one, later_halves, same_halves, ended-halves, ended-one, ok_five, ok_six}
+use Rattle.pig_pool.proofs.Crews.{halves_fit, ready-kept, ready-given, later_halves, same_halves, ended-halves, ended-one, ok_five, ok_six}
 use Rattle.pig_pool.proofs.crew.+halves.Goals as goal
 
 pub run_crew-join_mut-one-requires-after_bounds : goal.run_crew-join_mut-one-requires-after_bounds

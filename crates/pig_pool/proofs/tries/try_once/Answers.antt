@@ -1,11 +1,10 @@
-use Rattle.std.proofs.Common.{◌≡◌, ◌<◌, ◌≤◌, ◌+◌, ◌*◌, true, false, rules, refl, sym, ◌∙◌, ap, arith}
+use Rattle.std.proofs.Common.{◌≡◌, ◌<◌, false, rules, ap, arith}
 use Rattle.pig_board.specs.View.{knows_winner, fails_of}
-use Rattle.pig_board.specs.Pass.{tasks_of, view_of, may_begin}
+use Rattle.pig_board.specs.Pass.{view_of}
 use Rattle.pig_pool.specs.Begins.{tells}
-use Rattle.pig_pool.specs.Workers.{saw_limit}
-use Rattle.pig_pool.proofs.Steps.{calm-closed, room-closed, room-failures, calm-works, closed-offer, closed-failed, may-same}
+use Rattle.pig_pool.proofs.Steps.{calm-closed, room-closed, room-failures, calm-works, closed-offer, closed-failed}
 use Rattle.pig_pool.proofs.Looks.{begun}
-use Rattle.pig_pool.proofs.Attempts.{calm-both, stands-calm, stands-open, stands-offer, stands-late, stands-failed, stands-same, tried-open, tried-open_of, tried-own, tried-room, tried-works, tried-offer, tried-failed, tried-closed, tried-given_up, try-room}
+use Rattle.pig_pool.proofs.Attempts.{calm-both, stands-calm, stands-open, stands-offer, stands-late, stands-failed, stands-same, tried-open, tried-open_of, tried-own, tried-room, tried-works, tried-offer, tried-failed, try-room}
 use Rattle.pig_pool.proofs.tries.try_once.Goals as goal
 
 pub returns-in-Some-clause-stands : goal.returns-in-Some-clause-stands

@@ -1,4 +1,4 @@
-use Rattle.std.proofs.Common.{◌≡◌, true, ◌∙◌, ap}
+use Rattle.std.proofs.Common.{◌∙◌, ap}
 use Rattle.pig_board.specs.declared.view.View.{View}
 use Rattle.pig_board.specs.Pass.{tasks_of, view_of, is_firm}
 use Rattle.pig_board.specs.View.{kept_half, other_half, both}

@@ -1,6 +1,6 @@
-use Rattle.std.proofs.Common.{◌≡◌, ◌<◌, ◌≤◌, true, rules, ◌∙◌, arith}
+use Rattle.std.proofs.Common.{◌≡◌, true, rules, ◌∙◌, arith}
 use Rattle.std.specs.Prelude.{is_some}
-use Rattle.pig_board.specs.Pass.{tasks_of, view_of}
+use Rattle.pig_board.specs.Pass.{view_of}
 use Rattle.pig_pool.proofs.Steps.{looks-trans, looks-closed, knows-more, known-look}
 use Rattle.pig_pool.proofs.wave.sees_all_won.Goals as goal
 

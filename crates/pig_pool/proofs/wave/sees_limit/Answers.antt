@@ -1,6 +1,6 @@
-use Rattle.std.proofs.Common.{◌≡◌, ◌<◌, ◌≤◌, rules, ◌∙◌, arith}
+use Rattle.std.proofs.Common.{◌≡◌, ◌<◌, rules, ◌∙◌, arith}
 use Rattle.pig_board.specs.View.{fails_of}
-use Rattle.pig_board.specs.Pass.{tasks_of, view_of}
+use Rattle.pig_board.specs.Pass.{view_of}
 use Rattle.pig_pool.proofs.Steps.{looks-trans, looks-failures, below-more}
 use Rattle.pig_pool.proofs.wave.sees_limit.Goals as goal
 

@@ -1,4 +1,4 @@
-use Rattle.std.proofs.Common.{◌≡◌, rules}
+use Rattle.std.proofs.Common.{rules}
 use Rattle.pig_board.specs.Pass.{view_of}
 use Rattle.pig_pool.specs.Begins.{tells}
 use Rattle.pig_pool.specs.Workers.{Works}

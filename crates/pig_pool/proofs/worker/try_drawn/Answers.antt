@@ -1,11 +1,10 @@
-use Rattle.std.proofs.Common.{◌≡◌, ◌<◌, ◌≤◌, ◌+◌, ◌*◌, Some, None, true, false, rules, refl, sym, ◌∙◌, ap, subst, arith}
-use Rattle.pig_board.specs.View.{knows_winner, fails_of, IsDraw}
-use Rattle.pig_board.specs.Pass.{tasks_of, view_of, may_begin}
+use Rattle.std.proofs.Common.{◌≡◌, Some, None, true, rules, refl, sym, ◌∙◌, subst, arith}
+use Rattle.pig_board.specs.View.{knows_winner, IsDraw}
+use Rattle.pig_board.specs.Pass.{tasks_of, view_of}
 use Rattle.pig_pool.specs.Begins.{tells}
-use Rattle.pig_pool.specs.Workers.{Works, Stands, IsTried, Went, KnowsAll, Spends, HasRoom}
-use Rattle.pig_pool.specs.declared.tries.Tried.TheVariants as tried
+use Rattle.pig_pool.specs.Workers.{Works, Went, Spends}
 use Rattle.pig_pool.specs.declared.worker.Course.TheVariants as course
-use Rattle.pig_pool.proofs.Steps.{works-refl, works-trans, calm-works, calm-drawn, room-drawn, drawn-some, drawn-none, knows-more, may-same, room-after, calm-all, drawn-room, drawn-room-left}
+use Rattle.pig_pool.proofs.Steps.{works-refl, works-trans, calm-works, calm-drawn, room-drawn, drawn-some, drawn-none, may-same, calm-all, drawn-room, drawn-room-left}
 use Rattle.pig_pool.proofs.Attempts.{stands-calm}
 use Rattle.pig_pool.proofs.worker.try_drawn.Goals as goal
 

@@ -1,4 +1,4 @@
-use Rattle.std.proofs.Common.{◌≡◌, ◌≤◌, ◌+◌, ◌*◌, ◌-◌, true}
+use Rattle.std.proofs.Common.{◌≡◌, ◌≤◌, ◌*◌, ◌-◌, true}
 use Rattle.std.specs.Prelude.{min}
 use Rattle.pig_board.specs.Pass.{tasks_of, view_of, is_firm, may_begin}
 use Rattle.pig_pool.specs.Begins.{tells}

@@ -1,4 +1,4 @@
-use Rattle.std.proofs.Common.{◌≡◌, ◌≤◌, ◌+◌, ◌*◌, true}
+use Rattle.std.proofs.Common.{◌≡◌, ◌≤◌, true}
 use Rattle.pig_board.specs.Pass.{view_of, is_firm, may_begin}
 use Rattle.pig_pool.specs.Begins.{tells}
 use Rattle.pig_pool.specs.Workers.{Works, Stands, Spends, KnowsAll}

@@ -1,12 +1,9 @@
-use Rattle.std.proofs.Common.{◌≡◌, ◌<◌, ◌≤◌, ◌+◌, ◌*◌, Some, true, false, rules, refl, sym, ◌∙◌, ap, subst, arith}
-use Rattle.pig_board.specs.View.{knows_winner, fails_of, IsDraw}
-use Rattle.pig_board.specs.Pass.{tasks_of, view_of, may_begin}
+use Rattle.std.proofs.Common.{◌*◌, rules, refl, sym, ◌∙◌, subst, arith}
+use Rattle.pig_board.specs.Pass.{tasks_of, view_of}
 use Rattle.pig_pool.specs.Begins.{tells}
-use Rattle.pig_pool.specs.Workers.{Works, Stands, IsTried, Went, KnowsAll, Spends, HasRoom}
+use Rattle.pig_pool.specs.Workers.{Works, IsTried}
 use Rattle.pig_pool.specs.declared.tries.Tried.TheVariants as tried
-use Rattle.pig_pool.specs.declared.worker.Course.TheVariants as course
-use Rattle.pig_pool.proofs.Steps.{works-refl, works-trans, calm-works, calm-drawn, room-drawn, drawn-some, drawn-none, knows-more, may-same, room-after, room-some, few-all, calm-all}
-use Rattle.pig_pool.proofs.Attempts.{stands-calm}
+use Rattle.pig_pool.proofs.Steps.{works-refl, works-trans, room-after}
 use Rattle.pig_pool.proofs.worker.try_task.Goals as goal
 
 pub loop-init : goal.loop-init
