@@ -1,3 +1,4 @@
 mod Samples
 pub mod Loops
 pub mod Headings
+pub mod Waved

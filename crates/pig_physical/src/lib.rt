@@ -5,9 +5,11 @@ mod folding;
 mod listing;
 mod parts;
 mod splitting;
+mod staged;
 mod waves;
 
 pub use listing::heads;
 pub use parts::{MapTask, Part, Path, ReduceTask, Task, Tasks, Way, Ways};
 pub use splitting::splits;
+pub use staged::{Size, Sizes, Stages, Wave, Waves};
 pub use waves::{WaveHead, WaveHeads, WaveKind};
