@@ -160,7 +160,8 @@ pub fn run_crew<R: Threads + Sync, W: Work + Sync, H: Host + Send>(
                 (crew_tells (map H.faults left.exit.hosts.now)
                 (map H.begun left.exit.hosts.now))
                 r.pass r.outputs r.is_aside)) }
-            ensures inputs { map H.inputs left.exit.hosts.now ≡ map H.inputs left.entry.hosts.now }
+            ensures inputs { map H.inputs left.exit.hosts.now
+                ≡ map H.inputs left.entry.hosts.now }
             ensures later { sum_by H.faults left.entry.hosts.now
                 ≤ sum_by H.faults left.exit.hosts.now }
             ensures same_reference { left.exit.hosts.ghost_name ≡ left.entry.hosts.ghost_name }
