@@ -28,7 +28,10 @@ cut_of nodes sizes reducers split = (nodes, (sizes, (reducers, split)))
 
 abbrev pub staged : Cut → Stages
 staged cut =
-    record { plan = plan_of cut.0; sizing = record { lengths = lengths_in cut.1.0; reducers = cut.1.1.0; split = cut.1.1.1 } }
+    record {
+      plan = plan_of cut.0;
+      sizing = record { lengths = lengths_in cut.1.0; reducers = cut.1.1.0; split = cut.1.1.1 };
+    }
 
 -- ---- ways and tasks
 

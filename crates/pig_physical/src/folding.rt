@@ -15,8 +15,8 @@ use pig_typed::Block;
 use pig_value::Numbers;
 use std::alloc::{AllocError, Global};
 
-/// Whether the map tasks of a node combine: those of a DISTINCT, and those of a GROUP that folds. `live` are the numbers of
-/// the live nodes, `named` the inputs that these name.
+/// Whether the map tasks of a node combine: those of a DISTINCT, and those of a GROUP that folds. `live` are the numbers
+/// of the live nodes, `named` the inputs that these name.
 pub fn combines(
     alloc: Global,
     nodes: &[Node],

@@ -13,8 +13,8 @@ use crate::{WaveHead, WaveHeads, WaveKind};
 use pig_plan::{Node, NodeOp, Plan, live_numbers};
 use std::alloc::{AllocError, Global};
 
-/// The waves of a plan, in order: those of each live boundary node, by their numbers, and one for all STOREs, where there
-/// is one. They need no sizes, so that every way to cut a plan has the same.
+/// The waves of a plan, in order: those of each live boundary node, by their numbers, and one for all STOREs, where
+/// there is one. They need no sizes, so that every way to cut a plan has the same.
 pub fn heads(alloc: Global, plan: &Plan) -> Result<WaveHeads, AllocError>
     ensures { IfOk result (λ found. found ≡ heads (plan_of plan.now)) }
 {

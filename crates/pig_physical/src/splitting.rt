@@ -6,8 +6,8 @@ use pig_storage::{Split, Splits};
 use pig_value::Lengths;
 use std::alloc::{AllocError, Global};
 
-/// The splits of an input with pieces of these lengths, piece by piece: each has `split` bytes, the last one of a piece may
-/// have fewer, and an empty piece has one split.
+/// The splits of an input with pieces of these lengths, piece by piece: each has `split` bytes, the last one of a piece
+/// may have fewer, and an empty piece has one split.
 pub fn splits(alloc: Global, sizes: &Lengths, split: u64) -> Result<Splits, AllocError>
     requires { 0 < split }
     ensures { IfOk result (λ found. found ≡ splits_of split sizes.now) }
