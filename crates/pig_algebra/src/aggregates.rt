@@ -1,244 +1,140 @@
-ghost use Rattle.std.specs.Prelude.{⊤, [], ◌∷◌, refl};
+ghost use Rattle.std.specs.Prelude.{◌≡◌, ⊤, true, [], ◌∷◌, refl};
 ghost use Rattle.pig_value.specs.Functions.{looked_at};
 ghost use Rattle.pig_value.specs.Trees.{tree};
+ghost use Rattle.pig_value.specs.declared.functions.Function.{Function};
 ghost use Rattle.pig_value.specs.declared.functions.Function.TheVariants as f;
+ghost use Rattle.pig_builtins.specs.Folds.{is_algebraic};
 ghost use Rattle.pig_algebra.specs.Parts.{AreOfOne, AreOne, IsPart, IsRowPart, is_none, is_row, parts_of, row_parts, the_row, value_of};
 ghost use Rattle.pig_algebra.specs.PartLaws.{column_part, part_merged, parts_any_way, parts_associate, parts_commute, unit_stays};
 ghost use Rattle.pig_algebra.specs.RowLaws.{row_any_way, row_associates, row_commutes, row_merged};
 
 use crate::Algebraic;
-use crate::merging::{added, better, either, of_one, only_field};
-use pig_value::{Dir, Function, Tuple, Value, copy_row, field_at};
+use crate::merging::{either, merged, of_row};
+use pig_value::{Function, Tuple, Value, copy_row};
 use std::alloc::{AllocError, Global};
 
-/// Parts of COUNT: how many rows have a first field that is not null, as a long.
-#[derive(Debug, Clone, Copy, Drop)]
-pub struct CountPart;
+/// A function whose part is what it gives of some of the rows.
+pub trait Aggregate: Copy {
+    /// Which function it is.
+    ghost function: { Function };
 
-impl Algebraic for CountPart {
+    ghost algebraic: { is_algebraic function ≡ true };
+
+    /// The function.
+    fn function(&self) -> Function
+        ensures { result ≡ function };
+}
+
+impl<F: Aggregate> Algebraic for F {
     type Part = Value;
 
     ghost seen = { tree };
 
-    ghost parts = { parts_of f.Count };
+    ghost parts = { parts_of F.function };
 
-    ghost is_part = { IsPart f.Count };
+    ghost is_part = { IsPart F.function };
 
     ghost go_together = { λ a b. ⊤ };
 
     ghost are_rows = { λ rows. ⊤ };
 
-    ghost value = { value_of f.Count };
+    ghost value = { value_of F.function };
 
     fn initial(&self, alloc: Global, row: &Tuple) -> Result<Value, AllocError> {
-        of_one(alloc, Function::Count, field_at(row, 0))
+        of_row(alloc, self.function(), row)
     }
 
     fn merge(&self, _alloc: Global, a: Value, b: Value) -> Result<Value, AllocError> {
-        Ok(added(a, b))
+        Ok(merged(self.function(), a, b))
     }
 
     fn finish(&self, _alloc: Global, part: Value) -> Result<Value, AllocError> {
         Ok(part)
     }
 
-    ghost unit_part = { column_part f.Count refl [] };
+    ghost unit_part = { column_part F.function F.algebraic [] };
 
-    ghost initial_part = { λ row. column_part f.Count refl (looked_at f.Count row ∷ []) };
+    ghost initial_part = { λ row. column_part F.function F.algebraic (looked_at F.function row ∷ []) };
 
-    ghost merged_part = { λ a b p q h. part_merged f.Count refl a b p q };
+    ghost merged_part = { λ a b p q h. part_merged F.function F.algebraic a b p q };
 
-    ghost unit = { unit_stays f.Count };
+    ghost unit = { unit_stays F.function };
 
-    ghost commutes = { λ a b p q h. parts_commute f.Count a b p q };
+    ghost commutes = { λ a b p q h. parts_commute F.function a b p q };
 
-    ghost associates = { parts_associate f.Count };
+    ghost associates = { parts_associate F.function };
 
-    ghost any_way = { λ way rows h k. parts_any_way f.Count refl way rows h };
+    ghost any_way = { λ way rows h k. parts_any_way F.function F.algebraic way rows h };
+}
+
+/// Parts of COUNT: how many rows have a first field that is not null, as a long.
+#[derive(Debug, Clone, Copy, Drop)]
+pub struct CountPart;
+
+impl Aggregate for CountPart {
+    ghost function = { f.Count };
+
+    ghost algebraic = { refl };
+
+    fn function(&self) -> Function {
+        Function::Count
+    }
 }
 
 /// Parts of COUNT_STAR: how many rows there are, as a long.
 #[derive(Debug, Clone, Copy, Drop)]
 pub struct StarPart;
 
-impl Algebraic for StarPart {
-    type Part = Value;
+impl Aggregate for StarPart {
+    ghost function = { f.CountStar };
 
-    ghost seen = { tree };
+    ghost algebraic = { refl };
 
-    ghost parts = { parts_of f.CountStar };
-
-    ghost is_part = { IsPart f.CountStar };
-
-    ghost go_together = { λ a b. ⊤ };
-
-    ghost are_rows = { λ rows. ⊤ };
-
-    ghost value = { value_of f.CountStar };
-
-    fn initial(&self, alloc: Global, row: &Tuple) -> Result<Value, AllocError> {
-        of_one(alloc, Function::CountStar, field_at(row, 0))
+    fn function(&self) -> Function {
+        Function::CountStar
     }
-
-    fn merge(&self, _alloc: Global, a: Value, b: Value) -> Result<Value, AllocError> {
-        Ok(added(a, b))
-    }
-
-    fn finish(&self, _alloc: Global, part: Value) -> Result<Value, AllocError> {
-        Ok(part)
-    }
-
-    ghost unit_part = { column_part f.CountStar refl [] };
-
-    ghost initial_part = { λ row. column_part f.CountStar refl (looked_at f.CountStar row ∷ []) };
-
-    ghost merged_part = { λ a b p q h. part_merged f.CountStar refl a b p q };
-
-    ghost unit = { unit_stays f.CountStar };
-
-    ghost commutes = { λ a b p q h. parts_commute f.CountStar a b p q };
-
-    ghost associates = { parts_associate f.CountStar };
-
-    ghost any_way = { λ way rows h k. parts_any_way f.CountStar refl way rows h };
 }
 
 /// Parts of SUM: the sum of the numbers as a long, or null where there is none.
 #[derive(Debug, Clone, Copy, Drop)]
 pub struct SumPart;
 
-impl Algebraic for SumPart {
-    type Part = Value;
+impl Aggregate for SumPart {
+    ghost function = { f.Sum };
 
-    ghost seen = { tree };
+    ghost algebraic = { refl };
 
-    ghost parts = { parts_of f.Sum };
-
-    ghost is_part = { IsPart f.Sum };
-
-    ghost go_together = { λ a b. ⊤ };
-
-    ghost are_rows = { λ rows. ⊤ };
-
-    ghost value = { value_of f.Sum };
-
-    fn initial(&self, alloc: Global, row: &Tuple) -> Result<Value, AllocError> {
-        of_one(alloc, Function::Sum, only_field(row))
+    fn function(&self) -> Function {
+        Function::Sum
     }
-
-    fn merge(&self, _alloc: Global, a: Value, b: Value) -> Result<Value, AllocError> {
-        Ok(added(a, b))
-    }
-
-    fn finish(&self, _alloc: Global, part: Value) -> Result<Value, AllocError> {
-        Ok(part)
-    }
-
-    ghost unit_part = { column_part f.Sum refl [] };
-
-    ghost initial_part = { λ row. column_part f.Sum refl (looked_at f.Sum row ∷ []) };
-
-    ghost merged_part = { λ a b p q h. part_merged f.Sum refl a b p q };
-
-    ghost unit = { unit_stays f.Sum };
-
-    ghost commutes = { λ a b p q h. parts_commute f.Sum a b p q };
-
-    ghost associates = { parts_associate f.Sum };
-
-    ghost any_way = { λ way rows h k. parts_any_way f.Sum refl way rows h };
 }
 
 /// Parts of MIN: the least value, or null where there is none.
 #[derive(Debug, Clone, Copy, Drop)]
 pub struct MinPart;
 
-impl Algebraic for MinPart {
-    type Part = Value;
+impl Aggregate for MinPart {
+    ghost function = { f.Min };
 
-    ghost seen = { tree };
+    ghost algebraic = { refl };
 
-    ghost parts = { parts_of f.Min };
-
-    ghost is_part = { IsPart f.Min };
-
-    ghost go_together = { λ a b. ⊤ };
-
-    ghost are_rows = { λ rows. ⊤ };
-
-    ghost value = { value_of f.Min };
-
-    fn initial(&self, alloc: Global, row: &Tuple) -> Result<Value, AllocError> {
-        of_one(alloc, Function::Min, only_field(row))
+    fn function(&self) -> Function {
+        Function::Min
     }
-
-    fn merge(&self, _alloc: Global, a: Value, b: Value) -> Result<Value, AllocError> {
-        Ok(better(Dir::Asc, a, b))
-    }
-
-    fn finish(&self, _alloc: Global, part: Value) -> Result<Value, AllocError> {
-        Ok(part)
-    }
-
-    ghost unit_part = { column_part f.Min refl [] };
-
-    ghost initial_part = { λ row. column_part f.Min refl (looked_at f.Min row ∷ []) };
-
-    ghost merged_part = { λ a b p q h. part_merged f.Min refl a b p q };
-
-    ghost unit = { unit_stays f.Min };
-
-    ghost commutes = { λ a b p q h. parts_commute f.Min a b p q };
-
-    ghost associates = { parts_associate f.Min };
-
-    ghost any_way = { λ way rows h k. parts_any_way f.Min refl way rows h };
 }
 
 /// Parts of MAX: the greatest value, or null where there is none.
 #[derive(Debug, Clone, Copy, Drop)]
 pub struct MaxPart;
 
-impl Algebraic for MaxPart {
-    type Part = Value;
+impl Aggregate for MaxPart {
+    ghost function = { f.Max };
 
-    ghost seen = { tree };
+    ghost algebraic = { refl };
 
-    ghost parts = { parts_of f.Max };
-
-    ghost is_part = { IsPart f.Max };
-
-    ghost go_together = { λ a b. ⊤ };
-
-    ghost are_rows = { λ rows. ⊤ };
-
-    ghost value = { value_of f.Max };
-
-    fn initial(&self, alloc: Global, row: &Tuple) -> Result<Value, AllocError> {
-        of_one(alloc, Function::Max, only_field(row))
+    fn function(&self) -> Function {
+        Function::Max
     }
-
-    fn merge(&self, _alloc: Global, a: Value, b: Value) -> Result<Value, AllocError> {
-        Ok(better(Dir::Desc, a, b))
-    }
-
-    fn finish(&self, _alloc: Global, part: Value) -> Result<Value, AllocError> {
-        Ok(part)
-    }
-
-    ghost unit_part = { column_part f.Max refl [] };
-
-    ghost initial_part = { λ row. column_part f.Max refl (looked_at f.Max row ∷ []) };
-
-    ghost merged_part = { λ a b p q h. part_merged f.Max refl a b p q };
-
-    ghost unit = { unit_stays f.Max };
-
-    ghost commutes = { λ a b p q h. parts_commute f.Max a b p q };
-
-    ghost associates = { parts_associate f.Max };
-
-    ghost any_way = { λ way rows h k. parts_any_way f.Max refl way rows h };
 }
 
 /// Parts of DISTINCT, of equal rows: the row as a tuple, or null where there is none.

@@ -8,7 +8,7 @@ mod combining;
 mod cuts;
 mod merging;
 
-pub use aggregates::{CountPart, DistinctPart, MaxPart, MinPart, StarPart, SumPart};
+pub use aggregates::{Aggregate, CountPart, DistinctPart, MaxPart, MinPart, StarPart, SumPart};
 pub use algebraic::Algebraic;
 pub use combining::{combinable, parts_make_the_rows};
 pub use cuts::{Cut, Cuts};

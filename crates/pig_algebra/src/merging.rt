@@ -2,20 +2,20 @@ ghost use Rattle.std.specs.Prelude.{◌≡◌, ◌+ℤ◌, [], ◌∷◌, IfOk, 
 ghost use Rattle.std.specs.Int.{int_wrap, w64};
 ghost use Rattle.std.specs.Option.{option_map};
 ghost use Rattle.std.specs.Ordering.{is_gt};
-ghost use Rattle.pig_value.specs.Functions.{column_tree, is_present as is_present_tree, one_field};
+ghost use Rattle.pig_value.specs.Functions.{column_tree, is_present as is_present_tree, looked_at as looked_at_tree, one_field};
 ghost use Rattle.pig_value.specs.Orders.{dir_cmp};
 ghost use Rattle.pig_value.specs.Trees.{field_tree, or_null as or_null_tree, row_tree, tree, v_long};
 ghost use Rattle.pig_value.specs.declared.functions.Function.TheVariants.{Sum};
 ghost use Rattle.pig_builtins.specs.Folds.{add_tree, first_of};
-ghost use Rattle.pig_algebra.specs.Parts.{either_part, merge_parts, part_found};
+ghost use Rattle.pig_algebra.specs.Parts.{either_part, initial_part, merge_parts, part_found};
 
 use pig_builtins::Fold;
-use pig_value::{Dir, Function, Tuple, Value, order};
+use pig_value::{Dir, Function, Tuple, Value, field_at, order};
 use std::alloc::{AllocError, Global};
 use std::cmp::Ordering;
 
 /// What an algebraic function gives of one value, where none stands for null.
-pub fn of_one(alloc: Global, function: Function, field: Option<&Value>) -> Result<Value, AllocError>
+fn of_one(alloc: Global, function: Function, field: Option<&Value>) -> Result<Value, AllocError>
     ensures { IfOk result (λ v. tree v ≡ column_tree function (field_tree field.entry ∷ [])) }
 {
     match Fold::start(function) {
@@ -24,8 +24,36 @@ pub fn of_one(alloc: Global, function: Function, field: Option<&Value>) -> Resul
     }
 }
 
-/// The one field of a row.
-pub fn only_field(row: &Tuple) -> Option<&Value>
+/// What a function gives of one row.
+pub fn of_row(alloc: Global, function: Function, row: &Tuple) -> Result<Value, AllocError>
+    ensures { IfOk result (λ v. tree v ≡ initial_part function (row_tree row.now)) }
+{
+    of_one(alloc, function, looked_at(function, row))
+}
+
+// The field of a row that a function looks at.
+fn looked_at(function: Function, row: &Tuple) -> Option<&Value>
+    ensures { field_tree result ≡ looked_at_tree function (row_tree row.now) }
+{
+    match function {
+        Function::Sum | Function::Min | Function::Max => only_field(row),
+        _ => field_at(row, 0),
+    }
+}
+
+/// What two parts of a function give together.
+pub fn merged(function: Function, a: Value, b: Value) -> Value
+    ensures { tree result ≡ merge_parts function (tree a) (tree b) }
+{
+    match function {
+        Function::Min => better(Dir::Asc, a, b),
+        Function::Max => better(Dir::Desc, a, b),
+        _ => added(a, b),
+    }
+}
+
+// The one field of a row.
+fn only_field(row: &Tuple) -> Option<&Value>
     ensures { field_tree result ≡ one_field (row_tree row.now) }
 {
     match row.as_slice() {
@@ -35,7 +63,7 @@ pub fn only_field(row: &Tuple) -> Option<&Value>
 }
 
 /// The sum of two numbers, either of which may be null.
-pub fn added(a: Value, b: Value) -> Value
+fn added(a: Value, b: Value) -> Value
     ensures { tree result ≡ merge_parts Sum (tree a) (tree b) }
 {
     match (found(a), found(b)) {
@@ -46,7 +74,7 @@ pub fn added(a: Value, b: Value) -> Value
 }
 
 /// Of two values the first in the direction; null stands for none.
-pub fn better(dir: Dir, a: Value, b: Value) -> Value
+fn better(dir: Dir, a: Value, b: Value) -> Value
     ensures { tree result
         ≡ or_null_tree (first_of dir (part_found (tree a)) (part_found (tree b))) }
 {

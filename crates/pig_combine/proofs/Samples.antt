@@ -6,7 +6,7 @@ use Rattle.pig_value.specs.Gathering.{Entry}
 use Rattle.pig_value.specs.Trees.{Tree, v_null, v_int, v_long, v_chars}
 use Rattle.pig_value.specs.declared.functions.Function.TheVariants as f
 use Rattle.pig_typed.specs.Typed.{x_field}
-use Rattle.pig_algebra.specs.Cuts.{TypedCut, c_key, c_part, c_row}
+use Rattle.pig_algebra.specs.Cuts.{TypedCut, c_key, c_part}
 use Rattle.pig_combine.specs.Holdings.{entry_of, entry_told, rows_under}
 use Rattle.pig_combine.specs.Tallies.{found_by, t_found, t_key, t_other, t_row}
 

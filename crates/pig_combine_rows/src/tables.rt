@@ -125,11 +125,14 @@ fn cuts<R: Abort>(rt: &R, alloc: Global, words: &str) -> Cuts {
     cuts
 }
 
+// Adds a row under its key. A call that is refused is made again, and finds the table as it was.
 fn add<R: Abort>(rt: &R, alloc: Global, table: &mut Table, word: &str) {
     let (key, row) = word.split_once(':').unwrap_or((word, ""));
     let key = sound(rt, alloc, key);
     let row = sound_row(rt, alloc, row);
-    table.add(&key, &row).expect(rt, "memory");
+    if table.add(&key, &row).is_err() {
+        table.add(&key, &row).expect(rt, "memory");
+    }
     drop((key, row));
 }
 
