@@ -1,6 +1,6 @@
 -- Stages as the code holds them: each wave has its ways once, and a task names its way by the place among them.
-use Rattle.std.specs.Prelude.{◌≡◌, ◌<◌, ◌^◌, ℕ, List, [], map, length, Some, bytes_eq, slice_get}
-use Rattle.std.specs.List.{find}
+use Rattle.std.specs.Prelude.{◌≡◌, ◌<◌, ◌^◌, ⊤, ℕ, List, [], map, length, Some, bytes_eq, slice_get}
+use Rattle.std.specs.List.{AllByRecursion, find}
 use Rattle.std.specs.Option.{option_map_or}
 use Rattle.pig_plan.specs.Nodes.{Entering}
 use Rattle.pig_plan.specs.Plans.{plan_of}
@@ -46,12 +46,18 @@ abbrev pub task_of : List Entering → declared.Task → Task
 task_of ways (tasks.Map t) = t_map (record { node = t.node; way = at_place no_way ways t.way; part = t.part })
 task_of ways (tasks.Reduce t) = t_reduce t
 
+-- a task that reads a way names its own wave, and one of so many ways
+abbrev pub IsOwn : ℕ → ℕ → declared.Task → Type 0
+IsOwn w ways (tasks.Map t) = (t.wave ≡ w) × (t.way < ways)
+IsOwn w ways (tasks.Reduce t) = ⊤
+
 -- ---- waves
 
 pub record IsWave (s : Stages) (w : ℕ) (wave : Wave) : Type 0 where
   pub head : slice_get (heads s.plan) w ≡ Some wave.head
   pub ways : map entering_of wave.ways ≡ ways_in s.plan w
   pub tasks : map (task_of (ways_in s.plan w)) wave.tasks ≡ tasks_in s w
+  pub own : AllByRecursion (IsOwn w (length wave.ways)) wave.tasks
   pub few : length wave.tasks < 2 ^ 32
 
 pub record AreWaves (s : Stages) (waves : List Wave) : Type 0 where

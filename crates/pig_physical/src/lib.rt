@@ -10,6 +10,6 @@ mod waves;
 
 pub use listing::heads;
 pub use parts::{MapTask, Part, Path, ReduceTask, Task, Tasks, Way, Ways};
-pub use splitting::splits;
+pub use splitting::{split_count, splits};
 pub use staged::{Size, Sizes, Stages, Wave, Waves};
 pub use waves::{WaveHead, WaveHeads, WaveKind};

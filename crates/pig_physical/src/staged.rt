@@ -1,7 +1,7 @@
 //! A plan with the waves of tasks that it is cut into.
 ghost use Rattle.std.specs.Prelude.{◌≡◌, ◌<◌, ◌^◌, length, slice_get, Some};
 ghost use Rattle.std.specs.Option.{option_map};
-ghost use Rattle.pig_physical.specs.Seen.{AreWaves, IsWave, cut_of, entering_of, staged, task_of};
+ghost use Rattle.pig_physical.specs.Seen.{AreWaves, IsOwn, IsWave, cut_of, entering_of, staged, task_of};
 ghost use Rattle.pig_physical.specs.Stages.{heads, tasks_in, ways_in};
 
 use crate::{MapTask, Task, Tasks, WaveHead, WaveKind, Way, Ways};
@@ -107,12 +107,13 @@ impl<'p> Stages<'p> {
         self.wave(wave).tasks.len() as u32
     }
 
-    /// A task of a wave, by its number.
+    /// A task of a wave, by its number. One that reads a way names this wave.
     pub fn task_at(&self, wave: u32, at: u32) -> &Task
         requires wave { wave < length (heads (staged self.now).plan) }
         requires at { at < length (tasks_in (staged self.now) wave) }
-        ensures { slice_get (tasks_in (staged self.now) wave) at
+        ensures task { slice_get (tasks_in (staged self.now) wave) at
             ≡ Some (task_of (ways_in (staged self.now).plan wave) result.now) }
+        ensures own { IsOwn wave (length (ways_in (staged self.now).plan wave)) result.now }
     {
         &self.wave(wave).tasks.as_slice()[at as usize]
     }
