@@ -9,3 +9,10 @@ mod Main
 mod Stores
 mod Asserts
 mod Samples
+mod Fed
+mod Sized
+mod Weighed
+mod Firsts
+mod Assembled
+mod Traced
+mod Loops
