@@ -6,10 +6,12 @@ mod listing;
 mod parts;
 mod splitting;
 mod staged;
+mod threads;
 mod waves;
 
 pub use listing::heads;
 pub use parts::{MapTask, Part, Path, ReduceTask, Task, Tasks, Way, Ways};
 pub use splitting::{split_count, splits};
 pub use staged::{Size, Sizes, Stages, Wave, Waves};
+pub use threads::stages_cross_threads;
 pub use waves::{WaveHead, WaveHeads, WaveKind};
