@@ -3,5 +3,6 @@ mod Begins
 mod Crews
 mod Looks
 mod Placing
+mod Samples
 mod Steps
 mod Waves

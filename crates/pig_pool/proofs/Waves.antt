@@ -4,7 +4,7 @@ use Rattle.std.specs.Prelude.{⊤, ◌^◌, ◌==◌, is_some, nat_le, nat_lt, c
 use Rattle.std.specs.List.{list_any, sum_by}
 use Rattle.std.proofs.lemmas.Bool.{cases_Bool, cases_lt, or_cases, leb-true, lt-ltb, ne_eqb, false≢true, false_from_ne_true}
 use Rattle.std.proofs.lemmas.Bool.Decides.{nat_tests}
-use Rattle.std.proofs.lemmas.List.{get_or_past}
+use Rattle.std.proofs.lemmas.List.{get_or_past, length-map}
 use Rattle.std.proofs.lemmas.List.Elements.{All-head, All-tail, All-nil, All-cons}
 use Rattle.std.proofs.lemmas.List.Sums.{get_or-le-sum_by, sum_by-cons}
 use Rattle.std.proofs.Math.Nat.{mul-le-mul_left}
@@ -24,7 +24,7 @@ use Rattle.pig_pool.specs.Begins.{CrewTells, crew_tells}
 use Rattle.pig_pool.specs.Workers.{outputs_of, HasWon, IsDone, IsBelow, KnowsAll, Looks, Went, Rested, was_aside, Spends, HasRoom, saw_limit, worker_cost, again_room}
 use Rattle.pig_pool.specs.declared.worker.Course.{Course}
 use Rattle.pig_pool.specs.declared.worker.Course.TheVariants as course
-use Rattle.pig_pool.specs.Crew.{IsReady, CrewWorks}
+use Rattle.pig_pool.specs.Crew.{AreHosts, IsReady, CrewWorks}
 use Rattle.pig_pool.specs.declared.wave.WaveFault.{WaveFault}
 use Rattle.pig_pool.specs.declared.wave.WaveFault.TheVariants.{TaskFailed, OutOfMemory}
 use Rattle.pig_pool.specs.Wave.{AllWon, IsWonWave, HasUnwon, IsLeast, HasFailed, AreBegun, FaultBegun, EndsAt, FaultEndsAt, failures_in, failures_of}
@@ -245,7 +245,7 @@ done-round limit n firm true true v w e rested looks m = m
 done-round limit n firm true false v w e rested looks m = absurd (false≢true e)
 
 -- hosts with the same inputs suit the same
-pub suit-again : {X Y : Type 0} (f : X → Y) (P : Y → Type 0) (xs ys : List X) → map f ys ≡ map f xs → All (λ h. P (f h)) xs → All (λ h. P (f h)) ys
+suit-again : {X Y : Type 0} (f : X → Y) (P : Y → Type 0) (xs ys : List X) → map f ys ≡ map f xs → All (λ h. P (f h)) xs → All (λ h. P (f h)) ys
 suit-again f P [] [] e all = All-nil (λ h. P (f h))
 suit-again f P [] (y ∷ ys) e all = absurd (cc)
 suit-again f P (x ∷ xs) [] e all = absurd (cc)
@@ -253,3 +253,12 @@ suit-again {X} {Y} f P (x ∷ xs) (y ∷ ys) e all =
     let head : f y ≡ f x = ap (head_of (f x)) e in
     let tail : map f ys ≡ map f xs = ap tail_of e in
     All-cons (λ h. P (f h)) y ys (subst P (sym head) (All-head (λ h. P (f h)) x xs all)) (suit-again f P xs ys tail (All-tail (λ h. P (f h)) x xs all))
+
+pub hosts-again : {X Y : Type 0} (f : X → Y) (P : Y → Type 0) (depth : ℕ) (xs ys : List X) → map f ys ≡ map f xs → AreHosts (λ h. P (f h)) depth xs → AreHosts (λ h. P (f h)) depth ys
+hosts-again f P depth xs ys e hosts =
+    let same : length ys ≡ length xs = sym (length-map ys f) ∙ (ap length e ∙ length-map xs f) in
+    record {
+      some = subst (λ n. 0 < n) (sym same) hosts.some;
+      few = subst (λ n. n ≤ 2 ^ depth) (sym same) hosts.few;
+      suit = suit-again f P xs ys e hosts.suit;
+    }

@@ -1,14 +1,16 @@
 -- What a crew of workers is given, and what it does.
-use Rattle.std.specs.Prelude.{◌≡◌, ℕ, ◌+◌, ◌*◌, ◌^◌, ◌≤◌, ⊤, Bool, true, false, Option, Some, None, List, [], map, count_by, sum_by}
+use Rattle.std.specs.Prelude.{◌≡◌, ℕ, ◌+◌, ◌*◌, ◌^◌, ◌<◌, ◌≤◌, ⊤, Bool, true, false, Option, Some, None, List, [], length, map, count_by, sum_by, All}
 use Rattle.pig_job.specs.Job.{aside_limit}
 use Rattle.pig_job.specs.Rule.{is_attempt}
 use Rattle.pig_board.specs.declared.board.Board.{Board}
 use Rattle.pig_board.specs.declared.board.Pass.{Pass}
 use Rattle.pig_board.specs.declared.view.View.{View}
 use Rattle.pig_board.specs.View.{steps_of, fails_of, all_fails}
-use Rattle.pig_board.specs.Pass.{view_of, is_firm, OnBoard}
+use Rattle.pig_board.specs.Pass.{tasks_of, view_of, is_firm, OnBoard}
 use Rattle.pig_board.specs.Laws.{NotesStay}
-use Rattle.pig_pool.specs.Begins.{Turn, turn_begins, turn_lost, CrewTells, Rise}
+use Rattle.pig_outside.specs.Calls.{Attempt}
+use Rattle.pig_pool.specs.Begins.{Turn, turn_begins, turn_lost, CrewTells, crew_tells, Rise}
+use Rattle.pig_pool.specs.declared.worker.Worker.{Worker}
 use Rattle.pig_pool.specs.Workers.{HasWon, Spends, Rested, worker_room, worker_cost}
 
 -- there is one, and P holds of it
@@ -56,3 +58,25 @@ pub record IsEnded {O : Type 0} (is_right : ℕ → O → Type 0) (limit n wave 
   pub rested : Rested limit n (is_firm p) (view_of q) aside
   pub rose : Rose aside x.faults y.faults
   pub room : Spends (worker_cost * 2 ^ depth) (view_of p) (view_of q)
+
+-- a board for the tasks of a wave, and a limit, that a crew can work with
+pub record FitsCrew (count number : ℕ) (b : Board) (wave limit : ℕ) : Type 0 where
+  pub tasks : tasks_of b ≡ count
+  pub few : tasks_of b ≤ 65536
+  pub limited : limit ≤ 16
+  pub wave_is : number ≡ wave
+
+-- so many hosts at most as halvings suffice for, and each suits
+pub record AreHosts {H : Type 0} (suits : H → Type 0) (depth : ℕ) (hosts : List H) : Type 0 where
+  pub some : 0 < length hosts
+  pub few : length hosts ≤ 2 ^ depth
+  pub suit : All suits hosts
+
+-- the hosts have the inputs that they had, and have counted no less
+pub record HostsStay {H I : Type 0} (faults : H → ℕ) (inputs : H → I) (old new : List H) : Type 0 where
+  pub same : map inputs new ≡ map inputs old
+  pub later : sum_by faults old ≤ sum_by faults new
+
+-- how a crew on the pass p ended, whose hosts were these before and behind
+abbrev pub EndsAs : {O H : Type 0} → (ℕ → O → Type 0) → ℕ → ℕ → ℕ → Board → ℕ → (H → ℕ) → (H → Option (List Attempt)) → Pass → List H → List H → Worker O → Type 0
+EndsAs is_right limit n wave b depth faults begun p old new r = IsEnded is_right limit n wave b depth p (crew_tells (map faults old) (map begun old)) (crew_tells (map faults new) (map begun new)) r.pass r.outputs r.is_aside

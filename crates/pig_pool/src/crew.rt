@@ -1,11 +1,10 @@
 //! The workers of a wave: one for each host, in threads of their own.
 
-ghost use Rattle.std.specs.Prelude.{◌≡◌, ◌<◌, ◌≤◌, ◌+◌, ◌*◌, ◌^◌, ◌++◌, ◌&&◌, length, map, sum_by, IfOk, All};
+ghost use Rattle.std.specs.Prelude.{◌≡◌, ◌+◌, ◌*◌, ◌++◌, ◌&&◌, IfOk};
 ghost use Rattle.std.specs.Thread.{IsSync, IsSend};
 ghost use Rattle.pig_board.specs.View.{both};
 ghost use Rattle.pig_board.specs.Pass.{tasks_of, view_of, is_firm, OnBoard};
-ghost use Rattle.pig_pool.specs.Begins.{crew_tells};
-ghost use Rattle.pig_pool.specs.Crew.{Holds, IsReady, IsEnded};
+ghost use Rattle.pig_pool.specs.Crew.{AreHosts, EndsAs, FitsCrew, Holds, HostsStay, IsReady};
 
 use crate::work::Work;
 use crate::worker::{Worker, run_worker};
@@ -76,26 +75,82 @@ fn run_half<R: Threads + Sync, W: Work + Sync, H: Host + Send>(
     depth: u32,
     half: &mut Half<'_, H>,
 ) -> Result<Worker<W::Out>, AllocError>
-    requires count { (tasks_of board.now ≡ W.count work.now)
-        × (tasks_of board.now ≤ 65536) × (limit ≤ 16) }
+    requires fits { FitsCrew (W.count work.now) (W.wave work.now) board.now wave limit }
     requires ready { Holds half.old.pass (IsReady board.now depth) }
-    requires fit { (0 < length half.old.hosts.now) × (length half.old.hosts.now ≤ 2 ^ depth) }
-    requires wave { W.wave work.now ≡ wave }
-    requires suit { All (λ h. W.suits work.now (H.inputs h)) half.old.hosts.now }
-    ensures ended { IfOk result (λ r. Holds half.old.pass (λ p. IsEnded
+    requires hosts { AreHosts (λ h. W.suits work.now (H.inputs h)) depth half.old.hosts.now }
+    ensures ended { IfOk result (λ r. Holds half.old.pass (λ p. EndsAs
         (W.right work.now) limit (tasks_of board.now) wave board.now depth
-        p
-        (crew_tells (map H.faults half.old.hosts.now) (map H.begun half.old.hosts.now))
-        (crew_tells (map H.faults half.new.hosts.now) (map H.begun half.new.hosts.now))
-        r.pass r.outputs r.is_aside)) }
-    ensures inputs { map H.inputs half.new.hosts.now ≡ map H.inputs half.old.hosts.now }
-    ensures later { sum_by H.faults half.old.hosts.now ≤ sum_by H.faults half.new.hosts.now }
+        H.faults H.begun p half.old.hosts.now half.new.hosts.now r)) }
+    ensures stay { HostsStay H.faults H.inputs half.old.hosts.now half.new.hosts.now }
     ensures same_reference { half.new.hosts.ghost_name ≡ half.old.hosts.ghost_name }
 {
     let Some(pass) = taken(half) else {
         unreachable!();
     };
     run_crew(rt, alloc, work, wave, limit, board, pass, depth, half.hosts)
+}
+
+/// Runs the workers of two halves beside each other.
+#[cycle(halves)]
+fn run_both<R: Threads + Sync, W: Work + Sync, H: Host + Send>(
+    rt: &R,
+    alloc: Global,
+    work: &W,
+    wave: u32,
+    limit: u32,
+    board: &Board,
+    depth: u32,
+    left: &mut Half<'_, H>,
+    right: &mut Half<'_, H>,
+) -> (
+    Result<Worker<W::Out>, AllocError>,
+    Result<Worker<W::Out>, AllocError>,
+)
+    requires fits { FitsCrew (W.count work.now) (W.wave work.now) board.now wave limit }
+    requires left_ready { Holds left.old.pass (IsReady board.now depth) }
+    requires right_ready { Holds right.old.pass (IsReady board.now depth) }
+    requires left_hosts { AreHosts (λ h. W.suits work.now (H.inputs h)) depth left.old.hosts.now }
+    requires right_hosts { AreHosts (λ h. W.suits work.now (H.inputs h)) depth right.old.hosts.now }
+    ensures left_ended { IfOk result.0 (λ r. Holds left.old.pass (λ p. EndsAs
+        (W.right work.now) limit (tasks_of board.now) wave board.now depth
+        H.faults H.begun p left.old.hosts.now left.new.hosts.now r)) }
+    ensures right_ended { IfOk result.1 (λ r. Holds right.old.pass (λ p. EndsAs
+        (W.right work.now) limit (tasks_of board.now) wave board.now depth
+        H.faults H.begun p right.old.hosts.now right.new.hosts.now r)) }
+    ensures left_stay { HostsStay H.faults H.inputs left.old.hosts.now left.new.hosts.now }
+    ensures right_stay { HostsStay H.faults H.inputs right.old.hosts.now right.new.hosts.now }
+    ensures same_left { left.new.hosts.ghost_name ≡ left.old.hosts.ghost_name }
+    ensures same_right { right.new.hosts.ghost_name ≡ right.old.hosts.ghost_name }
+{
+    join_mut(
+        rt,
+        &mut || -> Result<Worker<W::Out>, AllocError>
+            requires sync { IsSync R.row × IsSync W.row × IsSend H.row × IsSend W.Out.row }
+            requires fits { FitsCrew (W.count work.now) (W.wave work.now) board.now wave limit }
+            requires ready { Holds left.now.pass (IsReady board.now depth) }
+            requires hosts { AreHosts (λ h. W.suits work.now (H.inputs h)) depth left.now.hosts.now }
+            ensures ended { IfOk result (λ r. Holds left.entry.now.pass (λ p. EndsAs
+                (W.right work.entry.now) limit (tasks_of board.entry.now) wave board.entry.now depth
+                H.faults H.begun p left.entry.now.hosts.now left.exit.now.hosts.now r)) }
+            ensures stay { HostsStay H.faults H.inputs
+                left.entry.now.hosts.now left.exit.now.hosts.now }
+            ensures same_reference { left.exit.now.hosts.ghost_name
+                ≡ left.entry.now.hosts.ghost_name }
+        { run_half(rt, alloc, work, wave, limit, board, depth, left) },
+        &mut || -> Result<Worker<W::Out>, AllocError>
+            requires sync { IsSync R.row × IsSync W.row × IsSend H.row × IsSend W.Out.row }
+            requires fits { FitsCrew (W.count work.now) (W.wave work.now) board.now wave limit }
+            requires ready { Holds right.now.pass (IsReady board.now depth) }
+            requires hosts { AreHosts (λ h. W.suits work.now (H.inputs h)) depth right.now.hosts.now }
+            ensures ended { IfOk result (λ r. Holds right.entry.now.pass (λ p. EndsAs
+                (W.right work.entry.now) limit (tasks_of board.entry.now) wave board.entry.now depth
+                H.faults H.begun p right.entry.now.hosts.now right.exit.now.hosts.now r)) }
+            ensures stay { HostsStay H.faults H.inputs
+                right.entry.now.hosts.now right.exit.now.hosts.now }
+            ensures same_reference { right.exit.now.hosts.ghost_name
+                ≡ right.entry.now.hosts.ghost_name }
+        { run_half(rt, alloc, work, wave, limit, board, depth, right) },
+    )
 }
 
 /// Runs a worker on each of the hosts. They are halved at most `depth` times, and the pass with them.
@@ -111,20 +166,13 @@ pub fn run_crew<R: Threads + Sync, W: Work + Sync, H: Host + Send>(
     depth: u32,
     hosts: &mut [H],
 ) -> Result<Worker<W::Out>, AllocError>
-    requires count { (tasks_of board.now ≡ W.count work.now)
-        × (tasks_of board.now ≤ 65536) × (limit ≤ 16) }
+    requires fits { FitsCrew (W.count work.now) (W.wave work.now) board.now wave limit }
     requires ready { IsReady board.now depth pass }
-    requires fit { (0 < length hosts.old) × (length hosts.old ≤ 2 ^ depth) }
-    requires wave { W.wave work.now ≡ wave }
-    requires suit { All (λ h. W.suits work.now (H.inputs h)) hosts.old }
-    ensures ended { IfOk result (λ r. IsEnded
+    requires hosts { AreHosts (λ h. W.suits work.now (H.inputs h)) depth hosts.old }
+    ensures ended { IfOk result (EndsAs
         (W.right work.now) limit (tasks_of board.now) wave board.now depth
-        pass
-        (crew_tells (map H.faults hosts.old) (map H.begun hosts.old))
-        (crew_tells (map H.faults hosts.new) (map H.begun hosts.new))
-        r.pass r.outputs r.is_aside) }
-    ensures inputs { map H.inputs hosts.new ≡ map H.inputs hosts.old }
-    ensures later { sum_by H.faults hosts.old ≤ sum_by H.faults hosts.new }
+        H.faults H.begun pass hosts.old hosts.new) }
+    ensures stay { HostsStay H.faults H.inputs hosts.old hosts.new }
 {
     if hosts.len() == 1 {
         return run_worker(alloc, work, wave, limit, board, pass, &mut hosts[0]);
@@ -141,54 +189,8 @@ pub fn run_crew<R: Threads + Sync, W: Work + Sync, H: Host + Send>(
         pass: Some(given),
         hosts: back,
     };
-    let (one, two) = join_mut(
-        rt,
-        &mut || -> Result<Worker<W::Out>, AllocError>
-            requires sync { IsSync R.row × IsSync W.row × IsSend H.row × IsSend W.Out.row }
-            requires count { (tasks_of board.now ≡ W.count work.now)
-                × (tasks_of board.now ≤ 65536) × (limit ≤ 16) }
-            requires ready { Holds left.pass (IsReady board.now below) }
-            requires fit { (0 < length left.hosts.now) × (length left.hosts.now ≤ 2 ^ below) }
-            requires wave { W.wave work.now ≡ wave }
-            requires suit { All (λ h. W.suits work.now (H.inputs h)) left.hosts.now }
-            ensures ended { IfOk result (λ r. Holds left.entry.pass (λ p. IsEnded
-                (W.right work.entry.now) limit (tasks_of board.entry.now) wave
-                board.entry.now below
-                p
-                (crew_tells (map H.faults left.entry.hosts.now)
-                (map H.begun left.entry.hosts.now))
-                (crew_tells (map H.faults left.exit.hosts.now)
-                (map H.begun left.exit.hosts.now))
-                r.pass r.outputs r.is_aside)) }
-            ensures inputs { map H.inputs left.exit.hosts.now
-                ≡ map H.inputs left.entry.hosts.now }
-            ensures later { sum_by H.faults left.entry.hosts.now
-                ≤ sum_by H.faults left.exit.hosts.now }
-            ensures same_reference { left.exit.hosts.ghost_name ≡ left.entry.hosts.ghost_name }
-        { run_half(rt, alloc, work, wave, limit, board, below, &mut left) },
-        &mut || -> Result<Worker<W::Out>, AllocError>
-            requires sync { IsSync R.row × IsSync W.row × IsSend H.row × IsSend W.Out.row }
-            requires count { (tasks_of board.now ≡ W.count work.now)
-                × (tasks_of board.now ≤ 65536) × (limit ≤ 16) }
-            requires ready { Holds right.pass (IsReady board.now below) }
-            requires fit { (0 < length right.hosts.now) × (length right.hosts.now ≤ 2 ^ below) }
-            requires wave { W.wave work.now ≡ wave }
-            requires suit { All (λ h. W.suits work.now (H.inputs h)) right.hosts.now }
-            ensures ended { IfOk result (λ r. Holds right.entry.pass (λ p. IsEnded
-                (W.right work.entry.now) limit (tasks_of board.entry.now) wave
-                board.entry.now below
-                p
-                (crew_tells (map H.faults right.entry.hosts.now)
-                (map H.begun right.entry.hosts.now))
-                (crew_tells (map H.faults right.exit.hosts.now)
-                (map H.begun right.exit.hosts.now))
-                r.pass r.outputs r.is_aside)) }
-            ensures inputs { map H.inputs right.exit.hosts.now
-                ≡ map H.inputs right.entry.hosts.now }
-            ensures later { sum_by H.faults right.entry.hosts.now
-                ≤ sum_by H.faults right.exit.hosts.now }
-            ensures same_reference { right.exit.hosts.ghost_name ≡ right.entry.hosts.ghost_name }
-        { run_half(rt, alloc, work, wave, limit, board, below, &mut right) },
+    let (one, two) = run_both(
+        rt, alloc, work, wave, limit, board, below, &mut left, &mut right,
     );
     // What is left of both halves is taken apart, so that the hosts are given back before anything is dropped.
     let Half {

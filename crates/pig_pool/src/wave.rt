@@ -1,13 +1,13 @@
 //! A wave: all its tasks on all its hosts.
 
-ghost use Rattle.std.specs.Prelude.{⊤, ◌≡◌, ◌<◌, ◌≤◌, ◌+◌, ℕ, [], true, false, ◌^◌, length, map, sum_by, IfOk, IfErr, MatchBool, MatchOption, MatchResult, All, vec_len, vec_capacity};
+ghost use Rattle.std.specs.Prelude.{⊤, ◌≡◌, ◌<◌, ◌≤◌, ◌+◌, ℕ, [], true, false, length, map, sum_by, IfOk, IfErr, MatchBool, MatchOption, MatchResult, All, vec_len, vec_capacity};
 ghost use Rattle.pig_board.specs.View.{IsAlone, all_fails, fails_of, fresh, kept_half, other_half, both};
 ghost use Rattle.pig_job.specs.Job.{aside_limit};
 ghost use Rattle.pig_board.specs.Pass.{tasks_of, view_of, is_firm, OnBoard};
 ghost use Rattle.pig_board.specs.End.{end_of};
 ghost use Rattle.pig_pool.specs.Begins.{crew_tells};
 ghost use Rattle.pig_pool.specs.Workers.{HasWon, IsDone, IsBelow, KnowsAll, Looks, saw_limit, again_room};
-ghost use Rattle.pig_pool.specs.Crew.{CrewWorks};
+ghost use Rattle.pig_pool.specs.Crew.{AreHosts, CrewWorks, FitsCrew, HostsStay};
 ghost use Rattle.pig_pool.specs.Wave.{AreOutputs, IsWonWave, AllWon, HasUnwon, IsLeast, HasFailed, IsRounds, AreBegun, FaultBegun, EndsAt, FaultEndsAt, failures_in, failures_of};
 ghost use Rattle.pig_pool.specs.declared.wave.WaveFault.TheVariants.{OutOfMemory};
 
@@ -216,19 +216,15 @@ fn run_again<R: Threads + Sync, W: Work + Sync, H: Host + Send>(
     requires streak { aside_limit ≤ (view_of worker.pass).streak }
     requires room { again_room ≤ (view_of worker.pass).room }
     requires won { HasWon (W.right work.now) (view_of worker.pass) worker.outputs }
-    requires count { (tasks_of board.now ≡ W.count work.now)
-        × (tasks_of board.now ≤ 65536) × (limit ≤ 16) }
-    requires fit { (0 < length hosts.old) × (length hosts.old ≤ 2 ^ 8) }
-    requires wave { W.wave work.now ≡ wave }
-    requires suit { All (λ h. W.suits work.now (H.inputs h)) hosts.old }
+    requires fits { FitsCrew (W.count work.now) (W.wave work.now) board.now wave limit }
+    requires hosts { AreHosts (λ h. W.suits work.now (H.inputs h)) 8 hosts.old }
     ensures board { IfOk result (λ r. OnBoard board.now r.pass) }
     ensures works { IfOk result (λ r. CrewWorks wave (view_of worker.pass) (view_of r.pass)
         (crew_tells (map H.faults hosts.old) (map H.begun hosts.old))
         (crew_tells (map H.faults hosts.new) (map H.begun hosts.new))) }
     ensures won { IfOk result (λ r. HasWon (W.right work.now) (view_of r.pass) r.outputs) }
     ensures done { IfOk result (λ r. IsDone limit (tasks_of board.now) (view_of r.pass)) }
-    ensures inputs { map H.inputs hosts.new ≡ map H.inputs hosts.old }
-    ensures later { sum_by H.faults hosts.old ≤ sum_by H.faults hosts.new }
+    ensures stay { HostsStay H.faults H.inputs hosts.old hosts.new }
 {
     let mut worker = worker;
     worker.pass.firm();
@@ -251,11 +247,8 @@ fn run_rounds<R: Threads + Sync, W: Work + Sync, H: Host + Send>(
     requires board { OnBoard board.now pass }
     requires fresh { view_of pass ≡ fresh }
     requires firm { is_firm pass ≡ false }
-    requires count { (tasks_of board.now ≡ W.count work.now)
-        × (tasks_of board.now ≤ 65536) × (limit ≤ 16) }
-    requires fit { (0 < length hosts.old) × (length hosts.old ≤ 2 ^ 8) }
-    requires wave { W.wave work.now ≡ wave }
-    requires suit { All (λ h. W.suits work.now (H.inputs h)) hosts.old }
+    requires fits { FitsCrew (W.count work.now) (W.wave work.now) board.now wave limit }
+    requires hosts { AreHosts (λ h. W.suits work.now (H.inputs h)) 8 hosts.old }
     ensures board { IfOk result (λ r. OnBoard board.now r.pass) }
     ensures works { IfOk result (λ r. CrewWorks wave (view_of pass) (view_of r.pass)
         (crew_tells (map H.faults hosts.old) (map H.begun hosts.old))
@@ -264,8 +257,7 @@ fn run_rounds<R: Threads + Sync, W: Work + Sync, H: Host + Send>(
     ensures done { IfOk result (λ r. IsDone limit (tasks_of board.now) (view_of r.pass)) }
     ensures rounds { IfOk result (λ r. IsRounds r.count
         (map H.faults hosts.old) (map H.faults hosts.new)) }
-    ensures inputs { map H.inputs hosts.new ≡ map H.inputs hosts.old }
-    ensures later { sum_by H.faults hosts.old ≤ sum_by H.faults hosts.new }
+    ensures stay { HostsStay H.faults H.inputs hosts.old hosts.new }
 {
     let mut worker = run_crew(rt, alloc, work, wave, limit, board, pass, DEPTH, hosts)?;
     let tasks = work.tasks();

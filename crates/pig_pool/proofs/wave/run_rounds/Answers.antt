@@ -5,7 +5,7 @@ use Rattle.pig_pool.specs.Workers.{IsBelow}
 use Rattle.pig_pool.specs.Crew.{Rose}
 use Rattle.pig_pool.proofs.Steps.{calm-looks, calm-wins, won-calm}
 use Rattle.pig_pool.proofs.Crews.{crew-then, rise-then}
-use Rattle.pig_pool.proofs.Waves.{done-round, room-again, suit-again}
+use Rattle.pig_pool.proofs.Waves.{done-round, room-again, hosts-again}
 use Rattle.pig_pool.proofs.wave.run_rounds.Goals as goal
 
 pub returns-then-not-worker-clause-won : goal.returns-then-not-worker-clause-won
@@ -24,7 +24,7 @@ returns-then-not-worker-clause-done g c =
 pub run_again-requires-clause-room : goal.run_again-requires-clause-room
 run_again-requires-clause-room g c κs within =
     let below : IsBelow c.args.limit (tasks_of c.args.board.now) (view_of c.is_done-over.new.pass) = search rules in
-    room-again c.args.limit c.args.board.now (view_of c.args.pass) c.in_ok-worker.worker.pass c.is_done-over.new.pass c.requires.count.1 c.requires.count.2 c.requires.fresh c.in_ok-worker.ensures.ended.room c.is_done-over.ensures.board c.is_done-over.ensures.looks below
+    room-again c.args.limit c.args.board.now (view_of c.args.pass) c.in_ok-worker.worker.pass c.is_done-over.new.pass c.requires.fits.few c.requires.fits.limited c.requires.fresh c.in_ok-worker.ensures.ended.room c.is_done-over.ensures.board c.is_done-over.ensures.looks below
 
 pub run_again-requires-clause-won : goal.run_again-requires-clause-won
 run_again-requires-clause-won g c κs within =
@@ -32,8 +32,8 @@ run_again-requires-clause-won g c κs within =
     let w = view_of c.is_done-over.new.pass in
     won-calm (g.W.Work.right c.args.work.now) v w c.in_ok-worker.worker.outputs (calm-wins v w (calm-looks v w c.is_done-over.ensures.looks)) c.in_ok-worker.ensures.ended.won
 
-pub run_again-requires-clause-suit : goal.run_again-requires-clause-suit
-run_again-requires-clause-suit g c κs within = suit-again g.H.Host.inputs (g.W.Work.suits c.args.work.now) c.args.hosts.now c.run_crew.new.hosts c.run_crew.ensures.inputs c.requires.suit
+pub run_again-requires-clause-hosts : goal.run_again-requires-clause-hosts
+run_again-requires-clause-hosts g c κs within = hosts-again g.H.Host.inputs (g.W.Work.suits c.args.work.now) 8 c.args.hosts.now c.run_crew.new.hosts c.run_crew.ensures.stay.same c.requires.hosts
 
 pub returns-clause-works : goal.returns-clause-works
 returns-clause-works g c =
