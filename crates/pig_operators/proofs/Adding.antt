@@ -17,7 +17,7 @@ use Rattle.pig_operators.proofs.Between.{between_more}
 some_same : {X : Type 0} {x y : X} → Some x ≡ Some y → x ≡ y
 some_same h = cc
 
-rows_next : (es : List Entry) (from at : ℕ) (row : List Tree) → from ≤ at → at < length es → option_map (λ e. e.row) (slice_get es at) ≡ Some row
+pub rows_next : (es : List Entry) (from at : ℕ) (row : List Tree) → from ≤ at → at < length es → option_map (λ e. e.row) (slice_get es at) ≡ Some row
     → map (λ e. e.row) (between from (at + 1) es) ≡ map (λ e. e.row) (between from at es) ++ row ∷ []
 rows_next es from at row low high here =
     let found = some_at es at high in

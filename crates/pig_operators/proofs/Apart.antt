@@ -101,7 +101,7 @@ module _ {X : Type 0} (f : X → List Tree) (xs : List X) (inner : List Bool) (k
   abbrev bag : List (List Tree)
   bag = map f (between from end xs)
 
-  lone_is : lone_rows inner k i bag ≡ kept_where own (bags_of (length inner) k (rows_alone i bag))
+  pub lone_is : lone_rows inner k i bag ≡ kept_where own (bags_of (length inner) k (rows_alone i bag))
   lone_is = ap (λ b. kept_where b (bags_of (length inner) k (rows_alone i bag))) ((λ m. not (none_between f from end xs order within m) && no_other inner 0 i) ∙ sym told)
 
   pub lone_added : own ≡ true → (old new : List (List Value)) (row : List Value) → row_tree row ≡ bags_of (length inner) k (rows_alone i bag) → new ≡ old ++ row ∷ [] → rows_tree new ≡ rows_tree old ++ lone_rows inner k i bag

@@ -1,12 +1,12 @@
-mod Between
+pub mod Between
 mod Sorted
-mod Inputs
-mod Stretches
-mod Coming
-mod Products
-mod Apart
-mod Sides
-mod Adding
+pub mod Inputs
+pub mod Stretches
+pub mod Coming
+pub mod Products
+pub mod Apart
+pub mod Sides
+pub mod Adding
 mod Singles
 pub mod SortEntries
 pub mod Keying

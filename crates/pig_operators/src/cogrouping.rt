@@ -65,8 +65,8 @@ fn together(
     Ok(Some(row))
 }
 
-// Whether an INNER input has no row.
-fn is_missing(inner: bool, from: usize, end: usize) -> bool
+/// Whether an INNER input has no row, whose rows would stand from a place up to another.
+pub fn is_missing(inner: bool, from: usize, end: usize) -> bool
     ensures { result ≡ (inner && (from == end)) }
 {
     inner && from == end
@@ -120,8 +120,8 @@ fn add_lone(
     Ok(())
 }
 
-// Whether an input has rows, and no other one is INNER.
-fn has_own_row(inner: &[bool], input: usize, from: usize, end: usize) -> bool
+/// Whether an input has rows, from a place up to another, and no other one is INNER.
+pub fn has_own_row(inner: &[bool], input: usize, from: usize, end: usize) -> bool
     ensures { result ≡ (not (from == end) && no_other inner.now 0 input) }
 {
     from != end && stands_alone(inner, input)

@@ -15,5 +15,8 @@ mod whole;
 pub use batches::{Gatherer, Orderer};
 pub use by_key::{Gathering, gather};
 pub use choosing::{gathering_of_group, gathering_of_join};
+pub use cogrouping::{has_own_row, is_missing};
 pub use keyed::{add_all_rows, add_row, add_rows};
+pub use nulls::has_null;
+pub use outer::{left_stays, right_stays};
 pub use whole::{distinct_keys, limited, ordered};

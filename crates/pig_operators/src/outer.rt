@@ -55,7 +55,8 @@ fn have_partners(key: &Value, from: usize, middle: usize, last: usize) -> bool
     !has_null(key) && from != middle && middle != last
 }
 
-fn left_stays(side: Side) -> bool
+/// Whether rows of the left side stand without a partner.
+pub fn left_stays(side: Side) -> bool
     ensures { result ≡ keeps_left side }
 {
     match side {
@@ -64,7 +65,8 @@ fn left_stays(side: Side) -> bool
     }
 }
 
-fn right_stays(side: Side) -> bool
+/// Whether rows of the right side stand without a partner.
+pub fn right_stays(side: Side) -> bool
     ensures { result ≡ keeps_right side }
 {
     match side {

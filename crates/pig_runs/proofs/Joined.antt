@@ -22,7 +22,7 @@ use Rattle.pig_runs.proofs.Lending.{stand_sorted}
 use Rattle.pig_runs.proofs.Merging.{all-append}
 use Rattle.pig_runs.proofs.Order.{entry_order}
 
-codes_ascend : (ds : List Dir) (es : List Entry) → AreKeyed ds es → Ascends (run_cmp ds) es → Ascends packed_cmp (map (packed ds) es)
+pub codes_ascend : (ds : List Dir) (es : List Entry) → AreKeyed ds es → Ascends (run_cmp ds) es → Ascends packed_cmp (map (packed ds) es)
 codes_ascend ds [] h up = tt
 codes_ascend ds (e ∷ []) h up = (tt, tt)
 codes_ascend ds (e ∷ f ∷ es) h up = (ap is_gt (entry_order ds e f h.0 h.1.0) ∙ up.0, codes_ascend ds (f ∷ es) h.1 up.1)

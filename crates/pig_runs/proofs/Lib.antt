@@ -3,13 +3,16 @@ mod Adding
 mod Reading
 mod SortedSlots
 mod FrontOrder
+mod ByFronts
 mod FrontedSlots
 mod Joined
 mod KWay
 pub mod Merging
-mod Lending
+pub mod Lending
 mod Halving
 mod Sliced
 pub mod Parted
 mod InTurn
 mod PartJoined
+mod Placing
+mod Stretched

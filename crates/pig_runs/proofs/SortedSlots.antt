@@ -4,7 +4,6 @@ use Rattle.std.specs.Prelude.{IsPermutation}
 use Rattle.std.specs.List.{AllByRecursion}
 use Rattle.std.specs.Coded.{Coded-set, coded_list}
 use Rattle.std.proofs.Math.Logic.{∥∥₁_map, ∥∥₁_elim}
-use Rattle.pig_value.proofs.list_laws.Permutations.{Shuffled, same, under, swapped, after, shuffled_from_permutation}
 use Rattle.pig_value.specs.Gathering.{Entry}
 use Rattle.pig_value.specs.Sorts.{sort, Ascends}
 use Rattle.pig_value.specs.declared.operators.Dir.{Dir}
@@ -12,6 +11,7 @@ use Rattle.pig_value.proofs.list_laws.Bags.{each-sort, sort_ascends}
 use Rattle.pig_runs.specs.declared.slots.Slot.{Slot}
 use Rattle.pig_runs.specs.Entries.{IsEntry, InDirections, run_cmp, run_of}
 use Rattle.pig_runs.specs.Packed.{packed, packed_cmp, found_at, IsPlaced, Held, held_prop, coded_packed}
+use Rattle.pig_runs.proofs.ByFronts.{each_along}
 use Rattle.pig_runs.proofs.Order.{run_total, sorted_codes}
 
 module _ (ds : List Dir) (bytes laid : List ℕ) (slots done : List Slot) (held : Held ds (map (found_at bytes) slots))
@@ -32,15 +32,8 @@ module _ (ds : List Dir) (bytes laid : List ℕ) (slots done : List Slot) (held 
       let is : given.0 ≡ sort (run_cmp ds) held.0 = ap (λ h. h.0) (held_prop ds (map (found_at laid) done) given held_sorted) in
       ap (λ l. record { dirs = ds; entries = l }) is ∙ sym (ap (λ c. run_of c.dirs c.entries) was)
 
--- what holds of each element holds of each in another order
-along : {X : Type 0} (P : X → Type 0) {xs ys : List X} → Shuffled xs ys → AllByRecursion P xs → AllByRecursion P ys
-along P (same xs) h = h
-along P (under x s) h = (h.0, along P s h.1)
-along P (swapped x y zs) h = (h.1.0, (h.0, h.1.1))
-along P (after s t) h = along P t (along P s h)
-
 pub placed_sorted : (bytes : List ℕ) (slots done : List Slot) → IsPermutation slots done → AllByRecursion (IsPlaced bytes) slots → AllByRecursion (IsPlaced bytes) done
-placed_sorted bytes slots done moved h = along (IsPlaced bytes) (shuffled_from_permutation slots done moved) h
+placed_sorted bytes slots done moved h = each_along (IsPlaced bytes) slots done moved h
 
 pub ascends_run : (run : InDirections) (ds : List Dir) (es : List Entry) → run ≡ run_of ds es → Ascends (run_cmp run.dirs) run.entries
 ascends_run run ds es is = subst (λ r. Ascends (run_cmp r.dirs) r.entries) (sym is) (sort_ascends (run_cmp ds) (run_total ds) es)

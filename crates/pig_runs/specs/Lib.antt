@@ -5,3 +5,4 @@ pub mod Parts
 pub mod Cutting
 pub mod InTurn
 pub mod RunParts
+pub mod Places

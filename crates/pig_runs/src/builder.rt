@@ -1,6 +1,7 @@
 ghost use Rattle.std.specs.List.{AllByRecursion};
 ghost use Rattle.std.specs.Prelude.{◌≡◌, ◌<◌, ◌≤◌, List, [], ◌∷◌, ◌++◌, length, map, take, drop, option_map, slice_get, Some, OnOk, OnErr, IfOk};
 ghost use Rattle.pig_runs.specs.Entries.{run_of};
+ghost use Rattle.pig_runs.specs.Places.{IsStretch, found_in};
 ghost use Rattle.pig_runs.specs.Packed.{found_at, packed, packed_lent, Held, held_prop, IsPlaced, Joins, Stand};
 
 use crate::laying::sort_laid;
@@ -10,7 +11,8 @@ use crate::packing::{
 };
 use crate::run::Run;
 use crate::slots::Slot;
-use pig_value::{Dirs, Tuple, Value};
+use crate::stretches::{Stretch, slots_between};
+use pig_value::{Dirs, Tuple, Value, known_bytes};
 use std::alloc::{AllocError, Global};
 use std::marker::Model;
 
@@ -199,6 +201,20 @@ impl RunBuilder {
         ensures good { ∥ AreKeyed self.now.dirs self.now.entries ∥₁ }
     {
         lend_slots(self.bytes.as_slice(), self.slots.as_slice(), all)
+    }
+
+    // The entries from a place on, up to another, where there are any: their slots, of which none is copied.
+    pub(crate) fn stretch(&self, from: usize, end: usize) -> Stretch<'_>
+        requires { ∥ Ascends (run_cmp self.now.dirs) self.now.entries ∥₁ }
+        ensures sound { IsStretch result }
+        ensures found { found_in result ≡ map (packed self.now.dirs)
+            (drop from (take end self.now.entries)) }
+        ensures good { ∥ AreKeyed self.now.dirs self.now.entries ∥₁ }
+    {
+        Stretch {
+            bytes: known_bytes(self.bytes.as_slice()),
+            slots: slots_between(self.slots.as_slice(), from, end),
+        }
     }
 
     // Adds an entry that is lent. Where memory is wanting, the entries stay as they were.

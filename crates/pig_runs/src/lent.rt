@@ -5,12 +5,12 @@ ghost use Rattle.pig_runs.specs.Packed.{packed_cmp, packed_lent};
 
 use std::cmp::Ordering;
 
-// The bytes of an entry: the code of its key, the number of its input, and the code of its row.
+/// The bytes of an entry: the code of its key, the number of its input, and the code of its row.
 #[derive(Debug, Clone, Copy, Drop)]
-pub(crate) struct Lent<'r> {
-    pub(crate) key: &'r [u8],
-    pub(crate) input: u32,
-    pub(crate) row: &'r [u8],
+pub struct Lent<'r> {
+    pub key: &'r [u8],
+    pub input: u32,
+    pub row: &'r [u8],
 }
 
 // How two entries stand.

@@ -56,26 +56,33 @@ fn row_of<'r>(bytes: &'r [u8], slot: &Slot) -> &'r [u8]
     part(behind, slot.key_len as usize, slot.row_len as usize)
 }
 
-// How two entries stand, by their keys, their inputs and their rows, of which the fronts are compared first.
+// How two entries in the same bytes stand.
 pub(crate) fn compare(bytes: &[u8], a: &Slot, b: &Slot) -> Ordering
     ensures { result ≡ fronted_entry_cmp (fronted_at bytes.now a.now) (fronted_at bytes.now b.now) }
 {
+    compare_apart(bytes, a, bytes, b)
+}
+
+// How two entries stand, by their keys, their inputs and their rows, of which the fronts are compared first.
+pub(crate) fn compare_apart(bytes: &[u8], a: &Slot, with: &[u8], b: &Slot) -> Ordering
+    ensures { result ≡ fronted_entry_cmp (fronted_at bytes.now a.now) (fronted_at with.now b.now) }
+{
     let key = key_of(bytes, a);
-    let other = key_of(bytes, b);
+    let other = key_of(with, b);
     match compare_fronted(a.key_front, key, b.key_front, other) {
-        Ordering::Equal => compare_rows(bytes, a, b),
+        Ordering::Equal => compare_rows(bytes, a, with, b),
         found => found,
     }
 }
 
-fn compare_rows(bytes: &[u8], a: &Slot, b: &Slot) -> Ordering
+fn compare_rows(bytes: &[u8], a: &Slot, with: &[u8], b: &Slot) -> Ordering
     ensures { result ≡ ordering_then (nat_cmp a.now.input b.now.input) (fronted_cmp
-        (fronted_at bytes.now a.now).row (fronted_at bytes.now b.now).row) }
+        (fronted_at bytes.now a.now).row (fronted_at with.now b.now).row) }
 {
     match a.input.cmp(&b.input) {
         Ordering::Equal => {
             let row = row_of(bytes, a);
-            let other = row_of(bytes, b);
+            let other = row_of(with, b);
             compare_fronted(a.row_front, row, b.row_front, other)
         }
         found => found,
@@ -83,7 +90,7 @@ fn compare_rows(bytes: &[u8], a: &Slot, b: &Slot) -> Ordering
 }
 
 // A length as slots keep it. For a longer code there is no memory.
-fn narrow(len: usize) -> Result<u32, AllocError>
+pub(crate) fn narrow(len: usize) -> Result<u32, AllocError>
     ensures same { IfOk result (λ narrow. narrow ≡ len) }
     ensures long { OnErr result (2 ^ 32 ≤ len) }
 {

@@ -5,7 +5,8 @@ use Rattle.std.proofs.lemmas.Fn.{always_returns_same}
 use Rattle.std.proofs.lemmas.List.Sorted.{ranks_by}
 use Rattle.pig_value.proofs.LeafLaws.{bytes_at}
 use Rattle.pig_runs.specs.Packed.{fronted_at, fronted_entry_cmp}
-use Rattle.pig_runs.proofs.FrontedSlots.{fronted_entry_total, slots_sorted}
+use Rattle.pig_runs.proofs.ByFronts.{fronted_entry_total}
+use Rattle.pig_runs.proofs.FrontedSlots.{slots_sorted}
 use Rattle.pig_runs.proofs.packing.sort_slots.Goals as goal
 
 pub returns-clause-order : goal.returns-clause-order

@@ -1,0 +1,5 @@
+mod Validity
+mod FieldCodes
+mod LentRows
+mod GroupRows
+mod Joins

@@ -1,0 +1,13 @@
+-- The entries of the inputs so far, and those that remain.
+use Rattle.std.proofs.Common.{◌≡◌, map}
+use Rattle.std.specs.List.{AllByRecursion, range_with_len}
+use Rattle.pig_operators.specs.Groups.{bags_at}
+use Rattle.pig_operators.proofs.Inputs.{Remains}
+use Rattle.pig_gather.specs.Spans.{IsSpan, rows_in}
+use Rattle.pig_gather.proofs.groups.spans.Given as goal
+
+abbrev pub invariant-loop-input : goal.invariant-loop-input
+invariant-loop-input l =
+    Remains l.entries.entries l.from l.at l.end l.input
+    × AllByRecursion (IsSpan l.entries) l.spans.items
+    × (map (rows_in l.entries) l.spans.items ≡ map (bags_at l.entries l.from l.end) (range_with_len 0 l.input))
