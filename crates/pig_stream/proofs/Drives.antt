@@ -1,5 +1,5 @@
 -- Batches that a source gives, in turn.
-use Rattle.std.specs.Prelude.{◌≡◌, ◌+◌, ◌++◌, ℕ, List, [], refl}
+use Rattle.std.specs.Prelude.{◌≡◌, ◌+◌, ◌++◌, ℕ, List, [], refl, length}
 use Rattle.std.proofs.Common.{ap, sym, subst, ◌∙◌, arith, append-nil, append_assoc}
 use Rattle.std.proofs.lemmas.List.{length-append}
 use Rattle.pig_value.specs.Trees.{Tree}
@@ -9,7 +9,7 @@ use Rattle.pig_plan.specs.Laws.{PlanLiteralsAre}
 use Rattle.pig_plan.specs.Plans.{plan_of}
 use Rattle.pig_plan.specs.Steps.{through}
 use Rattle.pig_stream.specs.declared.steps.Steps.{Steps}
-use Rattle.pig_stream.specs.Driving.{HasTaken}
+use Rattle.pig_stream.specs.Driving.{HasTaken, IsAll}
 use Rattle.pig_stream.specs.Stepping.{AreSameSteps, HaveNoted, folding_on, marked_folding, path_on, plan_on, put_through}
 
 abbrev Rows : Type 0
@@ -46,6 +46,30 @@ taken_more a b c s t u first next both m n join h k = record {
   noted = λ seen is. subst (HaveNoted u) (append_assoc seen h.rows k.rows) (k.noted (seen ++ h.rows) (h.noted seen is));
   same = record { nodes = k.same.nodes ∙ h.same.nodes; path = k.same.path ∙ h.same.path; folded = k.same.folded ∙ h.same.folded };
 }
+
+-- bytes that are handed in between
+pub handed_between : (before behind next : Coming) (s t : Steps) (after : Rows → Type 0) (count : ℕ) (block : List ℕ) → HasTaken before behind s t after count
+    → ((later : List ℕ) → next later ≡ behind (block ++ later)) → HasTaken (λ later. before (block ++ later)) next s t after count
+handed_between before behind next s t after count block h is = record {
+  rows = h.rows;
+  came = λ later. h.came (block ++ later) ∙ ap (λ l. h.rows ++ l) (sym (is later));
+  counted = h.counted;
+  taken = h.taken;
+  noted = h.noted;
+  same = h.same;
+}
+
+-- no more rows come
+pub all_taken : (before behind : Coming) (s t : Steps) (after : Rows → Type 0) (count : ℕ) → HasTaken before behind s t after count → HaveNoted s []
+    → ((later : List ℕ) → behind later ≡ []) → (later : List ℕ) → IsAll (before later) s t after count
+all_taken before behind s t after count h none dry later =
+    let all : h.rows ≡ before later = sym (h.came later ∙ ap (λ l. h.rows ++ l) (dry later) ∙ append-nil h.rows) in
+    record {
+      counted = h.counted ∙ ap length all;
+      taken = subst (λ rows. after (put_through s rows)) all h.taken;
+      noted = subst (HaveNoted t) all (h.noted [] none);
+      same = h.same;
+    }
 
 -- the same of a count that is equal
 pub taken_all : (a b : Coming) (s t : Steps) (after : Rows → Type 0) (n m : ℕ) → n ≡ m → HasTaken a b s t after m → HasTaken a b s t after n

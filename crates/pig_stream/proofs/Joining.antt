@@ -1,8 +1,8 @@
 -- Rows that come in batches: what they don't meet, joined.
 use Rattle.std.specs.Prelude.{◌≡◌, ℕ, suc, codes, Bool, true, false, ◌||◌, ◌&&◌, not, List, [], ◌∷◌, ◌++◌, length, get_or, replicate, Option, Some, None, slice_get, refl}
-use Rattle.std.proofs.Common.{ap, sym, ◌∙◌, cond, rules}
+use Rattle.std.proofs.Common.{ap, sym, ◌∙◌, cond, rules, true≢false}
 use Rattle.std.specs.Int.{w64}
-use Rattle.std.specs.List.{AllByRecursion, list_all}
+use Rattle.std.specs.List.{AllByRecursion, list_all, list_any}
 use Rattle.std.specs.Str.{IsUtf8}
 use Rattle.std.proofs.lemmas.Int.{SFits-int_wrap}
 use Rattle.std.proofs.lemmas.Str.{IsUtf8-from_ascii}
@@ -23,7 +23,7 @@ use Rattle.pig_plan.specs.Nodes.{op_at}
 use Rattle.pig_plan.specs.Plans.{Plan, PlanNode, PlanOp, p_load, p_filter, p_foreach, p_group_all, p_group, p_join, p_union, p_distinct, p_order, p_limit, p_store, p_assert, p_rank}
 use Rattle.pig_plan.specs.Steps.{Folding, node_step, step_rows, through}
 use Rattle.pig_stream.specs.Stepping.{AreMarks, any_block, marked_folding}
-use Rattle.pig_stream.specs.Unmet.{either_of, fails, fails_at, fails_on, marked, not_met, not_met_at, statement_of, unmet_on}
+use Rattle.pig_stream.specs.Unmet.{either_of, fails, fails_at, fails_on, marked, not_met, not_met_at, statement_of, unmet_on, is_assert, is_assert_at}
 
 abbrev Rows : Type 0
 Rows = List (List Tree)
@@ -64,6 +64,25 @@ fails_none (p_limit input count) = refl
 fails_none (p_store input path delim) = refl
 fails_none (p_rank input keys dense) = refl
 
+fails_alike : (o : PlanOp) (xs ys : Rows) → is_assert o ≡ false → fails o xs ≡ fails o ys
+fails_alike (p_assert input test message) xs ys none = absurd (true≢false none)
+fails_alike (p_load path delim columns) xs ys none = refl
+fails_alike (p_filter input test) xs ys none = refl
+fails_alike (p_foreach input block) xs ys none = refl
+fails_alike (p_group_all input) xs ys none = refl
+fails_alike (p_group inputs) xs ys none = refl
+fails_alike (p_join inputs side replicated) xs ys none = refl
+fails_alike (p_union inputs) xs ys none = refl
+fails_alike (p_distinct input) xs ys none = refl
+fails_alike (p_order input keys) xs ys none = refl
+fails_alike (p_limit input count) xs ys none = refl
+fails_alike (p_store input path delim) xs ys none = refl
+fails_alike (p_rank input keys dense) xs ys none = refl
+
+neither : (x y : Bool) → (x || y) ≡ false → (x ≡ false) × (y ≡ false)
+neither true y e = absurd (true≢false e)
+neither false y e = (refl, e)
+
 chosen : {X : Type 0} (b : Bool) (xs : List X) → cond b [] xs ≡ cond (not b) xs []
 chosen true xs = refl
 chosen false xs = refl
@@ -102,6 +121,14 @@ module _ (plan : Plan) (k : ℕ) where
       by_node None = refl
       by_node (Some node) = fails_none node.op
 
+  node_fails_alike : (xs ys : Rows) → is_assert_at plan k ≡ false → fails_at plan k xs ≡ fails_at plan k ys
+  node_fails_alike xs ys none = by_node (slice_get plan k) none
+    where
+      by_node : (found : Option PlanNode) → option_map_or is_assert (option_map (λ node. node.op) found) false ≡ false
+          → option_map_or (λ o. fails o xs) (option_map (λ node. node.op) found) false ≡ option_map_or (λ o. fails o ys) (option_map (λ node. node.op) found) false
+      by_node None e = refl
+      by_node (Some node) e = fails_alike node.op xs ys e
+
   node_met_is : (rows : Rows) → cond (fails_at plan k rows) (statement_of plan k) [] ≡ not_met_at plan k rows
   node_met_is rows = by_node (slice_get plan k)
     where
@@ -138,6 +165,13 @@ module _ (folding : Folding) (plan : Plan) where
   marked_is (k ∷ nodes) rows =
       ap (λ l. l ++ marked plan nodes (fails_on folding plan nodes (node_step folding plan k rows))) (node_met_is plan k rows)
       ∙ ap (λ l. not_met_at plan k rows ++ l) (marked_is nodes (node_step folding plan k rows))
+
+  -- where there is no ASSERT, it does not matter which rows there are
+  pub none_fail : (nodes : List ℕ) (xs ys : Rows) → list_any (is_assert_at plan) nodes ≡ false → fails_on folding plan nodes xs ≡ fails_on folding plan nodes ys
+  none_fail [] xs ys none = refl
+  none_fail (k ∷ nodes) xs ys none =
+      let parts = neither (is_assert_at plan k) (list_any (is_assert_at plan) nodes) none in
+      (λ i. node_fails_alike plan k xs ys parts.0 i ∷ none_fail nodes (node_step folding plan k xs) (node_step folding plan k ys) parts.1 i)
 
   -- rows of values stay so
   step_values : (k : ℕ) (rows : Rows) → PlanLiteralsAre IsValue plan → AreRows rows → AreRows (node_step folding plan k rows)

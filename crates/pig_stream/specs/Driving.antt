@@ -13,3 +13,10 @@ pub record HasTaken (before behind : List ℕ → List (List Tree)) (steps done 
   pub taken : after (put_through steps rows)
   pub noted : (seen : List (List Tree)) → HaveNoted steps seen → HaveNoted done (seen ++ rows)
   pub same : AreSameSteps steps done
+
+-- these rows are all that came
+pub record IsAll (rows : List (List Tree)) (steps done : Steps) (after : List (List Tree) → Type 0) (count : ℕ) : Type 0 where
+  pub counted : count ≡ length rows
+  pub taken : after (put_through steps rows)
+  pub noted : HaveNoted done rows
+  pub same : AreSameSteps steps done

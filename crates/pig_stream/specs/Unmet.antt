@@ -1,5 +1,5 @@
 -- The ASSERTs that rows don't meet on their way through the nodes of a plan.
-use Rattle.std.specs.Prelude.{ℕ, Bool, false, ◌||◌, not, List, [], ◌∷◌, ◌++◌, slice_get, if◌then◌else◌}
+use Rattle.std.specs.Prelude.{ℕ, Bool, true, false, ◌||◌, not, List, [], ◌∷◌, ◌++◌, slice_get, if◌then◌else◌}
 use Rattle.std.specs.List.{list_all}
 use Rattle.std.specs.Option.{option_map_or}
 use Rattle.pig_value.specs.Trees.{Tree}
@@ -34,6 +34,14 @@ fails_at plan k rows = option_map_or (λ o. fails o rows) (op_at plan k) false
 abbrev pub fails_on : Folding → Plan → List ℕ → List (List Tree) → List Bool
 fails_on folding plan [] rows = []
 fails_on folding plan (k ∷ nodes) rows = fails_at plan k rows ∷ fails_on folding plan nodes (node_step folding plan k rows)
+
+-- an ASSERT stands among the nodes of these numbers
+abbrev pub is_assert : PlanOp → Bool
+is_assert (p_assert input cond message) = true
+is_assert o = false
+
+abbrev pub is_assert_at : Plan → ℕ → Bool
+is_assert_at plan k = option_map_or is_assert (op_at plan k) false
 
 -- what is marked in either of two lists of marks
 abbrev pub either_of : List Bool → List Bool → List Bool

@@ -24,6 +24,8 @@ pub fn drive<S: Source, K: Sink>(
     requires { PlanLiteralsAre IsValue (plan_on steps.old) }
     ensures taken { IfOk result (λ count. HasTaken (S.coming source.old) (S.coming source.new)
         steps.old steps.new (λ rows. K.after sink.old rows sink.new) count) }
+    ensures kept { S.kept source.new ≡ S.kept source.old }
+    ensures literals { OnOk result (PlanLiteralsAre IsValue (plan_on steps.new)) }
     ensures dry { OnOk result (S.dry source.new) }
 {
     let mut count: u64 = 0;
@@ -39,7 +41,8 @@ pub fn drive<S: Source, K: Sink>(
     }
 }
 
-/// The same of one batch: none came only where no row comes before more bytes are handed in.
+/// The same of one batch: none came only where no row comes before more bytes are handed in. Once the sink has enough, and no
+/// ASSERT stands on the way, rows are counted alone.
 pub fn drive_batch<S: Source, K: Sink>(
     alloc: Global,
     source: &mut S,
@@ -50,10 +53,15 @@ pub fn drive_batch<S: Source, K: Sink>(
     requires { PlanLiteralsAre IsValue (plan_on steps.old) }
     ensures taken { IfOk result (λ count. HasTaken (S.coming source.old) (S.coming source.new)
         steps.old steps.new (λ rows. K.after sink.old rows sink.new) count) }
+    ensures kept { S.kept source.new ≡ S.kept source.old }
+    ensures literals { OnOk result (PlanLiteralsAre IsValue (plan_on steps.new)) }
     ensures dry { IfOk result (λ count. count ≡ 0 → S.dry source.new) }
 {
     source.fill(alloc, batch)?;
     let count = batch.as_slice().len();
+    if sink.has_enough() && !steps.has_asserts() {
+        return Ok(count);
+    }
     steps.apply(alloc, batch)?;
     sink.take(alloc, batch.as_slice())?;
     Ok(count)

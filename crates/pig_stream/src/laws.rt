@@ -1,9 +1,13 @@
-ghost use Rattle.std.specs.Prelude.{◌≡◌, ◌++◌, ℕ, Bool, List};
+ghost use Rattle.std.specs.Prelude.{◌≡◌, ◌+◌, ◌++◌, [], ℕ, Bool, List};
 ghost use Rattle.pig_value.specs.Trees.{Tree};
 ghost use Rattle.pig_plan.specs.Plans.{Plan};
 ghost use Rattle.pig_plan.specs.Steps.{Folding, through};
-ghost use Rattle.pig_stream.specs.Stepping.{AreMarks, marked_folding};
+ghost use Rattle.pig_stream.specs.declared.steps.Steps.{Steps};
+ghost use Rattle.pig_stream.specs.Driving.{HasTaken, IsAll};
+ghost use Rattle.pig_stream.specs.Stepping.{AreMarks, HaveNoted, marked_folding};
 ghost use Rattle.pig_stream.specs.Unmet.{either_of, fails_on, marked, unmet_on};
+
+use crate::sink::Sink;
 
 /// Rows that go through nodes in batches: what they become is joined, and an ASSERT is met by all where it is met by each
 /// batch. The nodes that are marked as not met are the statements that the rows don't meet.
@@ -26,4 +30,24 @@ pub fn marks_stand_for_what_folds()
     ensures unmet { (folding : Folding) (folded : List Bool) → AreMarks folding folded
         → (plan : Plan) (path : List ℕ) (rows : List (List Tree)) →
         unmet_on folding plan path rows ≡ unmet_on (marked_folding folded) plan path rows }
+{}
+
+/// What was taken, joined: in turn, and where bytes are handed in between. Where no more rows come, what was taken is all
+/// that came, whatever bytes are handed in later.
+pub fn takings_join<K: Sink>()
+    ensures turns { (a b c : List ℕ → List (List Tree)) (s t u : Steps) (x y z : K) (m n : ℕ) →
+        HasTaken a b s t (λ rows. K.after x rows y) m →
+        HasTaken b c t u (λ rows. K.after y rows z) n →
+        HasTaken a c s u (λ rows. K.after x rows z) (m + n) }
+    ensures handed { (before behind next : List ℕ → List (List Tree)) (s t : Steps)
+        (x y : K) (count : ℕ) (block : List ℕ) →
+        HasTaken before behind s t (λ rows. K.after x rows y) count →
+        ((later : List ℕ) → next later ≡ behind (block ++ later)) →
+        HasTaken (λ later. before (block ++ later)) next s t
+        (λ rows. K.after x rows y) count }
+    ensures whole { (before behind : List ℕ → List (List Tree)) (s t : Steps)
+        (x y : K) (count : ℕ) →
+        HasTaken before behind s t (λ rows. K.after x rows y) count → HaveNoted s [] →
+        ((later : List ℕ) → behind later ≡ []) →
+        (later : List ℕ) → IsAll (before later) s t (λ rows. K.after x rows y) count }
 {}

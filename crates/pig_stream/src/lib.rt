@@ -2,13 +2,15 @@
 //!
 //! A [`Batch`] holds some rows. A [`Source`] fills it: the [`Lines`] of a [`Window`], which is handed the bytes of a range of a
 //! piece block by block, or [`Unpacked`] rows. [`Steps`] take it through FILTER, FOREACH and ASSERT in place, and note which
-//! ASSERTs some row did not meet. A [`Sink`] takes what is left: a [`RowList`], [`PackedRows`] or [`StoredText`]. [`drive`]
+//! ASSERTs some row did not meet. A [`Sink`] takes what is left: a [`RowList`], the [`FirstRows`], [`PackedRows`]
+//! or [`StoredText`]. [`drive`]
 //! does all this until no row comes.
 #![tactic(auto)]
 
 mod batch;
 mod buffer;
 mod driving;
+mod first;
 mod laws;
 mod lines;
 mod listed;
@@ -22,7 +24,8 @@ mod window;
 
 pub use batch::Batch;
 pub use driving::{drive, drive_batch};
-pub use laws::{marks_stand_for_what_folds, steps_join_batches};
+pub use first::FirstRows;
+pub use laws::{marks_stand_for_what_folds, steps_join_batches, takings_join};
 pub use lines::Lines;
 pub use listed::RowList;
 pub use packing::PackedRows;

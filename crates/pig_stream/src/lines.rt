@@ -1,4 +1,5 @@
-ghost use Rattle.std.specs.Prelude.{◌≡◌, ◌++◌, [], OnOk};
+ghost use Rattle.std.specs.Prelude.{◌≡◌, ◌++◌, [], Bool, ℕ, List, OnOk};
+ghost use Rattle.pig_value.specs.declared.inputs.Column.{Column};
 ghost use Rattle.pig_stream.specs.Ranges.{IsDry, lines_coming, rows_of_lines};
 
 use crate::batch::Batch;
@@ -17,6 +18,10 @@ pub struct Lines<'p> {
 
 impl Source for Lines<'_> {
     ghost coming = { λ s later. rows_of_lines s.columns.now s.delim (lines_coming s.window later) };
+
+    ghost Kept = { Bool × ℕ × List Column };
+
+    ghost kept = { λ s. (s.window.ended, s.delim, s.columns.now) };
 
     ghost dry = { λ s. IsDry s.window };
 

@@ -1,11 +1,12 @@
-ghost use Rattle.std.specs.Prelude.{◌≡◌, ◌||◌, ◌++◌, [], false, get_or, length, List, IfOk, OnOk, replicate, slice_set};
+ghost use Rattle.std.specs.Prelude.{◌≡◌, ◌||◌, ◌++◌, [], false, get_or, length, List, IfOk, OnOk, IsFalse, replicate, slice_set};
+ghost use Rattle.std.specs.List.{list_any};
 ghost use Rattle.pig_value.specs.Trees.{Tree};
 ghost use Rattle.pig_value.specs.Valid.{AreRows, IsValue};
 ghost use Rattle.pig_plan.specs.Laws.{PlanLiteralsAre};
 ghost use Rattle.pig_plan.specs.Plans.{op_of, plan_of};
 ghost use Rattle.pig_plan.specs.Steps.{node_step, step_rows, through};
 ghost use Rattle.pig_stream.specs.Stepping.{AreSameSteps, HaveNoted, folding_on, marked_folding, path_on, plan_on, put_through, unmet_by};
-ghost use Rattle.pig_stream.specs.Unmet.{either_of, fails, fails_at, fails_on, marked, statement_of};
+ghost use Rattle.pig_stream.specs.Unmet.{either_of, fails, fails_at, fails_on, is_assert, is_assert_at, marked, statement_of};
 
 use crate::batch::Batch;
 use crate::buffer::all_pass;
@@ -67,6 +68,14 @@ impl<'p> Steps<'p> {
         )
     }
 
+    /// Whether an ASSERT is among the steps. Where none is, no rows change what was noted.
+    pub fn has_asserts(&self) -> bool
+        ensures { IsFalse result → (seen rows : List (List Tree)) → HaveNoted self.now seen
+            → HaveNoted self.now (seen ++ rows) }
+    {
+        asserts(self.nodes, self.path)
+    }
+
     /// The statements of the ASSERTs that some row did not meet, in the order of the path.
     pub fn unmet(&self, alloc: Global) -> Result<Numbers, AllocError>
         ensures { (rows : List (List Tree)) → HaveNoted self.now rows
@@ -74,6 +83,34 @@ impl<'p> Steps<'p> {
     {
         marked_of(alloc, self.nodes, self.path, self.failed.as_slice())
     }
+}
+
+fn asserts(nodes: &[Node], path: &[u32]) -> bool
+    ensures { result ≡ list_any (is_assert_at (plan_of nodes.now)) path.now }
+{
+    let mut left = path;
+    'nodes: while let [number, more @ ..] = left {
+        if is_assert_at(nodes, *number) {
+            return true;
+        }
+        left = more;
+    }
+    false
+}
+
+fn is_assert_at(nodes: &[Node], number: u32) -> bool
+    ensures { result ≡ is_assert_at (plan_of nodes.now) number }
+{
+    match nodes.get(number as usize) {
+        Some(node) => is_assert(&node.op),
+        None => false,
+    }
+}
+
+fn is_assert(op: &NodeOp) -> bool
+    ensures { result ≡ is_assert (op_of op.now) }
+{
+    matches!(op, NodeOp::Assert { .. })
 }
 
 fn no_marks(alloc: Global, count: usize) -> Result<Vec<bool>, AllocError>

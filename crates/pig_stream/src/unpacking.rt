@@ -33,6 +33,7 @@ impl<'p> Unpacked<'p> {
         ensures rows { OnOk result (batch.old ++ rows_left self.old
             ≡ batch.new ++ rows_left self.new) }
         ensures values { AreRows batch.old → OnOk result (AreRows batch.new) }
+        ensures same { self.new.rows ≡ self.old.rows }
         ensures one { IfOk result (λ b. b ≡ true → length batch.new ≡ length batch.old + 1) }
         ensures none { IfOk result (λ b. b ≡ false → rows_left self.new ≡ []) }
     {
@@ -47,6 +48,10 @@ impl<'p> Unpacked<'p> {
 
 impl Source for Unpacked<'_> {
     ghost coming = { λ s later. rows_left s };
+
+    ghost Kept = { List (List Tree) };
+
+    ghost kept = { λ s. s.rows.now };
 
     ghost dry = { λ s. rows_left s ≡ [] };
 

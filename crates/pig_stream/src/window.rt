@@ -300,7 +300,8 @@ impl Window {
         self.skips
     }
 
-    fn has_ended(&self) -> bool
+    /// Whether no bytes of the piece are left, so that none may be handed in.
+    pub fn has_ended(&self) -> bool
         ensures { result ≡ self.now.ended }
     {
         self.ended
