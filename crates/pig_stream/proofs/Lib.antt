@@ -1,0 +1,5 @@
+pub mod Drives
+pub mod Handed
+pub mod Joining
+pub mod Kept
+pub mod Ranged
