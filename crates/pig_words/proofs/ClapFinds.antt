@@ -1,6 +1,6 @@
 -- What clap's answer on the words says of what they give.
 use Rattle.std.proofs.Common.{◌≡◌, ◌∙◌, ◌||◌, Bool, cond, codes, true, false, refl, sym, ap, ap₂, subst, List, [], ◌∷◌, map, drop, Option, Some, None, is_some, IsUtf8, All}
-use Rattle.std.specs.List.{fold}
+use Rattle.std.specs.List.{AllByRecursion, fold}
 use Rattle.std.proofs.lemmas.List.Elements.{All-drop, recursion_from_All}
 use Rattle.clap.specs.Walk.{Row, Walk, first_of, has_row, idle, nothing_held, rows_after, rows_of, walked, with_default}
 use Rattle.clap.specs.Simple.{App, entered, matches_of, names_of}
@@ -11,9 +11,10 @@ use Rattle.clap.specs.Faults.{built_fault, check_fault, default_fault, defaults_
 use Rattle.clap.specs.declared.error.kind.ErrorKind.{ErrorKind}
 use Rattle.clap.specs.declared.parser.matches.Found.{Found}
 use Rattle.clap.proofs.WalkLemmas.{first_value-rows}
-use Rattle.pig_words.specs.CommandWords.{Given, Gives, Workers, Reducers, Split, Word, nothing_given}
+use Rattle.pig_words.specs.CommandWords.{Given, Gives, Word, name_of, nothing_given, settings}
 use Rattle.pig_words.specs.ClapWords.{AreRead, AreValues, LackOperand, pig}
-use Rattle.pig_words.proofs.ClapRows.{Slot, Operand, Value, Shows, arg_of, args, at, first_is_given, given_by_places, given_is_given, id_of, pig_is, same_given, shows_none, top}
+use Rattle.pig_words.proofs.Options.{Slot, Operand, Value, arg_of, args, at, each, id_of, pig_is, slots, top}
+use Rattle.pig_words.proofs.ClapRows.{Shows, first_is_given, given_by_places, given_is_given, same_given, shows_none}
 use Rattle.pig_words.proofs.ClapTurns.{stand}
 use Rattle.pig_words.proofs.ClapReads.{Passes, Reaches, Ready, complete, first_none, last_held, last_rows, some_kind, sound, then_none}
 
@@ -43,9 +44,6 @@ defaults_none (x ∷ xs) rows = ap₂ (λ f r. or_else f (defaults_fault r (map 
 defaults_same : (xs : List Slot) (rows : List Row) → fold with_default rows (map arg_of xs) ≡ rows
 defaults_same [] rows = refl
 defaults_same (x ∷ xs) rows = ap (λ r. fold with_default r (map arg_of xs)) (default_same x rows) ∙ defaults_same xs rows
-
-abbrev slots : List Slot
-slots = Operand ∷ Value Workers ∷ Value Reducers ∷ Value Split ∷ []
 
 entered_nothing : (stop : Option (Word × List Word)) → entered (record { top = top; subs = [] }) stop ≡ None
 entered_nothing None = refl
@@ -88,12 +86,10 @@ passes words none =
     let e = sym (fault_is words) ∙ none in
     record { walks = first_none _ _ e; settles = first_none _ _ (then_none (walk_fault top [] start (drop 1 words)) _ e) }
 
-pub value_places : (f : Found) (g : Given) → g.operand ≡ first_value f (codes "operand") → g.workers ≡ first_value f (codes "workers") → g.reducers ≡ first_value f (codes "reducers")
-    → g.split ≡ first_value f (codes "split") → (x : Slot) → at x g ≡ first_value f (id_of x)
-value_places f g o w r s Operand = o
-value_places f g o w r s (Value Workers) = w
-value_places f g o w r s (Value Reducers) = r
-value_places f g o w r s (Value Split) = s
+pub value_places : (f : Found) (g : Given) → g.operand ≡ first_value f (codes "operand") → AllByRecursion (λ s. g.values s ≡ first_value f (name_of s)) settings
+    → (x : Slot) → at x g ≡ first_value f (id_of x)
+value_places f g o values Operand = o
+value_places f g o values (Value s) = each (λ s. g.values s ≡ first_value f (name_of s)) values s
 
 -- words that clap passes are read
 pub are_read : (words : List Word) (f : Found) (g : Given) → All IsUtf8 words → fault_of pig words ≡ [] → rows_of f ≡ matches_of pig words

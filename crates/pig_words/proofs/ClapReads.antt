@@ -5,16 +5,17 @@ use Rattle.std.specs.List.{AllByRecursion, fold}
 use Rattle.std.specs.Option.{option_map_or}
 use Rattle.std.specs.Str.{bytes_eq}
 use Rattle.std.proofs.lemmas.Bool.Decides.{nat_tests}
-use Rattle.clap.specs.Walk.{Held, Row, Waiting, Walk, arg_by_id, arg_by_long, has_row, idle, option, settled_rows, used, used_by_id, walked}
+use Rattle.clap.specs.Walk.{Held, Row, Waiting, Walk, arg_by_long, has_row, idle, option, settled_rows, used, used_by_id, walked}
 use Rattle.clap.specs.Lexer.{long_of}
 use Rattle.clap.specs.Kinds.{Kinds, or_else}
 use Rattle.clap.specs.Faults.{settle_fault, turn_fault, use_fault, walk_fault}
 use Rattle.clap.specs.declared.error.kind.ErrorKind.{ErrorKind}
 use Rattle.clap.specs.declared.error.kind.ErrorKind.TheVariants as kind
-use Rattle.pig_words.specs.CommandWords.{Given, Gives, finished, operand, joined, apart, dashes, operand_last, IsOptionWord, Setting, Workers, Reducers, Split, Word, is_dashed, option_of, with_operand, with_value}
-use Rattle.pig_words.specs.ClapWords.{name_of}
-use Rattle.pig_words.proofs.ClapRows.{Slot, Operand, Value, Shows, arg_of, args, at, at_put, id_of, put, row_is_given, same_or_other, shows_put, top, use_fails, use_passes, used_new}
-use Rattle.pig_words.proofs.ClapTurns.{IsPlain, Look, Pending, two_dashes, with_equals, name_alone, one_dash, undashed, alone_long, alone_plain, alone_turn, alone_walked, dashes_turn, dashes_walked, held, joined_long, joined_plain, joined_turn, joined_walked, known, look, lookup, operand_turn, operand_walked, plain_from, plain_met, plain_none, short_turn, stand, stray_turn, trailing_met, trailing_none, unknown_turn, value_turn, value_walked, word_alone, word_joined}
+use Rattle.pig_words.specs.CommandWords.{Given, Gives, finished, operand, joined, apart, dashes, operand_last, IsOptionWord, Setting, Word, is_dashed, name_of, with_operand, with_value}
+use Rattle.pig_words.specs.ClapWords.{AreValues}
+use Rattle.pig_words.proofs.Options.{Slot, Operand, Value, Pending, arg_of, args, at, at_put, by_id, held, id_of, put, same_or_other, top}
+use Rattle.pig_words.proofs.ClapRows.{Shows, row_is_given, shows_put, use_fails, use_passes, used_new}
+use Rattle.pig_words.proofs.ClapTurns.{IsPlain, Look, two_dashes, with_equals, name_alone, one_dash, undashed, alone_long, alone_plain, alone_turn, alone_walked, dashes_turn, dashes_walked, joined_long, joined_plain, joined_turn, joined_walked, known, look, lookup, operand_turn, operand_walked, plain_from, plain_met, plain_none, short_turn, stand, stray_turn, trailing_met, trailing_none, unknown_turn, value_turn, value_walked, word_alone, word_joined}
 
 -- ---- where a walk ends
 
@@ -77,12 +78,6 @@ pub record Ready (g : Given) (rows : List Row) (pending : Pending) : Type 0 wher
   pub settles : settle_fault args false (held rows pending) ≡ []
   pub shows : Shows g (settled_rows args pending rows)
 
-by_id : (x : Slot) → arg_by_id args (id_of x) ≡ Some (arg_of x)
-by_id Operand = refl
-by_id (Value Workers) = refl
-by_id (Value Reducers) = refl
-by_id (Value Split) = refl
-
 no_row : (x : Slot) (g : Given) (rows : List Row) → Shows g rows → at x g ≡ None → has_row (id_of x) rows ≡ false
 no_row x g rows h e = row_is_given x g rows h ∙ ap is_some e
 
@@ -94,11 +89,6 @@ ready_put x v g rows h e = record {
 
 ready_used : (x : Slot) (v : Word) (g : Given) (rows : List Row) → Shows g rows → at x g ≡ None → Ready (put x v g) (used (arg_of x) (v ∷ []) rows) None
 ready_used x v g rows h e = record { settles = refl; shows = subst (Shows (put x v g)) (sym (used_new x v rows (no_row x g rows h e))) (shows_put x v g rows h (no_row x g rows h e)) }
-
-keeps_operand : (s : Setting) (v : Word) (g : Given) → (with_value s v g).operand ≡ g.operand
-keeps_operand Workers v g = refl
-keeps_operand Reducers v g = refl
-keeps_operand Split v g = refl
 
 unsettled : (s : Setting) (rows : List Row) → settle_fault args false (held rows (Some (name_of s, []))) ≡ kind.InvalidValue ∷ []
 unsettled s rows = ap (λ o. option_map_or (λ a. use_fault false a [] rows) o []) (by_id (Value s))
@@ -144,8 +134,7 @@ complete (joined {g = g} {end = end} {word = word} {rest = rest} s value is v fr
     (joined_turn rows pending idle (place g.operand) word (name_of s) s plain (known s) value long
     ∙ ap₂ (λ a b. or_else (or_else a b) []) r.settles (use_passes (Value s) value settled (no_row (Value s) g settled r.shows free)))
     (joined_walked rows pending idle (place g.operand) word (name_of s) s plain (known s) value long)
-    (subst (λ o. Reaches (stand (used (arg_of (Value s)) (value ∷ []) settled) None idle (place o) false) rest end) (keeps_operand s value g)
-    (complete more (used (arg_of (Value s)) (value ∷ []) settled) None (ready_used (Value s) value g settled r.shows free)))
+    (complete more (used (arg_of (Value s)) (value ∷ []) settled) None (ready_used (Value s) value g settled r.shows free))
 complete (apart {g = g} {end = end} {word = word} {value = value} {rest = rest} s is v free more) rows pending r =
     let settled = settled_rows args pending rows in
     let plain = alone_plain s word is in
@@ -155,8 +144,7 @@ complete (apart {g = g} {end = end} {word = word} {value = value} {rest = rest} 
     (alone_turn rows pending idle (place g.operand) word (name_of s) s plain (known s) long ∙ ap (λ a. or_else a []) r.settles)
     (alone_walked rows pending idle (place g.operand) word (name_of s) s plain (known s) long)
     (reach_more _ _ value rest end (value_turn settled s (place g.operand) value p) (value_walked settled s (place g.operand) value p)
-    (subst (λ o. Reaches (stand settled (Some (name_of s, value ∷ [])) idle (place o) false) rest end) (keeps_operand s value g)
-    (complete more settled (Some (name_of s, value ∷ [])) (ready_put (Value s) value g settled r.shows free))))
+    (complete more settled (Some (name_of s, value ∷ [])) (ready_put (Value s) value g settled r.shows free)))
 complete (dashes {g = g} {word = word} is) rows pending r =
     reach_more _ _ word [] g (dashes_turn rows pending idle (place g.operand) word is) (dashes_walked rows pending idle (place g.operand) word is)
     (record { passes = record { walks = refl; settles = r.settles }; shows = r.shows })
@@ -204,10 +192,6 @@ stopped_by (word ∷ rest) u rows pending o bad p = at_word (look word u.0)
     ]
     at_word (one_dash x xs c other long short first) = some_kind _ _ _ (short_turn rows pending idle (place o) word x xs c other long short first) turn
     at_word (undashed e) = plain o (plain_from word e) turn
-
--- each value that was given is a value
-abbrev pub AreValues : Given → Type 0
-AreValues g = (s : Setting) (v : Word) → option_of s g ≡ Some v → IsOptionWord v
 
 -- the rows at the end show what the words give, where the values are such
 pub record Comes (g : Given) (w : Walk) (words : List Word) : Type 0 where
@@ -292,7 +276,7 @@ module _ (word : Word) (rest : List Word) (next : Sound rest) (g : Given) (rows 
 
   sound_joined : (name v : Word) (s : Setting) → word ≡ 45 ∷ 45 ∷ name ++ 61 ∷ v → name ≡ name_of s → bytes_eq word (45 ∷ 45 ∷ []) ≡ false → long_of word ≡ Some (name, Some v)
       → Comes g (stand rows pending idle (place o) false) (word ∷ rest)
-  sound_joined name v s is named other long = go (option_of s g) refl
+  sound_joined name v s is named other long = go ((g.values s)) refl
     where
       found : arg_by_long args name ≡ Some (arg_of (Value s))
       found = ap (arg_by_long args) named ∙ known s
@@ -301,13 +285,13 @@ module _ (word : Word) (rest : List Word) (next : Sound rest) (g : Given) (rows 
       passed = then_none (settle_fault args false (held rows pending)) (use_fault false (arg_of (Value s)) (v ∷ []) (settled_rows args pending rows))
           (first_none (or_else (settle_fault args false (held rows pending)) (use_fault false (arg_of (Value s)) (v ∷ []) (settled_rows args pending rows))) [] (sym (joined_turn rows pending idle (place o) word name s other found v long) ∙ turn))
 
-      go : (w : Option Word) → option_of s g ≡ w → Comes g (stand rows pending idle (place o) false) (word ∷ rest)
+      go : (w : Option Word) → (g.values s) ≡ w → Comes g (stand rows pending idle (place o) false) (word ∷ rest)
       go (Some w) f = some_kind _ _ _ (use_fails (Value s) v (settled_rows args pending rows) (row_is_given (Value s) g (settled_rows args pending rows) r.shows ∙ ap is_some f)) passed
       go None f =
           let step = joined_walked rows pending idle (place o) word name s other found v long in
           let rows_now = used (arg_of (Value s)) (v ∷ []) (settled_rows args pending rows) in
           comes_more g (with_value s v g) _ _ word rest step
-          (next (with_value s v g) rows_now None o (keeps_operand s v g ∙ e) (ready_used (Value s) v g (settled_rows args pending rows) r.shows f) (rest_of _ _ word rest step p))
+          (next (with_value s v g) rows_now None o e (ready_used (Value s) v g (settled_rows args pending rows) r.shows f) (rest_of _ _ word rest step p))
           (λ end values d. joined s v (word_joined s name v word named is) (values s v (persists (Value s) v d (at_put (Value s) v g))) f d)
 
 -- an option's word, and the value behind it
@@ -333,7 +317,7 @@ module _ (word value : Word) (rest : List Word) (sees : Look value) (u : AllByRe
       lacks : settle_fault args false (held (settled_rows args pending rows) (waits s)) ≢ []
       lacks none = some_kind _ _ _ (unsettled s (settled_rows args pending rows)) none
 
-      comes_value : is_dashed value ≡ false → option_of s g ≡ None → Comes (with_value s value g) (stand (settled_rows args pending rows) (Some (name_of s, value ∷ [])) idle (place o) false) rest
+      comes_value : is_dashed value ≡ false → (g.values s) ≡ None → Comes (with_value s value g) (stand (settled_rows args pending rows) (Some (name_of s, value ∷ [])) idle (place o) false) rest
           → Comes g (stand rows pending idle (place o) false) (word ∷ value ∷ rest)
       comes_value undash f c =
           let stepped = value_walked (settled_rows args pending rows) s (place o) value (plain_from value undash) in
@@ -344,13 +328,13 @@ module _ (word value : Word) (rest : List Word) (sees : Look value) (u : AllByRe
                 apart s (word_alone s name word named is) (values s value (persists (Value s) value d (at_put (Value s) value g))) f d;
           }
 
-      go : is_dashed value ≡ false → (w : Option Word) → option_of s g ≡ w → Comes g (stand rows pending idle (place o) false) (word ∷ value ∷ rest)
+      go : is_dashed value ≡ false → (w : Option Word) → (g.values s) ≡ w → Comes g (stand rows pending idle (place o) false) (word ∷ value ∷ rest)
       go undash (Some w) f = absurd (stopped_by rest u (settled_rows args pending rows) (Some (name_of s, value ∷ [])) o
           (λ none. some_kind _ _ _ (again s value (settled_rows args pending rows) (row_is_given (Value s) g (settled_rows args pending rows) r.shows ∙ ap is_some f)) none)
           (rest_of _ _ value rest (value_walked (settled_rows args pending rows) s (place o) value (plain_from value undash)) then))
       go undash None f =
           let stepped = value_walked (settled_rows args pending rows) s (place o) value (plain_from value undash) in
-          comes_value undash f (next (with_value s value g) (settled_rows args pending rows) (Some (name_of s, value ∷ [])) o (keeps_operand s value g ∙ e)
+          comes_value undash f (next (with_value s value g) (settled_rows args pending rows) (Some (name_of s, value ∷ [])) o e
           (ready_put (Value s) value g (settled_rows args pending rows) r.shows f) (rest_of _ _ value rest stepped then))
 
       at_value : Look value → Comes g (stand rows pending idle (place o) false) (word ∷ value ∷ rest)
@@ -365,7 +349,7 @@ module _ (word value : Word) (rest : List Word) (sees : Look value) (u : AllByRe
         | inr unknown ↦ some_kind _ _ _ (unknown_turn (settled_rows args pending rows) (waits s) (option (name_of s)) (place o) value n None plain l unknown) turns
       ]
       at_value (one_dash x xs c plain l short first) = some_kind _ _ _ (short_turn (settled_rows args pending rows) (waits s) (option (name_of s)) (place o) value x xs c plain l short first) turns
-      at_value (undashed undash) = go undash (option_of s g) refl
+      at_value (undashed undash) = go undash ((g.values s)) refl
 
 -- one word, and the words behind it
 sound_word : (word : Word) (rest : List Word) → IsUtf8 word → AllByRecursion IsUtf8 rest → Sound rest → SoundBehind rest → Sound (word ∷ rest)

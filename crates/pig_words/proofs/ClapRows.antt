@@ -1,123 +1,19 @@
 -- What clap holds of the operand and the options, as what was given.
-use Rattle.std.proofs.Common.{◌≡◌, ◌∙◌, ◌⊎◌, ◌||◌, ℕ, Bool, cond, codes, true, false, refl, sym, ap, subst, List, [], ◌∷◌, ◌++◌, Option, Some, None, is_some, option_map, inl, inr, append-nil, true≢false}
+use Rattle.std.proofs.Common.{◌≡◌, ◌∙◌, ◌||◌, Bool, cond, true, false, refl, sym, ap, subst, List, [], ◌∷◌, ◌++◌, Option, Some, None, is_some, option_map, inl, inr, append-nil, true≢false}
 use Rattle.std.specs.List.{find, list_any}
 use Rattle.std.specs.Str.{bytes_eq}
 use Rattle.std.specs.Prelude.{option_and_then, slice_get}
 use Rattle.std.specs.Option.{option_map_or}
 use Rattle.clap.specs.Facts.{explicit_source}
-use Rattle.clap.specs.Walk.{Row, Rule, Text, at_row, first_of, has_row, more_values, used}
-use Rattle.clap.specs.Simple.{App, Shape, built}
+use Rattle.clap.specs.Walk.{Row, Text, at_row, first_of, has_row, more_values, used}
 use Rattle.clap.specs.Takes.{is_given}
 use Rattle.clap.specs.Faults.{use_fault}
-use Rattle.clap.specs.declared.builder.action.ArgAction.TheVariants.{Set}
-use Rattle.clap.specs.declared.builder.value_parser.ValueParser.TheVariants as vp
 use Rattle.clap.specs.declared.builder.value_parser.Reading.TheVariants as reading
 use Rattle.clap.specs.declared.parser.matches.ValueSource.{ValueSource}
 use Rattle.clap.specs.declared.parser.matches.ValueSource.TheVariants.{CommandLine}
 use Rattle.clap.specs.declared.error.kind.ErrorKind.TheVariants as kind
-use Rattle.pig_words.specs.CommandWords.{Given, Setting, Workers, Reducers, Split, Word, option_of, with_operand, with_value}
-use Rattle.pig_words.specs.ClapWords.{name_of, pig}
-
--- ---- the arguments of the command
-
-pub data Slot : Type 0 where
-  Operand : Slot
-  Value : Setting → Slot
-
-abbrev pub id_of : Slot → Text
-id_of Operand = codes "operand"
-id_of (Value s) = name_of s
-
-abbrev pub long_name : Slot → Option Text
-long_name Operand = None
-long_name (Value s) = Some (name_of s)
-
-abbrev pub index_of : Slot → Option ℕ
-index_of Operand = Some 1
-index_of (Value s) = None
-
-abbrev pub is_wanted : Slot → Bool
-is_wanted Operand = true
-is_wanted (Value s) = false
-
--- an argument of the command, as it is built
-abbrev pub arg_of : Slot → Rule
-arg_of x = record {
-  id = id_of x;
-  long = long_name x;
-  aliases = [];
-  short = None;
-  short_aliases = [];
-  index = index_of x;
-  action = Some Set;
-  range = Some (record { start_inclusive = 1; end_inclusive = 1 });
-  value_names = 0;
-  defaults = [];
-  missing = [];
-  trailing_var_arg = false;
-  parser = Some vp.String;
-  ignore_case = false;
-  required = is_wanted x;
-  is_simple = true;
-  is_free = true;
-}
-
-abbrev pub args : List Rule
-args = arg_of Operand ∷ arg_of (Value Workers) ∷ arg_of (Value Reducers) ∷ arg_of (Value Split) ∷ []
-
-abbrev pub top : Shape
-top = record pig.top {
-  rules = args;
-  is_built = true;
-  disable_help_subcommand = true;
-}
-
-pub pig_is : ◌≡◌ {A = App} (built pig) (record { top = top; subs = [] })
-pig_is = refl
-
--- ---- what was given, by its place
-
-abbrev pub at : Slot → Given → Option Word
-at Operand g = g.operand
-at (Value s) g = option_of s g
-
-abbrev pub put : Slot → Word → Given → Given
-put Operand word g = with_operand word g
-put (Value s) word g = with_value s word g
-
-pub at_put : (x : Slot) (v : Word) (g : Given) → at x (put x v g) ≡ Some v
-at_put Operand v g = refl
-at_put (Value Workers) v g = refl
-at_put (Value Reducers) v g = refl
-at_put (Value Split) v g = refl
-
--- another place has another name, and stays as it is
-abbrev pub Differs : Slot → Slot → Type 0
-Differs x y = (bytes_eq (id_of x) (id_of y) ≡ false) × ((v : Word) (g : Given) → at y (put x v g) ≡ at y g)
-
-pub same_or_other : (x y : Slot) → (x ≡ y) ⊎ Differs x y
-same_or_other Operand Operand = inl refl
-same_or_other Operand (Value Workers) = inr (refl, λ v g. refl)
-same_or_other Operand (Value Reducers) = inr (refl, λ v g. refl)
-same_or_other Operand (Value Split) = inr (refl, λ v g. refl)
-same_or_other (Value Workers) Operand = inr (refl, λ v g. refl)
-same_or_other (Value Workers) (Value Workers) = inl refl
-same_or_other (Value Workers) (Value Reducers) = inr (refl, λ v g. refl)
-same_or_other (Value Workers) (Value Split) = inr (refl, λ v g. refl)
-same_or_other (Value Reducers) Operand = inr (refl, λ v g. refl)
-same_or_other (Value Reducers) (Value Workers) = inr (refl, λ v g. refl)
-same_or_other (Value Reducers) (Value Reducers) = inl refl
-same_or_other (Value Reducers) (Value Split) = inr (refl, λ v g. refl)
-same_or_other (Value Split) Operand = inr (refl, λ v g. refl)
-same_or_other (Value Split) (Value Workers) = inr (refl, λ v g. refl)
-same_or_other (Value Split) (Value Reducers) = inr (refl, λ v g. refl)
-same_or_other (Value Split) (Value Split) = inl refl
-
-pub same_id : (x : Slot) → bytes_eq (id_of x) (id_of x) ≡ true
-same_id Operand = refl
-same_id (Value Workers) = refl
-same_id (Value Reducers) = refl
-same_id (Value Split) = refl
+use Rattle.pig_words.specs.CommandWords.{Given, Word, nothing_given}
+use Rattle.pig_words.proofs.Options.{Slot, Operand, Value, arg_of, at, at_put, id_of, put, same_id, same_or_other}
 
 -- ---- rows
 
@@ -221,14 +117,12 @@ shows_put x v g rows h none y = elim (same_or_other x y) [
   | inr other ↦ ap (option_map cell) (find_before (λ r. bytes_eq r.id (id_of y)) rows (new_row x v) other.0) ∙ h y ∙ ap shown (sym (other.1 v g))
 ]
 
-pub shows_none : Shows (record { operand = None; workers = None; reducers = None; split = None }) []
+pub shows_none : Shows nothing_given []
 shows_none Operand = refl
-shows_none (Value Workers) = refl
-shows_none (Value Reducers) = refl
-shows_none (Value Split) = refl
+shows_none (Value s) = refl
 
 pub given_by_places : (a b : Given) → ((x : Slot) → at x a ≡ at x b) → a ≡ b
-given_by_places a b same = λ i. record { operand = same Operand i; workers = same (Value Workers) i; reducers = same (Value Reducers) i; split = same (Value Split) i }
+given_by_places a b same = λ i. record { operand = same Operand i; values = λ s. same (Value s) i }
 
 pub same_given : (a b : Given) (rows : List Row) → Shows a rows → Shows b rows → a ≡ b
 same_given a b rows h k = given_by_places a b (λ x. sym (first_is_given x a rows h) ∙ first_is_given x b rows k)

@@ -1,21 +1,21 @@
 -- What one word does to clap's walk over the words.
-use Rattle.std.proofs.Common.{◌≡◌, ◌∙◌, ◌⊎◌, ◌&&◌, ◌||◌, ◌==◌, ℕ, Bool, cond, codes, true, false, zero, suc, refl, sym, ap, ap₂, subst, List, [], ◌∷◌, ◌++◌, length, Option, Some, None, inl, inr, IsUtf8, chars, encode_utf8_all, arith, eqb-true}
+use Rattle.std.proofs.Common.{◌≡◌, ◌∙◌, ◌⊎◌, ◌&&◌, ◌||◌, ◌==◌, ℕ, Bool, cond, codes, not, true, false, zero, suc, refl, sym, ap, ap₂, subst, List, [], ◌∷◌, ◌++◌, length, map, Option, Some, None, is_some, option_map, inl, inr, IsUtf8, chars, encode_utf8_all, arith, eqb-true}
+use Rattle.std.specs.List.{find}
 use Rattle.std.specs.Str.{bytes_eq}
 use Rattle.std.specs.Prelude.{slice_get}
 use Rattle.std.proofs.lemmas.Str.{IsUtf8-past_char, encodes-chars, encode_ascii}
 use Rattle.std.proofs.lemmas.Bool.{eqb-false}
 use Rattle.std.proofs.lemmas.Slice.Eq.{bytes_eq-Decides}
 use Rattle.clap.specs.Lexer.{long_of, name_and_value, short_of}
-use Rattle.clap.specs.Walk.{Held, Row, Step, Text, Waiting, Walk, Rule, after_flag, after_step, arg_by_long, idle, long_met, long_or_other, option_met, is_pending, plain_word, pushed, settled, short_or_plain, option, positional, settled_rows, subcommand_met, subcommand_or_other, used, walked, word_met}
+use Rattle.clap.specs.Walk.{Held, Row, Step, Text, Waiting, Walk, Rule, after_flag, after_step, arg_by_long, has_long, idle, long_met, long_or_other, option_met, is_pending, plain_word, pushed, settled, short_or_plain, option, option_word as filled_by, positional, settled_rows, subcommand_met, subcommand_or_other, used, walked, word_met}
 use Rattle.clap.specs.Kinds.{Kinds, or_else}
 use Rattle.std.specs.Option.{option_map_or}
 use Rattle.clap.specs.Faults.{bundle_fault, bundle_step_fault, long_fault, flag_word_fault, flags_fault, other_fault, settle_fault, step_fault, turn_fault, use_fault, word_fault}
 use Rattle.clap.specs.declared.error.kind.ErrorKind.TheVariants as kind
 use Rattle.clap.proofs.CutLemmas.{Lacks}
 use Rattle.clap.proofs.LexerLemmas.{name_and_value-at, name_and_value-without}
-use Rattle.pig_words.specs.CommandWords.{Setting, Workers, Reducers, Split, Word, is_dashed, option_word}
-use Rattle.pig_words.specs.ClapWords.{name_of}
-use Rattle.pig_words.proofs.ClapRows.{Operand, Value, arg_of, args, top}
+use Rattle.pig_words.specs.CommandWords.{Setting, Word, is_dashed, name_of, option_word, settings}
+use Rattle.pig_words.proofs.Options.{Operand, Value, Pending, arg_of, args, held, listed, top}
 
 -- ---- what a word looks like
 
@@ -106,12 +106,6 @@ plain_from (b ∷ []) e = go (b == 45) refl
 plain_from (b ∷ c ∷ rest) e = record { no_dashes = rw e refl; no_long = rw e refl; no_short = rw e refl }
 
 -- ---- where the walk stands
-
-abbrev pub Pending : Type 0
-Pending = Option (Text × List Text)
-
-abbrev pub held : List Row → Pending → Held
-held rows pending = record { rows = rows; pending = pending; skip = 0 }
 
 abbrev pub stand : List Row → Pending → Waiting → ℕ → Bool → Walk
 stand rows pending waiting position trailing = record {
@@ -249,54 +243,60 @@ value_turn rows s position word p =
 
 pub value_walked : (rows : List Row) (s : Setting) (position : ℕ) (word : Text) → IsPlain word
     → walked args [] (stand rows (Some (name_of s, [])) (option (name_of s)) position false) word ≡ stand rows (Some (name_of s, word ∷ [])) idle position false
-value_walked rows Workers position word p = walked_is rows _ (option (name_of Workers)) position false word _ _ (plain_met rows (Some (name_of Workers, [])) (option (name_of Workers)) position word p)
-value_walked rows Reducers position word p = walked_is rows _ (option (name_of Reducers)) position false word _ _ (plain_met rows (Some (name_of Reducers, [])) (option (name_of Reducers)) position word p)
-value_walked rows Split position word p = walked_is rows _ (option (name_of Split)) position false word _ _ (plain_met rows (Some (name_of Split, [])) (option (name_of Split)) position word p)
+value_walked rows s position word p =
+    let waits : Pending = Some (name_of s, []) in
+    walked_is rows waits (option (name_of s)) position false word _ _ (plain_met rows waits (option (name_of s)) position word p)
+    ∙ ap (λ (m : Held × Waiting). after_step args word (stand rows waits (option (name_of s)) position false) m.0 (Step.next m.1))
+    (ap (λ o. filled_by o (name_of s) word (held rows waits)) (listed s).by_name ∙ (listed s).filled rows word)
 
 -- ---- options by their names
 
-pub known : (s : Setting) → arg_by_long args (name_of s) ≡ Some (arg_of (Value s))
-known Workers = refl
-known Reducers = refl
-known Split = refl
+-- the argument that a long name finds is that of the option of the name
+looked : (ss : List Setting) (name : Text) → find (λ a. not (is_some a.index) && has_long a name) (map (λ s. arg_of (Value s)) ss)
+    ≡ option_map (λ s. arg_of (Value s)) (find (λ s. bytes_eq (name_of s) name) ss)
+looked [] name = refl
+looked (s ∷ ss) name = go (bytes_eq (name_of s) name) (looked ss name)
+  where
+    go : (b : Bool) → find (λ a. not (is_some a.index) && has_long a name) (map (λ s. arg_of (Value s)) ss) ≡ option_map (λ s. arg_of (Value s)) (find (λ s. bytes_eq (name_of s) name) ss)
+        → cond (b || false) (Some (arg_of (Value s))) (find (λ a. not (is_some a.index) && has_long a name) (map (λ s. arg_of (Value s)) ss))
+        ≡ option_map (λ s. arg_of (Value s)) (cond b (Some s) (find (λ s. bytes_eq (name_of s) name) ss))
+    go true e = refl
+    go false e = e
+
+found_name : (ss : List Setting) (name : Text) (s : Setting) → find (λ s. bytes_eq (name_of s) name) ss ≡ Some s → name ≡ name_of s
+found_name [] name s e = cc
+found_name (x ∷ ss) name s e = go (bytes_eq (name_of x) name) refl (found_name ss name s) e
+  where
+    go : (b : Bool) → bytes_eq (name_of x) name ≡ b → (find (λ s. bytes_eq (name_of s) name) ss ≡ Some s → name ≡ name_of s)
+        → cond b (Some x) (find (λ s. bytes_eq (name_of s) name) ss) ≡ Some s → name ≡ name_of s
+    go true same behind e = let is : x ≡ s = cc in sym ((bytes_eq-Decides (name_of x) name).0 same) ∙ ap name_of is
+    go false other behind e = behind e
 
 pub lookup : (name : Text) → ((s : Setting) × (name ≡ name_of s)) ⊎ (arg_by_long args name ≡ None)
-lookup name = go (bytes_eq (codes "workers") name) refl (bytes_eq (codes "reducers") name) refl (bytes_eq (codes "split") name) refl
+lookup name = go (find (λ s. bytes_eq (name_of s) name) settings) refl
   where
-    go : (a : Bool) → bytes_eq (codes "workers") name ≡ a → (b : Bool) → bytes_eq (codes "reducers") name ≡ b → (c : Bool) → bytes_eq (codes "split") name ≡ c
-        → ((s : Setting) × (name ≡ name_of s)) ⊎ (arg_by_long args name ≡ None)
-    go true e b f c g = inl (Workers, sym ((bytes_eq-Decides (codes "workers") name).0 e))
-    go false e true f c g = inl (Reducers, sym ((bytes_eq-Decides (codes "reducers") name).0 f))
-    go false e false f true g = inl (Split, sym ((bytes_eq-Decides (codes "split") name).0 g))
-    go false e false f false g = inr (rw (e, f, g) refl)
+    go : (o : Option Setting) → find (λ s. bytes_eq (name_of s) name) settings ≡ o → ((s : Setting) × (name ≡ name_of s)) ⊎ (arg_by_long args name ≡ None)
+    go (Some s) e = inl (s, found_name settings name s e)
+    go None e = inr (looked settings name ∙ ap (option_map (λ s. arg_of (Value s))) e)
+
+pub known : (s : Setting) → arg_by_long args (name_of s) ≡ Some (arg_of (Value s))
+known s = (listed s).by_long
 
 pub joined_plain : (s : Setting) (v word : Text) → word ≡ option_word s ++ 61 ∷ v → bytes_eq word (45 ∷ 45 ∷ []) ≡ false
-joined_plain Workers v word e = ap (λ w. bytes_eq w (45 ∷ 45 ∷ [])) e
-joined_plain Reducers v word e = ap (λ w. bytes_eq w (45 ∷ 45 ∷ [])) e
-joined_plain Split v word e = ap (λ w. bytes_eq w (45 ∷ 45 ∷ [])) e
+joined_plain s v word e = ap (λ w. bytes_eq w (45 ∷ 45 ∷ [])) e ∙ (listed s).joined_plain v
 
 pub joined_long : (s : Setting) (v word : Text) → word ≡ option_word s ++ 61 ∷ v → long_of word ≡ Some (name_of s, Some v)
-joined_long Workers v word e = ap long_of e
-joined_long Reducers v word e = ap long_of e
-joined_long Split v word e = ap long_of e
+joined_long s v word e = ap long_of e ∙ (listed s).joined_long v
 
 pub alone_plain : (s : Setting) (word : Text) → word ≡ option_word s → bytes_eq word (45 ∷ 45 ∷ []) ≡ false
-alone_plain Workers word e = ap (λ w. bytes_eq w (45 ∷ 45 ∷ [])) e
-alone_plain Reducers word e = ap (λ w. bytes_eq w (45 ∷ 45 ∷ [])) e
-alone_plain Split word e = ap (λ w. bytes_eq w (45 ∷ 45 ∷ [])) e
+alone_plain s word e = ap (λ w. bytes_eq w (45 ∷ 45 ∷ [])) e ∙ (listed s).alone_plain
 
 pub alone_long : (s : Setting) (word : Text) → word ≡ option_word s → long_of word ≡ Some (name_of s, None)
-alone_long Workers word e = ap long_of e
-alone_long Reducers word e = ap long_of e
-alone_long Split word e = ap long_of e
+alone_long s word e = ap long_of e ∙ (listed s).alone_long
 
 -- a name behind `--` is the option's word
 pub word_joined : (s : Setting) (name v word : Text) → name ≡ name_of s → word ≡ 45 ∷ 45 ∷ name ++ 61 ∷ v → word ≡ option_word s ++ 61 ∷ v
-word_joined Workers name v word e is = is ∙ ap (λ n. 45 ∷ 45 ∷ n ++ 61 ∷ v) e
-word_joined Reducers name v word e is = is ∙ ap (λ n. 45 ∷ 45 ∷ n ++ 61 ∷ v) e
-word_joined Split name v word e is = is ∙ ap (λ n. 45 ∷ 45 ∷ n ++ 61 ∷ v) e
+word_joined s name v word e is = is ∙ ap (λ n. 45 ∷ 45 ∷ n ++ 61 ∷ v) e
 
 pub word_alone : (s : Setting) (name word : Text) → name ≡ name_of s → word ≡ 45 ∷ 45 ∷ name → word ≡ option_word s
-word_alone Workers name word e is = is ∙ ap (λ n. 45 ∷ 45 ∷ n) e
-word_alone Reducers name word e is = is ∙ ap (λ n. 45 ∷ 45 ∷ n) e
-word_alone Split name word e is = is ∙ ap (λ n. 45 ∷ 45 ∷ n) e
+word_alone s name word e is = is ∙ ap (λ n. 45 ∷ 45 ∷ n) e

@@ -1,31 +1,30 @@
 -- How what was given makes a command, and that words are at most one.
-use Rattle.std.proofs.Common.{◌≡◌, ◌∙◌, ◌==◌, ◌≤◌, ℕ, cond, true, refl, sym, ap, subst, List, [], ◌∷◌, length, drop, min, Option, Some, None, is_some, option_and_then, true≢false, unwrap_or, slice_index_or}
+use Rattle.std.proofs.Common.{◌≡◌, ◌∙◌, ◌==◌, ◌≤◌, ℕ, Bool, cond, true, false, refl, sym, ap, subst, List, [], ◌∷◌, length, drop, min, Option, Some, None, is_some, option_and_then, true≢false, unwrap_or, slice_index_or}
 use Rattle.std.specs.Str.Parse.{digits_value}
 use Rattle.pig_words.specs.declared.words.Command.{Command}
 use Rattle.pig_words.specs.declared.words.Verb.{Verb}
 use Rattle.pig_words.specs.declared.words.Verb.TheVariants as verbs
-use Rattle.pig_words.specs.CommandWords.{Given, Gives, finished, operand, joined, apart, dashes, operand_last, IsCommand, IsCount, IsSet, IsOptionWord, Makes, Setting, Workers, Reducers, Split, Word, nothing_given, verb_word, with_operand, with_value}
+use Rattle.pig_words.specs.CommandWords.{Given, Gives, finished, operand, joined, apart, dashes, operand_last, IsCommand, IsCount, IsSet, IsOptionWord, Makes, Setting, Workers, Reducers, Split, Attempts, Word, is_same, nothing_given, verb_word, with_value}
+use Rattle.pig_words.specs.declared.words.Numbers.{Numbers}
 use Rattle.pig_words.specs.ClapWords.{AreRead, AreValues, number_at, numbers_at, setting_at, takes}
+use Rattle.pig_words.proofs.Options.{each}
 use Rattle.pig_words.proofs.ClapFinds.{one_given}
 use Rattle.pig_words.proofs.WordNumbers.{number_set, set_number, set_setting, setting_set}
 
 -- ---- what was given, and the numbers that it sets
 
-abbrev Three : Type 0
-Three = ℕ × ℕ × ℕ
+abbrev numbers_of : ℕ → ℕ → ℕ → ℕ → Option Numbers
+numbers_of w r s a = Some (record { workers = w; reducers = r; split = s; attempts = a })
 
-each_some : (a b c : Option ℕ) (x y z : ℕ) → option_and_then (λ n. option_and_then (λ m. option_and_then (λ k. let t : Three = (n, m, k) in Some t) c) b) a ≡ Some (x, y, z)
-    → (a ≡ Some x) × (b ≡ Some y) × (c ≡ Some z)
-each_some None b c x y z e = cc
-each_some (Some n) None c x y z e = cc
-each_some (Some n) (Some m) None x y z e = cc
-each_some (Some n) (Some m) (Some k) x y z e =
-    (ap (λ (o : Option Three). Some (unwrap_or o (0, 0, 0)).0) e, ap (λ (o : Option Three). Some (unwrap_or o (0, 0, 0)).1) e, ap (λ (o : Option Three). Some (unwrap_or o (0, 0, 0)).2) e)
-
-pub are_values : (g : Given) → ((v : Word) → g.workers ≡ Some v → IsOptionWord v) → ((v : Word) → g.reducers ≡ Some v → IsOptionWord v) → ((v : Word) → g.split ≡ Some v → IsOptionWord v) → AreValues g
-are_values g a b c Workers = a
-are_values g a b c Reducers = b
-are_values g a b c Split = c
+each_some : (a b c d : Option ℕ) (n : Numbers) → option_and_then (λ w. option_and_then (λ r. option_and_then (λ s. option_and_then (λ t. numbers_of w r s t) d) c) b) a ≡ Some n
+    → (a ≡ Some n.workers) × (b ≡ Some n.reducers) × (c ≡ Some n.split) × (d ≡ Some n.attempts)
+each_some None b c d n e = cc
+each_some (Some w) None c d n e = cc
+each_some (Some w) (Some r) None d n e = cc
+each_some (Some w) (Some r) (Some s) None n e = cc
+each_some (Some w) (Some r) (Some s) (Some t) n e =
+    let is : ◌≡◌ {A = Numbers} (record { workers = w; reducers = r; split = s; attempts = t }) n = ap (λ (o : Option Numbers). unwrap_or o n) e in
+    (ap (λ m. Some m.workers) is, ap (λ m. Some m.reducers) is, ap (λ m. Some m.split) is, ap (λ m. Some m.attempts) is)
 
 takes_count : (v : Verb) (word : Word) → takes v word ≡ true → v ≡ verbs.Demo → IsCount word
 takes_count verbs.Run word t e = cc
@@ -48,24 +47,28 @@ count_taken verbs.Demo word h =
     ap is_some (set_number word 0 100000 (digits_value 10 word) count.value (refl, count.some, count.few))
 
 -- what the numbers are read from makes the command
-pub made : (hosts : ℕ) (v : Verb) (g : Given) (word : Word) (w r s : ℕ) → takes v word ≡ true → g.operand ≡ Some word → numbers_at hosts g ≡ Some (w, r, s)
-    → AreValues g × Makes hosts g (record { verb = v; operand = word; workers = w; reducers = r; split = s })
+pub made : (hosts : ℕ) (v : Verb) (g : Given) (word : Word) (n : Numbers) → takes v word ≡ true → g.operand ≡ Some word → numbers_at hosts g ≡ Some n
+    → AreValues g × Makes hosts g (record { verb = v; operand = word; workers = n.workers; reducers = n.reducers; split = n.split; attempts = n.attempts })
 unfolding numbers_at
-made hosts v g word w r s t o e =
-    let parts = each_some (setting_at (min 4 hosts) hosts g.workers) (setting_at 4 256 g.reducers) (setting_at 1048576 67108864 g.split) w r s e in
-    let workers = setting_set g.workers (min 4 hosts) hosts w parts.0 in
-    let reducers = setting_set g.reducers 4 256 r parts.1 in
-    let split = setting_set g.split 1048576 67108864 s parts.2 in
-    (are_values g workers.1 reducers.1 split.1, record { operand = o; workers = workers.0; reducers = reducers.0; split = split.0; count = takes_count v word t })
+made hosts v g word n t o e =
+    let parts = each_some (setting_at (min 4 hosts) hosts (g.values Workers)) (setting_at 4 256 (g.values Reducers)) (setting_at 1048576 67108864 (g.values Split)) (setting_at 4 16 (g.values Attempts)) n e in
+    let workers = setting_set (g.values Workers) (min 4 hosts) hosts n.workers parts.0 in
+    let reducers = setting_set (g.values Reducers) 4 256 n.reducers parts.1 in
+    let split = setting_set (g.values Split) 1048576 67108864 n.split parts.2 in
+    let attempts = setting_set (g.values Attempts) 4 16 n.attempts parts.3 in (
+      each (λ s. (v : Word) → g.values s ≡ Some v → IsOptionWord v) (workers.1, (reducers.1, (split.1, (attempts.1, tt)))),
+      record { operand = o; workers = workers.0; reducers = reducers.0; split = split.0; attempts = attempts.0; count = takes_count v word t },
+    )
 
 -- and a command that is made has its numbers
-pub numbers_of_made : (hosts : ℕ) (g : Given) (c : Command) → AreValues g → Makes hosts g c → numbers_at hosts g ≡ Some (c.workers, c.reducers, c.split)
+pub numbers_of_made : (hosts : ℕ) (g : Given) (c : Command) → AreValues g → Makes hosts g c → numbers_at hosts g ≡ numbers_of c.workers c.reducers c.split c.attempts
 unfolding numbers_at
 numbers_of_made hosts g c values m =
     rw (
-      set_setting g.workers (min 4 hosts) hosts c.workers (values Workers) m.workers,
-      set_setting g.reducers 4 256 c.reducers (values Reducers) m.reducers,
-      set_setting g.split 1048576 67108864 c.split (values Split) m.split,
+      set_setting (g.values Workers) (min 4 hosts) hosts c.workers (values Workers) m.workers,
+      set_setting (g.values Reducers) 4 256 c.reducers (values Reducers) m.reducers,
+      set_setting (g.values Split) 1048576 67108864 c.split (values Split) m.split,
+      set_setting (g.values Attempts) 4 16 c.attempts (values Attempts) m.attempts,
     ) refl
 
 pub taken_of_made : (hosts : ℕ) (g : Given) (c : Command) (word : Word) → g.operand ≡ Some word → Makes hosts g c → takes c.verb word ≡ true
@@ -99,10 +102,11 @@ set_once (Some word) default most n m h k = h.0 ∙ sym k.0
 pub made_once : (hosts : ℕ) (g : Given) (c d : Command) → c.verb ≡ d.verb → Makes hosts g c → Makes hosts g d → c ≡ d
 made_once hosts g c d v m n =
     let o : c.operand ≡ d.operand = ap (λ (x : Option Word). unwrap_or x c.operand) (sym m.operand ∙ n.operand) in
-    let w = set_once g.workers (min 4 hosts) hosts c.workers d.workers m.workers n.workers in
-    let r = set_once g.reducers 4 256 c.reducers d.reducers m.reducers n.reducers in
-    let s = set_once g.split 1048576 67108864 c.split d.split m.split n.split in
-    λ i. record { verb = v i; operand = o i; workers = w i; reducers = r i; split = s i }
+    let w = set_once (g.values Workers) (min 4 hosts) hosts c.workers d.workers m.workers n.workers in
+    let r = set_once (g.values Reducers) 4 256 c.reducers d.reducers m.reducers n.reducers in
+    let s = set_once (g.values Split) 1048576 67108864 c.split d.split m.split n.split in
+    let t = set_once (g.values Attempts) 4 16 c.attempts d.attempts m.attempts n.attempts in
+    λ i. record { verb = v i; operand = o i; workers = w i; reducers = r i; split = s i; attempts = t i }
 
 pub one_command : (hosts : ℕ) (words : List Word) (c d : Command) → IsCommand hosts words c → IsCommand hosts words d → c ≡ d
 one_command hosts words c d h k =
@@ -117,20 +121,22 @@ this_one : (value w : Word) → IsOptionWord value → Some value ≡ Some w →
 this_one value w v e = subst IsOptionWord (ap (λ (x : Option Word). unwrap_or x value) e) v
 
 with_one : (g : Given) (s : Setting) (value : Word) → IsOptionWord value → AreValues g → AreValues (with_value s value g)
-with_one g Workers value v h = are_values (with_value Workers value g) (λ w e. this_one value w v e) (h Reducers) (h Split)
-with_one g Reducers value v h = are_values (with_value Reducers value g) (h Workers) (λ w e. this_one value w v e) (h Split)
-with_one g Split value v h = are_values (with_value Split value g) (h Workers) (h Reducers) (λ w e. this_one value w v e)
+with_one g s value v h t w = go (is_same s t)
+  where
+    go : (b : Bool) → cond b (Some value) (g.values t) ≡ Some w → IsOptionWord w
+    go true e = this_one value w v e
+    go false e = h t w e
 
 pub values_given : {g end : Given} {words : List Word} → Gives g words end → AreValues g → AreValues end
 values_given finished h = h
-values_given (operand {g = g} {word = word} plain free more) h = values_given more (are_values (with_operand word g) (h Workers) (h Reducers) (h Split))
+values_given (operand plain free more) h = values_given more h
 values_given (joined {g = g} s value is v free more) h = values_given more (with_one g s value v h)
 values_given (apart {g = g} {value = value} s is v free more) h = values_given more (with_one g s value v h)
 values_given (dashes is) h = h
-values_given (operand_last {g = g} {last = last} is free) h = are_values (with_operand last g) (h Workers) (h Reducers) (h Split)
+values_given (operand_last is free) h = h
 
 pub none_given : AreValues nothing_given
-none_given = are_values nothing_given (λ v e. cc) (λ v e. cc) (λ v e. cc)
+none_given s v e = cc
 
 -- a command of words whose options were read is made of what was read
 pub made_of_read : (hosts : ℕ) (words : List Word) (v : Verb) (g : Given) (c : Command) → words ≡ verb_word v ∷ drop 1 words → AreRead (drop 1 words) g → IsCommand hosts words c

@@ -1,14 +1,19 @@
 -- Words are a command or none.
-use Rattle.std.proofs.Common.{◌≡◌, ◌≢◌, ◌≤◌, ℕ, zero, suc, ◌==◌, true, false, get_or, drop, List, [], ◌∷◌, ◌++◌, length, Option, Some, None, codes, refl, sym, ◌∙◌, ap, subst, arith, inl, inr, ◌⊎◌}
+use Rattle.std.proofs.Common.{◌≡◌, ◌≢◌, ◌≤◌, ℕ, zero, suc, ◌==◌, true, false, List, [], ◌∷◌, ◌++◌, length, Option, Some, None, is_some, unwrap_or, codes, refl, sym, ◌∙◌, ap, subst, arith, inl, inr, ◌⊎◌, true≢false}
+use Rattle.std.specs.List.{AllByRecursion}
 use Rattle.std.specs.Str.{bytes_eq}
 use Rattle.std.proofs.lemmas.Bool.{cases_Bool}
+use Rattle.std.proofs.lemmas.List.{append_assoc}
 use Rattle.std.proofs.lemmas.Bool.Decides.{Decides-eqb}
 use Rattle.std.proofs.lemmas.Slice.Eq.{bytes_eq-Decides}
+use Rattle.clap.specs.Lexer.{long_of}
 use Rattle.pig_words.specs.declared.words.Command.{Command}
+use Rattle.pig_words.specs.declared.words.Numbers.{Numbers}
 use Rattle.pig_words.specs.declared.words.Verb.{Verb}
 use Rattle.pig_words.specs.declared.words.Verb.TheVariants as verbs
-use Rattle.pig_words.specs.CommandWords.{Given, Gives, finished, operand, joined, apart, dashes, operand_last, IsCommand, IsOptionWord, Makes, Setting, Workers, Reducers, Split, Word, is_dashed, nothing_given, option_word, option_of, verb_word, with_operand, with_value}
+use Rattle.pig_words.specs.CommandWords.{Given, Gives, finished, operand, joined, apart, dashes, operand_last, IsCommand, IsOptionWord, Makes, Setting, Word, is_dashed, nothing_given, option_word, settings, verb_word, with_operand, with_value}
 use Rattle.pig_words.specs.ClapWords.{is_value, numbers_at, takes}
+use Rattle.pig_words.proofs.Options.{each, listed, same_setting}
 use Rattle.pig_words.proofs.Commands.{made, none_given, numbers_of_made, same_rest, same_verb, taken_of_made, values_given}
 use Rattle.pig_words.proofs.WordNumbers.{value_from, value_test}
 use Rattle.pig_words.proofs.ClapFinds.{one_given}
@@ -40,28 +45,28 @@ data Look (word : Word) : Type 0 where
   valued : (s : Setting) (v : Word) → word ≡ option_word s ++ 61 ∷ v → Look word
   strange : is_dashed word ≡ true → word ≢ codes "--" → ((s : Setting) → word ≢ option_word s) → ((s : Setting) (v : Word) → word ≢ option_word s ++ 61 ∷ v) → Look word
 
--- the same as a setting, or with each of the three excluded
-each_setting : (P : Setting → Type 0) → ((s : Setting) → P s ⊎ (P s → ⊥)) → ((s : Setting) × P s) ⊎ ((s : Setting) → P s → ⊥)
-each_setting P f = elim (f Workers) [
-  | inl h ↦ inl (Workers, h)
-  | inr a ↦ elim (f Reducers) [
-    | inl h ↦ inl (Reducers, h)
-    | inr b ↦ elim (f Split) [
-      | inl h ↦ inl (Split, h)
-      | inr c ↦ inr (λ s. none_of a b c s)
-    ]
+-- an option of which it holds, or none of the list
+among_settings : (P : Setting → Type 0) → ((s : Setting) → P s ⊎ (P s → ⊥)) → (ss : List Setting) → ((s : Setting) × P s) ⊎ AllByRecursion (λ s. P s → ⊥) ss
+among_settings P f [] = inr tt
+among_settings P f (s ∷ ss) = elim (f s) [
+  | inl h ↦ inl (s, h)
+  | inr other ↦ elim (among_settings P f ss) [
+    | inl h ↦ inl h
+    | inr none ↦ inr (other, none)
   ]
 ]
-  where
-    none_of : (P Workers → ⊥) → (P Reducers → ⊥) → (P Split → ⊥) → (s : Setting) → P s → ⊥
-    none_of a b c Workers = a
-    none_of a b c Reducers = b
-    none_of a b c Split = c
+
+each_setting : (P : Setting → Type 0) → ((s : Setting) → P s ⊎ (P s → ⊥)) → ((s : Setting) × P s) ⊎ ((s : Setting) → P s → ⊥)
+each_setting P f = elim (among_settings P f settings) [
+  | inl h ↦ inl h
+  | inr none ↦ inr (each (λ s. P s → ⊥) none)
+]
 
 valued_decided : (word : Word) (s : Setting) → ((v : Word) × (word ≡ option_word s ++ 61 ∷ v)) ⊎ (((v : Word) × (word ≡ option_word s ++ 61 ∷ v)) → ⊥)
-valued_decided word Workers = elim (prefix_decided (codes "--workers=") word) [ inl h ↦ inl h | inr n ↦ inr (λ h. n h.0 h.1) ]
-valued_decided word Reducers = elim (prefix_decided (codes "--reducers=") word) [ inl h ↦ inl h | inr n ↦ inr (λ h. n h.0 h.1) ]
-valued_decided word Split = elim (prefix_decided (codes "--split=") word) [ inl h ↦ inl h | inr n ↦ inr (λ h. n h.0 h.1) ]
+valued_decided word s = elim (prefix_decided (option_word s ++ 61 ∷ []) word) [
+  | inl h ↦ inl (h.0, h.1 ∙ append_assoc (option_word s) (61 ∷ []) h.0)
+  | inr n ↦ inr (λ h. n h.0 (h.1 ∙ sym (append_assoc (option_word s) (61 ∷ []) h.0)))
+]
 
 look : (word : Word) → Look word
 look word = elim (cases_Bool (is_dashed word)) [
@@ -81,64 +86,45 @@ look word = elim (cases_Bool (is_dashed word)) [
 -- ---- what these words have in common, and what not
 
 dashed_alone : (s : Setting) → is_dashed (option_word s) ≡ true
-dashed_alone Workers = refl
-dashed_alone Reducers = refl
-dashed_alone Split = refl
+dashed_alone s = refl
 
 dashed_valued : (s : Setting) (v : Word) → is_dashed (option_word s ++ 61 ∷ v) ≡ true
-dashed_valued Workers v = refl
-dashed_valued Reducers v = refl
-dashed_valued Split v = refl
+dashed_valued s v = refl
 
 not_plain : {word other : Word} → is_dashed word ≡ false → word ≡ other → is_dashed other ≡ true → ⊥
 not_plain h e k = let wrong = sym h ∙ ap is_dashed e ∙ k in cc
 
 not_dashes_alone : (s : Setting) → codes "--" ≢ option_word s
-not_dashes_alone Workers e = cc
-not_dashes_alone Reducers e = cc
-not_dashes_alone Split e = cc
+not_dashes_alone s e = true≢false (ap (λ w. bytes_eq w (45 ∷ 45 ∷ [])) e ∙ (listed s).alone_plain)
 
 not_dashes_valued : (s : Setting) (v : Word) → codes "--" ≢ option_word s ++ 61 ∷ v
-not_dashes_valued Workers v e = cc
-not_dashes_valued Reducers v e = cc
-not_dashes_valued Split v e = cc
+not_dashes_valued s v e = true≢false (ap (λ w. bytes_eq w (45 ∷ 45 ∷ [])) e ∙ (listed s).joined_plain v)
 
--- options differ in their third byte
-abbrev third : Word → ℕ
-third word = get_or word 2 0
+-- the name and the value that an option's word has
+abbrev Read : Type 0
+Read = Option (Word × Option Word)
+
+name_in : Read → Word
+name_in None = []
+name_in (Some p) = p.0
+
+value_in : Read → Option Word
+value_in None = None
+value_in (Some p) = p.1
 
 same_alone : (s t : Setting) → option_word s ≡ option_word t → s ≡ t
-same_alone Workers Workers e = refl
-same_alone Workers Reducers e = absurd (let wrong : 119 ≡ 114 = ap third e in omega (arith, wrong))
-same_alone Workers Split e = absurd (let wrong : 119 ≡ 115 = ap third e in omega (arith, wrong))
-same_alone Reducers Workers e = absurd (let wrong : 114 ≡ 119 = ap third e in omega (arith, wrong))
-same_alone Reducers Reducers e = refl
-same_alone Reducers Split e = absurd (let wrong : 114 ≡ 115 = ap third e in omega (arith, wrong))
-same_alone Split Workers e = absurd (let wrong : 115 ≡ 119 = ap third e in omega (arith, wrong))
-same_alone Split Reducers e = absurd (let wrong : 115 ≡ 114 = ap third e in omega (arith, wrong))
-same_alone Split Split e = refl
+unfolding name_in
+same_alone s t e = same_setting s t (ap name_in (sym (listed s).alone_long ∙ ap long_of e ∙ (listed t).alone_long))
 
 alone_not_valued : (s t : Setting) (v : Word) → option_word s ≢ option_word t ++ 61 ∷ v
-alone_not_valued Workers Workers v e = let wrong = ap length e in omega (arith, wrong)
-alone_not_valued Workers Reducers v e = let wrong : 119 ≡ 114 = ap third e in omega (arith, wrong)
-alone_not_valued Workers Split v e = let wrong : 119 ≡ 115 = ap third e in omega (arith, wrong)
-alone_not_valued Reducers Workers v e = let wrong : 114 ≡ 119 = ap third e in omega (arith, wrong)
-alone_not_valued Reducers Reducers v e = let wrong = ap length e in omega (arith, wrong)
-alone_not_valued Reducers Split v e = let wrong : 114 ≡ 115 = ap third e in omega (arith, wrong)
-alone_not_valued Split Workers v e = let wrong : 115 ≡ 119 = ap third e in omega (arith, wrong)
-alone_not_valued Split Reducers v e = let wrong : 115 ≡ 114 = ap third e in omega (arith, wrong)
-alone_not_valued Split Split v e = let wrong = ap length e in omega (arith, wrong)
+unfolding value_in
+alone_not_valued s t v e = true≢false (sym (ap (λ r. is_some (value_in r)) (sym (listed s).alone_long ∙ ap long_of e ∙ (listed t).joined_long v)))
 
 same_valued : (s t : Setting) (v w : Word) → option_word s ++ 61 ∷ v ≡ option_word t ++ 61 ∷ w → (s ≡ t) × (v ≡ w)
-same_valued Workers Workers v w e = (refl, ap (drop 10) e)
-same_valued Workers Reducers v w e = absurd (let wrong : 119 ≡ 114 = ap third e in omega (arith, wrong))
-same_valued Workers Split v w e = absurd (let wrong : 119 ≡ 115 = ap third e in omega (arith, wrong))
-same_valued Reducers Workers v w e = absurd (let wrong : 114 ≡ 119 = ap third e in omega (arith, wrong))
-same_valued Reducers Reducers v w e = (refl, ap (drop 11) e)
-same_valued Reducers Split v w e = absurd (let wrong : 114 ≡ 115 = ap third e in omega (arith, wrong))
-same_valued Split Workers v w e = absurd (let wrong : 115 ≡ 119 = ap third e in omega (arith, wrong))
-same_valued Split Reducers v w e = absurd (let wrong : 115 ≡ 114 = ap third e in omega (arith, wrong))
-same_valued Split Split v w e = (refl, ap (drop 8) e)
+unfolding name_in value_in
+same_valued s t v w e =
+    let read = sym ((listed s).joined_long v) ∙ ap long_of e ∙ (listed t).joined_long w in
+    (same_setting s t (ap name_in read), ap (λ r. unwrap_or (value_in r) []) read)
 
 -- ---- what words give, or that they give nothing
 
@@ -209,18 +195,18 @@ module _ (g : Given) (word : Word) (s : Setting) (h : word ≡ option_word s) wh
   no_word_left end (dashes is) = not_dashes_alone s (sym is ∙ h)
 
   -- what its value has to be
-  behind_name : (value : Word) (rest : List Word) (end : Given) → Gives g (word ∷ value ∷ rest) end → IsOptionWord value × (option_of s g ≡ None) × Gives (with_value s value g) rest end
+  behind_name : (value : Word) (rest : List Word) (end : Given) → Gives g (word ∷ value ∷ rest) end → IsOptionWord value × (g.values s ≡ None) × Gives (with_value s value g) rest end
   behind_name value rest end (operand flat _ _) = absurd (not_plain flat h (dashed_alone s))
   behind_name value rest end (joined t v is _ _ _) = absurd (alone_not_valued s t v (sym h ∙ is))
   behind_name value rest end (apart t is isv none more) =
       let same : t ≡ s = same_alone t s (sym is ∙ h) in
-      (isv, subst (λ u. option_of u g ≡ None) same none, subst (λ u. Gives (with_value u value g) rest end) same more)
+      (isv, subst (λ u. g.values u ≡ None) same none, subst (λ u. Gives (with_value u value g) rest end) same more)
   behind_name value rest end (operand_last is _) = absurd (not_dashes_alone s (sym is ∙ h))
 
   by_alone : (value : Word) (rest : List Word) → Decided (with_value s value g) rest → Decided g (word ∷ value ∷ rest)
   by_alone value rest later = elim (value_decided value) [
     | inr other ↦ inr (λ end gives. other (behind_name value rest end gives).0)
-    | inl isv ↦ elim (none_decided (option_of s g)) [
+    | inl isv ↦ elim (none_decided (g.values s)) [
       | inr given ↦ inr (λ end gives. given (behind_name value rest end gives).1)
       | inl none ↦ elim later [
         | inl gives ↦ inl (gives.0, apart s h isv none gives.1)
@@ -231,11 +217,11 @@ module _ (g : Given) (word : Word) (s : Setting) (h : word ≡ option_word s) wh
 
 -- `--name=value`
 module _ (g : Given) (word : Word) (s : Setting) (value : Word) (h : word ≡ option_word s ++ 61 ∷ value) where
-  in_word : (rest : List Word) (end : Given) → Gives g (word ∷ rest) end → IsOptionWord value × (option_of s g ≡ None) × Gives (with_value s value g) rest end
+  in_word : (rest : List Word) (end : Given) → Gives g (word ∷ rest) end → IsOptionWord value × (g.values s ≡ None) × Gives (with_value s value g) rest end
   in_word rest end (operand flat _ _) = absurd (not_plain flat h (dashed_valued s value))
   in_word rest end (joined t v is isv none more) =
       let same = same_valued t s v value (sym is ∙ h) in
-      (subst IsOptionWord same.1 isv, subst (λ u. option_of u g ≡ None) same.0 none, subst (λ w. Gives (with_value s w g) rest end) same.1 (subst (λ u. Gives (with_value u v g) rest end) same.0 more))
+      (subst IsOptionWord same.1 isv, subst (λ u. g.values u ≡ None) same.0 none, subst (λ w. Gives (with_value s w g) rest end) same.1 (subst (λ u. Gives (with_value u v g) rest end) same.0 more))
   in_word _ end (apart t is _ _ _) = absurd (alone_not_valued t s value (sym is ∙ h))
   in_word _ end (dashes is) = absurd (not_dashes_valued s value (sym is ∙ h))
   in_word _ end (operand_last is _) = absurd (not_dashes_valued s value (sym is ∙ h))
@@ -243,7 +229,7 @@ module _ (g : Given) (word : Word) (s : Setting) (value : Word) (h : word ≡ op
   by_valued : (rest : List Word) → Decided (with_value s value g) rest → Decided g (word ∷ rest)
   by_valued rest later = elim (value_decided value) [
     | inr other ↦ inr (λ end gives. other (in_word rest end gives).0)
-    | inl isv ↦ elim (none_decided (option_of s g)) [
+    | inl isv ↦ elim (none_decided (g.values s)) [
       | inr given ↦ inr (λ end gives. given (in_word rest end gives).1)
       | inl none ↦ elim later [
         | inl gives ↦ inl (gives.0, joined s value h isv none gives.1)
@@ -290,13 +276,13 @@ module _ (hosts : ℕ) (verb : Verb) (rest : List Word) where
       let r : rest ≡ is.rest = same_rest verb c.verb rest is.rest is.begins in
       (sym v, subst (λ g. Makes hosts g c) (one_given rest is.given given (subst (λ ws. Gives nothing_given ws is.given) (sym r) is.gives) gives) is.makes)
 
-  by_numbers : (given : Given) → Gives nothing_given rest given → (word : Word) → given.operand ≡ Some word → takes verb word ≡ true → (numbers : Option (ℕ × ℕ × ℕ)) → numbers_at hosts given ≡ numbers
+  by_numbers : (given : Given) → Gives nothing_given rest given → (word : Word) → given.operand ≡ Some word → takes verb word ≡ true → (numbers : Option Numbers) → numbers_at hosts given ≡ numbers
       → ((c : Command) × IsCommand hosts (verb_word verb ∷ rest) c) ⊎ ((c : Command) → IsCommand hosts (verb_word verb ∷ rest) c → ⊥)
   by_numbers given gives word is taken None e =
       inr (λ c command. let wrong = sym e ∙ numbers_of_made hosts given c (values_given gives none_given) (makes_it given gives c command).1 in cc)
-  by_numbers given gives word is taken (Some (w, r, s)) e =
-      let c : Command = record { verb = verb; operand = word; workers = w; reducers = r; split = s } in
-      inl (c, record { rest = rest; given = given; begins = refl; gives = gives; makes = (made hosts verb given word w r s taken is e).1 })
+  by_numbers given gives word is taken (Some n) e =
+      let c : Command = record { verb = verb; operand = word; workers = n.workers; reducers = n.reducers; split = n.split; attempts = n.attempts } in
+      inl (c, record { rest = rest; given = given; begins = refl; gives = gives; makes = (made hosts verb given word n taken is e).1 })
 
   by_operand : (given : Given) → Gives nothing_given rest given → (o : Option Word) → given.operand ≡ o
       → ((c : Command) × IsCommand hosts (verb_word verb ∷ rest) c) ⊎ ((c : Command) → IsCommand hosts (verb_word verb ∷ rest) c → ⊥)

@@ -1,3 +1,4 @@
+mod Options
 mod ClapRows
 mod ClapTurns
 mod ClapReads

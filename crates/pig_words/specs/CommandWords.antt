@@ -1,7 +1,8 @@
 -- The words of a command line, and the command that they are.
-use Rattle.std.specs.Prelude.{◌≡◌, ◌==◌, ◌≤◌, ℕ, Bool, true, false, List, [], ◌∷◌, ◌++◌, length, min, Option, Some, None, codes}
+use Rattle.std.specs.Prelude.{◌≡◌, ◌==◌, ◌≤◌, ℕ, Bool, true, false, List, [], ◌∷◌, ◌++◌, length, min, Option, Some, None, codes, if◌then◌else◌}
 use Rattle.std.specs.Char.{is_ascii_digit}
 use Rattle.std.specs.List.{list_all}
+use Rattle.std.specs.Str.{bytes_eq}
 use Rattle.std.specs.Str.Parse.{digits_value}
 use Rattle.pig_words.specs.declared.words.Command.{Command}
 use Rattle.pig_words.specs.declared.words.Verb.{Verb}
@@ -18,35 +19,38 @@ verb_word verbs.Demo = codes "demo"
 
 -- what an option sets
 pub data Setting : Type 0 where
-  Workers Reducers Split : Setting
+  Workers Reducers Split Attempts : Setting
+
+-- the options, by which all that holds of each of them is said
+abbrev pub settings : List Setting
+settings = Workers ∷ Reducers ∷ Split ∷ Attempts ∷ []
+
+-- its name, by which it is told from others
+abbrev pub name_of : Setting → Word
+name_of Workers = codes "workers"
+name_of Reducers = codes "reducers"
+name_of Split = codes "split"
+name_of Attempts = codes "attempts"
+
+abbrev pub is_same : Setting → Setting → Bool
+is_same s t = bytes_eq (name_of s) (name_of t)
 
 abbrev pub option_word : Setting → Word
-option_word Workers = codes "--workers"
-option_word Reducers = codes "--reducers"
-option_word Split = codes "--split"
+option_word s = codes "--" ++ name_of s
 
 -- what the words have given: the operand, and the values of options
 pub record Given : Type 0 where
   pub operand : Option Word
-  pub workers : Option Word
-  pub reducers : Option Word
-  pub split : Option Word
+  pub values : Setting → Option Word
 
 abbrev pub nothing_given : Given
-nothing_given = record { operand = None; workers = None; reducers = None; split = None }
-
-abbrev pub option_of : Setting → Given → Option Word
-option_of Workers g = g.workers
-option_of Reducers g = g.reducers
-option_of Split g = g.split
+nothing_given = record { operand = None; values = λ _. None }
 
 abbrev pub with_operand : Word → Given → Given
 with_operand word g = record g { operand = Some word }
 
 abbrev pub with_value : Setting → Word → Given → Given
-with_value Workers value g = record g { workers = Some value }
-with_value Reducers value g = record g { reducers = Some value }
-with_value Split value g = record g { split = Some value }
+with_value s value g = record g { values = λ t. if is_same s t then Some value else g.values t }
 
 -- a word that begins with `-`, the byte 45, and is longer than one byte
 abbrev pub is_dashed : Word → Bool
@@ -69,10 +73,10 @@ pub data Gives : Given → List Word → Given → Type 0 where
       → Gives (with_operand word g) rest end → Gives g (word ∷ rest) end
   -- `--name=value`; the byte 61 is `=`
   joined : {g end : Given} {word : Word} {rest : List Word} (s : Setting) (value : Word) → word ≡ option_word s ++ 61 ∷ value → IsOptionWord value
-      → option_of s g ≡ None → Gives (with_value s value g) rest end → Gives g (word ∷ rest) end
+      → g.values s ≡ None → Gives (with_value s value g) rest end → Gives g (word ∷ rest) end
   -- `--name value`
   apart : {g end : Given} {word value : Word} {rest : List Word} (s : Setting) → word ≡ option_word s → IsOptionWord value
-      → option_of s g ≡ None → Gives (with_value s value g) rest end → Gives g (word ∷ value ∷ rest) end
+      → g.values s ≡ None → Gives (with_value s value g) rest end → Gives g (word ∷ value ∷ rest) end
   -- `--`, and no word behind it
   dashes : {g : Given} {word : Word} → word ≡ codes "--" → Gives g (word ∷ []) g
   -- `--` and the operand, whatever it begins with
@@ -92,9 +96,10 @@ pub record IsCount (word : Word) : Type 0 where
 -- What was given makes the command, where there are so many hosts.
 pub record Makes (hosts : ℕ) (given : Given) (c : Command) : Type 0 where
   pub operand : given.operand ≡ Some c.operand
-  pub workers : IsSet given.workers (min 4 hosts) hosts c.workers
-  pub reducers : IsSet given.reducers 4 256 c.reducers
-  pub split : IsSet given.split 1048576 67108864 c.split
+  pub workers : IsSet (given.values Workers) (min 4 hosts) hosts c.workers
+  pub reducers : IsSet (given.values Reducers) 4 256 c.reducers
+  pub split : IsSet (given.values Split) 1048576 67108864 c.split
+  pub attempts : IsSet (given.values Attempts) 4 16 c.attempts
   pub count : c.verb ≡ verbs.Demo → IsCount c.operand
 
 -- The words are the command: its verb, and words that give what makes it.

@@ -2,7 +2,7 @@ ghost use Rattle.std.specs.Prelude.{◌≡◌, ◌≢◌, ◌≤◌, ◌⊎◌, 
 ghost use Rattle.std.specs.Char.{is_ascii_digit};
 ghost use Rattle.std.specs.List.{list_all};
 ghost use Rattle.std.specs.Str.Parse.{digits_value};
-ghost use Rattle.clap.specs.Words.{FailsBy, kind_of, app_of, fault_of, found_of, matches_of, rows_of, rule_of};
+ghost use Rattle.clap.specs.Words.{FailsBy, kind_of, app_of, fault_of, found_of, matches_of, rows_of, rule_of, with_rule};
 ghost use Rattle.clap.specs.declared.error.kind.ErrorKind.TheVariants as kind;
 ghost use Rattle.pig_value.specs.declared.outcomes.WordFault.TheVariants as faults;
 ghost use Rattle.pig_words.specs.CommandWords.{IsCommand, Makes, verb_word};
@@ -43,6 +43,8 @@ pub struct Command {
     pub reducers: u32,
     /// The length of a split, from 1 to 67,108,864 bytes.
     pub split: u64,
+    /// The number of failed attempts at one task with which a run is given up, from 1 to 16.
+    pub attempts: u32,
 }
 
 // What clap found: the operand, and the options that were given.
@@ -52,6 +54,16 @@ struct Found<'a> {
     workers: Option<&'a str>,
     reducers: Option<&'a str>,
     split: Option<&'a str>,
+    attempts: Option<&'a str>,
+}
+
+// The numbers that the options set.
+#[derive(Drop)]
+struct Numbers {
+    workers: u32,
+    reducers: u32,
+    split: u32,
+    attempts: u32,
 }
 
 // The one operand.
@@ -72,6 +84,18 @@ fn option<'a>(alloc: Global, name: &'a str) -> Arg<'a>
     Arg::new(alloc, name).long(name).action(ArgAction::Set)
 }
 
+// A command with one more option.
+fn with_option<'a>(
+    alloc: Global,
+    command: clap::Command<'a>,
+    name: &'a str,
+) -> Result<clap::Command<'a>, AllocError>
+    ensures { IfOk result (λ c. app_of c
+        ≡ with_rule (app_of command.entry) (option_rule name.entry.now)) }
+{
+    command.arg(option(alloc, name))
+}
+
 // A command without arguments, and without flags for help and the version.
 fn bare<'a>(alloc: Global) -> clap::Command<'a>
     ensures { app_of result ≡ bare_pig }
@@ -81,15 +105,15 @@ fn bare<'a>(alloc: Global) -> clap::Command<'a>
         .disable_version_flag(true)
 }
 
-// The command of the operand and the three options.
+// The command of the operand and the options.
 fn options<'a>(alloc: Global) -> Result<clap::Command<'a>, AllocError>
     ensures { IfOk result (λ c. app_of c ≡ pig) }
 {
-    bare(alloc)
-        .arg(operand(alloc))?
-        .arg(option(alloc, "workers"))?
-        .arg(option(alloc, "reducers"))?
-        .arg(option(alloc, "split"))
+    let command = bare(alloc).arg(operand(alloc))?;
+    let command = with_option(alloc, command, "workers")?;
+    let command = with_option(alloc, command, "reducers")?;
+    let command = with_option(alloc, command, "split")?;
+    with_option(alloc, command, "attempts")
 }
 
 // What clap makes of the words, of which the first stands for the program's name.
@@ -127,6 +151,7 @@ fn read_options<'a>(alloc: Global, words: &'a [&'a str]) -> Result<Found<'a>, Wo
                 workers: matches.get_str("workers"),
                 reducers: matches.get_str("reducers"),
                 split: matches.get_str("split"),
+                attempts: matches.get_str("attempts"),
             }),
             None => Err(WordFault::Usage),
         },
@@ -214,15 +239,21 @@ fn first_verb(words: &Words) -> Option<Verb>
     }
 }
 
-// The numbers of workers and of reduce tasks, and the length of a split.
+// The numbers that the options set, or their defaults.
 #[tactic(auto, unfolding(crate::specs::ClapWords::numbers_at))]
-fn numbers(found: &Found, hosts: u32) -> Option<(u32, u32, u32)>
+fn read_numbers(found: &Found, hosts: u32) -> Option<Numbers>
     ensures { result ≡ numbers_at hosts (given_of found.now) }
 {
     let workers = setting(found.workers, hosts.min(4), hosts)?;
     let reducers = setting(found.reducers, 4, 256)?;
     let split = setting(found.split, 1_048_576, 67_108_864)?;
-    Some((workers, reducers, split))
+    let attempts = setting(found.attempts, 4, 16)?;
+    Some(Numbers {
+        workers,
+        reducers,
+        split,
+        attempts,
+    })
 }
 
 // Whether an operand is one that the verb takes: `demo` takes a count.
@@ -245,16 +276,17 @@ fn make_command(alloc: Global, verb: Verb, found: &Found, hosts: u32) -> Result<
     if !takes(verb, found.operand) {
         return Err(WordFault::Usage);
     }
-    let Some((workers, reducers, split)) = numbers(found, hosts) else {
+    let Some(numbers) = read_numbers(found, hosts) else {
         return Err(WordFault::Usage);
     };
     match Text::from_str(alloc, found.operand) {
         Ok(operand) => Ok(Command {
             verb,
             operand,
-            workers,
-            reducers,
-            split: u64::from(split),
+            workers: numbers.workers,
+            reducers: numbers.reducers,
+            split: u64::from(numbers.split),
+            attempts: numbers.attempts,
         }),
         Err(_) => Err(WordFault::OutOfMemory),
     }
@@ -263,8 +295,8 @@ fn make_command(alloc: Global, verb: Verb, found: &Found, hosts: u32) -> Result<
 /// The command that the words of a command line are, without the program's name, where there are so many hosts.
 ///
 /// The first word is the verb: `run`, `explain`, `check` or `demo`. Then come one operand, and at most once each
-/// `--workers`, `--reducers` and `--split` with a number, as two words or as one with `=`; behind a word `--` only
-/// the operand may stand. `Usage` comes exactly where the words are no command.
+/// `--workers`, `--reducers`, `--split` and `--attempts` with a number, as two words or as one with `=`; behind a word
+/// `--` only the operand may stand. `Usage` comes exactly where the words are no command.
 pub fn read_words(alloc: Global, words: &Words, hosts: u32) -> Result<Command, WordFault>
     requires some { 1 ≤ hosts }
     requires few { hosts ≤ 256 }

@@ -8,7 +8,7 @@ pub returns-in-Some-clause-read : goal.returns-in-Some-clause-read
 returns-in-Some-clause-read c =
     let f = found_of c.in-Ok.matches in
     are_read (map (λ w. w.now) c.args.words.now) f _ c.requires.utf8 c.in-Ok.ensures.kinds c.in-Ok.ensures.found
-    (value_places f _ (ap (option_map (λ s. s.now)) (sym c.in-Some.is) ∙ c.get_str.ensures) c.get_str-in-Some.ensures c.get_str-in-Some-2.ensures c.get_str-in-Some-3.ensures)
+    (value_places f _ (ap (option_map (λ s. s.now)) (sym c.in-Some.is) ∙ c.get_str.ensures) (c.get_str-in-Some.ensures, (c.get_str-in-Some-2.ensures, (c.get_str-in-Some-3.ensures, (c.get_str-in-Some-4.ensures, tt)))))
 
 pub returns-in-Ok-clause-usage : goal.returns-in-Ok-clause-usage
 returns-in-Ok-clause-usage c = λ _.
