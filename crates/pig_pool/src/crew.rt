@@ -128,7 +128,8 @@ fn run_both<R: Threads + Sync, W: Work + Sync, H: Host + Send>(
             requires sync { IsSync R.row × IsSync W.row × IsSend H.row × IsSend W.Out.row }
             requires fits { FitsCrew (W.count work.now) (W.wave work.now) board.now wave limit }
             requires ready { Holds left.now.pass (IsReady board.now depth) }
-            requires hosts { AreHosts (λ h. W.suits work.now (H.inputs h)) depth left.now.hosts.now }
+            requires hosts { AreHosts (λ h. W.suits work.now (H.inputs h)) depth
+                left.now.hosts.now }
             ensures ended { IfOk result (λ r. Holds left.entry.now.pass (λ p. EndsAs
                 (W.right work.entry.now) limit (tasks_of board.entry.now) wave board.entry.now depth
                 H.faults H.begun p left.entry.now.hosts.now left.exit.now.hosts.now r)) }
@@ -141,7 +142,8 @@ fn run_both<R: Threads + Sync, W: Work + Sync, H: Host + Send>(
             requires sync { IsSync R.row × IsSync W.row × IsSend H.row × IsSend W.Out.row }
             requires fits { FitsCrew (W.count work.now) (W.wave work.now) board.now wave limit }
             requires ready { Holds right.now.pass (IsReady board.now depth) }
-            requires hosts { AreHosts (λ h. W.suits work.now (H.inputs h)) depth right.now.hosts.now }
+            requires hosts { AreHosts (λ h. W.suits work.now (H.inputs h)) depth
+                right.now.hosts.now }
             ensures ended { IfOk result (λ r. Holds right.entry.now.pass (λ p. EndsAs
                 (W.right work.entry.now) limit (tasks_of board.entry.now) wave board.entry.now depth
                 H.faults H.begun p right.entry.now.hosts.now right.exit.now.hosts.now r)) }
