@@ -1,4 +1,6 @@
 mod Samples
+mod Fitted
+mod Slices
 pub mod Loops
 pub mod Headings
 pub mod Waved

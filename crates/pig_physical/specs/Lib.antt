@@ -5,3 +5,6 @@ pub mod Seen
 pub mod Outs
 pub mod Values
 pub mod Running
+pub mod Sliced
+pub mod Handed
+pub mod Fitting

@@ -1,5 +1,5 @@
 -- What tasks hand on, as contracts see it.
-use Rattle.std.specs.Prelude.{ℕ, List, [], slice_get}
+use Rattle.std.specs.Prelude.{ℕ, List, [], Option, Some, None, slice_get}
 use Rattle.std.specs.Option.{option_map_or}
 use Rattle.pig_value.specs.Gathering.{Entry}
 use Rattle.pig_value.specs.Trees.{Tree}
@@ -22,6 +22,19 @@ pub record TaskOut : Type 0 where
 -- the outputs of each wave that ended, in the order of its tasks
 abbrev pub Outs : Type 0
 Outs = List (List TaskOut)
+
+-- the rows, the runs, the bytes, where it holds such
+abbrev pub rows_held : Form → Option (List (List Tree))
+rows_held (o_rows rows) = Some rows
+rows_held form = None
+
+abbrev pub runs_held : Form → Option (List InDirections)
+runs_held (o_runs runs) = Some runs
+runs_held form = None
+
+abbrev pub bytes_held : Form → Option (List ℕ)
+bytes_held (o_bytes bytes) = Some bytes
+bytes_held form = None
 
 abbrev pub rows_in : Form → List (List Tree)
 rows_in (o_rows rows) = rows
