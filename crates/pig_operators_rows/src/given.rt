@@ -162,7 +162,8 @@ pub fn by_row(alloc: Global, inputs: &[&[u8]]) -> Result<Run, AllocError>
     Ok(builder.finish())
 }
 
-fn second_down(alloc: Global) -> Result<Dirs, AllocError>
+/// The direction of such a run.
+pub fn second_down(alloc: Global) -> Result<Dirs, AllocError>
     ensures { IfOk result (λ dirs. dirs ≡ Desc ∷ []) }
 {
     let mut dirs = Seq::new(alloc);
@@ -191,7 +192,9 @@ fn add_second(alloc: Global, builder: &mut RunBuilder, row: &Tuple) -> Result<()
 }
 
 /// The run of lines by their second fields, downwards.
-pub fn by_second(alloc: Global, text: &[u8]) -> Result<Run, AllocError> {
+pub fn by_second(alloc: Global, text: &[u8]) -> Result<Run, AllocError>
+    ensures { IfOk result (λ run. run.dirs ≡ Desc ∷ []) }
+{
     let mut builder = RunBuilder::new(alloc, second_down(alloc)?);
     let mut from = 0;
     while let Some(span) = next_line(text, from) {

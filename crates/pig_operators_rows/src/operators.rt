@@ -10,9 +10,9 @@ use pig_value::{Rows, Seq, Side, Tuple, Value, field_at};
 use std::alloc::Global;
 use std::process::Abort;
 
-// An operator by a letter: `g` GROUP, `c` COGROUP of two inputs, `i` of three of which the second is INNER, `j` JOIN of
-// two inputs, `k` of three, `l`, `r` and `f` the outer joins.
-fn operator<R: Abort>(rt: &R, alloc: Global, letter: u8) -> Gathering {
+/// An operator by a letter: `g` GROUP, `c` COGROUP of two inputs, `i` of three of which the second is INNER, `j` JOIN of
+/// two inputs, `k` of three, `l`, `r` and `f` the outer joins.
+pub fn operator<R: Abort>(rt: &R, alloc: Global, letter: u8) -> Gathering {
     match letter {
         b'c' => cogroup(rt, alloc, &[false, false]),
         b'i' => cogroup(rt, alloc, &[false, true, false]),

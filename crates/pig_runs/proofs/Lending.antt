@@ -4,7 +4,6 @@ use Rattle.std.proofs.Math.Bool.{Bool-set}
 use Rattle.std.proofs.Math.Logic.{∥∥₁_map, ∥∥₁_map₂, ∥∥₁_elim, ∥∥₁_prop}
 use Rattle.std.specs.Prelude.{Option, Some, None, Result, Ok, Err, OnOk, option_map, slice_get}
 use Rattle.std.specs.Coded.{Coded-set, coded_list}
-use Rattle.std.specs.Ordering.{is_lt}
 use Rattle.std.proofs.lemmas.List.{length-map, map-append, append-nil}
 use Rattle.std.proofs.lemmas.Option.{slice_get-map, slice_get_read}
 use Rattle.pig_value.specs.Gathering.{Entry}
@@ -15,7 +14,7 @@ use Rattle.pig_value.proofs.list_laws.Indexing.{take_one, more_taken}
 use Rattle.pig_value.proofs.list_laws.Listing.{some_same, each_at, each-append}
 use Rattle.pig_runs.specs.declared.lent.Lent.{Lent}
 use Rattle.pig_runs.specs.declared.slots.Slot.{Slot}
-use Rattle.pig_runs.specs.Cutting.{HaveDirections}
+use Rattle.pig_runs.specs.Cutting.{HaveDirections, is_up_to}
 use Rattle.pig_runs.specs.Entries.{IsEntry, AreKeyed, InDirections, and_entries, coded_in_directions, entries_of_all, run_cmp}
 use Rattle.pig_runs.specs.Packed.{Packed, packed, packed_lent, packed_cmp, found_at, Held, Stand, coded_packed}
 use Rattle.pig_runs.proofs.Merging.{all-append}
@@ -65,15 +64,16 @@ lent_all ds bytes b slots s held old new (Ok u) same_bytes same_slots h =
     h ∙ ap (λ ps. old ++ ps) ((λ i. map (found_at (same_bytes i)) (same_slots i)) ∙ sym held.1.1)
 
 -- two entries that are lent stand as they do
-pub lent_before : (ds : List Dir) (es fs : List Entry) (at there : ℕ) (p q : Packed) (r : Bool) → ∥ AreKeyed ds es ∥₁ → ∥ AreKeyed ds fs ∥₁
-    → option_map (packed ds) (slice_get es at) ≡ Some p → option_map (packed ds) (slice_get fs there) ≡ Some q → r ≡ is_lt (packed_cmp p q)
-    → (e f : Entry) → slice_get es at ≡ Some e → slice_get fs there ≡ Some f → r ≡ is_lt (run_cmp ds e f)
-lent_before ds es fs at there p q r good well is_p is_q told e f here found =
+pub lent_up_to : (equal : Bool) (ds : List Dir) (es fs : List Entry) (at there : ℕ) (p q : Packed) (r : Bool) → ∥ AreKeyed ds es ∥₁ → ∥ AreKeyed ds fs ∥₁
+    → option_map (packed ds) (slice_get es at) ≡ Some p → option_map (packed ds) (slice_get fs there) ≡ Some q → r ≡ is_up_to equal (packed_cmp p q)
+    → (e f : Entry) → slice_get es at ≡ Some e → slice_get fs there ≡ Some f → r ≡ is_up_to equal (run_cmp ds e f)
+lent_up_to equal ds es fs at there p q r good well is_p is_q told e f here found =
     let first : packed ds e ≡ p = some_same (packed ds e) p (sym (ap (option_map (packed ds)) here) ∙ is_p) in
     let second : packed ds f ≡ q = some_same (packed ds f) q (sym (ap (option_map (packed ds)) found) ∙ is_q) in
-    ∥∥₁_elim good (Bool-set r (is_lt (run_cmp ds e f)))
-    (λ h. ∥∥₁_elim well (Bool-set r (is_lt (run_cmp ds e f)))
-    (λ k. told ∙ ((λ i. is_lt (packed_cmp (sym first i) (sym second i))) ∙ ap is_lt (entry_order ds e f (each_at (IsEntry ds) es at e here h) (each_at (IsEntry ds) fs there f found k)))))
+    ∥∥₁_elim good (Bool-set r (is_up_to equal (run_cmp ds e f)))
+    (λ h. ∥∥₁_elim well (Bool-set r (is_up_to equal (run_cmp ds e f)))
+    (λ k. told
+    ∙ ((λ i. is_up_to equal (packed_cmp (sym first i) (sym second i))) ∙ ap (is_up_to equal) (entry_order ds e f (each_at (IsEntry ds) es at e here h) (each_at (IsEntry ds) fs there f found k)))))
 
 -- ---- the entries of runs, one run after another
 

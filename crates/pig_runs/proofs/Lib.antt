@@ -16,3 +16,4 @@ mod InTurn
 mod PartJoined
 mod Placing
 mod Stretched
+mod Chosen

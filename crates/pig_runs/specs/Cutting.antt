@@ -2,7 +2,7 @@
 use Rattle.std.specs.Prelude.{◌≡◌, zero, suc, ◌+◌, ◌-◌, ◌*◌, ◌/◌, ℕ, Bool, true, false, not, take, drop, ◌&&◌, List, [], ◌∷◌, ◌++◌, map, length, replicate, Option, Some, None, slice_get, refl}
 use Rattle.std.specs.List.{AllByRecursion, filter, flat_map, range_with_len}
 use Rattle.std.specs.Option.{option_map_or}
-use Rattle.std.specs.Ordering.{is_lt}
+use Rattle.std.specs.Ordering.{is_gt, is_lt}
 use Rattle.std.specs.declared.cmp.Ordering.{Ordering}
 use Rattle.std.specs.declared.cmp.Ordering.TheVariants.{Less, Equal, Greater}
 use Rattle.std.specs.Coded.{Coded, code_by, coded×, coded_list, coded_option}
@@ -67,6 +67,16 @@ dirs_of_all (run ∷ runs) = run.dirs
 
 abbrev pub HaveDirections : List Dir → List InDirections → Type 0
 HaveDirections ds runs = AllByRecursion (λ run. run.dirs ≡ ds) runs
+
+-- of how two entries stand: whether the first stands before the other, or is no greater
+abbrev pub is_up_to : Bool → Ordering → Bool
+is_up_to false r = is_lt r
+is_up_to true r = not (is_gt r)
+
+-- what a search by halves knows: the entries before `low` stand before an entry of others, or are no greater, and those from `high` on don't
+pub record IsHalved (equal : Bool) (ds : List Dir) (es fs : List Entry) (there low high : ℕ) : Type 0 where
+  pub first : (f : Entry) → slice_get fs there ≡ Some f → AllByRecursion (λ e. is_up_to equal (run_cmp ds e f) ≡ true) (take low es)
+  pub rest : (f : Entry) → slice_get fs there ≡ Some f → AllByRecursion (λ e. is_up_to equal (run_cmp ds e f) ≡ false) (drop high es)
 
 -- the first so many elements pass the test, and none behind them does
 pub record Divides {X : Type 0} (p : X → Bool) (xs : List X) (count : ℕ) : Type 0 where

@@ -5,7 +5,7 @@ ghost use Rattle.pig_runs.specs.Places.{IsStretch, found_in};
 ghost use Rattle.pig_runs.specs.Packed.{found_at, packed, packed_lent, Held, held_prop, IsPlaced, Joins, Stand};
 
 use crate::laying::sort_laid;
-use crate::lent::{Lent, stands_before};
+use crate::lent::{Lent, stands_up_to};
 use crate::packing::{
     add_entry, add_lent, join_slots, lend, lend_slots, read_key, read_row, same_key_bytes, slot_at,
 };
@@ -42,7 +42,7 @@ impl Model for RunBuilder {
 }
 
 impl RunBuilder {
-    ghost use Rattle.pig_runs.specs.Cutting.{Divides};
+    ghost use Rattle.pig_runs.specs.Cutting.{Divides, IsHalved, is_up_to};
     ghost use Rattle.pig_runs.specs.Entries.{IsEntry, AreKeyed, no_entries_in, and_entries, key_at, run_cmp};
     ghost use Rattle.pig_value.specs.Gathering.{Entry};
     ghost use Rattle.pig_value.specs.Sorts.{Ascends};
@@ -277,16 +277,16 @@ impl RunBuilder {
         Ok(found)
     }
 
-    // Whether an entry stands before an entry of others.
-    fn is_before(&self, at: usize, other: &RunBuilder, there: usize) -> bool
+    // Whether an entry stands before an entry of others, or is no greater, where `equal` asks for that.
+    fn is_up_to(&self, at: usize, other: &RunBuilder, there: usize, equal: bool) -> bool
         requires here { at < length self.now.entries }
         requires there { there < length other.now.entries }
         requires alike { other.now.dirs ≡ self.now.dirs }
         ensures { (e f : Entry) → slice_get self.now.entries at ≡ Some e
             → slice_get other.now.entries there ≡ Some f
-            → result ≡ is_lt (run_cmp self.now.dirs e f) }
+            → result ≡ is_up_to equal (run_cmp self.now.dirs e f) }
     {
-        stands_before(&self.lend(at), &other.lend(there))
+        stands_up_to(&self.lend(at), &other.lend(there), equal)
     }
 
     // How many entries, which are sorted, stand before an entry of others.
@@ -298,11 +298,45 @@ impl RunBuilder {
         ensures parts { (f : Entry) → slice_get other.now.entries there ≡ Some f
             → Divides (λ e. is_lt (run_cmp self.now.dirs e f)) self.now.entries result }
     {
-        let mut low = 0;
-        let mut high = self.len();
+        self.count_up_to(other, there, false)
+    }
+
+    // How many entries, which are sorted, stand before an entry of others, or are no greater.
+    pub(crate) fn count_up_to(&self, other: &RunBuilder, there: usize, equal: bool) -> usize
+        requires there { there < length other.now.entries }
+        requires alike { other.now.dirs ≡ self.now.dirs }
+        requires sorted { ∥ Ascends (run_cmp self.now.dirs) self.now.entries ∥₁ }
+        ensures bound { result ≤ length self.now.entries }
+        ensures parts { (f : Entry) → slice_get other.now.entries there ≡ Some f
+            → Divides (λ e. is_up_to equal (run_cmp self.now.dirs e f)) self.now.entries result }
+    {
+        self.count_between(0, self.len(), other, there, equal)
+    }
+
+    // The same, where it is known that there are so many at least, and no more than so many.
+    pub(crate) fn count_between(
+        &self,
+        least: usize,
+        most: usize,
+        other: &RunBuilder,
+        there: usize,
+        equal: bool,
+    ) -> usize
+        requires order { least ≤ most }
+        requires within { most ≤ length self.now.entries }
+        requires there { there < length other.now.entries }
+        requires alike { other.now.dirs ≡ self.now.dirs }
+        requires sorted { ∥ Ascends (run_cmp self.now.dirs) self.now.entries ∥₁ }
+        ensures bound { result ≤ most }
+        ensures parts { IsHalved equal self.now.dirs self.now.entries other.now.entries there least most
+            → (f : Entry) → slice_get other.now.entries there ≡ Some f
+            → Divides (λ e. is_up_to equal (run_cmp self.now.dirs e f)) self.now.entries result }
+    {
+        let mut low = least;
+        let mut high = most;
         'halves: while low < high {
             let middle = low + (high - low) / 2;
-            if self.is_before(middle, other, there) {
+            if self.is_up_to(middle, other, there, equal) {
                 low = middle + 1;
             } else {
                 high = middle;

@@ -9,6 +9,7 @@ use crate::builder::RunBuilder;
 use crate::lent::Lent;
 use crate::packing::sort_lent;
 use crate::run::{Run, Runs};
+use crate::selecting::{chosen_points, place};
 use pig_value::Dirs;
 use std::alloc::{AllocError, Global};
 use std::marker::Model;
@@ -63,8 +64,27 @@ impl CutPoints {
 /// The points that cut the entries of all runs into `n` slices of about one size.
 ///
 /// Of m entries in all, the point numbered k, from 0, is the entry at place (k + 1) * m / n of the sorted run of all
-/// entries, rounded down; where there is no entry, it is the end.
+/// entries, rounded down; where there is no entry, it is the end. Each is looked for by counting in each run, and only where
+/// that finds none all entries are put in order.
 pub fn cuts(alloc: Global, runs: &Runs, n: u32) -> Result<CutPoints, AllocError>
+    requires some { 0 < n }
+    requires alike { HaveDirections (dirs_of_all runs.now) runs.now }
+    ensures { IfOk result
+        (λ found. found ≡ record {
+          dirs = dirs_of_all runs.now;
+          points = cut_points n
+              (sort (run_cmp (dirs_of_all runs.now)) (entries_of_all runs.now));
+        }) }
+{
+    let dirs = dirs_of(alloc, runs)?;
+    if let Some(built) = chosen_points(alloc, runs, n, dirs)? {
+        return Ok(CutPoints { built, ends: 0 });
+    }
+    cuts_in_order(alloc, runs, n)
+}
+
+// The same, by all entries in order.
+fn cuts_in_order(alloc: Global, runs: &Runs, n: u32) -> Result<CutPoints, AllocError>
     requires some { 0 < n }
     requires alike { HaveDirections (dirs_of_all runs.now) runs.now }
     ensures { IfOk result
@@ -114,17 +134,6 @@ fn all_lent<'r>(alloc: Global, runs: &'r Runs) -> Result<Vec<Lent<'r>>, AllocErr
         run.as_builder().lend_all(&mut all)?;
     }
     Ok(all)
-}
-
-// The place of the point numbered `k`, of those that cut `m` entries into `n` slices.
-fn place(k: u32, n: u32, m: usize) -> usize
-    requires later { k + 1 < n }
-    requires some { 0 < m }
-    ensures is { result ≡ ((k + 1) * m) / n }
-    ensures within { result < m }
-{
-    let product = (k as u128 + 1) * m as u128;
-    (product / n as u128) as usize
 }
 
 // Adds the points that cut sorted entries into `n` slices.

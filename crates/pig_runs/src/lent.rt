@@ -1,6 +1,7 @@
 ghost use Rattle.std.specs.Prelude.{◌≡◌};
-ghost use Rattle.std.specs.Ordering.{ordering_then, nat_cmp, is_lt};
+ghost use Rattle.std.specs.Ordering.{ordering_then, nat_cmp};
 ghost use Rattle.pig_value.specs.Orders.{text_cmp};
+ghost use Rattle.pig_runs.specs.Cutting.{is_up_to};
 ghost use Rattle.pig_runs.specs.Packed.{packed_cmp, packed_lent};
 
 use std::cmp::Ordering;
@@ -33,9 +34,10 @@ fn compare_rest(a: &Lent, b: &Lent) -> Ordering
     }
 }
 
-// Whether an entry stands before another.
-pub(crate) fn stands_before(a: &Lent, b: &Lent) -> bool
-    ensures { result ≡ is_lt (packed_cmp (packed_lent a.now) (packed_lent b.now)) }
+// Whether an entry stands before another, or is no greater, where `equal` asks for that.
+pub(crate) fn stands_up_to(a: &Lent, b: &Lent, equal: bool) -> bool
+    ensures { result ≡ is_up_to equal (packed_cmp (packed_lent a.now) (packed_lent b.now)) }
 {
-    compare_lent(a, b).is_lt()
+    let found = compare_lent(a, b);
+    if equal { found.is_le() } else { found.is_lt() }
 }

@@ -15,6 +15,7 @@ mod packing;
 mod parts;
 mod run;
 mod run_parts;
+mod selecting;
 mod slots;
 mod sorting;
 mod stretches;
