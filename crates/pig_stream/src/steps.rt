@@ -70,7 +70,8 @@ impl<'p> Steps<'p> {
 
     /// Whether an ASSERT is among the steps. Where none is, no rows change what was noted.
     pub fn has_asserts(&self) -> bool
-        ensures { IsFalse result → (seen rows : List (List Tree)) → HaveNoted self.now seen
+        ensures is { result ≡ list_any (is_assert_at (plan_on self.now)) (path_on self.now) }
+        ensures none { IsFalse result → (seen rows : List (List Tree)) → HaveNoted self.now seen
             → HaveNoted self.now (seen ++ rows) }
     {
         asserts(self.nodes, self.path)

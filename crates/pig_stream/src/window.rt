@@ -1,4 +1,4 @@
-ghost use Rattle.std.specs.Prelude.{◌≡◌, ◌<◌, ◌≤◌, ◌+◌, ◌++◌, ◌-◌, [], true, false, drop, length, take, List, ℕ, IfOk, OnOk, IfSome, IsNone, IsTrue, IsFalse};
+ghost use Rattle.std.specs.Prelude.{◌≡◌, ◌↔◌, ◌<◌, ◌≤◌, ◌+◌, ◌++◌, ◌-◌, [], true, false, drop, length, take, List, ℕ, IfOk, OnOk, IfSome, IsNone, IsTrue, IsFalse};
 ghost use Rattle.std.specs.Str.Lines.{strip_carriage_return};
 ghost use Rattle.pig_value.specs.Leaves.{AreBytes};
 ghost use Rattle.pig_value.specs.Lines.{lines_within};
@@ -110,7 +110,8 @@ impl Window {
 
     /// Whether no line of the range comes any more, whatever bytes are handed in.
     pub fn is_past(&self) -> bool
-        ensures { IsTrue result → (later : List ℕ) → lines_coming self.now later ≡ [] }
+        ensures none { IsTrue result → (later : List ℕ) → lines_coming self.now later ≡ [] }
+        ensures exact { IsTrue result ↔ (self.now.limit ≡ 0) }
     {
         if self.limit() == 0 {
             return true;

@@ -1,7 +1,9 @@
 //! Rows on their way through nodes.
 use crate::plans::{Range, plan, stored, through};
 use pig_packed::Packed;
-use pig_stream::{Batch, FirstRows, PackedRows, RowList, Steps, StoredText, Unpacked, drive};
+use pig_stream::{
+    Batch, FirstRows, PackedRows, RowList, Sink, Steps, StoredText, Unpacked, drive,
+};
 use pig_value::Delim;
 use std::alloc::Global;
 use std::process::Abort;
@@ -74,24 +76,25 @@ fn hands_on<R: Abort>(rt: &R, alloc: Global) -> bool {
     same && count == 4
 }
 
-/// How many of the first rows are kept, of all that come, and of the ASSERTs that are told.
-fn first<R: Abort>(rt: &R, alloc: Global, limit: u64, path: &[u32]) -> (usize, u64, usize) {
+/// How many of the first rows are kept, of all that come, and of the ASSERTs that are told, and whether that is enough.
+fn first<R: Abort>(rt: &R, alloc: Global, limit: u64, path: &[u32]) -> (usize, u64, usize, bool) {
     let text = b"3\ta\n4\tb\n1\tc\n5\td\n";
     let mut sink = FirstRows::new(alloc, limit);
     let (unmet, count) = through(rt, alloc, path, &[], text, all(), &mut sink);
     let (kept, told) = (sink.rows.len(), unmet.len());
+    let enough = sink.has_enough();
     drop((unmet, sink));
-    (kept, count, told)
+    (kept, count, told, enough)
 }
 
 #[test]
 fn rows_are_handed_on_or_left(rt: HostRuntime) {
     let alloc = rt.alloc();
     assert!(rt; hands_on(&rt, alloc));
-    assert!(rt; first(&rt, alloc, 0, &[]) == (0, 4, 0));
-    assert!(rt; first(&rt, alloc, 2, &[]) == (2, 4, 0));
-    assert!(rt; first(&rt, alloc, 9, &[1]) == (3, 4, 0));
-    assert!(rt; first(&rt, alloc, 1, &[3]) == (1, 4, 1));
+    assert!(rt; first(&rt, alloc, 0, &[]) == (0, 4, 0, true));
+    assert!(rt; first(&rt, alloc, 2, &[]) == (2, 4, 0, true));
+    assert!(rt; first(&rt, alloc, 9, &[1]) == (3, 4, 0, false));
+    assert!(rt; first(&rt, alloc, 1, &[3]) == (1, 4, 1, true));
 }
 
 /// More lines than stand in a batch.

@@ -7,7 +7,7 @@ ghost use Rattle.pig_plan.specs.Plans.{plan_of};
 ghost use Rattle.pig_stream.specs.Stepping.{plan_on};
 
 use pig_plan::{Node, NodeOp, Plan};
-use pig_stream::{Batch, Lines, Sink, Steps, StoredText, Window, drive};
+use pig_stream::{Batch, Lines, Sink, Steps, StoredText, Window, drive, takings_join};
 use pig_typed::{Block, BlockItem, TExpr};
 use pig_value::{Boxed, Column, Columns, Delim, Function, Kind, Numbers, Rel, Seq, Text};
 use std::alloc::Global;
@@ -183,6 +183,7 @@ pub fn through<R: Abort, K: Sink>(
 
 /// The lines of a STORE of these rows, and behind them a line with how many rows came and the statements.
 pub fn stored<R: Abort>(rt: &R, alloc: Global, path: &[u32], text: &[u8], range: Range) -> Vec<u8> {
+    takings_join::<StoredText>();
     let mut sink = StoredText::new(alloc, Delim::tab());
     let (unmet, count) = through(rt, alloc, path, &[], text, range, &mut sink);
     add_end(rt, &mut sink.bytes, count, &unmet);

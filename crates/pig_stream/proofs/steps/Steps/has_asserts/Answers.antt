@@ -5,8 +5,8 @@ use Rattle.pig_stream.specs.Unmet.{is_assert_at}
 use Rattle.pig_stream.proofs.Joining.{none_fail}
 use Rattle.pig_stream.proofs.steps.Steps.has_asserts.Goals as goal
 
-pub returns : goal.returns
-returns c = λ no seen rows noted.
+pub returns-clause-none : goal.returns-clause-none
+returns-clause-none c = λ no seen rows noted.
     let s = c.args.self.now in
     let none : list_any (is_assert_at (plan_on s)) (path_on s) ≡ false = sym c.asserts.ensures ∙ no in
     noted ∙ none_fail (folding_on s) (plan_on s) (path_on s) seen (seen ++ rows) none
