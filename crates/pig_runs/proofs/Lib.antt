@@ -17,3 +17,4 @@ mod PartJoined
 mod Placing
 mod Stretched
 mod Chosen
+mod Walking

@@ -1,5 +1,5 @@
 -- Entries, their order, and runs, as contracts see them.
-use Rattle.std.specs.Prelude.{ℕ, List, [], ◌∷◌, ◌++◌, refl, Option, option_map, slice_get}
+use Rattle.std.specs.Prelude.{ℕ, List, [], ◌∷◌, ◌++◌, drop, refl, Option, option_map, slice_get}
 use Rattle.std.specs.List.{AllByRecursion}
 use Rattle.std.specs.Ordering.{ordering_then, nat_cmp}
 use Rattle.std.specs.declared.cmp.Ordering.{Ordering}
@@ -50,6 +50,10 @@ no_entries_in ds = record { dirs = ds; entries = [] }
 
 abbrev pub and_entries : List Entry → InDirections → InDirections
 and_entries es b = record { dirs = b.dirs; entries = b.entries ++ es }
+
+-- what is left behind the first so many entries
+abbrev pub left_of : ℕ → InDirections → InDirections
+left_of n b = record { dirs = b.dirs; entries = drop n b.entries }
 
 -- all entries of runs, one run after another
 abbrev pub entries_of_all : List InDirections → List Entry

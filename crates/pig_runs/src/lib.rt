@@ -19,6 +19,7 @@ mod selecting;
 mod slots;
 mod sorting;
 mod stretches;
+mod walk;
 
 pub use builder::RunBuilder;
 pub use cutting::{CutPoints, cuts, slice};
@@ -30,3 +31,4 @@ pub use parts::part_of;
 pub use run::{Run, Runs};
 pub use run_parts::{RunPart, merge_parts, part_between, whole_run};
 pub use sorting::{merge, sort_run};
+pub use walk::Walk;
