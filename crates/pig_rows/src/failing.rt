@@ -220,9 +220,9 @@ fn scripts_are_refused_in_order(rt: HostRuntime) {
 fn words_inputs_and_outputs_are_refused(rt: HostRuntime) {
     let alloc = rt.alloc();
     let usage =
-        "1 kept 0\nusage: pig run|explain|check SCRIPT | demo N [--workers N] [--reducers N] [--split BYTES]\np none\nq none\n";
+        "1 kept 0\nusage: pig run|explain|check SCRIPT | demo N [--workers N] [--reducers N] [--split BYTES] [--attempts N]\np none\nq none\n";
     let missing = "y = LOAD 'no' AS (a:int); STORE y INTO 'q';";
-    let got = told(&rt, alloc, &["check", "s"], BARE_LIMIT, "", "", None);
+    let got = told(&rt, alloc, &["explain", "s"], BARE_LIMIT, "", "", None);
     assert_eq!(rt; got.as_str(), usage);
     let got = told(&rt, alloc, &["run", "t"], BARE_LIMIT, "", "", None);
     assert_eq!(rt; got.as_str(), "2 kept 0\npig: no script\np none\nq none\n");

@@ -15,12 +15,13 @@ fn words<R: Abort>(rt: &R, alloc: Global, line: &str) -> Words {
     words
 }
 
-// The command's verb, operand, workers, reducers and split.
+// The command's verb, operand, workers, reducers, split and attempts.
 fn shown_command<R: Abort>(rt: &R, alloc: Global, command: &Command) -> String {
     let verb = command.verb;
     let operand = command.operand.as_str();
     let (workers, reducers, split) = (command.workers, command.reducers, command.split);
-    let text = format!(in alloc; "{verb:?} {operand} {workers} {reducers} {split}");
+    let attempts = command.attempts;
+    let text = format!(in alloc; "{verb:?} {operand} {workers} {reducers} {split} {attempts}");
     text.expect(rt, "memory")
 }
 
@@ -53,35 +54,38 @@ const VERBS: &str = "\
 16|s run|usage
 16|Run s|usage
 16|runs s|usage
-16|run s|Run s 4 4 1048576
-16|explain s|Explain s 4 4 1048576
-16|check s|Check s 4 4 1048576
-16|demo 4|Demo 4 4 4 1048576
-16|run help|Run help 4 4 1048576
-16|run run|Run run 4 4 1048576
-16|run |Run  4 4 1048576
-16|run é|Run é 4 4 1048576
+16|run s|Run s 4 4 1048576 4
+16|explain s|Explain s 4 4 1048576 4
+16|check s|Check s 4 4 1048576 4
+16|demo 4|Demo 4 4 4 1048576 4
+16|run help|Run help 4 4 1048576 4
+16|run run|Run run 4 4 1048576 4
+16|run |Run  4 4 1048576 4
+16|run é|Run é 4 4 1048576 4
 16|run s t|usage
 16|run  s|usage
 ";
 
 // Each option, in both forms and both places.
 const OPTIONS: &str = "\
-16|run --workers 3 s|Run s 3 4 1048576
-16|run --workers=3 s|Run s 3 4 1048576
-16|run s --workers 3|Run s 3 4 1048576
-16|run s --workers=3|Run s 3 4 1048576
-16|run --reducers 2 s|Run s 4 2 1048576
-16|run --reducers=2 s|Run s 4 2 1048576
-16|run s --reducers 2|Run s 4 2 1048576
-16|run s --reducers=2|Run s 4 2 1048576
-16|run --split 7 s|Run s 4 4 7
-16|run --split=7 s|Run s 4 4 7
-16|run s --split 7|Run s 4 4 7
-16|run s --split=7|Run s 4 4 7
-16|explain --split 9 s --reducers=2 --workers 1|Explain s 1 2 9
-16|check --workers=1 --reducers 3 --split=5 s|Check s 1 3 5
-16|demo --workers 2 3|Demo 3 2 4 1048576
+16|run --workers 3 s|Run s 3 4 1048576 4
+16|run --workers=3 s|Run s 3 4 1048576 4
+16|run s --workers 3|Run s 3 4 1048576 4
+16|run s --workers=3|Run s 3 4 1048576 4
+16|run --reducers 2 s|Run s 4 2 1048576 4
+16|run --reducers=2 s|Run s 4 2 1048576 4
+16|run s --reducers 2|Run s 4 2 1048576 4
+16|run s --reducers=2|Run s 4 2 1048576 4
+16|run --split 7 s|Run s 4 4 7 4
+16|run --split=7 s|Run s 4 4 7 4
+16|run s --split 7|Run s 4 4 7 4
+16|run s --split=7|Run s 4 4 7 4
+16|explain --split 9 s --reducers=2 --workers 1|Explain s 1 2 9 4
+16|check --workers=1 --reducers 3 --split=5 s|Check s 1 3 5 4
+16|demo --workers 2 3|Demo 3 2 4 1048576 4
+16|run --attempts 1 s|Run s 4 4 1048576 1
+16|run s --attempts=16|Run s 4 4 1048576 16
+16|check --attempts 2 --split=5 s --workers 1 --reducers 9|Check s 1 9 5 2
 ";
 
 // Options twice, without a value, and others.
@@ -90,6 +94,9 @@ const FAULTS: &str = "\
 16|run s --workers 2 --workers=2|usage
 16|run --reducers=1 s --reducers 2|usage
 16|run --split 5 --split 5 s|usage
+16|run --attempts=5 s --attempts 5|usage
+16|run s --attempts|usage
+16|run s --attempt 2|usage
 16|run s --workers|usage
 16|run s --workers --split 5|usage
 16|run --workers -- s|usage
@@ -110,20 +117,20 @@ const FAULTS: &str = "\
 
 // Dashes.
 const DASHES: &str = "\
-16|run -|Run - 4 4 1048576
+16|run -|Run - 4 4 1048576 4
 16|run s -|usage
 16|run -x|usage
 16|run -x s|usage
 16|run -é|usage
 16|run -1|usage
 16|run --|usage
-16|run s --|Run s 4 4 1048576
-16|run s --workers 2 --|Run s 2 4 1048576
-16|run -- s|Run s 4 4 1048576
-16|run -- -x|Run -x 4 4 1048576
-16|run -- --|Run -- 4 4 1048576
-16|run -- --workers=2|Run --workers=2 4 4 1048576
-16|run --split=2 -- -|Run - 4 4 2
+16|run s --|Run s 4 4 1048576 4
+16|run s --workers 2 --|Run s 2 4 1048576 4
+16|run -- s|Run s 4 4 1048576 4
+16|run -- -x|Run -x 4 4 1048576 4
+16|run -- --|Run -- 4 4 1048576 4
+16|run -- --workers=2|Run --workers=2 4 4 1048576 4
+16|run --split=2 -- -|Run - 4 4 2 4
 16|run -- s t|usage
 16|run s -- t|usage
 16|run -- s --|usage
@@ -138,38 +145,41 @@ const VALUES: &str = "\
 16|run s --workers |usage
 16|run s --workers 0|usage
 16|run s --workers 000000000|usage
-16|run s --workers 000000001|Run s 1 4 1048576
+16|run s --workers 000000001|Run s 1 4 1048576 4
 16|run s --workers 0000000001|usage
-16|run s --workers 007|Run s 7 4 1048576
+16|run s --workers 007|Run s 7 4 1048576 4
 16|run s --workers +3|usage
 16|run s --workers -3|usage
 16|run s --workers -|usage
 16|run s --workers 3x|usage
-16|run s --workers 16|Run s 16 4 1048576
+16|run s --workers 16|Run s 16 4 1048576 4
 16|run s --workers 17|usage
-256|run s --workers 256|Run s 256 4 1048576
+256|run s --workers 256|Run s 256 4 1048576 4
 256|run s --workers 257|usage
-1|run s|Run s 1 4 1048576
-3|run s|Run s 3 4 1048576
+1|run s|Run s 1 4 1048576 4
+3|run s|Run s 3 4 1048576 4
 3|run s --workers 4|usage
 16|run s --reducers 0|usage
-16|run s --reducers 256|Run s 4 256 1048576
+16|run s --reducers 256|Run s 4 256 1048576 4
 16|run s --reducers 257|usage
-16|run s --split 1|Run s 4 4 1
-16|run s --split 67108864|Run s 4 4 67108864
+16|run s --split 1|Run s 4 4 1 4
+16|run s --split 67108864|Run s 4 4 67108864 4
 16|run s --split 67108865|usage
 16|run s --split 999999999|usage
+16|run s --attempts 0|usage
+16|run s --attempts 17|usage
+16|run s --attempts 016|Run s 4 4 1048576 16
 ";
 
 // The count of `demo`.
 const COUNTS: &str = "\
 16|demo 0|usage
-16|demo 1|Demo 1 4 4 1048576
-16|demo 000100000|Demo 000100000 4 4 1048576
+16|demo 1|Demo 1 4 4 1048576 4
+16|demo 000100000|Demo 000100000 4 4 1048576 4
 16|demo 0000000001|usage
 16|demo 100001|usage
 16|demo s|usage
-16|demo -- 5|Demo 5 4 4 1048576
+16|demo -- 5|Demo 5 4 4 1048576 4
 ";
 
 // The first line of a table that is answered otherwise; nothing where there is none.

@@ -8,13 +8,16 @@ use Rattle.pig_outside.specs.declared.failing.Method.{Method}
 use Rattle.pig_outside.specs.declared.failing.Method.TheVariants as method
 use Rattle.pig_plan.specs.Plans.{Plan}
 use Rattle.pig_reach.specs.Reach.{dirs_of, live_paths}
+use Rattle.pig_words.specs.CommandWords.{IsCommand}
+use Rattle.pig_words.specs.declared.words.Command.{Command}
 use Rattle.pig_words.specs.declared.words.Verb.{Verb}
 use Rattle.pig_words.specs.declared.words.Verb.TheVariants as verbs
 use Rattle.pig_words.proofs.Commands.{one_command}
 use Rattle.pig_words.proofs.Decisions.{command_decided}
 use Rattle.pig_run.specs.declared.outcome.TooLarge.TheVariants as large
-use Rattle.pig_run.specs.Due.{AreWords, AssertsDue, HasWords, InputsDue, IsDue, Line, Looks, OutputsDue, RunDue, ScriptDue, SizeDue, Stage, asserts, asserts_none, call, first_assert, is_missing, no_words, passed, runs, script_found, script_missing, script_refused, size_of, small, stopped, store_calls, through, too_big, with_words}
-use Rattle.pig_run.specs.Reading.{IsFound, Refuses, Runs, Verdict}
+use Rattle.pig_run.specs.Due.{AssertsDue, CommandDue, HasWords, InputsDue, IsBuilt, IsDue, Line, Looks, OutputsDue, PlanStage, RunDue, ScriptDue, SizeDue, Stage, asserts, asserts_none, call, check_due, first_assert, is_missing, no_words, passed, run_due, runs, script_found, script_missing, script_refused, size_of, small, stopped, store_calls, through, too_big, with_words}
+use Rattle.pig_run.specs.Reading.{Faulty, Finding, IsFound, Prints, Refuses, Runs, Typed, Verdict}
+use Rattle.pig_run.specs.Texts.{ok_text}
 use Rattle.pig_run.specs.Refusals.{Refusal, no_command, no_input, no_script, not_run, output_there, too_large}
 use Rattle.pig_run.proofs.Readings.{PlanLaws, one_found, some_found}
 
@@ -25,34 +28,38 @@ pub not_none : {A B : Type 0} {x : A} → None ≡ Some x → B
 not_none e = absurd (cc)
 
 -- the same is due and asked
-abbrev Same : List DepotCall → List DepotCall → Verdict → Verdict → Type 0
+abbrev pub Same : List DepotCall → List DepotCall → Verdict → Verdict → Type 0
 Same a b v w = (v ≡ w) × (a ≡ b)
 
-abbrev IsOne : Stage → Type 0
+abbrev pub IsOne : Stage → Type 0
 IsOne stage = (a b : List DepotCall) (v w : Verdict) → stage a v → stage b w → Same a b v w
 
-abbrev IsSome : Stage → Type 0
+abbrev pub IsSome : Stage → Type 0
 IsSome stage = (a : List DepotCall) × (v : Verdict) × stage a v
 
 -- ---- words
 
-verb_built : (v : Verb) → (v ≡ verbs.Run) ⊎ (v ≡ verbs.Run → ⊥)
-verb_built verbs.Run = inl refl
-verb_built verbs.Explain = inr (λ e. cc)
-verb_built verbs.Check = inr (λ e. cc)
-verb_built verbs.Demo = inr (λ e. cc)
+verb_built : (v : Verb) → IsBuilt v ⊎ (IsBuilt v → ⊥)
+verb_built verbs.Run = inl tt
+verb_built verbs.Explain = inr (λ e. e)
+verb_built verbs.Check = inl tt
+verb_built verbs.Demo = inr (λ e. e)
+
+pub same_command : (line : Line) (c d : Command) → IsCommand line.hosts line.words c → IsCommand line.hosts line.words d → c ≡ d
+same_command line c d a b = one_command line.hosts line.words c d a b
 
 pub words_decided : (line : Line) → HasWords line ⊎ (HasWords line → ⊥)
 words_decided line = elim (command_decided line.hosts line.words) [
-  | inr none ↦ inr (λ h. none h.1.command h.1.is)
+  | inr none ↦ inr (λ h. none h.0 h.1.is)
   | inl command ↦ elim (verb_built command.0.verb) [
-    | inl run ↦ inl (command.0.operand, record { command = command.0; is = command.1; runs_it = run; operand = refl })
-    | inr other ↦ inr (λ h. other (ap (λ c. c.verb) (one_command line.hosts line.words command.0 h.1.command command.1 h.1.is) ∙ h.1.runs_it))
+    | inl built ↦ inl (command.0, record { is = command.1; built = built })
+    | inr other ↦ inr (λ h. other (subst (λ c. IsBuilt c.verb) (same_command line h.0 command.0 h.1.is command.1) h.1.built))
   ]
 ]
 
-pub same_path : (line : Line) (p q : List ℕ) → AreWords line p → AreWords line q → p ≡ q
-same_path line p q a b = sym a.operand ∙ ap (λ c. c.operand) (one_command line.hosts line.words a.command b.command a.is b.is) ∙ b.operand
+-- no words are a command of a verb that is not built
+pub not_built : (line : Line) (command : Command) → IsCommand line.hosts line.words command → (IsBuilt command.verb → ⊥) → ¬ HasWords line
+not_built line command is other h = other (subst (λ c. IsBuilt c.verb) (same_command line h.0 command h.1.is is) h.1.built)
 
 -- ---- stages
 
@@ -102,53 +109,74 @@ one_asserts plan s _ b _ w (asserts h) (asserts_none k due) = not_none (sym k �
 one_asserts plan s a _ v _ (asserts_none h due) (asserts k) = not_none (sym h ∙ k)
 one_asserts plan s a b v w (asserts_none h due) (asserts_none k other) = one_inputs plan s a b v w due other
 
-some_asserts : (plan : Plan) (s : Shelf) → IsSome (AssertsDue plan s)
+pub some_asserts : (plan : Plan) (s : Shelf) → IsSome (AssertsDue plan s)
 some_asserts plan s = by_first (first_assert plan) refl
   where
     by_first : (o : Option ℕ) → first_assert plan ≡ o → IsSome (AssertsDue plan s)
     by_first None e = let rest = some_inputs plan s in (rest.0, rest.1, asserts_none e rest.2)
     by_first (Some n) e = ([], Refuses (not_run n), asserts e)
 
-module _ (laws : PlanLaws) (path : List ℕ) (s : Shelf) where
-  same_verdict : (t u : List ℕ) (v w : Verdict) → script_of path s ≡ Some t → script_of path s ≡ Some u → IsFound t v → IsFound u w → v ≡ w
-  same_verdict t u v w h k is js = one_found laws t v w is (subst (λ x. IsFound x w) (sym (just (sym h ∙ k))) js)
+-- what a command asks of a plan
+one_command_due : (command : Command) (s : Shelf) (n : ℕ) (plan : Plan) → IsOne (CommandDue command s n plan)
+one_command_due command s n plan a b v w (run_due h due) (run_due k other) = one_asserts plan s a b v w due other
+one_command_due command s n plan a _ v _ (run_due h due) (check_due k) = absurd (let e = sym h ∙ k in cc)
+one_command_due command s n plan _ b _ w (check_due h) (run_due k other) = absurd (let e = sym h ∙ k in cc)
+one_command_due command s n plan _ _ _ _ (check_due h) (check_due k) = (refl, refl)
 
-  pub one_script : IsOne (ScriptDue path s)
-  one_script _ _ _ _ (script_missing h) (script_missing k) = (refl, refl)
-  one_script _ _ _ _ (script_missing h) (script_refused k is) = not_none (sym h ∙ k)
-  one_script _ _ _ w (script_missing h) (script_found k is due) = not_none (sym h ∙ k)
-  one_script _ _ _ _ (script_refused h is) (script_missing k) = not_none (sym k ∙ h)
-  one_script _ _ _ _ (script_refused {script = t} {refusal = r} h is) (script_refused {script = u} {refusal = q} k js) = (same_verdict t u (Refuses r) (Refuses q) h k is js, refl)
-  one_script _ _ _ w (script_refused {script = t} {refusal = r} h is) (script_found {script = u} {plan = p} k js due) = absurd (let e = same_verdict t u (Refuses r) (Runs p) h k is js in cc)
-  one_script _ _ v _ (script_found h is due) (script_missing k) = not_none (sym k ∙ h)
-  one_script _ _ v _ (script_found {script = t} {plan = p} h is due) (script_refused {script = u} {refusal = r} k js) = absurd (let e = same_verdict t u (Runs p) (Refuses r) h k is js in cc)
-  one_script _ _ v w (script_found {script = t} {plan = p} {asked = a} h is due) (script_found {script = u} {plan = q} {asked = b} k js other) =
-      let e = same_verdict t u (Runs p) (Runs q) h k is js in
+pub some_command_due : (command : Command) → IsBuilt command.verb → (s : Shelf) (n : ℕ) (plan : Plan) → IsSome (CommandDue command s n plan)
+some_command_due command built s n plan = by_verb command.verb refl built
+  where
+    by_verb : (v : Verb) → command.verb ≡ v → IsBuilt v → IsSome (CommandDue command s n plan)
+    by_verb verbs.Run e b = let rest = some_asserts plan s in (rest.0, rest.1, run_due e rest.2)
+    by_verb verbs.Check e b = ([], Prints (ok_text n), check_due e)
+    by_verb verbs.Explain e b = absurd b
+    by_verb verbs.Demo e b = absurd b
+
+module _ (laws : PlanLaws) (path : List ℕ) (s : Shelf) (next : PlanStage) where
+  same_finding : (t u : List ℕ) (v w : Finding) → script_of path s ≡ Some t → script_of path s ≡ Some u → IsFound t v → IsFound u w → v ≡ w
+  same_finding t u v w h k is js = one_found laws t v w is (subst (λ x. IsFound x w) (sym (just (sym h ∙ k))) js)
+
+  pub one_script : ((n : ℕ) (plan : Plan) → IsOne (next n plan)) → IsOne (ScriptDue path s next)
+  one_script one _ _ _ _ (script_missing h) (script_missing k) = (refl, refl)
+  one_script one _ _ _ _ (script_missing h) (script_refused k is) = not_none (sym h ∙ k)
+  one_script one _ _ _ w (script_missing h) (script_found k is due) = not_none (sym h ∙ k)
+  one_script one _ _ _ _ (script_refused h is) (script_missing k) = not_none (sym k ∙ h)
+  one_script one _ _ _ _ (script_refused {script = t} {refusal = r} h is) (script_refused {script = u} {refusal = q} k js) =
+      let e = same_finding t u (Faulty r) (Faulty q) h k is js in
+      let same : r ≡ q = cc in
+      (ap Refuses same, refl)
+  one_script one _ _ _ w (script_refused {script = t} {refusal = r} h is) (script_found {script = u} {n = m} {plan = p} k js due) = absurd (let e = same_finding t u (Faulty r) (Typed m p) h k is js in cc)
+  one_script one _ _ v _ (script_found h is due) (script_missing k) = not_none (sym k ∙ h)
+  one_script one _ _ v _ (script_found {script = t} {n = m} {plan = p} h is due) (script_refused {script = u} {refusal = r} k js) = absurd (let e = same_finding t u (Typed m p) (Faulty r) h k is js in cc)
+  one_script one _ _ v w (script_found {script = t} {n = m} {plan = p} {asked = a} h is due) (script_found {script = u} {n = n} {plan = q} {asked = b} k js other) =
+      let e = same_finding t u (Typed m p) (Typed n q) h k is js in
       let plans : q ≡ p = cc in
-      let same = one_asserts p s a b v w due (subst (λ x. AssertsDue x s b w) plans other) in
+      let numbers : n ≡ m = cc in
+      let same = one m p a b v w due (subst (λ i. next i p b w) numbers (subst (λ x. next n x b w) plans other)) in
       (same.0, ap (λ xs. call method.Script path ∷ xs) same.1)
 
-  some_script : IsSome (ScriptDue path s)
-  some_script = by_script (script_of path s) refl
+  some_script : ((n : ℕ) (plan : Plan) → IsSome (next n plan)) → IsSome (ScriptDue path s next)
+  some_script some = by_script (script_of path s) refl
     where
-      by_verdict : (script : List ℕ) (v : Verdict) → script_of path s ≡ Some script → IsFound script v → IsSome (ScriptDue path s)
-      by_verdict script (Refuses r) h is = (call method.Script path ∷ [], Refuses r, script_refused h is)
-      by_verdict script (Runs plan) h is = let rest = some_asserts plan s in (call method.Script path ∷ rest.0, rest.1, script_found h is rest.2)
+      by_finding : (script : List ℕ) (v : Finding) → script_of path s ≡ Some script → IsFound script v → IsSome (ScriptDue path s next)
+      by_finding script (Faulty r) h is = (call method.Script path ∷ [], Refuses r, script_refused h is)
+      by_finding script (Typed n plan) h is = let rest = some n plan in (call method.Script path ∷ rest.0, rest.1, script_found h is rest.2)
 
-      by_script : (o : Option (List ℕ)) → script_of path s ≡ o → IsSome (ScriptDue path s)
+      by_script : (o : Option (List ℕ)) → script_of path s ≡ o → IsSome (ScriptDue path s next)
       by_script None e = (call method.Script path ∷ [], Refuses no_script, script_missing e)
-      by_script (Some script) e = let found = some_found laws script in by_verdict script found.0 e found.1
+      by_script (Some script) e = let found = some_found laws script in by_finding script found.0 e found.1
 
 module _ (laws : PlanLaws) (line : Line) (s : Shelf) where
   pub one_due : IsOne (IsDue line s)
   one_due _ _ _ _ (no_words h) (no_words k) = (refl, refl)
-  one_due _ b _ w (no_words h) (with_words {path = q} k due) = absurd (h (q, k))
-  one_due a _ v _ (with_words {path = p} h due) (no_words k) = absurd (k (p, h))
-  one_due a b v w (with_words {path = p} h due) (with_words {path = q} k other) =
-      one_script laws p s a b v w due (subst (λ x. ScriptDue x s b w) (same_path line q p k h) other)
+  one_due _ b _ w (no_words h) (with_words {command = d} k due) = absurd (h (d, k))
+  one_due a _ v _ (with_words {command = c} h due) (no_words k) = absurd (k (c, h))
+  one_due a b v w (with_words {command = c} h due) (with_words {command = d} k other) =
+      one_script laws c.operand s (CommandDue c s) (one_command_due c s) a b v w due
+      (subst (λ x. ScriptDue x.operand s (CommandDue x s) b w) (same_command line d c k.is h.is) other)
 
   pub some_due : IsSome (IsDue line s)
   some_due = elim (words_decided line) [
-    | inl words ↦ (let rest = some_script laws words.0 s in (rest.0, rest.1, with_words words.1 rest.2))
+    | inl words ↦ (let rest = some_script laws words.0.operand s (CommandDue words.0 s) (some_command_due words.0 words.1.built s) in (rest.0, rest.1, with_words words.1 rest.2))
     | inr none ↦ ([], Refuses no_command, no_words none)
   ]

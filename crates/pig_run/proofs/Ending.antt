@@ -21,17 +21,16 @@ use Rattle.pig_run.specs.declared.outcome.RunFault.{RunFault}
 use Rattle.pig_run.specs.declared.outcome.RunFault.TheVariants as fault
 use Rattle.pig_run.specs.declared.progress.Progress.{Progress}
 use Rattle.pig_run.specs.declared.running.Found.{Found}
-use Rattle.pig_run.specs.Due.{IsDue, Line, RunDue, runs, store_calls}
-use Rattle.pig_run.specs.Ends.{Ends, done, host_failed, lookup_failed, no_memory, no_memory_at, no_memory_behind, refused, store_failed}
+use Rattle.pig_run.specs.Due.{RunDue, Stage, runs, store_calls}
+use Rattle.pig_run.specs.Ends.{Ends, done, host_failed, lookup_failed, no_memory, no_memory_at, no_memory_behind, refused, shows, store_failed}
 use Rattle.pig_run.specs.Outputs.{AreOutputsOf, IsStopped, IsUntouched, IsWhole, Output, with_outputs}
-use Rattle.pig_run.specs.Reading.{Refuses, Runs, Verdict}
-use Rattle.pig_run.specs.Running.{AskedFor, EachStored, IsAnswered, IsBrokenAt, IsFoundOver, IsNotBegun, Relation, RunEnd, RunsEnd, counts_in, kept_in, note_of, noted_line, outputs_of}
+use Rattle.pig_run.specs.Reading.{Prints, Refuses, Runs, Verdict}
+use Rattle.pig_run.specs.Running.{AskedFor, EachCounted, EachStored, IsAnswered, IsBrokenAt, IsFoundOver, IsNotBegun, Relation, RunEnd, RunsEnd, counts_in, kept_in, note_of, noted_line, outputs_of}
 use Rattle.pig_run.specs.Steps.{IsCommitFault, IsHostStep, IsLookFault, Passes, StopsIn}
 use Rattle.pig_run.specs.Texts.{done_line}
 use Rattle.pig_run.specs.Told.{CountsAre, EndsEarly, IsAsked, TellsInputs, TellsOf}
-use Rattle.pig_run.proofs.Deciding.{some_due}
-use Rattle.pig_run.proofs.Found.{outputs_are, relations_are}
-use Rattle.pig_run.proofs.Readings.{PlanLaws}
+use Rattle.pig_run.proofs.Deciding.{IsSome}
+use Rattle.pig_run.proofs.Found.{counted_first, outputs_are, outputs_counted, relations_are}
 use Rattle.pig_run.proofs.Stages.{asked_nothing, asked_then}
 
 -- nothing was made
@@ -54,17 +53,18 @@ early_commit n f (inr is) = subst (λ g. EndsEarly (Some g)) (sym is) (inr (inl 
 
 no_numbers : (tells : Type 0) (v : Verdict) (s : Shelf) (outs : List Output) (counts : Counts) (f : RunFault) → CountsAre tells v s outs counts (Some f)
 no_numbers tells (Refuses refusal) s outs counts f = tt
+no_numbers tells (Prints text) s outs counts f = λ e. absurd (cc)
 no_numbers tells (Runs plan) s outs counts f = λ e. absurd (cc)
 
 -- ---- a step before the run ended the call
 
-module _ (laws : PlanLaws) (line : Line) (s : Shelf) (tells : Type 0) (old new : Option (List DepotCall)) (shelf : Option Shelf) (progress : Progress) (same : shelf ≡ Some s)
+module _ (stage : Stage) (due : IsSome stage) (s : Shelf) (tells : Type 0) (old new : Option (List DepotCall)) (shelf : Option Shelf) (progress : Progress) (same : shelf ≡ Some s)
     (idle : progress.begun ≡ false) where
   left_look : (v : Verdict) (f : RunFault) → IsLookFault f → Ends tells s (record { outs = []; kept = kept_in false progress; shelf = shelf }) v (Some f)
   left_look v f (inl is) = subst (λ g. Ends tells s (record { outs = []; kept = kept_in false progress; shelf = shelf }) v (Some g)) (sym is) (lookup_failed (untouched s shelf progress same idle))
   left_look v f (inr is) = subst (λ g. Ends tells s (record { outs = []; kept = kept_in false progress; shelf = shelf }) v (Some g)) (sym is) (no_memory (untouched s shelf progress same idle))
 
-  pub told_stopped : (f : RunFault) → StopsIn (IsDue line s) old new f → RunEnd line s tells old new shelf progress (Err f)
+  pub told_stopped : (f : RunFault) → StopsIn stage old new f → RunEnd stage s tells old new shelf progress (Err f)
   told_stopped f stops = elim stops.ends [
     | inl e ↦ record {
       verdict = Refuses e.refusal;
@@ -76,25 +76,61 @@ module _ (laws : PlanLaws) (line : Line) (s : Shelf) (tells : Type 0) (old new :
       numbers = tt;
       text = tt;
     }
-    | inr e ↦
-        let due = some_due laws line s in
-        record {
-          verdict = due.1;
-          calls = due.0;
-          due = due.2;
-          outs = [];
-          state = left_look due.1 f e.free;
-          asked = record { made = stops.made; asked = stops.asked; first = e.first due.0 due.1 due.2; all = λ early. absurd (early (early_look f e.free)) };
-          numbers = no_numbers tells due.1 s [] (counts_in progress) f;
-          text = tt;
-        }
+    | inr e ↦ record {
+      verdict = due.1;
+      calls = due.0;
+      due = due.2;
+      outs = [];
+      state = left_look due.1 f e.free;
+      asked = record { made = stops.made; asked = stops.asked; first = e.first due.0 due.1 due.2; all = λ early. absurd (early (early_look f e.free)) };
+      numbers = no_numbers tells due.1 s [] (counts_in progress) f;
+      text = tt;
+    }
   ]
+
+-- ---- stages that were passed
+
+-- what a call says from a stage on, it says from the stage before it
+pub end_behind : (R S : Stage) (s : Shelf) (tells : Type 0) (old mid new : Option (List DepotCall)) (shelf : Option Shelf) (progress : Progress) (result : Result (List ℕ) RunFault)
+    → Passes R S old mid → RunEnd S s tells mid new shelf progress result → RunEnd R s tells old new shelf progress result
+end_behind R S s tells old mid new shelf progress result passes told = record {
+  verdict = told.verdict;
+  calls = passes.made ++ told.calls;
+  due = passes.hands.on told.calls told.verdict told.due;
+  outs = told.outs;
+  state = told.state;
+  asked = record {
+    made = passes.made ++ told.asked.made;
+    asked = asked_then passes.made told.asked.made old mid new passes.asked told.asked.asked;
+    first = (told.asked.first.0, ap (λ xs. passes.made ++ xs) told.asked.first.1 ∙ sym (append_assoc passes.made told.asked.made told.asked.first.0));
+    all = λ early. ap (λ xs. passes.made ++ xs) (told.asked.all early);
+  };
+  numbers = told.numbers;
+  text = told.text;
+}
+
+-- ---- a text is due
+
+-- nothing was done, whether the text could be made or not
+module _ (stage : Stage) (due_is : List ℕ) (due : stage [] (Prints due_is)) (s : Shelf) (tells : Type 0) (old new : Option (List DepotCall)) (shelf : Option Shelf) (progress : Progress)
+    (asked_none : new ≡ old) (same : shelf ≡ Some s) (notes : progress.notes ≡ []) (read : progress.read ≡ 0) (kept : progress.kept ≡ []) where
+  pub told_shown : (text : List ℕ) → text ≡ due_is → RunEnd stage s tells old new shelf progress (Ok text)
+  told_shown text is = record {
+    verdict = Prints due_is;
+    calls = [];
+    due = due;
+    outs = [];
+    state = shows (record { same = same; no_outputs = refl; none_kept = kept });
+    asked = record { made = []; asked = asked_nothing old new asked_none; first = ([], refl); all = λ early. refl };
+    numbers = λ e i. record { read = read i; shuffled = 0; stored = sum_by (λ note. note.lines) (notes i) % 2 ^ 64 };
+    text = is;
+  }
 
 -- ---- the run came
 
-pub told_runs : (line : Line) (s : Shelf) (tells : Type 0) (plan : Plan) (old mid new : Option (List DepotCall)) (shelf : Option Shelf) (progress : Progress) (result : Result (List ℕ) RunFault)
-    → Passes (IsDue line s) (RunDue plan) old mid → RunsEnd plan s tells mid new shelf progress result → RunEnd line s tells old new shelf progress result
-told_runs line s tells plan old mid new shelf progress result passes told = record {
+pub told_runs : (stage : Stage) (s : Shelf) (tells : Type 0) (plan : Plan) (old mid new : Option (List DepotCall)) (shelf : Option Shelf) (progress : Progress) (result : Result (List ℕ) RunFault)
+    → Passes stage (RunDue plan) old mid → RunsEnd plan s tells mid new shelf progress result → RunEnd stage s tells old new shelf progress result
+told_runs stage s tells plan old mid new shelf progress result passes told = record {
   verdict = Runs plan;
   calls = passes.made ++ flat_map store_calls (dirs_of plan);
   due = passes.hands.on (flat_map store_calls (dirs_of plan)) (Runs plan) runs;
@@ -166,7 +202,7 @@ module _ (plan : Plan) (s : Shelf) (tells : Type 0) (old new : Option (List Depo
       left (inl is) = subst (λ g. Ends tells s (record { outs = []; kept = kept_in false progress; shelf = shelf }) (Runs plan) (Some g)) (sym is) (host_failed (untouched s shelf progress same idle))
       left (inr is) = subst (λ g. Ends tells s (record { outs = []; kept = kept_in false progress; shelf = shelf }) (Runs plan) (Some g)) (sym is) (no_memory (untouched s shelf progress same idle))
 
-  module _ (stores : List Store) (stores_are : stores ≡ stores_of plan) (relations : List Relation) (each : length relations ≡ length stores)
+  module _ (stores : List Store) (stores_are : stores ≡ stores_of plan) (relations : List Relation) (each : length relations ≡ length stores) (counted : EachCounted stores relations)
       (answers : tells → IsAnswered plan s.inputs progress.kept (map rows_tree relations)) where
     answers_are : tells → EachAnswers plan s.inputs progress.kept (map (λ store. store.relation) stores) (map rows_tree relations)
     answers_are t = subst (λ ns. EachAnswers plan s.inputs progress.kept ns (map rows_tree relations)) (relations_are plan ∙ ap (map (λ store. store.relation)) (sym stores_are)) (answers t).answer.stores
@@ -190,6 +226,9 @@ module _ (plan : Plan) (s : Shelf) (tells : Type 0) (old new : Option (List Depo
           named = named;
           stored = record {
             dirs = dirs_same broken.before broken.first broken.each;
+            counted = outputs_counted broken.before broken.first
+                (counted_first broken.before (broken.store ∷ broken.behind) broken.first broken.last broken.each
+                (subst (EachCounted (broken.before ++ broken.store ∷ broken.behind)) broken.rows_are (subst (λ xs. EachCounted xs relations) broken.are counted)));
             are = λ t. subst (λ k. AreOutputsOf plan s.inputs k broken.before (outputs_of broken.before broken.first)) (sym kept)
                 (outputs_are plan s.inputs progress.kept broken.before broken.first
                 (each_first plan s.inputs progress.kept broken.before (broken.store ∷ broken.behind) broken.first broken.last broken.each
@@ -243,6 +282,7 @@ module _ (plan : Plan) (s : Shelf) (tells : Type 0) (old new : Option (List Depo
       whole kept same = record {
         stored = record {
           dirs = dirs_same stores relations each ∙ ap (map (λ store. store.dir)) stores_are;
+          counted = outputs_counted stores relations counted;
           are = λ t. subst (λ k. AreOutputsOf plan s.inputs k (stores_of plan) (outputs_of stores relations)) (sym same)
               (subst (λ xs. AreOutputsOf plan s.inputs progress.kept xs (outputs_of stores relations)) stores_are (outputs_are plan s.inputs progress.kept stores relations (answers_are t) (stored_are t)));
         };

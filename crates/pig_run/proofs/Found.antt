@@ -1,21 +1,24 @@
 -- What a plan means over the inputs that were read is what it means over all that are told, and it is what the STOREs store.
-use Rattle.std.proofs.Common.{◌≡◌, ◌≢◌, ◌+◌, ◌||◌, ℕ, zero, suc, Bool, true, false, List, [], ◌∷◌, length, map, Option, Some, None, slice_get, drop, refl, sym, ◌∙◌, ap, subst, arith, inl, inr, cond}
+use Rattle.std.proofs.Common.{◌≡◌, ◌≢◌, ◌+◌, ◌||◌, ℕ, zero, suc, Bool, true, false, List, [], ◌∷◌, ◌++◌, length, map, Option, Some, None, slice_get, drop, refl, sym, ◌∙◌, ap, subst, arith, inl, inr, cond}
 use Rattle.std.specs.List.{AllByRecursion, cons_option, filter_map, find}
 use Rattle.std.specs.Option.{option_map, option_map_or, unwrap_or}
 use Rattle.std.specs.Str.{bytes_eq}
 use Rattle.std.proofs.lemmas.Bool.{cases_Bool}
 use Rattle.std.proofs.lemmas.Bool.Decides.{Decides-eqb}
 use Rattle.std.proofs.lemmas.List.{length-map}
+use Rattle.std.proofs.lemmas.List.Sorted.{length_permutation}
 use Rattle.std.proofs.lemmas.Slice.Eq.{bytes_eq-Decides}
 use Rattle.pig_value.specs.declared.inputs.Input.{Input}
 use Rattle.pig_value.specs.declared.outcomes.Kept.{Kept}
-use Rattle.pig_value.specs.Orders.{bag_of}
-use Rattle.pig_value.specs.Texts.{rows_text}
+use Rattle.pig_value.specs.Lines.{stored_lines}
+use Rattle.pig_value.specs.Orders.{bag_of, row_cmp}
+use Rattle.pig_value.specs.Texts.{row_text, rows_text}
 use Rattle.pig_value.specs.Trees.{Tree, row_tree, rows_tree}
 use Rattle.pig_value.specs.Valid.{IsValue}
+use Rattle.pig_value.proofs.list_laws.Bags.{permutation_from_bag}
 use Rattle.pig_outside.specs.Shelf.{pieces_of as pieces_told}
 use Rattle.pig_plan.specs.Laws.{AreOfBytes, PlanLiteralsAre}
-use Rattle.pig_plan.specs.Meaning.{IsKept}
+use Rattle.pig_plan.specs.Meaning.{IsKept, meaning}
 use Rattle.pig_plan.specs.Nodes.{is_live, is_store, is_used}
 use Rattle.pig_plan.specs.Operators.{pieces_of}
 use Rattle.pig_plan.specs.Plans.{Plan, PlanNode, PlanOp, p_load, p_filter, p_foreach, p_group_all, p_group, p_join, p_union, p_distinct, p_order, p_limit, p_store, p_assert, p_rank}
@@ -28,8 +31,8 @@ use Rattle.pig_reach.specs.Paths.{is_among}
 use Rattle.pig_reach.specs.Reach.{lines_read, live_paths, store_of, stores_of}
 use Rattle.pig_reach.specs.declared.storing.Store.{Store}
 use Rattle.pig_reach.proofs.Enough.{Agree, kept_agrees, lines_agree, meanings_agree, named_lives}
-use Rattle.pig_run.specs.Outputs.{AreOutputsOf}
-use Rattle.pig_run.specs.Running.{EachStored, IsAnswered, Relation, inputs_at, outputs_of}
+use Rattle.pig_run.specs.Outputs.{AreOutputsOf, IsCounted}
+use Rattle.pig_run.specs.Running.{EachCounted, EachStored, IsAnswered, Relation, inputs_at, outputs_of}
 
 true_not_false : {A : Type 0} → true ≡ false → A
 true_not_false e = absurd (cc)
@@ -203,3 +206,33 @@ as_many plan i kept [] [] h = refl
 as_many plan i kept [] (r ∷ rows) h = absurd h
 as_many plan i kept (n ∷ ns) [] h = absurd h
 as_many plan i kept (n ∷ ns) (r ∷ rows) h = ap suc (as_many plan i kept ns rows h.1)
+
+-- ---- how many lines their bytes have
+
+module _ (laws : AnswersAreStoredLines) (plan : Plan) (valid : IsPlan plan) (literals : PlanLiteralsAre IsValue plan) (i : List Input) (bytes : AreOfBytes i) (kept : List Kept)
+    (is_kept : IsKept plan i kept) where
+  rows_counted : (k delim : ℕ) (rows : List (List Tree)) → is_live plan k ≡ true → delim ≢ 10 → AnswersFor plan i kept k rows → length rows ≡ length (stored_lines (rows_text delim rows))
+  rows_counted k delim rows live other answers =
+      let read = laws plan i kept valid literals bytes is_kept k live rows answers delim other in
+      let m = meaning plan i kept k in
+      sym (length_permutation rows m (permutation_from_bag row_cmp rows m answers.bag)) ∙ sym (length-map m (row_text delim))
+      ∙ sym (length_permutation (map (row_text delim) m) (stored_lines (rows_text delim rows)) read.bag)
+
+  pub each_counted : (stores : List Store) (relations : List Relation) → AllByRecursion (λ store. store.delim ≢ 10) stores → AllByRecursion (λ k. is_live plan k ≡ true) (map (λ store. store.relation) stores)
+      → EachAnswers plan i kept (map (λ store. store.relation) stores) (map rows_tree relations) → EachCounted stores relations
+  each_counted [] relations others live h = tt
+  each_counted (store ∷ stores) [] others live h = tt
+  each_counted (store ∷ stores) (r ∷ relations) others live h = (
+    sym (length-map r row_tree) ∙ rows_counted store.relation store.delim (rows_tree r) live.0 others.0 h.0,
+    each_counted stores relations others.1 live.1 h.1,
+  )
+
+pub outputs_counted : (stores : List Store) (relations : List Relation) → EachCounted stores relations → AllByRecursion IsCounted (outputs_of stores relations)
+outputs_counted [] relations h = tt
+outputs_counted (store ∷ stores) [] h = tt
+outputs_counted (store ∷ stores) (r ∷ relations) h = (h.0, outputs_counted stores relations h.1)
+
+pub counted_first : (before behind : List Store) (first last : List Relation) → length first ≡ length before → EachCounted (before ++ behind) (first ++ last) → EachCounted before first
+counted_first [] behind first last each h = tt
+counted_first (store ∷ before) behind [] last each h = tt
+counted_first (store ∷ before) behind (r ∷ first) last each h = (h.0, counted_first before behind first last (omega (arith, each)) h.1)

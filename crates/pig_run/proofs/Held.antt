@@ -1,5 +1,5 @@
 -- Where a STORE reaches no ASSERT, the inputs are due.
-use Rattle.std.proofs.Common.{◌≡◌, ◌∙◌, List, Option, Some, None, refl, sym}
+use Rattle.std.proofs.Common.{◌≡◌, ◌∙◌, List, Option, None, refl, sym}
 use Rattle.pig_outside.specs.Calls.{DepotCall}
 use Rattle.pig_outside.specs.Shelf.{Shelf}
 use Rattle.pig_plan.specs.Plans.{PlanNode}

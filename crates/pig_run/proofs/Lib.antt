@@ -4,6 +4,7 @@ mod Ending
 mod Found
 mod Held
 mod LookUps
+mod Ordering
 mod Pieces
 mod Readings
 mod ReadingSteps

@@ -9,24 +9,24 @@ use Rattle.pig_syntax.specs.declared.tokens.Token.{Token}
 use Rattle.pig_parser.specs.Parsing.{IsFirstOff}
 use Rattle.pig_syntax.specs.Tokens.{IsBadAt}
 use Rattle.pig_run.specs.declared.outcome.RunFault.{RunFault}
-use Rattle.pig_plan.specs.declared.plan.Plan.{Plan}
+use Rattle.pig_run.specs.declared.reading.Checked.{Checked}
 use Rattle.pig_plan.specs.Plans.{plan_of}
 use Rattle.pig_run.specs.declared.outcome.RunFault.TheVariants as fault
-use Rattle.pig_run.specs.Reading.{IsLexed, IsParsed, Verdict, Refuses, Runs, bad_place, no_tree}
+use Rattle.pig_run.specs.Reading.{IsLexed, IsParsed, Faulty, Finding, Typed, bad_place, no_tree}
 use Rattle.pig_run.specs.Refusals.{Names, Refusal, no_token, off_grammar}
 use Rattle.pig_run.specs.Steps.{TellsPlan}
 
 -- what a stage finds, the stage before it finds
-pub tells_weaker : (P Q : Verdict → Type 0) → ((v : Verdict) → P v → Q v) → (r : Result Plan RunFault) → TellsPlan P r → TellsPlan Q r
-tells_weaker P Q weaker (Ok plan) h = weaker (Runs (plan_of plan)) h
-tells_weaker P Q weaker (Err f) (inl h) = inl (h.0, weaker (Refuses h.0) h.1, h.2)
+pub tells_weaker : (P Q : Finding → Type 0) → ((v : Finding) → P v → Q v) → (r : Result Checked RunFault) → TellsPlan P r → TellsPlan Q r
+tells_weaker P Q weaker (Ok checked) h = weaker (Typed checked.statements (plan_of checked.plan)) h
+tells_weaker P Q weaker (Err f) (inl h) = inl (h.0, weaker (Faulty h.0) h.1, h.2)
 tells_weaker P Q weaker (Err f) (inr h) = inr h
 
 -- a refusal that the reading found
-pub off_told : (ts : List Token) (ps : List Piece) {n : ℕ} → IsFirstOff ts ps n → ((refusal : Refusal) × IsParsed ts ps (Refuses refusal) × Names refusal (fault.Syntax n)) ⊎ (fault.Syntax n ≡ fault.OutOfMemory)
+pub off_told : (ts : List Token) (ps : List Piece) {n : ℕ} → IsFirstOff ts ps n → ((refusal : Refusal) × IsParsed ts ps (Faulty refusal) × Names refusal (fault.Syntax n)) ⊎ (fault.Syntax n ≡ fault.OutOfMemory)
 off_told ts ps {n = n} off = inl (off_grammar n, no_tree off, refl)
 
-pub bad_told : (script : List ℕ) {n : ℕ} → IsBadAt script n → ((refusal : Refusal) × IsLexed script (Refuses refusal) × Names refusal (fault.Lex n)) ⊎ (fault.Lex n ≡ fault.OutOfMemory)
+pub bad_told : (script : List ℕ) {n : ℕ} → IsBadAt script n → ((refusal : Refusal) × IsLexed script (Faulty refusal) × Names refusal (fault.Lex n)) ⊎ (fault.Lex n ≡ fault.OutOfMemory)
 bad_told script {n = n} bad = inl (no_token n, bad_place bad, refl)
 
 -- one more member passes

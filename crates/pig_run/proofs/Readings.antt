@@ -17,7 +17,7 @@ use Rattle.pig_typing.specs.declared.faults.CheckKind.{CheckKind}
 use Rattle.pig_plan.specs.Plans.{Plan}
 use Rattle.pig_check.specs.Scripts.{IsFirstUntyped, IsPlanOf}
 use Rattle.pig_run.specs.declared.outcome.TooLarge.TheVariants as large
-use Rattle.pig_run.specs.Reading.{Verdict, Refuses, Runs, IsChecked, no_typing, checked, IsParsed, no_tree, parsed, IsMeasured, too_many, too_deep, measured, IsLexed, bad_place, lexed, IsFound, too_long, short}
+use Rattle.pig_run.specs.Reading.{Faulty, Finding, Typed, IsChecked, no_typing, checked, IsParsed, no_tree, parsed, IsMeasured, too_many, too_deep, measured, IsLexed, bad_place, lexed, IsFound, too_long, short}
 use Rattle.pig_run.specs.Refusals.{no_token, off_grammar, too_large, untyped}
 
 -- what is known of plans of scripts
@@ -30,19 +30,19 @@ pub record PlanLaws : Type 0 where
 module _ (laws : PlanLaws) where
   -- ---- at most one
 
-  one_checked : (ss : List Stmt) (v w : Verdict) → IsChecked ss v → IsChecked ss w → v ≡ w
-  one_checked ss _ _ (no_typing {n = m} {kind = j} h) (no_typing {n = n} {kind = k} i) = ap (λ x. Refuses (untyped ss x)) (laws.one_statement ss m n j k h i)
+  one_checked : (ss : List Stmt) (v w : Finding) → IsChecked ss v → IsChecked ss w → v ≡ w
+  one_checked ss _ _ (no_typing {n = m} {kind = j} h) (no_typing {n = n} {kind = k} i) = ap (λ x. Faulty (untyped ss x)) (laws.one_statement ss m n j k h i)
   one_checked ss _ _ (no_typing {n = n} {kind = kind} h) (checked {plan = p} is) = absurd (laws.never_both ss p n kind is h)
   one_checked ss _ _ (checked {plan = p} is) (no_typing {n = n} {kind = kind} h) = absurd (laws.never_both ss p n kind is h)
-  one_checked ss _ _ (checked {plan = p} is) (checked {plan = q} are) = ap Runs (laws.one ss p q is are)
+  one_checked ss _ _ (checked {plan = p} is) (checked {plan = q} are) = ap (Typed (length ss)) (laws.one ss p q is are)
 
-  one_parsed : (ts : List Token) (ps : List Piece) (v w : Verdict) → IsParsed ts ps v → IsParsed ts ps w → v ≡ w
-  one_parsed ts ps _ _ (no_tree {n = m} h) (no_tree {n = n} k) = ap (λ i. Refuses (off_grammar i)) (one_first ts ps m n h k)
+  one_parsed : (ts : List Token) (ps : List Piece) (v w : Finding) → IsParsed ts ps v → IsParsed ts ps w → v ≡ w
+  one_parsed ts ps _ _ (no_tree {n = m} h) (no_tree {n = n} k) = ap (λ i. Faulty (off_grammar i)) (one_first ts ps m n h k)
   one_parsed ts ps _ w (no_tree {n = n} h) (parsed {ss = ss} given k) = absurd (not_both ts ps ss n given h)
   one_parsed ts ps v _ (parsed {ss = ss} given h) (no_tree {n = n} k) = absurd (not_both ts ps ss n given k)
   one_parsed ts ps v w (parsed {ss = ss} given h) (parsed {ss = us} others k) = one_checked ss v w h (subst (λ x. IsChecked x w) (same_trees ts others given) k)
 
-  one_measured : (ts : List Token) (ps : List Piece) (v w : Verdict) → IsMeasured ts ps v → IsMeasured ts ps w → v ≡ w
+  one_measured : (ts : List Token) (ps : List Piece) (v w : Finding) → IsMeasured ts ps v → IsMeasured ts ps w → v ≡ w
   one_measured ts ps _ _ (too_many h) (too_many k) = refl
   one_measured ts ps _ _ (too_many h) (too_deep few k) = absurd (omega (arith, h, few))
   one_measured ts ps _ w (too_many h) (measured few shallow k) = absurd (omega (arith, h, few))
@@ -53,8 +53,8 @@ module _ (laws : PlanLaws) where
   one_measured ts ps v _ (measured few shallow h) (too_deep less k) = absurd (k shallow)
   one_measured ts ps v w (measured few shallow h) (measured less also k) = one_parsed ts ps v w h k
 
-  one_lexed : (script : List ℕ) (v w : Verdict) → IsLexed script v → IsLexed script w → v ≡ w
-  one_lexed script _ _ (bad_place {offset = a} h) (bad_place {offset = b} k) = ap (λ i. Refuses (no_token i)) (one_place script a b h k)
+  one_lexed : (script : List ℕ) (v w : Finding) → IsLexed script v → IsLexed script w → v ≡ w
+  one_lexed script _ _ (bad_place {offset = a} h) (bad_place {offset = b} k) = ap (λ i. Faulty (no_token i)) (one_place script a b h k)
   one_lexed script _ w (bad_place {offset = a} h) (lexed {ts = ts} tokens statements k) = absurd (tokens_not_both script ts a tokens h)
   one_lexed script v _ (lexed {ts = ts} tokens statements h) (bad_place {offset = b} k) = absurd (tokens_not_both script ts b tokens k)
   one_lexed script v w (lexed {ts = ts} {ps = ps} tokens statements h) (lexed {ts = us} {ps = qs} others cuts k) =
@@ -62,7 +62,7 @@ module _ (laws : PlanLaws) where
       let also : qs ≡ ps = same_statements ts (subst (λ x. AreStatements x qs) same cuts) statements in
       one_measured ts ps v w h (subst (λ x. IsMeasured ts x w) also (subst (λ x. IsMeasured x qs w) same k))
 
-  pub one_found : (script : List ℕ) (v w : Verdict) → IsFound script v → IsFound script w → v ≡ w
+  pub one_found : (script : List ℕ) (v w : Finding) → IsFound script v → IsFound script w → v ≡ w
   one_found script _ _ (too_long h) (too_long k) = refl
   one_found script _ w (too_long h) (short few k) = absurd (omega (arith, h, few))
   one_found script v _ (short few h) (too_long k) = absurd (omega (arith, k, few))
@@ -70,16 +70,16 @@ module _ (laws : PlanLaws) where
 
   -- ---- at least one
 
-  some_checked : (ss : List Stmt) → (v : Verdict) × IsChecked ss v
+  some_checked : (ss : List Stmt) → (v : Finding) × IsChecked ss v
   some_checked ss = elim (laws.some ss) [
-    | inl plan ↦ (Runs plan.0, checked plan.1)
-    | inr none ↦ (Refuses (untyped ss none.0), no_typing none.2)
+    | inl plan ↦ (Typed (length ss) plan.0, checked plan.1)
+    | inr none ↦ (Faulty (untyped ss none.0), no_typing none.2)
   ]
 
-  some_parsed : (ts : List Token) (ps : List Piece) → (v : Verdict) × IsParsed ts ps v
+  some_parsed : (ts : List Token) (ps : List Piece) → (v : Finding) × IsParsed ts ps v
   some_parsed ts ps = elim (trees_or_off ts ps) [
     | inl trees ↦ (let form = some_checked trees.0 in (form.0, parsed trees.1 form.1))
-    | inr off ↦ (Refuses (off_grammar off.0), no_tree off.1)
+    | inr off ↦ (Faulty (off_grammar off.0), no_tree off.1)
   ]
 
   depth_one : (ts : List Token) (a b : ℕ) → IsDepth ts a → IsDepth ts b → a ≡ b
@@ -103,26 +103,26 @@ module _ (laws : PlanLaws) where
     ]
   ]
 
-  some_measured : (ts : List Token) (ps : List Piece) → (v : Verdict) × IsMeasured ts ps v
+  some_measured : (ts : List Token) (ps : List Piece) → (v : Finding) × IsMeasured ts ps v
   some_measured ts ps = elim (cases_lt 4096 (length ps)) [
-    | inl many ↦ (Refuses (too_large large.Statements), too_many many)
+    | inl many ↦ (Faulty (too_large large.Statements), too_many many)
     | inr few ↦ elim (all_decided (IsShallow ts) (shallow_decided ts) ps) [
-      | inr deep ↦ (Refuses (too_large large.Depth), too_deep few deep)
+      | inr deep ↦ (Faulty (too_large large.Depth), too_deep few deep)
       | inl shallow ↦ (let rest = some_parsed ts ps in (rest.0, measured few shallow rest.1))
     ]
   ]
 
-  some_lexed : (script : List ℕ) → (v : Verdict) × IsLexed script v
+  some_lexed : (script : List ℕ) → (v : Finding) × IsLexed script v
   some_lexed script = elim (tokens_or_bad script) [
     | inl tokens ↦
         (let statements = statements_some tokens.0 in
         let rest = some_measured tokens.0 statements.0 in
         (rest.0, lexed tokens.1 statements.1 rest.1))
-    | inr bad ↦ (Refuses (no_token bad.0), bad_place bad.1)
+    | inr bad ↦ (Faulty (no_token bad.0), bad_place bad.1)
   ]
 
-  pub some_found : (script : List ℕ) → (v : Verdict) × IsFound script v
+  pub some_found : (script : List ℕ) → (v : Finding) × IsFound script v
   some_found script = elim (cases_lt (2 ^ 20) (length script)) [
-    | inl long ↦ (Refuses (too_large large.Script), too_long long)
+    | inl long ↦ (Faulty (too_large large.Script), too_long long)
     | inr few ↦ (let rest = some_lexed script in (rest.0, short few rest.1))
   ]

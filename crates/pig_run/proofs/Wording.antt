@@ -1,23 +1,62 @@
--- The words of a command line as the first stage.
-use Rattle.std.proofs.Common.{◌≡◌, ◌⊎◌, ℕ, List, Option, refl, subst, inl, inr}
+-- The words of a command line as the first stage, and the command as that behind its script.
+use Rattle.std.proofs.Common.{◌≡◌, ◌⊎◌, ◌∙◌, ℕ, List, Option, Result, Ok, Err, IfErr, MatchResult, refl, sym, subst, inl, inr}
 use Rattle.pig_outside.specs.Calls.{DepotCall}
 use Rattle.pig_outside.specs.Shelf.{Shelf}
+use Rattle.pig_plan.specs.Plans.{Plan}
+use Rattle.pig_words.specs.declared.words.Command.{Command}
+use Rattle.pig_words.specs.declared.words.Verb.TheVariants as verbs
 use Rattle.pig_run.specs.declared.outcome.RunFault.{RunFault}
 use Rattle.pig_run.specs.declared.outcome.RunFault.TheVariants as fault
-use Rattle.pig_run.specs.Due.{AreWords, HasWords, IsDue, Line, ScriptDue, no_words, with_words}
+use Rattle.pig_run.specs.Due.{AreWords, AssertsDue, CommandDue, HasWords, IsDue, Line, ScriptDue, check_due, no_words, run_due, with_words}
 use Rattle.pig_run.specs.Reading.{Verdict}
 use Rattle.pig_run.specs.Refusals.{no_command}
-use Rattle.pig_run.specs.Steps.{Passes, StopsIn}
-use Rattle.pig_run.proofs.Deciding.{same_path}
+use Rattle.pig_run.specs.Steps.{IsLaterFault, IsPlanFault, IsRunFault, Passes, SaysWords, StopsIn}
+use Rattle.pig_run.proofs.Deciding.{same_command}
 use Rattle.pig_run.proofs.Stages.{passes_itself, refuses, wants}
 
-script_behind : (line : Line) (s : Shelf) (path : List ℕ) → AreWords line path → (asked : List DepotCall) (v : Verdict) → IsDue line s asked v → ScriptDue path s asked v
-script_behind line s path are _ _ (no_words none) = absurd (none (path, are))
-script_behind line s path are asked v (with_words {path = p} words due) = subst (λ x. ScriptDue x s asked v) (same_path line p path words are) due
+module _ (line : Line) (s : Shelf) (command : Command) (are : AreWords line command) where
+  script_behind : (asked : List DepotCall) (v : Verdict) → IsDue line s asked v → ScriptDue command.operand s (CommandDue command s) asked v
+  script_behind _ _ (no_words none) = absurd (none (command, are))
+  script_behind asked v (with_words {command = c} words due) =
+      subst (λ x. ScriptDue x.operand s (CommandDue x s) asked v) (same_command line c command words.is are.is) due
 
-pub words_pass : (line : Line) (s : Shelf) (path : List ℕ) → AreWords line path → (now : Option (List DepotCall)) → Passes (IsDue line s) (ScriptDue path s) now now
-words_pass line s path are now = passes_itself (IsDue line s) (ScriptDue path s) now now refl (λ asked v due. with_words are due) (script_behind line s path are)
+  pub words_pass : (now : Option (List DepotCall)) → Passes (IsDue line s) (ScriptDue command.operand s (CommandDue command s)) now now
+  words_pass now = passes_itself (IsDue line s) (ScriptDue command.operand s (CommandDue command s)) now now refl (λ asked v due. with_words are due) script_behind
 
 pub words_stop : (line : Line) (s : Shelf) (now : Option (List DepotCall)) (f : RunFault) → ((f ≡ fault.Usage) × (¬ HasWords line)) ⊎ (f ≡ fault.OutOfMemory) → StopsIn (IsDue line s) now now f
 words_stop line s now f (inl h) = refuses (IsDue line s) now now refl f no_command h.0 (no_words h.1)
 words_stop line s now f (inr h) = wants (IsDue line s) now now refl f h
+
+-- a command that runs its script
+module _ (command : Command) (s : Shelf) (n : ℕ) (plan : Plan) (is : command.verb ≡ verbs.Run) where
+  run_behind : (asked : List DepotCall) (v : Verdict) → CommandDue command s n plan asked v → AssertsDue plan s asked v
+  run_behind asked v (run_due h due) = due
+  run_behind _ _ (check_due h) = absurd (let e = sym is ∙ h in cc)
+
+  pub run_passes : (now : Option (List DepotCall)) → Passes (CommandDue command s n plan) (AssertsDue plan s) now now
+  run_passes now = passes_itself (CommandDue command s n plan) (AssertsDue plan s) now now refl (λ asked v due. run_due is due) run_behind
+
+-- ---- which faults there are behind the words
+
+pub later_plan : (f : RunFault) → IsPlanFault f → IsLaterFault f
+later_plan fault.Usage h = absurd h
+later_plan fault.NoScript h = (tt, λ e. cc)
+later_plan (fault.Lex offset) h = (tt, λ e. cc)
+later_plan (fault.Syntax n) h = (tt, λ e. cc)
+later_plan (fault.Check n kind) h = (tt, λ e. cc)
+later_plan (fault.NoInput path) h = (tt, λ e. cc)
+later_plan (fault.OutputExists dir) h = (tt, λ e. cc)
+later_plan (fault.DepotFault store) h = (tt, λ e. cc)
+later_plan fault.HostFault h = (tt, λ e. cc)
+later_plan fault.OutOfMemory h = (tt, λ e. cc)
+later_plan fault.ConsoleFault h = absurd h
+later_plan (fault.TooLarge which) h = (tt, λ e. cc)
+
+pub later_run : (f : RunFault) → IsRunFault f → IsLaterFault f
+later_run f (inl is) = subst IsLaterFault (sym is) (tt, λ e. cc)
+later_run f (inr (inl (n, is))) = subst IsLaterFault (sym is) (tt, λ e. cc)
+later_run f (inr (inr is)) = subst IsLaterFault (sym is) (tt, λ e. cc)
+
+pub later_words : (line : Line) (result : Result (List ℕ) RunFault) → HasWords line → IfErr result IsLaterFault → MatchResult result (λ _. HasWords line) (SaysWords line)
+later_words line (Ok text) has h = has
+later_words line (Err f) has h = inr (h.0, inl has)

@@ -11,10 +11,12 @@ use Rattle.pig_plan.specs.Plans.{Plan, PlanNode, PlanOp, p_assert}
 use Rattle.pig_reach.specs.Reach.{live_paths, dirs_of}
 use Rattle.pig_words.specs.CommandWords.{IsCommand}
 use Rattle.pig_words.specs.declared.words.Command.{Command}
+use Rattle.pig_words.specs.declared.words.Verb.{Verb}
 use Rattle.pig_words.specs.declared.words.Verb.TheVariants as verbs
 use Rattle.pig_run.specs.declared.outcome.TooLarge.TheVariants as large
-use Rattle.pig_run.specs.Reading.{Verdict, Refuses, Runs, IsFound}
+use Rattle.pig_run.specs.Reading.{Faulty, IsFound, Prints, Refuses, Runs, Typed, Verdict}
 use Rattle.pig_run.specs.Refusals.{Refusal, no_command, no_input, no_script, not_run, output_there, too_large}
+use Rattle.pig_run.specs.Texts.{ok_text}
 
 -- ---- words
 
@@ -23,16 +25,21 @@ pub record Line : Type 0 where
   pub hosts : ℕ
   pub words : List (List ℕ)
 
--- the words are a command that runs the script at a path. Its numbers have no effect yet
-pub record AreWords (line : Line) (path : List ℕ) : Type 0 where
-  pub command : Command
+-- the verbs that are built
+abbrev pub IsBuilt : Verb → Type 0
+IsBuilt verbs.Run = Unit {0}
+IsBuilt verbs.Explain = ⊥
+IsBuilt verbs.Check = Unit {0}
+IsBuilt verbs.Demo = ⊥
+
+-- the words are this command, and it is built. Its numbers have no effect yet
+pub record AreWords (line : Line) (command : Command) : Type 0 where
   pub is : IsCommand line.hosts line.words command
-  pub runs_it : command.verb ≡ verbs.Run
-  pub operand : command.operand ≡ path
+  pub built : IsBuilt command.verb
 
 -- the words are a command that is built
 abbrev pub HasWords : Line → Type 0
-HasWords line = (path : List ℕ) × AreWords line path
+HasWords line = (command : Command) × AreWords line command
 
 -- ---- what the depot is asked
 
@@ -105,16 +112,26 @@ pub data AssertsDue (plan : Plan) (shelf : Shelf) : List DepotCall → Verdict �
   asserts_none : {asked : List DepotCall} {verdict : Verdict} → first_assert plan ≡ None
       → InputsDue plan shelf asked verdict → AssertsDue plan shelf asked verdict
 
--- the depot has the script, and it is found to be a plan
-pub data ScriptDue (path : List ℕ) (shelf : Shelf) : List DepotCall → Verdict → Type 0 where
-  script_missing : script_of path shelf ≡ None → ScriptDue path shelf (call method.Script path ∷ []) (Refuses no_script)
-  script_refused : {script : List ℕ} {refusal : Refusal} → script_of path shelf ≡ Some script → IsFound script (Refuses refusal)
-      → ScriptDue path shelf (call method.Script path ∷ []) (Refuses refusal)
-  script_found : {script : List ℕ} {plan : Plan} {asked : List DepotCall} {verdict : Verdict} → script_of path shelf ≡ Some script
-      → IsFound script (Runs plan) → AssertsDue plan shelf asked verdict → ScriptDue path shelf (call method.Script path ∷ asked) verdict
+-- what is due of so many statements and their plan
+abbrev pub PlanStage : Type 1
+PlanStage = ℕ → Plan → Stage
+
+-- the command goes on from a plan: `run` runs it, and `check` prints how many statements have it
+pub data CommandDue (command : Command) (shelf : Shelf) (statements : ℕ) (plan : Plan) : List DepotCall → Verdict → Type 0 where
+  run_due : {asked : List DepotCall} {verdict : Verdict} → command.verb ≡ verbs.Run
+      → AssertsDue plan shelf asked verdict → CommandDue command shelf statements plan asked verdict
+  check_due : command.verb ≡ verbs.Check → CommandDue command shelf statements plan [] (Prints (ok_text statements))
+
+-- the depot has the script, and it is found to be a plan, behind which the next stage is due
+pub data ScriptDue (path : List ℕ) (shelf : Shelf) (next : PlanStage) : List DepotCall → Verdict → Type 0 where
+  script_missing : script_of path shelf ≡ None → ScriptDue path shelf next (call method.Script path ∷ []) (Refuses no_script)
+  script_refused : {script : List ℕ} {refusal : Refusal} → script_of path shelf ≡ Some script → IsFound script (Faulty refusal)
+      → ScriptDue path shelf next (call method.Script path ∷ []) (Refuses refusal)
+  script_found : {script : List ℕ} {n : ℕ} {plan : Plan} {asked : List DepotCall} {verdict : Verdict} → script_of path shelf ≡ Some script
+      → IsFound script (Typed n plan) → next n plan asked verdict → ScriptDue path shelf next (call method.Script path ∷ asked) verdict
 
 -- What is due, and all that the depot is asked before it is done.
 pub data IsDue (line : Line) (shelf : Shelf) : List DepotCall → Verdict → Type 0 where
   no_words : ¬ HasWords line → IsDue line shelf [] (Refuses no_command)
-  with_words : {path : List ℕ} {asked : List DepotCall} {verdict : Verdict} → AreWords line path
-      → ScriptDue path shelf asked verdict → IsDue line shelf asked verdict
+  with_words : {command : Command} {asked : List DepotCall} {verdict : Verdict} → AreWords line command
+      → ScriptDue command.operand shelf (CommandDue command shelf) asked verdict → IsDue line shelf asked verdict

@@ -8,7 +8,7 @@ use Rattle.pig_run.specs.declared.outcome.Counts.{Counts}
 use Rattle.pig_run.specs.declared.outcome.RunFault.{RunFault}
 use Rattle.pig_run.specs.declared.outcome.RunFault.TheVariants as fault
 use Rattle.pig_run.specs.Outputs.{IsStopped, IsUntouched, IsWhole, Left, no_counts}
-use Rattle.pig_run.specs.Reading.{Verdict, Refuses, Runs}
+use Rattle.pig_run.specs.Reading.{Verdict, Prints, Refuses, Runs}
 use Rattle.pig_run.specs.Refusals.{Refusal, Names}
 use Rattle.pig_run.specs.Texts.{fault_text}
 
@@ -16,6 +16,8 @@ use Rattle.pig_run.specs.Texts.{fault_text}
 pub data Ends (tells : Type 0) (shelf : Shelf) (left : Left) : Verdict → Option RunFault → Type 0 where
   -- what is due is refused
   refused : {refusal : Refusal} {found : RunFault} → Names refusal found → IsUntouched shelf left → Ends tells shelf left (Refuses refusal) (Some found)
+  -- what is due is a text, and nothing else
+  shows : {text : List ℕ} → IsUntouched shelf left → Ends tells shelf left (Prints text) None
   -- the depot failed at a look-up
   lookup_failed : {verdict : Verdict} → IsUntouched shelf left → Ends tells shelf left verdict (Some (fault.DepotFault None))
   -- the host failed, as it read

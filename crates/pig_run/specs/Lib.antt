@@ -1,6 +1,8 @@
+pub mod Blame
 pub mod Due
 pub mod Ends
 pub mod Looking
+pub mod Orderly
 pub mod Outputs
 pub mod Reading
 pub mod Refusals

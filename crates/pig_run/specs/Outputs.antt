@@ -2,9 +2,10 @@
 -- (Pig Latin Basics: "STORE". That a relation but for an ordered one is stored in any order is said there under "Relations, Bags, Tuples,
 -- Fields".)
 use Rattle.std.specs.Prelude.{◌≡◌, ◌⊎◌, ◌%◌, ◌^◌, ⊤, ℕ, List, [], ◌∷◌, ◌++◌, length, map, Option, Some}
-use Rattle.std.specs.List.{sum_by}
+use Rattle.std.specs.List.{AllByRecursion, sum_by}
 use Rattle.pig_value.specs.declared.inputs.Input.{Input}
 use Rattle.pig_value.specs.declared.outcomes.Kept.{Kept}
+use Rattle.pig_value.specs.Lines.{stored_lines}
 use Rattle.pig_value.specs.Texts.{rows_text}
 use Rattle.pig_value.specs.Trees.{Tree}
 use Rattle.pig_outside.specs.Shelf.{Shelf, LeftUnmarked, whole_state, with_dir}
@@ -42,9 +43,14 @@ AreOutputsOf plan inputs kept [] [] = ⊤
 AreOutputsOf plan inputs kept (store ∷ stores) (out ∷ outs) = IsOutputOf plan inputs kept store out × AreOutputsOf plan inputs kept stores outs
 AreOutputsOf plan inputs kept stores outs = ⊥
 
--- What was stored of STOREs: their directories, and in them what they mean where the host tells its inputs.
+-- the shown number is that of the lines that stand in the directory
+abbrev pub IsCounted : Output → Type 0
+IsCounted out = out.lines ≡ length (stored_lines out.bytes)
+
+-- What was stored of STOREs: their directories with as many lines as is shown, and in them what they mean where the hosts tell their inputs.
 pub record AreStored (tells : Type 0) (plan : Plan) (inputs : List Input) (kept : List Kept) (stores : List Store) (outs : List Output) : Type 0 where
   pub dirs : map (λ out. out.dir) outs ≡ map (λ store. store.dir) stores
+  pub counted : AllByRecursion IsCounted outs
   pub are : tells → AreOutputsOf plan inputs kept stores outs
 
 -- that directory is as before, or there and unmarked; all else is as before

@@ -5,6 +5,7 @@ use Rattle.std.specs.Option.{option_map, unwrap_or}
 use Rattle.std.specs.Result.{is_ok}
 use Rattle.pig_value.specs.declared.inputs.Input.{Input}
 use Rattle.pig_value.specs.declared.outcomes.Kept.{Kept}
+use Rattle.pig_value.specs.Lines.{stored_lines}
 use Rattle.pig_value.specs.Texts.{rows_text}
 use Rattle.pig_value.specs.Trees.{Tree, rows_tree}
 use Rattle.pig_outside.specs.Calls.{DepotCall}
@@ -21,12 +22,12 @@ use Rattle.pig_run.specs.declared.outcome.RunFault.TheVariants as fault
 use Rattle.pig_run.specs.declared.progress.Noted.{Noted}
 use Rattle.pig_run.specs.declared.progress.Progress.{Progress}
 use Rattle.pig_run.specs.declared.running.Found.{Found}
-use Rattle.pig_run.specs.Due.{IsDue, Line, store_calls}
+use Rattle.pig_run.specs.Due.{Stage, store_calls}
 use Rattle.pig_run.specs.Ends.{Ends}
 use Rattle.pig_run.specs.Outputs.{LeftOpen, Output, with_outputs}
 use Rattle.pig_run.specs.Reading.{Verdict, Runs}
 use Rattle.pig_run.specs.Steps.{IsCommitFault}
-use Rattle.pig_run.specs.Texts.{done_text, fault_text, stored_line}
+use Rattle.pig_run.specs.Texts.{done_text, due_text, fault_text, stored_line}
 use Rattle.pig_run.specs.Told.{Asked, CountsAre, IsAsked, IsPrefix}
 
 -- the inputs at paths, as they are told
@@ -58,6 +59,12 @@ Relation = List (List Value)
 
 abbrev pub output_of : Store → Relation → Output
 output_of store rows = record { dir = store.dir; bytes = rows_text store.delim (rows_tree rows); lines = length rows }
+
+-- of each STORE in turn, there are as many rows as their text has lines
+abbrev pub EachCounted : List Store → List Relation → Type 0
+EachCounted [] relations = Unit {0}
+EachCounted (store ∷ stores) [] = Unit {0}
+EachCounted (store ∷ stores) (rows ∷ relations) = (length rows ≡ length (stored_lines (rows_text store.delim (rows_tree rows)))) × EachCounted stores relations
 
 abbrev pub outputs_of : List Store → List Relation → List Output
 outputs_of (store ∷ stores) (rows ∷ relations) = output_of store rows ∷ outputs_of stores relations
@@ -121,23 +128,23 @@ pub record RunsEnd (plan : Plan) (shelf : Shelf) (tells : Type 0) (calls_old cal
   pub numbers : CountsAre tells (Runs plan) shelf outs (counts_in progress) (found_in result)
   pub text : IfOk result (λ text. text ≡ done_text outs (counts_in progress))
 
--- What a call says of it, from the words on.
-pub record RunEnd (line : Line) (shelf : Shelf) (tells : Type 0) (calls_old calls_new : Option (List DepotCall)) (new : Option Shelf)
+-- What a call says of it, from a stage on.
+pub record RunEnd (stage : Stage) (shelf : Shelf) (tells : Type 0) (calls_old calls_new : Option (List DepotCall)) (new : Option Shelf)
     (progress : Progress) (result : Result (List ℕ) RunFault) : Type 0 where
   pub verdict : Verdict
   pub calls : List DepotCall
-  pub due : IsDue line shelf calls verdict
+  pub due : stage calls verdict
   pub outs : List Output
   pub state : Ends tells shelf (record { outs = outs; kept = kept_in (is_ok result) progress; shelf = new }) verdict (found_in result)
   pub asked : IsAsked calls (found_in result) calls_old calls_new
   pub numbers : CountsAre tells verdict shelf outs (counts_in progress) (found_in result)
-  pub text : IfOk result (λ text. text ≡ done_text outs (counts_in progress))
+  pub text : IfOk result (λ text. text ≡ due_text verdict outs (counts_in progress))
 
 -- so it is of each end
 abbrev pub RunsTold : Plan → Shelf → Type 0 → Option (List DepotCall) → Option (List DepotCall) → Option Shelf → Progress → Result (List ℕ) RunFault → Type 0
 RunsTold plan shelf tells calls_old calls_new new progress result = MatchResult result (λ text. RunsEnd plan shelf tells calls_old calls_new new progress (Ok text))
     (λ found. RunsEnd plan shelf tells calls_old calls_new new progress (Err found))
 
-abbrev pub RunTold : Line → Shelf → Type 0 → Option (List DepotCall) → Option (List DepotCall) → Option Shelf → Progress → Result (List ℕ) RunFault → Type 0
-RunTold line shelf tells calls_old calls_new new progress result = MatchResult result (λ text. RunEnd line shelf tells calls_old calls_new new progress (Ok text))
-    (λ found. RunEnd line shelf tells calls_old calls_new new progress (Err found))
+abbrev pub RunTold : Stage → Shelf → Type 0 → Option (List DepotCall) → Option (List DepotCall) → Option Shelf → Progress → Result (List ℕ) RunFault → Type 0
+RunTold stage shelf tells calls_old calls_new new progress result = MatchResult result (λ text. RunEnd stage shelf tells calls_old calls_new new progress (Ok text))
+    (λ found. RunEnd stage shelf tells calls_old calls_new new progress (Err found))

@@ -1,15 +1,15 @@
 -- What the steps before a run find, and how each may end.
-use Rattle.std.specs.Prelude.{◌≡◌, ◌≤◌, ◌<◌, ◌⊎◌, ◌++◌, ℕ, List, Option, Some, None, Result, MatchResult, IsErrOf}
+use Rattle.std.specs.Prelude.{◌≡◌, ◌≢◌, ◌≤◌, ◌<◌, ◌⊎◌, ◌++◌, ℕ, List, Option, Some, None, Result, MatchResult, IsErrOf}
 use Rattle.pig_outside.specs.Calls.{DepotCall}
 use Rattle.pig_outside.specs.declared.faults.OutsideError.{OutsideError}
 use Rattle.pig_outside.specs.declared.faults.OutsideError.TheVariants as outside
 use Rattle.pig_run.specs.declared.outcome.RunFault.{RunFault}
 use Rattle.pig_run.specs.declared.outcome.RunFault.TheVariants as fault
 use Rattle.pig_run.specs.Due.{HasWords, Line, Stage}
-use Rattle.pig_run.specs.Reading.{Verdict, Refuses, Runs}
+use Rattle.pig_run.specs.Reading.{Faulty, Finding, Refuses, Typed, Verdict}
+use Rattle.pig_run.specs.declared.reading.Checked.{Checked}
 use Rattle.pig_run.specs.Refusals.{Refusal, Names}
 use Rattle.pig_run.specs.Told.{Asked, IsPrefix}
-use Rattle.pig_plan.specs.declared.plan.Plan.{Plan}
 use Rattle.pig_plan.specs.Plans.{plan_of}
 
 -- the fault that an error of a device is
@@ -63,9 +63,9 @@ abbrev pub Step : {T : Type 0} → Stage → (T → Stage) → Option (List Depo
 Step stage next old new result = MatchResult result (λ x. Passes stage (next x) old new) (StopsIn stage old new)
 
 -- reading a script finds this, or memory was wanting
-abbrev pub TellsPlan : (Verdict → Type 0) → Result Plan RunFault → Type 0
-TellsPlan P result = MatchResult result (λ plan. P (Runs (plan_of plan)))
-    (λ found. ((refusal : Refusal) × P (Refuses refusal) × Names refusal found) ⊎ (found ≡ fault.OutOfMemory))
+abbrev pub TellsPlan : (Finding → Type 0) → Result Checked RunFault → Type 0
+TellsPlan P result = MatchResult result (λ checked. P (Typed checked.statements (plan_of checked.plan)))
+    (λ found. ((refusal : Refusal) × P (Faulty refusal) × Names refusal found) ⊎ (found ≡ fault.OutOfMemory))
 
 -- ---- counts
 
@@ -121,6 +121,10 @@ IsRunFault found = (found ≡ fault.HostFault) ⊎ ((number : ℕ) × (found ≡
 abbrev pub IsNotUsage : RunFault → Type 0
 IsNotUsage fault.Usage = ⊥
 IsNotUsage found = Unit {0}
+
+-- a fault behind the words and before the console
+abbrev pub IsLaterFault : RunFault → Type 0
+IsLaterFault found = IsNotUsage found × (found ≢ fault.ConsoleFault)
 
 -- the fault is that of wrong words only where the words are no command, and another only where they are one or memory was wanting
 abbrev pub SaysWords : Line → RunFault → Type 0

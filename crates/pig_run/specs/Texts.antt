@@ -9,6 +9,7 @@ use Rattle.pig_run.specs.declared.outcome.RunFault.TheVariants as fault
 use Rattle.pig_run.specs.declared.outcome.TooLarge.{TooLarge}
 use Rattle.pig_run.specs.declared.outcome.TooLarge.TheVariants as large
 use Rattle.pig_run.specs.Outputs.{Output}
+use Rattle.pig_run.specs.Reading.{Prints, Refuses, Runs, Verdict}
 
 abbrev pub kind_name : CheckKind → List ℕ
 kind_name kind.UnknownAlias = codes "UnknownAlias"
@@ -36,7 +37,7 @@ large_name large.Input = codes "input"
 
 -- a fault without its line end
 abbrev pub fault_line : RunFault → List ℕ
-fault_line fault.Usage = codes "usage: pig run|explain|check SCRIPT | demo N [--workers N] [--reducers N] [--split BYTES]"
+fault_line fault.Usage = codes "usage: pig run|explain|check SCRIPT | demo N [--workers N] [--reducers N] [--split BYTES] [--attempts N]"
 fault_line fault.NoScript = codes "pig: no script"
 fault_line (fault.Lex offset) = codes "pig: offset " ++ decimal offset ++ codes ": no token"
 fault_line (fault.Syntax n) = codes "pig: statement " ++ decimal n ++ codes ": syntax"
@@ -65,7 +66,17 @@ done_line counts = codes "done " ++ decimal counts.read ++ 32 ∷ decimal counts
 abbrev pub done_text : List Output → Counts → List ℕ
 done_text outs counts = flat_map stored_line outs ++ done_line counts
 
+-- what is printed of a script that was checked, by the number of its statements
+abbrev pub ok_text : ℕ → List ℕ
+ok_text statements = codes "ok " ++ decimal statements ++ 10 ∷ []
+
+-- what is printed where all that is due was done
+abbrev pub due_text : Verdict → List Output → Counts → List ℕ
+due_text (Refuses refusal) outs counts = []
+due_text (Prints text) outs counts = text
+due_text (Runs plan) outs counts = done_text outs counts
+
 -- what is printed of an answer
-abbrev pub answer_text : List Output → Counts → Option RunFault → List ℕ
-answer_text outs counts None = done_text outs counts
-answer_text outs counts (Some found) = fault_text found
+abbrev pub answer_text : Verdict → List Output → Counts → Option RunFault → List ℕ
+answer_text verdict outs counts None = due_text verdict outs counts
+answer_text verdict outs counts (Some found) = fault_text found

@@ -1,21 +1,24 @@
 -- What the top call says of a shelf that is told.
-use Rattle.std.specs.Prelude.{◌≡◌, ◌⊎◌, ◌<◌, ◌++◌, ℕ, List, ◌∷◌, [], length, Option, Some, None}
+use Rattle.std.specs.Prelude.{◌≡◌, ◌⊎◌, ◌<◌, ◌++◌, ℕ, List, length, map, take, Option, Some, None}
+use Rattle.std.specs.List.{AllByRecursion, sum_by}
 use Rattle.std.specs.Option.{ForSome, option_map}
 use Rattle.pig_value.specs.declared.inputs.Input.{Input}
 use Rattle.pig_outside.specs.Calls.{DepotCall}
 use Rattle.pig_outside.specs.Shelf.{Shelf}
+use Rattle.pig_words.specs.CommandWords.{IsCommand}
+use Rattle.pig_words.specs.declared.words.Command.{Command}
 use Rattle.pig_run.specs.declared.outcome.Counts.{Counts}
 use Rattle.pig_run.specs.declared.outcome.Outcome.{Outcome}
 use Rattle.pig_run.specs.declared.outcome.RunFault.{RunFault}
 use Rattle.pig_run.specs.declared.outcome.RunFault.TheVariants as fault
 use Rattle.pig_run.specs.Due.{IsDue, Line}
 use Rattle.pig_run.specs.Ends.{Console, Ends, Fails, Shown, counts_shown}
-use Rattle.pig_run.specs.Outputs.{AreCounts, Output}
-use Rattle.pig_run.specs.Reading.{Verdict, Refuses, Runs}
+use Rattle.pig_run.specs.Outputs.{AreCounts, Output, no_counts}
+use Rattle.pig_run.specs.Reading.{Verdict, Prints, Refuses, Runs}
 use Rattle.pig_run.specs.Refusals.{Names, by_depot, by_host, by_memory, cause_of}
 use Rattle.pig_run.specs.Texts.{answer_text}
 
--- What the devices tell at a moment: the depot's shelf, its calls and its count, the first host's count, and the console.
+-- What the devices tell at a moment: the depot's shelf, its calls and its count, the sum of the hosts' counts, and the console.
 pub record Seen : Type 0 where
   pub shelf : Option Shelf
   pub calls : Option (List DepotCall)
@@ -60,15 +63,17 @@ pub record IsAsked (due : List DepotCall) (found : Option RunFault) (old new : O
 abbrev pub IsRight : Verdict → Option RunFault → Type 0
 IsRight (Refuses refusal) None = ⊥
 IsRight (Refuses refusal) (Some found) = Names refusal found
+IsRight (Prints text) answer = answer ≡ None
 IsRight (Runs plan) answer = answer ≡ None
 
 -- where no device failed and memory sufficed, what is due is answered
 abbrev pub Completes : Verdict → Seen → Seen → Option RunFault → Type 0
 Completes verdict old new answer = ¬ SomeFailed old new → IsRight verdict answer ⊎ (answer ≡ Some fault.OutOfMemory)
 
--- the numbers are right where all is stored
+-- the numbers are right where all is stored, and those of no run where a text is printed
 abbrev pub CountsAre : Type 0 → Verdict → Shelf → List Output → Counts → Option RunFault → Type 0
 CountsAre tells (Refuses refusal) shelf outs counts found = Unit {0}
+CountsAre tells (Prints text) shelf outs counts found = found ≡ None → counts ≡ no_counts
 CountsAre tells (Runs plan) shelf outs counts found = found ≡ None → AreCounts tells plan shelf.inputs outs counts
 
 -- Of these words and this shelf: what is due and what is asked for it; what was found, what was stored and counted; what stands; and what
@@ -84,7 +89,7 @@ pub record Told (line : Line) (shelf : Shelf) (tells : Type 0) (old new : Seen) 
   pub cause : IsCaused found old new
   pub asked : IsAsked calls found old.calls new.calls
   pub numbers : CountsAre tells verdict shelf outs counts found
-  pub text : Shown (answer_text outs counts found) old.console new.console found outcome.fault
+  pub text : Shown (answer_text verdict outs counts found) old.console new.console found outcome.fault
   pub counted : outcome.counts ≡ counts_shown outcome.fault counts
   pub complete : Completes verdict old new outcome.fault
 
@@ -96,16 +101,20 @@ TellsOf shelf inputs = ForSome inputs (λ told. option_map (λ s. s.inputs) shel
 abbrev pub TellsInputs : Option (List Input) → Type 0
 TellsInputs inputs = (told : List Input) × (inputs ≡ Some told)
 
--- the first of the numbers, as the count of the first host's failures
-abbrev pub first_of : {X : Type 0} → (X → ℕ) → List X → ℕ
-first_of count [] = 0
-first_of count (x ∷ _) = count x
+-- what devices tell, by what is told of each
+abbrev pub seen : {D H C : Type 0} → (D → Option Shelf) → (D → Option (List DepotCall)) → (D → ℕ) → (H → ℕ) → (C → Option (List ℕ)) → (C → ℕ) → D → List H → C → Seen
+seen shelf calls faults host_faults text console_faults depot hosts console = record {
+  shelf = shelf depot;
+  calls = calls depot;
+  depot_faults = faults depot;
+  host_faults = sum_by host_faults hosts;
+  console = record { text = text console; faults = console_faults console };
+}
 
 -- the words of a program with these hosts
 abbrev pub line_of : {H : Type 0} → List H → List (List ℕ) → Line
 line_of hosts words = record { hosts = length hosts; words = words }
 
--- the first of them tells its inputs
-abbrev pub FirstTells : {X : Type 0} → (X → Option (List Input)) → List X → Type 0
-FirstTells inputs [] = Unit {0}
-FirstTells inputs (x ∷ _) = TellsInputs (inputs x)
+-- each host that works tells its inputs: of the first, as many as the command has workers
+abbrev pub AllTell : {X : Type 0} → (X → Option (List Input)) → Line → List X → Type 0
+AllTell inputs line hosts = (command : Command) → IsCommand line.hosts line.words command → AllByRecursion TellsInputs (map inputs (take command.workers hosts))

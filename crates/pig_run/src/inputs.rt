@@ -35,6 +35,7 @@ fn read_piece<H: Host>(
         (λ i. IfOk result (λ bytes. bytes ≡ range_of path.now piece 0 length i)) }
     ensures fault { IfErr result IsHostStep }
     ensures inputs { H.inputs host.new ≡ H.inputs host.old }
+    ensures still { H.begun host.new ≡ H.begun host.old }
     ensures cause { HostCause (H.faults host.old) (H.faults host.new) result }
 {
     let mut bytes = vec![in alloc; 0u8; length as usize]?;
@@ -51,6 +52,7 @@ fn read_pieces<H: Host>(alloc: Global, host: &mut H, size: &Size) -> Result<Blob
         (λ i. IfOk result (λ pieces. pieces_of size.now.path i ≡ Some pieces)) }
     ensures fault { IfErr result IsHostStep }
     ensures inputs { H.inputs host.new ≡ H.inputs host.old }
+    ensures still { H.begun host.new ≡ H.begun host.old }
     ensures cause { HostCause (H.faults host.old) (H.faults host.new) result }
 {
     let mut pieces = Blobs::new(alloc);
@@ -73,6 +75,7 @@ fn read_input<H: Host>(alloc: Global, host: &mut H, size: &Size) -> Result<Input
         ≡ record { path = size.now.path; pieces = unwrap_or (pieces_of size.now.path i) [] })) }
     ensures fault { IfErr result IsHostStep }
     ensures inputs { H.inputs host.new ≡ H.inputs host.old }
+    ensures still { H.begun host.new ≡ H.begun host.old }
     ensures cause { HostCause (H.faults host.old) (H.faults host.new) result }
 {
     let pieces = read_pieces(alloc, host, size)?;
@@ -87,6 +90,7 @@ pub fn read_inputs<H: Host>(alloc: Global, host: &mut H, sizes: &Sizes) -> Resul
         ≡ inputs_at i (map (λ size. size.path) sizes.now))) }
     ensures fault { IfErr result IsHostStep }
     ensures inputs { H.inputs host.new ≡ H.inputs host.old }
+    ensures still { H.begun host.new ≡ H.begun host.old }
     ensures cause { HostCause (H.faults host.old) (H.faults host.new) result }
 {
     let mut inputs = Inputs::new(alloc);

@@ -5,8 +5,9 @@ ghost use Rattle.pig_outside.specs.declared.failing.Method.TheVariants as method
 ghost use Rattle.pig_plan.specs.Plans.{PlanNode, plan_of};
 ghost use Rattle.pig_reach.specs.Reach.{live_paths, stores_of};
 ghost use Rattle.pig_check.specs.States.{StoresAreApart};
-ghost use Rattle.pig_run.specs.Due.{AreWords, AssertsDue, HasWords, InputsDue, IsDue, OutputsDue, RunDue, ScriptDue, SizeDue, call};
+ghost use Rattle.pig_run.specs.Due.{AreWords, AssertsDue, CommandDue, HasWords, InputsDue, IsBuilt, IsDue, OutputsDue, RunDue, ScriptDue, SizeDue, call};
 ghost use Rattle.pig_run.specs.Looking.{HasSize, IsAbsentIn, IsPrepared, IsReady, LooksForInput, LooksForOutput, LooksForScript, LooksForSize, line_given, total_of};
+ghost use Rattle.pig_run.specs.Orderly.{AsksAll, AsksScript, AsksSome, LooksUp};
 ghost use Rattle.pig_run.specs.Steps.{DepotCause, IsPlanFault, SaysWords, Step, depot_fault_of};
 ghost use Rattle.pig_run.specs.Told.{Asked};
 ghost use Rattle.pig_run.specs.declared.outcome.RunFault.TheVariants as fault;
@@ -14,7 +15,7 @@ ghost use Rattle.pig_run.specs.declared.outcome.TooLarge.TheVariants as large;
 
 use crate::asserts::first_assert;
 use crate::line::CommandLine;
-use crate::reading::{MOST_SCRIPT, read_script};
+use crate::reading::{Checked, MOST_SCRIPT, read_script};
 use crate::{RunFault, TooLarge};
 use pig_check::a_script_has_one_plan;
 use pig_outside::{Depot, OutsideError};
@@ -22,7 +23,7 @@ use pig_plan::Plan;
 use pig_reach::{Stores, live_paths, stores};
 use pig_typing::CheckKind;
 use pig_value::{Lengths, Seq, Text, WordFault};
-use pig_words::{Verb, read_words};
+use pig_words::{Command, Verb, read_words};
 use std::alloc::Global;
 
 /// The limit on the inputs that a run reads, in bytes.
@@ -48,16 +49,18 @@ pub fn depot_fault(error: OutsideError, store: Option<u32>) -> RunFault
     }
 }
 
-/// The path of the script that the words name.
-fn read_path(alloc: Global, line: &CommandLine) -> Result<Text, RunFault>
-    ensures found { IfOk result (λ path. AreWords (line_given line.now) path) }
+/// The command that the words are, where it is built.
+fn read_command(alloc: Global, line: &CommandLine) -> Result<Command, RunFault>
+    ensures found { IfOk result (λ command. AreWords (line_given line.now) command) }
     ensures usage { IfErr result (λ f. ((f ≡ fault.Usage) × (¬ HasWords (line_given line.now)))
         ⊎ (f ≡ fault.OutOfMemory)) }
 {
     match read_words(alloc, line.words, line.hosts) {
         Ok(command) => match command.verb {
-            Verb::Run => Ok(command.operand),
-            _ => Err(RunFault::Usage),
+            Verb::Run => Ok(command),
+            Verb::Check => Ok(command),
+            Verb::Explain => Err(RunFault::Usage),
+            Verb::Demo => Err(RunFault::Usage),
         },
         Err(WordFault::Usage) => Err(RunFault::Usage),
         Err(WordFault::OutOfMemory) => Err(RunFault::OutOfMemory),
@@ -83,19 +86,54 @@ fn script_bytes<D: Depot>(alloc: Global, depot: &mut D, path: &str) -> Result<Ve
     }
 }
 
-/// The plan of the script at a path.
-fn load_plan<D: Depot>(alloc: Global, depot: &mut D, path: &str) -> Result<Plan, RunFault>
-    ensures told { ForSome (D.shelf depot.old) (λ s. Step (ScriptDue path.now s)
-        (λ plan. AssertsDue (plan_of plan) s) (D.calls depot.old) (D.calls depot.new) result) }
-    ensures apart { IfOk result (λ plan. StoresAreApart (plan_of plan)) }
+/// The plan of the script that a command names.
+fn load_script<D: Depot>(
+    alloc: Global,
+    depot: &mut D,
+    command: &Command,
+) -> Result<Checked, RunFault>
+    ensures told { ForSome (D.shelf depot.old) (λ s. Step
+        (ScriptDue command.now.operand s (CommandDue command.now s))
+        (λ c. CommandDue command.now s c.statements (plan_of c.plan))
+        (D.calls depot.old) (D.calls depot.new) result) }
+    ensures apart { IfOk result (λ c. StoresAreApart (plan_of c.plan)) }
     ensures fault { IfErr result IsPlanFault }
     ensures shelf { D.shelf depot.new ≡ D.shelf depot.old }
     ensures cause { DepotCause (D.faults depot.old) (D.faults depot.new) result }
     ensures stores { D.store_faults depot.new ≡ D.store_faults depot.old }
+    ensures asked { Asked (call method.Script command.now.operand ∷ []) (D.calls depot.old)
+        (D.calls depot.new) }
 {
     a_script_has_one_plan();
-    let script = script_bytes(alloc, depot, path)?;
+    let script = script_bytes(alloc, depot, command.operand.as_str())?;
     read_script(alloc, script.as_slice())
+}
+
+/// A command, and the script that it names, which was checked.
+#[derive(Drop)]
+pub struct Request {
+    pub command: Command,
+    pub checked: Checked,
+}
+
+/// The command that the words are, and the plan of the script that it names.
+pub fn load<D: Depot>(alloc: Global, line: &CommandLine, depot: &mut D) -> Result<Request, RunFault>
+    ensures told { ForSome (D.shelf depot.old) (λ s. Step (IsDue (line_given line.now) s)
+        (λ r. CommandDue r.command s r.checked.statements (plan_of r.checked.plan))
+        (D.calls depot.old) (D.calls depot.new) result) }
+    ensures built { IfOk result (λ r. IsBuilt r.command.verb) }
+    ensures apart { IfOk result (λ r. StoresAreApart (plan_of r.checked.plan)) }
+    ensures words { MatchResult result (λ _. HasWords (line_given line.now))
+        (SaysWords (line_given line.now)) }
+    ensures fault { IfErr result (λ f. (f ≡ fault.Usage) ⊎ IsPlanFault f) }
+    ensures shelf { D.shelf depot.new ≡ D.shelf depot.old }
+    ensures cause { DepotCause (D.faults depot.old) (D.faults depot.new) result }
+    ensures stores { D.store_faults depot.new ≡ D.store_faults depot.old }
+    ensures asked { AsksScript (D.calls depot.old) (D.calls depot.new) }
+{
+    let command = read_command(alloc, line)?;
+    let checked = load_script(alloc, depot, &command)?;
+    Ok(Request { command, checked })
 }
 
 /// The lengths of the pieces of the input at a path.
@@ -153,6 +191,7 @@ fn find_inputs<D: Depot>(alloc: Global, depot: &mut D, plan: &Plan) -> Result<Si
     ensures shelf { D.shelf depot.new ≡ D.shelf depot.old }
     ensures cause { DepotCause (D.faults depot.old) (D.faults depot.new) result }
     ensures stores { D.store_faults depot.new ≡ D.store_faults depot.old }
+    ensures asked { AsksSome method.Pieces (D.calls depot.old) (D.calls depot.new) }
 {
     let paths = live_paths(alloc, plan)?;
     let mut sizes = Sizes::new(alloc);
@@ -232,6 +271,8 @@ fn check_outputs<D: Depot>(alloc: Global, depot: &mut D, stores: &Stores) -> Res
     ensures shelf { D.shelf depot.new ≡ D.shelf depot.old }
     ensures cause { DepotCause (D.faults depot.old) (D.faults depot.new) result }
     ensures stores { D.store_faults depot.new ≡ D.store_faults depot.old }
+    ensures asked { AsksAll method.Exists (map (λ store. store.dir) stores.now) result
+        (D.calls depot.old) (D.calls depot.new) }
 {
     let stores = stores.as_slice();
     for place in 0..stores.len() {
@@ -259,6 +300,7 @@ fn look<D: Depot>(alloc: Global, depot: &mut D, plan: Plan) -> Result<Prepared, 
     ensures shelf { D.shelf depot.new ≡ D.shelf depot.old }
     ensures cause { DepotCause (D.faults depot.old) (D.faults depot.new) result }
     ensures stores { D.store_faults depot.new ≡ D.store_faults depot.old }
+    ensures asked { LooksUp result (D.calls depot.old) (D.calls depot.new) }
 {
     let sizes = find_inputs(alloc, depot, &plan)?;
     check_size(&sizes)?;
@@ -271,12 +313,9 @@ fn look<D: Depot>(alloc: Global, depot: &mut D, plan: Plan) -> Result<Prepared, 
     })
 }
 
-/// The same, where no ASSERT stands in the way: the first that a STORE reaches is refused, until a run goes by tasks.
-fn look_without_asserts<D: Depot>(
-    alloc: Global,
-    depot: &mut D,
-    plan: Plan,
-) -> Result<Prepared, RunFault>
+/// What is to be run of a plan, where nothing stands in its way: the first ASSERT that a STORE reaches is refused, until a
+/// run goes by tasks.
+pub fn prepare<D: Depot>(alloc: Global, depot: &mut D, plan: Plan) -> Result<Prepared, RunFault>
     requires apart { StoresAreApart (plan_of plan) }
     ensures told { ForSome (D.shelf depot.old) (λ s. Step (AssertsDue (plan_of plan) s)
         (λ p. RunDue (plan_of p.plan)) (D.calls depot.old) (D.calls depot.new) result) }
@@ -286,6 +325,7 @@ fn look_without_asserts<D: Depot>(
     ensures shelf { D.shelf depot.new ≡ D.shelf depot.old }
     ensures cause { DepotCause (D.faults depot.old) (D.faults depot.new) result }
     ensures stores { D.store_faults depot.new ≡ D.store_faults depot.old }
+    ensures asked { LooksUp result (D.calls depot.old) (D.calls depot.new) }
 {
     let first = first_assert(alloc, &plan)?;
     if let Some(statement) = first {
@@ -295,26 +335,4 @@ fn look_without_asserts<D: Depot>(
         });
     }
     look(alloc, depot, plan)
-}
-
-/// What is to be run: the plan of the script that the words name, where nothing stands in its way.
-pub fn prepare<D: Depot>(
-    alloc: Global,
-    line: &CommandLine,
-    depot: &mut D,
-) -> Result<Prepared, RunFault>
-    ensures told { ForSome (D.shelf depot.old) (λ s. Step (IsDue (line_given line.now) s)
-        (λ p. RunDue (plan_of p.plan)) (D.calls depot.old) (D.calls depot.new) result) }
-    ensures ready { ForSome (D.shelf depot.old) (λ s. IfOk result (IsReady s)) }
-    ensures prepared { IfOk result IsPrepared }
-    ensures words { MatchResult result (λ _. HasWords (line_given line.now))
-        (SaysWords (line_given line.now)) }
-    ensures fault { IfErr result (λ f. (f ≡ fault.Usage) ⊎ IsPlanFault f) }
-    ensures shelf { D.shelf depot.new ≡ D.shelf depot.old }
-    ensures cause { DepotCause (D.faults depot.old) (D.faults depot.new) result }
-    ensures stores { D.store_faults depot.new ≡ D.store_faults depot.old }
-{
-    let path = read_path(alloc, line)?;
-    let plan = load_plan(alloc, depot, path.as_str())?;
-    look_without_asserts(alloc, depot, plan)
 }

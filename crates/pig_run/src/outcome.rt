@@ -11,7 +11,7 @@ use thiserror::Error;
 /// Why a run did not end well.
 #[derive(Debug, Drop, Error)]
 pub enum RunFault {
-    /// The words are no command that is built: `run`, the path of one script, and options.
+    /// The words are no command that is built: `run` or `check`, the path of one script, and options.
     #[error("the words are no command")]
     Usage,
     /// The depot has no such script.

@@ -31,6 +31,8 @@ impl Progress {
     pub fn new(alloc: Global) -> Progress
         ensures notes { result.notes ≡ [] }
         ensures begun { result.begun ≡ false }
+        ensures read { result.read ≡ 0 }
+        ensures kept { result.kept ≡ [] }
     {
         Progress {
             kept: KeptList::new(alloc),

@@ -27,30 +27,40 @@ const MOST_STATEMENTS: usize = 4096;
 /// The limit on the number of brackets that are open at once.
 const MOST_DEPTH: u32 = 64;
 
+/// The plan of a script, and the number of its statements.
+#[derive(Drop)]
+pub struct Checked {
+    pub plan: Plan,
+    pub statements: u64,
+}
+
 /// The plan of trees.
-fn plan_of_trees(alloc: Global, statements: &Stmts) -> Result<Plan, RunFault>
+fn plan_of_trees(alloc: Global, statements: &Stmts) -> Result<Checked, RunFault>
     requires { All StmtFormed statements.now }
     ensures told { TellsPlan (IsChecked statements.now) result }
-    ensures apart { IfOk result (λ plan. StoresAreApart (plan_of plan)) }
+    ensures apart { IfOk result (λ c. StoresAreApart (plan_of c.plan)) }
     ensures fault { IfErr result IsReadFault }
 {
     stores_are_apart();
     match check(alloc, statements) {
-        Ok(plan) => Ok(plan),
+        Ok(plan) => Ok(Checked {
+            plan,
+            statements: statements.len() as u64,
+        }),
         Err(CheckFault::Check { statement, kind }) => Err(RunFault::Check { statement, kind }),
         Err(CheckFault::OutOfMemory) => Err(RunFault::OutOfMemory),
     }
 }
 
 /// The plan of the trees of statements.
-fn plan_of_statements(alloc: Global, tokens: &Tokens, pieces: &Pieces) -> Result<Plan, RunFault>
+fn plan_of_statements(alloc: Global, tokens: &Tokens, pieces: &Pieces) -> Result<Checked, RunFault>
     requires statements { AreStatements tokens.now pieces.now }
     requires few { length tokens.now < 2 ^ 32 }
     requires few_statements { length pieces.now ≤ 4096 }
     requires texts { All (λ token. HoldsNoLf token.form) tokens.now }
     requires shallow { All (IsShallow tokens.now) pieces.now }
     ensures told { TellsPlan (IsParsed tokens.now pieces.now) result }
-    ensures apart { IfOk result (λ plan. StoresAreApart (plan_of plan)) }
+    ensures apart { IfOk result (λ c. StoresAreApart (plan_of c.plan)) }
     ensures fault { IfErr result IsReadFault }
 {
     match parse(alloc, tokens, pieces) {
@@ -87,12 +97,12 @@ fn are_shallow(tokens: &Tokens, pieces: &Pieces) -> bool
 }
 
 /// The plan of the statements, where there are not too many and none nests too deep.
-fn plan_of_pieces(alloc: Global, tokens: &Tokens, pieces: &Pieces) -> Result<Plan, RunFault>
+fn plan_of_pieces(alloc: Global, tokens: &Tokens, pieces: &Pieces) -> Result<Checked, RunFault>
     requires statements { AreStatements tokens.now pieces.now }
     requires few { length tokens.now < 2 ^ 32 }
     requires texts { All (λ token. HoldsNoLf token.form) tokens.now }
     ensures told { TellsPlan (IsMeasured tokens.now pieces.now) result }
-    ensures apart { IfOk result (λ plan. StoresAreApart (plan_of plan)) }
+    ensures apart { IfOk result (λ c. StoresAreApart (plan_of c.plan)) }
     ensures fault { IfErr result IsReadFault }
 {
     if pieces.len() > MOST_STATEMENTS {
@@ -109,10 +119,10 @@ fn plan_of_pieces(alloc: Global, tokens: &Tokens, pieces: &Pieces) -> Result<Pla
 }
 
 /// The plan of the tokens of a script.
-fn plan_of_script(alloc: Global, script: &[u8]) -> Result<Plan, RunFault>
+fn plan_of_script(alloc: Global, script: &[u8]) -> Result<Checked, RunFault>
     requires { length script.now ≤ 2 ^ 20 }
     ensures told { TellsPlan (IsLexed script.now) result }
-    ensures apart { IfOk result (λ plan. StoresAreApart (plan_of plan)) }
+    ensures apart { IfOk result (λ c. StoresAreApart (plan_of c.plan)) }
     ensures fault { IfErr result IsReadFault }
 {
     a_script_has_one_reading();
@@ -127,9 +137,9 @@ fn plan_of_script(alloc: Global, script: &[u8]) -> Result<Plan, RunFault>
 }
 
 /// The plan of a script, or the first refusal that it meets.
-pub fn read_script(alloc: Global, script: &[u8]) -> Result<Plan, RunFault>
+pub fn read_script(alloc: Global, script: &[u8]) -> Result<Checked, RunFault>
     ensures told { TellsPlan (IsFound script.now) result }
-    ensures apart { IfOk result (λ plan. StoresAreApart (plan_of plan)) }
+    ensures apart { IfOk result (λ c. StoresAreApart (plan_of c.plan)) }
     ensures fault { IfErr result IsReadFault }
 {
     if script.len() as u64 > MOST_SCRIPT {

@@ -1,26 +1,32 @@
-ghost use Rattle.std.specs.Prelude.{◌≡◌, ◌≢◌, ◌<◌, ◌≤◌, ◌⊎◌, ◌%◌, ◌^◌, [], length, false, IfOk, IfErr, MatchResult};
+ghost use Rattle.std.specs.Prelude.{◌≡◌, ◌≢◌, ◌<◌, ◌≤◌, ◌⊎◌, ◌%◌, ◌^◌, [], length, map, false, IfOk, IfErr, MatchResult};
 ghost use Rattle.std.specs.Option.{ForSome};
 ghost use Rattle.std.specs.List.{AllByRecursion, sum_by};
 ghost use Rattle.pig_plan.specs.Plans.{plan_of};
-ghost use Rattle.pig_run.specs.Due.{HasWords};
+ghost use Rattle.pig_check.specs.States.{StoresAreApart};
+ghost use Rattle.pig_run.specs.Due.{AssertsDue, CommandDue, HasWords, IsBuilt, IsDue};
 ghost use Rattle.pig_run.specs.Looking.{HasLengths, IsPrepared, IsReady, line_given};
-ghost use Rattle.pig_run.specs.Running.{IsFoundOver, RunTold, RunsTold, counts_in};
-ghost use Rattle.pig_run.specs.Steps.{DepotCause, HostCause, IsHostStep, IsRunFault, SaysWords, StoreBlame};
+ghost use Rattle.pig_run.specs.Orderly.{IsOrderly, IsOrderlyBehind, Makes};
+ghost use Rattle.pig_run.specs.Running.{EachCounted, IsFoundOver, RunTold, RunsTold, counts_in, found_in};
+ghost use Rattle.pig_run.specs.Steps.{DepotCause, HostCause, IsHostStep, IsLaterFault, IsRunFault, SaysWords, StoreBlame};
+ghost use Rattle.pig_run.specs.Texts.{ok_text};
 ghost use Rattle.pig_run.specs.Told.{TellsInputs, TellsOf};
 ghost use Rattle.pig_run.specs.declared.outcome.RunFault.TheVariants as fault;
 
 use crate::commit::store_all;
 use crate::inputs::read_inputs;
 use crate::line::CommandLine;
-use crate::looking::{Prepared, prepare};
+use crate::looking::{Prepared, Request, load, prepare};
 use crate::progress::{Notes, Progress};
-use crate::texts::done_bytes;
+use crate::reading::Checked;
+use crate::texts::{done_bytes, ok_bytes};
 use crate::{Counts, RunFault};
 use pig_check::a_script_has_one_plan;
 use pig_outside::{Depot, Host};
 use pig_plain::{Answers, answer, answers_are_stored_lines, inputs_are_of_bytes};
+use pig_plan::Plan;
 use pig_reach::{Store, lines_read};
 use pig_value::Blob;
+use pig_words::Verb;
 use std::alloc::Global;
 
 /// What a plan means, and the number of lines that were read for it.
@@ -39,8 +45,11 @@ fn find<H: Host>(alloc: Global, host: &mut H, prepared: &Prepared) -> Result<Fou
         (λ i. IfOk result (IsFoundOver (plan_of prepared.now.plan) i)) }
     ensures each { IfOk result (λ found. length found.answers.stores
         ≡ length prepared.now.stores) }
+    ensures counted { IfOk result (λ found. EachCounted prepared.now.stores
+        found.answers.stores) }
     ensures fault { IfErr result IsHostStep }
     ensures inputs { H.inputs host.new ≡ H.inputs host.old }
+    ensures still { H.begun host.new ≡ H.begun host.old }
     ensures cause { HostCause (H.faults host.old) (H.faults host.new) result }
 {
     answers_are_stored_lines();
@@ -97,6 +106,9 @@ fn perform<D: Depot, H: Host>(
     ensures stores { StoreBlame (D.store_faults depot.old) (D.store_faults depot.new) result }
     ensures host { HostCause (H.faults host.old) (H.faults host.new) result }
     ensures inputs { H.inputs host.new ≡ H.inputs host.old }
+    ensures still { H.begun host.new ≡ H.begun host.old }
+    ensures asked { Makes (map (λ store. store.dir) prepared.now.stores) (found_in result)
+        (D.calls depot.old) (D.calls depot.new) }
 {
     let found = find(alloc, host, prepared)?;
     let Found { answers, read } = found;
@@ -127,7 +139,80 @@ pub fn counts_of(progress: &Progress) -> Counts
     }
 }
 
-/// Reads the words and the script, and runs it.
+/// Looks for what stands in the way of a plan, and runs it.
+fn run_plan<D: Depot, H: Host>(
+    alloc: Global,
+    depot: &mut D,
+    host: &mut H,
+    plan: Plan,
+    progress: &mut Progress,
+) -> Result<Blob, RunFault>
+    requires apart { StoresAreApart (plan_of plan) }
+    requires tells { TellsOf (D.shelf depot.old) (H.inputs host.old) }
+    requires notes { progress.old.notes ≡ [] }
+    requires begun { progress.old.begun ≡ false }
+    ensures told { ForSome (D.shelf depot.old) (λ s. RunTold (AssertsDue (plan_of plan) s) s
+        (TellsInputs (H.inputs host.old)) (D.calls depot.old) (D.calls depot.new)
+        (D.shelf depot.new) progress.new result) }
+    ensures fault { IfErr result IsLaterFault }
+    ensures depot { DepotCause (D.faults depot.old) (D.faults depot.new) result }
+    ensures stores { StoreBlame (D.store_faults depot.old) (D.store_faults depot.new) result }
+    ensures host { HostCause (H.faults host.old) (H.faults host.new) result }
+    ensures inputs { H.inputs host.new ≡ H.inputs host.old }
+    ensures still { H.begun host.new ≡ H.begun host.old }
+    ensures asked { IsOrderlyBehind (found_in result) (D.calls depot.old) (D.calls depot.new) }
+{
+    let prepared = prepare(alloc, depot, plan)?;
+    perform(alloc, depot, host, &prepared, progress)
+}
+
+/// The text of a script that was checked, of so many statements.
+fn print_check(alloc: Global, statements: u64) -> Result<Blob, RunFault>
+    ensures { MatchResult result (λ text. text ≡ ok_text statements) (λ f. f ≡ fault.OutOfMemory) }
+{
+    let text = ok_bytes(alloc, statements)?;
+    Ok(Blob::from_vec(text))
+}
+
+/// Does with a script that was checked what the command says.
+fn obey<D: Depot, H: Host>(
+    alloc: Global,
+    depot: &mut D,
+    host: &mut H,
+    request: Request,
+    progress: &mut Progress,
+) -> Result<Blob, RunFault>
+    requires built { IsBuilt request.command.verb }
+    requires apart { StoresAreApart (plan_of request.checked.plan) }
+    requires tells { TellsOf (D.shelf depot.old) (H.inputs host.old) }
+    requires notes { progress.old.notes ≡ [] }
+    requires begun { progress.old.begun ≡ false }
+    requires read { progress.old.read ≡ 0 }
+    requires kept { progress.old.kept ≡ [] }
+    ensures told { ForSome (D.shelf depot.old) (λ s. RunTold (CommandDue request.command s
+        request.checked.statements (plan_of request.checked.plan)) s
+        (TellsInputs (H.inputs host.old)) (D.calls depot.old) (D.calls depot.new)
+        (D.shelf depot.new) progress.new result) }
+    ensures fault { IfErr result IsLaterFault }
+    ensures depot { DepotCause (D.faults depot.old) (D.faults depot.new) result }
+    ensures stores { StoreBlame (D.store_faults depot.old) (D.store_faults depot.new) result }
+    ensures host { HostCause (H.faults host.old) (H.faults host.new) result }
+    ensures inputs { H.inputs host.new ≡ H.inputs host.old }
+    ensures still { H.begun host.new ≡ H.begun host.old }
+    ensures asked { IsOrderlyBehind (found_in result) (D.calls depot.old) (D.calls depot.new) }
+{
+    let Request { command, checked } = request;
+    let Checked { plan, statements } = checked;
+    match command.verb {
+        Verb::Run => run_plan(alloc, depot, host, plan, progress),
+        Verb::Check => print_check(alloc, statements),
+        // Not built: `load` gives no such command.
+        Verb::Explain => Err(RunFault::OutOfMemory),
+        Verb::Demo => Err(RunFault::OutOfMemory),
+    }
+}
+
+/// Reads the words and the script, and does what they say.
 pub fn run<D: Depot, H: Host>(
     alloc: Global,
     line: &CommandLine,
@@ -138,7 +223,9 @@ pub fn run<D: Depot, H: Host>(
     requires tells { TellsOf (D.shelf depot.old) (H.inputs host.old) }
     requires notes { progress.old.notes ≡ [] }
     requires begun { progress.old.begun ≡ false }
-    ensures told { ForSome (D.shelf depot.old) (λ s. RunTold (line_given line.now) s
+    requires read { progress.old.read ≡ 0 }
+    requires kept { progress.old.kept ≡ [] }
+    ensures told { ForSome (D.shelf depot.old) (λ s. RunTold (IsDue (line_given line.now) s) s
         (TellsInputs (H.inputs host.old)) (D.calls depot.old) (D.calls depot.new)
         (D.shelf depot.new) progress.new result) }
     ensures fault { IfErr result (λ f. f ≢ fault.ConsoleFault) }
@@ -148,8 +235,10 @@ pub fn run<D: Depot, H: Host>(
     ensures stores { StoreBlame (D.store_faults depot.old) (D.store_faults depot.new) result }
     ensures host { HostCause (H.faults host.old) (H.faults host.new) result }
     ensures inputs { H.inputs host.new ≡ H.inputs host.old }
+    ensures still { H.begun host.new ≡ H.begun host.old }
+    ensures asked { IsOrderly (found_in result) (D.calls depot.old) (D.calls depot.new) }
 {
     a_script_has_one_plan();
-    let prepared = prepare(alloc, line, depot)?;
-    perform(alloc, depot, host, &prepared, progress)
+    let request = load(alloc, line, depot)?;
+    obey(alloc, depot, host, request, progress)
 }

@@ -1,5 +1,5 @@
 ghost use Rattle.std.specs.Prelude.{◌≡◌, ◌++◌, ◌∷◌, [], map, codes, decimal, IfOk, OnOk};
-ghost use Rattle.pig_run.specs.Texts.{done_line, fault_text, kind_name, large_name, stored_line};
+ghost use Rattle.pig_run.specs.Texts.{done_line, fault_text, kind_name, large_name, ok_text, stored_line};
 ghost use Rattle.std.specs.List.{flat_map};
 ghost use Rattle.pig_run.specs.Running.{noted_line};
 ghost use Rattle.pig_run.specs.declared.outcome.RunFault.TheVariants as fault;
@@ -88,7 +88,7 @@ fn line_of(alloc: Global, first: &[u8], second: &[u8]) -> Result<Vec<u8>, AllocE
 }
 
 const USAGE: &str = "usage: pig run|explain|check SCRIPT | demo N \
-    [--workers N] [--reducers N] [--split BYTES]";
+    [--workers N] [--reducers N] [--split BYTES] [--attempts N]";
 
 /// The text of a fault.
 pub fn fault_bytes(alloc: Global, fault: &RunFault) -> Result<Vec<u8>, AllocError>
@@ -138,6 +138,13 @@ fn depot_bytes(alloc: Global, store: Option<u32>) -> Result<Vec<u8>, AllocError>
         }
         None => line_of(alloc, b"pig: storage failed", b""),
     }
+}
+
+/// The text of a script that was checked, of so many statements.
+pub fn ok_bytes(alloc: Global, statements: u64) -> Result<Vec<u8>, AllocError>
+    ensures { IfOk result (λ text. text.items ≡ ok_text statements) }
+{
+    number_line(alloc, b"ok ", statements, b"", b"")
 }
 
 /// Adds a part, a number and the byte behind it.

@@ -1,5 +1,6 @@
 ghost use Rattle.std.specs.Prelude.{◌≡◌, ◌≤◌, ◌<◌, ◌⊎◌, ℕ, List, Option, Some, None, true, length, map, drop, All, codes, if◌then◌else◌};
 ghost use Rattle.std.specs.Option.{ForSome};
+ghost use Rattle.std.specs.List.{sum_by};
 ghost use Rattle.pig_outside.specs.Calls.{DepotCall};
 ghost use Rattle.pig_outside.specs.Shelf.{Shelf};
 ghost use Rattle.pig_run.specs.Due.{HasWords, IsDue, Line};
@@ -8,7 +9,9 @@ ghost use Rattle.pig_run.specs.Reading.{Verdict};
 ghost use Rattle.pig_run.specs.Refusals.{status_of};
 ghost use Rattle.pig_run.specs.Running.{end_text, found_in, kept_in};
 ghost use Rattle.pig_run.specs.Texts.{fault_text};
-ghost use Rattle.pig_run.specs.Told.{FirstTells, TellsOf, Told, first_of, line_of};
+ghost use Rattle.pig_run.specs.Blame.{BlamesConsole, BlamesDepot, BlamesHosts, BlamesLookUp, BlamesStore, ConsoleIsTold, HostsStay, NoneBegins, OffIsUsage, UsageIsOff};
+ghost use Rattle.pig_run.specs.Orderly.{IsOrderly};
+ghost use Rattle.pig_run.specs.Told.{AllTell, TellsOf, Told, line_of, seen};
 ghost use Rattle.pig_run.specs.declared.outcome.RunFault.TheVariants as fault;
 
 use crate::line::CommandLine;
@@ -114,7 +117,7 @@ fn kept_shown(alloc: Global, done: bool, progress: Progress) -> KeptList
 /// Does what the words say, and answers how it ended.
 ///
 /// `words` are the program's words without its name, as [`read_words`](pig_words::read_words) takes them; of the verbs `run`
-/// alone is built, and its options have no effect yet. The depot keeps scripts, inputs and outputs; the first host reads;
+/// and `check` are built, and their options have no effect yet. The depot keeps scripts, inputs and outputs; the first host reads;
 /// the console is shown one text. `rt` is not used yet: no worker is started.
 pub fn pig_main<R: Threads + Sync, D: Depot, H: Host + Send, C: Console>(
     rt: &R,
@@ -127,45 +130,36 @@ pub fn pig_main<R: Threads + Sync, D: Depot, H: Host + Send, C: Console>(
     requires some_hosts { 1 ≤ length hosts.old.items }
     requires few_hosts { length hosts.old.items ≤ 256 }
     requires hosts_tell { All (λ h. TellsOf (D.shelf depot.old) (H.inputs h)) hosts.old.items }
+    // The answer, and what then stands.
     ensures told { ForSome (D.shelf depot.old) (λ s. Told (line_of hosts.old.items words.now) s
-        (FirstTells H.inputs hosts.old.items)
-        (record {
-          shelf = D.shelf depot.old;
-          calls = D.calls depot.old;
-          depot_faults = D.faults depot.old;
-          host_faults = first_of H.faults hosts.old.items;
-          console = record { text = C.text console.old; faults = C.faults console.old };
-        })
-        (record {
-          shelf = D.shelf depot.new;
-          calls = D.calls depot.new;
-          depot_faults = D.faults depot.new;
-          host_faults = first_of H.faults hosts.new.items;
-          console = record { text = C.text console.new; faults = C.faults console.new };
-        })
-        result) }
-    ensures usage { result.fault ≡ Some fault.Usage
-        → ¬ HasWords (line_of hosts.old.items words.now) }
-    ensures off_words { ¬ HasWords (line_of hosts.old.items words.now)
-        → (result.fault ≡ Some fault.Usage) ⊎ (result.fault ≡ Some fault.OutOfMemory) }
-    ensures depot_fault { (store : Option ℕ) → result.fault ≡ Some (fault.DepotFault store)
-        → D.faults depot.old < D.faults depot.new }
-    ensures store_fault { (store : ℕ) → result.fault ≡ Some (fault.DepotFault (Some store))
-        → D.store_faults depot.old < D.store_faults depot.new }
-    ensures lookup_fault { result.fault ≡ Some (fault.DepotFault None)
-        → D.store_faults depot.new ≡ D.store_faults depot.old }
-    ensures host_fault { result.fault ≡ Some fault.HostFault
-        → first_of H.faults hosts.old.items < first_of H.faults hosts.new.items }
-    ensures console_fault { result.fault ≡ Some fault.ConsoleFault
-        → C.faults console.old < C.faults console.new }
-    ensures console_failed { C.faults console.old < C.faults console.new
-        → ¬ (result.fault ≡ None) }
-    ensures counts_stand { (D.faults depot.old ≤ D.faults depot.new)
-        × (first_of H.faults hosts.old.items ≤ first_of H.faults hosts.new.items)
-        × (C.faults console.old ≤ C.faults console.new) }
-    ensures hosts { (map H.inputs hosts.new.items ≡ map H.inputs hosts.old.items)
-        × (drop 1 hosts.new.items ≡ drop 1 hosts.old.items) }
+        (AllTell H.inputs (line_of hosts.old.items words.now) hosts.old.items)
+        (seen D.shelf D.calls D.faults H.faults C.text C.faults depot.old hosts.old.items
+        console.old)
+        (seen D.shelf D.calls D.faults H.faults C.text C.faults depot.new hosts.new.items
+        console.new) result) }
+    ensures usage { UsageIsOff (line_of hosts.old.items words.now) result.fault }
+    ensures off_words { OffIsUsage (line_of hosts.old.items words.now) result.fault }
     ensures status { result.status ≡ status_of result.fault }
+    // What was asked, whatever the depot tells of its shelf.
+    ensures orderly { IsOrderly result.fault (D.calls depot.old) (D.calls depot.new) }
+    // The devices.
+    ensures depot_fault { BlamesDepot result.fault (D.faults depot.old) (D.faults depot.new) }
+    ensures store_fault { BlamesStore result.fault (D.store_faults depot.old)
+        (D.store_faults depot.new) }
+    ensures lookup_fault { BlamesLookUp result.fault (D.store_faults depot.old)
+        (D.store_faults depot.new) }
+    ensures host_fault { BlamesHosts result.fault (sum_by H.faults hosts.old.items)
+        (sum_by H.faults hosts.new.items) }
+    ensures depot_stands { D.faults depot.old ≤ D.faults depot.new }
+    ensures hosts_stand { sum_by H.faults hosts.old.items ≤ sum_by H.faults hosts.new.items }
+    ensures console_stands { C.faults console.old ≤ C.faults console.new }
+    ensures hosts { HostsStay H.inputs hosts.old.items hosts.new.items }
+    ensures begun { NoneBegins H.begun hosts.old.items hosts.new.items }
+    // The console.
+    ensures console_fault { BlamesConsole result.fault (C.faults console.old)
+        (C.faults console.new) }
+    ensures console_failed { ConsoleIsTold result.fault (C.faults console.old)
+        (C.faults console.new) }
 {
     let line = CommandLine {
         words,

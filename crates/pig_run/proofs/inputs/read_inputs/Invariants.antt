@@ -8,3 +8,4 @@ invariant-loop-place g l =
     (g.H.Host.inputs l.host ≡ g.H.Host.inputs l.fn.host)
     × (g.H.Host.faults l.fn.host ≤ g.H.Host.faults l.host)
     × ((i : List Input) → g.H.Host.inputs l.fn.host ≡ Some i → l.inputs ≡ inputs_at i (map (λ size. size.path) (take l.place l.sizes)))
+    × (g.H.Host.begun l.host ≡ g.H.Host.begun l.fn.host)

@@ -19,7 +19,8 @@ pub loop-length-preserved : goal.loop-length-preserved
 loop-length-preserved g c =
     let at_next : c.in-Some.next ≡ c.loop-length.length-index + 1 = c.in-Some.ensures.1 ∙ ap (λ k. k + 1) c.loop-length.invariant.0 in
     let same_inputs : g.H.Host.inputs c.read_piece.new.host ≡ g.H.Host.inputs c.args.host.now = search rules in
-    let later : g.H.Host.faults c.args.host.now ≤ g.H.Host.faults c.read_piece.new.host = search rules in (
+    let later : g.H.Host.faults c.args.host.now ≤ g.H.Host.faults c.read_piece.new.host = search rules in
+    let still : g.H.Host.begun c.read_piece.new.host ≡ g.H.Host.begun c.args.host.now = search rules in (
       at_next,
       same_inputs,
       later,
@@ -38,6 +39,7 @@ loop-length-preserved g c =
           let pushed : c.push.new.self ≡ c.loop-length.pieces ++ c.in_ok-bytes.bytes ∷ [] = search rules in
           piece_read pieces c.loop-length.pieces c.push.new.self c.loop-length.length-index p.bytes p.rest (c.loop-length.invariant.3 i told pieces there)
           (pushed ∙ ap (λ b. c.loop-length.pieces ++ b ∷ []) is),
+      still,
     )
 
 pub returns-clause-read : goal.returns-clause-read

@@ -9,3 +9,4 @@ invariant-loop-length g l =
     × (g.H.Host.inputs l.host ≡ g.H.Host.inputs l.fn.host)
     × (g.H.Host.faults l.fn.host ≤ g.H.Host.faults l.host)
     × ((i : List Input) → g.H.Host.inputs l.fn.host ≡ Some i → (pieces : List (List ℕ)) → pieces_of l.size.path i ≡ Some pieces → l.pieces ++ drop l.length-index pieces ≡ pieces)
+    × (g.H.Host.begun l.host ≡ g.H.Host.begun l.fn.host)

@@ -1,5 +1,5 @@
-use Rattle.std.proofs.Common.{rules, ◌≡◌, ◌≤◌, ◌<◌, ◌⊎◌, ◌∷◌, [], Some, MatchResult, true, false, length, map, take, sym, ◌∙◌, ap, subst}
-use Rattle.std.proofs.lemmas.List.{length-map, take_all}
+use Rattle.std.proofs.Common.{rules, ◌≡◌, ◌≤◌, ◌<◌, ◌⊎◌, ◌∷◌, ◌++◌, [], Some, IfOk, MatchResult, true, false, length, map, take, sym, ◌∙◌, ap, subst}
+use Rattle.std.proofs.lemmas.List.{length-map, map-append, take_all}
 use Rattle.std.proofs.lemmas.Result.{MatchResult-weaker}
 use Rattle.std.specs.List.{AllByRecursion}
 use Rattle.pig_value.proofs.list_laws.Listing.{each-append}
@@ -8,10 +8,12 @@ use Rattle.pig_outside.specs.declared.failing.Method.TheVariants as method
 use Rattle.pig_run.specs.declared.outcome.RunFault.TheVariants as fault
 use Rattle.pig_run.specs.Due.{Looks, OutputsDue, RunDue, call}
 use Rattle.pig_run.specs.Looking.{IsAbsentIn}
+use Rattle.pig_run.specs.Orderly.{calls_for}
 use Rattle.pig_run.specs.Refusals.{output_there}
 use Rattle.pig_run.specs.Steps.{IsLookFault, Passes}
 use Rattle.pig_run.specs.Told.{Asked}
 use Rattle.pig_run.proofs.LookUps.{looks_end, looks_on}
+use Rattle.pig_run.proofs.Ordering.{asked_next}
 use Rattle.pig_run.proofs.Sizes.{output_stops}
 use Rattle.pig_run.proofs.Storing.{dir_at, taken}
 use Rattle.pig_run.proofs.looking.check_outputs.Goals as goal
@@ -43,7 +45,33 @@ loop-place-preserved g c =
             subst (AllByRecursion (IsAbsentIn s)) (sym (taken stores place store store within at))
                 (each-append (IsAbsentIn s) (take place stores) (store ∷ []) both.1 (absent, tt)),
           ),
+      subst (λ dirs. Asked (calls_for method.Exists dirs) old new)
+          (sym (ap (map (λ store. store.dir)) (taken stores place store store within at) ∙ map-append (λ store. store.dir) (take place stores) (store ∷ [])))
+          (asked_next method.Exists (map (λ store. store.dir) (take place stores)) store.dir old now new c.loop-place.invariant.4 asked),
     )
+
+pub returns-in_err-check_output-clause-asked : goal.returns-in_err-check_output-clause-asked
+returns-in_err-check_output-clause-asked g c =
+    let stores = c.as_slice-stores.result.now in
+    let store = c.index-stores-place.result in
+    let place = c.loop-place.place in
+    let old = g.D.Depot.calls c.args.depot.now in
+    let now = g.D.Depot.calls c.loop-place.depot in
+    let new = g.D.Depot.calls c.check_output.new.depot in
+    let asked : Asked (call method.Exists c.index-stores-place.result.dir ∷ []) (g.D.Depot.calls c.loop-place.depot) (g.D.Depot.calls c.check_output.new.depot) = search rules in
+    let paths = map (λ store. store.dir) (take place stores) ++ store.dir ∷ [] in
+    let whole : IfOk c.from_residual.result (λ _. map (λ store. store.dir) (take c.loop-place.place c.as_slice-stores.result.now) ++ c.index-stores-place.result.dir ∷ [] ≡ map (λ store. store.dir) c.args.stores.now) = search rules in
+    record { paths = paths; asked = asked_next method.Exists (map (λ store. store.dir) (take place stores)) store.dir old now new c.loop-place.invariant.4 asked; whole = whole }
+
+pub returns-clause-asked : goal.returns-clause-asked
+returns-clause-asked g c =
+    let end : length c.as_slice-stores.result.now ≤ c.loop-place.place = search rules in
+    let same : c.as_slice-stores.result.now ≡ c.args.stores.now = search rules in
+    record {
+      paths = map (λ store. store.dir) (take c.loop-place.place c.as_slice-stores.result.now);
+      asked = c.loop-place.invariant.4;
+      whole = ap (map (λ store. store.dir)) (take_all c.loop-place.place c.as_slice-stores.result.now end ∙ same);
+    }
 
 pub returns-in_err-check_output-clause-told : goal.returns-in_err-check_output-clause-told
 returns-in_err-check_output-clause-told g c s told plan is =

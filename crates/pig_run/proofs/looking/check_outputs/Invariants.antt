@@ -5,7 +5,9 @@ use Rattle.pig_outside.specs.declared.failing.Method.TheVariants as method
 use Rattle.pig_plan.specs.Plans.{PlanNode}
 use Rattle.pig_run.specs.Due.{RunDue}
 use Rattle.pig_run.specs.Looking.{IsAbsentIn}
+use Rattle.pig_run.specs.Orderly.{calls_for}
 use Rattle.pig_run.specs.Refusals.{output_there}
+use Rattle.pig_run.specs.Told.{Asked}
 use Rattle.pig_run.proofs.LookUps.{LookedAt}
 use Rattle.pig_run.proofs.looking.check_outputs.Given as goal
 
@@ -17,3 +19,4 @@ invariant-loop-place g l =
     × ((s : Shelf) → g.D.Depot.shelf l.fn.depot ≡ Some s → (plan : List PlanNode)
     → LookedAt (λ dir. has_dir dir s) output_there method.Exists (map (λ store. store.dir) l.stores) (RunDue plan) l.place (g.D.Depot.calls l.fn.depot) (g.D.Depot.calls l.depot)
     × AllByRecursion (IsAbsentIn s) (take l.place l.stores))
+    × Asked (calls_for method.Exists (map (λ store. store.dir) (take l.place l.stores))) (g.D.Depot.calls l.fn.depot) (g.D.Depot.calls l.depot)

@@ -10,6 +10,7 @@ use Rattle.pig_run.specs.Refusals.{no_input}
 use Rattle.pig_run.specs.Steps.{IsLookFault, Passes}
 use Rattle.pig_run.specs.Told.{Asked}
 use Rattle.pig_run.proofs.LookUps.{looks_end}
+use Rattle.pig_run.proofs.Ordering.{some_next, some_none}
 use Rattle.pig_run.proofs.Sizes.{input_stops, inputs_on, sizes_on}
 use Rattle.pig_run.proofs.Stages.{wants}
 use Rattle.pig_run.proofs.Storing.{taken}
@@ -41,7 +42,22 @@ loop-place-preserved g c =
             inputs_on plan s paths c.loop-place.place path path old now new both.0 within at asked found.0 found.1,
             sizes_on s c.loop-place.sizes c.add_size.new.sizes path found.0 found.1 found.2 both.1,
           ),
+      some_next method.Pieces path old now new c.loop-place.invariant.5 asked,
     )
+
+pub returns-in_err-add_size-clause-asked : goal.returns-in_err-add_size-clause-asked
+returns-in_err-add_size-clause-asked g c =
+    let old = g.D.Depot.calls c.args.depot.now in
+    let now = g.D.Depot.calls c.loop-place.depot in
+    let new = g.D.Depot.calls c.add_size.new.depot in
+    let asked : Asked (call method.Pieces c.index-paths-place.result ∷ []) (g.D.Depot.calls c.loop-place.depot) (g.D.Depot.calls c.add_size.new.depot) = search rules in
+    some_next method.Pieces c.index-paths-place.result old now new c.loop-place.invariant.5 asked
+
+pub returns-in_err-paths-clause-asked : goal.returns-in_err-paths-clause-asked
+returns-in_err-paths-clause-asked g c = some_none method.Pieces (g.D.Depot.calls c.args.depot.now) (g.D.Depot.calls c.args.depot.now) refl
+
+pub returns-clause-asked : goal.returns-clause-asked
+returns-clause-asked g c = c.loop-place.invariant.5
 
 pub returns-in_err-add_size-clause-told : goal.returns-in_err-add_size-clause-told
 returns-in_err-add_size-clause-told g c s told =

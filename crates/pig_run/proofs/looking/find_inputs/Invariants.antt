@@ -5,6 +5,7 @@ use Rattle.pig_outside.specs.declared.failing.Method.TheVariants as method
 use Rattle.pig_plan.specs.Plans.{plan_of}
 use Rattle.pig_run.specs.Due.{SizeDue, is_missing}
 use Rattle.pig_run.specs.Looking.{HasSize}
+use Rattle.pig_run.specs.Orderly.{AsksSome}
 use Rattle.pig_run.specs.Refusals.{no_input}
 use Rattle.pig_run.proofs.LookUps.{LookedAt}
 use Rattle.pig_run.proofs.looking.find_inputs.Given as goal
@@ -18,3 +19,4 @@ invariant-loop-place g l =
     × ((s : Shelf) → g.D.Depot.shelf l.fn.depot ≡ Some s
     → LookedAt (is_missing s) no_input method.Pieces l.paths (SizeDue (plan_of l.plan) s) l.place (g.D.Depot.calls l.fn.depot) (g.D.Depot.calls l.depot)
     × AllByRecursion (HasSize s) l.sizes)
+    × AsksSome method.Pieces (g.D.Depot.calls l.fn.depot) (g.D.Depot.calls l.depot)

@@ -1,4 +1,4 @@
-use Rattle.std.proofs.Common.{rules, refl, ◌≡◌, ◌≤◌, ◌<◌, ◌^◌, Some, MatchResult, map, ◌∙◌, ap}
+use Rattle.std.proofs.Common.{rules, refl, ◌≡◌, ◌≤◌, ◌<◌, ◌^◌, Some, Ok, IfOk, MatchResult, map, ◌∙◌, ap}
 use Rattle.std.proofs.lemmas.Result.{MatchResult-weaker}
 use Rattle.std.specs.List.{AllByRecursion}
 use Rattle.pig_plan.specs.Plans.{plan_of}
@@ -9,6 +9,7 @@ use Rattle.pig_run.specs.Due.{InputsDue, OutputsDue, RunDue, SizeDue}
 use Rattle.pig_run.specs.Looking.{HasSize, are_apart, total_of}
 use Rattle.pig_run.proofs.Apart.{stores_apart}
 use Rattle.pig_run.specs.Steps.{Passes, StopsIn}
+use Rattle.pig_run.proofs.Ordering.{looks_both, looks_inputs, looks_stopped}
 use Rattle.pig_run.proofs.Sizes.{size_passes, size_stops}
 use Rattle.pig_run.proofs.Stages.{passes_both, stops_both, wants}
 use Rattle.pig_run.proofs.looking.look.Goals as goal
@@ -74,3 +75,29 @@ returns-clause-prepared g c =
     let paths : map (λ size. size.path) c.in_ok-sizes.sizes ≡ live_paths (plan_of c.args.plan) = search rules in
     let stores : c.in_ok-stores.stores ≡ stores_of (plan_of c.args.plan) = search rules in
     record { paths = paths; stores = stores; apart = ap are_apart stores ∙ stores_apart (plan_of c.args.plan) c.requires.apart }
+
+pub returns-in_err-sizes-clause-asked : goal.returns-in_err-sizes-clause-asked
+returns-in_err-sizes-clause-asked g c =
+    let stops : IfOk c.from_residual.result (λ _. ⊥) = search rules in
+    looks_inputs c.from_residual.result stops (g.D.Depot.calls c.args.depot.now) (g.D.Depot.calls c.find_inputs.new.depot) c.find_inputs.ensures.asked
+
+pub returns-in_err-check_size-clause-asked : goal.returns-in_err-check_size-clause-asked
+returns-in_err-check_size-clause-asked g c =
+    let stops : IfOk c.from_residual-in_err-check_size.result (λ _. ⊥) = search rules in
+    looks_inputs c.from_residual-in_err-check_size.result stops (g.D.Depot.calls c.args.depot.now) (g.D.Depot.calls c.find_inputs.new.depot) c.find_inputs.ensures.asked
+
+pub returns-in_err-stores-clause-asked : goal.returns-in_err-stores-clause-asked
+returns-in_err-stores-clause-asked g c =
+    let stops : IfOk c.from_residual-in_err-stores.result (λ _. ⊥) = search rules in
+    looks_inputs c.from_residual-in_err-stores.result stops (g.D.Depot.calls c.args.depot.now) (g.D.Depot.calls c.find_inputs.new.depot) c.find_inputs.ensures.asked
+
+pub returns-in_err-check_outputs-clause-asked : goal.returns-in_err-check_outputs-clause-asked
+returns-in_err-check_outputs-clause-asked g c =
+    let stops : IfOk c.from_residual-in_err-check_outputs.result (λ _. ⊥) = search rules in
+    looks_stopped (map (λ store. store.dir) c.in_ok-stores.stores) c.check_outputs.result (g.D.Depot.calls c.args.depot.now) (g.D.Depot.calls c.find_inputs.new.depot) (g.D.Depot.calls c.check_outputs.new.depot)
+    c.find_inputs.ensures.asked c.check_outputs.ensures.asked c.from_residual-in_err-check_outputs.result stops
+
+pub returns-clause-asked : goal.returns-clause-asked
+returns-clause-asked g c =
+    looks_both {T = Unit {0}} (map (λ store. store.dir) c.in_ok-stores.stores) (Ok tt) (g.D.Depot.calls c.args.depot.now) (g.D.Depot.calls c.find_inputs.new.depot) (g.D.Depot.calls c.check_outputs.new.depot)
+    c.find_inputs.ensures.asked c.in_ok-check_outputs.ensures.asked (record { plan = c.args.plan; sizes = c.in_ok-sizes.sizes; stores = c.in_ok-stores.stores }) refl c.in_ok-check_outputs.ensures.asked.whole

@@ -1,0 +1,181 @@
+-- All that a depot is asked comes in its order.
+use Rattle.std.proofs.Common.{◌≡◌, ◌∙◌, ◌++◌, ℕ, List, [], ◌∷◌, map, Option, Some, None, Result, Ok, Err, IfOk, MatchResult, refl, sym, subst, inl, inr}
+use Rattle.std.specs.List.{flat_map}
+use Rattle.std.proofs.lemmas.List.{append-nil, map-append}
+use Rattle.pig_outside.specs.Calls.{DepotCall}
+use Rattle.pig_outside.specs.declared.failing.Method.{Method}
+use Rattle.pig_outside.specs.declared.failing.Method.TheVariants as method
+use Rattle.pig_run.specs.declared.looking.Prepared.{Prepared}
+use Rattle.pig_run.specs.declared.outcome.RunFault.{RunFault}
+use Rattle.pig_run.specs.declared.outcome.RunFault.TheVariants as fault
+use Rattle.pig_run.specs.Due.{call, store_calls}
+use Rattle.pig_run.specs.Ends.{Console, Shown, cut_short, failed, no_text, no_text_cut, no_text_failed, printed}
+use Rattle.pig_run.specs.Orderly.{AsksAll, AsksScript, AsksSome, IsOrderly, IsOrderlyBehind, LooksUp, Makes, MayMake, calls_for}
+use Rattle.pig_run.specs.Running.{AskedFor, found_in}
+use Rattle.pig_run.specs.Steps.{IsCommitFault}
+use Rattle.pig_run.specs.Told.{Asked}
+use Rattle.pig_run.proofs.Stages.{asked_nothing, asked_then}
+
+-- ---- paths in turn
+
+-- one more path
+pub asked_next : (m : Method) (paths : List (List ℕ)) (path : List ℕ) (old now new : Option (List DepotCall)) → Asked (calls_for m paths) old now → Asked (call m path ∷ []) now new
+    → Asked (calls_for m (paths ++ path ∷ [])) old new
+asked_next m paths path old now new before after =
+    subst (λ calls. Asked calls old new) (sym (map-append (call m) paths (path ∷ []))) (asked_then (calls_for m paths) (call m path ∷ []) old now new before after)
+
+pub some_next : (m : Method) (path : List ℕ) (old now new : Option (List DepotCall)) → AsksSome m old now → Asked (call m path ∷ []) now new → AsksSome m old new
+some_next m path old now new before after = record { paths = before.paths ++ path ∷ []; asked = asked_next m before.paths path old now new before.asked after }
+
+pub some_none : (m : Method) (old new : Option (List DepotCall)) → new ≡ old → AsksSome m old new
+some_none m old new same = record { paths = []; asked = asked_nothing old new same }
+
+-- ---- looking
+
+pub looks_none : (result : Result Prepared RunFault) → IfOk result (λ _. ⊥) → (old new : Option (List DepotCall)) → new ≡ old → LooksUp result old new
+looks_none (Ok p) h old new same = absurd h
+looks_none (Err f) h old new same = record { inputs = []; outputs = []; asked = asked_nothing old new same; whole = tt }
+
+pub looks_inputs : (result : Result Prepared RunFault) → IfOk result (λ _. ⊥) → (old new : Option (List DepotCall)) → AsksSome method.Pieces old new → LooksUp result old new
+looks_inputs (Ok p) h old new some = absurd h
+looks_inputs (Err f) h old new some = record {
+  inputs = some.paths;
+  outputs = [];
+  asked = subst (λ calls. Asked calls old new) (sym (append-nil (calls_for method.Pieces some.paths))) some.asked;
+  whole = tt;
+}
+
+module _ {T : Type 0} (dirs : List (List ℕ)) (found : Result T RunFault) (old mid new : Option (List DepotCall)) (inputs : AsksSome method.Pieces old mid) (outputs : AsksAll method.Exists dirs found mid new) where
+  both : Asked (calls_for method.Pieces inputs.paths ++ calls_for method.Exists outputs.paths) old new
+  both = asked_then (calls_for method.Pieces inputs.paths) (calls_for method.Exists outputs.paths) old mid new inputs.asked outputs.asked
+
+  pub looks_stopped : (result : Result Prepared RunFault) → IfOk result (λ _. ⊥) → LooksUp result old new
+  looks_stopped (Ok p) h = absurd h
+  looks_stopped (Err f) h = record { inputs = inputs.paths; outputs = outputs.paths; asked = both; whole = tt }
+
+  pub looks_both : (p : Prepared) → dirs ≡ map (λ store. store.dir) p.stores → outputs.paths ≡ dirs → LooksUp (Ok p) old new
+  looks_both p are same = record { inputs = inputs.paths; outputs = outputs.paths; asked = both; whole = same ∙ are }
+
+-- ---- making
+
+-- nothing was made, and a fault came
+pub makes_none : {T : Type 0} (result : Result T RunFault) → IfOk result (λ _. ⊥) → (dirs : List (List ℕ)) (old new : Option (List DepotCall)) → new ≡ old → Makes dirs (found_in result) old new
+makes_none (Ok x) h dirs old new same = absurd h
+makes_none (Err f) h dirs old new same = record {
+  made = [];
+  asked = asked_nothing old new same;
+  first = (flat_map store_calls dirs, refl);
+  none = λ _. refl;
+  whole = λ e. absurd (cc);
+}
+
+-- making ended in between
+may_break : (n : ℕ) (f : RunFault) → IsCommitFault n f → MayMake (Some f)
+may_break n f (inl is) = subst (λ g. MayMake (Some g)) (sym is) tt
+may_break n f (inr is) = subst (λ g. MayMake (Some g)) (sym is) tt
+
+pub makes_broken : {T U : Type 0} (result : Result T RunFault) (n : ℕ) → MatchResult result (λ _. ⊥) (IsCommitFault n) → (dirs : List (List ℕ)) (found : Result U RunFault) (old new : Option (List DepotCall))
+    → AskedFor (flat_map store_calls dirs) found old new → Makes dirs (found_in result) old new
+makes_broken (Ok x) n h dirs found old new asked = absurd h
+makes_broken (Err f) n h dirs found old new asked = record {
+  made = asked.made;
+  asked = asked.asked;
+  first = asked.first;
+  none = λ never. absurd (never (may_break n f h));
+  whole = λ e. absurd (cc);
+}
+
+-- all was made
+module _ (dirs : List (List ℕ)) (old new : Option (List DepotCall)) (asked : AskedFor {T = Unit {0}} (flat_map store_calls dirs) (Ok tt) old new) where
+  pub makes_all : Makes dirs None old new
+  makes_all = record { made = asked.made; asked = asked.asked; first = asked.first; none = λ never. absurd (never tt); whole = λ _. asked.all }
+
+  pub makes_untold : {T : Type 0} (result : Result T RunFault) → MatchResult result (λ _. ⊥) (λ f. f ≡ fault.OutOfMemory) → Makes dirs (found_in result) old new
+  makes_untold result h = makes_broken {U = Unit {0}} result 0 (weaker result h) dirs (Ok tt) old new asked
+    where
+      weaker : {T : Type 0} (r : Result T RunFault) → MatchResult r (λ _. ⊥) (λ f. f ≡ fault.OutOfMemory) → MatchResult r (λ _. ⊥) (IsCommitFault 0)
+      weaker (Ok x) h = h
+      weaker (Err f) h = inr h
+
+-- ---- together
+
+-- looking ended it
+pub orderly_stopped : {T : Type 0} (found : Result Prepared RunFault) (result : Result T RunFault) → IfOk result (λ _. ⊥) → (old new : Option (List DepotCall)) → LooksUp found old new
+    → IsOrderlyBehind (found_in result) old new
+orderly_stopped found result h old new looks = record {
+  inputs = looks.inputs;
+  outputs = looks.outputs;
+  looked = new;
+  asked = looks.asked;
+  makes = makes_none result h looks.outputs new new refl;
+}
+
+pub orderly_made : (p : Prepared) (answer : Option RunFault) (old mid new : Option (List DepotCall)) → LooksUp (Ok p) old mid → Makes (map (λ store. store.dir) p.stores) answer mid new
+    → IsOrderlyBehind answer old new
+orderly_made p answer old mid new looks makes = record {
+  inputs = looks.inputs;
+  outputs = looks.outputs;
+  looked = mid;
+  asked = looks.asked;
+  makes = subst (λ dirs. Makes dirs answer mid new) (sym looks.whole) makes;
+}
+
+-- nothing was asked
+idle : {T : Type 0} (result : Result T RunFault) (old new : Option (List DepotCall)) → new ≡ old → Makes [] (found_in result) old new
+idle (Ok x) old new same = record { made = []; asked = asked_nothing old new same; first = ([], refl); none = λ _. refl; whole = λ _. refl }
+idle (Err f) old new same = makes_none {T = Unit {0}} (Err f) tt [] old new same
+
+pub orderly_idle : {T : Type 0} (result : Result T RunFault) (old new : Option (List DepotCall)) → new ≡ old → IsOrderlyBehind (found_in result) old new
+orderly_idle result old new same = record { inputs = []; outputs = []; looked = old; asked = asked_nothing old old refl; makes = idle result old new same }
+
+-- the script came before
+pub orderly_behind : (answer : Option RunFault) (old mid new : Option (List DepotCall)) → AsksScript old mid → IsOrderlyBehind answer mid new → IsOrderly answer old new
+orderly_behind answer old mid new script rest = record {
+  scripts = script.scripts;
+  inputs = rest.inputs;
+  outputs = rest.outputs;
+  looked = rest.looked;
+  one = script.one;
+  asked = asked_then (calls_for method.Script script.scripts) (calls_for method.Pieces rest.inputs ++ calls_for method.Exists rest.outputs) old mid rest.looked script.asked rest.asked;
+  makes = rest.makes;
+}
+
+-- ---- as it is answered
+
+makes_shown : (text : List ℕ) (old new : Console) (found final : Option RunFault) → Shown text old new found final → (dirs : List (List ℕ)) (before after : Option (List DepotCall))
+    → Makes dirs found before after → Makes dirs final before after
+makes_shown text old new found final shown dirs before after m = record {
+  made = m.made;
+  asked = m.asked;
+  first = m.first;
+  none = none_made found final shown m.none;
+  whole = all_made found final shown m.whole;
+}
+  where
+    none_made : (found final : Option RunFault) → Shown text old new found final → (¬ MayMake found → m.made ≡ []) → ¬ MayMake final → m.made ≡ []
+    none_made found _ (printed sound is) h never = h never
+    none_made None _ (failed fails is) h never = absurd (never tt)
+    none_made (Some f) _ (failed fails is) h never = h never
+    none_made found _ (cut_short sound is) h never = absurd (never tt)
+    none_made found _ (no_text sound is) h never = absurd (never tt)
+    none_made found _ (no_text_failed fails is) h never = absurd (never tt)
+    none_made found _ (no_text_cut sound is) h never = absurd (never tt)
+
+    all_made : (found final : Option RunFault) → Shown text old new found final → (found ≡ None → m.made ≡ flat_map store_calls dirs) → final ≡ None → m.made ≡ flat_map store_calls dirs
+    all_made found _ (printed sound is) h e = h e
+    all_made found _ (failed fails is) h e = absurd (cc)
+    all_made found _ (cut_short sound is) h e = absurd (cc)
+    all_made found _ (no_text sound is) h e = absurd (cc)
+    all_made found _ (no_text_failed fails is) h e = absurd (cc)
+    all_made found _ (no_text_cut sound is) h e = absurd (cc)
+
+pub orderly_shown : (text : List ℕ) (old new : Console) (found final : Option RunFault) → Shown text old new found final → (before after : Option (List DepotCall)) → IsOrderly found before after → IsOrderly final before after
+orderly_shown text old new found final shown before after o = record {
+  scripts = o.scripts;
+  inputs = o.inputs;
+  outputs = o.outputs;
+  looked = o.looked;
+  one = o.one;
+  asked = o.asked;
+  makes = makes_shown text old new found final shown o.outputs o.looked after o.makes;
+}
