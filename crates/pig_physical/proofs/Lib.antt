@@ -3,4 +3,5 @@ mod Fitted
 mod Slices
 pub mod Loops
 pub mod Headings
+mod Named
 pub mod Waved
