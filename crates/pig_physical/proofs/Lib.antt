@@ -3,5 +3,6 @@ mod Fitted
 mod Slices
 pub mod Loops
 pub mod Headings
+mod Named
 pub mod Waved
 pub mod Crossing

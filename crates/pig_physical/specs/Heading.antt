@@ -1,6 +1,6 @@
 -- The waves of a plan as they are listed: each live node in turn, and whether it combines by what the live nodes name.
-use Rattle.std.specs.Prelude.{ℕ, ◌==◌, Bool, true, false, ◌&&◌, List, [], ◌∷◌, map, take, slice_get, if◌then◌else◌}
-use Rattle.std.specs.List.{count_by, filter, flat_map}
+use Rattle.std.specs.Prelude.{ℕ, Bool, false, ◌&&◌, List, [], map, take, slice_get, if◌then◌else◌}
+use Rattle.std.specs.List.{filter, flat_map}
 use Rattle.std.specs.Option.{option_map_or}
 use Rattle.pig_plan.specs.Nodes.{inputs_of, is_boundary, is_store, op_at}
 use Rattle.pig_plan.specs.Plans.{Plan, PlanOp}
@@ -9,20 +9,12 @@ use Rattle.pig_physical.specs.declared.waves.WaveHead.{WaveHead}
 use Rattle.pig_physical.specs.declared.waves.WaveKind.{WaveKind}
 use Rattle.pig_physical.specs.declared.waves.WaveKind.TheVariants as kinds
 
--- the inputs that nodes name, one behind the other, and whether just one of them is this node
+-- the inputs that nodes name, one behind the other
 abbrev pub inputs_at : Plan → ℕ → List ℕ
 inputs_at plan n = option_map_or (λ node. inputs_of node.op) (slice_get plan n) []
 
 abbrev pub named_by : Plan → List ℕ → List ℕ
 named_by plan users = flat_map (inputs_at plan) users
-
-abbrev pub is_named_once : List ℕ → ℕ → Bool
-is_named_once named k = count_by (λ i. i == k) named == 1
-
--- whether a list holds nothing
-abbrev pub holds_none : {X : Type 0} → List X → Bool
-holds_none [] = true
-holds_none (x ∷ xs) = false
 
 -- a wave of a node, by whether the node combines
 abbrev pub head_with : ℕ → Bool → WaveKind → WaveHead

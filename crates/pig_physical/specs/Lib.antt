@@ -1,6 +1,7 @@
 pub mod Combining
 pub mod Stages
 pub mod Heading
+pub mod Naming
 pub mod Seen
 pub mod Outs
 pub mod Values

@@ -3,6 +3,7 @@
 
 mod folding;
 mod listing;
+mod namings;
 mod outputs;
 mod parts;
 mod slicing;

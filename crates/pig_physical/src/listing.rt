@@ -2,13 +2,15 @@
 ghost use Rattle.std.specs.Prelude.{◌≡◌, ◌++◌, ◌∷◌, [], Some, false, map, IfOk, OnOk};
 ghost use Rattle.std.specs.List.{flat_map};
 ghost use Rattle.std.specs.Option.{option_map_or};
-ghost use Rattle.pig_plan.specs.Nodes.{is_store, live as live_of, op_at};
+ghost use Rattle.pig_plan.specs.Nodes.{is_store, op_at};
 ghost use Rattle.pig_plan.specs.Plans.{op_of, plan_of};
-ghost use Rattle.pig_physical.specs.Heading.{head_with, heads_by, heads_on, named_by, store_head};
+ghost use Rattle.pig_physical.specs.Heading.{head_with, heads_by, heads_on, store_head};
+ghost use Rattle.pig_physical.specs.Naming.{AreNamings};
 ghost use Rattle.pig_physical.specs.Stages.{heads, waves_of};
 ghost use Rattle.pig_physical.specs.declared.waves.WaveKind.TheVariants as kinds;
 
-use crate::folding::{combines, named_by};
+use crate::folding::combines;
+use crate::namings::{Naming, namings};
 use crate::{WaveHead, WaveHeads, WaveKind};
 use pig_plan::{Node, NodeOp, Plan, live_numbers};
 use std::alloc::{AllocError, Global};
@@ -20,9 +22,15 @@ pub fn heads(alloc: Global, plan: &Plan) -> Result<WaveHeads, AllocError>
 {
     let live = live_numbers(alloc, plan)?;
     let nodes = plan.nodes().as_slice();
-    let named = named_by(alloc, nodes, live.as_slice())?;
+    let namings = namings(alloc, nodes, live.as_slice())?;
     let mut found = WaveHeads::new(alloc);
-    add_all_heads(alloc, nodes, live.as_slice(), named.as_slice(), &mut found)?;
+    add_all_heads(
+        alloc,
+        nodes,
+        live.as_slice(),
+        namings.as_slice(),
+        &mut found,
+    )?;
     add_store_head(nodes, live.as_slice(), &mut found)?;
     Ok(found)
 }
@@ -32,17 +40,16 @@ fn add_all_heads(
     alloc: Global,
     nodes: &[Node],
     live: &[usize],
-    named: &[u32],
+    namings: &[Naming],
     found: &mut WaveHeads,
 ) -> Result<(), AllocError>
-    requires live { live.now ≡ live_of (plan_of nodes.now) }
-    requires named { named.now ≡ named_by (plan_of nodes.now) live.now }
+    requires { AreNamings (plan_of nodes.now) namings.now }
     ensures { OnOk result (found.new
         ≡ found.old ++ flat_map (heads_on (plan_of nodes.now)) live.now) }
 {
     let mut left = live;
     while let [number, rest @ ..] = left {
-        add_heads(alloc, nodes, live, named, *number, found)?;
+        add_heads(alloc, nodes, namings, *number, found)?;
         left = rest;
     }
     Ok(())
@@ -52,17 +59,15 @@ fn add_all_heads(
 fn add_heads(
     alloc: Global,
     nodes: &[Node],
-    live: &[usize],
-    named: &[u32],
+    namings: &[Naming],
     number: usize,
     found: &mut WaveHeads,
 ) -> Result<(), AllocError>
-    requires live { live.now ≡ live_of (plan_of nodes.now) }
-    requires named { named.now ≡ named_by (plan_of nodes.now) live.now }
+    requires { AreNamings (plan_of nodes.now) namings.now }
     ensures { OnOk result (found.new ≡ found.old ++ heads_on (plan_of nodes.now) number) }
 {
     match nodes.get(number) {
-        Some(node) => add_heads_by(alloc, nodes, live, named, number, &node.op, found),
+        Some(node) => add_heads_by(alloc, nodes, namings, number, &node.op, found),
         None => Ok(()),
     }
 }
@@ -70,14 +75,12 @@ fn add_heads(
 fn add_heads_by(
     alloc: Global,
     nodes: &[Node],
-    live: &[usize],
-    named: &[u32],
+    namings: &[Naming],
     number: usize,
     op: &NodeOp,
     found: &mut WaveHeads,
 ) -> Result<(), AllocError>
-    requires live { live.now ≡ live_of (plan_of nodes.now) }
-    requires named { named.now ≡ named_by (plan_of nodes.now) live.now }
+    requires namings { AreNamings (plan_of nodes.now) namings.now }
     requires op { op_at (plan_of nodes.now) number ≡ Some (op_of op.now) }
     ensures { OnOk result (found.new
         ≡ found.old ++ heads_by (plan_of nodes.now) number (op_of op.now)) }
@@ -85,7 +88,7 @@ fn add_heads_by(
     if !op.is_boundary() {
         return Ok(());
     }
-    let combine = combines(alloc, nodes, live, named, number, op)?;
+    let combine = combines(alloc, nodes, namings, number, op)?;
     add_waves(op, node_number(number)?, combine, found)
 }
 
