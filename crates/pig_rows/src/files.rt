@@ -20,36 +20,6 @@ fn status(done: Outcome) -> u8 {
     status
 }
 
-/// A folder is its files in the order of their names, without those that begin with `_` or `.`.
-#[test]
-fn a_folder_is_read_file_by_file(rt: HostRuntime) {
-    let script = "a = LOAD 'in' AS (v:chararray); STORE a INTO 'q';";
-    fs::write(&rt, "s", script).expect(&rt, "the file");
-    fs::create_dir(&rt, "in").expect(&rt, "the folder");
-    for (path, text) in [
-        ("in/b", "three\n"),
-        ("in/a", "one\ntwo"),
-        ("in/_x", "x\n"),
-        ("in/.y", "y\n"),
-    ] {
-        fs::write(&rt, path, text).expect(&rt, "the file");
-    }
-    let alloc = rt.alloc();
-    let words = words_of(&rt, alloc, &["run", "s"]);
-    let mut depot = FileDepot::new(rt.clone().expect(&rt, "a handle"), alloc);
-    let mut hosts = Vec::new(alloc);
-    let host = FileHost::new(rt.clone().expect(&rt, "a handle"), alloc);
-    hosts.push(host).expect(&rt, "memory");
-    let mut console = StdConsole::new(rt.clone().expect(&rt, "a handle"));
-    let done = pig_main(&rt, alloc, &words, &mut depot, &mut hosts, &mut console);
-    assert_eq!(rt; status(done), 0);
-    assert!(rt; holds(&rt, "q/part-00000", "one\ntwo\nthree\n"));
-    assert!(rt; holds(&rt, "q/_SUCCESS", ""));
-    drop(depot);
-    drop(hosts);
-    drop(console);
-}
-
 #[test]
 fn a_run_over_files_stores_its_lines(rt: HostRuntime) {
     let alloc = rt.alloc();

@@ -229,22 +229,6 @@ fn worked_rows_store_their_lines(rt: HostRuntime) {
     }
 }
 
-/// The numbers of statements of the worked rows.
-const STATEMENTS: [u32; 16] = [6, 8, 2, 6, 4, 3, 4, 4, 5, 4, 2, 2, 3, 4, 3, 3];
-
-/// Their check, which needs no input.
-#[test]
-fn worked_rows_are_checked(rt: HostRuntime) {
-    for number in 0..16 {
-        let (script, _, _, _) = case(number).unwrap_or(("", "", "", ""));
-        let count = STATEMENTS[number as usize];
-        let got = told(&rt, rt.alloc(), &["check", "s"], script, "", "", None);
-        let want = format!(in rt.alloc(); "0 kept 0\nok {count}\np none\nq none\n");
-        let want = want.expect(&rt, "memory");
-        assert_eq!(rt; got.as_str(), want.as_str(), "at {number}");
-    }
-}
-
 /// Rows behind an ORDER, in order.
 #[test]
 fn ordered_rows_are_lists(rt: HostRuntime) {

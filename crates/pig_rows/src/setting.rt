@@ -1,6 +1,6 @@
 // A script and inputs in memory, and what the top call answers over them, as one text.
 // Trees end by `drop`: one call is cheap to prove, and a tree that dies by name is taken apart variant by variant.
-ghost use Rattle.std.specs.Prelude.{◌≡◌, ◌≤◌, ◌∷◌, [], All, codes, length};
+ghost use Rattle.std.specs.Prelude.{◌≡◌, ◌∷◌, [], codes};
 ghost use Rattle.pig_outside.specs.Memory.{depot_shelf, told_shelf, host_inputs, told_inputs};
 ghost use Rattle.pig_run.specs.Told.{TellsOf};
 
@@ -68,7 +68,7 @@ pub fn words_of<R: Abort>(rt: &R, alloc: Global, words: &[&str]) -> Words {
 }
 
 /// What stands in a directory: `whole` or `open`, and from the next line on its bytes.
-pub fn directory<R: Abort>(rt: &R, alloc: Global, state: Option<&DirState>) -> String {
+fn directory<R: Abort>(rt: &R, alloc: Global, state: Option<&DirState>) -> String {
     let state = match state {
         Some(state) => state,
         None => return String::from_str(alloc, "none").expect(rt, "memory"),
@@ -99,30 +99,14 @@ fn told_over<R: Threads + Sync + Abort>(
     words: &[&str],
     depot: &mut MemoryDepot,
     host: MemoryHost,
-    console: MemoryConsole,
+    mut console: MemoryConsole,
 ) -> String
     requires { TellsOf (told_shelf depot.old) (told_inputs host) }
 {
     let mut hosts = Vec::new(alloc);
     hosts.push(host).expect(rt, "memory");
-    told_by(rt, alloc, words, depot, &mut hosts, console)
-}
-
-/// The same over hosts.
-fn told_by<R: Threads + Sync + Abort>(
-    rt: &R,
-    alloc: Global,
-    words: &[&str],
-    depot: &mut MemoryDepot,
-    hosts: &mut Vec<MemoryHost>,
-    mut console: MemoryConsole,
-) -> String
-    requires some { 1 ≤ length hosts.old.items }
-    requires few { length hosts.old.items ≤ 256 }
-    requires tell { All (λ h. TellsOf (told_shelf depot.old) (told_inputs h)) hosts.old.items }
-{
     let words = words_of(rt, alloc, words);
-    let outcome = pig_main(rt, alloc, &words, depot, hosts, &mut console);
+    let outcome = pig_main(rt, alloc, &words, depot, &mut hosts, &mut console);
     let answer = answer(rt, alloc, &outcome, console.text());
     drop(outcome);
     drop(console);
@@ -181,38 +165,6 @@ pub fn told<R: Threads + Sync + Abort>(
     let host = host(rt, alloc, a, b, call);
     let console = MemoryConsole::new(alloc, failing(rt, alloc, call));
     let told = told_over(rt, alloc, words, &mut depot, host, console);
-    drop(depot);
-    told
-}
-
-/// A depot with the script at `s` and the input `a`.
-pub fn depot_of<R: Abort>(rt: &R, alloc: Global, script: &str, a: &str) -> MemoryDepot {
-    depot(rt, alloc, script, a, "", None)
-}
-
-/// What `run s` answers over two hosts, of which the second would fail at that call.
-pub fn told_of_two<R: Threads + Sync + Abort>(
-    rt: &R,
-    alloc: Global,
-    script: &str,
-    a: &str,
-    call: (Method, u64),
-) -> String {
-    let mut depot = depot(rt, alloc, script, a, "", None);
-    let first = host(rt, alloc, a, "", None);
-    let second = host(rt, alloc, a, "", Some(call));
-    let mut hosts = Vec::new(alloc);
-    hosts.push(first).expect(rt, "memory");
-    hosts.push(second).expect(rt, "memory");
-    let console = MemoryConsole::new(alloc, Calls::new(alloc));
-    let told = told_by(
-        rt,
-        alloc,
-        &["run", "--workers", "2", "s"],
-        &mut depot,
-        &mut hosts,
-        console,
-    );
     drop(depot);
     told
 }
