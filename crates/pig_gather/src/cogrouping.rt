@@ -134,8 +134,8 @@ fn add_lone(
     requires bag { bag_of (rows_at entries.now from end) ≡ rows_at entries.now from end }
     requires none_begun { built.old.begun ≡ [] }
     ensures { OnOk result (built.new ≡ and_row
-        (bags_of inputs (first_key entries.now key) (rows_alone input (rows_at entries.now from end)))
-        built.old) }
+        (bags_of inputs (first_key entries.now key)
+        (rows_alone input (rows_at entries.now from end))) built.old) }
 {
     entries.len();
     begin_by_key(entries, key, built)?;

@@ -30,7 +30,8 @@ pub fn add_limited(
     built: &mut PackedBuilder,
 ) -> Result<(), AllocError>
     requires { built.old.begun ≡ [] }
-    ensures rows { OnOk result (built.new ≡ and_rows (take count (run_rows entries.now)) built.old) }
+    ensures rows { OnOk result (built.new
+        ≡ and_rows (take count (run_rows entries.now)) built.old) }
     ensures order { (keys : List SortKey) → IsOrdering keys entries.now
         → OnOk result (built.new
         ≡ and_rows (take count (order_rows keys (run_rows entries.now))) built.old) }
