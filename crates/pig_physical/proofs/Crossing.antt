@@ -74,21 +74,46 @@ keyed_sends : IsSend keyed_type.the_row
 keyed_sends = declared_send keyed_type.the_type (search sendable, (search (sendable, seq.the_send, expr_sends), (search sendable, tt)))
 
 pub op_sends : IsSend op_type.the_row
-op_sends = variants_send op_type.enum
-    ((text.the_send, (delim.the_send, (search (sendable, seq.the_send, column_sends), tt))),
-    ((search sendable, (expr_sends, tt)),
-    ((search sendable, (block_sends, tt)),
-    ((search sendable, tt),
-    ((search (sendable, seq.the_send, keyed_sends), tt),
-    ((search (sendable, seq.the_send, keyed_sends), (side.the_send, (search sendable, tt))),
-    ((search (sendable, seq.the_send), tt),
-    ((search sendable, tt),
-    ((search sendable, (keys_sends, tt)),
-    ((search sendable, (search sendable, tt)),
-    ((search sendable, (text.the_send, (delim.the_send, tt))),
-    ((search sendable, (expr_sends, (search (sendable, option.the_send, text.the_send), tt))),
-    ((search sendable, (keys_sends, (search sendable, tt))),
-    tt)))))))))))))
+op_sends = variants_send op_type.enum (
+  (text.the_send, (delim.the_send, (search (sendable, seq.the_send, column_sends), tt))),
+  (
+    (search sendable, (expr_sends, tt)),
+    (
+      (search sendable, (block_sends, tt)),
+      (
+        (search sendable, tt),
+        (
+          (search (sendable, seq.the_send, keyed_sends), tt),
+          (
+            (search (sendable, seq.the_send, keyed_sends), (side.the_send, (search sendable, tt))),
+            (
+              (search (sendable, seq.the_send), tt),
+              (
+                (search sendable, tt),
+                (
+                  (search sendable, (keys_sends, tt)),
+                  (
+                    (search sendable, (search sendable, tt)),
+                    (
+                      (search sendable, (text.the_send, (delim.the_send, tt))),
+                      (
+                        (search sendable, (expr_sends, (search (sendable, option.the_send, text.the_send), tt))),
+                        (
+                          (search sendable, (keys_sends, (search sendable, tt))),
+                          tt,
+                        ),
+                      ),
+                    ),
+                  ),
+                ),
+              ),
+            ),
+          ),
+        ),
+      ),
+    ),
+  ),
+)
 
 pub kind_shared : IsSync kind_type.the_row
 kind_shared = search (sendable, kind_crosses, seq.the_sync, boxed.the_sync)
@@ -121,21 +146,46 @@ keyed_shared : IsSync keyed_type.the_row
 keyed_shared = declared_sync keyed_type.the_type (search sendable, (search (sendable, seq.the_sync, expr_shared), (search sendable, tt)))
 
 pub op_shared : IsSync op_type.the_row
-op_shared = variants_sync op_type.enum
-    ((text.the_sync, (delim.the_sync, (search (sendable, seq.the_sync, column_shared), tt))),
-    ((search sendable, (expr_shared, tt)),
-    ((search sendable, (block_shared, tt)),
-    ((search sendable, tt),
-    ((search (sendable, seq.the_sync, keyed_shared), tt),
-    ((search (sendable, seq.the_sync, keyed_shared), (side.the_sync, (search sendable, tt))),
-    ((search (sendable, seq.the_sync), tt),
-    ((search sendable, tt),
-    ((search sendable, (keys_shared, tt)),
-    ((search sendable, (search sendable, tt)),
-    ((search sendable, (text.the_sync, (delim.the_sync, tt))),
-    ((search sendable, (expr_shared, (search (sendable, option.the_sync, text.the_sync), tt))),
-    ((search sendable, (keys_shared, (search sendable, tt))),
-    tt)))))))))))))
+op_shared = variants_sync op_type.enum (
+  (text.the_sync, (delim.the_sync, (search (sendable, seq.the_sync, column_shared), tt))),
+  (
+    (search sendable, (expr_shared, tt)),
+    (
+      (search sendable, (block_shared, tt)),
+      (
+        (search sendable, tt),
+        (
+          (search (sendable, seq.the_sync, keyed_shared), tt),
+          (
+            (search (sendable, seq.the_sync, keyed_shared), (side.the_sync, (search sendable, tt))),
+            (
+              (search (sendable, seq.the_sync), tt),
+              (
+                (search sendable, tt),
+                (
+                  (search sendable, (keys_shared, tt)),
+                  (
+                    (search sendable, (search sendable, tt)),
+                    (
+                      (search sendable, (text.the_sync, (delim.the_sync, tt))),
+                      (
+                        (search sendable, (expr_shared, (search (sendable, option.the_sync, text.the_sync), tt))),
+                        (
+                          (search sendable, (keys_shared, (search sendable, tt))),
+                          tt,
+                        ),
+                      ),
+                    ),
+                  ),
+                ),
+              ),
+            ),
+          ),
+        ),
+      ),
+    ),
+  ),
+)
 
 pub node_sends : IsSend node_type.the_row
 node_sends = declared_send node_type.the_type (op_sends, (search sendable, tt))

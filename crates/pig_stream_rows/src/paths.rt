@@ -1,9 +1,7 @@
 //! Rows on their way through nodes.
 use crate::plans::{Range, plan, stored, through};
 use pig_packed::Packed;
-use pig_stream::{
-    Batch, FirstRows, PackedRows, RowList, Sink, Steps, StoredText, Unpacked, drive,
-};
+use pig_stream::{Batch, FirstRows, PackedRows, RowList, Sink, Steps, StoredText, Unpacked, drive};
 use pig_value::Delim;
 use std::alloc::Global;
 use std::process::Abort;
