@@ -1,6 +1,6 @@
 -- Rows on their way from a source through nodes that work row by row. Where a GROUP folds, its rows are its FOREACH's already, so that
 -- this FOREACH hands them on: `folding` has its block, by the number of the GROUP.
-use Rattle.std.specs.Prelude.{ℕ, List, [], ◌∷◌, Option, None, if◌then◌else◌}
+use Rattle.std.specs.Prelude.{◌≡◌, get_or, ℕ, Bool, false, List, [], ◌∷◌, Option, None, if◌then◌else◌}
 use Rattle.std.specs.List.{flat_map}
 use Rattle.std.specs.Option.{is_some, option_map_or}
 use Rattle.pig_value.specs.Trees.{Tree}
@@ -15,6 +15,10 @@ Folding = ℕ → Option TypedBlock
 
 abbrev pub none_folds : Folding
 none_folds k = None
+
+-- the marks of the nodes that fold, by their numbers
+abbrev pub AreFoldMarks : Folding → List Bool → Type 0
+AreFoldMarks folding folded = (k : ℕ) → get_or folded k false ≡ is_some (folding k)
 
 -- what a node that works row by row makes of rows: UNION, STORE and ASSERT hand them on
 abbrev pub step_rows : Folding → PlanOp → List (List Tree) → List (List Tree)

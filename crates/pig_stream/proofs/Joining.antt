@@ -21,9 +21,10 @@ use Rattle.pig_plan.proofs.Through.{node_both, node_none}
 use Rattle.pig_plan.specs.Laws.{OpLiteralsAre, PlanLiteralsAre}
 use Rattle.pig_plan.specs.Nodes.{op_at}
 use Rattle.pig_plan.specs.Plans.{Plan, PlanNode, PlanOp, p_load, p_filter, p_foreach, p_group_all, p_group, p_join, p_union, p_distinct, p_order, p_limit, p_store, p_assert, p_rank}
-use Rattle.pig_plan.specs.Steps.{Folding, node_step, step_rows, through}
-use Rattle.pig_stream.specs.Stepping.{AreMarks, any_block, marked_folding}
-use Rattle.pig_stream.specs.Unmet.{either_of, fails, fails_at, fails_on, marked, not_met, not_met_at, statement_of, unmet_on, is_assert, is_assert_at}
+use Rattle.pig_plan.specs.Steps.{AreFoldMarks, Folding, node_step, step_rows, through}
+use Rattle.pig_stream.specs.Stepping.{any_block, marked_folding}
+use Rattle.pig_plan.specs.Asserts.{not_met, not_met_at, unmet_on}
+use Rattle.pig_stream.specs.Unmet.{either_of, fails, fails_at, fails_on, marked, statement_of, is_assert, is_assert_at}
 
 abbrev Rows : Type 0
 Rows = List (List Tree)
@@ -194,7 +195,7 @@ mark_is : (b : Bool) → is_some (cond b (Some any_block) None) ≡ b
 mark_is true = refl
 mark_is false = refl
 
-module _ (folding : Folding) (folded : List Bool) (are : AreMarks folding folded) where
+module _ (folding : Folding) (folded : List Bool) (are : AreFoldMarks folding folded) where
   abbrev marks : Folding
   marks = marked_folding folded
 

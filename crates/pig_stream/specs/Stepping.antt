@@ -3,10 +3,11 @@ use Rattle.std.specs.Prelude.{◌≡◌, get_or, ℕ, Bool, false, List, [], Som
 use Rattle.std.specs.Option.{is_some}
 use Rattle.pig_value.specs.Trees.{Tree}
 use Rattle.pig_typed.specs.Typed.{TypedBlock}
+use Rattle.pig_plan.specs.Asserts.{unmet_on}
 use Rattle.pig_plan.specs.Plans.{Plan, plan_of}
 use Rattle.pig_plan.specs.Steps.{Folding, through}
 use Rattle.pig_stream.specs.declared.steps.Steps.{Steps}
-use Rattle.pig_stream.specs.Unmet.{fails_on, unmet_on}
+use Rattle.pig_stream.specs.Unmet.{fails_on}
 
 -- Which nodes fold, by a mark for each; those behind the last mark don't. Of a node that folds, a step asks for nothing of
 -- the block but that there is one.
@@ -15,10 +16,6 @@ any_block = record { steps = []; items = [] }
 
 abbrev pub marked_folding : List Bool → Folding
 marked_folding folded k = if get_or folded k false then Some any_block else None
-
--- the marks of the nodes that fold
-abbrev pub AreMarks : Folding → List Bool → Type 0
-AreMarks folding folded = (k : ℕ) → get_or folded k false ≡ is_some (folding k)
 
 -- the plan, the path and what folds
 abbrev pub plan_on : Steps → Plan

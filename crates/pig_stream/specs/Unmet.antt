@@ -1,4 +1,5 @@
--- The ASSERTs that rows don't meet on their way through the nodes of a plan.
+-- The ASSERTs that rows don't meet on their way through the nodes of a plan, as marks, one for each node, which are joined as more
+-- rows come.
 use Rattle.std.specs.Prelude.{ℕ, Bool, true, false, ◌||◌, not, List, [], ◌∷◌, ◌++◌, slice_get, if◌then◌else◌}
 use Rattle.std.specs.List.{list_all}
 use Rattle.std.specs.Option.{option_map_or}
@@ -7,22 +8,6 @@ use Rattle.pig_typed.specs.Evaluation.{passes}
 use Rattle.pig_plan.specs.Nodes.{op_at}
 use Rattle.pig_plan.specs.Plans.{Plan, PlanOp, p_assert}
 use Rattle.pig_plan.specs.Steps.{Folding, node_step}
-
--- an ASSERT is not met where its condition is not true of some row
-abbrev pub not_met : ℕ → PlanOp → List (List Tree) → List ℕ
-not_met statement (p_assert input cond message) rows = if list_all (passes cond) rows then [] else statement ∷ []
-not_met statement o rows = []
-
-abbrev pub not_met_at : Plan → ℕ → List (List Tree) → List ℕ
-not_met_at plan k rows = option_map_or (λ node. not_met node.statement node.op rows) (slice_get plan k) []
-
--- the statements of the ASSERTs among the nodes of these numbers that the rows, put through the nodes one behind the other,
--- don't meet
-abbrev pub unmet_on : Folding → Plan → List ℕ → List (List Tree) → List ℕ
-unmet_on folding plan [] rows = []
-unmet_on folding plan (k ∷ nodes) rows = not_met_at plan k rows ++ unmet_on folding plan nodes (node_step folding plan k rows)
-
--- ---- the same as marks, one for each node, which are joined as more rows come
 
 abbrev pub fails : PlanOp → List (List Tree) → Bool
 fails (p_assert input cond message) rows = not (list_all (passes cond) rows)

@@ -1,11 +1,12 @@
 ghost use Rattle.std.specs.Prelude.{◌≡◌, ◌+◌, ◌++◌, [], ℕ, Bool, List};
 ghost use Rattle.pig_value.specs.Trees.{Tree};
+ghost use Rattle.pig_plan.specs.Asserts.{unmet_on};
 ghost use Rattle.pig_plan.specs.Plans.{Plan};
-ghost use Rattle.pig_plan.specs.Steps.{Folding, through};
+ghost use Rattle.pig_plan.specs.Steps.{AreFoldMarks, Folding, through};
 ghost use Rattle.pig_stream.specs.declared.steps.Steps.{Steps};
 ghost use Rattle.pig_stream.specs.Driving.{HasTaken, IsAll};
-ghost use Rattle.pig_stream.specs.Stepping.{AreMarks, HaveNoted, marked_folding};
-ghost use Rattle.pig_stream.specs.Unmet.{either_of, fails_on, marked, unmet_on};
+ghost use Rattle.pig_stream.specs.Stepping.{HaveNoted, marked_folding};
+ghost use Rattle.pig_stream.specs.Unmet.{either_of, fails_on, marked};
 
 use crate::sink::Sink;
 
@@ -24,10 +25,10 @@ pub fn steps_join_batches()
 
 /// Marks of the nodes that fold stand for what folds: of a node that folds, only that it does is asked.
 pub fn marks_stand_for_what_folds()
-    ensures rows { (folding : Folding) (folded : List Bool) → AreMarks folding folded
+    ensures rows { (folding : Folding) (folded : List Bool) → AreFoldMarks folding folded
         → (plan : Plan) (path : List ℕ) (rows : List (List Tree)) →
         through folding plan path rows ≡ through (marked_folding folded) plan path rows }
-    ensures unmet { (folding : Folding) (folded : List Bool) → AreMarks folding folded
+    ensures unmet { (folding : Folding) (folded : List Bool) → AreFoldMarks folding folded
         → (plan : Plan) (path : List ℕ) (rows : List (List Tree)) →
         unmet_on folding plan path rows ≡ unmet_on (marked_folding folded) plan path rows }
 {}
