@@ -15,6 +15,7 @@ use Rattle.pig_value.proofs.list_laws.Listing.{each-append, each-filter, each-ma
 use Rattle.pig_typed.specs.Evaluation.{passes}
 use Rattle.pig_typed.specs.Typed.{Typed}
 use Rattle.pig_plan.proofs.Lower.{names_lower}
+use Rattle.pig_plan.specs.Asserts.{unmet_on}
 use Rattle.pig_plan.specs.Meaning.{meaning}
 use Rattle.pig_plan.specs.Nodes.{Entering, Path, and_then, entering, inputs_of, is_live, is_store, live, op_at, paths_of}
 use Rattle.pig_plan.specs.Plans.{PlanNode, PlanOp, p_assert}
@@ -29,13 +30,13 @@ use Rattle.pig_physical.specs.declared.waves.WaveKind.TheVariants as kinds
 use Rattle.pig_physical.specs.Outs.{Outs, TaskOut, outs_at}
 use Rattle.pig_physical.specs.Running.{IsRun, all_unmet, store_wave}
 use Rattle.pig_physical.specs.Stages.{MapTask, Stages, Task, first_wave, heads, map_tasks, partition_tasks, parts_at, path_tasks, store_tasks, stores, t_map, t_reduce, tasks_by, tasks_in, tasks_of, tasks_on, ways_into, ways_to}
-use Rattle.pig_physical.specs.Values.{IsValue, read_rows, source_rows, unmet_on}
+use Rattle.pig_physical.specs.Values.{IsValue, read_rows, source_rows}
 use Rattle.pig_waves.proofs.Heads.{stands_at}
 use Rattle.pig_waves.proofs.Places.{all_flat_where}
 use Rattle.pig_waves.proofs.Sources.{rows_of_parts}
 use Rattle.pig_waves.proofs.Tasks.{rows_at_node, through_parts}
 use Rattle.pig_waves.specs.Laws.{HaveStages, has_stages}
-use Rattle.pig_cutter.proofs.Among.{Among, among_flat, among_map, any_holds, made_of, not_all, some_fails, some_holds}
+use Rattle.pig_waves.proofs.Among.{Among, among_flat, among_map, any_holds, made_of, not_all, some_fails, some_holds}
 use Rattle.pig_cutter.proofs.Stores.{store_among, store_tasks_last}
 use Rattle.pig_cutter.proofs.Told.{all_alike, all_among, in_none, any_sorted, from_sorted, told_at, tells}
 use Rattle.pig_cutter.proofs.Ways.{IsRead, asserts_differ, cut_path, handed_path, into, path_goes_on, stored}
@@ -171,7 +172,7 @@ module _ (s : Stages) (inputs : List Input) (points : ℕ → List Point) (outs 
         (among_flat (λ p. put path.nodes (source_rows s.plan inputs outs path.source p)) (parts_at s path.source) part row of_source h))
 
     -- told by a task, and not met
-    told_by_task : (t : MapTask) → Reads t → Among statement (unmet_on s.plan t.way.path.nodes (read_rows s.plan inputs outs t)) → list_all (passes test) rows ≡ false
+    told_by_task : (t : MapTask) → Reads t → Among statement (unmet_on (folds s.plan) s.plan t.way.path.nodes (read_rows s.plan inputs outs t)) → list_all (passes test) rows ≡ false
     told_by_task t reads h =
         let told = told_at s.plan t.way.path.nodes (read_rows s.plan inputs outs t) statement h in
         let one : told.k ≡ k = asserts_differ s.plan valid told.k k told.v v told.at at told.op refl told.statement_is in
@@ -224,7 +225,7 @@ module _ (s : Stages) (inputs : List Input) (points : ℕ → List Point) (outs 
         by_task pts (t_reduce t) out value known said = let is = value known.0 known.1 in absurd (in_none (subst (Among statement) is.unmet said))
 
     -- not met, and told by a task
-    told_in : (w : ℕ) (t : MapTask) (o : PlanOp) → Among (t_map t) (tasks_in s w) → op_at s.plan t.node ≡ Some o → Among statement (unmet_on s.plan t.way.path.nodes (read_rows s.plan inputs outs t))
+    told_in : (w : ℕ) (t : MapTask) (o : PlanOp) → Among (t_map t) (tasks_in s w) → op_at s.plan t.node ≡ Some o → Among statement (unmet_on (folds s.plan) s.plan t.way.path.nodes (read_rows s.plan inputs outs t))
         → list_any is_ours (all_unmet outs) ≡ true
     told_in w t o task known h =
         let beside = beside_left (IsValue s inputs (Some (points w)) outs) (tasks_in s w) (outs_at outs w) (run.values w) task.at (t_map t) task.is in
@@ -233,7 +234,7 @@ module _ (s : Stages) (inputs : List Input) (points : ℕ → List Point) (outs 
         let is = value o known in
         let itself : is_ours statement ≡ true = eq-eqb statement statement refl in
         let in_out : list_any is_ours beside.y.unmet ≡ true =
-        ap (list_any is_ours) is.unmet ∙ sym (any_sorted is_ours (unmet_on s.plan t.way.path.nodes (read_rows s.plan inputs outs t))) ∙ any_holds is_ours _ statement h itself in
+        ap (list_any is_ours) is.unmet ∙ sym (any_sorted is_ours (unmet_on (folds s.plan) s.plan t.way.path.nodes (read_rows s.plan inputs outs t))) ∙ any_holds is_ours _ statement h itself in
         let held = some_holds is_ours beside.y.unmet in_out in
         let wave = wave_there (slice_get outs w) refl beside.second in
         any_holds is_ours (all_unmet outs) held.x
@@ -257,15 +258,15 @@ module _ (s : Stages) (inputs : List Input) (points : ℕ → List Point) (outs 
         let source_is : next.way.path.source ≡ path.source = ap (λ p. p.source) next.is in
         let nodes_are : next.way.path.nodes ≡ path.nodes ++ (k ∷ next.rest) = ap (λ p. p.nodes) next.is ∙ append_assoc path.nodes (k ∷ []) next.rest in
         let part_there : Among of_part.x (parts_at s next.way.path.source) = subst (λ n. Among of_part.x (parts_at s n)) (sym source_is) of_part.among in
-        let says : Among statement (unmet_on s.plan next.way.path.nodes (source_rows s.plan inputs outs next.way.path.source of_part.x)) =
-        subst (λ ns. Among statement (unmet_on s.plan ns (source_rows s.plan inputs outs next.way.path.source of_part.x))) (sym nodes_are)
-        (subst (λ n. Among statement (unmet_on s.plan (path.nodes ++ (k ∷ next.rest)) (source_rows s.plan inputs outs n of_part.x))) (sym source_is)
+        let says : Among statement (unmet_on (folds s.plan) s.plan next.way.path.nodes (source_rows s.plan inputs outs next.way.path.source of_part.x)) =
+        subst (λ ns. Among statement (unmet_on (folds s.plan) s.plan ns (source_rows s.plan inputs outs next.way.path.source of_part.x))) (sym nodes_are)
+        (subst (λ n. Among statement (unmet_on (folds s.plan) s.plan (path.nodes ++ (k ∷ next.rest)) (source_rows s.plan inputs outs n of_part.x))) (sym source_is)
         (tells s.plan path.nodes k next.rest (source_rows s.plan inputs outs path.source of_part.x) statement input test message at
         (not_all (passes test) (put path.nodes (source_rows s.plan inputs outs path.source of_part.x)) failing.x of_part.made failing.is))) in
         by_read next.node next.v next.at next.alive next.way part_there says next.read
       where
         by_read : (m : ℕ) (u : PlanNode) → slice_get s.plan m ≡ Some u → is_live s.plan m ≡ true → (way : Entering) {part : Part} → Among part (parts_at s way.path.source)
-            → Among statement (unmet_on s.plan way.path.nodes (source_rows s.plan inputs outs way.path.source part)) → IsRead s.plan valid m u.op way → list_any is_ours (all_unmet outs) ≡ true
+            → Among statement (unmet_on (folds s.plan) s.plan way.path.nodes (source_rows s.plan inputs outs way.path.source part)) → IsRead s.plan valid m u.op way → list_any is_ours (all_unmet outs) ≡ true
         by_read m u there lives way {part = part} of_source says (into bounds among) =
             let own = ap (option_map (λ n. n.op)) there in
             let stands = stands_at s m u.op own lives bounds (each_at (λ n. has_stages n.op ≡ true) s.plan m u there staged) in

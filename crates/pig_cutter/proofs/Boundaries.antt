@@ -1,7 +1,7 @@
 -- Each boundary node by its tasks: the rows that its last wave gives are its operator's on the rows that come to its inputs.
-use Rattle.std.specs.Prelude.{◌≡◌, ◌<◌, ◌==◌, ◌&&◌, ℕ, Bool, true, false, List, [], ◌∷◌, Option, None, Some, refl}
-use Rattle.std.proofs.Common.{ap, sym, ◌∙◌, cond}
-use Rattle.std.specs.Option.{option_and_then, option_map, option_map_or}
+use Rattle.std.specs.Prelude.{◌≡◌, ◌<◌, ℕ, false, List, [], ◌∷◌, None, Some, refl}
+use Rattle.std.proofs.Common.{ap, sym, ◌∙◌}
+use Rattle.std.specs.Option.{option_map, option_map_or}
 use Rattle.pig_value.specs.declared.inputs.Input.{Input}
 use Rattle.pig_value.specs.declared.operators.Side.{Side}
 use Rattle.pig_value.specs.declared.outcomes.Kept.{Kept}
@@ -10,52 +10,30 @@ use Rattle.pig_value.specs.Orders.{bag_of, row_cmp}
 use Rattle.pig_value.specs.Trees.{Tree}
 use Rattle.pig_value.proofs.OrderLaws.{row_same, row_total}
 use Rattle.pig_value.proofs.list_laws.Bags.{bag_from_permutation, bag_once, sort_permutes}
-use Rattle.pig_value.proofs.list_laws.Listing.{some_same}
 use Rattle.pig_value.proofs.list_laws.Permutations.{IsPermutation-flat_map}
 use Rattle.pig_typed.specs.Blocks.{foreach_all, foreach_rows}
 use Rattle.pig_typed.specs.Typed.{TypedBlock}
 use Rattle.pig_algebra.specs.Combining.{SortedCombinersLaw, combined, folded, parts_of_rows}
-use Rattle.pig_algebra.specs.Cuts.{is_combinable}
 use Rattle.pig_plan.proofs.KeyedOnce.{by_key_is}
 use Rattle.pig_plan.specs.ByKey.{gathered, group_of}
 use Rattle.pig_plan.specs.Entries.{key_entries, made_by}
 use Rattle.pig_plan.specs.Meaning.{setting, width_at}
-use Rattle.pig_plan.specs.Nodes.{op_at, uses}
+use Rattle.pig_plan.specs.Nodes.{op_at}
 use Rattle.pig_plan.specs.Operators.{Setting, operator_rows}
-use Rattle.pig_plan.specs.Plans.{Keyed, Plan, PlanOp, p_group_all, p_group, p_join}
+use Rattle.pig_plan.specs.Plans.{Keyed, PlanOp, p_group_all, p_group, p_join}
 use Rattle.pig_runs.specs.Cutting.{Point}
-use Rattle.pig_physical.specs.Combining.{blocks_on, combining, folds, groups_one, only, where_combinable}
+use Rattle.pig_physical.specs.Combining.{combining, folds, groups_one}
 use Rattle.pig_physical.specs.Outs.{Outs}
 use Rattle.pig_physical.specs.Running.{IsRun, rows_given}
 use Rattle.pig_physical.specs.Stages.{Stages}
 use Rattle.pig_physical.specs.Values.{brought_together, handed_on, reduced}
 use Rattle.pig_waves.proofs.Tasks.{enter_first, rows_at_node}
 use Rattle.pig_waves.specs.Laws.{StandsAt}
+use Rattle.pig_waves.proofs.Folders.{folds_is, none_folds_at}
 use Rattle.pig_cutter.proofs.Keyed.{given_by_key, given_folded}
 
 abbrev Rows : Type 0
 Rows = List (List Tree)
-
--- ---- nodes that fold
-
-module _ (plan : Plan) (k : ℕ) where
-  if_folds : (b : Bool) (found : Option TypedBlock) (block : TypedBlock) → cond b (option_and_then where_combinable found) None ≡ Some block → (b ≡ true) × (found ≡ Some block) × (is_combinable block ≡ true)
-  if_folds false found block h = absurd (cc)
-  if_folds true None block h = absurd (cc)
-  if_folds true (Some b) block h = by_test (is_combinable b) refl h
-    where
-      by_test : (t : Bool) → is_combinable b ≡ t → cond t (Some b) None ≡ Some block → (true ≡ true) × (Some b ≡ Some block) × (is_combinable block ≡ true)
-      by_test true e g = (refl, g, ap is_combinable (sym (some_same b block g)) ∙ e)
-      by_test false e g = absurd (cc)
-
-  pub folds_is : (block : TypedBlock) → folds plan k ≡ Some block → ((option_map_or groups_one (op_at plan k) false && (uses plan k == 1)) ≡ true) × (only (blocks_on plan k) ≡ Some block) × (is_combinable block ≡ true)
-  folds_is block h = if_folds (option_map_or groups_one (op_at plan k) false && (uses plan k == 1)) (only (blocks_on plan k)) block h
-
-  -- a node that is no GROUP of one input does not fold
-  pub none_folds_at : (o : PlanOp) → op_at plan k ≡ Some o → groups_one o ≡ false → folds plan k ≡ None
-  none_folds_at o at other =
-      ap (λ b. cond (b && (uses plan k == 1)) (option_and_then where_combinable (only (blocks_on plan k))) None)
-      (ap (λ found. option_map_or groups_one found false) at ∙ other)
 
 -- ---- what a boundary node's waves give
 

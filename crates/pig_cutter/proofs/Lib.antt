@@ -1,8 +1,6 @@
-mod Among
 mod Keyed
 mod Boundaries
 mod Others
-mod Alone
 mod Ways
 mod Told
 mod Main

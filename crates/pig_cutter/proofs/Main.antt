@@ -41,8 +41,9 @@ use Rattle.pig_waves.proofs.Heads.{stands_at}
 use Rattle.pig_waves.proofs.Sources.{load_parts, outputs, rows_of_parts}
 use Rattle.pig_waves.proofs.Tasks.{rows_at_node}
 use Rattle.pig_waves.specs.Laws.{HaveStages, StandsAt, has_stages}
-use Rattle.pig_cutter.proofs.Alone.{folds_alone}
-use Rattle.pig_cutter.proofs.Boundaries.{group_all_of, group_by, join_by, none_folds_at}
+use Rattle.pig_waves.proofs.Alone.{folds_alone}
+use Rattle.pig_cutter.proofs.Boundaries.{group_all_of, group_by, join_by}
+use Rattle.pig_waves.proofs.Folders.{none_folds_at}
 use Rattle.pig_cutter.proofs.Others.{distinct_is, limit_is, limit_keeps, order_is}
 use Rattle.pig_cutter.specs.Laws.{Answers}
 

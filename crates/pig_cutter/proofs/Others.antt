@@ -33,7 +33,7 @@ use Rattle.pig_waves.proofs.Limits.{first_together, kept_together}
 use Rattle.pig_waves.proofs.Sorted.{in_slice_at, slices_together}
 use Rattle.pig_waves.proofs.Tasks.{from_tasks, rows_at_node}
 use Rattle.pig_waves.specs.Laws.{StandsAt}
-use Rattle.pig_cutter.proofs.Boundaries.{none_folds_at}
+use Rattle.pig_waves.proofs.Folders.{none_folds_at}
 use Rattle.pig_cutter.proofs.Keyed.{all_entries, given_by_parts, own_entries}
 
 abbrev Rows : Type 0

@@ -12,11 +12,11 @@ use Rattle.pig_value.proofs.list_laws.Listing.{each_at, each_weaker, some_same}
 use Rattle.pig_value.proofs.list_laws.Permutations.{along_permutation}
 use Rattle.pig_typed.specs.Evaluation.{passes}
 use Rattle.pig_typed.specs.Typed.{Typed}
+use Rattle.pig_plan.specs.Asserts.{not_met, not_met_at, unmet_on}
 use Rattle.pig_plan.specs.Plans.{Plan, PlanNode, PlanOp, p_load, p_filter, p_foreach, p_group_all, p_group, p_join, p_union, p_distinct, p_order, p_limit, p_store, p_assert, p_rank}
 use Rattle.pig_plan.specs.Steps.{node_step, through}
 use Rattle.pig_physical.specs.Combining.{folds}
-use Rattle.pig_physical.specs.Values.{not_met, not_met_at, unmet_on}
-use Rattle.pig_cutter.proofs.Among.{Among, Side, among_behind, among_first, among_front, among_later, in_front, behind, side_of}
+use Rattle.pig_waves.proofs.Among.{Among, Side, among_behind, among_first, among_front, among_later, in_front, behind, side_of}
 
 abbrev Rows : Type 0
 Rows = List (List Tree)
@@ -122,9 +122,9 @@ module _ (plan : Plan) where
       by_node None e g = absurd (in_none g)
       by_node (Some v) e g = by_op v e v.op refl g
 
-  pub told_at : (ns : List ℕ) (rs : Rows) (statement : ℕ) → Among statement (unmet_on plan ns rs) → ToldAt ns rs statement
+  pub told_at : (ns : List ℕ) (rs : Rows) (statement : ℕ) → Among statement (unmet_on (folds plan) plan ns rs) → ToldAt ns rs statement
   told_at [] rs statement h = absurd (in_none h)
-  told_at (k ∷ ns) rs statement h = by_side (told_at ns (node_step (folds plan) plan k rs) statement) (side_of statement (not_met_at plan k rs) (unmet_on plan ns (node_step (folds plan) plan k rs)) h)
+  told_at (k ∷ ns) rs statement h = by_side (told_at ns (node_step (folds plan) plan k rs) statement) (side_of statement (not_met_at plan k rs) (unmet_on (folds plan) plan ns (node_step (folds plan) plan k rs)) h)
     where
       later : ToldAt ns (node_step (folds plan) plan k rs) statement → ToldAt (k ∷ ns) rs statement
       later g = record {
@@ -142,19 +142,19 @@ module _ (plan : Plan) where
         fails = g.fails;
       }
 
-      by_side : (Among statement (unmet_on plan ns (node_step (folds plan) plan k rs)) → ToldAt ns (node_step (folds plan) plan k rs) statement)
-          → Side statement (not_met_at plan k rs) (unmet_on plan ns (node_step (folds plan) plan k rs)) → ToldAt (k ∷ ns) rs statement
+      by_side : (Among statement (unmet_on (folds plan) plan ns (node_step (folds plan) plan k rs)) → ToldAt ns (node_step (folds plan) plan k rs) statement)
+          → Side statement (not_met_at plan k rs) (unmet_on (folds plan) plan ns (node_step (folds plan) plan k rs)) → ToldAt (k ∷ ns) rs statement
       by_side rest (in_front g) = told_here k ns rs statement g
       by_side rest (behind g) = later (rest g)
 
   -- an ASSERT on the way tells of rows that it is not met by
   pub tells : (before : List ℕ) (k : ℕ) (after : List ℕ) (rs : Rows) (statement input : ℕ) (test : Typed) (message : Option (List ℕ))
       → slice_get plan k ≡ Some (record { op = p_assert input test message; statement = statement }) → list_all (passes test) (put before rs) ≡ false
-      → Among statement (unmet_on plan (before ++ k ∷ after) rs)
+      → Among statement (unmet_on (folds plan) plan (before ++ k ∷ after) rs)
   tells [] k after rs statement input test message at fails =
-      among_front statement (not_met_at plan k rs) (unmet_on plan after (node_step (folds plan) plan k rs))
+      among_front statement (not_met_at plan k rs) (unmet_on (folds plan) plan after (node_step (folds plan) plan k rs))
       (subst (Among statement)
       (sym (ap (λ found. option_map_or (λ node. not_met node.statement node.op rs) found []) at ∙ ap (λ b. cond b [] (statement ∷ [])) fails)) (among_first statement []))
   tells (j ∷ before) k after rs statement input test message at fails =
-      among_behind statement (not_met_at plan j rs) (unmet_on plan (before ++ k ∷ after) (node_step (folds plan) plan j rs))
+      among_behind statement (not_met_at plan j rs) (unmet_on (folds plan) plan (before ++ k ∷ after) (node_step (folds plan) plan j rs))
       (tells before k after (node_step (folds plan) plan j rs) statement input test message at fails)

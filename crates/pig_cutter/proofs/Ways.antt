@@ -15,7 +15,7 @@ use Rattle.pig_plan.proofs.Paths.{paths_of_node}
 use Rattle.pig_plan.specs.Nodes.{Entering, Path, and_then, entering, inputs_of, is_boundary, is_live, is_source, is_store, is_used, names, paths_of}
 use Rattle.pig_plan.specs.Plans.{Plan, PlanNode, PlanOp, p_load, p_filter, p_foreach, p_group_all, p_group, p_join, p_union, p_distinct, p_order, p_limit, p_store, p_assert, p_rank}
 use Rattle.pig_plan.specs.Valid.{IsPlan, are_twins, fits, is_twin}
-use Rattle.pig_cutter.proofs.Among.{Among, MadeOf, among_behind, among_flat, among_front, among_map, any_holds, made_of, mapped_from, some_holds}
+use Rattle.pig_waves.proofs.Among.{Among, MadeOf, among_behind, among_flat, among_front, among_map, any_holds, made_of, mapped_from, some_holds}
 
 -- ---- a list with one more element, cut
 

@@ -12,7 +12,7 @@ use crate::feeding::stores;
 use crate::listing::{Listing, waves};
 use crate::reading::sources;
 use crate::weighing::is_any_over;
-use pig_physical::{Sizes, Stages, WaveHead, Waves, heads};
+use pig_physical::{Sizes, Stages, WaveHead, Waves, heads, which_fold};
 use pig_plan::{Plan, live_marks, live_numbers};
 use std::alloc::{AllocError, Global};
 use thiserror::Error;
@@ -61,7 +61,10 @@ pub fn cut_plan<'p>(
         → has_too_many (staged (cut_of plan.now sizes.now reducers split)) ≡ true) }
 {
     match cut_waves(alloc, plan, sizes, reducers, split) {
-        Ok(Some(waves)) => Ok(Stages::of(plan, sizes, reducers, split, waves)),
+        Ok(Some(waves)) => {
+            let folders = which_fold(alloc, plan)?;
+            Ok(Stages::of(plan, sizes, reducers, split, waves, folders))
+        }
         Ok(None) => Err(CutFault::TooManyTasks),
         Err(_) => Err(CutFault::OutOfMemory),
     }

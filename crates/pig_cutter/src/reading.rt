@@ -7,7 +7,7 @@ ghost use Rattle.pig_physical.specs.Seen.{lengths_in};
 ghost use Rattle.pig_physical.specs.Stages.{reduce_count, waves_of};
 ghost use Rattle.pig_cutter.specs.Tables.{r_outputs, r_splits, reading_of, readings, reads, waves_behind};
 
-use pig_physical::Size;
+use pig_physical::{Size, lengths_in};
 use pig_plan::{Node, NodeOp};
 use pig_value::{Lengths, Text};
 use std::alloc::{AllocError, Global};
@@ -144,16 +144,12 @@ pub fn reduce_count(op: &NodeOp, reducers: u32) -> u32
     }
 }
 
-// The first size that has the path.
+// What a LOAD of a path reads.
 fn loaded<'p>(path: &Text, sizes: &'p [Size]) -> Source<'p>
     ensures { reading_of result ≡ r_splits (lengths_in sizes.now path.now) }
 {
-    let mut left = sizes;
-    while let [size, rest @ ..] = left {
-        if size.path.as_bytes() == path.as_bytes() {
-            return Source::Splits(&size.lengths);
-        }
-        left = rest;
+    match lengths_in(sizes, path.as_str()) {
+        Some(lengths) => Source::Splits(lengths),
+        None => Source::Nothing,
     }
-    Source::Nothing
 }

@@ -41,6 +41,7 @@ use Rattle.pig_physical.specs.contracts.waves.WaveHead as head_type
 use Rattle.pig_physical.specs.contracts.staged.Wave as wave_type
 use Rattle.pig_physical.specs.contracts.staged.Size as size_type
 use Rattle.pig_storage.specs.contracts.splits.Split as split_type
+use Rattle.pig_physical.specs.contracts.folding.Folders as folders_type
 use Rattle.pig_physical.specs.contracts.staged.Stages as stages_type
 
 pub kind_sends : IsSend kind_type.the_row
@@ -265,6 +266,12 @@ wave_shared = declared_sync wave_type.the_type (head_shared, (search (sendable, 
 size_shared : IsSync size_type.the_row
 size_shared = declared_sync size_type.the_type (text.the_sync, (search (sendable, seq.the_sync), tt))
 
+folders_send : IsSend folders_type.the_row
+folders_send = declared_send folders_type.the_type (search (sendable, seq.the_send), (search (sendable, seq.the_send, option.the_send), tt))
+
+folders_shared : IsSync folders_type.the_row
+folders_shared = declared_sync folders_type.the_type (search (sendable, seq.the_sync), (search (sendable, seq.the_sync, option.the_sync), tt))
+
 pub waves_send : IsSend (seq_type.the_row wave_type.the_row)
 waves_send = search (sendable, seq.the_send, wave_sends)
 
@@ -275,7 +282,7 @@ pub sizes_shared : IsSync (seq_type.the_row size_type.the_row)
 sizes_shared = search (sendable, seq.the_sync, size_shared)
 
 pub stages_send : (κ : NamedLft) → IsSend (stages_type.the_row κ)
-stages_send κ = search (sendable, declared_send, as_row_send, plan_shared, sizes_shared, waves_send) depth 9
+stages_send κ = search (sendable, declared_send, as_row_send, plan_shared, sizes_shared, waves_send, folders_send) depth 9
 
 pub stages_shared : (κ : NamedLft) → IsSync (stages_type.the_row κ)
-stages_shared κ = search (sendable, declared_sync, as_row_sync, plan_shared, sizes_shared, waves_shared) depth 9
+stages_shared κ = search (sendable, declared_sync, as_row_sync, plan_shared, sizes_shared, waves_shared, folders_shared) depth 9

@@ -2,14 +2,15 @@
 use Rattle.std.specs.Prelude.{◌≡◌, ◌<◌, ℕ, List, [], ◌∷◌, codes, length, Some, refl}
 use Rattle.std.proofs.Common.{ap, arith, subst}
 use Rattle.pig_value.specs.Gathering.{Entry}
-use Rattle.pig_value.specs.Kinds.{IsOf}
+use Rattle.pig_value.specs.Kinds.{IsOf, IsRowOf}
 use Rattle.pig_value.specs.Trees.{KindTree, Tree, k_tuple, no_fields, no_kinds, v_tuple}
 use Rattle.pig_value.proofs.list_laws.Listing.{some_same}
 use Rattle.pig_plan.specs.Plans.{Plan, PlanNode, PlanOp, p_distinct, p_limit, p_load, p_store}
 use Rattle.pig_runs.specs.Entries.{InDirections}
-use Rattle.pig_physical.specs.Fitting.{EntryFits, MapFits, RunFits, key_kind_at}
+use Rattle.pig_physical.specs.Fitting.{EntryFits, MapFits, RunFits, given_kinds, key_kind_at}
 use Rattle.pig_physical.specs.Outs.{bytes_in, o_bytes, o_runs, runs_in}
 use Rattle.pig_physical.specs.Stages.{Stages}
+use Rattle.pig_physical.specs.Values.{key_row}
 
 abbrev node : ℕ → PlanOp → PlanNode
 node statement o = record { op = o; statement = statement }
@@ -32,8 +33,11 @@ run entries = record { dirs = []; entries = entries }
 
 -- an entry holds the key alone
 key_alone : EntryFits plan 1 (p_distinct 0) (entry empty_row (empty_row ∷ []))
-key_alone = record { input = omega arith; key = λ kind is. key_of_kind kind is; row = refl }
+key_alone = record { input = omega arith; key = λ kind is. key_of_kind kind is; row = refl; gives = λ kinds is. row_of_kinds kinds is }
   where
+    row_of_kinds : (kinds : List KindTree) → given_kinds plan 1 ≡ Some kinds → IsRowOf (key_row empty_row) kinds
+    row_of_kinds kinds is = subst (IsRowOf (key_row empty_row)) (some_same [] kinds is) tt
+
     key_of_kind : (kind : KindTree) → key_kind_at plan (p_distinct 0) 0 ≡ Some kind → IsOf empty_row kind
     key_of_kind kind is = subst (IsOf empty_row) (some_same (k_tuple no_kinds) kind is) tt
 

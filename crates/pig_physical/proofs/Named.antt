@@ -1,6 +1,6 @@
 -- How often nodes name a node tells whether it folds, and by which block.
 use Rattle.std.specs.Prelude.{◌≡◌, ◌<◌, ◌≤◌, ◌==◌, ◌+◌, ◌&&◌, ◌⊎◌, ℕ, Bool, true, false, List, [], ◌∷◌, ◌++◌, length, Option, Some, None, slice_get, refl}
-use Rattle.std.proofs.Common.{ap, sym, ◌∙◌, arith, cond, inl, inr, subst}
+use Rattle.std.proofs.Common.{ap, sym, ◌∙◌, arith, cond, inl, inr, subst, true≢false}
 use Rattle.std.specs.List.{AllByRecursion, cons_option, count_by, filter_map}
 use Rattle.std.specs.Option.{is_some, option_and_then, option_map, option_map_or}
 use Rattle.std.proofs.lemmas.Bool.{cases_Bool, ne_eqb}
@@ -208,6 +208,20 @@ module _ (k : ℕ) where
       pub folds_none : true ≡ groups_one o → None ≡ block_by plan k naming → false ≡ is_some (folds plan k)
       folds_none on none =
           (λ i. is_some (cond (on i) (option_and_then where_combinable (none i)) None)) ∙ ap is_some (sym by_op)
+
+      held_block : (block : TypedBlock) (b : Bool) → is_some (cond b (Some block) None) ≡ true → Some block ≡ cond b (Some block) None
+      held_block block true h = refl
+      held_block block false h = absurd (true≢false (sym h))
+
+      found_block : (b : Bool) (block : Option TypedBlock) → is_some (cond b (option_and_then where_combinable block) None) ≡ true
+          → block ≡ cond b (option_and_then where_combinable block) None
+      found_block true None h = refl
+      found_block true (Some block) h = held_block block (is_combinable block) h
+      found_block false block h = absurd (true≢false (sym h))
+
+      -- a node that folds does so into the block of the node that is the one to name it
+      pub folds_by : is_some (folds plan k) ≡ true → block_by plan k naming ≡ folds plan k
+      folds_by h = found_block (groups_one o) (block_by plan k naming) (sym (ap is_some by_op) ∙ h) ∙ sym by_op
 
       where_held : (block : TypedBlock) (b : Bool) → b ≡ is_some (cond b (Some block) None)
       where_held block true = refl

@@ -7,10 +7,11 @@ use Rattle.pig_value.specs.Gathering.{Entry}
 use Rattle.pig_value.specs.Trees.{Tree, v_chars, v_null}
 use Rattle.pig_typed.specs.Typed.{Typed, TypedBlock, TypedItem, more_args, no_args, x_bool, x_call, x_field, x_project}
 use Rattle.pig_storage.specs.Splits.{splits_of}
+use Rattle.pig_plan.specs.Asserts.{unmet_on}
 use Rattle.pig_plan.specs.Plans.{Keyed, Plan, PlanNode, PlanOp, p_load, p_filter, p_foreach, p_group, p_group_all, p_join, p_union, p_distinct, p_limit, p_store, p_assert, p_rank}
 use Rattle.pig_physical.specs.Combining.{folds}
 use Rattle.pig_physical.specs.Stages.{Stages, heads, tasks_in, wave_size}
-use Rattle.pig_physical.specs.Values.{handed_on, split_lines, unmet_on}
+use Rattle.pig_physical.specs.Values.{handed_on, split_lines}
 use Rattle.pig_physical.specs.declared.waves.WaveHead.{WaveHead}
 use Rattle.pig_physical.specs.declared.waves.WaveKind.{WaveKind}
 use Rattle.pig_physical.specs.declared.waves.WaveKind.TheVariants as kinds
@@ -144,5 +145,5 @@ sizes_of_waves = refl
 abbrev asserted : Plan
 asserted = load ∷ node 2 (p_assert 0 (x_bool false) None) ∷ node 3 (p_filter 1 (x_bool false)) ∷ node 4 (p_assert 2 (x_bool false) None) ∷ stored 3 ∷ []
 
-first_alone : unmet_on asserted (1 ∷ 2 ∷ 3 ∷ 4 ∷ []) ((v_null ∷ []) ∷ []) ≡ 2 ∷ []
+first_alone : unmet_on (folds asserted) asserted (1 ∷ 2 ∷ 3 ∷ 4 ∷ []) ((v_null ∷ []) ∷ []) ≡ 2 ∷ []
 first_alone = refl

@@ -10,6 +10,7 @@ use Rattle.pig_value.specs.Trees.{KindTree, Tree, k_chars, k_tuple, kinds_of}
 use Rattle.pig_typed.specs.declared.blocks.SortKey.{SortKey}
 use Rattle.pig_typed.specs.BlockKinds.{row_kinds}
 use Rattle.pig_typed.specs.Typed.{TypedBlock}
+use Rattle.pig_algebra.specs.Combining.{finished}
 use Rattle.pig_algebra.specs.Cuts.{TypedCut, c_key, c_part, c_row, cuts_in}
 use Rattle.pig_algebra.specs.Parts.{IsPart}
 use Rattle.pig_plan.specs.Entries.{dirs_of, sort_key_of, sort_keys}
@@ -20,9 +21,15 @@ use Rattle.pig_runs.specs.Entries.{InDirections}
 use Rattle.pig_physical.specs.Combining.{folds}
 use Rattle.pig_physical.specs.Outs.{Form, Outs, TaskOut, o_bytes, o_rows, o_runs, outs_at, runs_in}
 use Rattle.pig_physical.specs.Stages.{Stages, Task, t_map, t_reduce, tasks_in}
+use Rattle.pig_physical.specs.Values.{key_row}
 use Rattle.pig_physical.specs.declared.parts.Part.{Part}
 use Rattle.pig_physical.specs.declared.parts.Part.TheVariants as parts
 use Rattle.pig_physical.specs.declared.parts.ReduceTask.{ReduceTask}
+
+-- the kinds of the rows that a node's reduce tasks give: of a GROUP that folds those of its FOREACH
+abbrev pub given_kinds : Plan → ℕ → Option RowKinds
+given_kinds plan k =
+    option_map_or (λ block. option_and_then (row_kinds block) (kinds_at plan k)) (folds plan k) (kinds_at plan k)
 
 -- ---- entries
 
@@ -71,10 +78,21 @@ IsEntryRow plan k (p_order input keys) e = (e.key ≡ sort_key_of keys e.row) ×
 IsEntryRow plan k (p_rank input keys dense) e = (e.key ≡ sort_key_of keys e.row) × IsInputRow plan (p_rank input keys dense) e
 IsEntryRow plan k o e = IsFoldedRow (folds plan k) plan o e
 
+-- What the entry of a node that combines gives alone is of these kinds: of a DISTINCT the row that is its key, of a GROUP that folds
+-- the row that its parts are finished to.
+abbrev pub FinishesTo : Option TypedBlock → RowKinds → Entry → Type 0
+FinishesTo None kinds e = ⊤
+FinishesTo (Some block) kinds e = IsRowOf (finished (cuts_in block) e.key (e.row ∷ [])) kinds
+
+abbrev pub GivesAlone : Plan → ℕ → PlanOp → RowKinds → Entry → Type 0
+GivesAlone plan k (p_distinct input) kinds e = IsRowOf (key_row e.key) kinds
+GivesAlone plan k o kinds e = FinishesTo (folds plan k) kinds e
+
 pub record EntryFits (plan : Plan) (k : ℕ) (o : PlanOp) (e : Entry) : Type 0 where
   pub input : e.input < length (inputs_of o)
   pub key : (kind : KindTree) → key_kind_at plan o e.input ≡ Some kind → IsOf e.key kind
   pub row : IsEntryRow plan k o e
+  pub gives : (kinds : RowKinds) → given_kinds plan k ≡ Some kinds → GivesAlone plan k o kinds e
 
 -- ---- runs
 
@@ -113,11 +131,6 @@ abbrev pub MapFits : Stages → ℕ → PlanOp → Form → Type 0
 MapFits s k (p_limit input count) form = HasRows (kinds_at s.plan input) form
 MapFits s k (p_store input path delim) form = HasBytes form
 MapFits s k o form = HasRuns s k o form
-
--- the kinds of the rows that a node's reduce tasks give: of a GROUP that folds those of its FOREACH
-abbrev pub given_kinds : Plan → ℕ → Option RowKinds
-given_kinds plan k =
-    option_map_or (λ block. option_and_then (row_kinds block) (kinds_at plan k)) (folds plan k) (kinds_at plan k)
 
 abbrev pub Fits : Stages → Task → TaskOut → Type 0
 Fits s (t_map t) out = (o : PlanOp) → op_at s.plan t.node ≡ Some o → MapFits s t.node o out.form

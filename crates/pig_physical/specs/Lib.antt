@@ -2,6 +2,7 @@ pub mod Combining
 pub mod Stages
 pub mod Heading
 pub mod Naming
+pub mod Foldings
 pub mod Seen
 pub mod Outs
 pub mod Values

@@ -1,5 +1,5 @@
 -- How often nodes name a node, as it is told node by node, and the node that names it where just one does.
-use Rattle.std.specs.Prelude.{◌≡◌, ℕ, ◌==◌, List, [], ◌∷◌, get_or, Option, None, if◌then◌else◌}
+use Rattle.std.specs.Prelude.{◌≡◌, ℕ, ◌==◌, List, [], ◌∷◌, get_or, Option, Some, None, if◌then◌else◌}
 use Rattle.pig_typed.specs.Typed.{TypedBlock}
 use Rattle.pig_plan.specs.Nodes.{live}
 use Rattle.pig_plan.specs.Plans.{Plan}
@@ -25,6 +25,11 @@ naming_by plan k (user ∷ users) naming = naming_by plan k users (named_in k us
 -- of each node, by the live nodes
 abbrev pub AreNamings : Plan → List Naming → Type 0
 AreNamings plan table = (k : ℕ) → get_or table k namings.Never ≡ naming_by plan k (live plan) namings.Never
+
+-- the node that is the one to name it
+abbrev pub user_of : Naming → Option ℕ
+user_of (namings.Once user) = Some user
+user_of naming = None
 
 -- the block of the FOREACH on a node that is the one to name it
 abbrev pub block_by : Plan → ℕ → Naming → Option TypedBlock

@@ -1,12 +1,18 @@
 -- Stages as the code holds them: each wave has its ways once, and a task names its way by the place among them.
-use Rattle.std.specs.Prelude.{◌≡◌, ◌<◌, ◌^◌, ⊤, ℕ, List, [], map, length, Some, bytes_eq, slice_get}
+use Rattle.std.specs.Prelude.{◌≡◌, ◌<◌, ◌^◌, ⊤, ℕ, List, [], map, length, Option, Some, bytes_eq, slice_get}
 use Rattle.std.specs.List.{AllByRecursion, find}
 use Rattle.std.specs.Option.{option_map_or}
-use Rattle.pig_plan.specs.Nodes.{Entering}
-use Rattle.pig_plan.specs.Plans.{plan_of}
+use Rattle.pig_value.specs.declared.inputs.Column.{Column}
+use Rattle.pig_value.specs.declared.inputs.Input.{Input}
+use Rattle.pig_plan.specs.Nodes.{Entering, op_at}
+use Rattle.pig_plan.specs.Operators.{pieces_of}
+use Rattle.pig_plan.specs.Plans.{p_load, plan_of}
 use Rattle.pig_plan.specs.Results.{at_place}
 use Rattle.pig_plan.specs.declared.nodes.Node.{Node}
-use Rattle.pig_physical.specs.Stages.{Stages, Task, heads, t_map, t_reduce, tasks_in, ways_in}
+use Rattle.pig_physical.specs.Stages.{MapTask, Stages, Task, heads, t_map, t_reduce, tasks_in, ways_in}
+use Rattle.pig_physical.specs.declared.parts.MapTask as mapping
+use Rattle.pig_physical.specs.declared.parts.Part.{Part}
+use Rattle.pig_physical.specs.declared.parts.Part.TheVariants as parts
 use Rattle.pig_physical.specs.declared.parts.Task as declared
 use Rattle.pig_physical.specs.declared.parts.Task.TheVariants as tasks
 use Rattle.pig_physical.specs.declared.parts.Way.{Way}
@@ -46,10 +52,33 @@ abbrev pub task_of : List Entering → declared.Task → Task
 task_of ways (tasks.Map t) = t_map (record { node = t.node; way = at_place no_way ways t.way; part = t.part })
 task_of ways (tasks.Reduce t) = t_reduce t
 
+abbrev pub map_task_of : Stages → mapping.MapTask → MapTask
+map_task_of s t = record { node = t.node; way = at_place no_way (ways_in s.plan t.wave) t.way; part = t.part }
+
 -- a task that reads a way names its own wave, and one of so many ways
 abbrev pub IsOwn : ℕ → ℕ → declared.Task → Type 0
 IsOwn w ways (tasks.Map t) = (t.wave ≡ w) × (t.way < ways)
 IsOwn w ways (tasks.Reduce t) = ⊤
+
+-- a task, as it stands in a wave
+pub record IsTaskOf (s : Stages) (w : ℕ) (task : declared.Task) : Type 0 where
+  pub wave : w < length (heads s.plan)
+  pub at : ℕ
+  pub stands : slice_get (tasks_in s w) at ≡ Some (task_of (ways_in s.plan w) task)
+  pub own : IsOwn w (length (ways_in s.plan w)) task
+
+-- ---- what a task reads
+
+-- where a task reads a LOAD's input, its pieces have the lengths by which stages are cut
+abbrev pub HasSource : Stages → MapTask → List Input → Type 0
+HasSource s t inputs = (path : List ℕ) (delim : ℕ) (columns : List Column)
+    → op_at s.plan t.way.path.source ≡ Some (p_load path delim columns)
+    → map length (pieces_of inputs path) ≡ s.sizing.lengths path
+
+-- the inputs that a task's rows are claimed of: a split's those that its host tells, a partition's any
+abbrev pub Reads : Option (List Input) → Part → List Input → Type 0
+Reads told (parts.Split split) inputs = told ≡ Some inputs
+Reads told (parts.Output w at) inputs = ⊤
 
 -- ---- waves
 

@@ -2,8 +2,8 @@
 -- (Building a High-Level Dataflow System on top of Map-Reduce: "Map-Reduce Plan Compilation", "Use of the combiner". That lines
 -- belong to the split in which they start, how keys go to partitions, and what a LIMIT's tasks hand on, are choices of this
 -- profile.)
-use Rattle.std.specs.Prelude.{◌≡◌, ℕ, ◌+◌, Bool, true, false, List, [], ◌∷◌, ◌++◌, map, take, length, Option, Some, None, slice_get, if◌then◌else◌}
-use Rattle.std.specs.List.{flat_map, list_all, range_with_len}
+use Rattle.std.specs.Prelude.{◌≡◌, ℕ, ◌+◌, Bool, true, false, List, [], ◌∷◌, map, take, length, Option, Some, None}
+use Rattle.std.specs.List.{flat_map, range_with_len}
 use Rattle.std.specs.Option.{option_map_or}
 use Rattle.std.specs.Ordering.{nat_cmp}
 use Rattle.pig_value.specs.declared.inputs.Input.{Input}
@@ -15,17 +15,17 @@ use Rattle.pig_value.specs.Orders.{tree_cmp}
 use Rattle.pig_value.specs.Sorts.{distinct, sort}
 use Rattle.pig_value.specs.Texts.{rows_text}
 use Rattle.pig_value.specs.Trees.{Tree, fields_list, v_tuple}
-use Rattle.pig_typed.specs.Evaluation.{passes}
 use Rattle.pig_storage.specs.declared.splits.Split.{Split}
 use Rattle.pig_algebra.specs.Combining.{combined, folded}
+use Rattle.pig_plan.specs.Asserts.{unmet_on}
 use Rattle.pig_plan.specs.ByKey.{gathered}
 use Rattle.pig_plan.specs.Entries.{dirs_of, entries_of, made_by, sort_keys}
 use Rattle.pig_plan.specs.Meaning.{AreKept, width_at}
 use Rattle.pig_plan.specs.Nodes.{is_sorted, op_at}
 use Rattle.pig_plan.specs.Operators.{pieces_of}
-use Rattle.pig_plan.specs.Plans.{Plan, PlanOp, p_load, p_assert, p_distinct, p_limit, p_store}
+use Rattle.pig_plan.specs.Plans.{Plan, PlanOp, p_load, p_distinct, p_limit, p_store}
 use Rattle.pig_plan.specs.Results.{at_place}
-use Rattle.pig_plan.specs.Steps.{node_step, through}
+use Rattle.pig_plan.specs.Steps.{through}
 use Rattle.pig_runs.specs.Cutting.{Point, slice_of}
 use Rattle.pig_runs.specs.Entries.{InDirections, run_cmp, run_of}
 use Rattle.pig_runs.specs.Parts.{pn}
@@ -71,20 +71,9 @@ task_rows plan inputs outs t = through (folds plan) plan t.way.path.nodes (read_
 
 -- ---- ASSERTs that are not met
 
-abbrev pub not_met : ℕ → PlanOp → List (List Tree) → List ℕ
-not_met statement (p_assert input cond message) rows = if list_all (passes cond) rows then [] else statement ∷ []
-not_met statement o rows = []
-
-abbrev pub not_met_at : Plan → ℕ → List (List Tree) → List ℕ
-not_met_at plan k rows = option_map_or (λ node. not_met node.statement node.op rows) (slice_get plan k) []
-
--- the statements of the ASSERTs among the nodes that the rows, put through them one behind the other, don't meet
-abbrev pub unmet_on : Plan → List ℕ → List (List Tree) → List ℕ
-unmet_on plan [] rows = []
-unmet_on plan (k ∷ nodes) rows = not_met_at plan k rows ++ unmet_on plan nodes (node_step (folds plan) plan k rows)
-
+-- the statements of the ASSERTs on its path that its rows don't meet
 abbrev pub task_unmet : Plan → List Input → Outs → MapTask → List ℕ
-task_unmet plan inputs outs t = sort nat_cmp (unmet_on plan t.way.path.nodes (read_rows plan inputs outs t))
+task_unmet plan inputs outs t = sort nat_cmp (unmet_on (folds plan) plan t.way.path.nodes (read_rows plan inputs outs t))
 
 -- ---- runs
 

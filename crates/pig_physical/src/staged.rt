@@ -1,11 +1,18 @@
 //! A plan with the waves of tasks that it is cut into.
-ghost use Rattle.std.specs.Prelude.{◌≡◌, ◌<◌, ◌^◌, length, slice_get, Some};
-ghost use Rattle.std.specs.Option.{option_map};
-ghost use Rattle.pig_physical.specs.Seen.{AreWaves, IsOwn, IsWave, cut_of, entering_of, staged, task_of};
+ghost use Rattle.std.specs.Prelude.{◌≡◌, ◌<◌, ◌^◌, [], length, slice_get, Some};
+ghost use Rattle.std.specs.Option.{option_map, option_map_or};
+ghost use Rattle.pig_typed.specs.Typed.{block_typed};
+ghost use Rattle.pig_plan.specs.Plans.{plan_of};
+ghost use Rattle.pig_plan.specs.Steps.{AreFoldMarks};
+ghost use Rattle.pig_physical.specs.Combining.{folds};
+ghost use Rattle.pig_physical.specs.Foldings.{AreFolders};
+ghost use Rattle.pig_physical.specs.Seen.{AreWaves, IsOwn, IsWave, cut_of, entering_of, lengths_in, staged, task_of};
 ghost use Rattle.pig_physical.specs.Stages.{heads, tasks_in, ways_in};
 
+use crate::folding::{Folders, block_folded};
 use crate::{MapTask, Task, Tasks, WaveHead, WaveKind, Way, Ways};
 use pig_plan::Plan;
+use pig_typed::Block;
 use pig_value::{Lengths, Seq, Text};
 use std::marker::Model;
 
@@ -18,6 +25,20 @@ pub struct Size {
 
 /// The sizes of inputs.
 pub type Sizes = Seq<Size>;
+
+/// The lengths of the pieces of the input of a path; none of an input that there isn't.
+pub fn lengths_in<'p>(sizes: &'p [Size], path: &str) -> Option<&'p Lengths>
+    ensures { option_map_or (λ lengths. lengths.now) result [] ≡ lengths_in sizes.now path.now }
+{
+    let mut left = sizes;
+    while let [size, rest @ ..] = left {
+        if size.path.as_bytes() == path.as_bytes() {
+            return Some(&size.lengths);
+        }
+        left = rest;
+    }
+    None
+}
 
 /// A wave: its head, the ways on which its rows come, each once, and its tasks, which name the ways by their places.
 #[derive(Drop)]
@@ -40,6 +61,7 @@ pub struct Stages<'p> {
     reducers: u32,
     split: u64,
     waves: Waves,
+    folders: Folders,
 }
 
 impl<'p> Model for Stages<'p> {
@@ -49,6 +71,8 @@ impl<'p> Model for Stages<'p> {
     ghost use Rattle.pig_typed.specs.contracts.exprs.TExpr as expr;
     ghost use Rattle.pig_plan.specs.declared.nodes.Node.{Node};
     ghost use Rattle.pig_physical.specs.declared.staged.Size.{Size};
+    ghost use Rattle.pig_plan.specs.Plans.{plan_of};
+    ghost use Rattle.pig_physical.specs.Foldings.{AreFolders};
     ghost use Rattle.pig_physical.specs.Seen.{AreWaves, cut_of, staged};
 
     ghost Value = { List Node × (List Size × (ℕ × ℕ)) };
@@ -58,20 +82,23 @@ impl<'p> Model for Stages<'p> {
     ghost view = { λ s. cut_of s.plan.now s.sizes.now s.reducers s.split };
 
     ghost invariant = { λ s. (length s.waves < 2 ^ 32)
-        × AreWaves (staged (cut_of s.plan.now s.sizes.now s.reducers s.split)) s.waves };
+        × AreWaves (staged (cut_of s.plan.now s.sizes.now s.reducers s.split)) s.waves
+        × AreFolders (plan_of s.plan.now) s.folders };
 }
 
 impl<'p> Stages<'p> {
-    /// The stages of a plan with these waves.
+    /// The stages of a plan with these waves, of which these nodes fold.
     pub fn of(
         plan: &'p Plan,
         sizes: &'p Sizes,
         reducers: u32,
         split: u64,
         waves: Waves,
+        folders: Folders,
     ) -> Stages<'p>
         requires few { length waves < 2 ^ 32 }
         requires waves { AreWaves (staged (cut_of plan.now sizes.now reducers split)) waves }
+        requires folders { AreFolders (plan_of plan.now) folders }
         ensures { result ≡ cut_of plan.now sizes.now reducers split }
     {
         Stages {
@@ -80,7 +107,45 @@ impl<'p> Stages<'p> {
             reducers,
             split,
             waves,
+            folders,
         }
+    }
+
+    /// The plan that is cut.
+    pub fn plan(&self) -> &Plan
+        ensures { plan_of result.now ≡ (staged self.now).plan }
+    {
+        self.plan
+    }
+
+    /// The number of reducers.
+    pub fn reducers(&self) -> u32
+        ensures { result ≡ (staged self.now).sizing.reducers }
+    {
+        self.reducers
+    }
+
+    /// The lengths of the pieces of the input of a path; none of an input that there isn't.
+    pub fn lengths(&self, path: &str) -> Option<&Lengths>
+        ensures { option_map_or (λ lengths. lengths.now) result []
+            ≡ (staged self.now).sizing.lengths path.now }
+    {
+        lengths_in(self.sizes.as_slice(), path)
+    }
+
+    /// Of each node, by its number, whether it folds.
+    pub fn folded(&self) -> &[bool]
+        ensures { AreFoldMarks (folds (staged self.now).plan) result.now }
+    {
+        self.folders.marks.as_slice()
+    }
+
+    /// The block that a node folds into, where it folds.
+    pub fn fold_of(&self, node: u32) -> Option<&Block>
+        ensures { option_map (λ block. block_typed block.now) result
+            ≡ folds (staged self.now).plan node }
+    {
+        block_folded(self.plan.nodes().as_slice(), &self.folders, node as usize)
     }
 
     /// The number of waves.

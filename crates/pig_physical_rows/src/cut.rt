@@ -1,5 +1,5 @@
 //! What `heads` lists of plans, and `splits` of pieces. Where memory is wanting the process ends.
-use pig_physical::{Sizes, Stages, WaveHead, WaveKind, Waves, heads, splits};
+use pig_physical::{Sizes, Stages, WaveHead, WaveKind, Waves, heads, splits, which_fold};
 use pig_plan::{Node, NodeOp, Plan};
 use pig_storage::Split;
 use pig_typed::{Block, BlockItem, BlockItems, BlockSteps, TExpr, TExprs};
@@ -197,7 +197,8 @@ fn splits_cover_pieces(rt: HostRuntime) {
 fn a_plan_of_no_node_has_no_wave(rt: HostRuntime) {
     let plan = Plan::empty(rt.alloc());
     let sizes = Sizes::new(rt.alloc());
-    let stages = Stages::of(&plan, &sizes, 1, 1, Waves::new(rt.alloc()));
+    let folders = which_fold(rt.alloc(), &plan).expect(&rt, "memory");
+    let stages = Stages::of(&plan, &sizes, 1, 1, Waves::new(rt.alloc()), folders);
     assert_eq!(rt; stages.waves(), 0);
     drop(stages);
 }

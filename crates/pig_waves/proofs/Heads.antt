@@ -55,7 +55,7 @@ module _ (plan : Plan) where
       ∙ get-behind before own j
       ∙ get_front (heads_at plan k) (flat_map (heads_at plan) (filter (λ i. nat_lt k i) (boundaries plan)) ++ last_heads) j h at
 
-two_waves : (o : PlanOp) → has_stages o ≡ true → waves_of o ≡ kinds.Map ∷ kinds.Reduce ∷ []
+pub two_waves : (o : PlanOp) → has_stages o ≡ true → waves_of o ≡ kinds.Map ∷ kinds.Reduce ∷ []
 two_waves (p_join inputs side true) h = absurd (true≢false (sym h))
 two_waves (p_join inputs side false) h = refl
 two_waves (p_rank input keys dense) h = absurd (true≢false (sym h))

@@ -1,5 +1,8 @@
 pub mod Places
+pub mod Among
 pub mod Heads
+pub mod Folders
+pub mod Alone
 pub mod Sources
 pub mod Tasks
 pub mod Given

@@ -12,7 +12,7 @@ use Rattle.pig_plan.specs.Nodes.{inputs_of, is_live, live, names, op_at, uses}
 use Rattle.pig_plan.specs.Plans.{Plan, PlanNode, PlanOp, p_load, p_filter, p_foreach, p_group_all, p_group, p_join, p_union, p_distinct, p_order, p_limit, p_store, p_assert, p_rank}
 use Rattle.pig_physical.specs.Combining.{block_at, block_on, folds, only}
 use Rattle.pig_waves.proofs.Heads.{live_at}
-use Rattle.pig_cutter.proofs.Boundaries.{folds_is}
+use Rattle.pig_waves.proofs.Folders.{folds_is}
 
 -- a number that is named is counted
 named_counts : (i : ℕ) (xs : List ℕ) → list_any (λ j. j == i) xs ≡ true → 1 ≤ length (filter (λ j. j == i) xs)
