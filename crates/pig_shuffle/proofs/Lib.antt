@@ -1,0 +1,5 @@
+mod Places
+mod Entries
+pub mod Runs
+mod Keyed
+mod Steps

@@ -1,0 +1,3 @@
+pub mod Shuffling
+pub mod Held
+pub mod Taking
