@@ -1,0 +1,34 @@
+ghost use Rattle.pig_fitting.specs.Laws.{LoadFits, MapFormFits, PartFits, ReduceFormFits};
+
+use pig_algebra::parts_make_the_rows;
+use pig_builtins::function_laws;
+
+/// The rows of a LOAD's lines are of the kinds that the plan gives, whatever the lines are.
+pub fn loads_fit()
+    ensures { LoadFits }
+{}
+
+/// The rows of the partition that a task reads are of the kinds of its source, where the output
+/// fits that they stand in.
+pub fn parts_fit()
+    ensures { PartFits }
+{
+    function_laws();
+}
+
+/// What a map or store task makes of rows that are of the kinds of its source fits it, whatever
+/// these rows are.
+pub fn map_forms_fit()
+    ensures { MapFormFits }
+{
+    function_laws();
+    parts_make_the_rows();
+}
+
+/// What a reduce task brings together of outputs that fit is rows of the kinds that its node hands
+/// on. A RANK is left out, and so is a replicated JOIN, which has no reduce tasks.
+pub fn reduce_forms_fit()
+    ensures { ReduceFormFits }
+{
+    function_laws();
+}
