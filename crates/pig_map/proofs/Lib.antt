@@ -1,0 +1,5 @@
+mod Feeding
+mod Splitting
+mod Runs
+mod Fitted
+mod Shuffled

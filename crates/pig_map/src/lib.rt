@@ -1,0 +1,14 @@
+//! Map tasks and store tasks: the rows of a part of a source, taken through a path, in the form in which they are handed on.
+#![tactic(auto)]
+
+mod attempt;
+mod calls;
+mod first;
+mod never;
+mod parts;
+mod reading;
+mod unmet;
+
+pub use attempt::map_attempt;
+pub use calls::{map_task, map_task_blocks, path_rows};
+pub use never::Never;
