@@ -1,0 +1,29 @@
+-- Threads may share a wave's work.
+use denote.Ref.{NamedLft}
+use denote.RattleType.{RattleType}
+use denote.Param.Send.{IsSync, sendable, view_sync}
+use denote.Param.SendFields.{as_row_sync, declared_sync}
+use Rattle.std.proofs.alloc.Global.TheSendSync as heap
+use Rattle.std.proofs.marker.PhantomData.TheSendSync as phantom
+use Rattle.pig_value.proofs.lists.Seq.TheSendSync as seq
+use Rattle.pig_value.specs.contracts.lists.Seq as seq_type
+use Rattle.pig_physical.proofs.outputs.Out.TheSendSync as out
+use Rattle.pig_physical.specs.contracts.outputs.Out as out_type
+use Rattle.pig_physical.proofs.Crossing.{stages_shared}
+use Rattle.pig_work.specs.declared.work.Setting.{Ghosts}
+use Rattle.pig_work.specs.contracts.work.StageWork as work_type
+
+pub outs_shared : IsSync (seq_type.the_row (seq_type.the_row out_type.the_row))
+outs_shared = search (sendable, seq.the_sync, out.the_sync)
+
+inside_shared : (κ : NamedLft) (T : RattleType) (N : Ghosts T.Denot) → IsSync T → IsSync (work_type.TheInside.the_row κ T N)
+inside_shared κ T N shared = declared_sync (work_type.TheInside.the_type κ T N) (
+  search (sendable, heap.the_sync),
+  (
+    search (sendable, as_row_sync, stages_shared),
+    (search (sendable, as_row_sync, outs_shared), (search sendable, (search (sendable, phantom.the_sync), tt))),
+  ),
+)
+
+pub work_shared : (κ : NamedLft) (T : RattleType) (N : Ghosts T.Denot) → IsSync T → IsSync (work_type.the_row κ T N)
+work_shared κ T N shared = view_sync (work_type.TheInside.the_row κ T N) _ _ _ _ (inside_shared κ T N shared)
