@@ -1,0 +1,99 @@
+-- Waves that are not too large have few tasks.
+use Rattle.std.specs.Prelude.{◌≡◌, ◌<◌, ◌≤◌, ◌+◌, ◌^◌, ℕ, Bool, true, false, ◌&&◌, ◌||◌, nat_lt, List, [], ◌∷◌, length, map, take, Option, Some, None, slice_get, refl}
+use Rattle.std.proofs.Common.{ap, sym, ◌∙◌, arith, subst, true≢false}
+use Rattle.std.specs.List.{AllByRecursion, flat_map, list_all, list_any, range_with_len}
+use Rattle.std.specs.Option.{option_map_or}
+use Rattle.std.proofs.lemmas.Bool.Decides.{nat_tests}
+use Rattle.pig_value.proofs.list_laws.Elementwise.{get-behind}
+use Rattle.pig_value.proofs.list_laws.Listing.{each-map, each_at, each_of_all, filter_all}
+use Rattle.pig_plan.specs.Nodes.{op_at}
+use Rattle.pig_plan.specs.declared.nodes.Node.{Node}
+use Rattle.pig_plan.specs.Plans.{PlanOp, plan_of, p_load, p_filter, p_foreach, p_group_all, p_group, p_join, p_union, p_distinct, p_order, p_limit, p_store, p_assert, p_rank}
+use Rattle.pig_plan.specs.Valid.{IsPlan}
+use Rattle.pig_physical.specs.Stages.{Stages, Task, boundaries, head_of, heads, heads_at, is_map_task, map_tasks, reduce_count, store_tasks, stores, t_map, tasks_by, tasks_in, tasks_of, wave_size}
+use Rattle.pig_physical.specs.declared.waves.WaveKind.TheVariants as kinds
+use Rattle.pig_cutter.specs.Limits.{has_too_many, is_too_large}
+use Rattle.pig_waves.proofs.Places.{range_at}
+use Rattle.pig_waves.specs.Laws.{HaveStages, has_stages}
+use Rattle.pig_driver.specs.Standing.{FewTasksFit}
+use Rattle.pig_driver.proofs.Standing.{WaveAt, its_waves, maps, partitions, reduces, storing, wave_at}
+
+any_none : {X : Type 0} (p : X → Bool) (xs : List X) → list_any p xs ≡ false → AllByRecursion (λ x. p x ≡ false) xs
+any_none p [] h = tt
+any_none p (x ∷ xs) h = let both = neither (p x) (list_any p xs) h in (both.0, any_none p xs both.1)
+  where
+    neither : (a b : Bool) → (a || b) ≡ false → (a ≡ false) × (b ≡ false)
+    neither true b h = absurd (true≢false h)
+    neither false b h = (refl, h)
+
+all_hold : {X : Type 0} (p : X → Bool) (xs : List X) → list_all p xs ≡ true → AllByRecursion (λ x. p x ≡ true) xs
+all_hold p [] h = tt
+all_hold p (x ∷ xs) h = let both = each (p x) (list_all p xs) h in (both.0, all_hold p xs both.1)
+  where
+    each : (a b : Bool) → (a && b) ≡ true → (a ≡ true) × (b ≡ true)
+    each true b h = (refl, h)
+    each false b h = absurd (true≢false (sym h))
+
+pub all_staged : (left nodes : List Node) → length left < 1 → list_all (λ node. has_stages node.op) (plan_of left) ≡ list_all (λ node. has_stages node.op) (plan_of nodes) → HaveStages (plan_of nodes)
+all_staged [] nodes less h = all_hold (λ node. has_stages node.op) (plan_of nodes) (sym h)
+all_staged (node ∷ left) nodes less h = absurd (omega (arith, less))
+
+few_partitions : (reducers : ℕ) (o : PlanOp) → reducers ≤ 65536 → reduce_count reducers o ≤ 65536
+few_partitions reducers (p_load path delim columns) h = h
+few_partitions reducers (p_filter input test) h = h
+few_partitions reducers (p_foreach input block) h = h
+few_partitions reducers (p_group_all input) h = h
+few_partitions reducers (p_group inputs) h = h
+few_partitions reducers (p_join inputs side replicated) h = h
+few_partitions reducers (p_union inputs) h = h
+few_partitions reducers (p_distinct input) h = h
+few_partitions reducers (p_order input keys) h = h
+few_partitions reducers (p_limit input count) h = omega (arith)
+few_partitions reducers (p_store input path delim) h = h
+few_partitions reducers (p_assert input test message) h = h
+few_partitions reducers (p_rank input keys dense) h = h
+
+module _ (s : Stages) (valid : IsPlan s.plan) (staged : HaveStages s.plan) (few : has_too_many s ≡ false) (reducers : s.sizing.reducers ≤ 65536) (w : ℕ) (within : w < length (heads s.plan)) where
+  abbrev IsMap : Task → Type 0
+  IsMap task = is_map_task task ≡ true
+
+  small : wave_size s w ≤ 65536
+  small =
+      let zeroth : 0 + w ≡ w = omega arith in
+      let is : nat_lt (2 ^ 16) (wave_size s w) ≡ false =
+      each_at (λ v. is_too_large s v ≡ false) (range_with_len 0 (length (heads s.plan))) w w (range_at 0 (length (heads s.plan)) w within ∙ ap Some zeroth) (any_none (is_too_large s) (range_with_len 0 (length (heads s.plan))) few) in
+      grind (arith, nat_tests, is)
+
+  few_maps : AllByRecursion IsMap (tasks_in s w) → length (tasks_in s w) ≤ 65536
+  few_maps h = let all = ap length (filter_all is_map_task (tasks_in s w) h) in let bound = small in omega (arith, all, bound)
+
+  module _ (at : w ≡ length (flat_map (heads_at s.plan) (boundaries s.plan))) where
+    of_op : (k : ℕ) (found : Option PlanOp) → AllByRecursion IsMap (option_map_or (tasks_by s w kinds.Store k) found [])
+    of_op k None = tt
+    of_op k (Some p) = each-map IsMap t_map (flat_map (store_tasks s) (stores s.plan)) (each_of_all (λ t. true ≡ true) (λ t. refl) (flat_map (store_tasks s) (stores s.plan)))
+
+    of_stores : (ks : List ℕ) → AllByRecursion IsMap (option_map_or (tasks_of s w) (slice_get (map (λ k. head_of s.plan k kinds.Store) (take 1 ks)) 0) [])
+    of_stores [] = tt
+    of_stores (k ∷ ks) = of_op k (op_at s.plan k)
+
+    last_maps : AllByRecursion IsMap (tasks_in s w)
+    last_maps = subst (λ found. AllByRecursion IsMap (option_map_or (tasks_of s w) found []))
+        (sym ((let f : w ≡ length (flat_map (heads_at s.plan) (boundaries s.plan)) + 0 = omega (arith, at) in ap (slice_get (heads s.plan)) f)
+        ∙ get-behind (flat_map (heads_at s.plan) (boundaries s.plan)) (map (λ k. head_of s.plan k kinds.Store) (take 1 (stores s.plan))) 0))
+        (of_stores (stores s.plan))
+
+  few_in : length (tasks_in s w) ≤ 65536
+  few_in = by_wave (wave_at s valid staged w within)
+    where
+      by_wave : WaveAt s valid staged w → length (tasks_in s w) ≤ 65536
+      by_wave (maps k is e) =
+          few_maps (subst (AllByRecursion IsMap) (sym (ap (tasks_in s) e ∙ (its_waves s valid staged k is).maps))
+          (each-map IsMap t_map (map_tasks s k is.node.op) (each_of_all (λ t. true ≡ true) (λ t. refl) (map_tasks s k is.node.op))))
+      by_wave (reduces k is e) =
+          let count = ap (λ v. length (tasks_in s v)) e ∙ partitions s valid staged k is in
+          let bound = few_partitions s.sizing.reducers is.node.op reducers in
+          omega (arith, count, bound)
+      by_wave (storing e) = few_maps (last_maps e)
+
+pub few_tasks : FewTasksFit
+few_tasks s valid staged few reducers w within = few_in s valid staged few reducers w within

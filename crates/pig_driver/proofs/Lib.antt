@@ -1,0 +1,9 @@
+mod Sources
+mod Standing
+mod Cut
+mod Values
+mod Sorting
+mod Rights
+mod Stepping
+mod Few
+mod Begun

@@ -1,0 +1,339 @@
+-- The tasks of a wave name outputs of waves before it.
+use Rattle.std.specs.Prelude.{◌≡◌, ◌<◌, ◌≤◌, ◌+◌, ◌-◌, ⊤, ℕ, Bool, true, false, nat_lt, List, [], ◌∷◌, ◌++◌, length, map, take, Option, Some, None, slice_get, zero, suc, refl}
+use Rattle.std.proofs.Common.{ap, sym, ◌∙◌, arith, cond, inl, inr, subst, append_assoc, true≢false}
+use Rattle.std.specs.List.{AllByRecursion, filter, flat_map, range_with_len}
+use Rattle.std.specs.Option.{option_map, option_map_or}
+use Rattle.std.proofs.lemmas.Bool.{cases_lt}
+use Rattle.std.proofs.lemmas.Bool.Decides.{nat_tests}
+use Rattle.std.proofs.lemmas.Grind.{flat_map-append}
+use Rattle.std.proofs.lemmas.List.{length-append, length-map}
+use Rattle.std.proofs.lemmas.List.FromFn.{length-range_with_len}
+use Rattle.std.proofs.lemmas.List.Elements.{filter-append}
+use Rattle.std.proofs.lemmas.Option.{slice_get_within}
+use Rattle.pig_value.proofs.list_laws.Elementwise.{filter_rises, get-behind, range_below, range_rises, split_off}
+use Rattle.pig_value.proofs.list_laws.Listing.{each-filter, each-map, each_at, each_filtered, each_of_all, each_weaker, filter_all, filter_none, some_same}
+use Rattle.pig_value.specs.declared.inputs.Column.{Column}
+use Rattle.pig_value.specs.declared.inputs.Input.{Input}
+use Rattle.pig_value.specs.Elementwise.{Rising}
+use Rattle.pig_plan.proofs.Meanings.{each_both, live_within}
+use Rattle.pig_plan.specs.Nodes.{Entering, inputs_of, is_boundary, is_live, is_source, is_store, live, op_at}
+use Rattle.pig_plan.specs.Plans.{PlanNode, PlanOp, p_load, p_filter, p_foreach, p_group_all, p_group, p_join, p_union, p_distinct, p_order, p_limit, p_store, p_assert, p_rank}
+use Rattle.pig_plan.specs.Operators.{pieces_of}
+use Rattle.pig_plan.specs.Valid.{IsPlan}
+use Rattle.pig_storage.specs.Splits.{splits_of}
+use Rattle.pig_physical.specs.Fitting.{HasNamed, HasPart}
+use Rattle.pig_physical.specs.Outs.{Outs}
+use Rattle.pig_physical.specs.Running.{AreSizes}
+use Rattle.pig_physical.specs.Seen.{HasSource}
+use Rattle.pig_physical.specs.Stages.{MapTask, Stages, Task, boundaries, first_wave, head_of, heads, heads_at, last_wave, map_tasks, partition_tasks, parts_at, parts_of, path_tasks, reduce_count, store_tasks, stores, t_map, t_reduce, tasks_by, tasks_in, tasks_of, tasks_on, waves_of, ways_into, ways_to}
+use Rattle.pig_physical.specs.declared.parts.Part.{Part}
+use Rattle.pig_physical.specs.declared.parts.Part.TheVariants as parts
+use Rattle.pig_physical.specs.declared.waves.WaveKind.TheVariants as kinds
+use Rattle.pig_waves.proofs.Heads.{head_at, live_at, stands_at, two_waves}
+use Rattle.pig_waves.proofs.Places.{all_flat_where, filtered_at}
+use Rattle.pig_waves.specs.Laws.{HaveStages, StandsAt, has_stages}
+use Rattle.pig_driver.specs.Standing.{AreStanding, WavesFindWhatTheyName, WavesReadToldInputs}
+use Rattle.pig_driver.proofs.Sources.{IsSourceOf, inputs_live, ways_from}
+
+module _ (s : Stages) (valid : IsPlan s.plan) (staged : HaveStages s.plan) where
+  -- ---- boundary nodes in order
+
+  abbrev is_here : ℕ → Bool
+  is_here k = option_map_or is_boundary (op_at s.plan k) false
+
+  abbrev all : List ℕ
+  all = boundaries s.plan
+
+  rise : Rising all
+  rise = filter_rises is_here (live s.plan) (filter_rises (is_live s.plan) (range_with_len 0 (length s.plan)) (range_rises 0 (length s.plan)))
+
+  -- a live boundary node
+  pub record IsBoundaryAt (k : ℕ) : Type 0 where
+    pub node : PlanNode
+    pub at : slice_get s.plan k ≡ Some node
+    pub alive : is_live s.plan k ≡ true
+    pub is : is_boundary node.op ≡ true
+
+  boundary_by : (k : ℕ) (found : Option PlanNode) → slice_get s.plan k ≡ found → is_live s.plan k ≡ true → option_map_or is_boundary (option_map (λ node. node.op) found) false ≡ true → IsBoundaryAt k
+  boundary_by k None e alive h = absurd (true≢false (sym h))
+  boundary_by k (Some node) e alive h = record { node = node; at = e; alive = alive; is = h }
+
+  all_boundaries : AllByRecursion IsBoundaryAt all
+  all_boundaries =
+      each_both (λ k. is_live s.plan k ≡ true) (λ k. is_here k ≡ true) IsBoundaryAt (λ k alive here. boundary_by k (slice_get s.plan k) refl alive here) all
+      (each-filter is_here (λ k. is_live s.plan k ≡ true) (live s.plan) (each_filtered (is_live s.plan) (range_with_len 0 (length s.plan))))
+      (each_filtered is_here (live s.plan))
+
+  pub op_here : (k : ℕ) (node : PlanNode) → slice_get s.plan k ≡ Some node → op_at s.plan k ≡ Some node.op
+  op_here k node at = ap (option_map (λ n. n.op)) at
+
+  node_staged : (k : ℕ) (node : PlanNode) → slice_get s.plan k ≡ Some node → has_stages node.op ≡ true
+  node_staged k node at = each_at (λ n. has_stages n.op ≡ true) s.plan k node at staged
+
+  own_heads : (k : ℕ) (is : IsBoundaryAt k) → heads_at s.plan k ≡ head_of s.plan k kinds.Map ∷ head_of s.plan k kinds.Reduce ∷ []
+  own_heads k is =
+      ap (λ found. option_map_or (λ p. map (head_of s.plan k) (waves_of p)) found []) (op_here k is.node is.at)
+      ∙ ap (map (head_of s.plan k)) (two_waves is.node.op (node_staged k is.node is.at))
+
+  pub its_waves : (k : ℕ) (is : IsBoundaryAt k) → StandsAt s k is.node.op
+  its_waves k is = stands_at s k is.node.op (op_here k is.node is.at) is.alive is.is (node_staged k is.node is.at)
+
+  pub its_last : (k : ℕ) (is : IsBoundaryAt k) → last_wave s.plan k is.node.op ≡ first_wave s.plan k + 1
+  its_last k is = ap (λ ws. first_wave s.plan k + (length ws - 1)) (two_waves is.node.op (node_staged k is.node is.at))
+
+  pub its_head : (k : ℕ) (is : IsBoundaryAt k) → slice_get (heads s.plan) (first_wave s.plan k) ≡ Some (head_of s.plan k kinds.Map)
+  its_head k is =
+      (let e : first_wave s.plan k ≡ first_wave s.plan k + 0 = omega arith in ap (slice_get (heads s.plan)) e)
+      ∙ head_at s.plan k 0 (head_of s.plan k kinds.Map) is.alive (ap (λ found. option_map_or is_boundary found false) (op_here k is.node is.at) ∙ is.is) (ap (λ hs. slice_get hs 0) (own_heads k is))
+
+  pub its_last_head : (k : ℕ) (is : IsBoundaryAt k) → slice_get (heads s.plan) (first_wave s.plan k + 1) ≡ Some (head_of s.plan k kinds.Reduce)
+  its_last_head k is = head_at s.plan k 1 (head_of s.plan k kinds.Reduce) is.alive (ap (λ found. option_map_or is_boundary found false) (op_here k is.node is.at) ∙ is.is) (ap (λ hs. slice_get hs 1) (own_heads k is))
+
+  abbrev width : List ℕ → ℕ
+  width ks = length (flat_map (heads_at s.plan) ks)
+
+  width-cons : (k : ℕ) (ks : List ℕ) → IsBoundaryAt k → width (k ∷ ks) ≡ suc (suc (width ks))
+  width-cons k ks is = ap (λ hs. length (hs ++ flat_map (heads_at s.plan) ks)) (own_heads k is)
+
+  width-append : (ks ls : List ℕ) → width (ks ++ ls) ≡ width ks + width ls
+  width-append ks ls = ap length (flat_map-append (heads_at s.plan) ks ls) ∙ length-append (flat_map (heads_at s.plan) ks) (flat_map (heads_at s.plan) ls)
+
+  -- of rising numbers, those below one are the ones in front of it
+  front_below : (front : List ℕ) (k : ℕ) (ks : List ℕ) → Rising (front ++ k ∷ ks) → filter (λ j. nat_lt j k) (front ++ k ∷ ks) ≡ front
+  front_below [] k ks h =
+      let itself : nat_lt k k ≡ false = grind (arith, nat_tests) in
+      ap (λ b. cond b (k ∷ filter (λ j. nat_lt j k) ks) (filter (λ j. nat_lt j k) ks)) itself
+      ∙ filter_none (λ j. nat_lt j k) ks (each_weaker (λ j. k < j) (λ j. nat_lt j k ≡ false) (λ j m. grind (arith, nat_tests, m)) ks h.0)
+  front_below (f ∷ front) k ks h =
+      let less : f < k = last_of front h.0 in
+      let kept : nat_lt f k ≡ true = grind (arith, nat_tests, less) in
+      ap (λ b. cond b (f ∷ filter (λ j. nat_lt j k) (front ++ k ∷ ks)) (filter (λ j. nat_lt j k) (front ++ k ∷ ks))) kept
+      ∙ ap (λ js. f ∷ js) (front_below front k ks h.1)
+    where
+      last_of : (front : List ℕ) → AllByRecursion (λ j. f < j) (front ++ k ∷ ks) → f < k
+      last_of [] h = h.0
+      last_of (g ∷ front) h = last_of front h.1
+
+  -- ---- where a wave stands
+
+  pub data WaveAt (w : ℕ) : Type 0 where
+    maps : (k : ℕ) → IsBoundaryAt k → w ≡ first_wave s.plan k → WaveAt w
+    reduces : (k : ℕ) → IsBoundaryAt k → w ≡ first_wave s.plan k + 1 → WaveAt w
+    storing : w ≡ width all → WaveAt w
+
+  among_boundaries : (w n : ℕ) (front ks : List ℕ) → all ≡ front ++ ks → AllByRecursion IsBoundaryAt ks → w ≡ width front + n → n < width ks → WaveAt w
+  among_boundaries w n front [] is each at less = absurd (omega (arith, less))
+  among_boundaries w zero front (k ∷ ks) is each at less =
+      maps k each.0 (at ∙ (let e : width front + 0 ≡ width front = omega arith in e) ∙ sym (ap width (ap (filter (λ j. nat_lt j k)) is ∙ front_below front k ks (subst Rising is rise))))
+  among_boundaries w (suc zero) front (k ∷ ks) is each at less =
+      reduces k each.0 (at ∙ sym (ap (λ ks. width ks + 1) (ap (filter (λ j. nat_lt j k)) is ∙ front_below front k ks (subst Rising is rise))))
+  among_boundaries w (suc (suc n)) front (k ∷ ks) is each at less =
+      let size = width-cons k ks each.0 in
+      let more : width (front ++ k ∷ []) ≡ width front + 2 = width-append front (k ∷ []) ∙ ap (λ m. width front + m) (width-cons k [] each.0) in
+      among_boundaries w n (front ++ k ∷ []) ks (is ∙ sym (append_assoc front (k ∷ []) ks)) each.1 (omega (arith, at, more)) (omega (arith, size, less))
+
+  pub wave_at : (w : ℕ) → w < length (heads s.plan) → WaveAt w
+  wave_at w less = elim (cases_lt w (width all)) [
+    | inl within ↦ among_boundaries w w [] all refl all_boundaries (omega arith) within
+    | inr over ↦ storing (let size = length-append (flat_map (heads_at s.plan) all) (map (λ k. head_of s.plan k kinds.Store) (take 1 (stores s.plan))) in
+        let few : length (map (λ k. head_of s.plan k kinds.Store) (take 1 (stores s.plan))) ≤ 1 = at_most_one (stores s.plan) in
+        omega (arith, over, less, size, few))
+  ]
+    where
+      at_most_one : (ks : List ℕ) → length (map (λ k. head_of s.plan k kinds.Store) (take 1 ks)) ≤ 1
+      at_most_one [] = omega arith
+      at_most_one (k ∷ ks) = omega arith
+
+  -- ---- the waves of a node stand before those of a later one
+
+  split_at : (k : ℕ) → IsBoundaryAt k → all ≡ filter (λ j. nat_lt j k) all ++ k ∷ filter (λ j. nat_lt k j) all
+  split_at k is =
+      let found = live_at s.plan k is.alive in
+      let place = filtered_at is_here (live s.plan) found.0 k found.1 (ap (λ o. option_map_or is_boundary o false) (op_here k is.node is.at) ∙ is.is) in
+      split_off all place.0 k rise place.1
+
+  pub inside : (k : ℕ) → IsBoundaryAt k → first_wave s.plan k + 2 ≤ width all
+  inside k is =
+      let before = filter (λ j. nat_lt j k) all in
+      let behind = filter (λ j. nat_lt k j) all in
+      let size = ap width (split_at k is) ∙ width-append before (k ∷ behind) in
+      let own = width-cons k behind is in
+      omega (arith, size, own)
+
+  pub earlier : (i k : ℕ) → IsBoundaryAt i → i < k → first_wave s.plan i + 2 ≤ first_wave s.plan k
+  earlier i k is less =
+      let before = filter (λ j. nat_lt j i) all in
+      let behind = filter (λ j. nat_lt i j) all in
+      let here : nat_lt i k ≡ true = grind (arith, nat_tests, less) in
+      let front : filter (λ j. nat_lt j k) before ≡ before =
+      filter_all (λ j. nat_lt j k) before (each_weaker (λ j. nat_lt j i ≡ true) (λ j. nat_lt j k ≡ true) (λ j m. grind (arith, nat_tests, less, m)) before (each_filtered (λ j. nat_lt j i) all)) in
+      let rest = filter (λ j. nat_lt j k) behind in
+      let cut : filter (λ j. nat_lt j k) all ≡ before ++ i ∷ rest =
+      ap (filter (λ j. nat_lt j k)) (split_at i is)
+      ∙ filter-append (λ j. nat_lt j k) before (i ∷ behind)
+      ∙ (λ t. front t ++ cond (here t) (i ∷ rest) rest) in
+      let size = ap width cut ∙ width-append before (i ∷ rest) in
+      let own = width-cons i rest is in
+      omega (arith, size, own)
+
+  -- ---- parts
+
+  -- an output is one of a task of a wave before
+  abbrev pub PartStands : ℕ → Part → Type 0
+  PartStands w (parts.Split split) = ⊤
+  PartStands w (parts.Output v j) = (v < w) × (j < length (tasks_in s v))
+
+  pub partitions : (k : ℕ) (is : IsBoundaryAt k) → length (tasks_in s (first_wave s.plan k + 1)) ≡ reduce_count s.sizing.reducers is.node.op
+  partitions k is =
+      let count = reduce_count s.sizing.reducers is.node.op in
+      ap length (its_waves k is).reduces
+      ∙ length-map (partition_tasks s (first_wave s.plan k) k is.node.op) t_reduce
+      ∙ length-map (range_with_len 0 count) (λ p. record { node = k; wave = first_wave s.plan k; part = p })
+      ∙ length-range_with_len 0 count
+
+  outputs_stand : (w k : ℕ) (is : IsBoundaryAt k) → first_wave s.plan k + 2 ≤ w
+      → AllByRecursion (PartStands w) (map (parts.Output (last_wave s.plan k is.node.op)) (range_with_len 0 (reduce_count s.sizing.reducers is.node.op)))
+  outputs_stand w k is bound =
+      let count = reduce_count s.sizing.reducers is.node.op in
+      let last = its_last k is in
+      let size = ap (λ v. length (tasks_in s v)) last ∙ partitions k is in
+      each-map (PartStands w) (parts.Output (last_wave s.plan k is.node.op)) (range_with_len 0 count)
+      (each_weaker (λ j. j < 0 + count) (λ j. (last_wave s.plan k is.node.op < w) × (j < length (tasks_in s (last_wave s.plan k is.node.op))))
+      (λ j less. (omega (arith, last, bound), omega (arith, less, size))) (range_with_len 0 count) (range_below 0 count))
+
+  abbrev Bounded : ℕ → ℕ → Type 0
+  Bounded w k = IsBoundaryAt k → first_wave s.plan k + 2 ≤ w
+
+  module _ (w b k : ℕ) (is : IsSourceOf s.plan valid b k) (bound : Bounded w k) where
+    abbrev as_boundary : is_boundary is.node.op ≡ true → IsBoundaryAt k
+    as_boundary h = record { node = is.node; at = is.at; alive = is.alive; is = h }
+
+    given : is_boundary is.node.op ≡ true → AllByRecursion (PartStands w) (map (parts.Output (last_wave s.plan k is.node.op)) (range_with_len 0 (reduce_count s.sizing.reducers is.node.op)))
+    given h = outputs_stand w k (as_boundary h) (bound (as_boundary h))
+
+    by_op : (o : PlanOp) → is_source o ≡ true
+        → (is_boundary o ≡ true → AllByRecursion (PartStands w) (map (parts.Output (last_wave s.plan k o)) (range_with_len 0 (reduce_count s.sizing.reducers o))))
+        → AllByRecursion (PartStands w) (parts_of s k o)
+    by_op (p_load path delim columns) h g =
+        each-map (PartStands w) parts.Split (splits_of s.sizing.split (s.sizing.lengths path)) (each_of_all (λ split. ⊤) (λ split. tt) (splits_of s.sizing.split (s.sizing.lengths path)))
+    by_op (p_filter input test) h g = absurd (true≢false (sym h))
+    by_op (p_foreach input block) h g = absurd (true≢false (sym h))
+    by_op (p_group_all input) h g = g refl
+    by_op (p_group inputs) h g = g refl
+    by_op (p_join inputs side replicated) h g = g refl
+    by_op (p_union inputs) h g = absurd (true≢false (sym h))
+    by_op (p_distinct input) h g = g refl
+    by_op (p_order input keys) h g = g refl
+    by_op (p_limit input count) h g = g refl
+    by_op (p_store input path delim) h g = absurd (true≢false (sym h))
+    by_op (p_assert input test message) h g = absurd (true≢false (sym h))
+    by_op (p_rank input keys dense) h g = g refl
+
+    parts_stand : AllByRecursion (PartStands w) (parts_at s k)
+    parts_stand = subst (λ found. AllByRecursion (PartStands w) (option_map_or (parts_of s k) found [])) (sym (op_here k is.node is.at)) (by_op is.node.op is.is given)
+
+  -- ---- tasks
+
+  -- a task's part stands, and its source is live
+  abbrev pub MapStands : ℕ → MapTask → Type 0
+  MapStands w t = PartStands w t.part × (is_live s.plan t.way.path.source ≡ true)
+
+  abbrev pub TaskStands : ℕ → Task → Type 0
+  TaskStands w (t_map t) = MapStands w t
+  TaskStands w (t_reduce t) = (t.wave + 1 ≡ w) × (slice_get (heads s.plan) t.wave ≡ Some (head_of s.plan t.node kinds.Map))
+
+  tasks_on_ways : (w b k : ℕ) (ways : List Entering) → ((i : ℕ) → i < b → Bounded w i) → AllByRecursion (λ way. IsSourceOf s.plan valid b way.path.source) ways
+      → AllByRecursion (MapStands w) (tasks_on s k ways)
+  tasks_on_ways w b k ways bound h =
+      all_flat_where (MapStands w) (λ way. IsSourceOf s.plan valid b way.path.source) (path_tasks s k)
+      (λ way is. each-map (MapStands w) (λ part. record { node = k; way = way; part = part }) (parts_at s way.path.source)
+      (each_weaker (PartStands w) (λ part. PartStands w part × (is_live s.plan way.path.source ≡ true)) (λ part stands. (stands, is.alive)) (parts_at s way.path.source)
+      (parts_stand w b way.path.source is (bound way.path.source is.below)))) ways h
+
+  maps_stand : (w k : ℕ) (is : IsBoundaryAt k) → w ≡ first_wave s.plan k → AllByRecursion (TaskStands w) (map t_map (map_tasks s k is.node.op))
+  maps_stand w k is e =
+      let short : k < length s.plan = slice_get_within s.plan k is.node is.at in
+      each-map (TaskStands w) t_map (map_tasks s k is.node.op)
+      (tasks_on_ways w k k (ways_into s.plan is.node.op) (λ i less here. (let early = earlier i k here less in omega (arith, early, e)))
+      (ways_from s.plan valid k 0 (inputs_of is.node.op)
+      (each_weaker (λ i. (i < k) × (is_live s.plan i ≡ true)) (λ i. (i < k) × (is_live s.plan i ≡ true) × (i < length s.plan)) (λ i lower. (let less = lower.0 in (lower.0, lower.1, omega (arith, less, short))))
+      (inputs_of is.node.op) (inputs_live s.plan valid k is.node is.at is.alive))))
+
+  reduces_stand : (w k : ℕ) (is : IsBoundaryAt k) → w ≡ first_wave s.plan k + 1 → AllByRecursion (TaskStands w) (map t_reduce (partition_tasks s (first_wave s.plan k) k is.node.op))
+  reduces_stand w k is e =
+      let count = reduce_count s.sizing.reducers is.node.op in
+      each-map (TaskStands w) t_reduce (partition_tasks s (first_wave s.plan k) k is.node.op)
+      (each-map (λ t. TaskStands w (t_reduce t)) (λ p. record { node = k; wave = first_wave s.plan k; part = p }) (range_with_len 0 count)
+      (each_of_all (λ p. (first_wave s.plan k + 1 ≡ w) × (slice_get (heads s.plan) (first_wave s.plan k) ≡ Some (head_of s.plan k kinds.Map))) (λ p. (sym e, its_head k is)) (range_with_len 0 count)))
+
+  abbrev is_storing : ℕ → Bool
+  is_storing k = option_map_or is_store (op_at s.plan k) false
+
+  stores_stand : (w : ℕ) → w ≡ width all → AllByRecursion (TaskStands w) (map t_map (flat_map (store_tasks s) (stores s.plan)))
+  stores_stand w e =
+      each-map (TaskStands w) t_map (flat_map (store_tasks s) (stores s.plan))
+      (all_flat_where (MapStands w) (λ k. is_live s.plan k ≡ true) (store_tasks s) of_store (stores s.plan)
+      (each-filter is_storing (λ k. is_live s.plan k ≡ true) (live s.plan) (each_filtered (is_live s.plan) (range_with_len 0 (length s.plan)))))
+    where
+      of_store : (k : ℕ) → is_live s.plan k ≡ true → AllByRecursion (MapStands w) (store_tasks s k)
+      of_store k alive =
+          tasks_on_ways w (k + 1) k (ways_to s.plan k) (λ i less here. (let within = inside i here in omega (arith, within, e)))
+          (ways_from s.plan valid (k + 1) 0 (k ∷ []) ((omega (arith), alive, live_within s.plan k alive), tt))
+
+  last_stand : (w : ℕ) → w ≡ width all → AllByRecursion (TaskStands w) (tasks_in s w)
+  last_stand w e =
+      let at : slice_get (heads s.plan) w ≡ slice_get (map (λ k. head_of s.plan k kinds.Store) (take 1 (stores s.plan))) 0 =
+      (let f : w ≡ width all + 0 = omega (arith, e) in ap (slice_get (heads s.plan)) f) ∙ get-behind (flat_map (heads_at s.plan) all) (map (λ k. head_of s.plan k kinds.Store) (take 1 (stores s.plan))) 0 in
+      subst (λ found. AllByRecursion (TaskStands w) (option_map_or (tasks_of s w) found [])) (sym at) (by_stores (stores s.plan))
+    where
+      by_op : (k : ℕ) (o : Option PlanOp) → AllByRecursion (TaskStands w) (option_map_or (tasks_by s w kinds.Store k) o [])
+      by_op k None = tt
+      by_op k (Some o) = stores_stand w e
+
+      by_stores : (ks : List ℕ) → AllByRecursion (TaskStands w) (option_map_or (tasks_of s w) (slice_get (map (λ k. head_of s.plan k kinds.Store) (take 1 ks)) 0) [])
+      by_stores [] = tt
+      by_stores (k ∷ ks) = by_op k (op_at s.plan k)
+
+  pub tasks_stand : (w : ℕ) → w < length (heads s.plan) → AllByRecursion (TaskStands w) (tasks_in s w)
+  tasks_stand w less = by_wave (wave_at w less)
+    where
+      by_wave : WaveAt w → AllByRecursion (TaskStands w) (tasks_in s w)
+      by_wave (maps k is e) = subst (AllByRecursion (TaskStands w)) (sym (ap (tasks_in s) e ∙ (its_waves k is).maps)) (maps_stand w k is e)
+      by_wave (reduces k is e) = subst (AllByRecursion (TaskStands w)) (sym (ap (tasks_in s) e ∙ (its_waves k is).reduces)) (reduces_stand w k is e)
+      by_wave (storing e) = last_stand w e
+
+  -- ---- what a task names
+
+  part_named : (outs : Outs) (w : ℕ) (part : Part) → AreStanding s outs w → PartStands w part → HasPart s outs part
+  part_named outs w (parts.Split split) standing is = tt
+  part_named outs w (parts.Output v j) standing is = standing.each v j is.0 is.1
+
+  task_named : (outs : Outs) (w : ℕ) (task : Task) → AreStanding s outs w → TaskStands w task → HasNamed s outs task
+  task_named outs w (t_map t) standing is = part_named outs w t.part standing is.0
+  task_named outs w (t_reduce t) standing is =
+      let next = is.0 in
+      let less : t.wave < w = omega (arith, next) in
+      record {
+        count = standing.counts t.wave less;
+        each = λ at within. standing.each t.wave at less within;
+        sliced = λ o keys op by. standing.sliced t.wave t.node o keys less is.1 op by;
+      }
+
+pub finds_named : WavesFindWhatTheyName
+finds_named s valid staged outs w at task standing less there =
+    task_named s valid staged outs w task standing (each_at (TaskStands s valid staged w) (tasks_in s w) at task there (tasks_stand s valid staged w less))
+
+-- ---- what a task reads
+
+source_told : (s : Stages) (inputs : List Input) (t : MapTask) → is_live s.plan t.way.path.source ≡ true → AreSizes s inputs → HasSource s t inputs
+source_told s inputs t alive sizes = λ path delim columns op. by_node (slice_get s.plan t.way.path.source) refl path delim columns op
+  where
+    by_node : (found : Option PlanNode) → slice_get s.plan t.way.path.source ≡ found → (path : List ℕ) (delim : ℕ) (columns : List Column)
+        → op_at s.plan t.way.path.source ≡ Some (p_load path delim columns) → map length (pieces_of inputs path) ≡ s.sizing.lengths path
+    by_node None e path delim columns op = absurd (let f : None ≡ Some (p_load path delim columns) = sym (ap (option_map (λ n. n.op)) e) ∙ op in cc)
+    by_node (Some node) e path delim columns op =
+        let same : node.op ≡ p_load path delim columns = some_same node.op (p_load path delim columns) (sym (ap (option_map (λ n. n.op)) e) ∙ op) in
+        sizes t.way.path.source node.statement delim path columns (e ∙ ap (λ o. Some (record { op = o; statement = node.statement })) same) alive
+
+pub reads_told : WavesReadToldInputs
+reads_told s valid staged inputs w less sizes = λ place t at. source_told s inputs t (each_at (TaskStands s valid staged w) (tasks_in s w) place (t_map t) at (tasks_stand s valid staged w less)).1 sizes

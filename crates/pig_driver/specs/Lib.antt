@@ -1,0 +1,6 @@
+pub mod Standing
+pub mod Slicing
+pub mod Going
+pub mod Sorting
+pub mod Failing
+pub mod Begun

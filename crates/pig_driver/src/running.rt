@@ -1,0 +1,160 @@
+//! All waves of stages, one after the other.
+ghost use Rattle.std.specs.Prelude.{◌≡◌, ◌<◌, ◌≤◌, ◌+◌, length, map, sum_by, IfErr, IfOk, MatchResult, OnOk};
+ghost use Rattle.pig_plan.specs.Valid.{IsPlan};
+ghost use Rattle.pig_physical.specs.Handed.{outs_of};
+ghost use Rattle.pig_physical.specs.Seen.{staged};
+ghost use Rattle.pig_physical.specs.Stages.{heads};
+ghost use Rattle.pig_pool.specs.Begins.{crew_tells};
+ghost use Rattle.pig_waves.specs.Laws.{HaveStages};
+ghost use Rattle.pig_driver.specs.Begun.{FaultBegun, FaultNext, IsBegunNext, WavesBegun};
+ghost use Rattle.pig_driver.specs.Going.{AreWon, HasRunAll, HasRunTo, TellSizes};
+ghost use Rattle.pig_driver.specs.Standing.{HaveFewTasks};
+ghost use Rattle.pig_driver.specs.Failing.{HasFailedAt, failures_shown, fault_at};
+ghost use Rattle.pig_driver.specs.declared.running.StagesFault.TheVariants.{OutOfMemory};
+
+use crate::between::between;
+use crate::laws::{waves_find_what_they_name, waves_read_told_inputs};
+use pig_board::JobEnd;
+use pig_outside::Host;
+use pig_physical::{Outs, Stages};
+use pig_pool::{WaveEnd, WaveFault};
+use pig_runs::run_laws;
+use pig_value::Seq;
+use pig_work::run_stage;
+use std::alloc::{AllocError, Global};
+use std::thread::Threads;
+
+/// What the waves of stages gave: the outputs of each, in order, and what stands of its tasks.
+#[derive(Drop)]
+pub struct Ran {
+    pub outs: Outs,
+    pub ends: Seq<JobEnd>,
+}
+
+/// Why stages gave no outputs.
+#[derive(Drop)]
+pub enum StagesFault {
+    /// A wave failed: not every task has a winner, and this one is the least that has failed as often as the limit says.
+    TaskFailed { wave: u32, task: u32, end: JobEnd },
+    /// Memory was wanting.
+    OutOfMemory,
+}
+
+impl From<AllocError> for StagesFault {
+    ghost use Rattle.std.specs.Prelude.{◌≡◌};
+    ghost use Rattle.pig_driver.specs.declared.running.StagesFault.TheVariants.{OutOfMemory};
+
+    ghost from_gives = { λ _ e. e ≡ OutOfMemory };
+
+    fn from(_: AllocError) -> Self {
+        StagesFault::OutOfMemory
+    }
+}
+
+fn stages_fault(fault: WaveFault, wave: u32) -> StagesFault
+    ensures { result ≡ fault_at wave fault }
+{
+    match fault {
+        WaveFault::TaskFailed { task, end } => StagesFault::TaskFailed { wave, task, end },
+        WaveFault::OutOfMemory => StagesFault::OutOfMemory,
+    }
+}
+
+/// Runs the waves of stages on hosts, one after the other: each on all hosts, with as many attempts of a task as may fail.
+/// The outputs are those of a run over the inputs that all hosts tell; each task has one winner, and the begins that hosts
+/// tell are its attempts.
+pub fn run_stages<R: Threads + Sync, H: Host + Send>(
+    rt: &R,
+    alloc: Global,
+    stages: &Stages,
+    hosts: &mut [H],
+    limit: u32,
+) -> Result<Ran, StagesFault>
+    requires hosts { (0 < length hosts.old) × (length hosts.old ≤ 256) }
+    requires limit { (0 < limit) × (limit ≤ 16) }
+    requires some { 0 < (staged stages.now).sizing.reducers }
+    requires staged { HaveStages (staged stages.now).plan }
+    requires few { HaveFewTasks (staged stages.now) }
+    requires sizes { TellSizes (staged stages.now) (map H.inputs hosts.old) }
+    ensures run { IfOk result (λ ran. HasRunAll (staged stages.now)
+        (map H.inputs hosts.old) (outs_of ran.outs)) }
+    ensures won { IfOk result (λ ran. AreWon (staged stages.now) ran.ends
+        (length (heads (staged stages.now).plan))) }
+    ensures begun { MatchResult result
+        (λ ran. WavesBegun 0 ran.ends
+        (crew_tells (map H.faults hosts.old) (map H.begun hosts.old))
+        (crew_tells (map H.faults hosts.new) (map H.begun hosts.new)))
+        (FaultBegun (staged stages.now)
+        (crew_tells (map H.faults hosts.old) (map H.begun hosts.old))
+        (crew_tells (map H.faults hosts.new) (map H.begun hosts.new))) }
+    ensures failed { IfErr result (HasFailedAt limit (staged stages.now)) }
+    ensures failures { IfErr result (λ fault. sum_by H.faults hosts.old + failures_shown fault
+        ≤ sum_by H.faults hosts.new) }
+    ensures complete { sum_by H.faults hosts.new < sum_by H.faults hosts.old + limit
+        → IfErr result (λ fault. fault ≡ OutOfMemory) }
+    ensures inputs { map H.inputs hosts.new ≡ map H.inputs hosts.old }
+    ensures later { sum_by H.faults hosts.old ≤ sum_by H.faults hosts.new }
+{
+    let _nodes = stages.plan().nodes();
+    let mut ran = Ran {
+        outs: Outs::new(alloc),
+        ends: Seq::new(alloc),
+    };
+    for wave in 0..stages.waves() {
+        run_one(rt, alloc, stages, wave, &mut ran, hosts, limit)?;
+    }
+    Ok(ran)
+}
+
+// One wave behind those that ran.
+fn run_one<R: Threads + Sync, H: Host + Send>(
+    rt: &R,
+    alloc: Global,
+    stages: &Stages,
+    wave: u32,
+    ran: &mut Ran,
+    hosts: &mut [H],
+    limit: u32,
+) -> Result<(), StagesFault>
+    requires wave { wave < length (heads (staged stages.now).plan) }
+    requires hosts { (0 < length hosts.old) × (length hosts.old ≤ 256) }
+    requires limit { (0 < limit) × (limit ≤ 16) }
+    requires some { 0 < (staged stages.now).sizing.reducers }
+    requires valid { IsPlan (staged stages.now).plan }
+    requires staged { HaveStages (staged stages.now).plan }
+    requires few { HaveFewTasks (staged stages.now) }
+    requires sizes { TellSizes (staged stages.now) (map H.inputs hosts.old) }
+    requires run { HasRunTo (staged stages.now) (map H.inputs hosts.old)
+        (outs_of ran.old.outs) wave }
+    requires won { AreWon (staged stages.now) ran.old.ends wave }
+    ensures run { OnOk result (HasRunTo (staged stages.now) (map H.inputs hosts.old)
+        (outs_of ran.new.outs) (wave + 1)) }
+    ensures won { OnOk result (AreWon (staged stages.now) ran.new.ends (wave + 1)) }
+    ensures begun { MatchResult result
+        (λ _. IsBegunNext wave ran.old.ends ran.new.ends
+        (crew_tells (map H.faults hosts.old) (map H.begun hosts.old))
+        (crew_tells (map H.faults hosts.new) (map H.begun hosts.new)))
+        (FaultNext wave
+        (crew_tells (map H.faults hosts.old) (map H.begun hosts.old))
+        (crew_tells (map H.faults hosts.new) (map H.begun hosts.new))) }
+    ensures failed { IfErr result (HasFailedAt limit (staged stages.now)) }
+    ensures failures { IfErr result (λ fault. sum_by H.faults hosts.old + failures_shown fault
+        ≤ sum_by H.faults hosts.new) }
+    ensures complete { sum_by H.faults hosts.new < sum_by H.faults hosts.old + limit
+        → IfErr result (λ fault. fault ≡ OutOfMemory) }
+    ensures inputs { map H.inputs hosts.new ≡ map H.inputs hosts.old }
+    ensures later { sum_by H.faults hosts.old ≤ sum_by H.faults hosts.new }
+{
+    waves_find_what_they_name();
+    waves_read_told_inputs();
+    run_laws();
+    let ended = run_stage(rt, alloc, stages, wave, &ran.outs, hosts, limit);
+    let WaveEnd { outs, end, .. } = match ended {
+        Ok(ended) => ended,
+        Err(fault) => return Err(stages_fault(fault, wave)),
+    };
+    let outs = between(alloc, stages, wave, outs)?;
+    ran.outs.push(outs)?;
+    ran.ends.push(end)?;
+    Ok(())
+}

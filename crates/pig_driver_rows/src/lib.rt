@@ -1,0 +1,15 @@
+//! Plans run by tasks, beside what they mean. It has tests alone.
+#![tactic(auto)]
+
+#[cfg(test)]
+mod cases;
+#[cfg(test)]
+mod comparing;
+#[cfg(test)]
+mod host;
+#[cfg(test)]
+mod plans;
+#[cfg(test)]
+mod running;
+#[cfg(test)]
+mod setting;
