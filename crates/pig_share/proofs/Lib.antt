@@ -1,0 +1,11 @@
+pub mod Moved
+pub mod Shares
+pub mod Living
+pub mod Limits
+pub mod Meaning
+pub mod Once
+pub mod SameLaws
+pub mod Ends
+pub mod Steps
+pub mod Finding
+mod Samples

@@ -1,0 +1,52 @@
+-- Nodes that do the same become one: the first of them takes the place of the others, wherever these are named.
+use Rattle.std.specs.Prelude.{◌≡◌, ◌≤◌, ℕ, Bool, true, false, not, map, Some, slice_get}
+use Rattle.pig_plan.specs.Nodes.{is_live, is_sorted}
+use Rattle.pig_plan.specs.Plans.{Plan, PlanNode, PlanOp, p_limit, p_store, p_assert}
+use Rattle.pig_plan.specs.Renumbered.{rename}
+use Rattle.pig_plan.specs.Rewrites.{SameMeaning}
+use Rattle.pig_plan.specs.Valid.{IsPlan}
+
+-- A bare LIMIT keeps the rows of its own statement, an ASSERT fails and a STORE stores as its own: each of them stays.
+abbrev pub is_apart : (ℕ → Bool) → PlanOp → Bool
+is_apart sorted (p_limit input count) = not (sorted input)
+is_apart sorted (p_store input path delim) = true
+is_apart sorted (p_assert input cond message) = true
+is_apart sorted o = false
+
+-- the node over inputs at other numbers, with its statement
+abbrev pub renamed : (ℕ → ℕ) → PlanNode → PlanNode
+renamed at node = record { op = rename at node.op; statement = node.statement }
+
+-- What the node numbered k of a plan is named by once inputs are mapped: the number of a node that does the same to the same inputs,
+-- which is live where this one is, stands no later, and is this one where it stays apart.
+pub record IsNamedBy (p : Plan) (at : ℕ → ℕ) (k : ℕ) (v : PlanNode) : Type 0 where
+  pub first : PlanNode
+  pub stands : slice_get p (at k) ≡ Some first
+  pub same : rename at first.op ≡ rename at v.op
+  pub lives : is_live p k ≡ true → is_live p (at k) ≡ true
+  pub early : at k ≤ k
+  pub apart : is_apart (is_sorted p) v.op ≡ true → at k ≡ k
+  pub free : is_apart (is_sorted p) v.op ≡ false → is_apart (is_sorted p) first.op ≡ false
+
+-- of live nodes that do the same to the same inputs, all are named by one
+abbrev pub IsOne : Plan → (ℕ → ℕ) → Type 0
+IsOne p at = (j k : ℕ) (v w : PlanNode) → slice_get p j ≡ Some v → slice_get p k ≡ Some w → is_live p j ≡ true → is_live p k ≡ true
+    → is_apart (is_sorted p) v.op ≡ false → is_apart (is_sorted p) w.op ≡ false → rename at v.op ≡ rename at w.op → at j ≡ at k
+
+-- The shared plan has each node at its number, with its statement, over the first nodes that do what its inputs do. What is named no more is
+-- dead.
+pub record IsShared (p q : Plan) (at : ℕ → ℕ) : Type 0 where
+  pub nodes : q ≡ map (renamed at) p
+  pub named : (k : ℕ) (v : PlanNode) → slice_get p k ≡ Some v → IsNamedBy p at k v
+  pub one : IsOne p at
+
+-- no two live nodes do the same to the same inputs, but for those that stay apart
+abbrev pub EachIsOnce : Plan → Type 0
+EachIsOnce q = (j k : ℕ) (v w : PlanNode) → slice_get q j ≡ Some v → slice_get q k ≡ Some w → is_live q j ≡ true → is_live q k ≡ true
+    → is_apart (is_sorted q) v.op ≡ false → v.op ≡ w.op → j ≡ k
+
+abbrev pub SharedPlansMeanTheSame : Type 0
+SharedPlansMeanTheSame = (p q : Plan) (at : ℕ → ℕ) → IsPlan p → IsPlan q → IsShared p q at → SameMeaning p q
+
+abbrev pub SharedNodesAreOnce : Type 0
+SharedNodesAreOnce = (p q : Plan) (at : ℕ → ℕ) → IsPlan p → IsPlan q → IsShared p q at → EachIsOnce q

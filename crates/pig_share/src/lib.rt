@@ -1,0 +1,14 @@
+//! Two nodes of a plan that do the same to the same inputs become one.
+#![tactic(auto)]
+
+mod blocks;
+mod exprs;
+mod kinds;
+mod laws;
+mod ops;
+mod renaming;
+mod sharing;
+mod sorted;
+
+pub use laws::{shared_nodes_are_once, shared_plans_mean_the_same};
+pub use sharing::share;

@@ -1,0 +1,220 @@
+ghost use Rattle.std.specs.Prelude.{◌≡◌, ◌<◌, ◌+◌, ◌&&◌, ◌++◌, ◌∷◌, [], not, IsTrue, IfOk, OnOk, Some, false, length, slice_get, get_or};
+ghost use Rattle.pig_plan.specs.Nodes.{is_live, is_sorted, live_marks as live_list};
+ghost use Rattle.pig_plan.specs.Plans.{PlanNode, node_of, plan_of};
+ghost use Rattle.pig_plan.specs.Results.{at_place};
+ghost use Rattle.pig_plan.specs.Rewrites.{SameMeaning};
+ghost use Rattle.pig_plan.specs.Valid.{IsPlan};
+ghost use Rattle.pig_share.specs.Shared.{EachIsOnce, is_apart};
+ghost use Rattle.pig_share.specs.Same.{columns_of, same_op};
+ghost use Rattle.pig_share.specs.Table.{DoesSame, IsFound, IsRenamedAt, IsSoFar, Shares, sorted_list};
+
+use crate::ops::is_same_op;
+use crate::renaming::{number_at, renamed_node};
+use crate::sorted::{sorted_nodes, stays_apart};
+use pig_plan::{Node, Plan, live_marks};
+use std::alloc::{AllocError, Global};
+
+/// A plan of the same meaning in which no two live nodes do the same to the same inputs. Bare LIMITs stay apart, since each
+/// keeps the rows of its own statement, and so do STOREs and ASSERTs. Each node stays at its number, with its statement;
+/// the first of those that do the same is named in the place of the others, which are dead then.
+pub fn share(alloc: Global, plan: Plan) -> Result<Plan, AllocError>
+    ensures means { IfOk result (λ q. SameMeaning (plan_of plan) (plan_of q)) }
+    ensures once { IfOk result (λ q. EachIsOnce (plan_of q)) }
+    ensures shares { IfOk result (λ q. Shares (plan_of plan) (plan_of q)) }
+{
+    let shared = share_nodes(alloc, &plan);
+    drop(plan);
+    shared
+}
+
+fn share_nodes(alloc: Global, plan: &Plan) -> Result<Plan, AllocError>
+    ensures means { IfOk result (λ q. SameMeaning (plan_of plan.now) (plan_of q)) }
+    ensures once { IfOk result (λ q. EachIsOnce (plan_of q)) }
+    ensures shares { IfOk result (λ q. Shares (plan_of plan.now) (plan_of q)) }
+{
+    let live = live_marks(alloc, plan)?;
+    let nodes = plan.nodes().as_slice();
+    let sorted = sorted_nodes(alloc, nodes)?;
+    let mut made = Plan::empty(alloc);
+    let mut table = Vec::new(alloc);
+    for own in 0..number_of_nodes(nodes)? {
+        share_next(
+            alloc,
+            nodes,
+            live.as_slice(),
+            sorted.as_slice(),
+            own,
+            &mut table,
+            &mut made,
+        )?;
+    }
+    known_plan(&made);
+    Ok(made)
+}
+
+/// How many nodes there are, as a number of a node.
+fn number_of_nodes(nodes: &[Node]) -> Result<u32, AllocError>
+    ensures { IfOk result (λ n. n ≡ length nodes.now) }
+{
+    u32::try_from(nodes.len()).map_err(|_| AllocError)
+}
+
+/// Names the next node, and adds it over the inputs that stand for its own.
+fn share_next(
+    alloc: Global,
+    nodes: &[Node],
+    live: &[bool],
+    sorted: &[bool],
+    own: u32,
+    table: &mut Vec<u32>,
+    made: &mut Plan,
+) -> Result<(), AllocError>
+    requires valid { IsPlan (plan_of nodes.now) }
+    requires live { live.now ≡ live_list (plan_of nodes.now) }
+    requires sorted { sorted.now ≡ sorted_list (plan_of nodes.now) }
+    requires within { own < length nodes.now }
+    requires so_far { IsSoFar (plan_of nodes.now) table.old.items (plan_of made.old) own }
+    ensures { OnOk result
+        (IsSoFar (plan_of nodes.now) table.new.items (plan_of made.new) (own + 1)) }
+{
+    let node = renamed_at(alloc, nodes, own, table.as_slice())?;
+    let earlier = made.nodes().as_slice();
+    let number = number_of(nodes, live, sorted, table.as_slice(), earlier, &node, own);
+    table.push(number)?;
+    push_node(made, node)?;
+    Ok(())
+}
+
+/// The node at a place over the inputs that a table has in the place of its own.
+fn renamed_at(alloc: Global, nodes: &[Node], own: u32, table: &[u32]) -> Result<Node, AllocError>
+    ensures { IfOk result (λ c. IsRenamedAt (plan_of nodes.now) table.now own (node_of c)) }
+{
+    match nodes.get(own as usize) {
+        Some(node) => renamed_node(alloc, node, table),
+        None => Err(AllocError),
+    }
+}
+
+/// The number by which a node is named: that of the first node before it that does the same, or its own.
+fn number_of(
+    nodes: &[Node],
+    live: &[bool],
+    sorted: &[bool],
+    table: &[u32],
+    made: &[Node],
+    node: &Node,
+    own: u32,
+) -> u32
+    requires live { live.now ≡ live_list (plan_of nodes.now) }
+    requires sorted { sorted.now ≡ sorted_list (plan_of nodes.now) }
+    requires within { own < length nodes.now }
+    requires so_far { IsSoFar (plan_of nodes.now) table.now (plan_of made.now) own }
+    requires node { IsRenamedAt (plan_of nodes.now) table.now own (node_of node.now) }
+    ensures { IsFound (plan_of nodes.now) table.now own result }
+{
+    for j in 0..own {
+        if does_same(nodes, live, sorted, table, made, node, own, j) {
+            return number_at(table, j);
+        }
+    }
+    own
+}
+
+/// Whether the node at a place before another one does the same to the same inputs, and may be named in its place.
+fn does_same(
+    nodes: &[Node],
+    live: &[bool],
+    sorted: &[bool],
+    table: &[u32],
+    made: &[Node],
+    node: &Node,
+    own: u32,
+    place: u32,
+) -> bool
+    requires live { live.now ≡ live_list (plan_of nodes.now) }
+    requires sorted { sorted.now ≡ sorted_list (plan_of nodes.now) }
+    requires within { own < length nodes.now }
+    requires before { place < own }
+    requires so_far { IsSoFar (plan_of nodes.now) table.now (plan_of made.now) own }
+    requires node { IsRenamedAt (plan_of nodes.now) table.now own (node_of node.now) }
+    ensures yes { IsTrue result → DoesSame (plan_of nodes.now) table.now own place }
+    ensures no { DoesSame (plan_of nodes.now) table.now own place → IsTrue result }
+{
+    let this_open = is_open(nodes, live, sorted, own);
+    let open = is_open(nodes, live, sorted, place);
+    let same = is_same_at(made, place, node);
+    are_all(this_open, open, same)
+}
+
+/// Whether a node is live and does not stay apart.
+fn is_open(nodes: &[Node], live: &[bool], sorted: &[bool], place: u32) -> bool
+    requires live { live.now ≡ live_list (plan_of nodes.now) }
+    requires sorted { sorted.now ≡ sorted_list (plan_of nodes.now) }
+    ensures { (v : PlanNode) → slice_get (plan_of nodes.now) place ≡ Some v
+        → result ≡ (is_live (plan_of nodes.now) place
+        && not (is_apart (is_sorted (plan_of nodes.now)) v.op)) }
+{
+    is_live_and_free(mark_at(live, place), is_apart_at(nodes, sorted, place))
+}
+
+fn is_apart_at(nodes: &[Node], sorted: &[bool], place: u32) -> bool
+    ensures { (v : PlanNode) → slice_get (plan_of nodes.now) place ≡ Some v
+        → result ≡ is_apart (at_place false sorted.now) v.op }
+{
+    match nodes.get(place as usize) {
+        Some(node) => stays_apart(&node.op, sorted),
+        None => false,
+    }
+}
+
+fn is_live_and_free(live: bool, apart: bool) -> bool
+    ensures { result ≡ (live && not apart) }
+{
+    live && !apart
+}
+
+fn are_all(a: bool, b: bool, c: bool) -> bool
+    ensures { result ≡ ((a && b) && c) }
+{
+    (a && b) && c
+}
+
+fn mark_at(marks: &[bool], place: u32) -> bool
+    ensures { result ≡ get_or marks.now place false }
+{
+    match marks.get(place as usize) {
+        Some(mark) => *mark,
+        None => false,
+    }
+}
+
+/// Whether the node at a place has the same operator as another one.
+fn is_same_at(made: &[Node], place: u32, node: &Node) -> bool
+    ensures test { (u : PlanNode) → slice_get (plan_of made.now) place ≡ Some u
+        → result ≡ same_op u.op (node_of node.now).op }
+    ensures columns { (u : PlanNode) → slice_get (plan_of made.now) place ≡ Some u
+        → IsTrue result → columns_of u.op ≡ columns_of (node_of node.now).op }
+{
+    match made.get(place as usize) {
+        Some(found) => is_same_op(&found.op, &node.op),
+        None => false,
+    }
+}
+
+/// Adds a node, which fits, since the plan is valid that it comes from.
+fn push_node(made: &mut Plan, node: Node) -> Result<(), AllocError>
+    ensures { OnOk result (plan_of made.new ≡ plan_of made.old ++ node_of node ∷ []) }
+{
+    if !made.fits(&node)? {
+        return Err(AllocError);
+    }
+    made.add(node)?;
+    Ok(())
+}
+
+/// A plan is valid.
+fn known_plan(plan: &Plan)
+    ensures { IsPlan (plan_of plan.now) }
+{
+    plan.nodes();
+}

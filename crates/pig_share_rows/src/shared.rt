@@ -1,0 +1,170 @@
+// Plans, and what is live of them once nodes are shared. Where memory is wanting the process ends: that drops nothing, so its proof is
+// short. Trees end by `drop`: one call is cheap to prove, and a tree that dies by name is taken apart variant by variant.
+use pig_plan::{Node, NodeOp, Plan, live_numbers};
+use pig_share::share;
+use pig_typed::{SortKey, SortKeys, TExpr};
+use pig_value::{Column, Columns, Delim, Dir, Kind, Numbers, Seq, Text};
+use std::alloc::Global;
+use std::process::Abort;
+
+/// Adds to a list.
+fn push<R: Abort, T: Drop>(rt: &R, list: &mut Seq<T>, item: T) {
+    list.push(item).expect(rt, "memory");
+}
+
+/// Adds to a text.
+fn add<R: Abort>(rt: &R, into: &mut String, text: &str) {
+    into.push_str(text).expect(rt, "memory");
+}
+
+/// The number that a digit is.
+fn digit(byte: u8) -> u32 {
+    u32::from(byte.saturating_sub(b'0'))
+}
+
+/// The numbers that digits are.
+fn digits<R: Abort>(rt: &R, alloc: Global, bytes: &[u8]) -> Numbers {
+    let mut numbers = Numbers::new(alloc);
+    for byte in bytes {
+        push(rt, &mut numbers, digit(*byte));
+    }
+    numbers
+}
+
+/// A LOAD of one chararray.
+fn load<R: Abort>(rt: &R, alloc: Global, path: &str) -> NodeOp {
+    let mut columns = Columns::new(alloc);
+    let (position, kind) = (0, Kind::Chararray);
+    push(rt, &mut columns, Column { position, kind });
+    NodeOp::Load {
+        path: Text::from_str(alloc, path).expect(rt, "memory"),
+        delim: Delim::tab(),
+        columns,
+    }
+}
+
+fn store<R: Abort>(rt: &R, alloc: Global, input: u32, path: &str) -> NodeOp {
+    NodeOp::Store {
+        input,
+        path: Text::from_str(alloc, path).expect(rt, "memory"),
+        delim: Delim::tab(),
+    }
+}
+
+/// The first field, ascending.
+fn by_first<R: Abort>(rt: &R, alloc: Global) -> SortKeys {
+    let mut keys = SortKeys::new(alloc);
+    let (position, dir) = (0, Dir::Asc);
+    push(rt, &mut keys, SortKey { position, dir });
+    keys
+}
+
+/// The node of a word: a letter, and the path, the digits of the inputs, or both: `La`, `f0`, `u001`, `d3`, `l0`, `a1`, `o2`,
+/// `s4p`.
+fn op<R: Abort>(rt: &R, alloc: Global, word: &str) -> NodeOp {
+    let (letter, rest) = match word.as_bytes() {
+        [letter, rest @ ..] => (*letter, rest),
+        [] => (b'L', word.as_bytes()),
+    };
+    let input = match rest {
+        [input, ..] => digit(*input),
+        [] => 0,
+    };
+    match letter {
+        b'f' => NodeOp::Filter {
+            input,
+            cond: TExpr::Bool(true),
+        },
+        b'u' => NodeOp::Union {
+            inputs: digits(rt, alloc, rest),
+        },
+        b'd' => NodeOp::Distinct { input },
+        b'a' => NodeOp::Assert {
+            input,
+            cond: TExpr::Bool(true),
+            message: None,
+        },
+        b'o' => NodeOp::Order {
+            input,
+            keys: by_first(rt, alloc),
+        },
+        b'l' => NodeOp::Limit { input, count: 1 },
+        b's' => store(
+            rt,
+            alloc,
+            input,
+            if rest.ends_with(b"p") { "p" } else { "q" },
+        ),
+        _ => load(rt, alloc, word.strip_prefix("L").unwrap_or("c")),
+    }
+}
+
+/// The plan of words, each a node.
+fn plan<R: Abort>(rt: &R, alloc: Global, words: &str) -> Plan {
+    let mut plan = Plan::empty(alloc);
+    let mut statement = 1;
+    for word in words.split(' ') {
+        let op = op(rt, alloc, word);
+        add_fitting(rt, &mut plan, Node { op, statement });
+        statement = if statement < 99 { statement + 1 } else { 99 };
+    }
+    plan
+}
+
+fn add_fitting<R: Abort>(rt: &R, plan: &mut Plan, node: Node) {
+    let Ok(fits) = plan.fits(&node) else {
+        panic!(rt; "memory");
+    };
+    if fits {
+        plan.add(node).expect(rt, "memory");
+    } else {
+        drop(node);
+    }
+}
+
+/// A live node: its number, and those of its inputs.
+fn node_told<R: Abort>(rt: &R, alloc: Global, into: &mut String, plan: &Plan, number: usize) {
+    let own = format!(in alloc; " {number}").expect(rt, "memory");
+    add(rt, into, own.as_str());
+    if let Some(node) = plan.nodes().get(number) {
+        let inputs = node.op.inputs(alloc).expect(rt, "memory");
+        for input in inputs.as_slice() {
+            let named = format!(in alloc; ".{input}").expect(rt, "memory");
+            add(rt, into, named.as_str());
+        }
+    }
+}
+
+/// The live nodes of the shared plan.
+fn told<R: Abort>(rt: &R, alloc: Global, words: &str) -> String {
+    let shared = share(alloc, plan(rt, alloc, words)).expect(rt, "memory");
+    let live = live_numbers(alloc, &shared).expect(rt, "memory");
+    let mut told = String::new(alloc);
+    for number in live.as_slice() {
+        node_told(rt, alloc, &mut told, &shared, *number);
+    }
+    drop(shared);
+    told
+}
+
+// The words of a plan, and the live nodes once they are shared.
+const TOLD: &str = "La s0p: 0 1.0
+La La u01 s2p: 0 2.0.0 3.2
+La Lb u01 s2p: 0 1 2.0.1 3.2
+La La f0 f1 u23 s4p: 0 2.0 4.2.2 5.4
+La f0 d0 f0 u123 s4p: 0 1.0 2.0 4.1.2.1 5.4
+La l0 l0 u12 s3p: 0 1.0 2.0 3.1.2 4.3
+La o0 o0 l1 l2 u34 s5p: 0 1.0 3.1 5.3.3 6.5
+La a0 a0 u12 s3p: 0 1.0 2.0 3.1.2 4.3
+La La s0p s1q: 0 2.0 3.0
+La f0 s0p: 0 2.0
+";
+
+#[test]
+fn what_is_shared(rt: HostRuntime) {
+    for line in TOLD.lines() {
+        let (words, want) = line.split_once(':').unwrap_or((line, ""));
+        let got = told(&rt, rt.alloc(), words);
+        assert_eq!(rt; got.as_str(), want, "at {words}");
+    }
+}
