@@ -399,13 +399,19 @@ module _ (law : SortedCombinersLaw) (s : Stages) (inputs : List Input) (kept : L
         (limit_keeps s inputs points outs run some k input count own (stands_at s k (p_limit input count) own alive refl refl) bare));
   }
 
-  -- what comes to a STORE answers for it
+  -- what comes to a STORE answers for the relation that it stores
   pub store_answers : (k statement input delim : ℕ) (path : List ℕ) → slice_get s.plan k ≡ Some (node (p_store input path delim) statement) → is_live s.plan k ≡ true
-      → AnswersFor s.plan inputs kept k (rows k)
+      → AnswersFor s.plan inputs kept input (rows k)
   store_answers k statement input delim path at alive =
-      let none = none_folds_at s.plan k (p_store input path delim) (ap (option_map (λ n. n.op)) at) refl in
-      let is = rows_meant k alive in
-      record { bag = is.bag none; list = is.list none }
+      let v : PlanNode = node (p_store input path delim) statement in
+      let itself : (input == input) ≡ true = eq-eqb input input refl in
+      let named : names v.op input ≡ true = ap (λ t. t || false) itself in
+      let below : input < k = (names_lower s.plan valid k v at).0 in
+      let found = some_at s.plan input (let short = slice_get_within s.plan k v at in omega (arith, below, short)) in
+      let is = rows_meant input (live_input s.plan k v at alive input below found.0 found.1 named) in
+      let unfolded = no_other k v at alive (λ i less live_too. rows_meant i live_too) refl input named in
+      let come : rows k ≡ rows input = rows_step (folds s.plan) s.plan (rows_of_parts s inputs outs) valid k v at refl ∙ append-nil (rows input) in
+      record { bag = ap bag_of come ∙ is.bag unfolded; list = λ listed. come ∙ is.list unfolded listed }
 
   -- and to an ASSERT come its input's rows
   pub assert_rows : (k statement input : ℕ) (test : Typed) (message : Option (List ℕ)) → slice_get s.plan k ≡ Some (node (p_assert input test message) statement) → is_live s.plan k ≡ true

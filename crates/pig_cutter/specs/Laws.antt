@@ -29,12 +29,12 @@ pub record Answers (plan : Plan) (inputs : List Input) (kept : List Kept) (k : �
   pub folded : (block : TypedBlock) → folds plan k ≡ Some block
       → bag_of rows ≡ bag_of (foreach_all block (meaning plan inputs kept k))
 
--- the bytes of a STORE's parts, joined, are the texts of rows that answer for it, each with a line end: so they store what it
--- means
-pub record StoresAnswer (s : Stages) (inputs : List Input) (kept : List Kept) (outs : Outs) (k delim : ℕ) : Type 0 where
+-- the bytes of a STORE's parts, joined, are the texts of rows that answer for the relation that it stores, each with a line end: so
+-- they store what it means, in its order where it is a list
+pub record StoresAnswer (s : Stages) (inputs : List Input) (kept : List Kept) (outs : Outs) (k relation delim : ℕ) : Type 0 where
   pub rows : List (List Tree)
   pub bytes : bytes_given s outs k ≡ rows_text delim rows
-  pub answers : AnswersFor s.plan inputs kept k rows
+  pub answers : AnswersFor s.plan inputs kept relation rows
 
 -- nodes by their operators
 abbrev pub stores_at : ℕ → List ℕ → ℕ → ℕ → PlanNode
@@ -51,7 +51,7 @@ pub record GiveMeaning (s : Stages) (inputs : List Input) (kept : List Kept) (ou
       → slice_get s.plan k ≡ Some node → is_live s.plan k ≡ true → is_boundary node.op ≡ true
       → Answers s.plan inputs kept k (rows_given s.plan outs k node.op)
   pub stores : (k statement input delim : ℕ) (path : List ℕ)
-      → slice_get s.plan k ≡ Some (stores_at input path delim statement) → StoresAnswer s inputs kept outs k delim
+      → slice_get s.plan k ≡ Some (stores_at input path delim statement) → StoresAnswer s inputs kept outs k input delim
   pub asserts : (k statement input : ℕ) (cond : Typed) (message : Option (List ℕ))
       → slice_get s.plan k ≡ Some (asserts_at input cond message statement) → is_live s.plan k ≡ true
       → list_any (λ n. n == statement) (all_unmet outs)

@@ -1,6 +1,6 @@
 -- Waves whose begins hosts tell, and one more behind them.
 use Rattle.std.specs.Prelude.{◌≡◌, ◌+◌, ℕ, List, [], ◌∷◌, ◌++◌, length, refl}
-use Rattle.std.proofs.Common.{sym, ap, ◌∙◌, arith, subst}
+use Rattle.std.proofs.Common.{sym, arith, subst}
 use Rattle.pig_board.specs.declared.end.TaskEnd.{TaskEnd}
 use Rattle.pig_physical.specs.Stages.{Stages}
 use Rattle.pig_pool.specs.Begins.{CrewTells}
@@ -24,12 +24,7 @@ next_begun s wave olds news x y z won h next =
     let count = won.count in
     subst (λ ends. WavesBegun 0 ends x z) (sym next.pushed) (begun_behind 0 wave olds next.end x y z (omega (arith, count)) h next.begun)
 
-pub fault_begun : (s : Stages) (wave : ℕ) (olds : List (List TaskEnd)) (x y z : CrewTells) (fault : StagesFault) → AreWon s olds wave
-    → WavesBegun 0 olds x y → FaultNext wave y z fault → FaultBegun s x z fault
-fault_begun s wave olds x y z (faults.TaskFailed w task end) won h (same, begun) =
-    let count = won.count in record {
-      ends = olds;
-      won = subst (AreWon s olds) (sym same) won;
-      begun = begun_behind 0 wave olds end x y z (omega (arith, count)) h begun;
-    }
-fault_begun s wave olds x y z faults.OutOfMemory won h next = next
+pub fault_begun : (s : Stages) (wave : ℕ) (olds news : List (List TaskEnd)) (x y z : CrewTells) (fault : StagesFault) → AreWon s olds wave
+    → WavesBegun 0 olds x y → FaultNext wave olds news y z fault → FaultBegun news x z fault
+fault_begun s wave olds news x y z (faults.TaskFailed w task failed) won h next = next_begun s wave olds news x y z won h next
+fault_begun s wave olds news x y z faults.OutOfMemory won h next = next

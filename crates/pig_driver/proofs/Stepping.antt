@@ -33,6 +33,7 @@ use Rattle.pig_physical.specs.declared.waves.WaveKind.TheVariants as kinds
 use Rattle.pig_pool.specs.Wave.{AreOutputs, IsWonWave}
 use Rattle.pig_waves.specs.Laws.{HaveStages}
 use Rattle.pig_work.specs.Working.{HasSources, IsRight, IsRightAt, Tellings}
+use Rattle.pig_driver.specs.Failing.{HaveWon}
 use Rattle.pig_driver.specs.Going.{AllTell, AreValues, AreWon, HasRunAll, HasRunTo, TellSizes}
 use Rattle.pig_driver.specs.Slicing.{AreDirected, AreSliced}
 use Rattle.pig_driver.specs.Sorting.{AreBetween, BetweenBy, wave_sorts}
@@ -225,3 +226,12 @@ one_won s ends w end h own = record {
     of_place : (v : ℕ) (found : List TaskEnd) → slice_get (ends ++ end ∷ []) v ≡ Some found → (v < w) ⊎ (w ≤ v) → IsWonWave (length (tasks_in s v)) found
     of_place v found at (inl less) = (let count = h.count in h.each v found (sym (front_place ends end v (omega (arith, less, count))) ∙ at))
     of_place v found at (inr over) = last v found at over
+
+-- where memory is wanting behind a wave that has won, no other wave has ended
+pub have_won_one : (s : Stages) (ends news : List (List TaskEnd)) (w : ℕ) (end : List TaskEnd) → w < length (heads s.plan) → AreWon s ends w
+    → IsWonWave (length (tasks_in s w)) end → news ≡ ends ++ end ∷ [] → HaveWon s news
+have_won_one s ends news w end within h own pushed = record {
+  waves = w + 1;
+  within = omega (arith, within);
+  won = subst (λ all. AreWon s all (w + 1)) (sym pushed) (one_won s ends w end h own);
+}

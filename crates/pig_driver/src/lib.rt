@@ -8,6 +8,6 @@ mod slicing;
 mod staging;
 
 pub use laws::{few_tasks_fit, waves_find_what_they_name, waves_read_told_inputs};
-pub use running::{Ran, StagesFault, run_stages};
+pub use running::{JobEnds, StagesFault, run_stages};
 pub use slicing::slice_outputs;
 pub use staging::have_stages;

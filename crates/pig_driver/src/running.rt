@@ -1,15 +1,16 @@
 //! All waves of stages, one after the other.
-ghost use Rattle.std.specs.Prelude.{◌≡◌, ◌<◌, ◌≤◌, ◌+◌, length, map, sum_by, IfErr, IfOk, MatchResult, OnOk};
+ghost use Rattle.std.specs.Prelude.{◌≡◌, ◌<◌, ◌≤◌, ◌+◌, [], length, map, sum_by, IfErr, IfOk, MatchResult, OnOk};
 ghost use Rattle.pig_plan.specs.Valid.{IsPlan};
 ghost use Rattle.pig_physical.specs.Handed.{outs_of};
 ghost use Rattle.pig_physical.specs.Seen.{staged};
 ghost use Rattle.pig_physical.specs.Stages.{heads};
 ghost use Rattle.pig_pool.specs.Begins.{crew_tells};
+ghost use Rattle.pig_pool.specs.Wave.{failures_in};
 ghost use Rattle.pig_waves.specs.Laws.{HaveStages};
 ghost use Rattle.pig_driver.specs.Begun.{FaultBegun, FaultNext, IsBegunNext, WavesBegun};
 ghost use Rattle.pig_driver.specs.Going.{AreWon, HasRunAll, HasRunTo, TellSizes};
 ghost use Rattle.pig_driver.specs.Standing.{HaveFewTasks};
-ghost use Rattle.pig_driver.specs.Failing.{HasFailedAt, failures_shown, fault_at};
+ghost use Rattle.pig_driver.specs.Failing.{HasFailed, IsTaskIn, IsToldAs};
 ghost use Rattle.pig_driver.specs.declared.running.StagesFault.TheVariants.{OutOfMemory};
 
 use crate::between::between;
@@ -24,18 +25,15 @@ use pig_work::run_stage;
 use std::alloc::{AllocError, Global};
 use std::thread::Threads;
 
-/// What the waves of stages gave: the outputs of each, in order, and what stands of its tasks.
-#[derive(Drop)]
-pub struct Ran {
-    pub outs: Outs,
-    pub ends: Seq<JobEnd>,
-}
+/// What stands of the tasks of each wave that ended, in order.
+pub type JobEnds = Seq<JobEnd>;
 
 /// Why stages gave no outputs.
 #[derive(Drop)]
 pub enum StagesFault {
-    /// A wave failed: not every task has a winner, and this one is the least that has failed as often as the limit says.
-    TaskFailed { wave: u32, task: u32, end: JobEnd },
+    /// A wave failed: not every task has a winner, and this one is the least that has failed as
+    /// often as the limit says; `failed` is how often.
+    TaskFailed { wave: u32, task: u32, failed: u32 },
     /// Memory was wanting.
     OutOfMemory,
 }
@@ -51,59 +49,67 @@ impl From<AllocError> for StagesFault {
     }
 }
 
-fn stages_fault(fault: WaveFault, wave: u32) -> StagesFault
-    ensures { result ≡ fault_at wave fault }
+// How a wave's fault is told. The end of a wave that failed stands behind those before it.
+fn stages_fault(wave: u32, fault: WaveFault, ends: &mut JobEnds) -> StagesFault
+    requires { IsTaskIn fault }
+    ensures { IsToldAs wave fault ends.old ends.new result }
 {
     match fault {
-        WaveFault::TaskFailed { task, end } => StagesFault::TaskFailed { wave, task, end },
+        WaveFault::TaskFailed { task, end } => {
+            let failed = end.task(task).failed;
+            match ends.push(end) {
+                Ok(()) => StagesFault::TaskFailed { wave, task, failed },
+                Err(AllocError) => StagesFault::OutOfMemory,
+            }
+        }
         WaveFault::OutOfMemory => StagesFault::OutOfMemory,
     }
 }
 
-/// Runs the waves of stages on hosts, one after the other: each on all hosts, with as many attempts of a task as may fail.
-/// The outputs are those of a run over the inputs that all hosts tell; each task has one winner, and the begins that hosts
-/// tell are its attempts.
+/// Runs the waves of stages on hosts, one after the other: each on all hosts, with as many attempts
+/// of a task as may fail. The outputs are those of a run over the inputs that all hosts tell; each
+/// task has one winner, and the begins that hosts tell are its attempts. `ends` is left with the
+/// end of each wave that has won, and behind them that of the wave that failed.
 pub fn run_stages<R: Threads + Sync, H: Host + Send>(
     rt: &R,
     alloc: Global,
     stages: &Stages,
     hosts: &mut [H],
     limit: u32,
-) -> Result<Ran, StagesFault>
+    ends: &mut JobEnds,
+) -> Result<Outs, StagesFault>
     requires hosts { (0 < length hosts.old) × (length hosts.old ≤ 256) }
     requires limit { (0 < limit) × (limit ≤ 16) }
     requires some { 0 < (staged stages.now).sizing.reducers }
     requires staged { HaveStages (staged stages.now).plan }
     requires few { HaveFewTasks (staged stages.now) }
     requires sizes { TellSizes (staged stages.now) (map H.inputs hosts.old) }
-    ensures run { IfOk result (λ ran. HasRunAll (staged stages.now)
-        (map H.inputs hosts.old) (outs_of ran.outs)) }
-    ensures won { IfOk result (λ ran. AreWon (staged stages.now) ran.ends
+    requires none { ends.old ≡ [] }
+    ensures run { IfOk result (λ outs. HasRunAll (staged stages.now)
+        (map H.inputs hosts.old) (outs_of outs)) }
+    ensures won { IfOk result (λ _. AreWon (staged stages.now) ends.new
         (length (heads (staged stages.now).plan))) }
     ensures begun { MatchResult result
-        (λ ran. WavesBegun 0 ran.ends
+        (λ _. WavesBegun 0 ends.new
         (crew_tells (map H.faults hosts.old) (map H.begun hosts.old))
         (crew_tells (map H.faults hosts.new) (map H.begun hosts.new)))
-        (FaultBegun (staged stages.now)
+        (FaultBegun ends.new
         (crew_tells (map H.faults hosts.old) (map H.begun hosts.old))
         (crew_tells (map H.faults hosts.new) (map H.begun hosts.new))) }
-    ensures failed { IfErr result (HasFailedAt limit (staged stages.now)) }
-    ensures failures { IfErr result (λ fault. sum_by H.faults hosts.old + failures_shown fault
-        ≤ sum_by H.faults hosts.new) }
+    ensures failed { IfErr result (HasFailed limit (staged stages.now) ends.new) }
+    ensures failures { sum_by H.faults hosts.old + sum_by failures_in ends.new
+        ≤ sum_by H.faults hosts.new }
     ensures complete { sum_by H.faults hosts.new < sum_by H.faults hosts.old + limit
         → IfErr result (λ fault. fault ≡ OutOfMemory) }
     ensures inputs { map H.inputs hosts.new ≡ map H.inputs hosts.old }
     ensures later { sum_by H.faults hosts.old ≤ sum_by H.faults hosts.new }
 {
     let _nodes = stages.plan().nodes();
-    let mut ran = Ran {
-        outs: Outs::new(alloc),
-        ends: Seq::new(alloc),
-    };
+    let mut outs = Outs::new(alloc);
     for wave in 0..stages.waves() {
-        run_one(rt, alloc, stages, wave, &mut ran, hosts, limit)?;
+        run_one(rt, alloc, stages, wave, hosts, limit, &mut outs, ends)?;
     }
-    Ok(ran)
+    Ok(outs)
 }
 
 // One wave behind those that ran.
@@ -112,9 +118,10 @@ fn run_one<R: Threads + Sync, H: Host + Send>(
     alloc: Global,
     stages: &Stages,
     wave: u32,
-    ran: &mut Ran,
     hosts: &mut [H],
     limit: u32,
+    outs: &mut Outs,
+    ends: &mut JobEnds,
 ) -> Result<(), StagesFault>
     requires wave { wave < length (heads (staged stages.now).plan) }
     requires hosts { (0 < length hosts.old) × (length hosts.old ≤ 256) }
@@ -124,22 +131,21 @@ fn run_one<R: Threads + Sync, H: Host + Send>(
     requires staged { HaveStages (staged stages.now).plan }
     requires few { HaveFewTasks (staged stages.now) }
     requires sizes { TellSizes (staged stages.now) (map H.inputs hosts.old) }
-    requires run { HasRunTo (staged stages.now) (map H.inputs hosts.old)
-        (outs_of ran.old.outs) wave }
-    requires won { AreWon (staged stages.now) ran.old.ends wave }
+    requires run { HasRunTo (staged stages.now) (map H.inputs hosts.old) (outs_of outs.old) wave }
+    requires won { AreWon (staged stages.now) ends.old wave }
     ensures run { OnOk result (HasRunTo (staged stages.now) (map H.inputs hosts.old)
-        (outs_of ran.new.outs) (wave + 1)) }
-    ensures won { OnOk result (AreWon (staged stages.now) ran.new.ends (wave + 1)) }
+        (outs_of outs.new) (wave + 1)) }
+    ensures won { OnOk result (AreWon (staged stages.now) ends.new (wave + 1)) }
     ensures begun { MatchResult result
-        (λ _. IsBegunNext wave ran.old.ends ran.new.ends
+        (λ _. IsBegunNext wave ends.old ends.new
         (crew_tells (map H.faults hosts.old) (map H.begun hosts.old))
         (crew_tells (map H.faults hosts.new) (map H.begun hosts.new)))
-        (FaultNext wave
+        (FaultNext wave ends.old ends.new
         (crew_tells (map H.faults hosts.old) (map H.begun hosts.old))
         (crew_tells (map H.faults hosts.new) (map H.begun hosts.new))) }
-    ensures failed { IfErr result (HasFailedAt limit (staged stages.now)) }
-    ensures failures { IfErr result (λ fault. sum_by H.faults hosts.old + failures_shown fault
-        ≤ sum_by H.faults hosts.new) }
+    ensures failed { IfErr result (HasFailed limit (staged stages.now) ends.new) }
+    ensures failures { sum_by H.faults hosts.old + sum_by failures_in ends.new
+        ≤ sum_by H.faults hosts.new + sum_by failures_in ends.old }
     ensures complete { sum_by H.faults hosts.new < sum_by H.faults hosts.old + limit
         → IfErr result (λ fault. fault ≡ OutOfMemory) }
     ensures inputs { map H.inputs hosts.new ≡ map H.inputs hosts.old }
@@ -148,13 +154,17 @@ fn run_one<R: Threads + Sync, H: Host + Send>(
     waves_find_what_they_name();
     waves_read_told_inputs();
     run_laws();
-    let ended = run_stage(rt, alloc, stages, wave, &ran.outs, hosts, limit);
-    let WaveEnd { outs, end, .. } = match ended {
+    let ended = run_stage(rt, alloc, stages, wave, outs, hosts, limit);
+    let WaveEnd {
+        outs: found,
+        end,
+        ..
+    } = match ended {
         Ok(ended) => ended,
-        Err(fault) => return Err(stages_fault(fault, wave)),
+        Err(fault) => return Err(stages_fault(wave, fault, ends)),
     };
-    let outs = between(alloc, stages, wave, outs)?;
-    ran.outs.push(outs)?;
-    ran.ends.push(end)?;
+    ends.push(end)?;
+    let found = between(alloc, stages, wave, found)?;
+    outs.push(found)?;
     Ok(())
 }

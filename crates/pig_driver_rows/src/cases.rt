@@ -137,6 +137,9 @@ fn failing(hosts: u32, fails: &'static [u64]) -> Turn {
 /// The first reads.
 const ALL: &[u64] = &[1, 2, 3, 4, 5, 6, 7, 8, 9, 10, 11, 12];
 
+/// Those behind the first one.
+const LATER: &[u64] = &[2, 3, 4, 5, 6, 7, 8, 9, 10, 11, 12];
+
 /// The reads that fail.
 fn fails(number: u32) -> &'static [u64] {
     match number {
@@ -161,7 +164,14 @@ fn one_failing_host_of_two_changes_nothing(rt: HostRuntime) {
 fn the_only_host_always_fails(rt: HostRuntime) {
     let line = "bag @ i=a d0 s1 @ a|1~2~";
     let got = told(&rt, rt.alloc(), line, failing(1, ALL));
-    assert_eq!(rt; got.as_str(), "wave 0 failed at 0");
+    assert_eq!(rt; got.as_str(), "wave 0 failed at 0, 4 times; 1 ended");
+}
+
+#[test]
+fn the_only_host_fails_after_its_first_read(rt: HostRuntime) {
+    let line = "bag @ i=a i=b d0 d1 s2 s3 @ a|1~2~;b|3~";
+    let got = told(&rt, rt.alloc(), line, failing(1, LATER));
+    assert_eq!(rt; got.as_str(), "wave 2 failed at 0, 4 times; 3 ended");
 }
 
 /// Whether two lines are told, which are two of those that are told behind a line `.`, and again the same.

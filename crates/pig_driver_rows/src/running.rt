@@ -4,7 +4,7 @@ use crate::comparing::{add, settled};
 use crate::host::hosts;
 use crate::setting::sizes;
 use pig_cutter::cut_plan;
-use pig_driver::{Ran, StagesFault, few_tasks_fit, have_stages, run_stages};
+use pig_driver::{JobEnds, StagesFault, few_tasks_fit, have_stages, run_stages};
 use pig_physical::{Out, OutForm, Outs, Stages, Task};
 use pig_plan::Plan;
 use pig_value::{Inputs, OutList};
@@ -42,26 +42,32 @@ pub fn by_tasks<R: Threads + Sync + Abort>(
         panic!(rt; "a number of hosts");
     }
     let stages = cut_plan(alloc, plan, &sizes, turn.reducers, turn.split).expect(rt, "stages");
-    let ran = run_stages(rt, alloc, &stages, hosts.as_mut_slice(), 4);
+    let mut ends = JobEnds::new(alloc);
+    let ran = run_stages(rt, alloc, &stages, hosts.as_mut_slice(), 4, &mut ends);
     drop(hosts);
-    let told = told(rt, alloc, &stages, &ran, listed);
-    drop(ran);
+    let told = told(rt, alloc, &stages, &ran, ends.len(), listed);
+    drop((ran, ends));
     drop(stages);
     drop(sizes);
     told
 }
 
+// What a run gave, of which so many waves ended.
 fn told<R: Abort>(
     rt: &R,
     alloc: Global,
     stages: &Stages,
-    ran: &Result<Ran, StagesFault>,
+    ran: &Result<Outs, StagesFault>,
+    ended: usize,
     listed: bool,
 ) -> String {
     match ran {
-        Ok(ran) => outputs(rt, alloc, stages, &ran.outs, listed),
-        Err(StagesFault::TaskFailed { wave, task, .. }) => {
-            format!(in alloc; "wave {wave} failed at {task}").expect(rt, "memory")
+        Ok(outs) => outputs(rt, alloc, stages, outs, listed),
+        Err(StagesFault::TaskFailed { wave, task, failed }) => {
+            let told = format!(in alloc;
+                "wave {wave} failed at {task}, {failed} times; {ended} ended"
+            );
+            told.expect(rt, "memory")
         }
         Err(StagesFault::OutOfMemory) => String::from_str(alloc, "no memory").expect(rt, "memory"),
     }

@@ -259,7 +259,8 @@ fn merged<'r, R: Abort>(rt: &R, alloc: Global, a: &'r Run, b: &'r Run) -> Merged
     requires a { a.now.dirs ≡ [] }
     requires b { b.now.dirs ≡ [] }
     ensures dirs { result.dirs ≡ [] }
-    ensures first { AreOfFirst a.now.entries → AreOfFirst b.now.entries → AreOfFirst result.entries }
+    ensures first { AreOfFirst a.now.entries → AreOfFirst b.now.entries
+        → AreOfFirst result.entries }
 {
     let parts = [whole_run(a), whole_run(b)];
     merge_lent(alloc, &parts, Dirs::new(alloc)).expect(rt, "memory")

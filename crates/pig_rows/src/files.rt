@@ -1,8 +1,8 @@
-// A run over real files.
-// Trees end by `drop`: one call is cheap to prove, and a tree that dies by name is taken apart variant by variant.
-use crate::setting::words_of;
+// A run over real files. Trees end by `drop`: one call is cheap to prove, and a tree that dies by
+// name is taken apart variant by variant.
 use pig_files::{FileDepot, FileHost, StdConsole};
 use pig_run::{Outcome, pig_main};
+use pig_setting_rows::words_of;
 use std::fs;
 use std::process::Abort;
 use std::rt::Files;
@@ -27,7 +27,7 @@ fn a_run_over_files_stores_its_lines(rt: HostRuntime) {
         "a = LOAD 'p' AS (k:int, v:chararray);\nb = FILTER a BY k > 4;\nSTORE b INTO 'q';\n";
     fs::write(&rt, "s", script).expect(&rt, "the file");
     fs::write(&rt, "p", "1\tx\n5\ty\n\tz\n7\n").expect(&rt, "the file");
-    let words = words_of(&rt, alloc, &["run", "s"]);
+    let words = words_of(alloc, "run s").expect(&rt, "memory");
     let mut depot = FileDepot::new(rt.clone().expect(&rt, "a handle"), alloc);
     let mut hosts = Vec::new(alloc);
     let host = FileHost::new(rt.clone().expect(&rt, "a handle"), alloc);

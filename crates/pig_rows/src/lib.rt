@@ -1,14 +1,12 @@
-//! Worked rows of the whole: scripts, inputs and failing devices, each with what the top call is to answer and
-//! to store. It has tests alone; their values are written by hand from the definitions.
+//! Worked rows of the whole: scripts, inputs and failing devices, each with what the top call is to
+//! answer and to store. It has tests alone; their values are written by hand from the definitions.
 #![tactic(auto)]
 
 #[cfg(test)]
-mod failing;
-#[cfg(test)]
 mod files;
 #[cfg(test)]
-mod runs;
+mod refusals;
 #[cfg(test)]
-mod setting;
+mod runs;
 #[cfg(test)]
 mod words;

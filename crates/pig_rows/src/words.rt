@@ -1,19 +1,11 @@
 //! Commands by hand, and words that are none.
-// Trees end by `drop`: one call is cheap to prove, and a tree that dies by name is taken apart variant by variant.
-use pig_value::{Text, WordFault, Words};
+// Trees end by `drop`: one call is cheap to prove, and a tree that dies by name is taken apart
+// variant by variant.
+use pig_setting_rows::words_of;
+use pig_value::{WordFault, Words};
 use pig_words::{Command, read_words};
 use std::alloc::Global;
 use std::process::Abort;
-
-// The words of a line, with one space between each two.
-fn words<R: Abort>(rt: &R, alloc: Global, line: &str) -> Words {
-    let mut words = Words::new(alloc);
-    for word in line.split(' ') {
-        let text = Text::from_str(alloc, word).expect(rt, "memory");
-        words.push(text).expect(rt, "memory");
-    }
-    words
-}
 
 // The command's verb, operand, workers, reducers, split and attempts.
 fn shown_command<R: Abort>(rt: &R, alloc: Global, command: &Command) -> String {
@@ -190,7 +182,7 @@ fn first_wrong<'t, R: Abort>(rt: &R, alloc: Global, table: &'t str) -> &'t str {
         else {
             return case;
         };
-        let words = words(rt, alloc, line);
+        let words = words_of(alloc, line).expect(rt, "memory");
         let found = shown(rt, alloc, &words, hosts.parse().unwrap_or(0));
         if found.as_str() != wanted {
             return case;

@@ -1,7 +1,7 @@
 -- One thing is due and no other, and for it one list of calls.
-use Rattle.std.proofs.Common.{◌≡◌, ◌^◌, ◌++◌, ℕ, Bool, List, [], ◌∷◌, map, Option, Some, None, refl, sym, ◌∙◌, ap, subst, arith, inl, inr, ◌⊎◌}
-use Rattle.std.specs.List.{find, flat_map, sum_by}
-use Rattle.std.proofs.lemmas.Bool.{cases_lt}
+use Rattle.std.proofs.Common.{◌≡◌, ◌^◌, ◌++◌, ℕ, Bool, List, [], ◌∷◌, map, Option, Some, None, refl, sym, ◌∙◌, ap, subst, arith, inl, inr, ◌⊎◌, true≢false}
+use Rattle.std.specs.List.{find, sum_by}
+use Rattle.std.proofs.lemmas.Bool.{cases_Bool, cases_lt}
 use Rattle.pig_outside.specs.Calls.{DepotCall}
 use Rattle.pig_outside.specs.Shelf.{Shelf, has_dir, script_of}
 use Rattle.pig_outside.specs.declared.failing.Method.{Method}
@@ -15,10 +15,13 @@ use Rattle.pig_words.specs.declared.words.Verb.TheVariants as verbs
 use Rattle.pig_words.proofs.Commands.{one_command}
 use Rattle.pig_words.proofs.Decisions.{command_decided}
 use Rattle.pig_run.specs.declared.outcome.TooLarge.TheVariants as large
-use Rattle.pig_run.specs.Due.{AssertsDue, CommandDue, HasWords, InputsDue, IsBuilt, IsDue, Line, Looks, OutputsDue, PlanStage, RunDue, ScriptDue, SizeDue, Stage, asserts, asserts_none, call, check_due, first_assert, is_missing, no_words, passed, run_due, runs, script_found, script_missing, script_refused, size_of, small, stopped, store_calls, through, too_big, with_words}
-use Rattle.pig_run.specs.Reading.{Faulty, Finding, IsFound, Prints, Refuses, Runs, Typed, Verdict}
+use Rattle.pig_cutter.specs.Limits.{has_too_many}
+use Rattle.pig_run.specs.Due.{CommandDue, HasWords, InputsDue, IsBuilt, IsDue, Line, Looks, OutputsDue, PlanStage, RunDue, ScriptDue, SizeDue, Stage, TasksDue, call, check_due, explain_due, few, is_missing, making_of, no_words, passed, run_due, run_of, runs, script_found, script_missing, script_refused, size_of, small, stages_of, stopped, through, too_big, too_many, with_words}
+use Rattle.pig_run.specs.Reading.{Faulty, Finding, IsFound, Prints, Refuses, Run, Runs, Typed, Verdict}
+use Rattle.pig_keyed.specs.Keyed.{by_key}
+use Rattle.pig_explain.specs.Explained.{explain_text}
 use Rattle.pig_run.specs.Texts.{ok_text}
-use Rattle.pig_run.specs.Refusals.{Refusal, no_command, no_input, no_script, not_run, output_there, too_large}
+use Rattle.pig_run.specs.Refusals.{Refusal, no_command, no_input, no_script, output_there, too_large}
 use Rattle.pig_run.proofs.Readings.{PlanLaws, one_found, some_found}
 
 pub just : {A : Type 0} {x y : A} → Some x ≡ Some y → x ≡ y
@@ -41,7 +44,7 @@ IsSome stage = (a : List DepotCall) × (v : Verdict) × stage a v
 
 verb_built : (v : Verb) → IsBuilt v ⊎ (IsBuilt v → ⊥)
 verb_built verbs.Run = inl tt
-verb_built verbs.Explain = inr (λ e. e)
+verb_built verbs.Explain = inl tt
 verb_built verbs.Check = inl tt
 verb_built verbs.Demo = inr (λ e. e)
 
@@ -63,8 +66,8 @@ not_built line command is other h = other (subst (λ c. IsBuilt c.verb) (same_co
 
 -- ---- stages
 
-one_run : (plan : Plan) → IsOne (RunDue plan)
-one_run plan _ _ _ _ runs runs = (refl, refl)
+one_run : (run : Run) → IsOne (RunDue run)
+one_run run _ _ _ _ runs runs = (refl, refl)
 
 module _ (is_so : List ℕ → Bool) (refusal : List ℕ → Refusal) (m : Method) (paths : List (List ℕ)) (next : Stage) where
   one_looks : IsOne next → IsOne (Looks is_so refusal m paths next)
@@ -82,54 +85,59 @@ module _ (is_so : List ℕ → Bool) (refusal : List ℕ → Refusal) (m : Metho
       by_find None e = (map (call m) paths ++ some.0, some.1, passed e some.2)
       by_find (Some path) e = (map (call m) (through is_so paths), Refuses (refusal path), stopped e)
 
-one_size : (plan : Plan) (s : Shelf) → IsOne (SizeDue plan s)
-one_size plan s _ _ _ _ (too_big h) (too_big k) = (refl, refl)
-one_size plan s _ b _ w (too_big h) (small k due) = absurd (omega (arith, h, k))
-one_size plan s a _ v _ (small h due) (too_big k) = absurd (omega (arith, h, k))
-one_size plan s a b v w (small h due) (small k other) = one_looks (λ dir. has_dir dir s) output_there method.Exists (dirs_of plan) (RunDue plan) (one_run plan) a b v w due other
+module _ (command : Command) (s : Shelf) (plan : Plan) where
+  pub one_tasks : IsOne (TasksDue command s plan)
+  one_tasks _ _ _ _ (too_many h) (too_many k) = (refl, refl)
+  one_tasks _ b _ w (too_many h) (few k due) = absurd (true≢false (sym h ∙ k))
+  one_tasks a _ v _ (few h due) (too_many k) = absurd (true≢false (sym k ∙ h))
+  one_tasks a b v w (few h due) (few k other) = one_run (run_of command s plan) a b v w due other
 
-some_outputs : (plan : Plan) (s : Shelf) → IsSome (OutputsDue plan s)
-some_outputs plan s = some_looks (λ dir. has_dir dir s) output_there method.Exists (dirs_of plan) (RunDue plan) (flat_map store_calls (dirs_of plan), Runs plan, runs)
+  pub some_tasks : IsSome (TasksDue command s plan)
+  some_tasks = elim (cases_Bool (has_too_many (stages_of command s plan))) [
+    | inl many ↦ ([], Refuses (too_large large.Tasks), too_many many)
+    | inr less ↦ (making_of (run_of command s plan), Runs (run_of command s plan), few less runs)
+  ]
 
-some_size : (plan : Plan) (s : Shelf) → IsSome (SizeDue plan s)
-some_size plan s = elim (cases_lt (2 ^ 26) (sum_by (size_of s) (live_paths plan))) [
-  | inl big ↦ ([], Refuses (too_large large.Input), too_big big)
-  | inr few ↦ (let rest = some_outputs plan s in (rest.0, rest.1, small few rest.2))
-]
+  one_size : IsOne (SizeDue command s plan)
+  one_size _ _ _ _ (too_big h) (too_big k) = (refl, refl)
+  one_size _ b _ w (too_big h) (small k due) = absurd (omega (arith, h, k))
+  one_size a _ v _ (small h due) (too_big k) = absurd (omega (arith, h, k))
+  one_size a b v w (small h due) (small k other) = one_looks (λ dir. has_dir dir s) output_there method.Exists (dirs_of plan) (TasksDue command s plan) one_tasks a b v w due other
 
-one_inputs : (plan : Plan) (s : Shelf) → IsOne (InputsDue plan s)
-one_inputs plan s = one_looks (is_missing s) no_input method.Pieces (live_paths plan) (SizeDue plan s) (one_size plan s)
+  some_outputs : IsSome (OutputsDue command s plan)
+  some_outputs = some_looks (λ dir. has_dir dir s) output_there method.Exists (dirs_of plan) (TasksDue command s plan) some_tasks
 
-some_inputs : (plan : Plan) (s : Shelf) → IsSome (InputsDue plan s)
-some_inputs plan s = some_looks (is_missing s) no_input method.Pieces (live_paths plan) (SizeDue plan s) (some_size plan s)
+  some_size : IsSome (SizeDue command s plan)
+  some_size = elim (cases_lt (2 ^ 26) (sum_by (size_of s) (live_paths plan))) [
+    | inl big ↦ ([], Refuses (too_large large.Input), too_big big)
+    | inr less ↦ (let rest = some_outputs in (rest.0, rest.1, small less rest.2))
+  ]
 
-one_asserts : (plan : Plan) (s : Shelf) → IsOne (AssertsDue plan s)
-one_asserts plan s _ _ _ _ (asserts h) (asserts k) = (ap (λ n. Refuses (not_run n)) (just (sym h ∙ k)), refl)
-one_asserts plan s _ b _ w (asserts h) (asserts_none k due) = not_none (sym k ∙ h)
-one_asserts plan s a _ v _ (asserts_none h due) (asserts k) = not_none (sym h ∙ k)
-one_asserts plan s a b v w (asserts_none h due) (asserts_none k other) = one_inputs plan s a b v w due other
+  one_inputs : IsOne (InputsDue command s plan)
+  one_inputs = one_looks (is_missing s) no_input method.Pieces (live_paths plan) (SizeDue command s plan) one_size
 
-pub some_asserts : (plan : Plan) (s : Shelf) → IsSome (AssertsDue plan s)
-some_asserts plan s = by_first (first_assert plan) refl
-  where
-    by_first : (o : Option ℕ) → first_assert plan ≡ o → IsSome (AssertsDue plan s)
-    by_first None e = let rest = some_inputs plan s in (rest.0, rest.1, asserts_none e rest.2)
-    by_first (Some n) e = ([], Refuses (not_run n), asserts e)
+  pub some_inputs : IsSome (InputsDue command s plan)
+  some_inputs = some_looks (is_missing s) no_input method.Pieces (live_paths plan) (SizeDue command s plan) some_size
 
 -- what a command asks of a plan
 one_command_due : (command : Command) (s : Shelf) (n : ℕ) (plan : Plan) → IsOne (CommandDue command s n plan)
-one_command_due command s n plan a b v w (run_due h due) (run_due k other) = one_asserts plan s a b v w due other
+one_command_due command s n plan a b v w (run_due h due) (run_due k other) = one_inputs command s plan a b v w due other
+one_command_due command s n plan a _ v _ (run_due h due) (explain_due k) = absurd (let e = sym h ∙ k in cc)
 one_command_due command s n plan a _ v _ (run_due h due) (check_due k) = absurd (let e = sym h ∙ k in cc)
+one_command_due command s n plan _ b _ w (explain_due h) (run_due k other) = absurd (let e = sym h ∙ k in cc)
+one_command_due command s n plan _ _ _ _ (explain_due h) (explain_due k) = (refl, refl)
+one_command_due command s n plan _ _ _ _ (explain_due h) (check_due k) = absurd (let e = sym h ∙ k in cc)
 one_command_due command s n plan _ b _ w (check_due h) (run_due k other) = absurd (let e = sym h ∙ k in cc)
+one_command_due command s n plan _ _ _ _ (check_due h) (explain_due k) = absurd (let e = sym h ∙ k in cc)
 one_command_due command s n plan _ _ _ _ (check_due h) (check_due k) = (refl, refl)
 
 pub some_command_due : (command : Command) → IsBuilt command.verb → (s : Shelf) (n : ℕ) (plan : Plan) → IsSome (CommandDue command s n plan)
 some_command_due command built s n plan = by_verb command.verb refl built
   where
     by_verb : (v : Verb) → command.verb ≡ v → IsBuilt v → IsSome (CommandDue command s n plan)
-    by_verb verbs.Run e b = let rest = some_asserts plan s in (rest.0, rest.1, run_due e rest.2)
+    by_verb verbs.Run e b = let rest = some_inputs command s plan in (rest.0, rest.1, run_due e rest.2)
     by_verb verbs.Check e b = ([], Prints (ok_text n), check_due e)
-    by_verb verbs.Explain e b = absurd b
+    by_verb verbs.Explain e b = ([], Prints (explain_text plan (by_key plan)), explain_due e)
     by_verb verbs.Demo e b = absurd b
 
 module _ (laws : PlanLaws) (path : List ℕ) (s : Shelf) (next : PlanStage) where

@@ -1,68 +1,92 @@
 -- From how the steps ended to what a call says of a shelf that is told.
-use Rattle.std.proofs.Common.{◌≡◌, ◌++◌, ◌%◌, ◌^◌, ℕ, true, false, List, [], ◌∷◌, length, map, Option, Some, None, Result, Ok, Err, refl, sym, ◌∙◌, ap, subst, arith, inl, inr, cond}
-use Rattle.std.specs.List.{flat_map, sum_by}
+use Rattle.std.proofs.Common.{◌≡◌, ◌++◌, ◌<◌, ◌≤◌, ◌+◌, ◌%◌, ◌^◌, ℕ, zero, suc, true, false, List, [], ◌∷◌, length, map, Option, Some, None, Result, Ok, Err, refl, sym, ◌∙◌, ap, subst, arith, inl, inr, cond}
+use Rattle.std.specs.List.{AllByRecursion, flat_map, sum_by}
 use Rattle.std.specs.Option.{ForSome, option_map}
-use Rattle.std.proofs.lemmas.Bool.{cases_Bool}
-use Rattle.std.proofs.lemmas.List.{append_assoc, append-nil}
+use Rattle.std.proofs.lemmas.List.{append_assoc, append-nil, length-append, map-append}
 use Rattle.std.proofs.lemmas.List.Folds.{flat_map-map}
 use Rattle.std.proofs.lemmas.List.Sums.{sum_by-cons}
 use Rattle.pig_value.specs.declared.inputs.Input.{Input}
 use Rattle.pig_value.specs.declared.outcomes.Kept.{Kept}
-use Rattle.pig_value.specs.Trees.{rows_tree}
 use Rattle.pig_outside.specs.Calls.{DepotCall}
 use Rattle.pig_outside.specs.Shelf.{Shelf}
-use Rattle.pig_plan.specs.Plans.{Plan}
+use Rattle.pig_outside.specs.declared.failing.Method.TheVariants as method
+use Rattle.pig_plan.specs.Asserts.{first_unmet}
+use Rattle.pig_plan.specs.Laws.{AreOfBytes}
 use Rattle.pig_plan.specs.Meaning.{IsKept}
-use Rattle.pig_plain.specs.Answering.{EachAnswers}
-use Rattle.pig_reach.specs.Reach.{dirs_of, lines_read, stores_of}
+use Rattle.pig_plan.specs.Plans.{Plan}
+use Rattle.pig_plan.specs.Valid.{IsPlan}
+use Rattle.pig_reach.specs.Reach.{dirs_of, stores_of}
 use Rattle.pig_reach.specs.declared.storing.Store.{Store}
+use Rattle.pig_physical.specs.Stages.{Stages, heads}
+use Rattle.pig_work.specs.Working.{Tellings}
+use Rattle.pig_driver.specs.Failing.{HaveWon}
+use Rattle.pig_driver.specs.Going.{AllTell, AreWon}
+use Rattle.pig_commit.specs.Calls.{AskedFor, put_calls, store_calls as calls_for_store}
+use Rattle.pig_commit.specs.Committed.{LeftOpen, with_stored}
+use Rattle.pig_commit.specs.declared.parts.StorePart.{StorePart}
+use Rattle.pig_keyed.specs.Keyed.{KeyedPlansRunTheSame, by_key}
 use Rattle.pig_run.specs.declared.outcome.Counts.{Counts}
 use Rattle.pig_run.specs.declared.outcome.RunFault.{RunFault}
 use Rattle.pig_run.specs.declared.outcome.RunFault.TheVariants as fault
 use Rattle.pig_run.specs.declared.progress.Progress.{Progress}
-use Rattle.pig_run.specs.declared.running.Found.{Found}
-use Rattle.pig_run.specs.Due.{RunDue, Stage, runs, store_calls}
-use Rattle.pig_run.specs.Ends.{Ends, done, host_failed, lookup_failed, no_memory, no_memory_at, no_memory_behind, refused, shows, store_failed}
-use Rattle.pig_run.specs.Outputs.{AreOutputsOf, IsStopped, IsUntouched, IsWhole, Output, with_outputs}
-use Rattle.pig_run.specs.Reading.{Prints, Refuses, Runs, Verdict}
-use Rattle.pig_run.specs.Running.{AskedFor, EachCounted, EachStored, IsAnswered, IsBrokenAt, IsFoundOver, IsNotBegun, Relation, RunEnd, RunsEnd, counts_in, kept_in, note_of, noted_line, outputs_of}
-use Rattle.pig_run.specs.Steps.{IsCommitFault, IsHostStep, IsLookFault, Passes, StopsIn}
-use Rattle.pig_run.specs.Texts.{done_line}
+use Rattle.pig_run.specs.Due.{Stage, call, calls, making, making_of}
+use Rattle.pig_run.specs.Ends.{Ends, assert_failed, done, lookup_failed, no_memory, no_memory_at, no_memory_behind, no_memory_in, refused, shows, store_failed, task_failed}
+use Rattle.pig_run.specs.Outputs.{AreOutputsOf, IsMet, IsRunOf, IsStopped, IsUnmade, IsUntouched, IsWhole, Left}
+use Rattle.pig_run.specs.Reading.{Prints, Refuses, Run, Runs, Verdict}
+use Rattle.pig_run.specs.Running.{AreLaid, EndsFinding, GivesAll, HasFailedAssert, IsBrokenAt, IsGiven, IsFresh, RunEnd, RunsEnd, UnmetAll, WavesEnd, asserted, counts_in, kept_in, left_in, lost, no_room, not_met, note_of, noted_line, untold}
+use Rattle.pig_run.specs.Steps.{IsCommitFault, IsLookFault, Passes, StopsIn}
+use Rattle.pig_run.specs.Texts.{done_line, line_count, said_behind}
 use Rattle.pig_run.specs.Told.{CountsAre, EndsEarly, IsAsked, TellsInputs, TellsOf}
 use Rattle.pig_run.proofs.Deciding.{IsSome}
-use Rattle.pig_run.proofs.Found.{counted_first, outputs_are, outputs_counted, relations_are}
 use Rattle.pig_run.proofs.Stages.{asked_nothing, asked_then}
 
--- nothing was made
-untouched : (s : Shelf) (new : Option Shelf) (progress : Progress) → new ≡ Some s → progress.begun ≡ false
-    → IsUntouched s (record { outs = []; kept = kept_in false progress; shelf = new })
-untouched s new progress same idle = record { same = same; no_outputs = refl; none_kept = ap (λ b. cond b progress.kept []) idle }
+-- ---- nothing was made
 
--- which faults end a call early
+quiet_kept : (progress : Progress) → progress.stands ≡ false → kept_in progress ≡ []
+quiet_kept progress h = ap (λ b. cond b progress.kept []) h
+
+pub standing_kept : (progress : Progress) → progress.stands ≡ true → kept_in progress ≡ progress.kept
+standing_kept progress h = ap (λ b. cond b progress.kept []) h
+
+untouched : (s : Shelf) (new : Option Shelf) (progress : Progress) → new ≡ Some s → IsFresh progress → IsUntouched s (left_in [] progress new)
+untouched s new progress same fresh = record {
+  unmade = record { same = same; no_outputs = refl };
+  none_kept = quiet_kept progress fresh.stands;
+  no_waves = fresh.ends;
+}
+
+-- ---- which faults end a call early, and say nothing behind their lines
+
 early_look : (f : RunFault) → IsLookFault f → EndsEarly (Some f)
-early_look f (inl is) = subst (λ g. EndsEarly (Some g)) (sym is) (inr (inr (None, refl)))
-early_look f (inr is) = subst (λ g. EndsEarly (Some g)) (sym is) (inr (inl refl))
-
-early_host : (f : RunFault) → IsHostStep f → EndsEarly (Some f)
-early_host f (inl is) = subst (λ g. EndsEarly (Some g)) (sym is) (inl refl)
-early_host f (inr is) = subst (λ g. EndsEarly (Some g)) (sym is) (inr (inl refl))
+early_look f (inl is) = subst (λ g. EndsEarly (Some g)) (sym is) (inr (inr (inr (None, refl))))
+early_look f (inr is) = subst (λ g. EndsEarly (Some g)) (sym is) (inr (inr (inl refl)))
 
 early_commit : (n : ℕ) (f : RunFault) → IsCommitFault n f → EndsEarly (Some f)
-early_commit n f (inl is) = subst (λ g. EndsEarly (Some g)) (sym is) (inr (inr (Some n, refl)))
-early_commit n f (inr is) = subst (λ g. EndsEarly (Some g)) (sym is) (inr (inl refl))
+early_commit n f (inl is) = subst (λ g. EndsEarly (Some g)) (sym is) (inr (inr (inr (Some n, refl))))
+early_commit n f (inr is) = subst (λ g. EndsEarly (Some g)) (sym is) (inr (inr (inl refl)))
 
-no_numbers : (tells : Type 0) (v : Verdict) (s : Shelf) (outs : List Output) (counts : Counts) (f : RunFault) → CountsAre tells v s outs counts (Some f)
-no_numbers tells (Refuses refusal) s outs counts f = tt
-no_numbers tells (Prints text) s outs counts f = λ e. absurd (cc)
-no_numbers tells (Runs plan) s outs counts f = λ e. absurd (cc)
+silent_look : (v : Verdict) (f : RunFault) → IsLookFault f → said_behind v (Some f) ≡ []
+silent_look (Refuses refusal) f h = refl
+silent_look (Prints text) f h = refl
+silent_look (Runs run) f (inl is) = ap (λ g. said_behind (Runs run) (Some g)) is
+silent_look (Runs run) f (inr is) = ap (λ g. said_behind (Runs run) (Some g)) is
+
+silent_commit : (run : Run) (n : ℕ) (f : RunFault) → IsCommitFault n f → said_behind (Runs run) (Some f) ≡ []
+silent_commit run n f (inl is) = ap (λ g. said_behind (Runs run) (Some g)) is
+silent_commit run n f (inr is) = ap (λ g. said_behind (Runs run) (Some g)) is
+
+no_numbers : (tells : Type 0) (v : Verdict) (s : Shelf) (left : Left) (counts : Counts) (f : RunFault) → CountsAre tells v s left counts (Some f)
+no_numbers tells (Refuses refusal) s left counts f = tt
+no_numbers tells (Prints text) s left counts f = λ e. absurd (cc)
+no_numbers tells (Runs run) s left counts f = λ e. absurd (cc)
 
 -- ---- a step before the run ended the call
 
 module _ (stage : Stage) (due : IsSome stage) (s : Shelf) (tells : Type 0) (old new : Option (List DepotCall)) (shelf : Option Shelf) (progress : Progress) (same : shelf ≡ Some s)
-    (idle : progress.begun ≡ false) where
-  left_look : (v : Verdict) (f : RunFault) → IsLookFault f → Ends tells s (record { outs = []; kept = kept_in false progress; shelf = shelf }) v (Some f)
-  left_look v f (inl is) = subst (λ g. Ends tells s (record { outs = []; kept = kept_in false progress; shelf = shelf }) v (Some g)) (sym is) (lookup_failed (untouched s shelf progress same idle))
-  left_look v f (inr is) = subst (λ g. Ends tells s (record { outs = []; kept = kept_in false progress; shelf = shelf }) v (Some g)) (sym is) (no_memory (untouched s shelf progress same idle))
+    (fresh : IsFresh progress) where
+  left_look : (v : Verdict) (f : RunFault) → IsLookFault f → Ends tells s (left_in [] progress shelf) v (Some f)
+  left_look v f (inl is) = subst (λ g. Ends tells s (left_in [] progress shelf) v (Some g)) (sym is) (lookup_failed (untouched s shelf progress same fresh))
+  left_look v f (inr is) = subst (λ g. Ends tells s (left_in [] progress shelf) v (Some g)) (sym is) (no_memory (untouched s shelf progress same fresh))
 
   pub told_stopped : (f : RunFault) → StopsIn stage old new f → RunEnd stage s tells old new shelf progress (Err f)
   told_stopped f stops = elim stops.ends [
@@ -71,10 +95,11 @@ module _ (stage : Stage) (due : IsSome stage) (s : Shelf) (tells : Type 0) (old 
       calls = stops.made;
       due = e.due;
       outs = [];
-      state = refused e.names (untouched s shelf progress same idle);
+      state = refused e.names (untouched s shelf progress same fresh);
       asked = record { made = stops.made; asked = stops.asked; first = ([], sym (append-nil stops.made)); all = λ early. refl };
       numbers = tt;
       text = tt;
+      said_is = fresh.said;
     }
     | inr e ↦ record {
       verdict = due.1;
@@ -83,8 +108,9 @@ module _ (stage : Stage) (due : IsSome stage) (s : Shelf) (tells : Type 0) (old 
       outs = [];
       state = left_look due.1 f e.free;
       asked = record { made = stops.made; asked = stops.asked; first = e.first due.0 due.1 due.2; all = λ early. absurd (early (early_look f e.free)) };
-      numbers = no_numbers tells due.1 s [] (counts_in progress) f;
+      numbers = no_numbers tells due.1 s (left_in [] progress shelf) (counts_in progress) f;
       text = tt;
+      said_is = fresh.said ∙ sym (silent_look due.1 f e.free);
     }
   ]
 
@@ -107,232 +133,326 @@ end_behind R S s tells old mid new shelf progress result passes told = record {
   };
   numbers = told.numbers;
   text = told.text;
+  said_is = told.said_is;
 }
 
--- ---- a text is due
-
--- nothing was done, whether the text could be made or not
-module _ (stage : Stage) (due_is : List ℕ) (due : stage [] (Prints due_is)) (s : Shelf) (tells : Type 0) (old new : Option (List DepotCall)) (shelf : Option Shelf) (progress : Progress)
-    (asked_none : new ≡ old) (same : shelf ≡ Some s) (notes : progress.notes ≡ []) (read : progress.read ≡ 0) (kept : progress.kept ≡ []) where
-  pub told_shown : (text : List ℕ) → text ≡ due_is → RunEnd stage s tells old new shelf progress (Ok text)
-  told_shown text is = record {
-    verdict = Prints due_is;
-    calls = [];
-    due = due;
-    outs = [];
-    state = shows (record { same = same; no_outputs = refl; none_kept = kept });
-    asked = record { made = []; asked = asked_nothing old new asked_none; first = ([], refl); all = λ early. refl };
-    numbers = λ e i. record { read = read i; shuffled = 0; stored = sum_by (λ note. note.lines) (notes i) % 2 ^ 64 };
-    text = is;
-  }
+-- a text is what is due
+pub told_shown : (stage : Stage) (text : List ℕ) → stage [] (Prints text) → (s : Shelf) (tells : Type 0) (old new : Option (List DepotCall)) (shelf : Option Shelf) (progress : Progress) → new ≡ old → shelf ≡ Some s
+    → IsFresh progress → (found : List ℕ) → found ≡ text → RunEnd stage s tells old new shelf progress (Ok found)
+told_shown stage text due s tells old new shelf progress asked same fresh found is = record {
+  verdict = Prints text;
+  calls = [];
+  due = due;
+  outs = [];
+  state = shows (untouched s shelf progress same fresh);
+  asked = record { made = []; asked = asked_nothing old new asked; first = ([], refl); all = λ early. refl };
+  numbers = λ e i. record { read = fresh.read i; shuffled = fresh.shuffled i; stored = sum_by (λ note. note.lines) (fresh.notes i) % 2 ^ 64 };
+  text = is;
+  said_is = fresh.said;
+}
 
 -- ---- the run came
 
-pub told_runs : (stage : Stage) (s : Shelf) (tells : Type 0) (plan : Plan) (old mid new : Option (List DepotCall)) (shelf : Option Shelf) (progress : Progress) (result : Result (List ℕ) RunFault)
-    → Passes stage (RunDue plan) old mid → RunsEnd plan s tells mid new shelf progress result → RunEnd stage s tells old new shelf progress result
-told_runs stage s tells plan old mid new shelf progress result passes told = record {
-  verdict = Runs plan;
-  calls = passes.made ++ flat_map store_calls (dirs_of plan);
-  due = passes.hands.on (flat_map store_calls (dirs_of plan)) (Runs plan) runs;
+pub told_runs : (stage : Stage) (run : Run) (s : Shelf) (tells : Type 0) (old new : Option (List DepotCall)) (shelf : Option Shelf) (progress : Progress) (result : Result (List ℕ) RunFault)
+    → stage (making_of run) (Runs run) → RunsEnd run s tells old new shelf progress result → RunEnd stage s tells old new shelf progress result
+told_runs stage run s tells old new shelf progress result due told = record {
+  verdict = Runs run;
+  calls = making_of run;
+  due = due;
   outs = told.outs;
   state = told.state;
-  asked = record {
-    made = passes.made ++ told.asked.made;
-    asked = asked_then passes.made told.asked.made old mid new passes.asked told.asked.asked;
-    first = (told.asked.first.0, ap (λ xs. passes.made ++ xs) told.asked.first.1 ∙ sym (append_assoc passes.made told.asked.made told.asked.first.0));
-    all = λ early. ap (λ xs. passes.made ++ xs) (told.asked.all early);
-  };
+  asked = told.asked;
   numbers = told.numbers;
   text = told.text;
+  said_is = told.said_is;
 }
 
--- ---- what was found over the inputs that the host tells
+-- ---- the inputs that all hosts tell
 
--- they are those of the shelf
 told_inputs : (shelf : Option Shelf) (s : Shelf) (i : List Input) → shelf ≡ Some s → option_map (λ s. s.inputs) shelf ≡ Some i → i ≡ s.inputs
 told_inputs shelf s i told is = let e = sym is ∙ ap (option_map (λ s. s.inputs)) told in cc
 
-module _ (plan : Plan) (s : Shelf) (shelf : Option Shelf) (told : shelf ≡ Some s) (inputs : Option (List Input)) (of : TellsOf shelf inputs) (found : Found)
-    (over : ForSome inputs (λ i. IsFoundOver plan i found)) where
-  over_shelf : TellsInputs inputs → IsFoundOver plan s.inputs found
-  over_shelf (i, is) = subst (λ j. IsFoundOver plan j found) (told_inputs shelf s i told (of i is)) (over i is)
+-- they are those of the shelf
+pub all_tell : (shelf : Option Shelf) (s : Shelf) → shelf ≡ Some s → (tellings : Tellings) → AllByRecursion (TellsOf shelf) tellings → AllByRecursion TellsInputs tellings → AllTell s.inputs tellings
+all_tell shelf s told [] of tells = tt
+all_tell shelf s told (t ∷ ts) of tells =
+    let here = tells.0 in (
+      here.1 ∙ ap Some (told_inputs shelf s here.0 told (of.0 here.0 here.1)),
+      all_tell shelf s told ts of.1 tells.1,
+    )
 
-  pub answers_over : (kept : List Kept) (relations : List Relation) → kept ≡ found.answers.kept → relations ≡ found.answers.stores → TellsInputs inputs → IsAnswered plan s.inputs kept (map rows_tree relations)
-  answers_over kept relations kept_is relations_are tells =
-      subst (λ k. IsAnswered plan s.inputs k (map rows_tree relations)) (sym kept_is)
-      (subst (λ rs. IsAnswered plan s.inputs found.answers.kept (map rows_tree rs)) (sym relations_are) (over_shelf tells).answer)
+-- and of bytes
+pub told_bytes : (shelf : Option Shelf) (s : Shelf) → shelf ≡ Some s → (tellings : Tellings) → 0 < length tellings → AllByRecursion (TellsOf shelf) tellings → AllByRecursion TellsInputs tellings → AreOfBytes s.inputs
+told_bytes shelf s told [] some of tells = absurd (omega (arith, some))
+told_bytes shelf s told (t ∷ ts) some of tells = let here = tells.0 in subst AreOfBytes (told_inputs shelf s here.0 told (of.0 here.0 here.1)) here.2
 
-  pub read_over : (read : ℕ) → read ≡ found.read → TellsInputs inputs → read ≡ lines_read plan s.inputs % 2 ^ 64
-  read_over read is tells = is ∙ (over_shelf tells).read
+-- the plan that is cut has the STOREs of the script
+pub same_stores : KeyedPlansRunTheSame → (plan cut : Plan) → IsPlan plan → cut ≡ by_key plan → stores_of cut ≡ stores_of plan
+same_stores law plan cut valid keyed = ap stores_of keyed ∙ (law plan valid).stores
+
+-- ---- how waves, and what is collected of them, end
+
+pub waves_ends : (limit : ℕ) (s : Stages) (tellings : Tellings) (progress : Progress) → progress.stands ≡ false → progress.said.items ≡ [] → (f : RunFault)
+    → WavesEnd limit s progress.ends f → EndsFinding s limit tellings progress f
+waves_ends limit s tellings progress quiet silent fault.Usage h = absurd h
+waves_ends limit s tellings progress quiet silent fault.NoScript h = absurd h
+waves_ends limit s tellings progress quiet silent (fault.Lex offset) h = absurd h
+waves_ends limit s tellings progress quiet silent (fault.Syntax n) h = absurd h
+waves_ends limit s tellings progress quiet silent (fault.Check n kind) h = absurd h
+waves_ends limit s tellings progress quiet silent (fault.NoInput path) h = absurd h
+waves_ends limit s tellings progress quiet silent (fault.OutputExists dir) h = absurd h
+waves_ends limit s tellings progress quiet silent (fault.DepotFault store) h = absurd h
+waves_ends limit s tellings progress quiet silent (fault.TaskFailed wave task failed) h = lost h quiet silent
+waves_ends limit s tellings progress quiet silent (fault.AssertFailed n) h = absurd h
+waves_ends limit s tellings progress quiet silent fault.OutOfMemory h = no_room h quiet silent
+waves_ends limit s tellings progress quiet silent fault.ConsoleFault h = absurd h
+waves_ends limit s tellings progress quiet silent (fault.TooLarge which) h = absurd h
+
+module _ (s : Stages) (n : ℕ) (old new : Progress) where
+  pub assert_ends : (limit : ℕ) (tellings : Tellings) (f : RunFault) → HasFailedAssert s.plan n old new f → AreWon s old.ends (length (heads s.plan)) → UnmetAll s tellings old.kept n
+      → old.stands ≡ false → old.said.items ≡ [] → EndsFinding s limit tellings new f
+  assert_ends limit tellings _ (asserted same said) won unmet quiet silent =
+      not_met (subst (λ ends. AreWon s ends (length (heads s.plan))) (sym (ap (λ p. p.ends) same)) won) (subst (λ kept. UnmetAll s tellings kept n) (sym (ap (λ p. p.kept) same)) unmet) (ap (λ p. p.stands) same) said
+  assert_ends limit tellings _ (untold same) won unmet quiet silent =
+      subst (λ p. EndsFinding s limit tellings p fault.OutOfMemory) (sym same)
+      (no_room (record { waves = length (heads s.plan); within = omega arith; won = won }) quiet silent)
+
+  pub assert_keeps : (f : RunFault) → HasFailedAssert s.plan n old new f → (new.ends ≡ old.ends) × (new.notes ≡ old.notes)
+  assert_keeps _ (asserted same said) = (ap (λ p. p.ends) same, ap (λ p. p.notes) same)
+  assert_keeps _ (untold same) = (ap (λ p. p.ends) same, ap (λ p. p.notes) same)
+
+-- ---- what a depot is asked as directories are made
+
+put_each : (dir : List ℕ) (parts : List (List ℕ)) → put_calls dir parts ≡ calls (length parts) (call method.Put dir)
+put_each dir [] = refl
+put_each dir (part ∷ parts) = ap (λ xs. call method.Put dir ∷ xs) (put_each dir parts)
+
+pub made_calls : (outs : List StorePart) → flat_map calls_for_store outs ≡ making (map (λ out. out.dir) outs) (map (λ out. length out.parts) outs)
+made_calls [] = refl
+made_calls (out ∷ outs) = λ i. (call method.Create out.dir ∷ (put_each out.dir out.parts i ++ call method.Finish out.dir ∷ [])) ++ made_calls outs i
+
+-- ---- parts and STOREs, one beside the other
+
+-- the STOREs before that of a part, and that one
+record IsSplit (stores : List Store) (parts : List StorePart) (part : StorePart) : Type 0 where
+  pub before : List Store
+  pub store : Store
+  pub behind : List Store
+  pub are : stores ≡ before ++ store ∷ behind
+  pub as_many : length before ≡ length parts
+  pub dirs : map (λ part. part.dir) parts ≡ map (λ store. store.dir) before
+  pub dir : store.dir ≡ part.dir
+  pub statement : store.statement ≡ part.statement
+
+head_of : {X : Type 0} {x y : X} {xs ys : List X} → x ∷ xs ≡ y ∷ ys → x ≡ y
+head_of e = cc
+
+tail_of : {X : Type 0} {x y : X} {xs ys : List X} → x ∷ xs ≡ y ∷ ys → xs ≡ ys
+tail_of e = cc
+
+split_at : (stores : List Store) (parts : List StorePart) (part : StorePart) (more : List StorePart)
+    → map (λ part. part.dir) (parts ++ part ∷ more) ≡ map (λ store. store.dir) stores
+    → map (λ part. part.statement) (parts ++ part ∷ more) ≡ map (λ store. store.statement) stores → IsSplit stores parts part
+split_at [] [] part more dirs statements = absurd (let wrong : ◌≡◌ {A = List ℕ} (part.statement ∷ map (λ part. part.statement) more) [] = statements in cc)
+split_at [] (p ∷ parts) part more dirs statements = absurd (let wrong : ◌≡◌ {A = List ℕ} (p.statement ∷ map (λ part. part.statement) (parts ++ part ∷ more)) [] = statements in cc)
+split_at (store ∷ stores) [] part more dirs statements = record {
+  before = [];
+  store = store;
+  behind = stores;
+  are = refl;
+  as_many = refl;
+  dirs = refl;
+  dir = sym (head_of dirs);
+  statement = sym (head_of statements);
+}
+split_at (store ∷ stores) (p ∷ parts) part more dirs statements =
+    let rest = split_at stores parts part more (tail_of dirs) (tail_of statements) in
+    record {
+      before = store ∷ rest.before;
+      store = rest.store;
+      behind = rest.behind;
+      are = ap (λ xs. store ∷ xs) rest.are;
+      as_many = ap suc rest.as_many;
+      dirs = λ i. head_of dirs i ∷ rest.dirs i;
+      dir = rest.dir;
+      statement = rest.statement;
+    }
+
+outputs_first : (plan : Plan) (i : List Input) (kept : List Kept) (before behind : List Store) (first last : List StorePart) → length before ≡ length first
+    → AreOutputsOf plan i kept (before ++ behind) (first ++ last) → AreOutputsOf plan i kept before first
+outputs_first plan i kept [] behind [] last each h = tt
+outputs_first plan i kept [] behind (p ∷ first) last each h = absurd (omega (arith, each))
+outputs_first plan i kept (store ∷ before) behind [] last each h = absurd (omega (arith, each))
+outputs_first plan i kept (store ∷ before) behind (p ∷ first) last each h = (h.0, outputs_first plan i kept before behind first last (omega (arith, each)) h.1)
 
 -- ---- the run's own steps
 
--- dirs and answers of the STOREs before one
-dirs_same : (stores : List Store) (relations : List Relation) → length relations ≡ length stores → map (λ out. out.dir) (outputs_of stores relations) ≡ map (λ store. store.dir) stores
-dirs_same [] relations each = refl
-dirs_same (store ∷ stores) [] each = absurd (omega (arith, each))
-dirs_same (store ∷ stores) (r ∷ relations) each = ap (λ ds. store.dir ∷ ds) (dirs_same stores relations (omega (arith, each)))
+module _ (run : Run) (s : Shelf) (tells : Type 0) (old new : Option (List DepotCall)) (shelf : Option Shelf) (progress : Progress) where
+  asked_none : (f : RunFault) → EndsEarly (Some f) → new ≡ old → IsAsked (making_of run) (Some f) old new
+  asked_none f early asked = record { made = []; asked = asked_nothing old new asked; first = (making_of run, refl); all = λ never. absurd (never early) }
 
-each_first : (plan : Plan) (i : List Input) (kept : List Kept) (before behind : List Store) (first last : List Relation) → length first ≡ length before
-    → EachAnswers plan i kept (map (λ store. store.relation) (before ++ behind)) (map rows_tree (first ++ last)) → EachAnswers plan i kept (map (λ store. store.relation) before) (map rows_tree first)
-each_first plan i kept [] behind [] last each h = tt
-each_first plan i kept [] behind (r ∷ first) last each h = absurd (omega (arith, each))
-each_first plan i kept (store ∷ before) behind [] last each h = absurd (omega (arith, each))
-each_first plan i kept (store ∷ before) behind (r ∷ first) last each h = (h.0, each_first plan i kept before behind first last (omega (arith, each)) h.1)
+  unmade : shelf ≡ Some s → IsUnmade s (left_in [] progress shelf)
+  unmade same = record { same = same; no_outputs = refl }
 
-stored_first : (plan : Plan) (i : List Input) (kept : List Kept) (before behind : List Store) (first last : List Relation) → length first ≡ length before
-    → EachStored plan i kept (before ++ behind) (map rows_tree (first ++ last)) → EachStored plan i kept before (map rows_tree first)
-stored_first plan i kept [] behind [] last each h = tt
-stored_first plan i kept [] behind (r ∷ first) last each h = absurd (omega (arith, each))
-stored_first plan i kept (store ∷ before) behind [] last each h = absurd (omega (arith, each))
-stored_first plan i kept (store ∷ before) behind (r ∷ first) last each h = (h.0, stored_first plan i kept before behind first last (omega (arith, each)) h.1)
-
-module _ (plan : Plan) (s : Shelf) (tells : Type 0) (old new : Option (List DepotCall)) (shelf : Option Shelf) (progress : Progress) where
-  -- reading or answering ended it
-  pub told_unread : shelf ≡ Some s → progress.begun ≡ false → new ≡ old → (f : RunFault) → IsHostStep f → RunsEnd plan s tells old new shelf progress (Err f)
-  told_unread same idle asked f step = record {
+  -- memory was wanting, with some waves won
+  pub told_wanting : shelf ≡ Some s → new ≡ old → HaveWon run.stages progress.ends → progress.stands ≡ false → progress.said.items ≡ [] → RunsEnd run s tells old new shelf progress (Err fault.OutOfMemory)
+  told_wanting same asked won quiet silent = record {
     outs = [];
-    state = left step;
-    asked = record { made = []; asked = asked_nothing old new asked; first = (flat_map store_calls (dirs_of plan), refl); all = λ early. absurd (early (early_host f step)) };
+    state = no_memory_in (record { unmade = unmade same; none_kept = quiet_kept progress quiet; won = won });
+    asked = asked_none fault.OutOfMemory (inr (inr (inl refl))) asked;
     numbers = λ e. absurd (cc);
     text = tt;
+    said_is = silent;
   }
-    where
-      left : IsHostStep f → Ends tells s (record { outs = []; kept = kept_in false progress; shelf = shelf }) (Runs plan) (Some f)
-      left (inl is) = subst (λ g. Ends tells s (record { outs = []; kept = kept_in false progress; shelf = shelf }) (Runs plan) (Some g)) (sym is) (host_failed (untouched s shelf progress same idle))
-      left (inr is) = subst (λ g. Ends tells s (record { outs = []; kept = kept_in false progress; shelf = shelf }) (Runs plan) (Some g)) (sym is) (no_memory (untouched s shelf progress same idle))
 
-  module _ (stores : List Store) (stores_are : stores ≡ stores_of plan) (relations : List Relation) (each : length relations ≡ length stores) (counted : EachCounted stores relations)
-      (answers : tells → IsAnswered plan s.inputs progress.kept (map rows_tree relations)) where
-    answers_are : tells → EachAnswers plan s.inputs progress.kept (map (λ store. store.relation) stores) (map rows_tree relations)
-    answers_are t = subst (λ ns. EachAnswers plan s.inputs progress.kept ns (map rows_tree relations)) (relations_are plan ∙ ap (map (λ store. store.relation)) (sym stores_are)) (answers t).answer.stores
+  -- the waves, an ASSERT or memory ended it
+  module _ (tellings : Tellings) (valid : IsPlan run.plan) (keyed : run.stages.plan ≡ by_key run.plan) (tell : tells → AllTell s.inputs tellings) (bytes : tells → AreOfBytes s.inputs) where
+    pub told_unfound : (f : RunFault) → shelf ≡ Some s → new ≡ old → EndsFinding run.stages run.limit tellings progress f → RunsEnd run s tells old new shelf progress (Err f)
+    told_unfound _ same asked (lost {wave} {task} {failed} given_up quiet silent) = record {
+      outs = [];
+      state = task_failed (record { unmade = unmade same; none_kept = quiet_kept progress quiet; given_up = given_up });
+      asked = asked_none (fault.TaskFailed wave task failed) (inl refl) asked;
+      numbers = λ e. absurd (cc);
+      text = tt;
+      said_is = silent;
+    }
+    told_unfound _ same asked (not_met {n} won unmet stands said) = record {
+      outs = [];
+      state = assert_failed (record {
+        unmade = unmade same;
+        won = won;
+        kept = λ t. subst (IsKept run.plan s.inputs) (sym (standing_kept progress stands)) (unmet run.plan valid keyed s.inputs (tell t) (bytes t)).kept_valid;
+        first = λ t. subst (λ k. first_unmet run.plan s.inputs k ≡ Some n) (sym (standing_kept progress stands)) (unmet run.plan valid keyed s.inputs (tell t) (bytes t)).first;
+      });
+      asked = asked_none (fault.AssertFailed n) (inr (inl refl)) asked;
+      numbers = λ e. absurd (cc);
+      text = tt;
+      said_is = said;
+    }
+    told_unfound _ same asked (no_room won quiet silent) = told_wanting same asked won quiet silent
 
-    stored_are : tells → EachStored plan s.inputs progress.kept stores (map rows_tree relations)
-    stored_are t = subst (λ xs. EachStored plan s.inputs progress.kept xs (map rows_tree relations)) (sym stores_are) (answers t).stored
+    -- what was found is stored
+    module _ (all : List Store) (all_are : all ≡ stores_of run.stages.plan) (same_stores : stores_of run.stages.plan ≡ stores_of run.plan) (outs : List StorePart)
+        (won : AreWon run.stages progress.ends (length (heads run.stages.plan))) (laid : AreLaid run.stages all outs)
+        (gives : GivesAll run.stages run.limit tellings progress.kept outs progress.read progress.shuffled None)
+        (stands : progress.stands ≡ true) (silent : progress.said.items ≡ []) where
+      given : tells → IsGiven run s.inputs progress.kept outs progress.read progress.shuffled None
+      given t = gives run.plan valid keyed s.inputs (tell t) (bytes t)
 
-    dirs_are : flat_map store_calls (map (λ store. store.dir) stores) ≡ flat_map store_calls (dirs_of plan)
-    dirs_are = ap (λ xs. flat_map store_calls (map (λ store. store.dir) xs)) stores_are
+      kept_same : kept_in progress ≡ progress.kept
+      kept_same = standing_kept progress stands
 
-    -- a STORE's directory could not be made
-    stopped_at : (f : RunFault) (broken : IsBrokenAt stores relations f (Some s) shelf) (n : ℕ) → broken.store.statement ≡ n → progress.begun ≡ true
-        → IsStopped tells plan s n (record { outs = outputs_of broken.before broken.first; kept = kept_in false progress; shelf = shelf })
-    stopped_at f broken n named busy =
-        let kept : kept_in false progress ≡ progress.kept = ap (λ b. cond b progress.kept []) busy in
-        record {
-          before = broken.before;
-          store = broken.store;
-          behind = broken.behind;
-          are = sym stores_are ∙ broken.are;
-          named = named;
-          stored = record {
-            dirs = dirs_same broken.before broken.first broken.each;
-            counted = outputs_counted broken.before broken.first
-                (counted_first broken.before (broken.store ∷ broken.behind) broken.first broken.last broken.each
-                (subst (EachCounted (broken.before ++ broken.store ∷ broken.behind)) broken.rows_are (subst (λ xs. EachCounted xs relations) broken.are counted)));
-            are = λ t. subst (λ k. AreOutputsOf plan s.inputs k broken.before (outputs_of broken.before broken.first)) (sym kept)
-                (outputs_are plan s.inputs progress.kept broken.before broken.first
-                (each_first plan s.inputs progress.kept broken.before (broken.store ∷ broken.behind) broken.first broken.last broken.each
-                (subst (λ rs. EachAnswers plan s.inputs progress.kept (map (λ store. store.relation) (broken.before ++ broken.store ∷ broken.behind)) (map rows_tree rs)) broken.rows_are
-                (subst (λ xs. EachAnswers plan s.inputs progress.kept (map (λ store. store.relation) xs) (map rows_tree relations)) broken.are (answers_are t))))
-                (stored_first plan s.inputs progress.kept broken.before (broken.store ∷ broken.behind) broken.first broken.last broken.each
-                (subst (λ rs. EachStored plan s.inputs progress.kept (broken.before ++ broken.store ∷ broken.behind) (map rows_tree rs)) broken.rows_are
-                (subst (λ xs. EachStored plan s.inputs progress.kept xs (map rows_tree relations)) broken.are (stored_are t)))));
-          };
-          opened = broken.left;
-          kept = λ t. subst (λ k. IsKept plan s.inputs k) (sym kept) (answers t).answer.kept;
-        }
+      stores_are : all ≡ stores_of run.plan
+      stores_are = all_are ∙ same_stores
 
-    pub told_broken : (f : RunFault) → IsBrokenAt stores relations f (Some s) shelf → IsNotBegun {T = Unit {0}} progress.begun (Err f) (Some s) shelf
-        → AskedFor {T = Unit {0}} (flat_map store_calls (map (λ store. store.dir) stores)) (Err f) old new → RunsEnd plan s tells old new shelf progress (Err f)
-    told_broken f broken idle asked = elim (cases_Bool progress.begun) [
-      | inl busy ↦ record {
-        outs = outputs_of broken.before broken.first;
-        state = by_fault broken.named busy;
-        asked = asked_is;
-        numbers = λ e. absurd (cc);
-        text = tt;
+      dirs_are : map (λ out. out.dir) outs ≡ dirs_of run.plan
+      dirs_are = laid.dirs ∙ ap (map (λ store. store.dir)) stores_are
+
+      calls_are : flat_map calls_for_store outs ≡ making_of run
+      calls_are = made_calls outs ∙ (λ i. making (dirs_are i) (laid.counts i))
+
+      ran : (some : List StorePart) → IsMet tells run s (left_in some progress shelf)
+      ran some = record {
+        won = won;
+        kept = λ t. subst (IsKept run.plan s.inputs) (sym kept_same) (given t).kept_valid;
+        met = λ t. subst (λ k. first_unmet run.plan s.inputs k ≡ None) (sym kept_same) (sym (given t).unmet_is);
       }
-      | inr quiet ↦
-          let nothing = idle quiet in
+
+      -- the STOREs before one, and that one
+      split_stores : (before behind : List StorePart) (store : StorePart) → outs ≡ before ++ store ∷ behind → IsSplit (stores_of run.plan) before store
+      split_stores before behind store are =
+          split_at (stores_of run.plan) before store behind
+          (ap (map (λ part. part.dir)) (sym are) ∙ dirs_are)
+          (ap (map (λ part. part.statement)) (sym are) ∙ laid.statements ∙ ap (map (λ store. store.statement)) stores_are)
+
+      stopped_at : (f : RunFault) (broken : IsBrokenAt outs f (Some s) shelf) (n : ℕ) → broken.store.statement ≡ n → IsStopped tells run s n (left_in broken.before progress shelf)
+      stopped_at f broken n named =
+          let split = split_stores broken.before broken.behind broken.store broken.are in
           record {
-            outs = [];
-            state = subst (λ g. Ends tells s (record { outs = []; kept = kept_in false progress; shelf = shelf }) (Runs plan) (Some g)) (sym nothing.1) (no_memory (untouched s shelf progress nothing.0 quiet));
-            asked = asked_is;
-            numbers = λ e. absurd (cc);
-            text = tt;
+            ran = ran broken.before;
+            before = split.before;
+            store = split.store;
+            behind = split.behind;
+            are = split.are;
+            named = split.statement ∙ named;
+            stored = record {
+              dirs = split.dirs;
+              are = λ t. subst (λ k. AreOutputsOf run.plan s.inputs k split.before broken.before) (sym kept_same)
+                  (outputs_first run.plan s.inputs progress.kept split.before (split.store ∷ split.behind) broken.before (broken.store ∷ broken.behind) split.as_many
+                  (subst (λ xs. AreOutputsOf run.plan s.inputs progress.kept xs (broken.before ++ broken.store ∷ broken.behind)) split.are
+                  (subst (AreOutputsOf run.plan s.inputs progress.kept (stores_of run.plan)) broken.are (given t).outs_are)));
+            };
+            opened = subst (λ dir. LeftOpen dir (Some (with_stored broken.before s)) shelf) (sym split.dir) broken.left;
           }
-    ]
-      where
-        asked_is : IsAsked (flat_map store_calls (dirs_of plan)) (Some f) old new
-        asked_is = record {
+
+      pub told_broken : (f : RunFault) → IsBrokenAt outs f (Some s) shelf → AskedFor {T = Unit {0}} (flat_map calls_for_store outs) (Err f) old new → RunsEnd run s tells old new shelf progress (Err f)
+      told_broken f broken asked = record {
+        outs = broken.before;
+        state = by_fault broken.named;
+        asked = record {
           made = asked.made;
           asked = asked.asked;
-          first = (asked.first.0, sym dirs_are ∙ asked.first.1);
+          first = (asked.left, sym calls_are ∙ sym asked.first);
           all = λ early. absurd (early (early_commit broken.store.statement f broken.named));
-        }
-
-        by_fault : IsCommitFault broken.store.statement f → progress.begun ≡ true → Ends tells s (record { outs = outputs_of broken.before broken.first; kept = kept_in false progress; shelf = shelf }) (Runs plan) (Some f)
-        by_fault (inl is) busy = subst (λ g. Ends tells s (record { outs = outputs_of broken.before broken.first; kept = kept_in false progress; shelf = shelf }) (Runs plan) (Some g)) (sym is)
-            (store_failed (stopped_at f broken broken.store.statement refl busy))
-        by_fault (inr is) busy = subst (λ g. Ends tells s (record { outs = outputs_of broken.before broken.first; kept = kept_in false progress; shelf = shelf }) (Runs plan) (Some g)) (sym is)
-            (no_memory_at (stopped_at f broken broken.store.statement refl busy))
-
-    module _ (made : shelf ≡ Some (with_outputs (outputs_of stores relations) s)) (asked : AskedFor {T = Unit {0}} (flat_map store_calls (map (λ store. store.dir) stores)) (Ok tt) old new) where
-      whole : (kept : List Kept) → kept ≡ progress.kept → IsWhole tells plan s (record { outs = outputs_of stores relations; kept = kept; shelf = shelf })
-      whole kept same = record {
-        stored = record {
-          dirs = dirs_same stores relations each ∙ ap (map (λ store. store.dir)) stores_are;
-          counted = outputs_counted stores relations counted;
-          are = λ t. subst (λ k. AreOutputsOf plan s.inputs k (stores_of plan) (outputs_of stores relations)) (sym same)
-              (subst (λ xs. AreOutputsOf plan s.inputs progress.kept xs (outputs_of stores relations)) stores_are (outputs_are plan s.inputs progress.kept stores relations (answers_are t) (stored_are t)));
         };
-        made = made;
-        kept = λ t. subst (λ k. IsKept plan s.inputs k) (sym same) (answers t).answer.kept;
+        numbers = λ e. absurd (cc);
+        text = tt;
+        said_is = silent ∙ sym (silent_commit run broken.store.statement f broken.named);
       }
+        where
+          by_fault : IsCommitFault broken.store.statement f → Ends tells s (left_in broken.before progress shelf) (Runs run) (Some f)
+          by_fault (inl is) = subst (λ g. Ends tells s (left_in broken.before progress shelf) (Runs run) (Some g)) (sym is) (store_failed (stopped_at f broken broken.store.statement refl))
+          by_fault (inr is) = subst (λ g. Ends tells s (left_in broken.before progress shelf) (Runs run) (Some g)) (sym is) (no_memory_at (stopped_at f broken broken.store.statement refl))
 
-      all_asked : (found : Option RunFault) → IsAsked (flat_map store_calls (dirs_of plan)) found old new
-      all_asked found = record {
-        made = asked.made;
-        asked = asked.asked;
-        first = ([], sym dirs_are ∙ sym asked.all ∙ sym (append-nil asked.made));
-        all = λ early. asked.all ∙ dirs_are;
-      }
+      module _ (made : shelf ≡ Some (with_stored outs s)) (asked : AskedFor {T = Unit {0}} {E = RunFault} (flat_map calls_for_store outs) (Ok tt) old new) where
+        whole : IsWhole tells run s (left_in outs progress shelf)
+        whole = record {
+          ran = ran outs;
+          stored = record {
+            dirs = laid.dirs ∙ ap (map (λ store. store.dir)) stores_are;
+            are = λ t. subst (λ k. AreOutputsOf run.plan s.inputs k (stores_of run.plan) outs) (sym kept_same) (given t).outs_are;
+          };
+          made = made;
+        }
 
-      lines_sum : (outs : List Output) → sum_by (λ note. note.lines) (map note_of outs) ≡ sum_by (λ out. out.lines) outs
-      lines_sum [] = refl
-      lines_sum (out ∷ outs) =
-          let a = sum_by-cons (λ note. note.lines) (note_of out) (map note_of outs) in
-          let b = sum_by-cons (λ out. out.lines) out outs in
-          let more = lines_sum outs in
-          omega (arith, a, b, more)
+        all_asked : (found : Option RunFault) → IsAsked (making_of run) found old new
+        all_asked found = record {
+          made = asked.made;
+          asked = asked.asked;
+          first = ([], sym calls_are ∙ sym asked.first ∙ ap (λ xs. asked.made ++ xs) asked.all);
+          all = λ early. sym (append-nil asked.made) ∙ ap (λ xs. asked.made ++ xs) (sym asked.all) ∙ asked.first ∙ calls_are;
+        }
 
-      pub told_done : (text : List ℕ) → progress.notes ≡ map note_of (outputs_of stores relations) → (tells → progress.read ≡ lines_read plan s.inputs % 2 ^ 64)
-          → text ≡ flat_map noted_line progress.notes ++ done_line (counts_in progress) → RunsEnd plan s tells old new shelf progress (Ok text)
-      told_done text notes read is = record {
-        outs = outputs_of stores relations;
-        state = done (whole progress.kept refl);
-        asked = all_asked None;
-        numbers = λ e. record { read = read; shuffled = refl; stored = ap (λ n. n % 2 ^ 64) (ap (sum_by (λ note. note.lines)) notes ∙ lines_sum (outputs_of stores relations)) };
-        text = is ∙ ap (λ ns. flat_map noted_line ns ++ done_line (counts_in progress)) notes
-            ∙ ap (λ xs. xs ++ done_line (counts_in progress)) (flat_map-map noted_line note_of (outputs_of stores relations));
-      }
+        lines_sum : (some : List StorePart) → sum_by (λ note. note.lines) (map note_of some) ≡ sum_by line_count some
+        lines_sum [] = refl
+        lines_sum (out ∷ some) =
+            let a = sum_by-cons (λ note. note.lines) (note_of out) (map note_of some) in
+            let b = sum_by-cons line_count out some in
+            let more = lines_sum some in
+            omega (arith, a, b, more)
 
-      -- memory was wanting for the text
-      pub told_untold : (f : RunFault) → f ≡ fault.OutOfMemory → IsNotBegun {T = Unit {0}} progress.begun (Ok tt) (Some s) shelf → RunsEnd plan s tells old new shelf progress (Err f)
-      told_untold f wants idle = elim (cases_Bool progress.begun) [
-        | inl busy ↦ record {
-          outs = outputs_of stores relations;
-          state = subst (λ g. Ends tells s (record { outs = outputs_of stores relations; kept = kept_in false progress; shelf = shelf }) (Runs plan) (Some g)) (sym wants)
-              (no_memory_behind (whole (kept_in false progress) (ap (λ b. cond b progress.kept []) busy)));
-          asked = all_asked (Some f);
+        pub told_done : (text : List ℕ) → progress.notes ≡ map note_of outs → text ≡ flat_map noted_line progress.notes ++ done_line (counts_in progress) → RunsEnd run s tells old new shelf progress (Ok text)
+        told_done text notes is = record {
+          outs = outs;
+          state = done whole;
+          asked = all_asked None;
+          numbers = λ e. record {
+            read = λ t. (given t).read_is;
+            shuffled = λ t. subst (λ k. IsRunOf run.stages s.inputs k (map (λ out. out.parts) outs) progress.shuffled) (sym kept_same) (given t).run_of;
+            stored = ap (λ n. n % 2 ^ 64) (ap (sum_by (λ note. note.lines)) notes ∙ lines_sum outs);
+          };
+          text = is ∙ ap (λ ns. flat_map noted_line ns ++ done_line (counts_in progress)) notes
+              ∙ ap (λ xs. xs ++ done_line (counts_in progress)) (flat_map-map noted_line note_of outs);
+          said_is = silent;
+        }
+
+        -- memory was wanting for the text
+        pub told_untold : RunsEnd run s tells old new shelf progress (Err fault.OutOfMemory)
+        told_untold = record {
+          outs = outs;
+          state = no_memory_behind whole;
+          asked = all_asked (Some fault.OutOfMemory);
           numbers = λ e. absurd (cc);
           text = tt;
+          said_is = silent;
         }
-        | inr quiet ↦ record {
-          outs = [];
-          state = subst (λ g. Ends tells s (record { outs = []; kept = kept_in false progress; shelf = shelf }) (Runs plan) (Some g)) (sym wants) (no_memory (untouched s shelf progress (idle quiet).0 quiet));
-          asked = all_asked (Some f);
-          numbers = λ e. absurd (cc);
-          text = tt;
-        }
-      ]

@@ -1,19 +1,22 @@
 -- All that a depot is asked comes in its order.
-use Rattle.std.proofs.Common.{◌≡◌, ◌∙◌, ◌++◌, ℕ, List, [], ◌∷◌, map, Option, Some, None, Result, Ok, Err, IfOk, MatchResult, refl, sym, subst, inl, inr}
+use Rattle.std.proofs.Common.{◌≡◌, ◌∙◌, ◌++◌, ℕ, List, [], ◌∷◌, length, map, Option, Some, None, Result, Ok, Err, IfOk, MatchResult, refl, sym, ap, subst, inl, inr}
 use Rattle.std.specs.List.{flat_map}
-use Rattle.std.proofs.lemmas.List.{append-nil, map-append}
+use Rattle.std.proofs.lemmas.List.{append-nil, length-map, map-append}
 use Rattle.pig_outside.specs.Calls.{DepotCall}
 use Rattle.pig_outside.specs.declared.failing.Method.{Method}
 use Rattle.pig_outside.specs.declared.failing.Method.TheVariants as method
 use Rattle.pig_run.specs.declared.looking.Prepared.{Prepared}
 use Rattle.pig_run.specs.declared.outcome.RunFault.{RunFault}
 use Rattle.pig_run.specs.declared.outcome.RunFault.TheVariants as fault
-use Rattle.pig_run.specs.Due.{call, store_calls}
+use Rattle.pig_commit.specs.Calls.{AskedFor, store_calls as calls_for_store}
+use Rattle.pig_commit.specs.declared.parts.StorePart.{StorePart}
+use Rattle.pig_run.specs.Due.{call, making}
 use Rattle.pig_run.specs.Ends.{Console, Shown, cut_short, failed, no_text, no_text_cut, no_text_failed, printed}
 use Rattle.pig_run.specs.Orderly.{AsksAll, AsksScript, AsksSome, IsOrderly, IsOrderlyBehind, LooksUp, Makes, MayMake, calls_for}
-use Rattle.pig_run.specs.Running.{AskedFor, found_in}
+use Rattle.pig_run.specs.Running.{found_in}
 use Rattle.pig_run.specs.Steps.{IsCommitFault}
 use Rattle.pig_run.specs.Told.{Asked}
+use Rattle.pig_run.proofs.Ending.{made_calls}
 use Rattle.pig_run.proofs.Stages.{asked_nothing, asked_then}
 
 -- ---- paths in turn
@@ -62,9 +65,11 @@ module _ {T : Type 0} (dirs : List (List ℕ)) (found : Result T RunFault) (old 
 pub makes_none : {T : Type 0} (result : Result T RunFault) → IfOk result (λ _. ⊥) → (dirs : List (List ℕ)) (old new : Option (List DepotCall)) → new ≡ old → Makes dirs (found_in result) old new
 makes_none (Ok x) h dirs old new same = absurd h
 makes_none (Err f) h dirs old new same = record {
+  parts = map length dirs;
+  each = length-map dirs length;
   made = [];
   asked = asked_nothing old new same;
-  first = (flat_map store_calls dirs, refl);
+  first = (making dirs (map length dirs), refl);
   none = λ _. refl;
   whole = λ e. absurd (cc);
 }
@@ -74,28 +79,48 @@ may_break : (n : ℕ) (f : RunFault) → IsCommitFault n f → MayMake (Some f)
 may_break n f (inl is) = subst (λ g. MayMake (Some g)) (sym is) tt
 may_break n f (inr is) = subst (λ g. MayMake (Some g)) (sym is) tt
 
-pub makes_broken : {T U : Type 0} (result : Result T RunFault) (n : ℕ) → MatchResult result (λ _. ⊥) (IsCommitFault n) → (dirs : List (List ℕ)) (found : Result U RunFault) (old new : Option (List DepotCall))
-    → AskedFor (flat_map store_calls dirs) found old new → Makes dirs (found_in result) old new
-makes_broken (Ok x) n h dirs found old new asked = absurd h
-makes_broken (Err f) n h dirs found old new asked = record {
-  made = asked.made;
-  asked = asked.asked;
-  first = asked.first;
-  none = λ never. absurd (never (may_break n f h));
-  whole = λ e. absurd (cc);
-}
+module _ (outs : List StorePart) (dirs : List (List ℕ)) (dirs_are : map (λ out. out.dir) outs ≡ dirs) where
+  abbrev counts : List ℕ
+  counts = map (λ out. length out.parts) outs
 
--- all was made
-module _ (dirs : List (List ℕ)) (old new : Option (List DepotCall)) (asked : AskedFor {T = Unit {0}} (flat_map store_calls dirs) (Ok tt) old new) where
-  pub makes_all : Makes dirs None old new
-  makes_all = record { made = asked.made; asked = asked.asked; first = asked.first; none = λ never. absurd (never tt); whole = λ _. asked.all }
+  as_many : length counts ≡ length dirs
+  as_many = length-map outs (λ out. length out.parts) ∙ sym (length-map outs (λ out. out.dir)) ∙ ap length dirs_are
 
-  pub makes_untold : {T : Type 0} (result : Result T RunFault) → MatchResult result (λ _. ⊥) (λ f. f ≡ fault.OutOfMemory) → Makes dirs (found_in result) old new
-  makes_untold result h = makes_broken {U = Unit {0}} result 0 (weaker result h) dirs (Ok tt) old new asked
-    where
-      weaker : {T : Type 0} (r : Result T RunFault) → MatchResult r (λ _. ⊥) (λ f. f ≡ fault.OutOfMemory) → MatchResult r (λ _. ⊥) (IsCommitFault 0)
-      weaker (Ok x) h = h
-      weaker (Err f) h = inr h
+  all_calls : flat_map calls_for_store outs ≡ making dirs counts
+  all_calls = made_calls outs ∙ ap (λ ds. making ds counts) dirs_are
+
+  pub makes_broken : {T U : Type 0} (result : Result T RunFault) (n : ℕ) → MatchResult result (λ _. ⊥) (IsCommitFault n) → (found : Result U RunFault) (old new : Option (List DepotCall))
+      → AskedFor (flat_map calls_for_store outs) found old new → Makes dirs (found_in result) old new
+  makes_broken (Ok x) n h found old new asked = absurd h
+  makes_broken (Err f) n h found old new asked = record {
+    parts = counts;
+    each = as_many;
+    made = asked.made;
+    asked = asked.asked;
+    first = (asked.left, sym all_calls ∙ sym asked.first);
+    none = λ never. absurd (never (may_break n f h));
+    whole = λ e. absurd (cc);
+  }
+
+  -- all was made
+  module _ (old new : Option (List DepotCall)) (asked : AskedFor {T = Unit {0}} {E = RunFault} (flat_map calls_for_store outs) (Ok tt) old new) where
+    pub makes_all : Makes dirs None old new
+    makes_all = record {
+      parts = counts;
+      each = as_many;
+      made = asked.made;
+      asked = asked.asked;
+      first = (asked.left, sym all_calls ∙ sym asked.first);
+      none = λ never. absurd (never tt);
+      whole = λ _. sym (append-nil asked.made) ∙ ap (λ xs. asked.made ++ xs) (sym asked.all) ∙ asked.first ∙ all_calls;
+    }
+
+    pub makes_untold : {T : Type 0} (result : Result T RunFault) → MatchResult result (λ _. ⊥) (λ f. f ≡ fault.OutOfMemory) → Makes dirs (found_in result) old new
+    makes_untold result h = makes_broken {U = Unit {0}} result 0 (weaker result h) (Ok tt) old new asked
+      where
+        weaker : {T : Type 0} (r : Result T RunFault) → MatchResult r (λ _. ⊥) (λ f. f ≡ fault.OutOfMemory) → MatchResult r (λ _. ⊥) (IsCommitFault 0)
+        weaker (Ok x) h = h
+        weaker (Err f) h = inr h
 
 -- ---- together
 
@@ -122,7 +147,7 @@ orderly_made p answer old mid new looks makes = record {
 
 -- nothing was asked
 idle : {T : Type 0} (result : Result T RunFault) (old new : Option (List DepotCall)) → new ≡ old → Makes [] (found_in result) old new
-idle (Ok x) old new same = record { made = []; asked = asked_nothing old new same; first = ([], refl); none = λ _. refl; whole = λ _. refl }
+idle (Ok x) old new same = record { parts = []; each = refl; made = []; asked = asked_nothing old new same; first = ([], refl); none = λ _. refl; whole = λ _. refl }
 idle (Err f) old new same = makes_none {T = Unit {0}} (Err f) tt [] old new same
 
 pub orderly_idle : {T : Type 0} (result : Result T RunFault) (old new : Option (List DepotCall)) → new ≡ old → IsOrderlyBehind (found_in result) old new
@@ -145,6 +170,8 @@ orderly_behind answer old mid new script rest = record {
 makes_shown : (text : List ℕ) (old new : Console) (found final : Option RunFault) → Shown text old new found final → (dirs : List (List ℕ)) (before after : Option (List DepotCall))
     → Makes dirs found before after → Makes dirs final before after
 makes_shown text old new found final shown dirs before after m = record {
+  parts = m.parts;
+  each = m.each;
   made = m.made;
   asked = m.asked;
   first = m.first;
@@ -161,7 +188,7 @@ makes_shown text old new found final shown dirs before after m = record {
     none_made found _ (no_text_failed fails is) h never = absurd (never tt)
     none_made found _ (no_text_cut sound is) h never = absurd (never tt)
 
-    all_made : (found final : Option RunFault) → Shown text old new found final → (found ≡ None → m.made ≡ flat_map store_calls dirs) → final ≡ None → m.made ≡ flat_map store_calls dirs
+    all_made : (found final : Option RunFault) → Shown text old new found final → (found ≡ None → m.made ≡ making dirs m.parts) → final ≡ None → m.made ≡ making dirs m.parts
     all_made found _ (printed sound is) h e = h e
     all_made found _ (failed fails is) h e = absurd (cc)
     all_made found _ (cut_short sound is) h e = absurd (cc)

@@ -1,31 +1,33 @@
 -- From a run, and from what the console made of its text, to what the top call says.
-use Rattle.std.proofs.Common.{◌≡◌, ◌<◌, ◌≤◌, ℕ, zero, suc, List, [], ◌∷◌, length, map, min, take, get_or, slice_set, Option, Some, None, Result, Ok, Err, MatchResult, IfErr, refl, sym, ◌∙◌, ap, subst, arith, inl, inr, ◌⊎◌}
+use Rattle.std.proofs.Common.{◌≡◌, ◌≢◌, ◌<◌, ◌≤◌, ◌+◌, ◌++◌, ℕ, zero, suc, List, [], ◌∷◌, length, map, take, drop, Option, Some, None, Result, Ok, Err, MatchResult, IfErr, All, refl, sym, ◌∙◌, ap, subst, arith, inl, inr, ◌⊎◌}
 use Rattle.std.specs.List.{AllByRecursion, sum_by}
-use Rattle.std.specs.Result.{is_ok}
 use Rattle.std.proofs.lemmas.List.Sums.{sum_by-cons}
 use Rattle.pig_value.specs.declared.inputs.Input.{Input}
-use Rattle.pig_outside.specs.Calls.{DepotCall}
+use Rattle.pig_outside.specs.Calls.{Attempt, DepotCall}
 use Rattle.pig_outside.specs.Shelf.{Shelf}
+use Rattle.pig_board.specs.End.{end_of}
+use Rattle.pig_board.specs.declared.end.TaskEnd.{TaskEnd}
+use Rattle.pig_pool.specs.Wave.{IsWonWave, failures_in}
+use Rattle.pig_driver.specs.Failing.{IsGivenUp}
+use Rattle.pig_driver.specs.Going.{AreWon}
 use Rattle.pig_run.specs.declared.outcome.Outcome.{Outcome}
 use Rattle.pig_run.specs.declared.outcome.RunFault.{RunFault}
 use Rattle.pig_run.specs.declared.outcome.RunFault.TheVariants as fault
 use Rattle.pig_run.specs.declared.progress.Progress.{Progress}
-use Rattle.pig_plan.specs.Plans.{Plan}
-use Rattle.pig_reach.specs.declared.storing.Store.{Store}
-use Rattle.pig_value.specs.declared.outcomes.Kept.{Kept}
-use Rattle.pig_words.specs.CommandWords.{IsCommand, IsSet, Workers}
+use Rattle.pig_words.specs.CommandWords.{IsCommand}
 use Rattle.pig_words.specs.declared.words.Command.{Command}
 use Rattle.pig_run.specs.declared.outcome.Counts.{Counts}
-use Rattle.pig_run.specs.Due.{HasWords, IsDue, Line, Stage, no_words, with_words}
-use Rattle.pig_run.specs.Ends.{Console, Ends, Fails, Shown, counts_shown, cut_short, done, failed, host_failed, lookup_failed, no_memory, no_memory_at, no_memory_behind, no_text, no_text_cut, no_text_failed, printed, refused, shows, store_failed, unshown}
-use Rattle.pig_run.specs.Outputs.{AreStored, IsStopped, IsWhole, Left, Output}
-use Rattle.pig_run.specs.Reading.{Prints, Refuses, Runs, Verdict}
-use Rattle.pig_run.specs.Refusals.{by_depot, by_host, cause_of}
-use Rattle.pig_run.specs.Running.{RunEnd, RunTold, counts_in, end_text, found_in, kept_in}
-use Rattle.pig_run.specs.Steps.{DepotCause, HostCause, SaysWords, StoreBlame}
+use Rattle.pig_run.specs.Blame.{BlamesTask, CommitsEach, CrewHasWorked, HaveWorked, HostsHaveWorked, ShowsFailure}
+use Rattle.pig_run.specs.Due.{HasWords, IsDue, Line, Stage}
+use Rattle.pig_run.specs.Ends.{Console, Ends, Fails, Shown, assert_failed, counts_shown, cut_short, done, failed, lookup_failed, no_memory, no_memory_at, no_memory_behind, no_memory_in, no_text, no_text_cut, no_text_failed, printed, refused, shows, store_failed, task_failed, unshown}
+use Rattle.pig_run.specs.Outputs.{IsLost, Left}
+use Rattle.pig_run.specs.Reading.{Prints, Refuses, Run, Runs, Verdict}
+use Rattle.pig_run.specs.Refusals.{by_depot, cause_of}
+use Rattle.pig_run.specs.Running.{RunEnd, RunTold, counts_in, end_text, found_in, kept_in, left_in}
+use Rattle.pig_run.specs.Steps.{DepotCause, SaysWords, StoreBlame}
 use Rattle.pig_run.specs.Texts.{answer_text, fault_text}
-use Rattle.pig_run.specs.Told.{AllTell, CountsAre, IsCaused, IsRight, Seen, SomeFailed, TellsInputs, Told, line_of}
-use Rattle.pig_run.proofs.Deciding.{just}
+use Rattle.pig_run.specs.Told.{CountsAre, HaveFailed, IsCaused, IsRight, Seen, Told, all_done, most_lost, unmet}
+use Rattle.pig_run.proofs.Deciding.{just, same_command}
 
 -- ---- faults by their causes
 
@@ -38,68 +40,85 @@ depot_of (fault.Check n kind) store e = absurd (cc)
 depot_of (fault.NoInput path) store e = absurd (cc)
 depot_of (fault.OutputExists dir) store e = absurd (cc)
 depot_of (fault.DepotFault other) store e = let same : other ≡ store = cc in ap fault.DepotFault same
-depot_of fault.HostFault store e = absurd (cc)
+depot_of (fault.TaskFailed wave task times) store e = absurd (cc)
+depot_of (fault.AssertFailed n) store e = absurd (cc)
 depot_of fault.OutOfMemory store e = absurd (cc)
 depot_of fault.ConsoleFault store e = absurd (cc)
 depot_of (fault.TooLarge which) store e = absurd (cc)
 
-host_of : (f : RunFault) → cause_of f ≡ by_host → f ≡ fault.HostFault
-host_of fault.Usage e = absurd (cc)
-host_of fault.NoScript e = absurd (cc)
-host_of (fault.Lex offset) e = absurd (cc)
-host_of (fault.Syntax n) e = absurd (cc)
-host_of (fault.Check n kind) e = absurd (cc)
-host_of (fault.NoInput path) e = absurd (cc)
-host_of (fault.OutputExists dir) e = absurd (cc)
-host_of (fault.DepotFault other) e = absurd (cc)
-host_of fault.HostFault e = refl
-host_of fault.OutOfMemory e = absurd (cc)
-host_of fault.ConsoleFault e = absurd (cc)
-host_of (fault.TooLarge which) e = absurd (cc)
+caused : (old new : Seen) (result : Result (List ℕ) RunFault) → DepotCause old.depot_faults new.depot_faults result → IsCaused (found_in result) old new
+caused old new (Ok text) depot = tt
+caused old new (Err f) depot = λ store is. depot.failed store (ap Err (depot_of f store is))
 
-caused : (old new : Seen) (result : Result (List ℕ) RunFault) → DepotCause old.depot_faults new.depot_faults result → HostCause old.host_faults new.host_faults result
-    → IsCaused (found_in result) old new
-caused old new (Ok text) depot host = tt
-caused old new (Err f) depot host = (
-  λ store is. depot.failed store (ap Err (depot_of f store is)),
-  λ is. host.failed (ap Err (host_of f is)),
-)
+-- ---- a task that failed
+
+sum_joined : {X : Type 0} (f : X → ℕ) (xs : List X) (x : X) → sum_by f (xs ++ x ∷ []) ≡ sum_by f xs + f x
+sum_joined f [] x = let e = sum_by-cons f x [] in omega (arith, e)
+sum_joined f (y ∷ xs) x =
+    let a = sum_by-cons f y (xs ++ x ∷ []) in
+    let b = sum_by-cons f y xs in
+    let more = sum_joined f xs x in
+    omega (arith, a, b, more)
+
+-- the failures of a wave are no fewer than those of one task
+one_of : (ends : List TaskEnd) (t : ℕ) → t < length ends → (end_of ends t).failed ≤ failures_in ends
+one_of [] t h = absurd (omega (arith, h))
+one_of (e ∷ ends) zero h = let a = sum_by-cons (λ e. e.failed) e ends in omega (arith, a)
+one_of (e ∷ ends) (suc t) h =
+    let a = sum_by-cons (λ e. e.failed) e ends in
+    let rest = one_of ends t (omega (arith, h)) in
+    omega (arith, a, rest)
+
+-- so a task is given up only where the hosts failed as often
+enough_lost : (run : Run) (s : Shelf) (wave task times before now : ℕ) (left : Left) → IsLost run s wave task times left → before + sum_by failures_in left.waves ≤ now → before + run.limit ≤ now
+enough_lost run s wave task times before now left is rise =
+    let up = is.given_up in
+    let least = up.failing.least in
+    let sums = ap (sum_by failures_in) up.are ∙ sum_joined failures_in up.before up.last in
+    let one = one_of up.last task least.below in
+    let many = least.failed in
+    omega (arith, rise, sums, one, many)
 
 -- ---- what is right
 
-found_right : (tells : Type 0) (s : Shelf) (left : Left) (old new : Seen) (v : Verdict) (found : Option RunFault) → Ends tells s left v found → IsCaused found old new → ¬ SomeFailed old new
-    → IsRight v found ⊎ (found ≡ Some fault.OutOfMemory)
-found_right tells s left old new _ _ (refused names is) cause sound = inl names
-found_right tells s left old new _ _ (shows is) cause sound = inl refl
-found_right tells s left old new v _ (lookup_failed is) cause sound = absurd (sound (inl (cause.0 None refl)))
-found_right tells s left old new _ _ (host_failed is) cause sound = absurd (sound (inr (inl (cause.1 refl))))
-found_right tells s left old new _ _ (store_failed {n = n} is) cause sound = absurd (sound (inl (cause.0 (Some n) refl)))
-found_right tells s left old new _ _ (done is) cause sound = inl refl
-found_right tells s left old new v _ (no_memory is) cause sound = inr refl
-found_right tells s left old new _ _ (no_memory_at is) cause sound = inr refl
-found_right tells s left old new _ _ (no_memory_behind is) cause sound = inr refl
+found_right : (tells : Type 0) (s : Shelf) (left : Left) (old new : Seen) (v : Verdict) (found : Option RunFault) → Ends tells s left v found → IsCaused found old new
+    → old.host_faults + sum_by failures_in left.waves ≤ new.host_faults → ¬ HaveFailed (most_lost v) old new → IsRight v found ⊎ (found ≡ Some fault.OutOfMemory)
+found_right tells s left old new _ _ (refused names is) cause rise sound = inl names
+found_right tells s left old new _ _ (shows is) cause rise sound = inl refl
+found_right tells s left old new v _ (lookup_failed is) cause rise sound = absurd (sound (inl (cause None refl)))
+found_right tells s left old new _ _ (task_failed {run = r} {wave = w} {task = t} {failed = f} is) cause rise sound =
+    absurd (sound (inr (inl (enough_lost r s w t f old.host_faults new.host_faults left is rise))))
+found_right tells s left old new _ _ (assert_failed is) cause rise sound = inl unmet
+found_right tells s left old new _ _ (store_failed {n = n} is) cause rise sound = absurd (sound (inl (cause (Some n) refl)))
+found_right tells s left old new _ _ (done is) cause rise sound = inl all_done
+found_right tells s left old new v _ (no_memory is) cause rise sound = inr refl
+found_right tells s left old new _ _ (no_memory_in is) cause rise sound = inr refl
+found_right tells s left old new _ _ (no_memory_at is) cause rise sound = inr refl
+found_right tells s left old new _ _ (no_memory_behind is) cause rise sound = inr refl
 
-shown_right : (v : Verdict) (text : List ℕ) (old new : Seen) (found final : Option RunFault) → Shown text old.console new.console found final → ¬ SomeFailed old new
+shown_right : (v : Verdict) (text : List ℕ) (many : ℕ) (old new : Seen) (found final : Option RunFault) → Shown text old.console new.console found final → ¬ HaveFailed many old new
     → IsRight v found ⊎ (found ≡ Some fault.OutOfMemory) → IsRight v final ⊎ (final ≡ Some fault.OutOfMemory)
-shown_right v text old new found _ (printed sound is) none right = right
-shown_right v text old new found _ (failed fails is) none right = absurd (none (inr (inr fails)))
-shown_right v text old new found _ (cut_short sound is) none right = inr refl
-shown_right v text old new found _ (no_text sound is) none right = inr refl
-shown_right v text old new found _ (no_text_failed fails is) none right = inr refl
-shown_right v text old new found _ (no_text_cut sound is) none right = inr refl
+shown_right v text many old new found _ (printed sound is) none right = right
+shown_right v text many old new found _ (failed fails is) none right = absurd (none (inr (inr fails)))
+shown_right v text many old new found _ (cut_short sound is) none right = inr refl
+shown_right v text many old new found _ (no_text sound is) none right = inr refl
+shown_right v text many old new found _ (no_text_failed fails is) none right = inr refl
+shown_right v text many old new found _ (no_text_cut sound is) none right = inr refl
 
 text_is : (stage : Stage) (s : Shelf) (tells : Type 0) (old new : Seen) (progress : Progress) (result : Result (List ℕ) RunFault) (r : RunEnd stage s tells old.calls new.calls new.shelf progress result)
-    → end_text result ≡ answer_text r.verdict r.outs (counts_in progress) (found_in result)
+    → end_text progress.said.items result ≡ answer_text r.verdict r.outs (counts_in progress) (found_in result)
 text_is stage s tells old new progress (Ok text) r = r.text
-text_is stage s tells old new progress (Err f) r = refl
+text_is stage s tells old new progress (Err f) r = ap (λ said. fault_text said f) r.said_is
 
 pub told_all : (line : Line) (s : Shelf) (tells : Type 0) (old new : Seen) (outcome : Outcome) (progress : Progress) (result : Result (List ℕ) RunFault)
     → RunEnd (IsDue line s) s tells old.calls new.calls new.shelf progress result
-    → Shown (end_text result) old.console new.console (found_in result) outcome.fault → outcome.kept ≡ kept_in (is_ok result) progress
-    → outcome.counts ≡ counts_shown outcome.fault (counts_in progress) → DepotCause old.depot_faults new.depot_faults result → HostCause old.host_faults new.host_faults result
-    → Told line s tells old new outcome
-told_all line s tells old new outcome progress result r shown kept counts depot host =
-    let cause = caused old new result depot host in
+    → Shown (end_text progress.said.items result) old.console new.console (found_in result) outcome.fault → outcome.kept ≡ kept_in progress → outcome.waves ≡ progress.ends
+    → outcome.counts ≡ counts_shown outcome.fault (counts_in progress) → DepotCause old.depot_faults new.depot_faults result
+    → old.host_faults + sum_by failures_in progress.ends ≤ new.host_faults → Told line s tells old new outcome
+told_all line s tells old new outcome progress result r shown kept waves counts depot rise =
+    let cause = caused old new result depot in
+    let left_is : left_in r.outs progress new.shelf ≡ record { outs = r.outs; kept = outcome.kept; waves = outcome.waves; shelf = new.shelf } =
+    λ i. record { outs = r.outs; kept = sym kept i; waves = sym waves i; shelf = new.shelf } in
     record {
       verdict = r.verdict;
       calls = r.calls;
@@ -107,14 +126,14 @@ told_all line s tells old new outcome progress result r shown kept counts depot 
       found = found_in result;
       outs = r.outs;
       counts = counts_in progress;
-      state = subst (λ k. Ends tells s (record { outs = r.outs; kept = k; shelf = new.shelf }) r.verdict (found_in result)) (sym kept) r.state;
+      state = subst (λ left. Ends tells s left r.verdict (found_in result)) left_is r.state;
       cause = cause;
       asked = r.asked;
-      numbers = r.numbers;
+      numbers = subst (λ left. CountsAre tells r.verdict s left (counts_in progress) (found_in result)) left_is r.numbers;
       text = subst (λ t. Shown t old.console new.console (found_in result) outcome.fault) (text_is (IsDue line s) s tells old new progress result r) shown;
       counted = counts;
-      complete = λ none. shown_right r.verdict (end_text result) old new (found_in result) outcome.fault shown none
-          (found_right tells s (record { outs = r.outs; kept = kept_in (is_ok result) progress; shelf = new.shelf }) old new r.verdict (found_in result) r.state cause none);
+      complete = λ none. shown_right r.verdict (end_text progress.said.items result) (most_lost r.verdict) old new (found_in result) outcome.fault shown none
+          (found_right tells s (left_in r.outs progress new.shelf) old new r.verdict (found_in result) r.state cause rise none);
     }
 
 -- what a run told of each end
@@ -122,112 +141,6 @@ pub run_told : (stage : Stage) (s : Shelf) (tells : Type 0) (old new : Option (L
     → RunTold stage s tells old new shelf progress result → RunEnd stage s tells old new shelf progress result
 run_told stage s tells old new shelf progress (Ok text) h = h
 run_told stage s tells old new shelf progress (Err f) h = h
-
--- ---- what is said where the hosts tell
-
-module _ {tells others : Type 0} {plan : Plan} (more : others → tells) where
-  stored_told : {inputs : List Input} {kept : List Kept} {stores : List Store} {outs : List Output} → AreStored tells plan inputs kept stores outs → AreStored others plan inputs kept stores outs
-  stored_told h = record { dirs = h.dirs; counted = h.counted; are = λ t. h.are (more t) }
-
-  whole_told : {s : Shelf} {left : Left} → IsWhole tells plan s left → IsWhole others plan s left
-  whole_told h = record { stored = stored_told h.stored; made = h.made; kept = λ t. h.kept (more t) }
-
-  stopped_told : {s : Shelf} {n : ℕ} {left : Left} → IsStopped tells plan s n left → IsStopped others plan s n left
-  stopped_told h = record {
-    before = h.before;
-    store = h.store;
-    behind = h.behind;
-    are = h.are;
-    named = h.named;
-    stored = stored_told h.stored;
-    opened = h.opened;
-    kept = λ t. h.kept (more t);
-  }
-
-module _ (tells others : Type 0) (s : Shelf) where
-  ends_told : (left : Left) (v : Verdict) (found : Option RunFault) → ((plan : Plan) → v ≡ Runs plan → others → tells) → Ends tells s left v found → Ends others s left v found
-  ends_told left _ _ more (refused names is) = refused names is
-  ends_told left _ _ more (shows is) = shows is
-  ends_told left v _ more (lookup_failed is) = lookup_failed is
-  ends_told left _ _ more (host_failed is) = host_failed is
-  ends_told left _ _ more (store_failed {plan = p} is) = store_failed (stopped_told (more p refl) is)
-  ends_told left _ _ more (done {plan = p} is) = done (whole_told (more p refl) is)
-  ends_told left v _ more (no_memory is) = no_memory is
-  ends_told left _ _ more (no_memory_at {plan = p} is) = no_memory_at (stopped_told (more p refl) is)
-  ends_told left _ _ more (no_memory_behind {plan = p} is) = no_memory_behind (whole_told (more p refl) is)
-
-  numbers_told : (v : Verdict) (outs : List Output) (counts : Counts) (found : Option RunFault) → ((plan : Plan) → v ≡ Runs plan → others → tells) → CountsAre tells v s outs counts found
-      → CountsAre others v s outs counts found
-  numbers_told (Refuses refusal) outs counts found more h = h
-  numbers_told (Prints text) outs counts found more h = h
-  numbers_told (Runs plan) outs counts found more h = λ e. let k = h e in record { read = λ t. k.read (more plan refl t); shuffled = k.shuffled; stored = k.stored }
-
-  end_told : (stage : Stage) (old new : Option (List DepotCall)) (shelf : Option Shelf) (progress : Progress) (result : Result (List ℕ) RunFault) (r : RunEnd stage s tells old new shelf progress result)
-      → ((plan : Plan) → r.verdict ≡ Runs plan → others → tells) → RunEnd stage s others old new shelf progress result
-  end_told stage old new shelf progress result r more = record {
-    verdict = r.verdict;
-    calls = r.calls;
-    due = r.due;
-    outs = r.outs;
-    state = ends_told (record { outs = r.outs; kept = kept_in (is_ok result) progress; shelf = shelf }) r.verdict (found_in result) more r.state;
-    asked = r.asked;
-    numbers = numbers_told r.verdict r.outs (counts_in progress) (found_in result) more r.numbers;
-    text = r.text;
-  }
-
--- a plan is run of words that are a command
-due_words : (line : Line) (s : Shelf) (calls : List DepotCall) (v : Verdict) (plan : Plan) → IsDue line s calls v → v ≡ Runs plan → HasWords line
-due_words line s _ _ plan (no_words none) e = absurd (cc)
-due_words line s calls v plan (with_words {command = c} are due) e = (c, are)
-
--- which has a worker
-some_worker : (line : Line) (c : Command) → 1 ≤ line.hosts → IsCommand line.hosts line.words c → 1 ≤ c.workers
-some_worker line c within is = go (is.given.values Workers) is.makes.workers
-  where
-    go : (o : Option (List ℕ)) → IsSet o (min 4 line.hosts) line.hosts c.workers → 1 ≤ c.workers
-    go None e = omega (arith, within, e)
-    go (Some value) e = e.1
-
-first_tells : {X : Type 0} (inputs : X → Option (List Input)) (n : ℕ) (z : X) (zs : List X) → 1 ≤ n → AllByRecursion TellsInputs (map inputs (take n (z ∷ zs))) → TellsInputs (inputs z)
-first_tells inputs zero z zs some all = absurd (omega (arith, some))
-first_tells inputs (suc n) z zs some all = all.0
-
--- so it is over the hosts, of which the first works
-module _ {X : Type 0} (inputs : X → Option (List Input)) (faults : X → ℕ) where
-  sums : (z y : X) (zs : List X) (result : Result (List ℕ) RunFault) → HostCause (faults z) (faults y) result → HostCause (sum_by faults (z ∷ zs)) (sum_by faults (y ∷ zs)) result
-  sums z y zs result h =
-      let before = sum_by-cons faults z zs in
-      let now = sum_by-cons faults y zs in
-      record {
-        later = let l = h.later in omega (arith, before, now, l);
-        failed = λ e. let r = h.failed e in omega (arith, before, now, r);
-      }
-
-  pub host_blamed_sum : (xs : List X) (x y d : X) → 1 ≤ length xs → x ≡ get_or xs 0 d → (result : Result (List ℕ) RunFault) → HostCause (faults x) (faults y) result
-      → HostCause (sum_by faults xs) (sum_by faults (slice_set xs 0 y)) result
-  host_blamed_sum [] x y d within at result host = absurd (omega (arith, within))
-  host_blamed_sum (z ∷ zs) x y d within at result host = sums z y zs result (subst (λ w. HostCause (faults w) (faults y) result) at host)
-
-  pub told_over : (xs : List X) (x y d : X) → 1 ≤ length xs → x ≡ get_or xs 0 d → (words : List (List ℕ)) (hosts : ℕ) → hosts ≡ length xs → (s : Shelf) (old new : Seen)
-      → old.host_faults ≡ sum_by faults xs → new.host_faults ≡ sum_by faults (slice_set xs 0 y) → (outcome : Outcome) (progress : Progress) (result : Result (List ℕ) RunFault)
-      → RunEnd (IsDue (record { hosts = hosts; words = words }) s) s (TellsInputs (inputs x)) old.calls new.calls new.shelf progress result
-      → Shown (end_text result) old.console new.console (found_in result) outcome.fault → outcome.kept ≡ kept_in (is_ok result) progress
-      → outcome.counts ≡ counts_shown outcome.fault (counts_in progress) → DepotCause old.depot_faults new.depot_faults result → HostCause (faults x) (faults y) result
-      → Told (line_of xs words) s (AllTell inputs (line_of xs words) xs) old new outcome
-  told_over [] x y d within at words hosts is s old new before now outcome progress result run shown kept counts depot host = absurd (omega (arith, within))
-  told_over (z ∷ zs) x y d within at words hosts is s old new before now outcome progress result run shown kept counts depot host =
-      let line = line_of (z ∷ zs) words in
-      let blamed : HostCause (sum_by faults (z ∷ zs)) (sum_by faults (y ∷ zs)) result = host_blamed_sum (z ∷ zs) x y d within at result host in
-      let first : RunEnd (IsDue (record { hosts = hosts; words = words }) s) s (TellsInputs (inputs z)) old.calls new.calls new.shelf progress result =
-      subst (λ w. RunEnd (IsDue (record { hosts = hosts; words = words }) s) s (TellsInputs (inputs w)) old.calls new.calls new.shelf progress result) at run in
-      let over : RunEnd (IsDue line s) s (TellsInputs (inputs z)) old.calls new.calls new.shelf progress result =
-      subst (λ n. RunEnd (IsDue (record { hosts = n; words = words }) s) s (TellsInputs (inputs z)) old.calls new.calls new.shelf progress result) is first in
-      told_all line s (AllTell inputs line (z ∷ zs)) old new outcome progress result
-      (end_told (TellsInputs (inputs z)) (AllTell inputs line (z ∷ zs)) s (IsDue line s) old.calls new.calls new.shelf progress result over (λ plan e all.
-      let has = due_words line s over.calls over.verdict plan over.due e in
-      first_tells inputs has.0.workers z zs (some_worker line has.0 within has.1.is) (all has.0 has.1.is)))
-      shown kept counts depot
-      (subst (λ n. HostCause n new.host_faults result) (sym before) (subst (λ n. HostCause (sum_by faults (z ∷ zs)) n result) (sym now) blamed))
 
 -- ---- the causes of what is answered
 
@@ -284,8 +197,44 @@ module _ (text : List ℕ) (old new : Console) (result : Result (List ℕ) RunFa
   pub lookup_blamed : (before now : ℕ) → StoreBlame before now result → final ≡ Some (fault.DepotFault None) → now ≡ before
   lookup_blamed before now cause is = cause.lookup (was_found (fault.DepotFault None) (λ e. absurd (cc)) (λ e. absurd (cc)) is)
 
-  pub host_blamed : (before now : ℕ) → HostCause before now result → final ≡ Some fault.HostFault → before < now
-  host_blamed before now cause is = cause.failed (was_found fault.HostFault (λ e. absurd (cc)) (λ e. absurd (cc)) is)
+  -- the waves are those of the run
+  pub blamed_task : (limit : ℕ) (waves : List (List TaskEnd)) → BlamesTask limit (found_in result) waves → BlamesTask limit final waves
+  blamed_task limit waves h wave task times is = h wave task times (ap found_in (was_found (fault.TaskFailed wave task times) (λ e. absurd (cc)) (λ e. absurd (cc)) is))
+
+  pub committed : (waves : List (List TaskEnd)) → CommitsEach (found_in result) waves → CommitsEach final waves
+  committed waves h none = h (none_found final shown none)
+    where
+      none_found : (final : Option RunFault) → Shown text old new (found_in result) final → final ≡ None → found_in result ≡ None
+      none_found _ (printed sound is) e = e
+      none_found _ (failed fails is) e = absurd (cc)
+      none_found _ (cut_short sound is) e = absurd (cc)
+      none_found _ (no_text sound is) e = absurd (cc)
+      none_found _ (no_text_failed fails is) e = absurd (cc)
+      none_found _ (no_text_cut sound is) e = absurd (cc)
+
+  module _ {H : Type 0} (inputs : H → Option (List Input)) (faults : H → ℕ) (begun : H → Option (List Attempt)) where
+    worked_shown : (limit : ℕ) (before now : List H) (waves : List (List TaskEnd)) → HaveWorked inputs faults begun limit before now waves (found_in result) → HaveWorked inputs faults begun limit before now waves final
+    worked_shown limit before now waves h = record {
+      same = h.same;
+      failures = h.failures;
+      told = λ plenty. h.told (λ wanting. plenty (wants_still final shown wanting));
+      blamed = blamed_task limit waves h.blamed;
+      committed = committed waves h.committed;
+    }
+      where
+        wants_still : (final : Option RunFault) → Shown text old new (found_in result) final → found_in result ≡ Some fault.OutOfMemory → final ≡ Some fault.OutOfMemory
+        wants_still _ (printed sound is) e = e
+        wants_still _ (failed fails is) e = ap (λ o. Some (unshown o)) e
+        wants_still _ (cut_short sound is) e = refl
+        wants_still _ (no_text sound is) e = refl
+        wants_still _ (no_text_failed fails is) e = refl
+        wants_still _ (no_text_cut sound is) e = refl
+
+    pub hosts_shown : (line : Line) (before now : List H) (waves : List (List TaskEnd)) → HostsHaveWorked inputs faults begun line before now waves (found_in result) → HostsHaveWorked inputs faults begun line before now waves final
+    hosts_shown line before now waves h = record {
+      crew = λ command is. let crew = h.crew command is in record { worked = worked_shown command.attempts (take command.workers before) (take command.workers now) waves crew.worked; idle = crew.idle };
+      none = h.none;
+    }
 
   pub console_blamed : IfErr result (λ f. f ≡ fault.ConsoleFault → ⊥) → final ≡ Some fault.ConsoleFault → Fails old new
   console_blamed never is = elim (answered text old new (found_in result) final shown fault.ConsoleFault is) [
@@ -317,7 +266,7 @@ module _ (text : List ℕ) (old new : Console) (result : Result (List ℕ) RunFa
 -- ---- where memory was wanting for the text of a fault
 
 -- what was printed in its place is that of want of memory
-pub without_memory : (text : List ℕ) (old new : Console) (f : RunFault) (final : Option RunFault) → Shown (fault_text fault.OutOfMemory) old new (Some fault.OutOfMemory) final → Shown text old new (Some f) final
+pub without_memory : (text : List ℕ) (old new : Console) (f : RunFault) (final : Option RunFault) → Shown (fault_text [] fault.OutOfMemory) old new (Some fault.OutOfMemory) final → Shown text old new (Some f) final
 without_memory text old new f _ (printed sound is) = no_text sound is
 without_memory text old new f _ (failed fails is) = no_text_failed fails is
 without_memory text old new f _ (cut_short sound is) = no_text_cut sound is

@@ -3,14 +3,19 @@ use Rattle.std.proofs.Common.{◌≡◌, ◌⊎◌, ◌∙◌, ℕ, List, Option
 use Rattle.pig_outside.specs.Calls.{DepotCall}
 use Rattle.pig_outside.specs.Shelf.{Shelf}
 use Rattle.pig_plan.specs.Plans.{Plan}
+use Rattle.pig_physical.specs.Stages.{Stages}
+use Rattle.pig_work.specs.Working.{Tellings}
 use Rattle.pig_words.specs.declared.words.Command.{Command}
 use Rattle.pig_words.specs.declared.words.Verb.TheVariants as verbs
 use Rattle.pig_run.specs.declared.outcome.RunFault.{RunFault}
 use Rattle.pig_run.specs.declared.outcome.RunFault.TheVariants as fault
-use Rattle.pig_run.specs.Due.{AreWords, AssertsDue, CommandDue, HasWords, IsDue, Line, ScriptDue, check_due, no_words, run_due, with_words}
+use Rattle.pig_run.specs.declared.outcome.TooLarge.TheVariants as large
+use Rattle.pig_run.specs.Due.{AreWords, CommandDue, HasWords, InputsDue, IsDue, Line, ScriptDue, check_due, explain_due, no_words, run_due, with_words}
+use Rattle.pig_run.specs.declared.progress.Progress.{Progress}
 use Rattle.pig_run.specs.Reading.{Verdict}
+use Rattle.pig_run.specs.Running.{EndsFinding, lost, no_room, not_met}
 use Rattle.pig_run.specs.Refusals.{no_command}
-use Rattle.pig_run.specs.Steps.{IsLaterFault, IsPlanFault, IsRunFault, Passes, SaysWords, StopsIn}
+use Rattle.pig_run.specs.Steps.{IsLaterFault, IsCommitFault, IsPlanFault, Passes, SaysWords, StopsIn}
 use Rattle.pig_run.proofs.Deciding.{same_command}
 use Rattle.pig_run.proofs.Stages.{passes_itself, refuses, wants}
 
@@ -29,12 +34,13 @@ words_stop line s now f (inr h) = wants (IsDue line s) now now refl f h
 
 -- a command that runs its script
 module _ (command : Command) (s : Shelf) (n : ℕ) (plan : Plan) (is : command.verb ≡ verbs.Run) where
-  run_behind : (asked : List DepotCall) (v : Verdict) → CommandDue command s n plan asked v → AssertsDue plan s asked v
+  run_behind : (asked : List DepotCall) (v : Verdict) → CommandDue command s n plan asked v → InputsDue command s plan asked v
   run_behind asked v (run_due h due) = due
+  run_behind _ _ (explain_due h) = absurd (let e = sym is ∙ h in cc)
   run_behind _ _ (check_due h) = absurd (let e = sym is ∙ h in cc)
 
-  pub run_passes : (now : Option (List DepotCall)) → Passes (CommandDue command s n plan) (AssertsDue plan s) now now
-  run_passes now = passes_itself (CommandDue command s n plan) (AssertsDue plan s) now now refl (λ asked v due. run_due is due) run_behind
+  pub run_passes : (now : Option (List DepotCall)) → Passes (CommandDue command s n plan) (InputsDue command s plan) now now
+  run_passes now = passes_itself (CommandDue command s n plan) (InputsDue command s plan) now now refl (λ asked v due. run_due is due) run_behind
 
 -- ---- which faults there are behind the words
 
@@ -47,16 +53,25 @@ later_plan (fault.Check n kind) h = (tt, λ e. cc)
 later_plan (fault.NoInput path) h = (tt, λ e. cc)
 later_plan (fault.OutputExists dir) h = (tt, λ e. cc)
 later_plan (fault.DepotFault store) h = (tt, λ e. cc)
-later_plan fault.HostFault h = (tt, λ e. cc)
+later_plan (fault.TaskFailed wave task failed) h = absurd h
+later_plan (fault.AssertFailed n) h = absurd h
 later_plan fault.OutOfMemory h = (tt, λ e. cc)
 later_plan fault.ConsoleFault h = absurd h
 later_plan (fault.TooLarge which) h = (tt, λ e. cc)
 
-pub later_run : (f : RunFault) → IsRunFault f → IsLaterFault f
-later_run f (inl is) = subst IsLaterFault (sym is) (tt, λ e. cc)
-later_run f (inr (inl (n, is))) = subst IsLaterFault (sym is) (tt, λ e. cc)
-later_run f (inr (inr is)) = subst IsLaterFault (sym is) (tt, λ e. cc)
+pub later_cut : {T : Type 0} (f : RunFault) → ((f ≡ fault.TooLarge large.Tasks) × T) ⊎ (f ≡ fault.OutOfMemory) → IsLaterFault f
+later_cut f (inl is) = subst IsLaterFault (sym is.0) (tt, λ e. cc)
+later_cut f (inr is) = subst IsLaterFault (sym is) (tt, λ e. cc)
+
+pub later_commit : (n : ℕ) (f : RunFault) → IsCommitFault n f → IsLaterFault f
+later_commit n f (inl is) = subst IsLaterFault (sym is) (tt, λ e. cc)
+later_commit n f (inr is) = subst IsLaterFault (sym is) (tt, λ e. cc)
 
 pub later_words : (line : Line) (result : Result (List ℕ) RunFault) → HasWords line → IfErr result IsLaterFault → MatchResult result (λ _. HasWords line) (SaysWords line)
 later_words line (Ok text) has h = has
 later_words line (Err f) has h = inr (h.0, inl has)
+
+pub later_ends : {s : Stages} {limit : ℕ} {tellings : Tellings} {progress : Progress} (f : RunFault) → EndsFinding s limit tellings progress f → IsLaterFault f
+later_ends _ (lost given_up quiet silent) = (tt, λ e. cc)
+later_ends _ (not_met won unmet stands said) = (tt, λ e. cc)
+later_ends _ (no_room won quiet silent) = (tt, λ e. cc)

@@ -1,5 +1,15 @@
--- The clauses of the top call on its answer alone: which words and which counts it goes with.
-use Rattle.std.specs.Prelude.{◌≡◌, ◌<◌, ◌⊎◌, ℕ, List, Option, Some, None, drop, map}
+-- The clauses of the top call that need no shelf: which words, which counts of devices and which waves an answer goes with.
+use Rattle.std.specs.Prelude.{◌≡◌, ◌<◌, ◌≤◌, ◌+◌, ◌⊎◌, ◌++◌, ◌∷◌, [], ℕ, List, Option, Some, None, drop, length, map, take}
+use Rattle.std.specs.List.{AllByRecursion, sum_by}
+use Rattle.pig_value.specs.declared.inputs.Input.{Input}
+use Rattle.pig_outside.specs.Calls.{Attempt}
+use Rattle.pig_board.specs.End.{end_of}
+use Rattle.pig_board.specs.declared.end.TaskEnd.{TaskEnd}
+use Rattle.pig_pool.specs.Begins.{CrewTells, crew_tells}
+use Rattle.pig_pool.specs.Wave.{HasUnwon, IsWonWave, failures_in}
+use Rattle.pig_driver.specs.Begun.{WavesBegun}
+use Rattle.pig_words.specs.CommandWords.{IsCommand}
+use Rattle.pig_words.specs.declared.words.Command.{Command}
 use Rattle.pig_run.specs.declared.outcome.RunFault.{RunFault}
 use Rattle.pig_run.specs.declared.outcome.RunFault.TheVariants as fault
 use Rattle.pig_run.specs.Due.{HasWords, Line}
@@ -24,10 +34,6 @@ BlamesStore answer before now = (store : ℕ) → answer ≡ Some (fault.DepotFa
 abbrev pub BlamesLookUp : Option RunFault → ℕ → ℕ → Type 0
 BlamesLookUp answer before now = answer ≡ Some (fault.DepotFault None) → now ≡ before
 
--- a host is blamed only where the sum of the hosts' counts rose
-abbrev pub BlamesHosts : Option RunFault → ℕ → ℕ → Type 0
-BlamesHosts answer before now = answer ≡ Some fault.HostFault → before < now
-
 -- the console is blamed only where its count rose
 abbrev pub BlamesConsole : Option RunFault → ℕ → ℕ → Type 0
 BlamesConsole answer before now = answer ≡ Some fault.ConsoleFault → before < now
@@ -36,10 +42,49 @@ BlamesConsole answer before now = answer ≡ Some fault.ConsoleFault → before 
 abbrev pub ConsoleIsTold : Option RunFault → ℕ → ℕ → Type 0
 ConsoleIsTold answer before now = before < now → ¬ (answer ≡ None)
 
--- hosts have the same inputs, and all but the first are as they were
-abbrev pub HostsStay : {H I : Type 0} → (H → I) → List H → List H → Type 0
-HostsStay inputs old new = (map inputs new ≡ map inputs old) × (drop 1 new ≡ drop 1 old)
+-- ---- the hosts, and the waves that are shown
 
--- on no host an attempt begins
-abbrev pub NoneBegins : {H B : Type 0} → (H → B) → List H → List H → Type 0
-NoneBegins begun old new = map begun new ≡ map begun old
+-- A task is given up where the last wave shows it: the wave has its number, that task has failed so often, which is at least the limit, and
+-- some task has no winner.
+pub record ShowsFailure (limit : ℕ) (waves : List (List TaskEnd)) (wave task failed : ℕ) : Type 0 where
+  pub before : List (List TaskEnd)
+  pub last : List TaskEnd
+  pub are : waves ≡ before ++ last ∷ []
+  pub number : length before ≡ wave
+  pub shown : (end_of last task).failed ≡ failed
+  pub enough : limit ≤ failed
+  pub unwon : HasUnwon last
+
+-- a task is reported failed only so
+abbrev pub BlamesTask : ℕ → Option RunFault → List (List TaskEnd) → Type 0
+BlamesTask limit answer waves = (wave task failed : ℕ) → answer ≡ Some (fault.TaskFailed wave task failed) → ShowsFailure limit waves wave task failed
+
+-- where the run is done, each task of each wave has one winner, which is one of its attempts
+abbrev pub CommitsEach : Option RunFault → List (List TaskEnd) → Type 0
+CommitsEach answer waves = answer ≡ None → AllByRecursion (λ ends. IsWonWave (length ends) ends) waves
+
+-- what hosts tell of their failures and their begins
+abbrev pub crew_of : {H : Type 0} → (H → ℕ) → (H → Option (List Attempt)) → List H → CrewTells
+crew_of faults begun hosts = crew_tells (map faults hosts) (map begun hosts)
+
+-- What the hosts that work show of the waves that ended: they have the same inputs, they failed at least as often as the waves show, and
+-- unless memory was wanting the begins that they tell are just the attempts of these waves. And what the waves show of the answer.
+pub record HaveWorked {H : Type 0} (inputs : H → Option (List Input)) (faults : H → ℕ) (begun : H → Option (List Attempt)) (limit : ℕ) (old new : List H)
+    (waves : List (List TaskEnd)) (answer : Option RunFault) : Type 0 where
+  pub same : map inputs new ≡ map inputs old
+  pub failures : sum_by faults old + sum_by failures_in waves ≤ sum_by faults new
+  pub told : ¬ (answer ≡ Some fault.OutOfMemory) → WavesBegun 0 waves (crew_of faults begun old) (crew_of faults begun new)
+  pub blamed : BlamesTask limit answer waves
+  pub committed : CommitsEach answer waves
+
+-- The first hosts work, as many as the command says; the others are as they were.
+pub record CrewHasWorked {H : Type 0} (inputs : H → Option (List Input)) (faults : H → ℕ) (begun : H → Option (List Attempt)) (command : Command) (old new : List H)
+    (waves : List (List TaskEnd)) (answer : Option RunFault) : Type 0 where
+  pub worked : HaveWorked inputs faults begun command.attempts (take command.workers old) (take command.workers new) waves answer
+  pub idle : drop command.workers new ≡ drop command.workers old
+
+-- without a command no host works, and no wave ends
+pub record HostsHaveWorked {H : Type 0} (inputs : H → Option (List Input)) (faults : H → ℕ) (begun : H → Option (List Attempt)) (line : Line) (old new : List H)
+    (waves : List (List TaskEnd)) (answer : Option RunFault) : Type 0 where
+  pub crew : (command : Command) → IsCommand line.hosts line.words command → CrewHasWorked inputs faults begun command old new waves answer
+  pub none : ¬ HasWords line → (new ≡ old) × (waves ≡ [])

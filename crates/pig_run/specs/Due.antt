@@ -1,21 +1,26 @@
 -- What is due of the words and the shelf, stage by stage in the order of the refusals, and what the depot is asked for it.
-use Rattle.std.specs.Prelude.{◌≡◌, ◌<◌, ◌≤◌, ◌^◌, ℕ, Bool, List, [], ◌∷◌, ◌++◌, length, map, Option, Some, None, is_none, unwrap_or, slice_get, if◌then◌else◌}
-use Rattle.std.specs.List.{filter_map, find, flat_map, sum_by}
-use Rattle.std.specs.Option.{option_and_then}
+use Rattle.std.specs.Prelude.{◌≡◌, ◌<◌, ◌≤◌, ◌^◌, ℕ, zero, suc, Bool, true, false, List, [], ◌∷◌, ◌++◌, length, map, Option, Some, None, is_none, unwrap_or, if◌then◌else◌}
+use Rattle.std.specs.List.{find, sum_by}
 use Rattle.pig_outside.specs.Calls.{DepotCall}
 use Rattle.pig_outside.specs.declared.failing.Method.{Method}
 use Rattle.pig_outside.specs.declared.failing.Method.TheVariants as method
-use Rattle.pig_outside.specs.Shelf.{Shelf, script_of, pieces_of, has_dir}
-use Rattle.pig_plan.specs.Nodes.{live}
-use Rattle.pig_plan.specs.Plans.{Plan, PlanNode, PlanOp, p_assert}
+use Rattle.pig_outside.specs.Shelf.{Shelf, script_of, lengths_at, pieces_of, has_dir}
+use Rattle.pig_plan.specs.Plans.{Plan}
 use Rattle.pig_reach.specs.Reach.{live_paths, dirs_of}
+use Rattle.pig_physical.specs.Seen.{lengths_in}
+use Rattle.pig_physical.specs.Stages.{Stages, stores}
+use Rattle.pig_physical.specs.declared.staged.Size.{Size}
+use Rattle.pig_cutter.specs.Limits.{has_too_many}
+use Rattle.pig_keyed.specs.Keyed.{by_key}
+use Rattle.pig_explain.specs.Explained.{explain_text}
+use Rattle.pig_collect.specs.Collecting.{part_count}
 use Rattle.pig_words.specs.CommandWords.{IsCommand}
 use Rattle.pig_words.specs.declared.words.Command.{Command}
 use Rattle.pig_words.specs.declared.words.Verb.{Verb}
 use Rattle.pig_words.specs.declared.words.Verb.TheVariants as verbs
 use Rattle.pig_run.specs.declared.outcome.TooLarge.TheVariants as large
-use Rattle.pig_run.specs.Reading.{Faulty, IsFound, Prints, Refuses, Runs, Typed, Verdict}
-use Rattle.pig_run.specs.Refusals.{Refusal, no_command, no_input, no_script, not_run, output_there, too_large}
+use Rattle.pig_run.specs.Reading.{Faulty, IsFound, Prints, Refuses, Run, Runs, Typed, Verdict}
+use Rattle.pig_run.specs.Refusals.{Refusal, no_command, no_input, no_script, output_there, too_large}
 use Rattle.pig_run.specs.Texts.{ok_text}
 
 -- ---- words
@@ -28,11 +33,11 @@ pub record Line : Type 0 where
 -- the verbs that are built
 abbrev pub IsBuilt : Verb → Type 0
 IsBuilt verbs.Run = Unit {0}
-IsBuilt verbs.Explain = ⊥
+IsBuilt verbs.Explain = Unit {0}
 IsBuilt verbs.Check = Unit {0}
 IsBuilt verbs.Demo = ⊥
 
--- the words are this command, and it is built. Its numbers have no effect yet
+-- the words are this command, and it is built
 pub record AreWords (line : Line) (command : Command) : Type 0 where
   pub is : IsCommand line.hosts line.words command
   pub built : IsBuilt command.verb
@@ -51,9 +56,40 @@ abbrev pub through : {X : Type 0} → (X → Bool) → List X → List X
 through is_so [] = []
 through is_so (x ∷ xs) = x ∷ (if is_so x then [] else through is_so xs)
 
--- the calls that make a directory of one part
-abbrev pub store_calls : List ℕ → List DepotCall
-store_calls dir = call method.Create dir ∷ call method.Put dir ∷ call method.Finish dir ∷ []
+-- so many calls of one kind
+abbrev pub calls : ℕ → DepotCall → List DepotCall
+calls zero one = []
+calls (suc n) one = one ∷ calls n one
+
+-- the calls that make a directory with so many parts: it is made, each part is put, and it is marked
+abbrev pub store_calls : List ℕ → ℕ → List DepotCall
+store_calls dir parts = call method.Create dir ∷ (calls parts (call method.Put dir) ++ call method.Finish dir ∷ [])
+
+-- so it is of directories in turn
+abbrev pub making : List (List ℕ) → List ℕ → List DepotCall
+making (dir ∷ dirs) (parts ∷ counts) = store_calls dir parts ++ making dirs counts
+making dirs counts = []
+
+-- ---- what a plan is cut into
+
+-- the inputs of a plan on the shelf, by their paths, with the lengths of their pieces
+abbrev pub sizes_on : Shelf → Plan → List Size
+sizes_on shelf plan = map (λ path. record { path = path; lengths = unwrap_or (lengths_at path shelf) [] }) (live_paths plan)
+
+-- The stages of a plan: each JOIN goes by key, and it is cut by the lengths of its inputs on the shelf, with as many reduce tasks of a wave
+-- and as many bytes of a split as the command says.
+abbrev pub stages_of : Command → Shelf → Plan → Stages
+stages_of command shelf plan = record {
+  plan = by_key plan;
+  sizing = record { lengths = lengths_in (sizes_on shelf plan); reducers = command.reducers; split = command.split };
+}
+
+abbrev pub run_of : Command → Shelf → Plan → Run
+run_of command shelf plan = record { plan = plan; stages = stages_of command shelf plan; limit = command.attempts }
+
+-- each STORE has a part for each of its tasks
+abbrev pub making_of : Run → List DepotCall
+making_of run = making (dirs_of run.plan) (map (part_count run.stages) (stores run.stages.plan))
 
 -- ---- the stages: each says what was asked from it on, and what is due
 
@@ -67,59 +103,46 @@ pub data Looks (is_so : List ℕ → Bool) (refusal : List ℕ → Refusal) (m :
       → Looks is_so refusal m paths next (map (call m) paths ++ asked) verdict
 
 -- the run, which makes the directory of each STORE in turn
-pub data RunDue (plan : Plan) : List DepotCall → Verdict → Type 0 where
-  runs : RunDue plan (flat_map store_calls (dirs_of plan)) (Runs plan)
+pub data RunDue (run : Run) : List DepotCall → Verdict → Type 0 where
+  runs : RunDue run (making_of run) (Runs run)
+
+-- no wave has more tasks than the limit
+pub data TasksDue (command : Command) (shelf : Shelf) (plan : Plan) : List DepotCall → Verdict → Type 0 where
+  too_many : has_too_many (stages_of command shelf plan) ≡ true → TasksDue command shelf plan [] (Refuses (too_large large.Tasks))
+  few : {asked : List DepotCall} {verdict : Verdict} → has_too_many (stages_of command shelf plan) ≡ false
+      → RunDue (run_of command shelf plan) asked verdict → TasksDue command shelf plan asked verdict
 
 -- a directory of a STORE may be there already
-abbrev pub OutputsDue : Plan → Shelf → Stage
-OutputsDue plan shelf = Looks (λ dir. has_dir dir shelf) output_there method.Exists (dirs_of plan) (RunDue plan)
+abbrev pub OutputsDue : Command → Shelf → Plan → Stage
+OutputsDue command shelf plan = Looks (λ dir. has_dir dir shelf) output_there method.Exists (dirs_of plan) (TasksDue command shelf plan)
 
 -- the number of bytes of an input
 abbrev pub size_of : Shelf → List ℕ → ℕ
 size_of shelf path = sum_by length (unwrap_or (pieces_of path shelf.inputs) [])
 
 -- the inputs have at most 67,108,864 bytes in all
-pub data SizeDue (plan : Plan) (shelf : Shelf) : List DepotCall → Verdict → Type 0 where
-  too_big : 2 ^ 26 < sum_by (size_of shelf) (live_paths plan) → SizeDue plan shelf [] (Refuses (too_large large.Input))
+pub data SizeDue (command : Command) (shelf : Shelf) (plan : Plan) : List DepotCall → Verdict → Type 0 where
+  too_big : 2 ^ 26 < sum_by (size_of shelf) (live_paths plan) → SizeDue command shelf plan [] (Refuses (too_large large.Input))
   small : {asked : List DepotCall} {verdict : Verdict} → sum_by (size_of shelf) (live_paths plan) ≤ 2 ^ 26
-      → OutputsDue plan shelf asked verdict → SizeDue plan shelf asked verdict
+      → OutputsDue command shelf plan asked verdict → SizeDue command shelf plan asked verdict
 
 abbrev pub is_missing : Shelf → List ℕ → Bool
 is_missing shelf path = is_none (pieces_of path shelf.inputs)
 
 -- an input may be missing
-abbrev pub InputsDue : Plan → Shelf → Stage
-InputsDue plan shelf = Looks (is_missing shelf) no_input method.Pieces (live_paths plan) (SizeDue plan shelf)
-
--- the statement of an ASSERT
-abbrev pub assert_in : PlanNode → Option ℕ
-assert_in node = statement_in node.op
-  where
-    statement_in : PlanOp → Option ℕ
-    statement_in (p_assert input cond message) = Some node.statement
-    statement_in o = None
-
-abbrev pub assert_at : Plan → ℕ → Option ℕ
-assert_at plan n = option_and_then assert_in (slice_get plan n)
-
--- the statement of the first ASSERT that a STORE reaches
-abbrev pub first_assert : Plan → Option ℕ
-first_assert plan = slice_get (filter_map (assert_at plan) (live plan)) 0
-
--- no ASSERT is run, before a run goes by tasks
-pub data AssertsDue (plan : Plan) (shelf : Shelf) : List DepotCall → Verdict → Type 0 where
-  asserts : {n : ℕ} → first_assert plan ≡ Some n → AssertsDue plan shelf [] (Refuses (not_run n))
-  asserts_none : {asked : List DepotCall} {verdict : Verdict} → first_assert plan ≡ None
-      → InputsDue plan shelf asked verdict → AssertsDue plan shelf asked verdict
+abbrev pub InputsDue : Command → Shelf → Plan → Stage
+InputsDue command shelf plan = Looks (is_missing shelf) no_input method.Pieces (live_paths plan) (SizeDue command shelf plan)
 
 -- what is due of so many statements and their plan
 abbrev pub PlanStage : Type 1
 PlanStage = ℕ → Plan → Stage
 
--- the command goes on from a plan: `run` runs it, and `check` prints how many statements have it
+-- the command goes on from a plan: `run` runs it, `explain` prints it as it was checked and as it is cut, with its waves, and `check` prints how
+-- many statements have it
 pub data CommandDue (command : Command) (shelf : Shelf) (statements : ℕ) (plan : Plan) : List DepotCall → Verdict → Type 0 where
   run_due : {asked : List DepotCall} {verdict : Verdict} → command.verb ≡ verbs.Run
-      → AssertsDue plan shelf asked verdict → CommandDue command shelf statements plan asked verdict
+      → InputsDue command shelf plan asked verdict → CommandDue command shelf statements plan asked verdict
+  explain_due : command.verb ≡ verbs.Explain → CommandDue command shelf statements plan [] (Prints (explain_text plan (by_key plan)))
   check_due : command.verb ≡ verbs.Check → CommandDue command shelf statements plan [] (Prints (ok_text statements))
 
 -- the depot has the script, and it is found to be a plan, behind which the next stage is due

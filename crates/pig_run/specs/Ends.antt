@@ -1,18 +1,17 @@
 -- How a call may end where something is due: what is answered, and what then stands; and how the console changes the answer.
-use Rattle.std.specs.Prelude.{◌≡◌, ◌<◌, ◌++◌, ℕ, List, Option, Some, None}
+use Rattle.std.specs.Prelude.{◌≡◌, ◌<◌, ◌++◌, ℕ, List, [], Option, Some, None}
 use Rattle.std.specs.Option.{option_map}
 use Rattle.pig_outside.specs.Shelf.{Shelf}
 use Rattle.pig_outside.specs.Text.{LeftPrefix}
-use Rattle.pig_plan.specs.Plans.{Plan}
 use Rattle.pig_run.specs.declared.outcome.Counts.{Counts}
 use Rattle.pig_run.specs.declared.outcome.RunFault.{RunFault}
 use Rattle.pig_run.specs.declared.outcome.RunFault.TheVariants as fault
-use Rattle.pig_run.specs.Outputs.{IsStopped, IsUntouched, IsWhole, Left, no_counts}
-use Rattle.pig_run.specs.Reading.{Verdict, Prints, Refuses, Runs}
+use Rattle.pig_run.specs.Outputs.{IsBroken, IsLost, IsStopped, IsUnmet, IsUntouched, IsWhole, Left, no_counts}
+use Rattle.pig_run.specs.Reading.{Prints, Refuses, Run, Runs, Verdict}
 use Rattle.pig_run.specs.Refusals.{Refusal, Names}
 use Rattle.pig_run.specs.Texts.{fault_text}
 
--- What is found before the console is asked: one rule for each cause. `tells` is that the first host tells its inputs.
+-- What is found before the console is asked: one rule for each cause. `tells` is that the hosts that work tell their inputs.
 pub data Ends (tells : Type 0) (shelf : Shelf) (left : Left) : Verdict → Option RunFault → Type 0 where
   -- what is due is refused
   refused : {refusal : Refusal} {found : RunFault} → Names refusal found → IsUntouched shelf left → Ends tells shelf left (Refuses refusal) (Some found)
@@ -20,16 +19,19 @@ pub data Ends (tells : Type 0) (shelf : Shelf) (left : Left) : Verdict → Optio
   shows : {text : List ℕ} → IsUntouched shelf left → Ends tells shelf left (Prints text) None
   -- the depot failed at a look-up
   lookup_failed : {verdict : Verdict} → IsUntouched shelf left → Ends tells shelf left verdict (Some (fault.DepotFault None))
-  -- the host failed, as it read
-  host_failed : {plan : Plan} → IsUntouched shelf left → Ends tells shelf left (Runs plan) (Some fault.HostFault)
+  -- a task failed as often as the command sets
+  task_failed : {run : Run} {wave task failed : ℕ} → IsLost run shelf wave task failed left → Ends tells shelf left (Runs run) (Some (fault.TaskFailed wave task failed))
+  -- the first ASSERT that is not met is that of a statement
+  assert_failed : {run : Run} {n : ℕ} → IsUnmet tells run shelf n left → Ends tells shelf left (Runs run) (Some (fault.AssertFailed n))
   -- the depot failed as it made the directory of a STORE
-  store_failed : {plan : Plan} {n : ℕ} → IsStopped tells plan shelf n left → Ends tells shelf left (Runs plan) (Some (fault.DepotFault (Some n)))
+  store_failed : {run : Run} {n : ℕ} → IsStopped tells run shelf n left → Ends tells shelf left (Runs run) (Some (fault.DepotFault (Some n)))
   -- all is stored
-  done : {plan : Plan} → IsWhole tells plan shelf left → Ends tells shelf left (Runs plan) None
-  -- memory was wanting: before anything was made, at a STORE, or when all was stored
+  done : {run : Run} → IsWhole tells run shelf left → Ends tells shelf left (Runs run) None
+  -- memory was wanting: before a wave, before anything was made, at a STORE, or when all was stored
   no_memory : {verdict : Verdict} → IsUntouched shelf left → Ends tells shelf left verdict (Some fault.OutOfMemory)
-  no_memory_at : {plan : Plan} {n : ℕ} → IsStopped tells plan shelf n left → Ends tells shelf left (Runs plan) (Some fault.OutOfMemory)
-  no_memory_behind : {plan : Plan} → IsWhole tells plan shelf left → Ends tells shelf left (Runs plan) (Some fault.OutOfMemory)
+  no_memory_in : {run : Run} → IsBroken run shelf left → Ends tells shelf left (Runs run) (Some fault.OutOfMemory)
+  no_memory_at : {run : Run} {n : ℕ} → IsStopped tells run shelf n left → Ends tells shelf left (Runs run) (Some fault.OutOfMemory)
+  no_memory_behind : {run : Run} → IsWhole tells run shelf left → Ends tells shelf left (Runs run) (Some fault.OutOfMemory)
 
 -- ---- the console
 
@@ -60,9 +62,9 @@ pub data Shown (text : List ℕ) (old new : Console) (found : Option RunFault) :
   printed : ¬ Fails old new → Printed text old new → Shown text old new found found
   failed : Fails old new → PrintedPart text old new → Shown text old new found (Some (unshown found))
   cut_short : ¬ Fails old new → PrintedPart text old new → Shown text old new found (Some fault.OutOfMemory)
-  no_text : ¬ Fails old new → Printed (fault_text fault.OutOfMemory) old new → Shown text old new found (Some fault.OutOfMemory)
-  no_text_failed : Fails old new → PrintedPart (fault_text fault.OutOfMemory) old new → Shown text old new found (Some fault.OutOfMemory)
-  no_text_cut : ¬ Fails old new → PrintedPart (fault_text fault.OutOfMemory) old new → Shown text old new found (Some fault.OutOfMemory)
+  no_text : ¬ Fails old new → Printed (fault_text [] fault.OutOfMemory) old new → Shown text old new found (Some fault.OutOfMemory)
+  no_text_failed : Fails old new → PrintedPart (fault_text [] fault.OutOfMemory) old new → Shown text old new found (Some fault.OutOfMemory)
+  no_text_cut : ¬ Fails old new → PrintedPart (fault_text [] fault.OutOfMemory) old new → Shown text old new found (Some fault.OutOfMemory)
 
 -- the numbers of an answer: those of the run where it stored all and memory sufficed
 abbrev pub counts_shown : Option RunFault → Counts → Counts

@@ -1,14 +1,13 @@
 -- How the steps that look for the script, the inputs and the outputs speak of each other.
 use Rattle.std.specs.Prelude.{◌≡◌, ◌⊎◌, ◌&&◌, ℕ, Bool, true, false, not, List, [], ◌∷◌, ◌++◌, ◌+◌, take, map, Option, Some, None, Result, MatchResult, bytes_eq}
 use Rattle.std.specs.List.{AllByRecursion, list_any, sum_by}
-use Rattle.pig_value.specs.declared.inputs.Input.{Input}
-use Rattle.pig_outside.specs.Shelf.{Shelf, has_dir, lengths_at, lengths_of, pieces_of, script_of}
+use Rattle.pig_outside.specs.Shelf.{Shelf, has_dir, lengths_at, script_of}
 use Rattle.pig_plan.specs.Plans.{plan_of}
+use Rattle.pig_physical.specs.declared.staged.Size.{Size}
 use Rattle.pig_reach.specs.Reach.{live_paths, stores_of}
 use Rattle.pig_reach.specs.declared.storing.Store.{Store}
 use Rattle.pig_run.specs.declared.line.CommandLine.{CommandLine}
 use Rattle.pig_run.specs.declared.looking.Prepared.{Prepared}
-use Rattle.pig_run.specs.declared.looking.Size.{Size}
 use Rattle.pig_run.specs.declared.outcome.RunFault.{RunFault}
 use Rattle.pig_run.specs.declared.outcome.RunFault.TheVariants as fault
 use Rattle.pig_run.specs.Due.{Line}
@@ -51,12 +50,6 @@ LooksForSize path s old new result = MatchResult result
 abbrev pub total_of : List Size → ℕ
 total_of sizes = sum_by (λ size. sum_by (λ n. n) size.lengths) sizes
 
--- the host has the input in pieces of these lengths
-pub record HasLengths (inputs : List Input) (size : Size) : Type 0 where
-  pub pieces : List (List ℕ)
-  pub there : pieces_of size.path inputs ≡ Some pieces
-  pub lengths : size.lengths ≡ lengths_of pieces
-
 -- ---- outputs
 
 -- a directory is not there, or it is
@@ -77,7 +70,7 @@ IsAbsentIn s store = has_dir store.dir s ≡ false
 
 -- ---- both
 
--- what is prepared belongs to the plan
+-- what is prepared belongs to the plan that is cut
 pub record IsPrepared (p : Prepared) : Type 0 where
   pub paths : map (λ size. size.path) p.sizes ≡ live_paths (plan_of p.plan)
   pub stores : p.stores ≡ stores_of (plan_of p.plan)

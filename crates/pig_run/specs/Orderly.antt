@@ -1,14 +1,13 @@
 -- The order of all that a depot was asked, whether or not it tells what is on its shelf: the script, inputs, outputs, and then the making
 -- of directories that were looked for.
 use Rattle.std.specs.Prelude.{◌≡◌, ◌≤◌, ◌++◌, ℕ, List, [], length, map, Option, Some, None, Result, IfOk}
-use Rattle.std.specs.List.{flat_map}
 use Rattle.pig_outside.specs.Calls.{DepotCall}
 use Rattle.pig_outside.specs.declared.failing.Method.{Method}
 use Rattle.pig_outside.specs.declared.failing.Method.TheVariants as method
 use Rattle.pig_run.specs.declared.outcome.RunFault.{RunFault}
 use Rattle.pig_run.specs.declared.looking.Prepared.{Prepared}
-use Rattle.pig_run.specs.Due.{call, store_calls}
-use Rattle.pig_run.specs.Refusals.{Cause, by_console, by_depot, by_host, by_memory, by_refusal, cause_of}
+use Rattle.pig_run.specs.Due.{call, making}
+use Rattle.pig_run.specs.Refusals.{Cause, by_assert, by_console, by_depot, by_memory, by_refusal, by_tasks, cause_of}
 use Rattle.pig_run.specs.Told.{Asked, IsPrefix}
 
 -- these paths are asked for, in turn
@@ -18,7 +17,8 @@ calls_for m paths = map (call m) paths
 -- a cause behind the making of a directory
 abbrev pub IsBehindMaking : Cause → Type 0
 IsBehindMaking by_refusal = ⊥
-IsBehindMaking by_host = ⊥
+IsBehindMaking by_tasks = ⊥
+IsBehindMaking by_assert = ⊥
 IsBehindMaking by_memory = Unit {0}
 IsBehindMaking by_console = Unit {0}
 IsBehindMaking (by_depot None) = ⊥
@@ -29,14 +29,16 @@ abbrev pub MayMake : Option RunFault → Type 0
 MayMake None = Unit {0}
 MayMake (Some found) = IsBehindMaking (cause_of found)
 
--- The calls that make these directories, each whole and in their order, or the first of these calls; none with an answer with which
--- nothing is made, and all of them where the answer is that all was done.
+-- The calls that make these directories, each with some number of parts, whole and in their order, or the first of these calls; none with
+-- an answer with which nothing is made, and all of them where the answer is that all was done.
 pub record Makes (dirs : List (List ℕ)) (answer : Option RunFault) (old new : Option (List DepotCall)) : Type 0 where
+  pub parts : List ℕ
+  pub each : length parts ≡ length dirs
   pub made : List DepotCall
   pub asked : Asked made old new
-  pub first : IsPrefix made (flat_map store_calls dirs)
+  pub first : IsPrefix made (making dirs parts)
   pub none : ¬ MayMake answer → made ≡ []
-  pub whole : answer ≡ None → made ≡ flat_map store_calls dirs
+  pub whole : answer ≡ None → made ≡ making dirs parts
 
 -- A depot is asked for one script at most, then for inputs, then for outputs, and only then are directories made, of the outputs that were
 -- looked for. `looked` are its calls when all was looked for.

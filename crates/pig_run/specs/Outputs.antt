@@ -1,96 +1,137 @@
--- What a run stores: of each STORE the directory, whole, with one part that holds the texts of its rows, each with an LF behind it.
+-- What a run stores: of each STORE the directory, whole, whose parts hold the texts of its rows, each with an LF behind it.
 -- (Pig Latin Basics: "STORE". That a relation but for an ordered one is stored in any order is said there under "Relations, Bags, Tuples,
--- Fields".)
-use Rattle.std.specs.Prelude.{◌≡◌, ◌⊎◌, ◌%◌, ◌^◌, ⊤, ℕ, List, [], ◌∷◌, ◌++◌, length, map, Option, Some}
-use Rattle.std.specs.List.{AllByRecursion, sum_by}
+-- Fields". That a directory has a part for each task of its STORE is a choice of this profile.)
+use Rattle.std.specs.Prelude.{◌≡◌, ◌%◌, ◌^◌, ⊤, ℕ, List, [], ◌∷◌, ◌++◌, length, map, Option, Some, None}
+use Rattle.std.specs.List.{sum_by}
 use Rattle.pig_value.specs.declared.inputs.Input.{Input}
 use Rattle.pig_value.specs.declared.outcomes.Kept.{Kept}
-use Rattle.pig_value.specs.Lines.{stored_lines}
 use Rattle.pig_value.specs.Texts.{rows_text}
 use Rattle.pig_value.specs.Trees.{Tree}
-use Rattle.pig_outside.specs.Shelf.{Shelf, LeftUnmarked, whole_state, with_dir}
+use Rattle.pig_outside.specs.Shelf.{Shelf}
+use Rattle.pig_board.specs.declared.end.TaskEnd.{TaskEnd}
+use Rattle.pig_plan.specs.Asserts.{first_unmet}
 use Rattle.pig_plan.specs.Meaning.{IsKept}
 use Rattle.pig_plan.specs.Plans.{Plan}
-use Rattle.pig_plain.specs.Answering.{AnswersFor}
-use Rattle.pig_plain.specs.StoredLines.{StoresMeaning}
+use Rattle.pig_plan.specs.Stored.{AnswersFor, StoresMeaning}
 use Rattle.pig_reach.specs.Reach.{lines_read, stores_of}
 use Rattle.pig_reach.specs.declared.storing.Store.{Store}
+use Rattle.pig_runs.specs.Cutting.{Point}
+use Rattle.pig_physical.specs.Outs.{Outs}
+use Rattle.pig_physical.specs.Running.{AreOutputs, IsRun}
+use Rattle.pig_physical.specs.Stages.{Stages, heads, stores}
+use Rattle.pig_driver.specs.Failing.{HaveWon, IsGivenUp}
+use Rattle.pig_driver.specs.Going.{AreWon}
+use Rattle.pig_commit.specs.Committed.{LeftOpen, with_stored}
+use Rattle.pig_commit.specs.declared.parts.StorePart.{StorePart}
+use Rattle.pig_collect.specs.Collecting.{entries_handed, joined, parts_given}
 use Rattle.pig_run.specs.declared.outcome.Counts.{Counts}
+use Rattle.pig_run.specs.Reading.{Run}
+use Rattle.pig_run.specs.Texts.{line_count}
 
--- a directory that was made, the bytes of its one part, and how many lines they are
-pub record Output : Type 0 where
-  pub dir : List ℕ
-  pub bytes : List ℕ
-  pub lines : ℕ
+-- ---- what STOREs must hold
 
--- the shelf with these directories, whole
-abbrev pub with_outputs : List Output → Shelf → Shelf
-with_outputs [] shelf = shelf
-with_outputs (out ∷ outs) shelf = with_outputs outs (with_dir out.dir (whole_state (out.bytes ∷ [])) shelf)
-
--- The output is that of a STORE: its bytes are the texts of rows that answer for the relation that it stores, as a list where that is
--- a list, and else as a bag. Cut at LF alone, the bytes are the lines of what the relation means.
-pub record IsOutputOf (plan : Plan) (inputs : List Input) (kept : List Kept) (store : Store) (out : Output) : Type 0 where
+-- The output is that of a STORE: its parts, joined, are the texts of rows that answer for the relation that it stores, as a list where that
+-- is a list, and else as a bag. Cut at LF alone, they are the lines of what the relation means.
+pub record IsOutputOf (plan : Plan) (inputs : List Input) (kept : List Kept) (store : Store) (out : StorePart) : Type 0 where
   pub rows : List (List Tree)
   pub answer : AnswersFor plan inputs kept store.relation rows
-  pub bytes : out.bytes ≡ rows_text store.delim rows
-  pub stored : StoresMeaning plan inputs kept store.relation store.delim out.bytes
-  pub lines : out.lines ≡ length rows
+  pub bytes : joined out.parts ≡ rows_text store.delim rows
+  pub stored : StoresMeaning plan inputs kept store.relation store.delim (joined out.parts)
 
 -- so it is of each STORE in turn
-abbrev pub AreOutputsOf : Plan → List Input → List Kept → List Store → List Output → Type 0
+abbrev pub AreOutputsOf : Plan → List Input → List Kept → List Store → List StorePart → Type 0
 AreOutputsOf plan inputs kept [] [] = ⊤
 AreOutputsOf plan inputs kept (store ∷ stores) (out ∷ outs) = IsOutputOf plan inputs kept store out × AreOutputsOf plan inputs kept stores outs
 AreOutputsOf plan inputs kept stores outs = ⊥
 
--- the shown number is that of the lines that stand in the directory
-abbrev pub IsCounted : Output → Type 0
-IsCounted out = out.lines ≡ length (stored_lines out.bytes)
-
--- What was stored of STOREs: their directories with as many lines as is shown, and in them what they mean where the hosts tell their inputs.
-pub record AreStored (tells : Type 0) (plan : Plan) (inputs : List Input) (kept : List Kept) (stores : List Store) (outs : List Output) : Type 0 where
+-- What was stored of STOREs: their directories, and in them what they mean where the hosts tell their inputs.
+pub record AreStored (tells : Type 0) (plan : Plan) (inputs : List Input) (kept : List Kept) (stores : List Store) (outs : List StorePart) : Type 0 where
   pub dirs : map (λ out. out.dir) outs ≡ map (λ store. store.dir) stores
-  pub counted : AllByRecursion IsCounted outs
   pub are : tells → AreOutputsOf plan inputs kept stores outs
 
--- that directory is as before, or there and unmarked; all else is as before
-abbrev pub LeftOpen : List ℕ → Option Shelf → Option Shelf → Type 0
-LeftOpen dir old new = (new ≡ old) ⊎ LeftUnmarked dir old new
+-- ---- what a run leaves
 
--- What a run leaves: what was stored, what the bare LIMITs kept, and the shelf.
+-- what was stored, what the bare LIMITs kept, what stands of the tasks of each wave that ended, and the shelf
 pub record Left : Type 0 where
-  pub outs : List Output
+  pub outs : List StorePart
   pub kept : List Kept
+  pub waves : List (List TaskEnd)
   pub shelf : Option Shelf
 
 -- nothing was made
-pub record IsUntouched (shelf : Shelf) (left : Left) : Type 0 where
+pub record IsUnmade (shelf : Shelf) (left : Left) : Type 0 where
   pub same : left.shelf ≡ Some shelf
   pub no_outputs : left.outs ≡ []
+
+-- and no wave ended
+pub record IsUntouched (shelf : Shelf) (left : Left) : Type 0 where
+  pub unmade : IsUnmade shelf left
   pub none_kept : left.kept ≡ []
+  pub no_waves : left.waves ≡ []
 
--- every STORE is stored, and nothing else has changed
-pub record IsWhole (tells : Type 0) (plan : Plan) (shelf : Shelf) (left : Left) : Type 0 where
-  pub stored : AreStored tells plan shelf.inputs left.kept (stores_of plan) left.outs
-  pub made : left.shelf ≡ Some (with_outputs left.outs shelf)
-  pub kept : tells → IsKept plan shelf.inputs left.kept
+-- nothing was made, and the first waves were won
+pub record IsBroken (run : Run) (shelf : Shelf) (left : Left) : Type 0 where
+  pub unmade : IsUnmade shelf left
+  pub none_kept : left.kept ≡ []
+  pub won : HaveWon run.stages left.waves
 
--- The STOREs before one are stored, the directory of that one is absent or unmarked, and those behind it were not made.
-pub record IsStopped (tells : Type 0) (plan : Plan) (shelf : Shelf) (statement : ℕ) (left : Left) : Type 0 where
+-- nothing was made, and the last wave that ended has failed at a task
+pub record IsLost (run : Run) (shelf : Shelf) (wave task failed : ℕ) (left : Left) : Type 0 where
+  pub unmade : IsUnmade shelf left
+  pub none_kept : left.kept ≡ []
+  pub given_up : IsGivenUp run.limit run.stages left.waves wave task failed
+
+-- each task of all waves has one winner
+abbrev pub AllWon : Run → Left → Type 0
+AllWon run left = AreWon run.stages left.waves (length (heads run.stages.plan))
+
+-- Nothing was made, though all waves were won: the ASSERT of a statement is the first that is not met.
+pub record IsUnmet (tells : Type 0) (run : Run) (shelf : Shelf) (n : ℕ) (left : Left) : Type 0 where
+  pub unmade : IsUnmade shelf left
+  pub won : AllWon run left
+  pub kept : tells → IsKept run.plan shelf.inputs left.kept
+  pub first : tells → first_unmet run.plan shelf.inputs left.kept ≡ Some n
+
+-- All waves were won and every ASSERT was met.
+pub record IsMet (tells : Type 0) (run : Run) (shelf : Shelf) (left : Left) : Type 0 where
+  pub won : AllWon run left
+  pub kept : tells → IsKept run.plan shelf.inputs left.kept
+  pub met : tells → first_unmet run.plan shelf.inputs left.kept ≡ None
+
+-- Then every STORE is stored, and nothing else has changed.
+pub record IsWhole (tells : Type 0) (run : Run) (shelf : Shelf) (left : Left) : Type 0 where
+  pub ran : IsMet tells run shelf left
+  pub stored : AreStored tells run.plan shelf.inputs left.kept (stores_of run.plan) left.outs
+  pub made : left.shelf ≡ Some (with_stored left.outs shelf)
+
+-- Or the STOREs before one are stored, the directory of that one is absent or unmarked, and those behind it were not made.
+pub record IsStopped (tells : Type 0) (run : Run) (shelf : Shelf) (n : ℕ) (left : Left) : Type 0 where
+  pub ran : IsMet tells run shelf left
   pub before : List Store
   pub store : Store
   pub behind : List Store
-  pub are : stores_of plan ≡ before ++ store ∷ behind
-  pub named : store.statement ≡ statement
-  pub stored : AreStored tells plan shelf.inputs left.kept before left.outs
-  pub opened : LeftOpen store.dir (Some (with_outputs left.outs shelf)) left.shelf
-  pub kept : tells → IsKept plan shelf.inputs left.kept
+  pub are : stores_of run.plan ≡ before ++ store ∷ behind
+  pub named : store.statement ≡ n
+  pub stored : AreStored tells run.plan shelf.inputs left.kept before left.outs
+  pub opened : LeftOpen store.dir (Some (with_stored left.outs shelf)) left.shelf
 
--- the numbers of a run that stored all: the lines that were read and the lines that were stored
-pub record AreCounts (tells : Type 0) (plan : Plan) (inputs : List Input) (outs : List Output) (counts : Counts) : Type 0 where
-  pub read : tells → counts.read ≡ lines_read plan inputs % 2 ^ 64
-  pub shuffled : counts.shuffled ≡ 0
-  pub stored : counts.stored ≡ sum_by (λ out. out.lines) outs % 2 ^ 64
+-- ---- numbers
+
+-- Parts, kept rows and the number of entries are those of a run of the stages: outputs of all waves, each the value of its task. So a part
+-- whose rows come from a LOAD holds just those of its own split.
+pub record IsRunOf (s : Stages) (inputs : List Input) (kept : List Kept) (parts : List (List (List ℕ))) (shuffled : ℕ) : Type 0 where
+  pub points : ℕ → List Point
+  pub outs : Outs
+  pub run : IsRun s inputs points outs
+  pub kept_are : AreOutputs s.plan outs kept
+  pub parts_are : parts ≡ map (parts_given s outs) (stores s.plan)
+  pub handed : shuffled ≡ entries_handed s outs % 2 ^ 64
+
+-- the numbers of a run that stored all: the lines that were read, the entries that map tasks handed on, and the lines that were stored
+pub record AreCounts (tells : Type 0) (run : Run) (inputs : List Input) (kept : List Kept) (outs : List StorePart) (counts : Counts) : Type 0 where
+  pub read : tells → counts.read ≡ lines_read run.plan inputs % 2 ^ 64
+  pub shuffled : tells → IsRunOf run.stages inputs kept (map (λ out. out.parts) outs) counts.shuffled
+  pub stored : counts.stored ≡ sum_by line_count outs % 2 ^ 64
 
 -- the numbers where a run did not end well
 abbrev pub no_counts : Counts

@@ -9,15 +9,23 @@ use Rattle.pig_syntax.specs.Cutting.{AreStatements}
 use Rattle.pig_parser.specs.Parsing.{AreTrees, IsFirstOff, IsShallow}
 use Rattle.pig_typing.specs.declared.faults.CheckKind.{CheckKind}
 use Rattle.pig_plan.specs.Plans.{Plan}
+use Rattle.pig_physical.specs.Stages.{Stages}
 use Rattle.pig_check.specs.Scripts.{IsPlanOf, IsFirstUntyped}
 use Rattle.pig_run.specs.declared.outcome.TooLarge.TheVariants as large
 use Rattle.pig_run.specs.Refusals.{Refusal, no_token, off_grammar, too_large, untyped}
 
--- what is due: a refusal, a text that is printed, or a plan that is run
+-- what is run: the plan of the script, the stages that it is cut into, and the number of failed attempts at one task with which it is
+-- given up
+pub record Run : Type 0 where
+  pub plan : Plan
+  pub stages : Stages
+  pub limit : ℕ
+
+-- what is due: a refusal, a text that is printed, or a run
 pub data Verdict : Type 0 where
   Refuses : Refusal → Verdict
   Prints : List ℕ → Verdict
-  Runs : Plan → Verdict
+  Runs : Run → Verdict
 
 -- what a script is found to be: refused, or so many statements that have a plan
 pub data Finding : Type 0 where

@@ -2,7 +2,6 @@
 use Rattle.std.specs.Prelude.{◌≡◌, ℕ, List, Option, Some, None}
 use Rattle.pig_syntax.specs.declared.trees.Stmt.{Stmt}
 use Rattle.pig_typing.specs.declared.faults.CheckKind.{CheckKind}
-use Rattle.pig_typing.specs.declared.faults.CheckKind.TheVariants as kind
 use Rattle.pig_check.specs.Scripts.{IsFirstUntyped}
 use Rattle.pig_run.specs.declared.outcome.RunFault.{RunFault}
 use Rattle.pig_run.specs.declared.outcome.RunFault.TheVariants as fault
@@ -15,8 +14,6 @@ pub data Refusal : Type 0 where
   off_grammar : ℕ → Refusal
   -- of these statements, the one of this number has no typing
   untyped : List Stmt → ℕ → Refusal
-  -- an ASSERT at the statement of this number, which is not run yet
-  not_run : ℕ → Refusal
   no_input : List ℕ → Refusal
   output_there : List ℕ → Refusal
   too_large : TooLarge → Refusal
@@ -28,14 +25,13 @@ Names no_script found = found ≡ fault.NoScript
 Names (no_token offset) found = found ≡ fault.Lex offset
 Names (off_grammar n) found = found ≡ fault.Syntax n
 Names (untyped ss n) found = (kind : CheckKind) × IsFirstUntyped ss n kind × (found ≡ fault.Check n kind)
-Names (not_run n) found = found ≡ fault.Check n kind.Unsupported
 Names (no_input path) found = found ≡ fault.NoInput path
 Names (output_there dir) found = found ≡ fault.OutputExists dir
 Names (too_large which) found = found ≡ fault.TooLarge which
 
--- What causes a fault: a refusal, the depot (at a STORE, or at a look-up), the host, memory or the console.
+-- What causes a fault: a refusal, the depot (at a STORE, or at a look-up), attempts that hosts lost, an ASSERT, memory or the console.
 pub data Cause : Type 0 where
-  by_refusal by_host by_memory by_console : Cause
+  by_refusal by_tasks by_assert by_memory by_console : Cause
   by_depot : Option ℕ → Cause
 
 abbrev pub cause_of : RunFault → Cause
@@ -48,7 +44,8 @@ cause_of (fault.NoInput path) = by_refusal
 cause_of (fault.OutputExists dir) = by_refusal
 cause_of (fault.TooLarge which) = by_refusal
 cause_of (fault.DepotFault store) = by_depot store
-cause_of fault.HostFault = by_host
+cause_of (fault.TaskFailed wave task failed) = by_tasks
+cause_of (fault.AssertFailed n) = by_assert
 cause_of fault.OutOfMemory = by_memory
 cause_of fault.ConsoleFault = by_console
 
@@ -63,7 +60,8 @@ status_of (Some (fault.Check n kind)) = 3
 status_of (Some (fault.NoInput path)) = 4
 status_of (Some (fault.OutputExists dir)) = 5
 status_of (Some (fault.DepotFault store)) = 6
-status_of (Some fault.HostFault) = 7
+status_of (Some (fault.TaskFailed wave task failed)) = 7
+status_of (Some (fault.AssertFailed n)) = 8
 status_of (Some fault.OutOfMemory) = 9
 status_of (Some fault.ConsoleFault) = 10
 status_of (Some (fault.TooLarge which)) = 11

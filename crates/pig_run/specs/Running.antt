@@ -1,132 +1,157 @@
--- How the steps of a run speak of each other.
-use Rattle.std.specs.Prelude.{◌≡◌, ◌++◌, ◌%◌, ◌^◌, ⊤, ℕ, Bool, false, List, [], ◌∷◌, length, map, Option, Some, None, Result, Ok, Err, IfOk, MatchResult, if◌then◌else◌}
-use Rattle.std.specs.List.{flat_map, sum_by}
-use Rattle.std.specs.Option.{option_map, unwrap_or}
-use Rattle.std.specs.Result.{is_ok}
+-- How the steps of a run speak of each other: what its waves give, what is stored of it, and how it ends.
+use Rattle.std.specs.Prelude.{◌≡◌, ◌≤◌, ◌%◌, ◌^◌, ◌++◌, ℕ, true, false, List, [], ◌∷◌, length, map, Option, Some, None, Result, Ok, Err, IfOk, MatchResult, if◌then◌else◌}
+use Rattle.std.specs.List.{sum_by}
+use Rattle.std.specs.Option.{option_map}
 use Rattle.pig_value.specs.declared.inputs.Input.{Input}
 use Rattle.pig_value.specs.declared.outcomes.Kept.{Kept}
-use Rattle.pig_value.specs.Lines.{stored_lines}
-use Rattle.pig_value.specs.Texts.{rows_text}
-use Rattle.pig_value.specs.Trees.{Tree, rows_tree}
 use Rattle.pig_outside.specs.Calls.{DepotCall}
-use Rattle.pig_outside.specs.Shelf.{Shelf, pieces_of}
-use Rattle.pig_plain.specs.Answering.{IsAnswer}
-use Rattle.pig_plain.specs.StoredLines.{StoresMeaning}
+use Rattle.pig_outside.specs.Shelf.{Shelf}
+use Rattle.pig_board.specs.declared.end.TaskEnd.{TaskEnd}
+use Rattle.pig_plan.specs.Asserts.{first_unmet}
+use Rattle.pig_plan.specs.Laws.{AreOfBytes}
+use Rattle.pig_plan.specs.Meaning.{IsKept}
 use Rattle.pig_plan.specs.Plans.{Plan}
-use Rattle.pig_reach.specs.Reach.{dirs_of, lines_read, stores_of}
+use Rattle.pig_plan.specs.Valid.{IsPlan}
+use Rattle.pig_reach.specs.Reach.{lines_read, stores_of}
 use Rattle.pig_reach.specs.declared.storing.Store.{Store}
-use Rattle.pig_value.specs.declared.values.Value.{Value}
+use Rattle.pig_physical.specs.Stages.{Stages, heads, stores}
+use Rattle.pig_work.specs.Working.{Tellings}
+use Rattle.pig_driver.specs.Failing.{HaveWon, IsGivenUp}
+use Rattle.pig_driver.specs.Going.{AllTell, AreWon}
+use Rattle.pig_commit.specs.Committed.{LeftOpen, with_stored}
+use Rattle.pig_commit.specs.declared.parts.StorePart.{StorePart}
+use Rattle.pig_collect.specs.Collecting.{part_count}
+use Rattle.pig_keyed.specs.Keyed.{by_key}
+use Rattle.pig_words.specs.declared.words.Command.{Command}
 use Rattle.pig_run.specs.declared.outcome.Counts.{Counts}
 use Rattle.pig_run.specs.declared.outcome.RunFault.{RunFault}
 use Rattle.pig_run.specs.declared.outcome.RunFault.TheVariants as fault
 use Rattle.pig_run.specs.declared.progress.Noted.{Noted}
 use Rattle.pig_run.specs.declared.progress.Progress.{Progress}
-use Rattle.pig_run.specs.declared.running.Found.{Found}
-use Rattle.pig_run.specs.Due.{Stage, store_calls}
+use Rattle.pig_run.specs.Due.{Stage, making_of}
 use Rattle.pig_run.specs.Ends.{Ends}
-use Rattle.pig_run.specs.Outputs.{LeftOpen, Output, with_outputs}
-use Rattle.pig_run.specs.Reading.{Verdict, Runs}
+use Rattle.pig_run.specs.Outputs.{AreOutputsOf, IsRunOf, Left}
+use Rattle.pig_run.specs.Reading.{Run, Runs, Verdict}
 use Rattle.pig_run.specs.Steps.{IsCommitFault}
-use Rattle.pig_run.specs.Texts.{done_text, due_text, fault_text, stored_line}
+use Rattle.pig_run.specs.Texts.{done_text, due_text, assert_message, fault_text, line_count, said, said_behind, stored_line}
 use Rattle.pig_run.specs.Told.{Asked, CountsAre, IsAsked, IsPrefix}
 
--- the inputs at paths, as they are told
-abbrev pub inputs_at : List Input → List (List ℕ) → List Input
-inputs_at inputs paths = map (λ path. record { path = path; pieces = unwrap_or (pieces_of path inputs) [] }) paths
+-- ---- what may be asked of a command and of stages
 
--- the texts of rows, each with an LF behind it, store what each STORE's relation means
-abbrev pub EachStored : Plan → List Input → List Kept → List Store → List (List (List Tree)) → Type 0
-EachStored plan inputs kept [] [] = ⊤
-EachStored plan inputs kept (store ∷ stores) (rows ∷ more) =
-    StoresMeaning plan inputs kept store.relation store.delim (rows_text store.delim rows) × EachStored plan inputs kept stores more
-EachStored plan inputs kept stores more = ⊥
+-- the numbers of a command are in their ranges
+pub record IsUsable (hosts : ℕ) (command : Command) : Type 0 where
+  pub workers : (1 ≤ command.workers) × (command.workers ≤ hosts)
+  pub reducers : (1 ≤ command.reducers) × (command.reducers ≤ 256)
+  pub split : 1 ≤ command.split
+  pub attempts : (1 ≤ command.attempts) × (command.attempts ≤ 16)
 
--- rows of a plan's STOREs: they answer for it, and their texts store what it means
-pub record IsAnswered (plan : Plan) (inputs : List Input) (kept : List Kept) (rows : List (List (List Tree))) : Type 0 where
-  pub answer : IsAnswer plan inputs kept rows
-  pub stored : EachStored plan inputs kept (stores_of plan) rows
+-- ---- what the waves give
 
--- what a plan means was found, and the lines were counted
-pub record IsFoundOver (plan : Plan) (inputs : List Input) (found : Found) : Type 0 where
-  pub answer : IsAnswered plan inputs found.answers.kept (map rows_tree found.answers.stores)
-  pub read : found.read ≡ lines_read plan inputs % 2 ^ 64
+-- What a run gives over inputs: what was kept is valid, each STORE's parts hold what it means, the lines were counted, and the first ASSERT
+-- that is not met was found. All of it is that of a run of the stages.
+pub record IsGiven (run : Run) (inputs : List Input) (kept : List Kept) (outs : List StorePart) (read shuffled : ℕ) (unmet : Option ℕ) : Type 0 where
+  pub kept_valid : IsKept run.plan inputs kept
+  pub outs_are : AreOutputsOf run.plan inputs kept (stores_of run.plan) outs
+  pub read_is : read ≡ lines_read run.plan inputs % 2 ^ 64
+  pub unmet_is : unmet ≡ first_unmet run.plan inputs kept
+  pub run_of : IsRunOf run.stages inputs kept (map (λ out. out.parts) outs) shuffled
+
+-- so it is of the script's plan, whichever the plan that is cut came from, and the inputs that all hosts tell
+abbrev pub GivesAll : Stages → ℕ → Tellings → List Kept → List StorePart → ℕ → ℕ → Option ℕ → Type 0
+GivesAll s limit tellings kept outs read shuffled unmet =
+    (plan : Plan) → IsPlan plan → s.plan ≡ by_key plan → (inputs : List Input) → AllTell inputs tellings → AreOfBytes inputs
+    → IsGiven (record { plan = plan; stages = s; limit = limit }) inputs kept outs read shuffled unmet
+
+-- the STOREs' parts are as many as their tasks, in the directories of the STOREs
+pub record AreLaid (s : Stages) (stores_are : List Store) (outs : List StorePart) : Type 0 where
+  pub statements : map (λ out. out.statement) outs ≡ map (λ store. store.statement) stores_are
+  pub dirs : map (λ out. out.dir) outs ≡ map (λ store. store.dir) stores_are
+  pub counts : map (λ out. length out.parts) outs ≡ map (part_count s) (stores s.plan)
+
+-- the ends of waves behind which no outputs come
+abbrev pub WavesEnd : ℕ → Stages → List (List TaskEnd) → RunFault → Type 0
+WavesEnd limit s ends (fault.TaskFailed wave task failed) = IsGivenUp limit s ends wave task failed
+WavesEnd limit s ends fault.OutOfMemory = HaveWon s ends
+WavesEnd limit s ends found = ⊥
+
+-- all waves were won, and this is what they give to store
+pub record HasFound (s : Stages) (limit : ℕ) (tellings : Tellings) (stores_are : List Store) (outs : List StorePart) (progress : Progress) : Type 0 where
+  pub won : AreWon s progress.ends (length (heads s.plan))
+  pub laid : AreLaid s stores_are outs
+  pub gives : GivesAll s limit tellings progress.kept outs progress.read progress.shuffled None
+  pub stands : progress.stands ≡ false
+  pub silent : progress.said.items ≡ []
+
+-- what was kept is valid, and this ASSERT is the first that is not met
+pub record IsUnmetOver (plan : Plan) (inputs : List Input) (kept : List Kept) (n : ℕ) : Type 0 where
+  pub kept_valid : IsKept plan inputs kept
+  pub first : first_unmet plan inputs kept ≡ Some n
+
+abbrev pub UnmetAll : Stages → Tellings → List Kept → ℕ → Type 0
+UnmetAll s tellings kept n =
+    (plan : Plan) → IsPlan plan → s.plan ≡ by_key plan → (inputs : List Input) → AllTell inputs tellings → AreOfBytes inputs → IsUnmetOver plan inputs kept n
+
+-- Why nothing is stored: a task failed, an ASSERT is not met, or memory was wanting.
+pub data EndsFinding (s : Stages) (limit : ℕ) (tellings : Tellings) (progress : Progress) : RunFault → Type 0 where
+  lost : {wave task failed : ℕ} → IsGivenUp limit s progress.ends wave task failed → progress.stands ≡ false → progress.said.items ≡ []
+      → EndsFinding s limit tellings progress (fault.TaskFailed wave task failed)
+  not_met : {n : ℕ} → AreWon s progress.ends (length (heads s.plan)) → UnmetAll s tellings progress.kept n → progress.stands ≡ true
+      → progress.said.items ≡ said (assert_message s.plan n) → EndsFinding s limit tellings progress (fault.AssertFailed n)
+  no_room : HaveWon s progress.ends → progress.stands ≡ false → progress.said.items ≡ [] → EndsFinding s limit tellings progress fault.OutOfMemory
+
+-- the ASSERT of a statement has failed, and its message is said; or memory was wanting for that, and nothing has changed
+pub data HasFailedAssert (plan : Plan) (n : ℕ) (old new : Progress) : RunFault → Type 0 where
+  asserted : new ≡ record old { said = new.said; stands = true } → new.said.items ≡ said (assert_message plan n) → HasFailedAssert plan n old new (fault.AssertFailed n)
+  untold : new ≡ old → HasFailedAssert plan n old new fault.OutOfMemory
 
 -- ---- storing
 
--- rows of values
-abbrev pub Relation : Type 0
-Relation = List (List Value)
-
-abbrev pub output_of : Store → Relation → Output
-output_of store rows = record { dir = store.dir; bytes = rows_text store.delim (rows_tree rows); lines = length rows }
-
--- of each STORE in turn, there are as many rows as their text has lines
-abbrev pub EachCounted : List Store → List Relation → Type 0
-EachCounted [] relations = Unit {0}
-EachCounted (store ∷ stores) [] = Unit {0}
-EachCounted (store ∷ stores) (rows ∷ relations) = (length rows ≡ length (stored_lines (rows_text store.delim (rows_tree rows)))) × EachCounted stores relations
-
-abbrev pub outputs_of : List Store → List Relation → List Output
-outputs_of (store ∷ stores) (rows ∷ relations) = output_of store rows ∷ outputs_of stores relations
-outputs_of stores relations = []
-
 -- what is noted of an output, and its line
-abbrev pub note_of : Output → Noted
-note_of out = record { dir = out.dir; lines = out.lines }
+abbrev pub note_of : StorePart → Noted
+note_of out = record { dir = out.dir; lines = line_count out }
 
 abbrev pub noted_line : Noted → List ℕ
-noted_line note = stored_line (record { dir = note.dir; bytes = []; lines = note.lines })
-
--- these calls were made, or where there was a fault, the first of them
-pub record AskedFor {T : Type 0} (calls : List DepotCall) (result : Result T RunFault) (old new : Option (List DepotCall)) : Type 0 where
-  pub made : List DepotCall
-  pub asked : Asked made old new
-  pub first : IsPrefix made calls
-  pub all : IfOk result (λ _. made ≡ calls)
+noted_line note = stored_line note.dir note.lines
 
 -- the STOREs before one were stored, and that one was not
-pub record IsBrokenAt (stores : List Store) (relations : List Relation) (found : RunFault) (old new : Option Shelf) : Type 0 where
-  pub before : List Store
-  pub store : Store
-  pub behind : List Store
-  pub first : List Relation
-  pub last : List Relation
-  pub are : stores ≡ before ++ store ∷ behind
-  pub rows_are : relations ≡ first ++ last
-  pub each : length first ≡ length before
+pub record IsBrokenAt (outs : List StorePart) (found : RunFault) (old new : Option Shelf) : Type 0 where
+  pub before : List StorePart
+  pub store : StorePart
+  pub behind : List StorePart
+  pub are : outs ≡ before ++ store ∷ behind
   pub named : IsCommitFault store.statement found
-  pub left : LeftOpen store.dir (option_map (with_outputs (outputs_of before first)) old) new
-
--- nothing was begun, and only memory was wanting
-abbrev pub IsNotBegun : {T : Type 0} → Bool → Result T RunFault → Option Shelf → Option Shelf → Type 0
-IsNotBegun begun result old new = begun ≡ false → (new ≡ old) × MatchResult result (λ _. Unit {0}) (λ found. found ≡ fault.OutOfMemory)
+  pub left : LeftOpen store.dir (option_map (with_stored before) old) new
 
 -- ---- the run
 
 abbrev pub counts_in : Progress → Counts
-counts_in progress = record { read = progress.read; shuffled = 0; stored = sum_by (λ note. note.lines) progress.notes % 2 ^ 64 }
+counts_in progress = record { read = progress.read; shuffled = progress.shuffled; stored = sum_by (λ note. note.lines) progress.notes % 2 ^ 64 }
 
--- what was kept counts where all was stored, or a directory was begun
-abbrev pub kept_in : Bool → Progress → List Kept
-kept_in done progress = if done then progress.kept else (if progress.begun then progress.kept else [])
+-- what was kept, where it stands
+abbrev pub kept_in : Progress → List Kept
+kept_in progress = if progress.stands then progress.kept else []
+
+abbrev pub left_in : List StorePart → Progress → Option Shelf → Left
+left_in outs progress shelf = record { outs = outs; kept = kept_in progress; waves = progress.ends; shelf = shelf }
 
 abbrev pub found_in : {T : Type 0} → Result T RunFault → Option RunFault
 found_in (Ok _) = None
 found_in (Err found) = Some found
 
 -- the text of an end
-abbrev pub end_text : Result (List ℕ) RunFault → List ℕ
-end_text (Ok text) = text
-end_text (Err found) = fault_text found
+abbrev pub end_text : List ℕ → Result (List ℕ) RunFault → List ℕ
+end_text said (Ok text) = text
+end_text said (Err found) = fault_text said found
 
--- What the run of a plan says of a shelf that is told.
-pub record RunsEnd (plan : Plan) (shelf : Shelf) (tells : Type 0) (calls_old calls_new : Option (List DepotCall)) (new : Option Shelf) (progress : Progress)
+-- What the run of stages says of a shelf that is told.
+pub record RunsEnd (run : Run) (shelf : Shelf) (tells : Type 0) (calls_old calls_new : Option (List DepotCall)) (new : Option Shelf) (progress : Progress)
     (result : Result (List ℕ) RunFault) : Type 0 where
-  pub outs : List Output
-  pub state : Ends tells shelf (record { outs = outs; kept = kept_in (is_ok result) progress; shelf = new }) (Runs plan) (found_in result)
-  pub asked : IsAsked (flat_map store_calls (dirs_of plan)) (found_in result) calls_old calls_new
-  pub numbers : CountsAre tells (Runs plan) shelf outs (counts_in progress) (found_in result)
+  pub outs : List StorePart
+  pub state : Ends tells shelf (left_in outs progress new) (Runs run) (found_in result)
+  pub asked : IsAsked (making_of run) (found_in result) calls_old calls_new
+  pub numbers : CountsAre tells (Runs run) shelf (left_in outs progress new) (counts_in progress) (found_in result)
   pub text : IfOk result (λ text. text ≡ done_text outs (counts_in progress))
+  pub said_is : progress.said.items ≡ said_behind (Runs run) (found_in result)
 
 -- What a call says of it, from a stage on.
 pub record RunEnd (stage : Stage) (shelf : Shelf) (tells : Type 0) (calls_old calls_new : Option (List DepotCall)) (new : Option Shelf)
@@ -134,17 +159,29 @@ pub record RunEnd (stage : Stage) (shelf : Shelf) (tells : Type 0) (calls_old ca
   pub verdict : Verdict
   pub calls : List DepotCall
   pub due : stage calls verdict
-  pub outs : List Output
-  pub state : Ends tells shelf (record { outs = outs; kept = kept_in (is_ok result) progress; shelf = new }) verdict (found_in result)
+  pub outs : List StorePart
+  pub state : Ends tells shelf (left_in outs progress new) verdict (found_in result)
   pub asked : IsAsked calls (found_in result) calls_old calls_new
-  pub numbers : CountsAre tells verdict shelf outs (counts_in progress) (found_in result)
+  pub numbers : CountsAre tells verdict shelf (left_in outs progress new) (counts_in progress) (found_in result)
   pub text : IfOk result (λ text. text ≡ due_text verdict outs (counts_in progress))
+  pub said_is : progress.said.items ≡ said_behind verdict (found_in result)
 
 -- so it is of each end
-abbrev pub RunsTold : Plan → Shelf → Type 0 → Option (List DepotCall) → Option (List DepotCall) → Option Shelf → Progress → Result (List ℕ) RunFault → Type 0
-RunsTold plan shelf tells calls_old calls_new new progress result = MatchResult result (λ text. RunsEnd plan shelf tells calls_old calls_new new progress (Ok text))
-    (λ found. RunsEnd plan shelf tells calls_old calls_new new progress (Err found))
+abbrev pub RunsTold : Run → Shelf → Type 0 → Option (List DepotCall) → Option (List DepotCall) → Option Shelf → Progress → Result (List ℕ) RunFault → Type 0
+RunsTold run shelf tells calls_old calls_new new progress result = MatchResult result (λ text. RunsEnd run shelf tells calls_old calls_new new progress (Ok text))
+    (λ found. RunsEnd run shelf tells calls_old calls_new new progress (Err found))
 
 abbrev pub RunTold : Stage → Shelf → Type 0 → Option (List DepotCall) → Option (List DepotCall) → Option Shelf → Progress → Result (List ℕ) RunFault → Type 0
 RunTold stage shelf tells calls_old calls_new new progress result = MatchResult result (λ text. RunEnd stage shelf tells calls_old calls_new new progress (Ok text))
     (λ found. RunEnd stage shelf tells calls_old calls_new new progress (Err found))
+
+-- ---- a run that begins
+
+-- nothing was done yet
+pub record IsFresh (progress : Progress) : Type 0 where
+  pub notes : progress.notes ≡ []
+  pub stands : progress.stands ≡ false
+  pub read : progress.read ≡ 0
+  pub shuffled : progress.shuffled ≡ 0
+  pub ends : progress.ends ≡ []
+  pub said : progress.said.items ≡ []

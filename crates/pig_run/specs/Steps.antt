@@ -3,6 +3,10 @@ use Rattle.std.specs.Prelude.{◌≡◌, ◌≢◌, ◌≤◌, ◌<◌, ◌⊎�
 use Rattle.pig_outside.specs.Calls.{DepotCall}
 use Rattle.pig_outside.specs.declared.faults.OutsideError.{OutsideError}
 use Rattle.pig_outside.specs.declared.faults.OutsideError.TheVariants as outside
+use Rattle.pig_driver.specs.declared.running.StagesFault.{StagesFault}
+use Rattle.pig_driver.specs.declared.running.StagesFault.TheVariants as stages
+use Rattle.pig_commit.specs.declared.parts.CommitFault.{CommitFault}
+use Rattle.pig_commit.specs.declared.parts.CommitFault.TheVariants as commit
 use Rattle.pig_run.specs.declared.outcome.RunFault.{RunFault}
 use Rattle.pig_run.specs.declared.outcome.RunFault.TheVariants as fault
 use Rattle.pig_run.specs.Due.{HasWords, Line, Stage}
@@ -17,9 +21,15 @@ abbrev pub depot_fault_of : OutsideError → Option ℕ → RunFault
 depot_fault_of outside.Failed store = fault.DepotFault store
 depot_fault_of outside.OutOfMemory store = fault.OutOfMemory
 
-abbrev pub host_fault_of : OutsideError → RunFault
-host_fault_of outside.Failed = fault.HostFault
-host_fault_of outside.OutOfMemory = fault.OutOfMemory
+-- the fault that one of a commit is
+abbrev pub commit_fault_of : CommitFault → RunFault
+commit_fault_of (commit.Store statement) = fault.DepotFault (Some statement)
+commit_fault_of commit.OutOfMemory = fault.OutOfMemory
+
+-- the fault that one of the waves is
+abbrev pub stages_fault_of : StagesFault → RunFault
+stages_fault_of (stages.TaskFailed wave task failed) = fault.TaskFailed wave task failed
+stages_fault_of stages.OutOfMemory = fault.OutOfMemory
 
 -- ---- stages
 
@@ -81,17 +91,13 @@ pub record StoreBlame {T : Type 0} (before now : ℕ) (result : Result T RunFaul
   pub store : (number : ℕ) → IsErrOf result (fault.DepotFault (Some number)) → before < now
   pub lookup : IsErrOf result (fault.DepotFault None) → now ≡ before
 
--- the host's count has not fallen, and has risen where the host is blamed
-pub record HostCause {T : Type 0} (before now : ℕ) (result : Result T RunFault) : Type 0 where
-  pub later : before ≤ now
-  pub failed : IsErrOf result fault.HostFault → before < now
-
 -- ---- which faults there are
 
 -- a step behind the words and before the run ends by a refusal, the depot's look-ups, or memory
 abbrev pub IsPlanFault : RunFault → Type 0
 IsPlanFault fault.Usage = ⊥
-IsPlanFault fault.HostFault = ⊥
+IsPlanFault (fault.TaskFailed wave task failed) = ⊥
+IsPlanFault (fault.AssertFailed n) = ⊥
 IsPlanFault fault.ConsoleFault = ⊥
 IsPlanFault (fault.DepotFault (Some store)) = ⊥
 IsPlanFault found = Unit {0}
@@ -105,17 +111,9 @@ IsReadFault (fault.TooLarge which) = Unit {0}
 IsReadFault fault.OutOfMemory = Unit {0}
 IsReadFault found = ⊥
 
--- reading what the host has ends by the host or memory
-abbrev pub IsHostStep : RunFault → Type 0
-IsHostStep found = (found ≡ fault.HostFault) ⊎ (found ≡ fault.OutOfMemory)
-
 -- making the directory of the STORE of this number ends by the depot or memory
 abbrev pub IsCommitFault : ℕ → RunFault → Type 0
 IsCommitFault number found = (found ≡ fault.DepotFault (Some number)) ⊎ (found ≡ fault.OutOfMemory)
-
--- the run of a plan ends by the host, the depot at a STORE, or memory
-abbrev pub IsRunFault : RunFault → Type 0
-IsRunFault found = (found ≡ fault.HostFault) ⊎ ((number : ℕ) × (found ≡ fault.DepotFault (Some number))) ⊎ (found ≡ fault.OutOfMemory)
 
 -- another fault than that of wrong words
 abbrev pub IsNotUsage : RunFault → Type 0

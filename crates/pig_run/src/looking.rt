@@ -3,9 +3,11 @@ ghost use Rattle.std.specs.Option.{ForSome};
 ghost use Rattle.std.specs.List.{AllByRecursion, sum_by};
 ghost use Rattle.pig_outside.specs.declared.failing.Method.TheVariants as method;
 ghost use Rattle.pig_plan.specs.Plans.{PlanNode, plan_of};
+ghost use Rattle.pig_keyed.specs.Keyed.{by_key};
 ghost use Rattle.pig_reach.specs.Reach.{live_paths, stores_of};
+ghost use Rattle.pig_words.specs.declared.words.Command.{Command};
 ghost use Rattle.pig_check.specs.States.{StoresAreApart};
-ghost use Rattle.pig_run.specs.Due.{AreWords, AssertsDue, CommandDue, HasWords, InputsDue, IsBuilt, IsDue, OutputsDue, RunDue, ScriptDue, SizeDue, call};
+ghost use Rattle.pig_run.specs.Due.{AreWords, CommandDue, HasWords, InputsDue, IsDue, OutputsDue, ScriptDue, SizeDue, TasksDue, call};
 ghost use Rattle.pig_run.specs.Looking.{HasSize, IsAbsentIn, IsPrepared, IsReady, LooksForInput, LooksForOutput, LooksForScript, LooksForSize, line_given, total_of};
 ghost use Rattle.pig_run.specs.Orderly.{AsksAll, AsksScript, AsksSome, LooksUp};
 ghost use Rattle.pig_run.specs.Steps.{DepotCause, IsPlanFault, SaysWords, Step, depot_fault_of};
@@ -13,31 +15,21 @@ ghost use Rattle.pig_run.specs.Told.{Asked};
 ghost use Rattle.pig_run.specs.declared.outcome.RunFault.TheVariants as fault;
 ghost use Rattle.pig_run.specs.declared.outcome.TooLarge.TheVariants as large;
 
-use crate::asserts::first_assert;
 use crate::line::CommandLine;
 use crate::reading::{Checked, MOST_SCRIPT, read_script};
 use crate::{RunFault, TooLarge};
 use pig_check::a_script_has_one_plan;
+use pig_keyed::{by_key, keyed_plans_run_the_same};
 use pig_outside::{Depot, OutsideError};
+use pig_physical::{Size, Sizes};
 use pig_plan::Plan;
 use pig_reach::{Stores, live_paths, stores};
-use pig_typing::CheckKind;
-use pig_value::{Lengths, Seq, Text, WordFault};
+use pig_value::{Lengths, Text, WordFault};
 use pig_words::{Command, Verb, read_words};
 use std::alloc::Global;
 
 /// The limit on the inputs that a run reads, in bytes.
 const MOST_INPUT: u64 = 67_108_864;
-
-/// An input that is there: its path, and the lengths of its pieces in order.
-#[derive(Drop)]
-pub struct Size {
-    pub path: Text,
-    pub lengths: Lengths,
-}
-
-/// Inputs that are there, each path once.
-pub type Sizes = Seq<Size>;
 
 /// The fault that an error of the depot is, in the commit of that STORE or before.
 pub fn depot_fault(error: OutsideError, store: Option<u32>) -> RunFault
@@ -59,7 +51,7 @@ fn read_command(alloc: Global, line: &CommandLine) -> Result<Command, RunFault>
         Ok(command) => match command.verb {
             Verb::Run => Ok(command),
             Verb::Check => Ok(command),
-            Verb::Explain => Err(RunFault::Usage),
+            Verb::Explain => Ok(command),
             Verb::Demo => Err(RunFault::Usage),
         },
         Err(WordFault::Usage) => Err(RunFault::Usage),
@@ -121,7 +113,7 @@ pub fn load<D: Depot>(alloc: Global, line: &CommandLine, depot: &mut D) -> Resul
     ensures told { ForSome (D.shelf depot.old) (λ s. Step (IsDue (line_given line.now) s)
         (λ r. CommandDue r.command s r.checked.statements (plan_of r.checked.plan))
         (D.calls depot.old) (D.calls depot.new) result) }
-    ensures built { IfOk result (λ r. IsBuilt r.command.verb) }
+    ensures are { IfOk result (λ r. AreWords (line_given line.now) r.command) }
     ensures apart { IfOk result (λ r. StoresAreApart (plan_of r.checked.plan)) }
     ensures words { MatchResult result (λ _. HasWords (line_given line.now))
         (SaysWords (line_given line.now)) }
@@ -181,8 +173,10 @@ fn add_size<D: Depot>(
 
 /// The inputs of a plan, each path once, in the order of the statements.
 fn find_inputs<D: Depot>(alloc: Global, depot: &mut D, plan: &Plan) -> Result<Sizes, RunFault>
-    ensures told { ForSome (D.shelf depot.old) (λ s. Step (InputsDue (plan_of plan.now) s)
-        (λ sizes. SizeDue (plan_of plan.now) s) (D.calls depot.old) (D.calls depot.new) result) }
+    ensures told { ForSome (D.shelf depot.old) (λ s. (command : Command)
+        → Step (InputsDue command s (plan_of plan.now))
+        (λ sizes. SizeDue command s (plan_of plan.now))
+        (D.calls depot.old) (D.calls depot.new) result) }
     ensures sizes { IfOk result (λ sizes. map (λ size. size.path) sizes
         ≡ live_paths (plan_of plan.now)) }
     ensures lengths { ForSome (D.shelf depot.old)
@@ -262,9 +256,9 @@ fn check_output<D: Depot>(alloc: Global, depot: &mut D, dir: &Text) -> Result<()
 
 /// Refuses the first output that is there.
 fn check_outputs<D: Depot>(alloc: Global, depot: &mut D, stores: &Stores) -> Result<(), RunFault>
-    ensures told { ForSome (D.shelf depot.old) (λ s. (plan : List PlanNode)
-        → stores.now ≡ stores_of plan → Step (OutputsDue plan s)
-        (λ _. RunDue plan) (D.calls depot.old) (D.calls depot.new) result) }
+    ensures told { ForSome (D.shelf depot.old) (λ s. (command : Command) (plan : List PlanNode)
+        → stores.now ≡ stores_of plan → Step (OutputsDue command s plan)
+        (λ _. TasksDue command s plan) (D.calls depot.old) (D.calls depot.new) result) }
     ensures absent { ForSome (D.shelf depot.old)
         (λ s. IfOk result (λ _. AllByRecursion (IsAbsentIn s) stores.now)) }
     ensures fault { IfErr result IsPlanFault }
@@ -281,7 +275,8 @@ fn check_outputs<D: Depot>(alloc: Global, depot: &mut D, stores: &Stores) -> Res
     Ok(())
 }
 
-/// A plan that may be run: its inputs are there, and the directories of its STOREs are not.
+/// A plan that may be cut into tasks: each JOIN goes by key, its inputs are there, and the directories of its STOREs are
+/// not.
 #[derive(Drop)]
 pub struct Prepared {
     pub plan: Plan,
@@ -289,50 +284,31 @@ pub struct Prepared {
     pub stores: Stores,
 }
 
-/// The inputs and outputs of a plan, where nothing stands in the way of its run.
-fn look<D: Depot>(alloc: Global, depot: &mut D, plan: Plan) -> Result<Prepared, RunFault>
+/// What is to be cut of a plan, where nothing stands in its way.
+pub fn prepare<D: Depot>(alloc: Global, depot: &mut D, plan: Plan) -> Result<Prepared, RunFault>
     requires apart { StoresAreApart (plan_of plan) }
-    ensures told { ForSome (D.shelf depot.old) (λ s. Step (InputsDue (plan_of plan) s)
-        (λ p. RunDue (plan_of p.plan)) (D.calls depot.old) (D.calls depot.new) result) }
+    ensures told { ForSome (D.shelf depot.old) (λ s. (command : Command)
+        → Step (InputsDue command s (plan_of plan)) (λ p. TasksDue command s (plan_of plan))
+        (D.calls depot.old) (D.calls depot.new) result) }
     ensures ready { ForSome (D.shelf depot.old) (λ s. IfOk result (IsReady s)) }
     ensures prepared { IfOk result IsPrepared }
+    ensures keyed { IfOk result (λ p. plan_of p.plan ≡ by_key (plan_of plan)) }
     ensures fault { IfErr result IsPlanFault }
     ensures shelf { D.shelf depot.new ≡ D.shelf depot.old }
     ensures cause { DepotCause (D.faults depot.old) (D.faults depot.new) result }
     ensures stores { D.store_faults depot.new ≡ D.store_faults depot.old }
     ensures asked { LooksUp result (D.calls depot.old) (D.calls depot.new) }
 {
+    keyed_plans_run_the_same();
+    plan.nodes();
     let sizes = find_inputs(alloc, depot, &plan)?;
     check_size(&sizes)?;
     let stores = stores(alloc, &plan)?;
     check_outputs(alloc, depot, &stores)?;
+    let plan = by_key(alloc, plan)?;
     Ok(Prepared {
         plan,
         sizes,
         stores,
     })
-}
-
-/// What is to be run of a plan, where nothing stands in its way: the first ASSERT that a STORE reaches is refused, until a
-/// run goes by tasks.
-pub fn prepare<D: Depot>(alloc: Global, depot: &mut D, plan: Plan) -> Result<Prepared, RunFault>
-    requires apart { StoresAreApart (plan_of plan) }
-    ensures told { ForSome (D.shelf depot.old) (λ s. Step (AssertsDue (plan_of plan) s)
-        (λ p. RunDue (plan_of p.plan)) (D.calls depot.old) (D.calls depot.new) result) }
-    ensures ready { ForSome (D.shelf depot.old) (λ s. IfOk result (IsReady s)) }
-    ensures prepared { IfOk result IsPrepared }
-    ensures fault { IfErr result IsPlanFault }
-    ensures shelf { D.shelf depot.new ≡ D.shelf depot.old }
-    ensures cause { DepotCause (D.faults depot.old) (D.faults depot.new) result }
-    ensures stores { D.store_faults depot.new ≡ D.store_faults depot.old }
-    ensures asked { LooksUp result (D.calls depot.old) (D.calls depot.new) }
-{
-    let first = first_assert(alloc, &plan)?;
-    if let Some(statement) = first {
-        return Err(RunFault::Check {
-            statement,
-            kind: CheckKind::Unsupported,
-        });
-    }
-    look(alloc, depot, plan)
 }

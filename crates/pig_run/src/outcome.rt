@@ -3,6 +3,7 @@ ghost use Rattle.pig_run.specs.Outputs.{no_counts};
 ghost use Rattle.pig_run.specs.Refusals.{status_of};
 ghost use Rattle.pig_run.specs.declared.outcome.RunFault.TheVariants as fault;
 
+use pig_driver::JobEnds;
 use pig_typing::CheckKind;
 use pig_value::{KeptList, Text};
 use std::alloc::{AllocError, AllocFailed};
@@ -11,7 +12,7 @@ use thiserror::Error;
 /// Why a run did not end well.
 #[derive(Debug, Drop, Error)]
 pub enum RunFault {
-    /// The words are no command that is built: `run` or `check`, the path of one script, and options.
+    /// The words are no command that is built: `run`, `explain` or `check`, the path of one script, and options.
     #[error("the words are no command")]
     Usage,
     /// The depot has no such script.
@@ -36,9 +37,12 @@ pub enum RunFault {
     /// made, from 1, and none before.
     #[error("the depot failed")]
     DepotFault { store: Option<u32> },
-    /// The host failed, and has counted it.
-    #[error("the host failed")]
-    HostFault,
+    /// A wave failed: this task has failed so often, as the hosts have counted, and a task has no winner.
+    #[error("task {task} of wave {wave} failed {failed} times")]
+    TaskFailed { wave: u32, task: u32, failed: u32 },
+    /// The ASSERT of the statement of this number is the first that is not met.
+    #[error("the ASSERT of statement {statement} is not met")]
+    AssertFailed { statement: u32 },
     /// Memory was wanting.
     #[error("out of memory")]
     OutOfMemory,
@@ -65,6 +69,9 @@ pub enum TooLarge {
     /// The inputs that a STORE reaches have more than 67,108,864 bytes in all.
     #[error("input")]
     Input,
+    /// A wave of the plan has more than 65,536 tasks that read, and ways to them.
+    #[error("tasks")]
+    Tasks,
 }
 
 impl RunFault {
@@ -79,7 +86,8 @@ impl RunFault {
             RunFault::NoInput { .. } => 4,
             RunFault::OutputExists { .. } => 5,
             RunFault::DepotFault { .. } => 6,
-            RunFault::HostFault => 7,
+            RunFault::TaskFailed { .. } => 7,
+            RunFault::AssertFailed { .. } => 8,
             RunFault::OutOfMemory => 9,
             RunFault::ConsoleFault => 10,
             RunFault::TooLarge { .. } => 11,
@@ -127,8 +135,11 @@ impl Counts {
     }
 }
 
+/// What stands of the tasks of waves.
+pub type Waves = JobEnds;
+
 /// What a run answers.
-#[derive(Debug, Drop)]
+#[derive(Drop)]
 pub struct Outcome {
     /// The exit status: 0 where there is no fault.
     pub status: u8,
@@ -136,6 +147,8 @@ pub struct Outcome {
     pub fault: Option<RunFault>,
     /// The rows that each bare LIMIT kept.
     pub kept: KeptList,
+    /// What stands of the tasks of each wave that ended, the failed one included.
+    pub waves: Waves,
     /// The numbers of the run.
     pub counts: Counts,
 }

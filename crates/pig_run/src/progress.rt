@@ -1,7 +1,8 @@
-ghost use Rattle.std.specs.Prelude.{◌≡◌, ◌++◌, ◌∷◌, [], false, OnOk};
+ghost use Rattle.pig_run.specs.Running.{IsFresh};
 
+use crate::Waves;
 use pig_value::{KeptList, Seq, Text};
-use std::alloc::{AllocError, Global};
+use std::alloc::Global;
 
 /// A directory that was made, and the number of its lines.
 #[derive(Drop)]
@@ -18,42 +19,33 @@ pub type Notes = Seq<Noted>;
 pub struct Progress {
     /// What the bare LIMITs kept.
     pub kept: KeptList,
-    /// Whether a directory was begun.
-    pub begun: bool,
+    /// Whether what they kept is shown: the making of directories was begun, or an ASSERT failed.
+    pub stands: bool,
     /// The number of lines that were read, modulo 2 to the 64.
     pub read: u64,
-    /// The directories so far.
+    /// The number of entries that map tasks handed on, modulo 2 to the 64.
+    pub shuffled: u64,
+    /// The waves that ended.
+    pub ends: Waves,
+    /// The directories, each with its number of lines.
     pub notes: Notes,
+    /// What is said behind the line of a fault.
+    pub said: Vec<u8>,
 }
 
 impl Progress {
     /// Nothing was done yet.
     pub fn new(alloc: Global) -> Progress
-        ensures notes { result.notes ≡ [] }
-        ensures begun { result.begun ≡ false }
-        ensures read { result.read ≡ 0 }
-        ensures kept { result.kept ≡ [] }
+        ensures { IsFresh result }
     {
         Progress {
             kept: KeptList::new(alloc),
-            begun: false,
+            stands: false,
             read: 0,
+            shuffled: 0,
+            ends: Waves::new(alloc),
             notes: Notes::new(alloc),
+            said: Vec::new(alloc),
         }
-    }
-
-    /// Notes a directory that is to be made of so many rows.
-    pub fn note(&mut self, alloc: Global, dir: &Text, rows: usize) -> Result<(), AllocError>
-        ensures notes { OnOk result (self.new.notes
-            ≡ self.old.notes ++ record { dir = dir.now; lines = rows } ∷ []) }
-        ensures kept { self.new.kept ≡ self.old.kept }
-        ensures begun { self.new.begun ≡ self.old.begun }
-        ensures read { self.new.read ≡ self.old.read }
-    {
-        let dir = dir.copy(alloc)?;
-        self.notes.push(Noted {
-            dir,
-            lines: rows as u64,
-        })
     }
 }

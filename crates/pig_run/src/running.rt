@@ -1,76 +1,47 @@
-ghost use Rattle.std.specs.Prelude.{◌≡◌, ◌≢◌, ◌<◌, ◌≤◌, ◌⊎◌, ◌%◌, ◌^◌, [], length, map, false, IfOk, IfErr, MatchResult};
+ghost use Rattle.std.specs.Prelude.{◌≡◌, ◌≢◌, ◌<◌, ◌≤◌, ◌⊎◌, ◌%◌, ◌^◌, List, [], false, true, length, map, IfErr, IfOk, MatchResult};
 ghost use Rattle.std.specs.Option.{ForSome};
 ghost use Rattle.std.specs.List.{AllByRecursion, sum_by};
-ghost use Rattle.pig_plan.specs.Plans.{plan_of};
+ghost use Rattle.pig_plan.specs.Plans.{PlanNode, plan_of};
+ghost use Rattle.pig_plan.specs.Valid.{IsPlan};
 ghost use Rattle.pig_check.specs.States.{StoresAreApart};
-ghost use Rattle.pig_run.specs.Due.{AssertsDue, CommandDue, HasWords, IsBuilt, IsDue};
-ghost use Rattle.pig_run.specs.Looking.{HasLengths, IsPrepared, IsReady, line_given};
+ghost use Rattle.pig_reach.specs.Reach.{stores_of};
+ghost use Rattle.pig_physical.specs.Seen.{cut_of, staged};
+ghost use Rattle.pig_cutter.specs.Limits.{has_too_many};
+ghost use Rattle.pig_driver.specs.Going.{TellSizes};
+ghost use Rattle.pig_keyed.specs.Keyed.{by_key};
+ghost use Rattle.pig_explain.specs.Explained.{explain_text};
+ghost use Rattle.pig_run.specs.Blame.{CrewHasWorked, HaveWorked, HostsHaveWorked};
+ghost use Rattle.pig_run.specs.Due.{CommandDue, HasWords, InputsDue, IsBuilt, IsDue, TasksDue};
+ghost use Rattle.pig_run.specs.Looking.{IsAbsentIn, IsPrepared, IsReady, are_apart, line_given};
 ghost use Rattle.pig_run.specs.Orderly.{IsOrderly, IsOrderlyBehind, Makes};
-ghost use Rattle.pig_run.specs.Running.{EachCounted, IsFoundOver, RunTold, RunsTold, counts_in, found_in};
-ghost use Rattle.pig_run.specs.Steps.{DepotCause, HostCause, IsHostStep, IsLaterFault, IsRunFault, SaysWords, StoreBlame};
+ghost use Rattle.pig_run.specs.Reading.{Run};
+ghost use Rattle.pig_run.specs.Running.{IsFresh, IsUsable, RunTold, RunsTold, counts_in, found_in};
+ghost use Rattle.pig_run.specs.Steps.{DepotCause, IsLaterFault, SaysWords, StoreBlame};
 ghost use Rattle.pig_run.specs.Texts.{ok_text};
-ghost use Rattle.pig_run.specs.Told.{TellsInputs, TellsOf};
+ghost use Rattle.pig_run.specs.Told.{AllTell, CrewTells, TellsInputs, TellsOf};
 ghost use Rattle.pig_run.specs.declared.outcome.RunFault.TheVariants as fault;
+ghost use Rattle.pig_run.specs.declared.outcome.TooLarge.TheVariants as large;
 
-use crate::commit::store_all;
-use crate::inputs::read_inputs;
+use crate::finding::find;
 use crate::line::CommandLine;
 use crate::looking::{Prepared, Request, load, prepare};
 use crate::progress::{Notes, Progress};
 use crate::reading::Checked;
+use crate::storing::{note_all, store_all};
 use crate::texts::{done_bytes, ok_bytes};
-use crate::{Counts, RunFault};
+use crate::{Counts, RunFault, TooLarge};
 use pig_check::a_script_has_one_plan;
+use pig_cutter::{CutFault, cut_plan};
+use pig_explain::explain;
+use pig_keyed::{copied_by_key, keyed_plans_run_the_same};
 use pig_outside::{Depot, Host};
-use pig_plain::{Answers, answer, answers_are_stored_lines, inputs_are_of_bytes};
+use pig_physical::Stages;
 use pig_plan::Plan;
-use pig_reach::{Store, lines_read};
+use pig_reach::Stores;
 use pig_value::Blob;
-use pig_words::Verb;
+use pig_words::{Command, Verb};
 use std::alloc::Global;
-
-/// What a plan means, and the number of lines that were read for it.
-#[derive(Drop)]
-struct Found {
-    answers: Answers,
-    read: u64,
-}
-
-/// Reads the inputs, each piece once, and finds what the plan means over them.
-fn find<H: Host>(alloc: Global, host: &mut H, prepared: &Prepared) -> Result<Found, RunFault>
-    requires prepared { IsPrepared prepared.now }
-    requires lengths { ForSome (H.inputs host.old)
-        (λ i. AllByRecursion (HasLengths i) prepared.now.sizes) }
-    ensures found { ForSome (H.inputs host.old)
-        (λ i. IfOk result (IsFoundOver (plan_of prepared.now.plan) i)) }
-    ensures each { IfOk result (λ found. length found.answers.stores
-        ≡ length prepared.now.stores) }
-    ensures counted { IfOk result (λ found. EachCounted prepared.now.stores
-        found.answers.stores) }
-    ensures fault { IfErr result IsHostStep }
-    ensures inputs { H.inputs host.new ≡ H.inputs host.old }
-    ensures still { H.begun host.new ≡ H.begun host.old }
-    ensures cause { HostCause (H.faults host.old) (H.faults host.new) result }
-{
-    answers_are_stored_lines();
-    // That the plan is valid is known of its nodes, and of each delimiter that it is one.
-    prepared.plan.nodes();
-    know_delimiters(prepared.stores.as_slice());
-    let inputs = read_inputs(alloc, host, &prepared.sizes)?;
-    inputs_are_of_bytes(inputs.as_slice());
-    let read = lines_read(alloc, &prepared.plan, &inputs)?;
-    let answers = answer(alloc, &prepared.plan, &inputs)?;
-    Ok(Found { answers, read })
-}
-
-/// That no STORE's delimiter is an LF, as its type says.
-fn know_delimiters(stores: &[Store])
-    ensures { AllByRecursion (λ store. store.delim ≢ 10) stores.now }
-{
-    for store in stores {
-        store.delim.byte();
-    }
-}
+use std::thread::Threads;
 
 /// The number of lines of all directories, modulo 2 to the 64.
 fn line_sum(notes: &Notes) -> u64
@@ -85,85 +56,186 @@ fn line_sum(notes: &Notes) -> u64
     sum
 }
 
-/// Runs a plan: reads its inputs, finds what it means, and stores that. The text of what was done is answered.
-fn perform<D: Depot, H: Host>(
-    alloc: Global,
-    depot: &mut D,
-    host: &mut H,
-    prepared: &Prepared,
-    progress: &mut Progress,
-) -> Result<Blob, RunFault>
-    requires prepared { IsPrepared prepared.now }
-    requires ready { ForSome (D.shelf depot.old) (λ s. IsReady s prepared.now) }
-    requires tells { TellsOf (D.shelf depot.old) (H.inputs host.old) }
-    requires notes { progress.old.notes ≡ [] }
-    requires begun { progress.old.begun ≡ false }
-    ensures told { ForSome (D.shelf depot.old) (λ s. RunsTold (plan_of prepared.now.plan) s
-        (TellsInputs (H.inputs host.old)) (D.calls depot.old) (D.calls depot.new)
-        (D.shelf depot.new) progress.new result) }
-    ensures fault { IfErr result IsRunFault }
-    ensures depot { DepotCause (D.faults depot.old) (D.faults depot.new) result }
-    ensures stores { StoreBlame (D.store_faults depot.old) (D.store_faults depot.new) result }
-    ensures host { HostCause (H.faults host.old) (H.faults host.new) result }
-    ensures inputs { H.inputs host.new ≡ H.inputs host.old }
-    ensures still { H.begun host.new ≡ H.begun host.old }
-    ensures asked { Makes (map (λ store. store.dir) prepared.now.stores) (found_in result)
-        (D.calls depot.old) (D.calls depot.new) }
-{
-    let found = find(alloc, host, prepared)?;
-    let Found { answers, read } = found;
-    let Answers { kept, stores } = answers;
-    progress.kept = kept;
-    progress.read = read;
-    let relations = stores.as_slice();
-    store_all(
-        alloc,
-        depot,
-        prepared.stores.as_slice(),
-        relations,
-        progress,
-    )?;
-    let counts = counts_of(progress);
-    let text = done_bytes(alloc, &progress.notes, &counts)?;
-    Ok(Blob::from_vec(text))
-}
-
 /// The numbers of a run that has come to its end.
 pub fn counts_of(progress: &Progress) -> Counts
     ensures { result ≡ counts_in progress.now }
 {
     Counts {
         read: progress.read,
-        shuffled: 0,
+        shuffled: progress.shuffled,
         stored: line_sum(&progress.notes),
     }
 }
 
-/// Looks for what stands in the way of a plan, and runs it.
-fn run_plan<D: Depot, H: Host>(
+/// Runs stages, stores what they give, and answers the text of what was done.
+fn carry_out<R: Threads + Sync, D: Depot, H: Host + Send>(
+    rt: &R,
     alloc: Global,
     depot: &mut D,
-    host: &mut H,
-    plan: Plan,
+    hosts: &mut [H],
+    stages: &Stages,
+    stores: &Stores,
+    limit: u32,
     progress: &mut Progress,
 ) -> Result<Blob, RunFault>
-    requires apart { StoresAreApart (plan_of plan) }
-    requires tells { TellsOf (D.shelf depot.old) (H.inputs host.old) }
-    requires notes { progress.old.notes ≡ [] }
-    requires begun { progress.old.begun ≡ false }
-    ensures told { ForSome (D.shelf depot.old) (λ s. RunTold (AssertsDue (plan_of plan) s) s
-        (TellsInputs (H.inputs host.old)) (D.calls depot.old) (D.calls depot.new)
-        (D.shelf depot.new) progress.new result) }
+    requires hosts { (0 < length hosts.old) × (length hosts.old ≤ 256) }
+    requires limit { (0 < limit) × (limit ≤ 16) }
+    requires reducers { (0 < (staged stages.now).sizing.reducers)
+        × ((staged stages.now).sizing.reducers ≤ 256) }
+    requires split { 0 < (staged stages.now).sizing.split }
+    requires few { has_too_many (staged stages.now) ≡ false }
+    requires sizes { TellSizes (staged stages.now) (map H.inputs hosts.old) }
+    requires stores { stores.now ≡ stores_of (staged stages.now).plan }
+    requires apart { are_apart stores.now ≡ true }
+    requires absent { ForSome (D.shelf depot.old)
+        (λ s. AllByRecursion (IsAbsentIn s) stores.now) }
+    requires tells { AllByRecursion (TellsOf (D.shelf depot.old)) (map H.inputs hosts.old) }
+    requires fresh { IsFresh progress.old }
+    ensures told { ForSome (D.shelf depot.old) (λ s. (plan : List PlanNode)
+        → IsPlan plan → (staged stages.now).plan ≡ by_key plan
+        → RunsTold (record { plan = plan; stages = staged stages.now; limit = limit }) s
+        (AllByRecursion TellsInputs (map H.inputs hosts.old)) (D.calls depot.old)
+        (D.calls depot.new) (D.shelf depot.new) progress.new result) }
     ensures fault { IfErr result IsLaterFault }
     ensures depot { DepotCause (D.faults depot.old) (D.faults depot.new) result }
     ensures stores { StoreBlame (D.store_faults depot.old) (D.store_faults depot.new) result }
-    ensures host { HostCause (H.faults host.old) (H.faults host.new) result }
-    ensures inputs { H.inputs host.new ≡ H.inputs host.old }
-    ensures still { H.begun host.new ≡ H.begun host.old }
+    ensures worked { HaveWorked H.inputs H.faults H.begun limit hosts.old hosts.new
+        progress.new.ends (found_in result) }
+    ensures asked { Makes (map (λ store. store.dir) stores.now) (found_in result)
+        (D.calls depot.old) (D.calls depot.new) }
+{
+    keyed_plans_run_the_same();
+    let parts = find(rt, alloc, stages, stores, hosts, limit, progress)?;
+    let notes = note_all(alloc, &parts)?;
+    progress.notes = notes;
+    progress.stands = true;
+    store_all(depot, &parts)?;
+    let counts = counts_of(progress);
+    let text = done_bytes(alloc, &progress.notes, &counts)?;
+    Ok(Blob::from_vec(text))
+}
+
+/// The stages that a plan is cut into, where no wave has too many tasks.
+fn cut<'p>(alloc: Global, command: &Command, prepared: &'p Prepared) -> Result<Stages<'p>, RunFault>
+    requires { 0 < command.now.split }
+    ensures stages { IfOk result (λ stages. stages ≡ cut_of prepared.now.plan prepared.now.sizes
+        command.now.reducers command.now.split) }
+    ensures few { IfOk result (λ stages. has_too_many (staged (cut_of prepared.now.plan
+        prepared.now.sizes command.now.reducers command.now.split)) ≡ false) }
+    ensures fault { IfErr result (λ f. ((f ≡ fault.TooLarge large.Tasks)
+        × (has_too_many (staged (cut_of prepared.now.plan prepared.now.sizes
+        command.now.reducers command.now.split)) ≡ true)) ⊎ (f ≡ fault.OutOfMemory)) }
+{
+    let reducers = command.reducers;
+    match cut_plan(
+        alloc,
+        &prepared.plan,
+        &prepared.sizes,
+        reducers,
+        command.split,
+    ) {
+        Ok(stages) => Ok(stages),
+        Err(CutFault::TooManyTasks) => Err(RunFault::TooLarge {
+            which: TooLarge::Tasks,
+        }),
+        Err(CutFault::OutOfMemory) => Err(RunFault::OutOfMemory),
+    }
+}
+
+/// Cuts a plan into tasks, runs these, and stores what they give.
+fn perform<R: Threads + Sync, D: Depot, H: Host + Send>(
+    rt: &R,
+    alloc: Global,
+    depot: &mut D,
+    hosts: &mut [H],
+    command: &Command,
+    prepared: &Prepared,
+    progress: &mut Progress,
+) -> Result<Blob, RunFault>
+    requires hosts { (0 < length hosts.old) × (length hosts.old ≤ 256) }
+    requires usable { IsUsable (length hosts.old) command.now }
+    requires prepared { IsPrepared prepared.now }
+    requires ready { ForSome (D.shelf depot.old) (λ s. IsReady s prepared.now) }
+    requires tells { AllByRecursion (TellsOf (D.shelf depot.old)) (map H.inputs hosts.old) }
+    requires fresh { IsFresh progress.old }
+    ensures told { ForSome (D.shelf depot.old) (λ s. (plan : List PlanNode)
+        → IsPlan plan → plan_of prepared.now.plan ≡ by_key plan → RunTold (TasksDue command.now s plan) s
+        (AllByRecursion TellsInputs (map H.inputs hosts.old)) (D.calls depot.old)
+        (D.calls depot.new) (D.shelf depot.new) progress.new result) }
+    ensures fault { IfErr result IsLaterFault }
+    ensures depot { DepotCause (D.faults depot.old) (D.faults depot.new) result }
+    ensures stores { StoreBlame (D.store_faults depot.old) (D.store_faults depot.new) result }
+    ensures worked { HaveWorked H.inputs H.faults H.begun command.now.attempts
+        hosts.old hosts.new progress.new.ends (found_in result) }
+    ensures asked { Makes (map (λ store. store.dir) prepared.now.stores) (found_in result)
+        (D.calls depot.old) (D.calls depot.new) }
+{
+    keyed_plans_run_the_same();
+    let stages = cut(alloc, command, prepared)?;
+    let limit = command.attempts;
+    let stores = &prepared.stores;
+    carry_out(rt, alloc, depot, hosts, &stages, stores, limit, progress)
+}
+
+/// Looks for what stands in the way of a plan, and runs it.
+fn run_plan<R: Threads + Sync, D: Depot, H: Host + Send>(
+    rt: &R,
+    alloc: Global,
+    depot: &mut D,
+    hosts: &mut [H],
+    command: &Command,
+    plan: Plan,
+    progress: &mut Progress,
+) -> Result<Blob, RunFault>
+    requires hosts { (0 < length hosts.old) × (length hosts.old ≤ 256) }
+    requires usable { IsUsable (length hosts.old) command.now }
+    requires apart { StoresAreApart (plan_of plan) }
+    requires tells { AllByRecursion (TellsOf (D.shelf depot.old)) (map H.inputs hosts.old) }
+    requires fresh { IsFresh progress.old }
+    ensures told { ForSome (D.shelf depot.old) (λ s.
+        RunTold (InputsDue command.now s (plan_of plan)) s
+        (AllByRecursion TellsInputs (map H.inputs hosts.old)) (D.calls depot.old)
+        (D.calls depot.new) (D.shelf depot.new) progress.new result) }
+    ensures fault { IfErr result IsLaterFault }
+    ensures depot { DepotCause (D.faults depot.old) (D.faults depot.new) result }
+    ensures stores { StoreBlame (D.store_faults depot.old) (D.store_faults depot.new) result }
+    ensures worked { HaveWorked H.inputs H.faults H.begun command.now.attempts
+        hosts.old hosts.new progress.new.ends (found_in result) }
     ensures asked { IsOrderlyBehind (found_in result) (D.calls depot.old) (D.calls depot.new) }
 {
+    plan.nodes();
     let prepared = prepare(alloc, depot, plan)?;
-    perform(alloc, depot, host, &prepared, progress)
+    perform(rt, alloc, depot, hosts, command, &prepared, progress)
+}
+
+/// Runs a plan on the first hosts, as many as the command says.
+fn run_on_crew<R: Threads + Sync, D: Depot, H: Host + Send>(
+    rt: &R,
+    alloc: Global,
+    depot: &mut D,
+    hosts: &mut [H],
+    command: &Command,
+    plan: Plan,
+    progress: &mut Progress,
+) -> Result<Blob, RunFault>
+    requires few { length hosts.old ≤ 256 }
+    requires usable { IsUsable (length hosts.old) command.now }
+    requires apart { StoresAreApart (plan_of plan) }
+    requires tells { AllByRecursion (TellsOf (D.shelf depot.old)) (map H.inputs hosts.old) }
+    requires fresh { IsFresh progress.old }
+    ensures told { ForSome (D.shelf depot.old) (λ s.
+        RunTold (InputsDue command.now s (plan_of plan)) s
+        (CrewTells H.inputs command.now hosts.old) (D.calls depot.old)
+        (D.calls depot.new) (D.shelf depot.new) progress.new result) }
+    ensures fault { IfErr result IsLaterFault }
+    ensures depot { DepotCause (D.faults depot.old) (D.faults depot.new) result }
+    ensures stores { StoreBlame (D.store_faults depot.old) (D.store_faults depot.new) result }
+    ensures worked { CrewHasWorked H.inputs H.faults H.begun command.now hosts.old hosts.new
+        progress.new.ends (found_in result) }
+    ensures asked { IsOrderlyBehind (found_in result) (D.calls depot.old) (D.calls depot.new) }
+{
+    let (crew, _idle) = hosts.split_at_mut(command.workers as usize);
+    run_plan(rt, alloc, depot, crew, command, plan, progress)
 }
 
 /// The text of a script that was checked, of so many statements.
@@ -174,71 +246,80 @@ fn print_check(alloc: Global, statements: u64) -> Result<Blob, RunFault>
     Ok(Blob::from_vec(text))
 }
 
+/// The text of a plan as it was checked and as it is cut, and of its waves.
+fn print_explain(alloc: Global, plan: &Plan) -> Result<Blob, RunFault>
+    ensures { MatchResult result
+        (λ text. text ≡ explain_text (plan_of plan.now) (by_key (plan_of plan.now)))
+        (λ f. f ≡ fault.OutOfMemory) }
+{
+    let keyed = copied_by_key(alloc, plan)?;
+    let mut text = Vec::new(alloc);
+    explain(plan, &keyed, &mut text)?;
+    Ok(Blob::from_vec(text))
+}
+
 /// Does with a script that was checked what the command says.
-fn obey<D: Depot, H: Host>(
+fn obey<R: Threads + Sync, D: Depot, H: Host + Send>(
+    rt: &R,
     alloc: Global,
     depot: &mut D,
-    host: &mut H,
+    hosts: &mut [H],
     request: Request,
     progress: &mut Progress,
 ) -> Result<Blob, RunFault>
+    requires few { length hosts.old ≤ 256 }
+    requires usable { IsUsable (length hosts.old) request.command }
     requires built { IsBuilt request.command.verb }
     requires apart { StoresAreApart (plan_of request.checked.plan) }
-    requires tells { TellsOf (D.shelf depot.old) (H.inputs host.old) }
-    requires notes { progress.old.notes ≡ [] }
-    requires begun { progress.old.begun ≡ false }
-    requires read { progress.old.read ≡ 0 }
-    requires kept { progress.old.kept ≡ [] }
+    requires tells { AllByRecursion (TellsOf (D.shelf depot.old)) (map H.inputs hosts.old) }
+    requires fresh { IsFresh progress.old }
     ensures told { ForSome (D.shelf depot.old) (λ s. RunTold (CommandDue request.command s
         request.checked.statements (plan_of request.checked.plan)) s
-        (TellsInputs (H.inputs host.old)) (D.calls depot.old) (D.calls depot.new)
-        (D.shelf depot.new) progress.new result) }
+        (CrewTells H.inputs request.command hosts.old) (D.calls depot.old)
+        (D.calls depot.new) (D.shelf depot.new) progress.new result) }
     ensures fault { IfErr result IsLaterFault }
     ensures depot { DepotCause (D.faults depot.old) (D.faults depot.new) result }
     ensures stores { StoreBlame (D.store_faults depot.old) (D.store_faults depot.new) result }
-    ensures host { HostCause (H.faults host.old) (H.faults host.new) result }
-    ensures inputs { H.inputs host.new ≡ H.inputs host.old }
-    ensures still { H.begun host.new ≡ H.begun host.old }
+    ensures worked { CrewHasWorked H.inputs H.faults H.begun request.command hosts.old hosts.new
+        progress.new.ends (found_in result) }
     ensures asked { IsOrderlyBehind (found_in result) (D.calls depot.old) (D.calls depot.new) }
 {
     let Request { command, checked } = request;
     let Checked { plan, statements } = checked;
     match command.verb {
-        Verb::Run => run_plan(alloc, depot, host, plan, progress),
+        Verb::Run => run_on_crew(rt, alloc, depot, hosts, &command, plan, progress),
         Verb::Check => print_check(alloc, statements),
+        Verb::Explain => print_explain(alloc, &plan),
         // Not built: `load` gives no such command.
-        Verb::Explain => Err(RunFault::OutOfMemory),
         Verb::Demo => Err(RunFault::OutOfMemory),
     }
 }
 
 /// Reads the words and the script, and does what they say.
-pub fn run<D: Depot, H: Host>(
+pub fn run<R: Threads + Sync, D: Depot, H: Host + Send>(
+    rt: &R,
     alloc: Global,
     line: &CommandLine,
     depot: &mut D,
-    host: &mut H,
+    hosts: &mut [H],
     progress: &mut Progress,
 ) -> Result<Blob, RunFault>
-    requires tells { TellsOf (D.shelf depot.old) (H.inputs host.old) }
-    requires notes { progress.old.notes ≡ [] }
-    requires begun { progress.old.begun ≡ false }
-    requires read { progress.old.read ≡ 0 }
-    requires kept { progress.old.kept ≡ [] }
+    requires hosts { length hosts.old ≡ line.now.hosts }
+    requires tells { AllByRecursion (TellsOf (D.shelf depot.old)) (map H.inputs hosts.old) }
+    requires fresh { IsFresh progress.old }
     ensures told { ForSome (D.shelf depot.old) (λ s. RunTold (IsDue (line_given line.now) s) s
-        (TellsInputs (H.inputs host.old)) (D.calls depot.old) (D.calls depot.new)
-        (D.shelf depot.new) progress.new result) }
+        (AllTell H.inputs (line_given line.now) hosts.old) (D.calls depot.old)
+        (D.calls depot.new) (D.shelf depot.new) progress.new result) }
     ensures fault { IfErr result (λ f. f ≢ fault.ConsoleFault) }
     ensures words { MatchResult result (λ _. HasWords (line_given line.now))
         (SaysWords (line_given line.now)) }
     ensures depot { DepotCause (D.faults depot.old) (D.faults depot.new) result }
     ensures stores { StoreBlame (D.store_faults depot.old) (D.store_faults depot.new) result }
-    ensures host { HostCause (H.faults host.old) (H.faults host.new) result }
-    ensures inputs { H.inputs host.new ≡ H.inputs host.old }
-    ensures still { H.begun host.new ≡ H.begun host.old }
+    ensures worked { HostsHaveWorked H.inputs H.faults H.begun (line_given line.now)
+        hosts.old hosts.new progress.new.ends (found_in result) }
     ensures asked { IsOrderly (found_in result) (D.calls depot.old) (D.calls depot.new) }
 {
     a_script_has_one_plan();
     let request = load(alloc, line, depot)?;
-    obey(alloc, depot, host, request, progress)
+    obey(rt, alloc, depot, hosts, request, progress)
 }

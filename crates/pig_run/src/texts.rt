@@ -8,6 +8,7 @@ use crate::progress::Notes;
 use crate::{Counts, RunFault, TooLarge};
 use itoa::Buffer;
 use pig_typing::CheckKind;
+use pig_value::Text;
 use std::alloc::{AllocError, Global};
 
 /// The parts of a line, joined, with an LF behind them.
@@ -77,6 +78,7 @@ fn large_name(which: TooLarge) -> &'static str
         TooLarge::Statements => "statements",
         TooLarge::Depth => "depth",
         TooLarge::Input => "input",
+        TooLarge::Tasks => "tasks",
     }
 }
 
@@ -90,40 +92,109 @@ fn line_of(alloc: Global, first: &[u8], second: &[u8]) -> Result<Vec<u8>, AllocE
 const USAGE: &str = "usage: pig run|explain|check SCRIPT | demo N \
     [--workers N] [--reducers N] [--split BYTES] [--attempts N]";
 
-/// The text of a fault.
-pub fn fault_bytes(alloc: Global, fault: &RunFault) -> Result<Vec<u8>, AllocError>
-    ensures { IfOk result (λ text. text.items ≡ fault_text fault.now) }
+/// The text of a fault, with what is said behind its line.
+pub fn fault_bytes(alloc: Global, fault: &RunFault, said: &[u8]) -> Result<Vec<u8>, AllocError>
+    ensures { IfOk result (λ text. text.items ≡ fault_text said.now fault.now) }
 {
     match fault {
-        RunFault::Usage => line_of(alloc, USAGE.as_bytes(), b""),
-        RunFault::NoScript => line_of(alloc, b"pig: no script", b""),
+        RunFault::Usage => line_of(alloc, USAGE.as_bytes(), said),
+        RunFault::NoScript => line_of(alloc, b"pig: no script", said),
         RunFault::Lex { offset } => {
-            number_line(alloc, b"pig: offset ", *offset, b": no token", b"")
+            number_line(alloc, b"pig: offset ", *offset, b": no token", said)
         }
         RunFault::Syntax { statement } => {
             let statement = u64::from(*statement);
-            number_line(alloc, b"pig: statement ", statement, b": syntax", b"")
+            number_line(alloc, b"pig: statement ", statement, b": syntax", said)
         }
-        RunFault::Check { statement, kind } => {
+        RunFault::Check { statement, kind } => check_bytes(alloc, *statement, *kind, said),
+        RunFault::NoInput { path } => path_line(alloc, b"pig: no input ", path, said),
+        RunFault::OutputExists { dir } => path_line(alloc, b"pig: output exists ", dir, said),
+        RunFault::DepotFault { store } => depot_bytes(alloc, *store, said),
+        RunFault::TaskFailed { wave, task, failed } => {
+            task_bytes(alloc, *wave, *task, *failed, said)
+        }
+        RunFault::AssertFailed { statement } => {
             let statement = u64::from(*statement);
-            let kind = kind_name(*kind).as_bytes();
-            number_line(alloc, b"pig: statement ", statement, b": ", kind)
+            number_line(
+                alloc,
+                b"pig: statement ",
+                statement,
+                b": assert failed",
+                said,
+            )
         }
-        RunFault::NoInput { path } => line_of(alloc, b"pig: no input ", path.as_bytes()),
-        RunFault::OutputExists { dir } => line_of(alloc, b"pig: output exists ", dir.as_bytes()),
-        RunFault::DepotFault { store } => depot_bytes(alloc, *store),
-        RunFault::HostFault => line_of(alloc, b"pig: host failed", b""),
-        RunFault::OutOfMemory => line_of(alloc, b"pig: out of memory", b""),
+        RunFault::OutOfMemory => line_of(alloc, b"pig: out of memory", said),
         RunFault::ConsoleFault => Ok(Vec::new(alloc)),
         RunFault::TooLarge { which } => {
-            line_of(alloc, b"pig: too large: ", large_name(*which).as_bytes())
+            let which = large_name(*which).as_bytes();
+            line_of_parts(alloc, b"pig: too large: ", which, said, b"")
         }
     }
 }
 
+/// A line that ends with a path.
+fn path_line(alloc: Global, first: &[u8], path: &Text, said: &[u8]) -> Result<Vec<u8>, AllocError>
+    ensures { IfOk result (λ line. line.items ≡ (first.now ++ path.now) ++ said.now ++ 10 ∷ []) }
+{
+    line_of_parts(alloc, first, path.as_bytes(), said, b"")
+}
+
+/// The text of a statement without a typing.
+fn check_bytes(
+    alloc: Global,
+    statement: u32,
+    kind: CheckKind,
+    said: &[u8],
+) -> Result<Vec<u8>, AllocError>
+    ensures { IfOk result (λ text. text.items
+        ≡ fault_text said.now (fault.Check statement kind)) }
+{
+    let mut buffer = Buffer::new();
+    let number = buffer.format(u64::from(statement)).as_bytes();
+    let mut line = Vec::from_slice(alloc, b"pig: statement ")?;
+    line.extend_from_slice(number)?;
+    line.extend_from_slice(b": ")?;
+    line.extend_from_slice(kind_name(kind).as_bytes())?;
+    line.extend_from_slice(said)?;
+    line.push(10)?;
+    Ok(line)
+}
+
+/// The text of a task that failed.
+fn task_bytes(
+    alloc: Global,
+    wave: u32,
+    task: u32,
+    failed: u32,
+    said: &[u8],
+) -> Result<Vec<u8>, AllocError>
+    ensures { IfOk result (λ text. text.items
+        ≡ fault_text said.now (fault.TaskFailed wave task failed)) }
+{
+    let mut line = Vec::from_slice(alloc, b"pig: wave ")?;
+    add_digits(&mut line, wave)?;
+    line.extend_from_slice(b" task ")?;
+    add_digits(&mut line, task)?;
+    line.extend_from_slice(b" failed ")?;
+    add_digits(&mut line, failed)?;
+    line.extend_from_slice(b" times")?;
+    line.extend_from_slice(said)?;
+    line.push(10)?;
+    Ok(line)
+}
+
+/// Adds a number.
+fn add_digits(out: &mut Vec<u8>, number: u32) -> Result<(), AllocError>
+    ensures { OnOk result (out.new.items ≡ out.old.items ++ decimal number) }
+{
+    let mut buffer = Buffer::new();
+    out.extend_from_slice(buffer.format(u64::from(number)).as_bytes())?;
+    Ok(())
+}
+
 /// The text of a depot's fault.
-fn depot_bytes(alloc: Global, store: Option<u32>) -> Result<Vec<u8>, AllocError>
-    ensures { IfOk result (λ text. text.items ≡ fault_text (fault.DepotFault store)) }
+fn depot_bytes(alloc: Global, store: Option<u32>, said: &[u8]) -> Result<Vec<u8>, AllocError>
+    ensures { IfOk result (λ text. text.items ≡ fault_text said.now (fault.DepotFault store)) }
 {
     match store {
         Some(statement) => {
@@ -133,10 +204,10 @@ fn depot_bytes(alloc: Global, store: Option<u32>) -> Result<Vec<u8>, AllocError>
                 b"pig: storage failed at statement ",
                 statement,
                 b"",
-                b"",
+                said,
             )
         }
-        None => line_of(alloc, b"pig: storage failed", b""),
+        None => line_of(alloc, b"pig: storage failed", said),
     }
 }
 
@@ -161,8 +232,7 @@ fn add_number(out: &mut Vec<u8>, before: &[u8], number: u64, behind: u8) -> Resu
 
 /// Adds the line of a STORE.
 fn add_stored(out: &mut Vec<u8>, dir: &[u8], lines: u64) -> Result<(), AllocError>
-    ensures { OnOk result (out.new.items ≡ out.old.items
-        ++ stored_line (record { dir = dir.now; bytes = []; lines = lines })) }
+    ensures { OnOk result (out.new.items ≡ out.old.items ++ stored_line dir.now lines) }
 {
     out.extend_from_slice(b"stored ")?;
     out.extend_from_slice(dir)?;

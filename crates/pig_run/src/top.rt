@@ -1,15 +1,16 @@
-ghost use Rattle.std.specs.Prelude.{◌≡◌, ◌≤◌, ◌<◌, ◌⊎◌, ℕ, List, Option, Some, None, true, length, map, drop, All, codes, if◌then◌else◌};
+ghost use Rattle.std.specs.Prelude.{◌≡◌, ◌≤◌, ◌<◌, ◌+◌, ◌⊎◌, [], ℕ, List, Option, Some, None, true, length, map, drop, All, codes, if◌then◌else◌};
 ghost use Rattle.std.specs.Option.{ForSome};
 ghost use Rattle.std.specs.List.{sum_by};
 ghost use Rattle.pig_outside.specs.Calls.{DepotCall};
 ghost use Rattle.pig_outside.specs.Shelf.{Shelf};
+ghost use Rattle.pig_pool.specs.Wave.{failures_in};
 ghost use Rattle.pig_run.specs.Due.{HasWords, IsDue, Line};
 ghost use Rattle.pig_run.specs.Ends.{Shown, counts_shown, unshown};
 ghost use Rattle.pig_run.specs.Reading.{Verdict};
 ghost use Rattle.pig_run.specs.Refusals.{status_of};
 ghost use Rattle.pig_run.specs.Running.{end_text, found_in, kept_in};
 ghost use Rattle.pig_run.specs.Texts.{fault_text};
-ghost use Rattle.pig_run.specs.Blame.{BlamesConsole, BlamesDepot, BlamesHosts, BlamesLookUp, BlamesStore, ConsoleIsTold, HostsStay, NoneBegins, OffIsUsage, UsageIsOff};
+ghost use Rattle.pig_run.specs.Blame.{BlamesConsole, BlamesDepot, BlamesLookUp, BlamesStore, CommitsEach, ConsoleIsTold, HostsHaveWorked, OffIsUsage, UsageIsOff};
 ghost use Rattle.pig_run.specs.Orderly.{IsOrderly};
 ghost use Rattle.pig_run.specs.Told.{AllTell, TellsOf, Told, line_of, seen};
 ghost use Rattle.pig_run.specs.declared.outcome.RunFault.TheVariants as fault;
@@ -52,14 +53,19 @@ fn unshown(found: Option<RunFault>) -> RunFault
     }
 }
 
-/// Prints the text of a fault, and answers what it then is.
-fn show_fault<C: Console>(alloc: Global, console: &mut C, fault: RunFault) -> Option<RunFault>
-    ensures shown { Shown (fault_text fault)
+/// Prints the text of a fault, with what is said behind its line, and answers what it then is.
+fn show_fault<C: Console>(
+    alloc: Global,
+    console: &mut C,
+    fault: RunFault,
+    said: &[u8],
+) -> Option<RunFault>
+    ensures shown { Shown (fault_text said.now fault)
         (record { text = C.text console.old; faults = C.faults console.old })
         (record { text = C.text console.new; faults = C.faults console.new }) (Some fault) result }
     ensures later { C.faults console.old ≤ C.faults console.new }
 {
-    match fault_bytes(alloc, &fault) {
+    match fault_bytes(alloc, &fault, said) {
         Ok(text) => show(console, text.as_slice(), Some(fault)),
         Err(_) => show(console, NO_MEMORY.as_bytes(), Some(RunFault::OutOfMemory)),
     }
@@ -70,8 +76,9 @@ fn show_end<C: Console>(
     alloc: Global,
     console: &mut C,
     end: Result<Blob, RunFault>,
+    said: &[u8],
 ) -> Option<RunFault>
-    ensures shown { Shown (end_text end)
+    ensures shown { Shown (end_text said.now end)
         (record { text = C.text console.old; faults = C.faults console.old })
         (record { text = C.text console.new; faults = C.faults console.new })
         (found_in end) result }
@@ -79,7 +86,7 @@ fn show_end<C: Console>(
 {
     match end {
         Ok(text) => show(console, text.as_slice(), None),
-        Err(fault) => show_fault(alloc, console, fault),
+        Err(fault) => show_fault(alloc, console, fault, said),
     }
 }
 
@@ -103,12 +110,11 @@ fn counts_shown(fault: &Option<RunFault>, counts: Counts) -> Counts
     }
 }
 
-/// What the bare LIMITs kept, where it counts: once all was found, and where memory sufficed or a directory was begun.
-fn kept_shown(alloc: Global, done: bool, progress: Progress) -> KeptList
-    ensures { result ≡ kept_in done progress }
+/// What the bare LIMITs kept, where it stands.
+fn kept_shown(alloc: Global, stands: bool, kept: KeptList) -> KeptList
+    ensures { result ≡ if stands then kept else [] }
 {
-    if done || progress.begun {
-        let Progress { kept, .. } = progress;
+    if stands {
         return kept;
     }
     KeptList::new(alloc)
@@ -116,9 +122,9 @@ fn kept_shown(alloc: Global, done: bool, progress: Progress) -> KeptList
 
 /// Does what the words say, and answers how it ended.
 ///
-/// `words` are the program's words without its name, as [`read_words`](pig_words::read_words) takes them; of the verbs `run`
-/// and `check` are built, and their options have no effect yet. The depot keeps scripts, inputs and outputs; the first host reads;
-/// the console is shown one text. `rt` is not used yet: no worker is started.
+/// `words` are the program's words without its name, as [`read_words`](pig_words::read_words) takes them; of the verbs `run`,
+/// `explain` and `check` are built. The depot keeps scripts, inputs and outputs. The first hosts make the attempts of tasks, each in a
+/// thread of its own, as many as the words say; the console is shown one text.
 pub fn pig_main<R: Threads + Sync, D: Depot, H: Host + Send, C: Console>(
     rt: &R,
     alloc: Global,
@@ -142,20 +148,23 @@ pub fn pig_main<R: Threads + Sync, D: Depot, H: Host + Send, C: Console>(
     ensures status { result.status ≡ status_of result.fault }
     // What was asked, whatever the depot tells of its shelf.
     ensures orderly { IsOrderly result.fault (D.calls depot.old) (D.calls depot.new) }
-    // The devices.
+    // The hosts and the waves, whatever they tell of their inputs.
+    ensures worked { HostsHaveWorked H.inputs H.faults H.begun
+        (line_of hosts.old.items words.now) hosts.old.items hosts.new.items
+        result.waves result.fault }
+    ensures committed { CommitsEach result.fault result.waves }
+    ensures failures { sum_by H.faults hosts.old.items + sum_by failures_in result.waves
+        ≤ sum_by H.faults hosts.new.items }
+    ensures hosts { map H.inputs hosts.new.items ≡ map H.inputs hosts.old.items }
+    // The depot.
     ensures depot_fault { BlamesDepot result.fault (D.faults depot.old) (D.faults depot.new) }
     ensures store_fault { BlamesStore result.fault (D.store_faults depot.old)
         (D.store_faults depot.new) }
     ensures lookup_fault { BlamesLookUp result.fault (D.store_faults depot.old)
         (D.store_faults depot.new) }
-    ensures host_fault { BlamesHosts result.fault (sum_by H.faults hosts.old.items)
-        (sum_by H.faults hosts.new.items) }
     ensures depot_stands { D.faults depot.old ≤ D.faults depot.new }
-    ensures hosts_stand { sum_by H.faults hosts.old.items ≤ sum_by H.faults hosts.new.items }
-    ensures console_stands { C.faults console.old ≤ C.faults console.new }
-    ensures hosts { HostsStay H.inputs hosts.old.items hosts.new.items }
-    ensures begun { NoneBegins H.begun hosts.old.items hosts.new.items }
     // The console.
+    ensures console_stands { C.faults console.old ≤ C.faults console.new }
     ensures console_fault { BlamesConsole result.fault (C.faults console.old)
         (C.faults console.new) }
     ensures console_failed { ConsoleIsTold result.fault (C.faults console.old)
@@ -166,14 +175,20 @@ pub fn pig_main<R: Threads + Sync, D: Depot, H: Host + Send, C: Console>(
         hosts: hosts.len() as u32,
     };
     let mut progress = Progress::new(alloc);
-    let end = run(alloc, &line, depot, &mut hosts[0], &mut progress);
-    let done = end.is_ok();
-    let fault = show_end(alloc, console, end);
+    let end = run(rt, alloc, &line, depot, hosts.as_mut_slice(), &mut progress);
+    let fault = show_end(alloc, console, end, progress.said.as_slice());
     let counts = counts_shown(&fault, counts_of(&progress));
+    let Progress {
+        kept,
+        stands,
+        ends,
+        ..
+    } = progress;
     Outcome {
         status: status(&fault),
         fault,
-        kept: kept_shown(alloc, done, progress),
+        kept: kept_shown(alloc, stands, kept),
+        waves: ends,
         counts,
     }
 }

@@ -18,3 +18,5 @@ mod Placing
 mod Stretched
 mod Chosen
 mod Walking
+mod Once
+mod RowTexts

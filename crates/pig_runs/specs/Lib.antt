@@ -6,3 +6,4 @@ pub mod Cutting
 pub mod InTurn
 pub mod RunParts
 pub mod Places
+pub mod Alone

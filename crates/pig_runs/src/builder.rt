@@ -8,6 +8,7 @@ use crate::laying::sort_laid;
 use crate::lent::{Lent, stands_up_to};
 use crate::packing::{
     add_entry, add_lent, join_slots, lend, lend_slots, read_key, read_row, same_key_bytes, slot_at,
+    sort_slots,
 };
 use crate::run::Run;
 use crate::slots::Slot;
@@ -121,6 +122,13 @@ impl RunBuilder {
         ensures { self.new ≡ run_of self.old.dirs self.old.entries }
     {
         sort_laid(&mut self.bytes, &mut self.slots);
+    }
+
+    // Sorts the entries, whose codes stay where they are.
+    pub(crate) fn put_in_order(&mut self)
+        ensures { self.new ≡ run_of self.old.dirs self.old.entries }
+    {
+        sort_slots(self.bytes.as_slice(), &mut self.slots);
     }
 
     /// The number of entries.
@@ -328,7 +336,8 @@ impl RunBuilder {
         requires alike { other.now.dirs ≡ self.now.dirs }
         requires sorted { ∥ Ascends (run_cmp self.now.dirs) self.now.entries ∥₁ }
         ensures bound { result ≤ most }
-        ensures parts { IsHalved equal self.now.dirs self.now.entries other.now.entries there least most
+        ensures parts { IsHalved
+            equal self.now.dirs self.now.entries other.now.entries there least most
             → (f : Entry) → slice_get other.now.entries there ≡ Some f
             → Divides (λ e. is_up_to equal (run_cmp self.now.dirs e f)) self.now.entries result }
     {

@@ -37,7 +37,8 @@ pub(crate) fn chosen_points(
     requires some { 0 < n }
     requires dirs { dirs ≡ dirs_of_all runs.now }
     requires alike { HaveDirections (dirs_of_all runs.now) runs.now }
-    ensures { IfOk result (λ found. MatchOption found ⊤ (λ built. (0 < length (entries_of_all runs.now))
+    ensures { IfOk result (λ found. MatchOption found ⊤ (λ built.
+        (0 < length (entries_of_all runs.now))
         × (built ≡ and_entries (picked n
         (sort (run_cmp (dirs_of_all runs.now)) (entries_of_all runs.now)) (n - 1))
         (no_entries_in (dirs_of_all runs.now))))) }

@@ -1,7 +1,7 @@
 -- Entries by partition, and those that are combined: the entries of a partition of combined entries are combined from those of the
 -- partition.
-use Rattle.std.proofs.Common.{◌≡◌, ◌≢◌, ℕ, List, [], ◌∷◌, ◌++◌, map, refl, sym, ◌∙◌, ap, cond, append-nil}
-use Rattle.std.specs.Prelude.{◌==◌, ◌&&◌, Bool, true, false}
+use Rattle.std.proofs.Common.{arith, ◌≡◌, ◌≢◌, ℕ, List, [], ◌∷◌, ◌++◌, map, refl, sym, ◌∙◌, ap, cond, append-nil}
+use Rattle.std.specs.Prelude.{◌==◌, ◌&&◌, min, Bool, true, false}
 use Rattle.std.specs.List.{filter, flat_map, range_with_len}
 use Rattle.std.specs.Ordering.{is_eq}
 use Rattle.std.proofs.Math.Nat.{mod-one}
@@ -11,14 +11,15 @@ use Rattle.std.proofs.lemmas.List.Elements.{filter-append, filter_agree}
 use Rattle.std.proofs.lemmas.Simd.{map-map}
 use Rattle.pig_value.specs.Gathering.{Entry, with_key}
 use Rattle.pig_value.specs.Orders.{tree_cmp}
-use Rattle.pig_value.specs.Sorts.{distinct}
+use Rattle.pig_value.specs.Sorts.{distinct, times}
 use Rattle.pig_value.specs.Trees.{Tree}
 use Rattle.pig_value.proofs.OrderLaws.{tree_same, tree_total}
-use Rattle.pig_value.proofs.list_laws.Bags.{eq_is}
-use Rattle.pig_value.proofs.list_laws.Distinct.{filter-distinct}
+use Rattle.pig_value.proofs.list_laws.Bags.{eq_is, times-append}
+use Rattle.pig_value.proofs.list_laws.Distinct.{distinct_same, filter-distinct, times-distinct}
 use Rattle.pig_value.proofs.list_laws.Listing.{each_of_all, filter-filter, filter-map, filter_all, flat_map_each, flat_map_where, map_each}
 use Rattle.pig_algebra.specs.Combining.{combined}
 use Rattle.pig_combine.specs.Holdings.{entry_of}
+use Rattle.pig_runs.specs.Alone.{SameKeys}
 use Rattle.pig_runs.specs.Entries.{run_of}
 use Rattle.pig_runs.specs.Parts.{pn}
 use Rattle.pig_physical.specs.Values.{partitions}
@@ -39,6 +40,18 @@ other_more n p e es other =
     filter-append (λ d. pn d.key n == p) es (e ∷ [])
     ∙ ap (λ b. entries_in n p es ++ cond b (e ∷ []) []) (ne_eqb (pn e.key n) p other)
     ∙ append-nil (entries_in n p es)
+
+-- the same keys, and then others
+pub same_more : (xs ys zs : List Tree) → SameKeys xs ys → SameKeys (xs ++ zs) (ys ++ zs)
+same_more xs ys zs same =
+    distinct_same tree_cmp tree_total tree_same (xs ++ zs) (ys ++ zs)
+    (λ z.
+    let some : min 1 (times tree_cmp z xs) ≡ min 1 (times tree_cmp z ys) =
+    sym (times-distinct tree_cmp tree_total tree_same z xs) ∙ (ap (times tree_cmp z) same ∙ times-distinct tree_cmp tree_total tree_same z ys)
+    in
+    let left = times-append tree_cmp z xs zs in
+    let right = times-append tree_cmp z ys zs in
+    omega (arith, some, left, right))
 
 -- all entries stand in the only partition
 pub all_in_one : (es : List Entry) → entries_in 1 0 es ≡ es

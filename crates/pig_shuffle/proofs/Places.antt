@@ -1,10 +1,10 @@
 -- Lists whose elements stand at their places: one that is changed, and what is made of each.
 use Rattle.std.proofs.Common.{inl, inr, ◌≡◌, ◌≢◌, ◌+◌, ℕ, zero, suc, List, [], ◌∷◌, map, length, refl, sym, ◌∙◌, ap, subst, arith}
-use Rattle.std.specs.Prelude.{◌⊎◌, OnErr, OnOk, Some, get_or, slice_get, slice_set}
+use Rattle.std.specs.Prelude.{◌⊎◌, ◌==◌, true, false, OnErr, OnOk, Some, get_or, slice_get, slice_set}
 use Rattle.std.specs.declared.result.Result.{Result}
 use Rattle.std.specs.declared.result.Result.TheVariants.{Err, Ok}
 use Rattle.std.specs.List.{range_with_len}
-use Rattle.std.proofs.lemmas.Bool.{cases_eq}
+use Rattle.std.proofs.lemmas.Bool.{cases_eq, eqb-true, false≢true}
 use Rattle.std.proofs.lemmas.Option.{slice_get_within}
 use Rattle.pig_value.specs.Elementwise.{Each}
 use Rattle.pig_value.proofs.list_laws.Indexing.{some_at}
@@ -14,6 +14,13 @@ use Rattle.pig_shuffle.specs.Held.{ChangedAt, EachAt}
 pub empty_list : {X : Type 0} (xs : List X) → length xs ≡ 0 → xs ≡ []
 empty_list [] h = refl
 empty_list (x ∷ xs) h = absurd (omega (arith, h))
+
+-- by the test of its length
+pub is_empty : {X : Type 0} (xs : List X) (len : ℕ) → len ≡ length xs → true ≡ (len == 0) → xs ≡ []
+is_empty xs len size test = empty_list xs (sym size ∙ eqb-true len 0 (sym test))
+
+pub is_some : {X : Type 0} (xs : List X) (len : ℕ) → len ≡ length xs → false ≡ (len == 0) → xs ≢ []
+is_some xs len size test none = false≢true (test ∙ ap (λ n. n == 0) (size ∙ ap length none))
 
 -- ---- an element that is changed
 

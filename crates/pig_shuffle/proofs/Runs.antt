@@ -1,11 +1,14 @@
 -- The runs that are made of what is held are those of the shuffle; and a shuffle that is made for a plan's node hands on what its map
 -- tasks do.
-use Rattle.std.proofs.Common.{◌≡◌, ℕ, List, [], ◌∷◌, length, map, refl, sym, ◌∙◌, ap}
+use Rattle.std.proofs.Common.{inl, inr, ◌≡◌, ◌≢◌, ℕ, List, [], ◌∷◌, length, map, refl, sym, ◌∙◌, ap}
 use Rattle.std.specs.Prelude.{◌==◌, ◌&&◌, false, Option, Some, None, if◌then◌else◌}
 use Rattle.std.specs.List.{range_with_len}
 use Rattle.std.specs.Option.{option_and_then, option_map, option_map_or}
+use Rattle.std.proofs.lemmas.List.Concat.{flat_map_single}
 use Rattle.pig_value.specs.Elementwise.{Each}
 use Rattle.pig_value.specs.Gathering.{Entry}
+use Rattle.pig_value.specs.Orders.{tree_cmp}
+use Rattle.pig_value.specs.Sorts.{distinct}
 use Rattle.pig_value.specs.declared.operators.Dir.{Dir}
 use Rattle.pig_value.specs.Trees.{Tree}
 use Rattle.pig_typed.specs.Typed.{TypedBlock}
@@ -15,11 +18,12 @@ use Rattle.pig_algebra.specs.Cuts.{TypedCut, c_row, cuts_in}
 use Rattle.pig_plan.specs.Entries.{dirs_of, entries_of, sort_keys}
 use Rattle.pig_plan.specs.Nodes.{op_at, uses}
 use Rattle.pig_plan.specs.Plans.{Plan, PlanOp, p_load, p_filter, p_foreach, p_group_all, p_group, p_join, p_union, p_distinct, p_order, p_limit, p_store, p_assert, p_rank}
+use Rattle.pig_runs.specs.Alone.{alone, alone_once, keys_in}
 use Rattle.pig_runs.specs.Entries.{InDirections, run_of}
 use Rattle.pig_combine.specs.Holdings.{Holding}
 use Rattle.pig_physical.specs.Combining.{blocks_on, folds, groups_one, only, where_combinable}
 use Rattle.pig_physical.specs.Values.{handed_on, runs_of}
-use Rattle.pig_shuffle.specs.Held.{HasAddedPart, Held, Hold, HoldRuns, IsFlushed, as_added, entries_in, runs_held}
+use Rattle.pig_shuffle.specs.Held.{HasAddedPart, Held, Hold, HoldRuns, IsFlushed, as_added, entries_in, keys_of_held, runs_held, runs_of_held, tables_of_held}
 use Rattle.pig_shuffle.specs.Shuffling.{RunsAreOfTheNode, Shuffling, cuts_by, entries_by, runs_by}
 use Rattle.pig_shuffle.proofs.Entries.{all_in_one, combined_added, partitions_combined}
 use Rattle.pig_shuffle.proofs.Places.{listed, listed_beside}
@@ -30,20 +34,40 @@ of_run b = run_of b.dirs b.entries
 -- ---- what is made of what is held
 
 runs_made : (ds : List Dir) (n : ℕ) (entries : List Entry) (held : Held) → HoldRuns ds n entries held
-    → map of_run held.1.0 ≡ map (λ p. run_of ds (entries_in n p entries)) (range_with_len 0 n)
+    → map of_run (runs_of_held held) ≡ map (λ p. run_of ds (entries_in n p entries)) (range_with_len 0 n)
 runs_made ds n entries held h =
-    listed of_run (λ p. run_of ds (entries_in n p entries)) n held.1.0
+    listed of_run (λ p. run_of ds (entries_in n p entries)) n (runs_of_held held)
     (record { count = h.runs.count; each = λ p b is. ap of_run (h.runs.each p b is) })
 
--- where there are no tables
-pub sorted_made : (cuts : Option (List TypedCut)) (sorting : Option (List SortKey)) (n : ℕ) (entries : List Entry) (held : Held) → held.1.1 ≡ []
-    → Hold cuts sorting n entries held → map of_run held.1.0 ≡ runs_held cuts sorting n entries
-sorted_made (Some cuts) sorting n entries held none h =
+-- where there are no tables and no keys
+pub sorted_made : (cuts : Option (List TypedCut)) (sorting : Option (List SortKey)) (n : ℕ) (entries : List Entry) (held : Held) → tables_of_held held ≡ []
+    → keys_of_held held ≡ [] → Hold cuts sorting n entries held → map of_run (runs_of_held held) ≡ runs_held cuts sorting n entries
+sorted_made (Some cuts) sorting n entries held none no_keys (inl h) =
     ap (map of_run) h.runs
     ∙ ap (λ m. map (λ p. run_of [] (combined (parts_by cuts) (entries_in n p entries))) (range_with_len 0 m)) (sym (ap length none) ∙ h.tables.count)
-sorted_made None (Some keys) n entries held none h =
+sorted_made (Some cuts) sorting n entries held none no_keys (inr h) =
+    ap (map of_run) h.runs
+    ∙ ap (λ m. map (λ p. run_of [] (combined (parts_by cuts) (entries_in n p entries))) (range_with_len 0 m)) (sym (ap length no_keys) ∙ h.keys.count)
+sorted_made None (Some keys) n entries held none no_keys h =
     runs_made (dirs_of keys) 1 entries held h ∙ ap (λ es. run_of (dirs_of keys) es ∷ []) (all_in_one entries)
-sorted_made None None n entries held none h = runs_made [] n entries held h
+sorted_made None None n entries held none no_keys h = runs_made [] n entries held h
+
+-- combined entries of which the one part is the key
+keys_combined : (cuts : List TypedCut) (es : List Entry) → cuts ≡ c_row ∷ [] → alone_once (keys_in es) ≡ combined (parts_by cuts) es
+keys_combined cuts es is = sym (ap (λ cs. combined (parts_by cs) es) is ∙ flat_map_single alone (distinct tree_cmp (keys_in es)))
+
+-- where there are keys
+pub keys_made : (cuts : Option (List TypedCut)) (sorting : Option (List SortKey)) (n : ℕ) (entries : List Entry) (held : Held) → keys_of_held held ≢ []
+    → Hold cuts sorting n entries held → map (λ keys. run_of [] (alone_once keys)) (keys_of_held held) ≡ runs_held cuts sorting n entries
+keys_made (Some cuts) sorting n entries held some (inl h) = absurd (some h.keys)
+keys_made (Some cuts) sorting n entries held some (inr h) =
+    listed (λ keys. run_of [] (alone_once keys)) (λ p. run_of [] (combined (parts_by cuts) (entries_in n p entries))) n (keys_of_held held)
+    (record {
+      count = h.keys.count;
+      each = λ p keys is. ap (λ ks. run_of [] (map alone ks)) (sym (h.keys.each p keys is)) ∙ ap (run_of []) (keys_combined cuts (entries_in n p entries) h.one);
+    })
+keys_made None (Some keys) n entries held some h = absurd (some h.keys)
+keys_made None None n entries held some h = absurd (some h.keys)
 
 table_run : (cuts : List TypedCut) (n p : ℕ) (entries : List Entry) (table : Holding) (run : InDirections)
     → HasAddedPart cuts n entries p table → IsFlushed table run → run ≡ run_of [] (combined (parts_by cuts) (entries_in n p entries))
@@ -52,12 +76,13 @@ table_run cuts n p entries table run has flushed =
     ∙ ap (λ cs. run_of [] (combined (parts_by cs) (as_added (entries_in n p entries)))) has.0
     ∙ ap (run_of []) (combined_added (parts_by cuts) (entries_in n p entries))
 
--- where there are
-pub flushed_made : (cuts : Option (List TypedCut)) (sorting : Option (List SortKey)) (n : ℕ) (entries : List Entry) (held : Held) → (held.1.1 ≡ [] → ⊥)
-    → Hold cuts sorting n entries held → (runs : List InDirections) → Each IsFlushed held.1.1 runs → runs ≡ runs_held cuts sorting n entries
-flushed_made (Some cuts) sorting n entries held some h runs each =
-    listed_beside IsFlushed (λ p. run_of [] (combined (parts_by cuts) (entries_in n p entries))) n held.1.1 runs
+-- where there are tables
+pub flushed_made : (cuts : Option (List TypedCut)) (sorting : Option (List SortKey)) (n : ℕ) (entries : List Entry) (held : Held) → tables_of_held held ≢ []
+    → Hold cuts sorting n entries held → (runs : List InDirections) → Each IsFlushed (tables_of_held held) runs → runs ≡ runs_held cuts sorting n entries
+flushed_made (Some cuts) sorting n entries held some (inl h) runs each =
+    listed_beside IsFlushed (λ p. run_of [] (combined (parts_by cuts) (entries_in n p entries))) n (tables_of_held held) runs
     (record { count = h.tables.count; each = λ p t is run flushed. table_run cuts n p entries t run (h.tables.each p t is) flushed }) each
+flushed_made (Some cuts) sorting n entries held some (inr h) runs each = absurd (some h.tables)
 flushed_made None (Some keys) n entries held some h runs each = absurd (some h.tables)
 flushed_made None None n entries held some h runs each = absurd (some h.tables)
 

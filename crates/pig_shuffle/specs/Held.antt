@@ -1,5 +1,5 @@
 -- What a shuffle holds once it took rows.
-use Rattle.std.specs.Prelude.{◌≡◌, ◌≢◌, ℕ, List, [], ◌∷◌, ◌++◌, map, length, Option, Some, None, slice_get}
+use Rattle.std.specs.Prelude.{◌≡◌, ◌≢◌, ◌⊎◌, ℕ, List, [], ◌∷◌, ◌++◌, map, length, Option, Some, None, slice_get}
 use Rattle.std.specs.List.{AllByRecursion, range_with_len}
 use Rattle.std.specs.Option.{option_map_or}
 use Rattle.pig_value.specs.Gathering.{Entry, in_part}
@@ -16,6 +16,7 @@ use Rattle.pig_plan.specs.Entries.{dirs_of, key_at, sort_key_of, sort_keys}
 use Rattle.pig_plan.specs.Operators.{keys_of}
 use Rattle.pig_plan.specs.Plans.{PlanOp, op_of}
 use Rattle.pig_plan.specs.declared.nodes.NodeOp.{NodeOp}
+use Rattle.pig_runs.specs.Alone.{SameKeys, keys_in}
 use Rattle.pig_runs.specs.Entries.{InDirections, and_entries, run_of}
 use Rattle.pig_runs.specs.Parts.{pn}
 use Rattle.pig_combine.specs.Holdings.{HasAdded, Holding, cuts_held, entry_of}
@@ -27,9 +28,18 @@ use Rattle.pig_shuffle.specs.declared.keying.Keying.{Keying}
 use Rattle.pig_shuffle.specs.declared.keying.Keying.TheVariants as keying
 use Rattle.pig_shuffle.specs.declared.parts.Parts.{Parts}
 
--- the number of partitions, the entries of each in the order in which they came, and the table of each
+-- the number of partitions; of each the entries in the order in which they came, the table, the keys
 abbrev pub Held : Type 0
-Held = ℕ × (List InDirections × List Holding)
+Held = ℕ × (List InDirections × (List Holding × List (List Tree)))
+
+abbrev pub runs_of_held : Held → List InDirections
+runs_of_held held = held.1.0
+
+abbrev pub tables_of_held : Held → List Holding
+tables_of_held held = held.1.1.0
+
+abbrev pub keys_of_held : Held → List (List Tree)
+keys_of_held held = held.1.1.1
 
 -- a shuffle: the operator, the number of the input, and what it holds
 abbrev pub Shuffled : Type 0
@@ -56,20 +66,34 @@ IsOfPart ds n entries p run = run ≡ record { dirs = ds; entries = entries_in n
 abbrev pub HasAddedPart : List TypedCut → ℕ → List Entry → ℕ → Holding → Type 0
 HasAddedPart cuts n entries p table = (cuts_held table ≡ cuts) × HasAdded (as_added (entries_in n p entries)) table
 
+-- the keys of a partition, however often each
+abbrev pub AreKeysOfPart : ℕ → List Entry → ℕ → List Tree → Type 0
+AreKeysOfPart n entries p keys = SameKeys (keys_in (entries_in n p entries)) keys
+
 pub record HoldRuns (ds : List Dir) (n : ℕ) (entries : List Entry) (held : Held) : Type 0 where
   pub count : held.0 ≡ n
-  pub runs : EachAt (IsOfPart ds n entries) n held.1.0
-  pub tables : held.1.1 ≡ []
+  pub runs : EachAt (IsOfPart ds n entries) n (runs_of_held held)
+  pub tables : tables_of_held held ≡ []
+  pub keys : keys_of_held held ≡ []
 
 pub record HoldTables (cuts : List TypedCut) (n : ℕ) (entries : List Entry) (held : Held) : Type 0 where
   pub count : held.0 ≡ n
-  pub runs : held.1.0 ≡ []
-  pub tables : EachAt (HasAddedPart cuts n entries) n held.1.1
+  pub runs : runs_of_held held ≡ []
+  pub tables : EachAt (HasAddedPart cuts n entries) n (tables_of_held held)
+  pub keys : keys_of_held held ≡ []
 
--- What is held of entries: a table for each partition where they are combined; else the entries of each partition, or all in
--- one where they are sorted.
+-- the one part of a key is the key
+pub record HoldKeys (cuts : List TypedCut) (n : ℕ) (entries : List Entry) (held : Held) : Type 0 where
+  pub one : cuts ≡ c_row ∷ []
+  pub count : held.0 ≡ n
+  pub runs : runs_of_held held ≡ []
+  pub tables : tables_of_held held ≡ []
+  pub keys : EachAt (AreKeysOfPart n entries) n (keys_of_held held)
+
+-- What is held of entries: a table for each partition where they are combined, or the keys where these are all; else the
+-- entries of each partition, or all in one where they are sorted.
 abbrev pub Hold : Option (List TypedCut) → Option (List SortKey) → ℕ → List Entry → Held → Type 0
-Hold (Some cuts) sorting n entries held = HoldTables cuts n entries held
+Hold (Some cuts) sorting n entries held = HoldTables cuts n entries held ⊎ HoldKeys cuts n entries held
 Hold None (Some keys) n entries held = HoldRuns (dirs_of keys) 1 entries held
 Hold None None n entries held = HoldRuns [] n entries held
 
@@ -97,6 +121,9 @@ TookEntry key row old new =
     (cuts_held new ≡ cuts_held old)
     × ((added : List Entry) → HasAdded added old → HasAdded (added ++ entry_of key row ∷ []) new)
 
+abbrev pub GotKey : Tree → List Tree → List Tree → Type 0
+GotKey key old new = SameKeys (old ++ key ∷ []) new
+
 -- ---- no entries, and the runs of all
 
 -- a table of these cuts with nothing added
@@ -116,7 +143,7 @@ runs_held None None n entries = partitions n entries
 -- ---- the code's forms
 
 abbrev pub held_in : Parts → Held
-held_in p = (p.count, (p.runs.items, p.tables.items))
+held_in p = (p.count, (p.runs.items, (p.tables.items, p.keys.items)))
 
 abbrev pub dirs_in : List InDirections → List (List Dir)
 dirs_in runs = map (λ run. run.dirs) runs

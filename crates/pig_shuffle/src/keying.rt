@@ -12,7 +12,7 @@ use crate::parts::Parts;
 use pig_eval::{eval, look, value};
 use pig_plan::{KeyedInput, NodeOp};
 use pig_typed::{SortKey, TExpr};
-use pig_value::{Text, Tuple, Value, copy, copy_row, field_at};
+use pig_value::{Text, Tuple, Value, copy, field_at};
 use std::alloc::{AllocError, Global};
 
 /// How rows come under their keys.
@@ -100,10 +100,7 @@ pub fn add_row(
             let key = fields_key(alloc, keys, row)?;
             parts.add(&key, input, row)
         }
-        Keying::Row => {
-            let key = row_key(alloc, row)?;
-            parts.add(&key, input, row)
-        }
+        Keying::Row => parts.add_row(alloc, input, row),
     }
 }
 
@@ -195,10 +192,4 @@ fn field(alloc: Global, row: &Tuple, position: u32) -> Result<Value, AllocError>
         Some(v) => copy(alloc, v),
         None => Ok(Value::Null),
     }
-}
-
-fn row_key(alloc: Global, row: &Tuple) -> Result<Value, AllocError>
-    ensures { IfOk result (λ key. tree key ≡ v_tuple (fields_of (row_tree row.now))) }
-{
-    Ok(Value::Tuple(copy_row(alloc, row)?))
 }

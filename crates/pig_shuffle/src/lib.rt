@@ -2,8 +2,8 @@
 //! all where rows are sorted.
 //!
 //! A [`Shuffle`] takes the rows of one input of a node. It brings each row under its key and keeps it
-//! as bytes in its partition; or, of a DISTINCT and of a GROUP that folds, in a table that has each
-//! key once.
+//! as bytes in its partition; of a GROUP that folds, in a table that has each key once; and of a
+//! DISTINCT the code of the key alone, from which the run is made at the end.
 #![tactic(auto)]
 
 mod keying;

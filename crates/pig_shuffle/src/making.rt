@@ -7,14 +7,14 @@ ghost use Rattle.pig_plan.specs.Entries.{dirs_of, sort_keys};
 ghost use Rattle.pig_plan.specs.Plans.{op_of};
 ghost use Rattle.pig_runs.specs.Entries.{no_entries_in};
 ghost use Rattle.pig_combine.specs.Holdings.{HasAdded, cuts_held};
-ghost use Rattle.pig_shuffle.specs.Held.{Hold, HoldRuns, HoldTables, HoldsNothing, cuts_from, dirs_by, dirs_in, held_in};
+ghost use Rattle.pig_shuffle.specs.Held.{Hold, HoldKeys, HoldRuns, HoldTables, HoldsNothing, cuts_from, dirs_by, dirs_in, held_in};
 ghost use Rattle.pig_shuffle.specs.Shuffling.{cuts_by};
 
 use crate::parts::Parts;
-use pig_algebra::{Cut, Cuts, combinable};
+use pig_algebra::{Cuts, combinable};
 use pig_combine::Table;
 use pig_plan::NodeOp;
-use pig_runs::RunBuilder;
+use pig_runs::{KeysBuilder, RunBuilder};
 use pig_typed::{Block, SortKeys};
 use pig_value::Dirs;
 use std::alloc::{AllocError, Global};
@@ -42,7 +42,8 @@ pub fn parts_for(
         (dirs_in parts.runs.items)) }
 {
     match combining_of(op, fold) {
-        Some(how) => tables_for(alloc, &how, count),
+        Some(Combining::Row) => keys_for(alloc, count),
+        Some(Combining::Block(block)) => tables_for(alloc, block, count),
         None => runs_for(alloc, op, count),
     }
 }
@@ -81,52 +82,37 @@ fn folding<'b>(fold: Option<&'b Block>) -> Option<Combining<'b>>
 
 // ---- tables
 
-fn tables_for(alloc: Global, how: &Combining, count: u32) -> Result<Parts, AllocError>
-    ensures held { IfOk result (λ parts. HoldTables (cuts_from how.now) count [] (held_in parts)) }
+fn tables_for(alloc: Global, block: &Block, count: u32) -> Result<Parts, AllocError>
+    ensures held { IfOk result (λ parts. HoldTables (cuts_in (block_typed block.now)) count []
+        (held_in parts)) }
     ensures runs { IfOk result (λ parts. parts.runs.items ≡ []) }
 {
-    let tables = new_tables(alloc, how, count)?;
+    let tables = new_tables(alloc, block, count)?;
     Ok(Parts {
         count,
         runs: Vec::new(alloc),
         tables,
+        keys: Vec::new(alloc),
     })
 }
 
-fn new_tables(alloc: Global, how: &Combining, count: u32) -> Result<Vec<Table>, AllocError>
+fn new_tables(alloc: Global, block: &Block, count: u32) -> Result<Vec<Table>, AllocError>
     ensures count { IfOk result (λ tables. length tables.items ≡ count) }
-    ensures empty { IfOk result (λ tables. AllByRecursion (HoldsNothing (cuts_from how.now))
-        tables.items) }
+    ensures empty { IfOk result (λ tables. AllByRecursion
+        (HoldsNothing (cuts_in (block_typed block.now))) tables.items) }
 {
     let mut tables = Vec::new(alloc);
     'tables: for _ in 0..count {
-        tables.push(table_for(alloc, how)?)?;
+        tables.push(table_for(alloc, block)?)?;
     }
     Ok(tables)
 }
 
-fn table_for(alloc: Global, how: &Combining) -> Result<Table, AllocError>
-    ensures { IfOk result (HoldsNothing (cuts_from how.now)) }
+fn table_for(alloc: Global, block: &Block) -> Result<Table, AllocError>
+    ensures { IfOk result (HoldsNothing (cuts_in (block_typed block.now))) }
 {
-    let cuts = cuts_for(alloc, how)?;
+    let cuts = block_cuts(alloc, block)?;
     Table::new(alloc, cuts)
-}
-
-fn cuts_for(alloc: Global, how: &Combining) -> Result<Cuts, AllocError>
-    ensures { IfOk result (λ cuts. map cut_typed cuts ≡ cuts_from how.now) }
-{
-    match how {
-        Combining::Row => row_cut(alloc),
-        Combining::Block(block) => block_cuts(alloc, block),
-    }
-}
-
-fn row_cut(alloc: Global) -> Result<Cuts, AllocError>
-    ensures { IfOk result (λ cuts. map cut_typed cuts ≡ c_row ∷ []) }
-{
-    let mut cuts = Cuts::new(alloc);
-    cuts.push(Cut::Row)?;
-    Ok(cuts)
 }
 
 fn block_cuts(alloc: Global, block: &Block) -> Result<Cuts, AllocError>
@@ -136,6 +122,32 @@ fn block_cuts(alloc: Global, block: &Block) -> Result<Cuts, AllocError>
         Some(cuts) => Ok(cuts),
         None => Ok(Cuts::new(alloc)),
     }
+}
+
+// ---- keys
+
+fn keys_for(alloc: Global, count: u32) -> Result<Parts, AllocError>
+    ensures held { IfOk result (λ parts. HoldKeys (c_row ∷ []) count [] (held_in parts)) }
+    ensures runs { IfOk result (λ parts. parts.runs.items ≡ []) }
+{
+    let keys = new_keys(alloc, count)?;
+    Ok(Parts {
+        count,
+        runs: Vec::new(alloc),
+        tables: Vec::new(alloc),
+        keys,
+    })
+}
+
+fn new_keys(alloc: Global, count: u32) -> Result<Vec<KeysBuilder>, AllocError>
+    ensures count { IfOk result (λ keys. length keys.items ≡ count) }
+    ensures empty { IfOk result (λ keys. AllByRecursion (λ k. k ≡ []) keys.items) }
+{
+    let mut keys = Vec::new(alloc);
+    'keys: for _ in 0..count {
+        keys.push(KeysBuilder::new(alloc)?)?;
+    }
+    Ok(keys)
 }
 
 // ---- runs
@@ -185,6 +197,7 @@ fn one_run(alloc: Global, keys: &SortKeys) -> Result<Parts, AllocError>
         count: 1,
         runs,
         tables: Vec::new(alloc),
+        keys: Vec::new(alloc),
     })
 }
 
@@ -208,6 +221,7 @@ fn partitioned_runs(alloc: Global, count: u32) -> Result<Parts, AllocError>
         count,
         runs,
         tables: Vec::new(alloc),
+        keys: Vec::new(alloc),
     })
 }
 

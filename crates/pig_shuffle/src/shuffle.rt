@@ -35,6 +35,7 @@ pub struct Shuffle<'p> {
 impl<'p> Model for Shuffle<'p> {
     ghost use Rattle.std.specs.Prelude.{ℕ, List};
     ghost use Rattle.std.specs.Coded.{codes};
+    ghost use Rattle.pig_value.specs.TreeCode.{coded_tree};
     ghost use Rattle.pig_value.specs.contracts.values.Kind as kind;
     ghost use Rattle.pig_value.specs.contracts.values.Value as value;
     ghost use Rattle.pig_typed.specs.contracts.exprs.TExpr as expr;
@@ -45,7 +46,7 @@ impl<'p> Model for Shuffle<'p> {
 
     ghost Value = { Shuffled };
 
-    ghost coded = { Prim.hlevel (codes, coded_in_directions, kind.the_row.coded, expr.the_row.coded, value.the_row.coded, cut.the_row.coded) };
+    ghost coded = { Prim.hlevel (codes, coded_tree, coded_in_directions, kind.the_row.coded, expr.the_row.coded, value.the_row.coded, cut.the_row.coded) };
 
     ghost view = { λ s. (s.op.now, (s.input, held_in s.parts)) };
 

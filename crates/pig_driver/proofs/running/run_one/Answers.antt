@@ -4,16 +4,17 @@ use Rattle.std.proofs.lemmas.List.{map-append}
 use Rattle.pig_physical.specs.Handed.{out_of, outs_of}
 use Rattle.pig_physical.specs.Seen.{staged}
 use Rattle.pig_work.specs.Working.{HasSources}
+use Rattle.pig_driver.specs.Failing.{HaveWon}
 use Rattle.pig_driver.specs.Going.{AreWon, HasRunTo}
 use Rattle.pig_driver.specs.Sorting.{AreBetween}
-use Rattle.pig_driver.proofs.Stepping.{all_hosts, are_right, goes_on, may_slice, one_won, told_sources}
+use Rattle.pig_driver.proofs.Stepping.{all_hosts, are_right, goes_on, have_won_one, may_slice, one_won, told_sources}
 use Rattle.pig_driver.proofs.running.run_one.Goals as goal
 
 pub run_stage-ended-requires-clause-ready : goal.run_stage-ended-requires-clause-ready
 run_stage-ended-requires-clause-ready g c κs within = record {
   within = c.requires.wave;
   staged = c.requires.staged;
-  named = λ place task at. c.waves_find_what_they_name.ensures (staged c.args.stages.now) c.requires.valid c.requires.staged (outs_of c.args.ran.now.outs) c.args.wave place task c.requires.run.standing c.requires.wave at;
+  named = λ place task at. c.waves_find_what_they_name.ensures (staged c.args.stages.now) c.requires.valid c.requires.staged (outs_of c.args.outs.now) c.args.wave place task c.requires.run.standing c.requires.wave at;
 }
 
 pub run_stage-ended-requires-clause-sources : goal.run_stage-ended-requires-clause-sources
@@ -26,7 +27,7 @@ pub between-requires-clause-directed : goal.between-requires-clause-directed
 between-requires-clause-directed g c h =
     let s = staged c.args.stages.now in
     let tellings = map g.H.Host.inputs c.args.hosts.now in
-    let outs = outs_of c.args.ran.now.outs in
+    let outs = outs_of c.args.outs.now in
     may_slice s c.requires.valid c.requires.staged tellings outs c.args.wave c.requires.wave c.requires.run (map out_of c.in-Ok.ended.outs)
     (are_right s tellings outs c.args.wave c.in-Ok.ended.outs c.in-Ok.ensures.outs) c.requires.some h
 
@@ -34,15 +35,29 @@ pub returns-clause-run : goal.returns-clause-run
 returns-clause-run g c =
     let s = staged c.args.stages.now in
     let tellings = map g.H.Host.inputs c.args.hosts.now in
-    let outs = outs_of c.args.ran.now.outs in
-    let between : AreBetween (staged c.args.stages.now) c.args.wave (map out_of c.in-Ok.ended.outs) (map out_of c.in_ok-outs.outs) = search rules in
-    let pushed : c.push.new.self ≡ c.args.ran.now.outs ++ c.in_ok-outs.outs ∷ [] = search rules in
-    subst (λ found. HasRunTo s tellings found (c.args.wave + 1)) (sym (ap outs_of pushed ∙ map-append (map out_of) c.args.ran.now.outs (c.in_ok-outs.outs ∷ [])))
+    let outs = outs_of c.args.outs.now in
+    let between : AreBetween (staged c.args.stages.now) c.args.wave (map out_of c.in-Ok.ended.outs) (map out_of c.in_ok-found.found) = search rules in
+    let pushed : c.push-2.new.self ≡ c.args.outs.now ++ c.in_ok-found.found ∷ [] = search rules in
+    subst (λ found. HasRunTo s tellings found (c.args.wave + 1)) (sym (ap outs_of pushed ∙ map-append (map out_of) c.args.outs.now (c.in_ok-found.found ∷ [])))
     (goes_on s c.requires.valid c.requires.staged tellings outs c.args.wave c.requires.wave c.requires.run (map out_of c.in-Ok.ended.outs)
-    (are_right s tellings outs c.args.wave c.in-Ok.ended.outs c.in-Ok.ensures.outs) c.requires.some c.run_laws.ensures.rising (map out_of c.in_ok-outs.outs) between)
+    (are_right s tellings outs c.args.wave c.in-Ok.ended.outs c.in-Ok.ensures.outs) c.requires.some c.run_laws.ensures.rising (map out_of c.in_ok-found.found) between)
 
 pub returns-clause-won : goal.returns-clause-won
 returns-clause-won g c =
-    let pushed : c.push-2.new.self ≡ c.args.ran.now.ends ++ c.in-Ok.ended.end ∷ [] = search rules in
+    let pushed : c.push.new.self ≡ c.args.ends.now ++ c.in-Ok.ended.end ∷ [] = search rules in
     subst (λ ends. AreWon (staged c.args.stages.now) ends (c.args.wave + 1)) (sym pushed)
-    (one_won (staged c.args.stages.now) c.args.ran.now.ends c.args.wave c.in-Ok.ended.end c.requires.won c.in-Ok.ensures.won)
+    (one_won (staged c.args.stages.now) c.args.ends.now c.args.wave c.in-Ok.ended.end c.requires.won c.in-Ok.ensures.won)
+
+pub returns-in_err-found-clause-failed : goal.returns-in_err-found-clause-failed
+returns-in_err-found-clause-failed g c =
+    let pushed : c.push.new.self ≡ c.args.ends.now ++ c.in-Ok.ended.end ∷ [] = search rules in
+    let won : HaveWon (staged c.args.stages.now) c.push.new.self = have_won_one (staged c.args.stages.now) c.args.ends.now c.push.new.self c.args.wave c.in-Ok.ended.end
+    c.requires.wave c.requires.won c.in-Ok.ensures.won pushed in
+    search rules
+
+pub returns-in_err-push-2-clause-failed : goal.returns-in_err-push-2-clause-failed
+returns-in_err-push-2-clause-failed g c =
+    let pushed : c.push.new.self ≡ c.args.ends.now ++ c.in-Ok.ended.end ∷ [] = search rules in
+    let won : HaveWon (staged c.args.stages.now) c.push.new.self = have_won_one (staged c.args.stages.now) c.args.ends.now c.push.new.self c.args.wave c.in-Ok.ended.end
+    c.requires.wave c.requires.won c.in-Ok.ensures.won pushed in
+    search rules

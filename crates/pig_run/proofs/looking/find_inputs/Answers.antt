@@ -11,9 +11,9 @@ use Rattle.pig_run.specs.Steps.{IsLookFault, Passes}
 use Rattle.pig_run.specs.Told.{Asked}
 use Rattle.pig_run.proofs.LookUps.{looks_end}
 use Rattle.pig_run.proofs.Ordering.{some_next, some_none}
-use Rattle.pig_run.proofs.Sizes.{input_stops, inputs_on, sizes_on}
+use Rattle.pig_run.proofs.Sizes.{input_stops, inputs_on, sizes_grow}
 use Rattle.pig_run.proofs.Stages.{wants}
-use Rattle.pig_run.proofs.Storing.{taken}
+use Rattle.pig_run.proofs.Laying.{taken}
 use Rattle.pig_run.proofs.looking.find_inputs.Goals as goal
 
 pub loop-place-preserved : goal.loop-place-preserved
@@ -36,11 +36,10 @@ loop-place-preserved g c =
       still,
       added ∙ ap (λ xs. xs ++ path ∷ []) c.loop-place.invariant.3 ∙ sym (taken paths c.loop-place.place path path within at),
       λ s told.
-          let both = c.loop-place.invariant.4 s told in
           let told_now : g.D.Depot.shelf c.loop-place.depot ≡ Some s = c.loop-place.invariant.0 ∙ told in
           let found : (lengths : List ℕ) × (lengths_at c.index-paths-place.result s ≡ Some lengths) × (c.add_size.new.sizes ≡ c.loop-place.sizes ++ record { path = c.index-paths-place.result; lengths = lengths } ∷ []) = search rules in (
-            inputs_on plan s paths c.loop-place.place path path old now new both.0 within at asked found.0 found.1,
-            sizes_on s c.loop-place.sizes c.add_size.new.sizes path found.0 found.1 found.2 both.1,
+            (λ command. inputs_on command plan s paths c.loop-place.place path path old now new ((c.loop-place.invariant.4 s told).0 command) within at asked found.0 found.1),
+            sizes_grow s c.loop-place.sizes c.add_size.new.sizes path found.0 found.1 found.2 (c.loop-place.invariant.4 s told).1,
           ),
       some_next method.Pieces path old now new c.loop-place.invariant.5 asked,
     )
@@ -60,7 +59,7 @@ pub returns-clause-asked : goal.returns-clause-asked
 returns-clause-asked g c = c.loop-place.invariant.5
 
 pub returns-in_err-add_size-clause-told : goal.returns-in_err-add_size-clause-told
-returns-in_err-add_size-clause-told g c s told =
+returns-in_err-add_size-clause-told g c s told command =
     let plan = plan_of c.args.plan.now in
     let paths = c.as_slice-paths.result.now in
     let path = c.index-paths-place.result in
@@ -72,30 +71,30 @@ returns-in_err-add_size-clause-told g c s told =
     let at = c.index-paths-place.is in
     let asked : Asked (call method.Pieces c.index-paths-place.result ∷ []) (g.D.Depot.calls c.loop-place.depot) (g.D.Depot.calls c.add_size.new.depot) = search rules in
     let are : c.as_slice-paths.result.now ≡ live_paths (plan_of c.args.plan.now) = search rules in
-    let both = c.loop-place.invariant.4 s told in
-    let refused : MatchResult c.from_residual-in_err-add_size.result (λ sizes. Passes (InputsDue (plan_of c.args.plan.now) s) (SizeDue (plan_of c.args.plan.now) s) (g.D.Depot.calls c.args.depot.now) (g.D.Depot.calls c.add_size.new.depot))
+    let looked = (c.loop-place.invariant.4 s told).0 command in
+    let refused : MatchResult c.from_residual-in_err-add_size.result (λ sizes. Passes (InputsDue command s (plan_of c.args.plan.now)) (SizeDue command s (plan_of c.args.plan.now)) (g.D.Depot.calls c.args.depot.now) (g.D.Depot.calls c.add_size.new.depot))
     (λ f. ((f ≡ fault.NoInput c.index-paths-place.result) × (lengths_at c.index-paths-place.result s ≡ None)) ⊎ IsLookFault f) = search rules in
     MatchResult-weaker c.from_residual-in_err-add_size.result refused (λ sizes h. h)
-    (λ f h. input_stops plan s paths are c.loop-place.place path path old now new both.0 within at asked f h)
+    (λ f h. input_stops command plan s paths are c.loop-place.place path path old now new looked within at asked f h)
 
 pub returns-in_err-paths-clause-told : goal.returns-in_err-paths-clause-told
-returns-in_err-paths-clause-told g c s told =
+returns-in_err-paths-clause-told g c s told command =
     let plan = plan_of c.args.plan.now in
     let old = g.D.Depot.calls c.args.depot.now in
-    let wanting : MatchResult c.from_residual.result (λ sizes. Passes (InputsDue (plan_of c.args.plan.now) s) (SizeDue (plan_of c.args.plan.now) s) (g.D.Depot.calls c.args.depot.now) (g.D.Depot.calls c.args.depot.now))
+    let wanting : MatchResult c.from_residual.result (λ sizes. Passes (InputsDue command s (plan_of c.args.plan.now)) (SizeDue command s (plan_of c.args.plan.now)) (g.D.Depot.calls c.args.depot.now) (g.D.Depot.calls c.args.depot.now))
     (λ f. f ≡ fault.OutOfMemory) = search rules in
-    MatchResult-weaker c.from_residual.result wanting (λ sizes h. h) (λ f h. wants (InputsDue plan s) old old refl f h)
+    MatchResult-weaker c.from_residual.result wanting (λ sizes h. h) (λ f h. wants (InputsDue command s plan) old old refl f h)
 
 pub returns-clause-told : goal.returns-clause-told
-returns-clause-told g c s told =
+returns-clause-told g c s told command =
     let plan = plan_of c.args.plan.now in
     let paths = c.as_slice-paths.result.now in
     let old = g.D.Depot.calls c.args.depot.now in
     let now = g.D.Depot.calls c.loop-place.depot in
     let end : length c.as_slice-paths.result.now ≤ c.loop-place.place = search rules in
     let are : c.as_slice-paths.result.now ≡ live_paths (plan_of c.args.plan.now) = search rules in
-    subst (λ ps. Passes (Looks (is_missing s) no_input method.Pieces ps (SizeDue plan s)) (SizeDue plan s) old now) are
-    (looks_end (is_missing s) no_input method.Pieces paths (SizeDue plan s) c.loop-place.place old now (c.loop-place.invariant.4 s told).0 end)
+    subst (λ ps. Passes (Looks (is_missing s) no_input method.Pieces ps (SizeDue command s plan)) (SizeDue command s plan) old now) are
+    (looks_end (is_missing s) no_input method.Pieces paths (SizeDue command s plan) c.loop-place.place old now ((c.loop-place.invariant.4 s told).0 command) end)
 
 pub returns-clause-lengths : goal.returns-clause-lengths
 returns-clause-lengths g c s told = (c.loop-place.invariant.4 s told).1

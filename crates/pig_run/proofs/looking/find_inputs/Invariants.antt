@@ -3,6 +3,7 @@ use Rattle.std.specs.List.{AllByRecursion}
 use Rattle.pig_outside.specs.Shelf.{Shelf}
 use Rattle.pig_outside.specs.declared.failing.Method.TheVariants as method
 use Rattle.pig_plan.specs.Plans.{plan_of}
+use Rattle.pig_words.specs.declared.words.Command.{Command}
 use Rattle.pig_run.specs.Due.{SizeDue, is_missing}
 use Rattle.pig_run.specs.Looking.{HasSize}
 use Rattle.pig_run.specs.Orderly.{AsksSome}
@@ -17,6 +18,6 @@ invariant-loop-place g l =
     × (g.D.Depot.store_faults l.depot ≡ g.D.Depot.store_faults l.fn.depot)
     × (map (λ size. size.path) l.sizes ≡ take l.place l.paths)
     × ((s : Shelf) → g.D.Depot.shelf l.fn.depot ≡ Some s
-    → LookedAt (is_missing s) no_input method.Pieces l.paths (SizeDue (plan_of l.plan) s) l.place (g.D.Depot.calls l.fn.depot) (g.D.Depot.calls l.depot)
+    → ((command : Command) → LookedAt (is_missing s) no_input method.Pieces l.paths (SizeDue command s (plan_of l.plan)) l.place (g.D.Depot.calls l.fn.depot) (g.D.Depot.calls l.depot))
     × AllByRecursion (HasSize s) l.sizes)
     × AsksSome method.Pieces (g.D.Depot.calls l.fn.depot) (g.D.Depot.calls l.depot)

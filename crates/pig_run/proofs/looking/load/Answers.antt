@@ -43,11 +43,6 @@ returns-clause-told g c s told =
     (CommandDue c.in_ok-command.command s c.in_ok-checked.checked.statements (plan_of c.in_ok-checked.checked.plan)) (g.D.Depot.calls c.args.depot.now) (g.D.Depot.calls c.load_script.new.depot) = search rules in
     passes_both (IsDue line s) (ScriptDue command.operand s (CommandDue command s)) old old first new (CommandDue command s checked.statements (plan_of checked.plan)) second
 
-pub returns-clause-built : goal.returns-clause-built
-returns-clause-built g c =
-    let read : AreWords (line_given c.args.line.now) c.in_ok-command.command = search rules in
-    read.built
-
 pub returns-in_err-command-clause-asked : goal.returns-in_err-command-clause-asked
 returns-in_err-command-clause-asked g c =
     record { scripts = []; one = omega arith; asked = asked_nothing (g.D.Depot.calls c.args.depot.now) (g.D.Depot.calls c.args.depot.now) refl }

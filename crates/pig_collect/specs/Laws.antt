@@ -1,0 +1,22 @@
+-- What the numbers and the ASSERTs of a run are, where its outputs are the values of all tasks.
+use Rattle.std.specs.Prelude.{◌≡◌, ◌<◌, ℕ, List}
+use Rattle.pig_value.specs.declared.inputs.Input.{Input}
+use Rattle.pig_value.specs.declared.outcomes.Kept.{Kept}
+use Rattle.pig_plan.specs.Asserts.{first_unmet}
+use Rattle.pig_plan.specs.Valid.{IsPlan}
+use Rattle.pig_reach.specs.Reach.{lines_read}
+use Rattle.pig_runs.specs.Cutting.{Point}
+use Rattle.pig_physical.specs.Outs.{Outs}
+use Rattle.pig_physical.specs.Running.{AreOutputs, IsRun, all_unmet}
+use Rattle.pig_physical.specs.Stages.{Stages}
+use Rattle.pig_waves.specs.Laws.{HaveStages}
+use Rattle.pig_collect.specs.Collecting.{least, lines_in}
+
+abbrev pub RunsReadLines : Type 0
+RunsReadLines = (s : Stages) (inputs : List Input) (points : ℕ → List Point) (outs : Outs)
+    → IsPlan s.plan → HaveStages s.plan → 0 < s.sizing.split → IsRun s inputs points outs → lines_in outs ≡ lines_read s.plan inputs
+
+abbrev pub RunsTellTheFirstUnmet : Type 0
+RunsTellTheFirstUnmet = (s : Stages) (inputs : List Input) (kept : List Kept) (points : ℕ → List Point) (outs : Outs)
+    → IsPlan s.plan → HaveStages s.plan → 0 < s.sizing.reducers → 0 < s.sizing.split
+    → IsRun s inputs points outs → AreOutputs s.plan outs kept → least (all_unmet outs) ≡ first_unmet s.plan inputs kept

@@ -1,0 +1,9 @@
+pub mod Keeps
+pub mod Kept
+pub mod Passing
+pub mod Change
+pub mod Tidy
+pub mod Falls
+pub mod Steps
+pub mod Table
+pub mod Keyed

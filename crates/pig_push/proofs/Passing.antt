@@ -1,0 +1,215 @@
+-- A FILTER on an operator's rows keeps what the operator makes of the rows that a FILTER below it keeps.
+use Rattle.std.specs.Prelude.{◌≡◌, ◌==◌, ◌-◌, ℕ, zero, suc, Bool, true, false, ◌&&◌, List, [], ◌∷◌, ◌++◌, map, Option, Some, None, refl, if◌then◌else◌}
+use Rattle.std.proofs.Common.{ap, sym, ◌∙◌, arith, cond, true≢false, append-nil}
+use Rattle.std.specs.List.{AllByRecursion, filter, flat_map, list_all}
+use Rattle.std.specs.Option.{is_some, unwrap_or}
+use Rattle.std.proofs.lemmas.Bool.{eq-eqb, eqb-true}
+use Rattle.std.proofs.lemmas.List.Elements.{filter-append}
+use Rattle.std.proofs.lemmas.List.Folds.{list_all-append}
+use Rattle.std.proofs.lemmas.List.Sorted.{IsPermutation-sym}
+use Rattle.std.proofs.lemmas.Option.{none-some}
+use Rattle.pig_value.proofs.OrderLaws.{row_same, row_total}
+use Rattle.pig_value.proofs.list_laws.Bags.{bag_from_permutation, bag_once, sort-filter, sort_permutes, sorted_is}
+use Rattle.pig_value.proofs.list_laws.Distinct.{distinct_ascends, distinct_permuted, filter-distinct}
+use Rattle.pig_value.proofs.list_laws.Listing.{each-append, each-map, each_of_all, each_weaker, filter-filter, filter_all, filter_none, some_same}
+use Rattle.pig_value.proofs.list_laws.Permutations.{IsPermutation-flat_map}
+use Rattle.pig_value.specs.Orders.{bag_of, row_cmp}
+use Rattle.pig_value.specs.Sorts.{distinct}
+use Rattle.pig_value.specs.Trees.{Tree, at}
+use Rattle.pig_typed.specs.Blocks.{flattened, foreach_all, foreach_rows, item_lists, steps_values}
+use Rattle.pig_typed.specs.Evaluation.{ev, passes}
+use Rattle.pig_typed.specs.Operators.{is_true}
+use Rattle.pig_typed.specs.Products.{joined, product}
+use Rattle.pig_typed.specs.Typed.{Typed, TypedBlock, TypedItem, x_null, x_bool, x_int, x_long, x_chars, x_field, x_local, x_chain, x_compare, x_is_null, x_not, x_minus, x_choose, x_cast, x_project, x_look, x_call, TypedArgs, TypedLinks, no_links, more_links, no_args, more_args}
+use Rattle.pig_plan.proofs.Conjoined.{by_conjuncts}
+use Rattle.pig_plan.proofs.Meanings.{each_both}
+use Rattle.pig_plan.proofs.Moved.{puts}
+use Rattle.pig_plan.specs.Conjuncts.{conjuncts}
+use Rattle.pig_plan.specs.Moves.{arg_fields, field_of, fields_in, link_fields, put}
+use Rattle.pig_plan.specs.Operators.{filter_rows}
+use Rattle.pig_push.specs.Pushed.{conjoined, each_arg, each_field, each_link, handed_on, hands_all, is_handed, lead_at}
+
+abbrev pub Rows : Type 0
+Rows = List (List Tree)
+
+-- ---- two FILTERs
+
+conjoined_passes : (a b : Typed) (row : List Tree) → passes (conjoined a b) row ≡ (passes a row && passes b row)
+conjoined_passes a b row =
+    by_conjuncts row (conjoined a b)
+    ∙ list_all-append (λ c. passes c row) (conjuncts a) (conjuncts b ++ [])
+    ∙ ap (λ cs. list_all (λ c. passes c row) (conjuncts a) && list_all (λ c. passes c row) cs) (append-nil (conjuncts b))
+    ∙ (λ i. sym (by_conjuncts row a) i && sym (by_conjuncts row b) i)
+
+-- sorting before a FILTER changes nothing
+pub filter_sorted : (p : List Tree → Bool) (rows : Rows) → bag_of (filter p (bag_of rows)) ≡ bag_of (filter p rows)
+filter_sorted p rows =
+    ap bag_of (sym (sort-filter row_cmp row_total p row_same rows)) ∙ bag_once row_cmp row_total (filter p rows)
+
+pub filter_joins : (a b : Typed) (rows : Rows) → bag_of (filter_rows (conjoined a b) rows) ≡ bag_of (filter_rows b (bag_of (filter_rows a rows)))
+filter_joins a b rows =
+    (λ i. bag_of (filter (λ row. conjoined_passes a b row i) rows))
+    ∙ ap bag_of (sym (filter-filter (passes b) (passes a) rows))
+    ∙ sym (filter_sorted (passes b) (filter (passes a) rows))
+
+-- ---- DISTINCT
+
+pub filter_below_distinct : (c : Typed) (rows : Rows) → distinct row_cmp (bag_of (filter_rows c rows)) ≡ bag_of (filter_rows c (distinct row_cmp rows))
+filter_below_distinct c rows =
+    distinct_permuted row_cmp row_total row_same (bag_of (filter (passes c) rows)) (filter (passes c) rows)
+    (IsPermutation-sym (filter (passes c) rows) (bag_of (filter (passes c) rows)) (sort_permutes row_cmp (filter (passes c) rows)))
+    ∙ sym (sorted_is row_cmp (distinct row_cmp (filter (passes c) rows)) (distinct_ascends row_cmp row_total (filter (passes c) rows)))
+    ∙ ap bag_of (sym (filter-distinct row_cmp row_total row_same (passes c) rows))
+
+-- ---- what is made of each row
+
+kept_or_not : {X : Type 0} (p : X → Bool) (b : Bool) (xs : List X) → AllByRecursion (λ x. p x ≡ b) xs → filter p xs ≡ cond b xs []
+kept_or_not p true xs h = filter_all p xs h
+kept_or_not p false xs h = filter_none p xs h
+
+module _ {X Y : Type 0} (f : X → List Y) (p : Y → Bool) (t : X → Bool) (goes : (x : X) → AllByRecursion (λ y. p y ≡ t x) (f x)) where
+  one_kept : (b : Bool) (x : X) (xs : List X) → cond b (f x) [] ++ flat_map f xs ≡ flat_map f (cond b (x ∷ xs) xs)
+  one_kept true x xs = refl
+  one_kept false x xs = refl
+
+  pub filter_goes_in : (xs : List X) → filter p (flat_map f xs) ≡ flat_map f (filter t xs)
+  filter_goes_in [] = refl
+  filter_goes_in (x ∷ xs) =
+      filter-append p (f x) (flat_map f xs)
+      ∙ (λ i. kept_or_not p (t x) (f x) (goes x) i ++ filter_goes_in xs i)
+      ∙ one_kept (t x) x (filter t xs)
+
+made_sorted : (f : List Tree → Rows) (rows : Rows) → bag_of (flat_map f (bag_of rows)) ≡ bag_of (flat_map f rows)
+made_sorted f rows =
+    sym (bag_from_permutation row_cmp row_total row_same (flat_map f rows) (flat_map f (bag_of rows)) (IsPermutation-flat_map f rows (bag_of rows) (sort_permutes row_cmp rows)))
+
+pub filter_below_made : (f : List Tree → Rows) (c d : Typed) → ((row : List Tree) → AllByRecursion (λ made. passes c made ≡ passes d row) (f row)) → (rows : Rows)
+    → bag_of (flat_map f (bag_of (filter_rows d rows))) ≡ bag_of (filter_rows c (bag_of (flat_map f rows)))
+filter_below_made f c d goes rows =
+    made_sorted f (filter (passes d) rows)
+    ∙ ap bag_of (sym (filter_goes_in f (passes c) (passes d) goes rows))
+    ∙ sym (filter_sorted (passes c) (flat_map f rows))
+
+-- ---- FOREACH
+
+pub field_is : (e : Typed) (m : ℕ) (row locals : List Tree) → field_of e ≡ Some m → ev e row locals ≡ at m row
+field_is (x_field n) m row locals h = ap (λ k. at k row) (some_same n m h)
+field_is x_null m row locals h = absurd (none-some m h)
+field_is (x_bool b) m row locals h = absurd (none-some m h)
+field_is (x_int z) m row locals h = absurd (none-some m h)
+field_is (x_long z) m row locals h = absurd (none-some m h)
+field_is (x_chars text) m row locals h = absurd (none-some m h)
+field_is (x_local n) m row locals h = absurd (none-some m h)
+field_is (x_chain first links) m row locals h = absurd (none-some m h)
+field_is (x_compare r a b) m row locals h = absurd (none-some m h)
+field_is (x_is_null a negated) m row locals h = absurd (none-some m h)
+field_is (x_not a) m row locals h = absurd (none-some m h)
+field_is (x_minus a) m row locals h = absurd (none-some m h)
+field_is (x_choose test a b) m row locals h = absurd (none-some m h)
+field_is (x_cast to a) m row locals h = absurd (none-some m h)
+field_is (x_project a ns single) m row locals h = absurd (none-some m h)
+field_is (x_look a key) m row locals h = absurd (none-some m h)
+field_is (x_call function args) m row locals h = absurd (none-some m h)
+
+at_behind : (n : ℕ) (v : Tree) (row : List Tree) → (n ≡ 0 → ⊥) → at n (v ∷ row) ≡ at (n - 1) row
+at_behind zero v row h = absurd (h refl)
+at_behind (suc n) v row h = let e : suc n - 1 ≡ n = omega arith in ap (λ k. at k row) (sym e)
+
+-- all rows that begin with one value
+begun : (P : List Tree → Type 0) (v : Tree) (ys : Rows) → AllByRecursion (λ y. P (v ∷ y)) ys → AllByRecursion P (joined ((v ∷ []) ∷ []) ys)
+begun P v ys h = each-append P (map (λ y. (v ∷ []) ++ y) ys) [] (each-map P (λ y. (v ∷ []) ++ y) ys h) tt
+
+module _ (row locals : List Tree) where
+  abbrev made_of : List TypedItem → Rows
+  made_of items = product (map (λ item. item_lists item row locals) items)
+
+  -- the field that an item hands on, in each row that is made
+  lead_given : (items : List TypedItem) (n m : ℕ) → lead_at items n ≡ Some m → AllByRecursion (λ made. at n made ≡ at m row) (made_of items)
+  lead_given [] n m h = absurd (none-some m h)
+  lead_given (item ∷ items) n m h = by_flat item.flatten (λ e. lead_given items (n - 1) m e) h
+    where
+      by_place : (b : Bool) → (n == 0) ≡ b → (lead_at items (n - 1) ≡ Some m → AllByRecursion (λ made. at (n - 1) made ≡ at m row) (made_of items))
+          → (if b then field_of item.value else lead_at items (n - 1)) ≡ Some m → AllByRecursion (λ made. at n made ≡ at m row) (joined ((ev item.value row locals ∷ []) ∷ []) (made_of items))
+      by_place true is rest e =
+          begun (λ made. at n made ≡ at m row) (ev item.value row locals) (made_of items)
+          (each_of_all (λ y. at n (ev item.value row locals ∷ y) ≡ at m row)
+          (λ y. ap (λ k. at k (ev item.value row locals ∷ y)) (eqb-true n 0 is) ∙ field_is item.value m row locals e) (made_of items))
+      by_place false is rest e =
+          begun (λ made. at n made ≡ at m row) (ev item.value row locals) (made_of items)
+          (each_weaker (λ y. at (n - 1) y ≡ at m row) (λ y. at n (ev item.value row locals ∷ y) ≡ at m row)
+          (λ y same. at_behind n (ev item.value row locals) y (λ zero_is. true≢false (sym (eq-eqb n 0 zero_is) ∙ is)) ∙ same) (made_of items) (rest e))
+
+      by_flat : (b : Bool) → (lead_at items (n - 1) ≡ Some m → AllByRecursion (λ made. at (n - 1) made ≡ at m row) (made_of items))
+          → (if b then None else (if n == 0 then field_of item.value else lead_at items (n - 1))) ≡ Some m
+          → AllByRecursion (λ made. at n made ≡ at m row) (joined (if b then flattened item.width (ev item.value row locals) else (ev item.value row locals ∷ []) ∷ []) (made_of items))
+      by_flat true rest e = absurd (none-some m e)
+      by_flat false rest e = by_place (n == 0) refl rest e
+
+one_is : (b : Bool) → b ≡ (b && true)
+one_is true = refl
+one_is false = refl
+
+-- a test of each column is one of all in turn
+mutual
+  pub each_is : (p : ℕ → Bool) (e : Typed) → each_field p e ≡ list_all p (fields_in e)
+  each_is p (x_field n) = one_is (p n)
+  each_is p (x_chain first links) = (λ i. each_is p first i && links_are p links i) ∙ sym (list_all-append p (fields_in first) (link_fields links))
+  each_is p (x_compare r a b) = (λ i. each_is p a i && each_is p b i) ∙ sym (list_all-append p (fields_in a) (fields_in b))
+  each_is p (x_is_null a negated) = each_is p a
+  each_is p (x_not a) = each_is p a
+  each_is p (x_minus a) = each_is p a
+  each_is p (x_choose test a b) =
+      (λ i. each_is p test i && (each_is p a i && each_is p b i)) ∙ ap (λ t. list_all p (fields_in test) && t) (sym (list_all-append p (fields_in a) (fields_in b)))
+      ∙ sym (list_all-append p (fields_in test) (fields_in a ++ fields_in b))
+  each_is p (x_cast to a) = each_is p a
+  each_is p (x_project a ns single) = each_is p a
+  each_is p (x_look a key) = each_is p a
+  each_is p (x_call function args) = args_are p args
+  each_is p x_null = refl
+  each_is p (x_bool b) = refl
+  each_is p (x_int z) = refl
+  each_is p (x_long z) = refl
+  each_is p (x_chars text) = refl
+  each_is p (x_local n) = refl
+
+  links_are : (p : ℕ → Bool) (links : TypedLinks) → each_link p links ≡ list_all p (link_fields links)
+  links_are p no_links = refl
+  links_are p (more_links operator a links) = (λ i. each_is p a i && links_are p links i) ∙ sym (list_all-append p (fields_in a) (link_fields links))
+
+  args_are : (p : ℕ → Bool) (args : TypedArgs) → each_arg p args ≡ list_all p (arg_fields args)
+  args_are p no_args = refl
+  args_are p (more_args e args) = (λ i. each_is p e i && args_are p args i) ∙ sym (list_all-append p (fields_in e) (arg_fields args))
+
+both : (a b : Bool) → (a && b) ≡ true → (a ≡ true) × (b ≡ true)
+both true b e = (refl, e)
+both false b e = absurd (true≢false (sym e))
+
+module _ (block : TypedBlock) (row : List Tree) where
+  handed : (n : ℕ) → is_some (lead_at block.items n) ≡ true → AllByRecursion (λ made. ev (handed_on block n) row [] ≡ at n made) (foreach_rows block row)
+  handed n h = by_found (lead_at block.items n) refl h
+    where
+      by_found : (o : Option ℕ) → lead_at block.items n ≡ o → is_some o ≡ true → AllByRecursion (λ made. ev (handed_on block n) row [] ≡ at n made) (foreach_rows block row)
+      by_found None e g = absurd (true≢false (sym g))
+      by_found (Some m) e g =
+          each_weaker (λ made. at n made ≡ at m row) (λ made. ev (handed_on block n) row [] ≡ at n made)
+          (λ made same. ap (λ o. at (unwrap_or o n) row) e ∙ sym same)
+          (foreach_rows block row) (lead_given row (steps_values block.steps row []) block.items n m e)
+
+  all_handed : (fields : List ℕ) → list_all (λ n. is_some (lead_at block.items n)) fields ≡ true
+      → AllByRecursion (λ made. AllByRecursion (λ n. ev (handed_on block n) row [] ≡ at n made) fields) (foreach_rows block row)
+  all_handed [] h = each_of_all (λ made. AllByRecursion (λ n. ev (handed_on block n) row [] ≡ at n made) []) (λ made. tt) (foreach_rows block row)
+  all_handed (n ∷ fields) h =
+      let two = both (is_some (lead_at block.items n)) (list_all (λ k. is_some (lead_at block.items k)) fields) h in
+      each_both (λ made. ev (handed_on block n) row [] ≡ at n made) (λ made. AllByRecursion (λ k. ev (handed_on block k) row [] ≡ at k made) fields)
+      (λ made. AllByRecursion (λ k. ev (handed_on block k) row [] ≡ at k made) (n ∷ fields)) (λ made a b. (a, b))
+      (foreach_rows block row) (handed n two.0) (all_handed fields two.1)
+
+  pub passes_made : (c : Typed) → hands_all block c ≡ true → AllByRecursion (λ made. passes c made ≡ passes (put (handed_on block) c) row) (foreach_rows block row)
+  passes_made c h =
+      each_weaker (λ made. AllByRecursion (λ n. ev (handed_on block n) row [] ≡ at n made) (fields_in c)) (λ made. passes c made ≡ passes (put (handed_on block) c) row)
+      (λ made gives. ap is_true (sym (puts (handed_on block) row made [] c gives)))
+      (foreach_rows block row) (all_handed (fields_in c) (sym (each_is (is_handed block.items) c) ∙ h))
+
+pub filter_below_foreach : (block : TypedBlock) (c : Typed) → hands_all block c ≡ true → (rows : Rows)
+    → bag_of (foreach_all block (bag_of (filter_rows (put (handed_on block) c) rows))) ≡ bag_of (filter_rows c (bag_of (foreach_all block rows)))
+filter_below_foreach block c h rows = filter_below_made (foreach_rows block) c (put (handed_on block) c) (λ row. passes_made block row c h) rows

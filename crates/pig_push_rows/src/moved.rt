@@ -1,0 +1,330 @@
+// Plans, and what is live of them once conditions have moved. Where memory is wanting the process
+// ends: that drops nothing, so its proof is short. Trees end by `drop`: one call is cheap to prove,
+// and a tree that dies by name is taken apart variant by variant.
+use pig_plan::{KeyedInput, KeyedInputs, Node, NodeOp, Plan, live_numbers};
+use pig_push::push;
+use pig_typed::{
+    Block, BlockItem, BlockItems, BlockSteps, SortKey, SortKeys, TExpr, TExprs, TLink, TLinks,
+};
+use pig_value::{Boxed, ChainOp, Column, Columns, Delim, Dir, Kind, Numbers, Seq, Text};
+use std::alloc::Global;
+use std::process::Abort;
+
+/// Adds to a list.
+fn put<R: Abort, T: Drop>(rt: &R, list: &mut Seq<T>, item: T) {
+    list.push(item).expect(rt, "memory");
+}
+
+/// Adds to a text.
+fn add<R: Abort>(rt: &R, into: &mut String, text: &str) {
+    into.push_str(text).expect(rt, "memory");
+}
+
+/// Adds a number to a text.
+fn add_number<R: Abort>(rt: &R, alloc: Global, into: &mut String, number: u32) {
+    let digits = format!(in alloc; "{number}").expect(rt, "memory");
+    add(rt, into, digits.as_str());
+}
+
+/// The number that a digit is.
+fn digit(byte: u8) -> u32 {
+    u32::from(byte.saturating_sub(b'0'))
+}
+
+/// The numbers that digits are.
+fn digits<R: Abort>(rt: &R, alloc: Global, bytes: &[u8]) -> Numbers {
+    let mut numbers = Numbers::new(alloc);
+    for byte in bytes {
+        put(rt, &mut numbers, digit(*byte));
+    }
+    numbers
+}
+
+/// A LOAD of two chararrays.
+fn load<R: Abort>(rt: &R, alloc: Global, path: &str) -> NodeOp {
+    let mut columns = Columns::new(alloc);
+    for position in 0..2 {
+        let kind = Kind::Chararray;
+        put(rt, &mut columns, Column { position, kind });
+    }
+    NodeOp::Load {
+        path: Text::from_str(alloc, path).expect(rt, "memory"),
+        delim: Delim::tab(),
+        columns,
+    }
+}
+
+fn store<R: Abort>(rt: &R, alloc: Global, input: u32, path: &str) -> NodeOp {
+    NodeOp::Store {
+        input,
+        path: Text::from_str(alloc, path).expect(rt, "memory"),
+        delim: Delim::tab(),
+    }
+}
+
+/// The first field, ascending.
+fn by_first<R: Abort>(rt: &R, alloc: Global) -> SortKeys {
+    let mut keys = SortKeys::new(alloc);
+    let (position, dir) = (0, Dir::Asc);
+    put(rt, &mut keys, SortKey { position, dir });
+    keys
+}
+
+/// That a column is there, or for a letter that which always holds.
+fn test<R: Abort>(rt: &R, alloc: Global, byte: u8) -> TExpr {
+    if byte == b't' {
+        return TExpr::Bool(true);
+    }
+    TExpr::IsNull {
+        a: Boxed::new(alloc, TExpr::Field(digit(byte))).expect(rt, "memory"),
+        not: true,
+    }
+}
+
+/// All of these tests.
+fn tests<R: Abort>(rt: &R, alloc: Global, bytes: &[u8]) -> TExpr {
+    let [first, more @ ..] = bytes else {
+        return TExpr::Bool(true);
+    };
+    let first = test(rt, alloc, *first);
+    if more.is_empty() {
+        return first;
+    }
+    let mut rest = TLinks::new(alloc);
+    for byte in more {
+        let (op, a) = (ChainOp::And, test(rt, alloc, *byte));
+        put(rt, &mut rest, TLink { op, a });
+    }
+    TExpr::Chain {
+        first: Boxed::new(alloc, first).expect(rt, "memory"),
+        rest,
+    }
+}
+
+/// An item of a FOREACH: a column, `F` for the first one under FLATTEN, or `c` for what is
+/// computed.
+fn item(byte: u8) -> BlockItem {
+    let value = match byte {
+        b'c' => TExpr::Int(1),
+        b'F' => TExpr::Field(0),
+        _ => TExpr::Field(digit(byte)),
+    };
+    BlockItem {
+        value,
+        flatten: byte == b'F',
+        width: 1,
+    }
+}
+
+fn block<R: Abort>(rt: &R, alloc: Global, bytes: &[u8]) -> Block {
+    let mut items = BlockItems::new(alloc);
+    for byte in bytes {
+        put(rt, &mut items, item(*byte));
+    }
+    Block {
+        steps: BlockSteps::new(alloc),
+        items,
+    }
+}
+
+/// A GROUP by columns, or `c` for what is computed.
+fn group<R: Abort>(rt: &R, alloc: Global, input: u32, bytes: &[u8]) -> NodeOp {
+    let mut keys = TExprs::new(alloc);
+    for byte in bytes {
+        put(rt, &mut keys, item(*byte).value);
+    }
+    let inner = false;
+    let mut inputs = KeyedInputs::new(alloc);
+    put(rt, &mut inputs, KeyedInput { input, keys, inner });
+    NodeOp::Group { inputs }
+}
+
+/// The node of a word: a letter, the digit of its input, and what else it has: `La`, `f001` (FILTER
+/// of node 0 where its columns 0 and 1 are there), `g010` (FOREACH of node 0 with columns 1 and 0),
+/// `k01` (GROUP of node 0 by column 1), `d0`, `u01`, `o0`, `l0`, `a0`, `s4p`.
+fn op<R: Abort>(rt: &R, alloc: Global, word: &str) -> NodeOp {
+    let [letter, rest @ ..] = word.as_bytes() else {
+        return load(rt, alloc, "c");
+    };
+    let [first, more @ ..] = rest else {
+        return load(rt, alloc, "c");
+    };
+    let input = digit(*first);
+    match *letter {
+        b'f' => NodeOp::Filter {
+            input,
+            cond: tests(rt, alloc, more),
+        },
+        b'g' => NodeOp::Foreach {
+            input,
+            block: block(rt, alloc, more),
+        },
+        b'k' => group(rt, alloc, input, more),
+        b'u' => NodeOp::Union {
+            inputs: digits(rt, alloc, rest),
+        },
+        b'd' => NodeOp::Distinct { input },
+        b'a' => NodeOp::Assert {
+            input,
+            cond: TExpr::Bool(true),
+            message: None,
+        },
+        b'o' => NodeOp::Order {
+            input,
+            keys: by_first(rt, alloc),
+        },
+        b'l' => NodeOp::Limit { input, count: 1 },
+        b's' => store(rt, alloc, input, "p"),
+        _ => load(rt, alloc, "a"),
+    }
+}
+
+/// The plan of words, each a node.
+fn plan<R: Abort>(rt: &R, alloc: Global, words: &str) -> Plan {
+    let mut plan = Plan::empty(alloc);
+    let mut statement = 1;
+    for word in words.split(' ') {
+        let op = op(rt, alloc, word);
+        add_fitting(rt, &mut plan, Node { op, statement });
+        statement = if statement < 99 { statement + 1 } else { 99 };
+    }
+    plan
+}
+
+fn add_fitting<R: Abort>(rt: &R, plan: &mut Plan, node: Node) {
+    let Ok(fits) = plan.fits(&node) else {
+        panic!(rt; "memory");
+    };
+    if fits {
+        plan.add(node).expect(rt, "memory");
+    } else {
+        drop(node);
+    }
+}
+
+/// The column that a test asks for.
+fn column<R: Abort>(rt: &R, alloc: Global, into: &mut String, e: &TExpr) {
+    match e {
+        TExpr::Field(n) => add_number(rt, alloc, into, *n),
+        TExpr::Bool(_) => add(rt, into, "t"),
+        _ => add(rt, into, "?"),
+    }
+}
+
+fn tested<R: Abort>(rt: &R, alloc: Global, into: &mut String, e: &TExpr) {
+    match e {
+        TExpr::IsNull { a, not: _ } => column(rt, alloc, into, a.get()),
+        _ => column(rt, alloc, into, e),
+    }
+}
+
+/// The columns that tests ask for, those of a chain in their order.
+fn chained<R: Abort>(rt: &R, alloc: Global, into: &mut String, e: &TExpr) {
+    match e {
+        TExpr::Chain { first, rest } => {
+            tested(rt, alloc, into, first.get());
+            for link in rest.as_slice() {
+                tested(rt, alloc, into, &link.a);
+            }
+        }
+        _ => tested(rt, alloc, into, e),
+    }
+}
+
+/// The columns that a condition asks for; chains of a chain stand in brackets.
+fn asked<R: Abort>(rt: &R, alloc: Global, into: &mut String, e: &TExpr) {
+    match e {
+        TExpr::Chain { first, rest } => {
+            add(rt, into, "(");
+            chained(rt, alloc, into, first.get());
+            for link in rest.as_slice() {
+                add(rt, into, ",");
+                chained(rt, alloc, into, &link.a);
+            }
+            add(rt, into, ")");
+        }
+        _ => tested(rt, alloc, into, e),
+    }
+}
+
+fn op_told<R: Abort>(rt: &R, alloc: Global, into: &mut String, op: &NodeOp) {
+    match op {
+        NodeOp::Load { .. } => add(rt, into, "L"),
+        NodeOp::Filter { input: _, cond } => {
+            add(rt, into, "f");
+            asked(rt, alloc, into, cond);
+        }
+        NodeOp::Foreach { .. } => add(rt, into, "g"),
+        NodeOp::Distinct { .. } => add(rt, into, "d"),
+        NodeOp::Group { .. } => add(rt, into, "k"),
+        NodeOp::Store { .. } => add(rt, into, "s"),
+        _ => add(rt, into, "-"),
+    }
+}
+
+/// A live node: its number, its operator, and the numbers of its inputs.
+fn node_told<R: Abort>(rt: &R, alloc: Global, into: &mut String, plan: &Plan, number: usize) {
+    let own = format!(in alloc; " {number}").expect(rt, "memory");
+    add(rt, into, own.as_str());
+    if let Some(node) = plan.nodes().get(number) {
+        op_told(rt, alloc, into, &node.op);
+        let inputs = node.op.inputs(alloc).expect(rt, "memory");
+        for input in inputs.as_slice() {
+            let named = format!(in alloc; ".{input}").expect(rt, "memory");
+            add(rt, into, named.as_str());
+        }
+    }
+}
+
+/// The live nodes of the plan once its conditions have moved.
+fn told<R: Abort>(rt: &R, alloc: Global, words: &str) -> String {
+    let pushed = push(alloc, plan(rt, alloc, words)).expect(rt, "memory");
+    let live = live_numbers(alloc, &pushed).expect(rt, "memory");
+    let mut told = String::new(alloc);
+    for number in live.as_slice() {
+        node_told(rt, alloc, &mut told, &pushed, *number);
+    }
+    drop(pushed);
+    told
+}
+
+// The words of a plan, and the live nodes once conditions have moved: below a FILTER, a DISTINCT, a
+// FOREACH that hands the columns on, and a GROUP by the one column that is named; not below what is
+// computed, FLATTEN, a bag, several keys, ORDER, LIMIT, ASSERT, UNION or LOAD, nor below what two
+// nodes read.
+const TOLD: &str = "La f00 f11 s2p: 0L 2f(0,1).0 3s.2
+La f001 f11 s2p: 0L 2f(01,1).0 3s.2
+La d0 f10 s2p: 0L 1f0.0 2d.1 3s.2
+La d0 f1t s2p: 0L 1ft.0 2d.1 3s.2
+La g010 f10 s2p: 0L 1f1.0 2g.1 3s.2
+La g010 f101 s2p: 0L 1f(1,0).0 2g.1 3s.2
+La g01c f10 s2p: 0L 1f1.0 2g.1 3s.2
+La g01c f11 s2p: 0L 1g.0 2f1.1 3s.2
+La g01c f101 s2p: 0L 1g.0 2f(0,1).1 3s.2
+La g01F f10 s2p: 0L 1f1.0 2g.1 3s.2
+La g0F1 f11 s2p: 0L 1g.0 2f1.1 3s.2
+La d0 g110 f20 s3p: 0L 1f1.0 2d.1 3g.2 4s.3
+La f00 d1 f21 s3p: 0L 2f(0,1).0 3d.2 4s.3
+La o0 f10 s2p: 0L 1-.0 2f0.1 3s.2
+La l0 f10 s2p: 0L 1-.0 2f0.1 3s.2
+La a0 f10 s2p: 0L 1-.0 2f0.1 3s.2
+La u00 f10 s2p: 0L 1-.0.0 2f0.1 3s.2
+La k01 f10 s2p: 0L 1f1.0 2k.1 3s.2
+La k01 f1t s2p: 0L 1ft.0 2k.1 3s.2
+La k01 f11 s2p: 0L 1k.0 2f1.1 3s.2
+La k01 f101 s2p: 0L 1k.0 2f(0,1).1 3s.2
+La k001 f10 s2p: 0L 1k.0 2f0.1 3s.2
+La k0c f10 s2p: 0L 1k.0 2f0.1 3s.2
+La f00 s1p: 0L 1f0.0 2s.1
+La d0 f10 u12 s3p: 0L 1d.0 2f0.1 3-.1.2 4s.3
+La d0 f10 d1 s2p: 0L 1f0.0 2d.1 4s.2
+";
+
+#[test]
+fn where_conditions_go(rt: HostRuntime) {
+    for line in TOLD.lines() {
+        let (words, want) = line.split_once(':').unwrap_or((line, ""));
+        let got = told(&rt, rt.alloc(), words);
+        assert_eq!(rt; got.as_str(), want, "at {words}");
+    }
+}
