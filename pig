@@ -4,10 +4,20 @@
 root=$(cd "$(dirname "$0")" && pwd) || exit 70
 program=$root/crates/pig/out/pig
 built=$root/crates/pig/out/pig.sources
-sources=$("$root/.ci/sources") || exit 70
-if [ ! -x "$program" ] || [ "$(cat "$built" 2>/dev/null)" != "$sources" ]; then
-    rm -f "$program" "$built"
-    "$root/.ci/build" || exit 70
+
+# touched: whether a source, or the toolchain, was written after the program was. The checksum of all takes longer than most runs.
+touched() {
+    toolchain=$(command -v rt) || toolchain=$built
+    [ -n "$(cd "$root" && find -L crates.txt HANDLES crates "$toolchain" \
+        \( -path '*/out' -o -path '*/must-fail' -o -name '*.md' \) -prune -o -newer "$built" -print -quit 2>&1)" ]
+}
+
+if [ ! -x "$program" ] || [ ! -e "$built" ] || touched; then
+    sources=$("$root/.ci/sources") || exit 70
+    if [ ! -x "$program" ] || [ "$(cat "$built" 2>/dev/null)" != "$sources" ]; then
+        rm -f "$program" "$built"
+        "$root/.ci/build" || exit 70
+    fi
     printf '%s\n' "$sources" > "$built"
 fi
 exec "$program" "$@"
