@@ -1,10 +1,10 @@
 mod Cutting
 mod Endings
 mod Lesser
-mod Handing
 mod Keeps
 mod Owned
 mod Alive
 mod Heading
 mod LinesRead
 mod Telling
+mod Left

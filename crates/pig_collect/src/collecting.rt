@@ -7,10 +7,9 @@ ghost use Rattle.pig_physical.specs.Running as running;
 ghost use Rattle.pig_physical.specs.Running.{AreOutputs, all_unmet};
 ghost use Rattle.pig_physical.specs.Seen.{staged};
 ghost use Rattle.pig_physical.specs.Stages.{heads, stores as stores_at};
-ghost use Rattle.pig_driver.specs.Standing.{AreStanding};
-ghost use Rattle.pig_collect.specs.Collecting.{entries_handed, least, lines_in, part_count, parts_given};
+ghost use Rattle.pig_collect.specs.Collecting.{HasStoreOutputs, least, lines_in, part_count, parts_given};
 
-use crate::counts::{entries_handed, lines_in};
+use crate::counts::lines_in;
 use crate::kept::kept;
 use crate::parts::store_parts;
 use crate::unmet::least_unmet;
@@ -29,8 +28,6 @@ pub struct Collected {
     pub kept: KeptList,
     /// The number of lines that tasks read, modulo 2 to the 64.
     pub read: u64,
-    /// The number of entries that map tasks handed on, modulo 2 to the 64.
-    pub shuffled: u64,
     /// The statement of the first ASSERT that some task's rows don't meet.
     pub unmet: Option<u32>,
 }
@@ -43,8 +40,7 @@ pub fn collect(
     stores: &[Store],
     outs: Outs,
 ) -> Result<Collected, AllocError>
-    requires standing { AreStanding (staged stages.now) (outs_of outs)
-        (length (heads (staged stages.now).plan)) }
+    requires parts { HasStoreOutputs (staged stages.now) (outs_of outs) }
     requires waves { length outs ≡ length (heads (staged stages.now).plan) }
     requires stores { stores.now ≡ stores_of (staged stages.now).plan }
     ensures statements { IfOk result (λ c. map (λ part. part.statement) c.parts
@@ -58,20 +54,16 @@ pub fn collect(
         ≡ map (part_count (staged stages.now)) (stores_at (staged stages.now).plan)) }
     ensures kept { IfOk result (λ c. AreOutputs (staged stages.now).plan (outs_of outs) c.kept) }
     ensures read { IfOk result (λ c. c.read ≡ lines_in (outs_of outs) % 2 ^ 64) }
-    ensures shuffled { IfOk result (λ c. c.shuffled
-        ≡ entries_handed (staged stages.now) (outs_of outs) % 2 ^ 64) }
     ensures unmet { IfOk result (λ c. c.unmet ≡ least (all_unmet (outs_of outs))) }
 {
     let kept = kept(alloc, stages.plan(), outs.as_slice())?;
     let read = lines_in(outs.as_slice());
-    let shuffled = entries_handed(stages, outs.as_slice());
     let unmet = least_unmet(outs.as_slice());
     let parts = store_parts(alloc, stages, stores, outs)?;
     Ok(Collected {
         parts,
         kept,
         read,
-        shuffled,
         unmet,
     })
 }

@@ -11,5 +11,5 @@ mod sorted;
 mod unmet;
 
 pub use collecting::{Collected, collect};
-pub use laws::{runs_read_lines, runs_tell_the_first_unmet};
+pub use laws::{runs_read_lines, runs_tell_the_first_unmet, what_is_left_tells_the_same};
 pub use lines::stored_lines;

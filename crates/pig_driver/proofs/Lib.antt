@@ -7,3 +7,7 @@ mod Rights
 mod Stepping
 mod Few
 mod Begun
+mod Counting
+mod Left
+mod Looks
+mod Over

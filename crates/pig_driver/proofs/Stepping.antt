@@ -2,7 +2,7 @@
 use Rattle.std.specs.Prelude.{◌≡◌, ◌<◌, ◌≤◌, ◌+◌, ◌-◌, ◌⊎◌, ℕ, Bool, true, false, List, [], ◌∷◌, ◌++◌, length, map, Option, Some, None, All, slice_get, zero, suc, refl}
 use Rattle.std.proofs.Common.{ap, sym, ◌∙◌, arith, inl, inr, subst}
 use Rattle.std.specs.List.{AllByRecursion, range_with_len}
-use Rattle.std.specs.Option.{ForSome, option_map, option_map_or, unwrap_or}
+use Rattle.std.specs.Option.{ForSome, option_map, unwrap_or}
 use Rattle.std.proofs.lemmas.Bool.{cases_lt}
 use Rattle.std.proofs.lemmas.List.{length-append, length-map}
 use Rattle.std.proofs.lemmas.List.FromFn.{length-range_with_len}
@@ -26,7 +26,7 @@ use Rattle.pig_board.specs.declared.end.TaskEnd.{TaskEnd}
 use Rattle.pig_physical.specs.Handed.{out_of}
 use Rattle.pig_physical.specs.Outs.{Outs, TaskOut, outs_at}
 use Rattle.pig_physical.specs.Running.{AreCuts, AreSizes, IsRun}
-use Rattle.pig_physical.specs.Stages.{Stages, Task, first_wave, head_of, heads, tasks_in, tasks_of}
+use Rattle.pig_physical.specs.Stages.{Stages, Task, first_wave, head_of, heads, tasks_in}
 use Rattle.pig_physical.specs.Values.{IsValue}
 use Rattle.pig_physical.specs.declared.outputs.Out as out
 use Rattle.pig_physical.specs.declared.waves.WaveKind.TheVariants as kinds
@@ -37,6 +37,7 @@ use Rattle.pig_driver.specs.Failing.{HaveWon}
 use Rattle.pig_driver.specs.Going.{AllTell, AreValues, AreWon, HasRunAll, HasRunTo, TellSizes}
 use Rattle.pig_driver.specs.Slicing.{AreDirected, AreSliced}
 use Rattle.pig_driver.specs.Sorting.{AreBetween, BetweenBy, wave_sorts}
+use Rattle.pig_driver.proofs.Looks.{past_tasks}
 use Rattle.pig_driver.proofs.Rights.{AreRight, are_cuts, directed, plain_new, plain_values, sliced_new, sliced_values}
 use Rattle.pig_driver.proofs.Sorting.{IsSorting, plain_wave, sorting_wave}
 use Rattle.pig_driver.proofs.Standing.{its_head, reads_told}
@@ -165,16 +166,13 @@ module _ (s : Stages) (valid : IsPlan s.plan) (staged : HaveStages s.plan) where
 
   -- ---- all waves
 
-  past_tasks : (v : ℕ) → length (heads s.plan) ≤ v → tasks_in s v ≡ []
-  past_tasks v over = ap (λ found. option_map_or (tasks_of s v) found []) (slice_get_past (heads s.plan) v over)
-
   run_is : (inputs : List Input) (outs : Outs) (points : List (List Point)) → AreSizes s inputs → length outs ≡ length (heads s.plan) → AreValues s inputs points outs (length (heads s.plan)) → IsRun s inputs (at_place [] points) outs
   run_is inputs outs points sizes size are = record {
     sizes = sizes;
     cuts = λ k o keys at alive by. are.cuts k o keys at alive by (slice_get_within (heads s.plan) (first_wave s.plan k) (head_of s.plan k kinds.Map) (sorting_head k o keys at alive by));
     values = λ v. elim (cases_lt v (length (heads s.plan))) [
       | inl less ↦ are.values v less
-      | inr over ↦ subst (λ tasks. Each (IsValue s inputs (Some (at_place [] points v)) outs) tasks (outs_at outs v)) (sym (past_tasks v over))
+      | inr over ↦ subst (λ tasks. Each (IsValue s inputs (Some (at_place [] points v)) outs) tasks (outs_at outs v)) (sym (past_tasks s v over))
           (subst (λ found. Each (IsValue s inputs (Some (at_place [] points v)) outs) [] found) (sym (ap (λ o. unwrap_or o []) (slice_get_past outs v (omega (arith, over, size))))) tt)
     ];
   }

@@ -4,3 +4,5 @@ pub mod Going
 pub mod Sorting
 pub mod Failing
 pub mod Begun
+pub mod Handing
+pub mod Left

@@ -1,4 +1,5 @@
-//! What the waves of stages find of those before them, and what they read.
+//! What the waves of stages find of those before them, what they read, and what is left when they have run.
+ghost use Rattle.pig_driver.specs.Left.{WhatIsLeftStands};
 ghost use Rattle.pig_driver.specs.Standing.{FewTasksFit, WavesFindWhatTheyName, WavesReadToldInputs};
 
 /// Where the outputs of the first waves stand, the tasks of the next one find what they name.
@@ -15,4 +16,9 @@ pub fn waves_read_told_inputs()
 /// than that.
 pub fn few_tasks_fit()
     ensures { FewTasksFit }
+{}
+
+/// What is looked at when all waves have run is left of their outputs.
+pub fn what_is_left_stands()
+    ensures { WhatIsLeftStands }
 {}

@@ -8,13 +8,16 @@ ghost use Rattle.pig_pool.specs.Begins.{crew_tells};
 ghost use Rattle.pig_pool.specs.Wave.{failures_in};
 ghost use Rattle.pig_waves.specs.Laws.{HaveStages};
 ghost use Rattle.pig_driver.specs.Begun.{FaultBegun, FaultNext, IsBegunNext, WavesBegun};
-ghost use Rattle.pig_driver.specs.Going.{AreWon, HasRunAll, HasRunTo, TellSizes};
+ghost use Rattle.pig_driver.specs.Going.{AreWon, TellSizes};
+ghost use Rattle.pig_driver.specs.Left.{IsGoing, IsOver};
 ghost use Rattle.pig_driver.specs.Standing.{HaveFewTasks};
 ghost use Rattle.pig_driver.specs.Failing.{HasFailed, IsTaskIn, IsToldAs};
 ghost use Rattle.pig_driver.specs.declared.running.StagesFault.TheVariants.{OutOfMemory};
 
 use crate::between::between;
+use crate::handing::handed_in;
 use crate::laws::{waves_find_what_they_name, waves_read_told_inputs};
+use crate::leaving::{last_looks, let_go};
 use pig_board::JobEnd;
 use pig_outside::Host;
 use pig_physical::{Outs, Stages};
@@ -27,6 +30,14 @@ use std::thread::Threads;
 
 /// What stands of the tasks of each wave that ended, in order.
 pub type JobEnds = Seq<JobEnd>;
+
+/// What is left when waves have run: the outputs that are looked at later, of the others how many lines were read and
+/// which ASSERTs are not met; and how many entries map tasks handed on, modulo 2 to the 64.
+#[derive(Drop)]
+pub struct Ran {
+    pub outs: Outs,
+    pub shuffled: u64,
+}
 
 /// Why stages gave no outputs.
 #[derive(Drop)]
@@ -67,9 +78,9 @@ fn stages_fault(wave: u32, fault: WaveFault, ends: &mut JobEnds) -> StagesFault
 }
 
 /// Runs the waves of stages on hosts, one after the other: each on all hosts, with as many attempts
-/// of a task as may fail. The outputs are those of a run over the inputs that all hosts tell; each
-/// task has one winner, and the begins that hosts tell are its attempts. `ends` is left with the
-/// end of each wave that has won, and behind them that of the wave that failed.
+/// of a task as may fail. The outputs are left of those of a run over the inputs that all hosts tell: what no later
+/// wave looks at has gone. Each task has one winner, and the begins that hosts tell are its attempts. `ends` is left
+/// with the end of each wave that has won, and behind them that of the wave that failed.
 pub fn run_stages<R: Threads + Sync, H: Host + Send>(
     rt: &R,
     alloc: Global,
@@ -77,7 +88,7 @@ pub fn run_stages<R: Threads + Sync, H: Host + Send>(
     hosts: &mut [H],
     limit: u32,
     ends: &mut JobEnds,
-) -> Result<Outs, StagesFault>
+) -> Result<Ran, StagesFault>
     requires hosts { (0 < length hosts.old) × (length hosts.old ≤ 256) }
     requires limit { (0 < limit) × (limit ≤ 16) }
     requires some { 0 < (staged stages.now).sizing.reducers }
@@ -85,8 +96,8 @@ pub fn run_stages<R: Threads + Sync, H: Host + Send>(
     requires few { HaveFewTasks (staged stages.now) }
     requires sizes { TellSizes (staged stages.now) (map H.inputs hosts.old) }
     requires none { ends.old ≡ [] }
-    ensures run { IfOk result (λ outs. HasRunAll (staged stages.now)
-        (map H.inputs hosts.old) (outs_of outs)) }
+    ensures run { IfOk result (λ ran. IsOver (staged stages.now)
+        (map H.inputs hosts.old) (outs_of ran.outs) ran.shuffled) }
     ensures won { IfOk result (λ _. AreWon (staged stages.now) ends.new
         (length (heads (staged stages.now).plan))) }
     ensures begun { MatchResult result
@@ -105,11 +116,16 @@ pub fn run_stages<R: Threads + Sync, H: Host + Send>(
     ensures later { sum_by H.faults hosts.old ≤ sum_by H.faults hosts.new }
 {
     let _nodes = stages.plan().nodes();
-    let mut outs = Outs::new(alloc);
+    let lasts = last_looks(alloc, stages)?;
+    let mut ran = Ran {
+        outs: Outs::new(alloc),
+        shuffled: 0,
+    };
     for wave in 0..stages.waves() {
-        run_one(rt, alloc, stages, wave, hosts, limit, &mut outs, ends)?;
+        run_one(rt, alloc, stages, wave, hosts, limit, &mut ran, ends)?;
+        let_go(alloc, lasts.as_slice(), wave, &mut ran.outs);
     }
-    Ok(outs)
+    Ok(ran)
 }
 
 // One wave behind those that ran.
@@ -120,7 +136,7 @@ fn run_one<R: Threads + Sync, H: Host + Send>(
     wave: u32,
     hosts: &mut [H],
     limit: u32,
-    outs: &mut Outs,
+    ran: &mut Ran,
     ends: &mut JobEnds,
 ) -> Result<(), StagesFault>
     requires wave { wave < length (heads (staged stages.now).plan) }
@@ -131,10 +147,11 @@ fn run_one<R: Threads + Sync, H: Host + Send>(
     requires staged { HaveStages (staged stages.now).plan }
     requires few { HaveFewTasks (staged stages.now) }
     requires sizes { TellSizes (staged stages.now) (map H.inputs hosts.old) }
-    requires run { HasRunTo (staged stages.now) (map H.inputs hosts.old) (outs_of outs.old) wave }
+    requires run { IsGoing (staged stages.now) (map H.inputs hosts.old) (outs_of ran.old.outs)
+        ran.old.shuffled wave wave }
     requires won { AreWon (staged stages.now) ends.old wave }
-    ensures run { OnOk result (HasRunTo (staged stages.now) (map H.inputs hosts.old)
-        (outs_of outs.new) (wave + 1)) }
+    ensures run { OnOk result (IsGoing (staged stages.now) (map H.inputs hosts.old)
+        (outs_of ran.new.outs) ran.new.shuffled (wave + 1) wave) }
     ensures won { OnOk result (AreWon (staged stages.now) ends.new (wave + 1)) }
     ensures begun { MatchResult result
         (λ _. IsBegunNext wave ends.old ends.new
@@ -154,7 +171,7 @@ fn run_one<R: Threads + Sync, H: Host + Send>(
     waves_find_what_they_name();
     waves_read_told_inputs();
     run_laws();
-    let ended = run_stage(rt, alloc, stages, wave, outs, hosts, limit);
+    let ended = run_stage(rt, alloc, stages, wave, &ran.outs, hosts, limit);
     let WaveEnd {
         outs: found,
         end,
@@ -165,6 +182,8 @@ fn run_one<R: Threads + Sync, H: Host + Send>(
     };
     ends.push(end)?;
     let found = between(alloc, stages, wave, found)?;
-    outs.push(found)?;
+    let handed = handed_in(stages, wave, found.as_slice());
+    ran.outs.push(found)?;
+    ran.shuffled = ran.shuffled.wrapping_add(handed);
     Ok(())
 }

@@ -1,5 +1,5 @@
 //! The rows of a task's part, taken through steps.
-ghost use Rattle.std.specs.Prelude.{◌≡◌, ◌<◌, [], get_or, length, map, slice_get, IfOk, IfSome, IfNone, OnOk};
+ghost use Rattle.std.specs.Prelude.{◌≡◌, ◌<◌, ◌≤◌, [], get_or, length, map, slice_get, IfOk, IfSome, IfNone, OnOk};
 ghost use Rattle.std.specs.Option.{ForSome, option_map, option_map_or};
 ghost use Rattle.pig_value.specs.Valid.{IsValue};
 ghost use Rattle.pig_outside.specs.Faults.{HasCause};
@@ -55,9 +55,26 @@ fn take_split<H: Host, S: Stop, K: Sink>(
         path: load.path.as_str(),
         number: split.piece,
         length: length_of(stages, load.path, split.piece),
-        block,
+        block: block_for(split, block),
     };
     take_lines(alloc, host, stop, &piece, split, load, steps, sink)
+}
+
+// At least so many bytes are read at once, where a block may be as long.
+const LEAST: u32 = 4_096;
+
+// A block that is no longer than a split, whose lines mostly end next to it.
+fn block_for(split: Split, block: u32) -> u32
+    requires { 0 < block }
+    ensures some { 0 < result }
+    ensures most { result ≤ block }
+{
+    let length = split.to.saturating_sub(split.from);
+    if length < u64::from(block) {
+        (length as u32).max(block.min(LEAST))
+    } else {
+        block
+    }
 }
 
 /// The operator of the node of a number.

@@ -2,8 +2,8 @@ use Rattle.std.proofs.Common.{◌≡◌, ◌+◌, ◌%◌, ◌^◌, drop, map}
 use Rattle.pig_physical.specs.Handed.{out_of}
 use Rattle.pig_physical.specs.Seen.{staged}
 use Rattle.pig_physical.specs.Stages.{tasks_in}
-use Rattle.pig_collect.specs.Collecting.{handed_in}
-use Rattle.pig_collect.proofs.counts.handed_in.Given as goal
+use Rattle.pig_driver.specs.Handing.{handed_in}
+use Rattle.pig_driver.proofs.handing.handed_in.Given as goal
 
 abbrev pub invariant-loop-at : goal.invariant-loop-at
 invariant-loop-at l =

@@ -1,7 +1,7 @@
 use Rattle.pig_physical.specs.Handed.{runs_of_out}
 use Rattle.std.proofs.Common.{length}
-use Rattle.pig_collect.proofs.Handing.{counts_place}
-use Rattle.pig_collect.proofs.counts.entries_of.Goals as goal
+use Rattle.pig_driver.proofs.Counting.{counts_place}
+use Rattle.pig_driver.proofs.handing.entries_of.Goals as goal
 
 pub loop-at-preserved : goal.loop-at-preserved
 loop-at-preserved c =

@@ -3,8 +3,8 @@ use Rattle.std.proofs.lemmas.List.{length-map}
 use Rattle.pig_physical.specs.Handed.{out_of}
 use Rattle.pig_physical.specs.Seen.{staged, task_of}
 use Rattle.pig_physical.specs.Stages.{tasks_in, ways_in}
-use Rattle.pig_collect.proofs.Handing.{handed_all, handed_on, out_at}
-use Rattle.pig_collect.proofs.counts.handed_in.Goals as goal
+use Rattle.pig_driver.proofs.Counting.{handed_all, handed_on, out_at}
+use Rattle.pig_driver.proofs.handing.handed_in.Goals as goal
 
 pub loop-at-preserved : goal.loop-at-preserved
 loop-at-preserved c =

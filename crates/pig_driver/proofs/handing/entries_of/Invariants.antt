@@ -1,7 +1,7 @@
 use Rattle.std.proofs.Common.{◌≡◌, ◌+◌, ◌%◌, ◌^◌, drop, length}
 use Rattle.std.specs.List.{sum_by}
 use Rattle.pig_physical.specs.Handed.{runs_of_out}
-use Rattle.pig_collect.proofs.counts.entries_of.Given as goal
+use Rattle.pig_driver.proofs.handing.entries_of.Given as goal
 
 abbrev pub invariant-loop-at : goal.invariant-loop-at
 invariant-loop-at l =
