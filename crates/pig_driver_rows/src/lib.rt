@@ -8,7 +8,11 @@ mod comparing;
 #[cfg(test)]
 mod host;
 #[cfg(test)]
+mod making;
+#[cfg(test)]
 mod plans;
+#[cfg(test)]
+mod random;
 #[cfg(test)]
 mod running;
 #[cfg(test)]

@@ -1,6 +1,8 @@
 // Plans from short words. Where memory is wanting the process ends: that drops nothing, so its proof is short.
 use pig_plan::{KeyedInput, KeyedInputs, Node, NodeOp, Plan};
-use pig_typed::{Block, BlockItem, SortKey, SortKeys, TExpr, TLink};
+use pig_typed::{
+    Block, BlockItem, BlockItems, BlockStep, BlockSteps, SortKey, SortKeys, TExpr, TLink,
+};
 use pig_value::{
     Boxed, ChainOp, Column, Columns, Delim, Dir, Function, Kind, Numbers, Rel, Seq, Side, Text,
 };
@@ -48,6 +50,12 @@ fn above<R: Abort>(rt: &R, alloc: Global) -> TExpr {
     TExpr::Compare { op: Rel::Gt, a, b }
 }
 
+/// A first field that is null.
+fn is_null<R: Abort>(rt: &R, alloc: Global) -> TExpr {
+    let a = Boxed::new(alloc, TExpr::Field(0)).expect(rt, "memory");
+    TExpr::IsNull { a, not: false }
+}
+
 fn call<R: Abort>(rt: &R, alloc: Global, function: Function, arg: TExpr) -> TExpr {
     let mut args = Seq::new(alloc);
     push(rt, &mut args, arg);
@@ -63,63 +71,129 @@ fn chain<R: Abort>(rt: &R, alloc: Global, op: ChainOp) -> TExpr {
     TExpr::Chain { first, rest }
 }
 
-/// The sum of the second fields of a group's rows.
-fn sum<R: Abort>(rt: &R, alloc: Global) -> TExpr {
+/// A function of the second fields of a group's rows.
+fn of_seconds<R: Abort>(rt: &R, alloc: Global, function: Function) -> TExpr {
     let mut fields = Seq::new(alloc);
     push(rt, &mut fields, 1);
     let a = Boxed::new(alloc, TExpr::Field(1)).expect(rt, "memory");
-    let (single, function) = (true, Function::Sum);
+    let single = true;
     call(rt, alloc, function, TExpr::Project { a, fields, single })
 }
 
-fn item(value: TExpr, flatten: bool) -> BlockItem {
-    let width = 1;
+/// An item of one field.
+fn item(value: TExpr) -> BlockItem {
     BlockItem {
         value,
-        flatten,
+        flatten: false,
+        width: 1,
+    }
+}
+
+/// An item that is flattened, of so many fields.
+fn flat(value: TExpr, width: u32) -> BlockItem {
+    BlockItem {
+        value,
+        flatten: true,
         width,
     }
 }
 
-/// FOREACH: the words of a text `t`, arithmetic `w`, or of a group its key, the number of its rows and, with `S`, a sum.
-fn foreach<R: Abort>(rt: &R, alloc: Global, letter: u8, input: u32) -> NodeOp {
+/// What FOREACH makes of a row of texts and numbers: the words of a text `t`, arithmetic `w`, and its fields turned round.
+fn row_items<R: Abort>(rt: &R, alloc: Global, letter: u8) -> BlockItems {
     let mut items = Seq::new(alloc);
     if letter == b't' {
         let words = call(rt, alloc, Function::Tokenize, TExpr::Field(0));
-        push(rt, &mut items, item(words, true));
+        push(rt, &mut items, flat(words, 1));
     } else if letter == b'w' {
         for op in [ChainOp::Sub, ChainOp::Mul, ChainOp::Div, ChainOp::Rem] {
-            push(rt, &mut items, item(chain(rt, alloc, op), false));
+            push(rt, &mut items, item(chain(rt, alloc, op)));
         }
     } else {
-        let count = call(rt, alloc, Function::Count, TExpr::Field(1));
-        push(rt, &mut items, item(TExpr::Field(0), false));
-        push(rt, &mut items, item(count, false));
-        if letter == b'S' {
-            push(rt, &mut items, item(sum(rt, alloc), false));
+        push(rt, &mut items, item(TExpr::Field(1)));
+        push(rt, &mut items, item(TExpr::Field(0)));
+    }
+    items
+}
+
+/// What FOREACH makes of a group, behind its key: its rows `F`, the last two distinct ones `D` with their number, the
+/// bounds of the second fields `m` with the number of rows, or this number and, with `S`, a sum.
+fn group_items<R: Abort>(rt: &R, alloc: Global, letter: u8) -> BlockItems {
+    let mut items = Seq::new(alloc);
+    push(rt, &mut items, item(TExpr::Field(0)));
+    if letter == b'F' {
+        push(rt, &mut items, flat(TExpr::Field(1), 2));
+        return items;
+    }
+    if letter == b'm' {
+        for function in [Function::Min, Function::Max] {
+            push(rt, &mut items, item(of_seconds(rt, alloc, function)));
         }
     }
-    let steps = Seq::new(alloc);
+    if letter == b'D' {
+        push(rt, &mut items, item(TExpr::Local(2)));
+    }
+    let counted = match letter {
+        b'D' => TExpr::Local(0),
+        _ => TExpr::Field(1),
+    };
+    let function = match letter {
+        b'm' => Function::CountStar,
+        _ => Function::Count,
+    };
+    push(rt, &mut items, item(call(rt, alloc, function, counted)));
+    if letter == b'S' {
+        push(rt, &mut items, item(of_seconds(rt, alloc, Function::Sum)));
+    }
+    items
+}
+
+/// The nested steps of `D`, and none of others.
+fn steps<R: Abort>(rt: &R, alloc: Global, letter: u8) -> BlockSteps {
+    let mut steps = Seq::new(alloc);
+    if letter != b'D' {
+        return steps;
+    }
+    let mut keys = SortKeys::new(alloc);
+    let (position, dir) = (0, Dir::Desc);
+    push(rt, &mut keys, SortKey { position, dir });
+    let from = TExpr::Field(1);
+    push(rt, &mut steps, BlockStep::Distinct { from });
+    let from = TExpr::Local(0);
+    push(rt, &mut steps, BlockStep::Order { from, keys });
+    let (from, count) = (TExpr::Local(1), 2);
+    push(rt, &mut steps, BlockStep::Limit { from, count });
+    steps
+}
+
+/// FOREACH of a row, or of a group.
+fn foreach<R: Abort>(rt: &R, alloc: Global, letter: u8, input: u32) -> NodeOp {
+    let items = match letter {
+        b't' | b'w' | b'q' => row_items(rt, alloc, letter),
+        _ => group_items(rt, alloc, letter),
+    };
+    let steps = steps(rt, alloc, letter);
     let block = Block { steps, items };
     NodeOp::Foreach { input, block }
 }
 
-/// GROUP `g`, and JOIN: inner `j`, LEFT `l` and FULL, by the first fields.
+/// GROUP `g`, with `G` of the rows whose first input has the key, and JOIN: inner `j`, LEFT `l`, RIGHT `r` and FULL, by
+/// the first fields; with `k` GROUP by the second ones.
 fn by_key<R: Abort>(rt: &R, alloc: Global, letter: u8, numbers: &[u32]) -> NodeOp {
     let mut inputs = KeyedInputs::new(alloc);
+    let mut inner = letter == b'G';
     for number in numbers {
-        let (input, inner) = (*number, false);
+        let input = *number;
         let mut keys = Seq::new(alloc);
-        push(rt, &mut keys, TExpr::Field(0));
+        push(rt, &mut keys, TExpr::Field(u32::from(letter == b'k')));
         push(rt, &mut inputs, KeyedInput { input, keys, inner });
-    }
-    if letter == b'g' {
-        return NodeOp::Group { inputs };
+        inner = false;
     }
     let side = match letter {
         b'j' => Side::Inner,
         b'l' => Side::Left,
-        _ => Side::Full,
+        b'r' => Side::Right,
+        b'J' => Side::Full,
+        _ => return NodeOp::Group { inputs },
     };
     NodeOp::Join {
         inputs,
@@ -140,22 +214,34 @@ fn order<R: Abort>(rt: &R, alloc: Global, letter: u8, input: u32, numbers: &[u32
     NodeOp::Order { input, keys }
 }
 
-/// The operator of a letter and the digits of nodes, fields and a count: those above, FILTER `f` and ASSERT `x` by a first
-/// field above 1, UNION `u`, DISTINCT `d`, GROUP ALL `a`, LIMIT `L` and STORE.
+/// FILTER by a first field above 1 `f` or by one that is null, and ASSERT `x` by one above 1.
+fn tested<R: Abort>(rt: &R, alloc: Global, letter: u8, input: u32) -> NodeOp {
+    if letter == b'n' {
+        let cond = is_null(rt, alloc);
+        return NodeOp::Filter { input, cond };
+    }
+    let cond = above(rt, alloc);
+    if letter == b'f' {
+        return NodeOp::Filter { input, cond };
+    }
+    let message = None;
+    NodeOp::Assert {
+        input,
+        cond,
+        message,
+    }
+}
+
+/// The operator of a letter and the digits of nodes, fields and a count: those above, UNION `u`, DISTINCT `d`, GROUP ALL
+/// `a`, LIMIT `L` and STORE.
 fn operator<R: Abort>(rt: &R, alloc: Global, letter: u8, inputs: Numbers) -> NodeOp {
     let input = inputs.get(0).copied().unwrap_or(0);
     match letter {
-        b'f' => NodeOp::Filter {
-            input,
-            cond: above(rt, alloc),
-        },
-        b'x' => NodeOp::Assert {
-            input,
-            cond: above(rt, alloc),
-            message: None,
-        },
-        b't' | b'w' | b'c' | b'S' => foreach(rt, alloc, letter, input),
-        b'g' | b'j' | b'l' | b'J' => by_key(rt, alloc, letter, inputs.as_slice()),
+        b'f' | b'n' | b'x' => tested(rt, alloc, letter, input),
+        b't' | b'w' | b'q' | b'c' | b'S' | b'm' | b'F' | b'D' => foreach(rt, alloc, letter, input),
+        b'g' | b'k' | b'G' | b'j' | b'l' | b'r' | b'J' => {
+            by_key(rt, alloc, letter, inputs.as_slice())
+        }
         b'o' | b'O' => order(rt, alloc, letter, input, inputs.as_slice()),
         b'u' => NodeOp::Union { inputs },
         b'd' => NodeOp::Distinct { input },
@@ -182,22 +268,34 @@ fn operator_of<R: Abort>(rt: &R, alloc: Global, word: &str) -> NodeOp {
     operator(rt, alloc, letter, digits(rt, alloc, bytes))
 }
 
-/// Adds a node, which has to fit.
-fn add<R: Abort>(rt: &R, plan: &mut Plan, node: Node) {
+/// Adds a node where it fits.
+pub fn add_fitting<R: Abort>(
+    rt: &R,
+    alloc: Global,
+    plan: &mut Plan,
+    word: &str,
+    statement: u32,
+) -> bool {
+    let op = operator_of(rt, alloc, word);
+    let node = Node { op, statement };
     let Ok(fits) = plan.fits(&node) else {
         panic!(rt; "memory");
     };
-    assert!(rt; fits, "a node that doesn't fit");
-    plan.add(node).expect(rt, "memory");
+    if fits {
+        plan.add(node).expect(rt, "memory");
+    } else {
+        drop(node);
+    }
+    fits
 }
 
-/// The plan of these words, which are statements from 1 on.
+/// The plan of these words, which are statements from 1 on. Each has to fit.
 pub fn plan<R: Abort>(rt: &R, alloc: Global, words: &str) -> Plan {
     let mut plan = Plan::empty(alloc);
     let mut statement = 1;
     for word in words.split(' ') {
-        let op = operator_of(rt, alloc, word);
-        add(rt, &mut plan, Node { op, statement });
+        let fits = add_fitting(rt, alloc, &mut plan, word, statement);
+        assert!(rt; fits, "a node that doesn't fit");
         statement = u32::saturating_add(statement, 1);
     }
     plan

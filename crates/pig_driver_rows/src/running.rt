@@ -4,7 +4,7 @@ use crate::comparing::{add, settled};
 use crate::host::hosts;
 use crate::setting::sizes;
 use pig_cutter::cut_plan;
-use pig_driver::{JobEnds, StagesFault, few_tasks_fit, have_stages, run_stages};
+use pig_driver::{JobEnds, Ran, StagesFault, few_tasks_fit, have_stages, run_stages};
 use pig_physical::{Out, OutForm, Outs, Stages, Task};
 use pig_plan::Plan;
 use pig_value::{Inputs, OutList};
@@ -57,12 +57,12 @@ fn told<R: Abort>(
     rt: &R,
     alloc: Global,
     stages: &Stages,
-    ran: &Result<Outs, StagesFault>,
+    ran: &Result<Ran, StagesFault>,
     ended: usize,
     listed: bool,
 ) -> String {
     match ran {
-        Ok(outs) => outputs(rt, alloc, stages, outs, listed),
+        Ok(ran) => outputs(rt, alloc, stages, &ran.outs, listed),
         Err(StagesFault::TaskFailed { wave, task, failed }) => {
             let told = format!(in alloc;
                 "wave {wave} failed at {task}, {failed} times; {ended} ended"

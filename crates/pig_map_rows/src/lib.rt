@@ -1,7 +1,14 @@
-//! Map tasks over small pieces, in splits and blocks of all sizes. It has tests alone.
+//! Map tasks over small pieces, in splits and blocks of all sizes, on hosts that fail or give other bytes. It has tests
+//! alone; their values are written by hand from the definitions.
 #![tactic(auto)]
 
 #[cfg(test)]
+mod faults;
+#[cfg(test)]
 mod hosts;
 #[cfg(test)]
-mod maps;
+mod lines;
+#[cfg(test)]
+mod rows;
+#[cfg(test)]
+mod waves;
