@@ -1,0 +1,3 @@
+pub mod Places
+pub mod Stays
+pub mod Means

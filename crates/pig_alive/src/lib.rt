@@ -1,0 +1,9 @@
+//! Plans without the nodes that no STORE reaches.
+#![tactic(auto)]
+
+mod dropping;
+mod laws;
+mod renaming;
+
+pub use dropping::without_dead;
+pub use laws::live_plans_mean_the_same;
