@@ -1,0 +1,23 @@
+mod Samples
+pub mod Fields
+pub mod Fitted
+pub mod Staying
+pub mod Rowwise
+pub mod Entries
+pub mod Grouped
+pub mod Joined
+pub mod Keyed
+pub mod LeftKinds
+pub mod Gives
+pub mod LeftItems
+pub mod LeftKeyed
+pub mod LeftNodes
+pub mod Structure
+pub mod PlanKinds
+pub mod Cutters
+pub mod Inputs
+pub mod PlanRows
+pub mod OfGiven
+pub mod LiveCuts
+pub mod Means
+pub mod CutFits
