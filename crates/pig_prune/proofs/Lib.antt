@@ -1,0 +1,3 @@
+mod Ends
+pub mod Turns
+pub mod Means
