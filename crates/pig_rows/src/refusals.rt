@@ -138,7 +138,7 @@ const USAGE: &str = "1 kept 0\nusage: pig run|explain|check SCRIPT | demo N [--w
 #[test]
 fn words_are_refused(rt: HostRuntime) {
     let alloc = rt.alloc();
-    for line in ["demo 4", "explain", "run s --workers 2", "run s --split 0"] {
+    for line in ["demo 0", "explain", "run s --workers 2", "run s --split 0"] {
         check(&rt, alloc, line, BARE_LIMIT, "", USAGE);
     }
     let want = "2 kept 0\npig: no script\np none\nq none\n";

@@ -1,12 +1,11 @@
 -- What hosts show of waves: of none, of those before a later fault, of the first hosts and of all.
-use Rattle.std.proofs.Common.{◌≡◌, ◌<◌, ◌≤◌, ◌+◌, ◌++◌, ◌⊎◌, ℕ, zero, suc, List, [], ◌∷◌, length, map, take, drop, min, Option, Some, None, Result, Ok, Err, IfOk, IfErr, MatchResult, All, slice_get, refl, sym, ◌∙◌, ap, subst, arith, inl, inr}
+use Rattle.std.proofs.Common.{◌≡◌, ◌≤◌, ◌+◌, ◌++◌, ◌⊎◌, ℕ, zero, suc, List, [], ◌∷◌, length, map, take, drop, min, Option, Some, None, Result, Ok, Err, IfOk, IfErr, MatchResult, All, slice_get, refl, sym, ◌∙◌, ap, subst, arith, inl, inr}
 use Rattle.std.specs.List.{AllByRecursion, sum_by}
 use Rattle.std.proofs.Math.Seq.{drop-append_seam, take-append_seam}
 use Rattle.std.proofs.lemmas.List.{length-map, map-append, take-append-drop}
-use Rattle.std.proofs.lemmas.List.Sums.{sum_by-append, sum_by-cons}
+use Rattle.std.proofs.lemmas.List.Sums.{sum_by-append}
 use Rattle.pig_value.specs.declared.inputs.Input.{Input}
 use Rattle.pig_outside.specs.Calls.{Attempt}
-use Rattle.pig_board.specs.End.{end_of}
 use Rattle.pig_board.specs.declared.end.TaskEnd.{TaskEnd}
 use Rattle.pig_pool.specs.Wave.{IsWonWave, failures_in}
 use Rattle.pig_plan.specs.Plans.{Plan}
@@ -22,12 +21,12 @@ use Rattle.pig_run.specs.declared.outcome.RunFault.{RunFault}
 use Rattle.pig_run.specs.declared.outcome.RunFault.TheVariants as fault
 use Rattle.pig_run.specs.declared.outcome.TooLarge.TheVariants as large
 use Rattle.pig_run.specs.Blame.{CommitsEach, CrewHasWorked, HaveWorked, HostsHaveWorked, ShowsFailure, crew_of}
-use Rattle.pig_run.specs.Due.{AreWords, HasWords, Line}
+use Rattle.pig_run.specs.Due.{AreWords, IsDemo, Line}
 use Rattle.pig_run.specs.declared.progress.Progress.{Progress}
 use Rattle.pig_run.specs.Running.{HasFailedAssert, IsUsable, WavesEnd, asserted, found_in, untold}
 use Rattle.pig_run.specs.Steps.{IsCommitFault, IsPlanFault, stages_fault_of}
-use Rattle.pig_run.specs.Told.{TellsOf, line_of}
-use Rattle.pig_run.proofs.Deciding.{same_command, words_decided}
+use Rattle.pig_run.specs.Told.{line_of}
+use Rattle.pig_run.proofs.Deciding.{WordsAre, no_demo, of_demo, of_none, of_script, same_command, words_decided}
 
 -- ---- the numbers of a command
 
@@ -78,10 +77,10 @@ pub plan_fault : {T : Type 0} (result : Result T RunFault) → IfOk result (λ _
 plan_fault (Ok x) stops h = absurd stops
 plan_fault (Err f) stops h = plan_no_task f h
 
-pub usage_fault : {T : Type 0} (result : Result T RunFault) → IfOk result (λ _. ⊥) → IfErr result (λ f. (f ≡ fault.Usage) ⊎ IsPlanFault f) → IsNoTask (found_in result)
-usage_fault (Ok x) stops h = absurd stops
-usage_fault (Err f) stops (inl is) = λ wave task failed e. let wrong : Some fault.Usage ≡ Some (fault.TaskFailed wave task failed) = ap Some (sym is) ∙ e in cc
-usage_fault (Err f) stops (inr is) = plan_no_task f is
+pub words_fault : {T : Type 0} (U : Type 0) (result : Result T RunFault) → IfOk result (λ _. ⊥) → IfErr result (λ f. ((f ≡ fault.Usage) × U) ⊎ (f ≡ fault.OutOfMemory)) → IsNoTask (found_in result)
+words_fault U (Ok x) stops h = absurd stops
+words_fault U (Err f) stops (inl is) = λ wave task failed e. let wrong : Some fault.Usage ≡ Some (fault.TaskFailed wave task failed) = ap Some (sym is.0) ∙ e in cc
+words_fault U (Err f) stops (inr is) = memory_no_task f is
 
 pub cut_fault : {T : Type 0} (U : Type 0) (result : Result T RunFault) → IfOk result (λ _. ⊥) → IfErr result (λ f. ((f ≡ fault.TooLarge large.Tasks) × U) ⊎ (f ≡ fault.OutOfMemory)) → IsNoTask (found_in result)
 cut_fault U (Ok x) stops h = absurd stops
@@ -146,52 +145,72 @@ module _ {H : Type 0} (inputs : H → Option (List Input)) (faults : H → ℕ) 
   pub hosts_worked : (line : Line) (command : Command) (old new : List H) (waves : List (List TaskEnd)) (answer : Option RunFault) → AreWords line command
       → CrewHasWorked inputs faults begun command old new waves answer → HostsHaveWorked inputs faults begun line old new waves answer
   hosts_worked line command old new waves answer are h = record {
-    crew = λ other is. subst (λ c. CrewHasWorked inputs faults begun c old new waves answer) (same_command line command other are.is is) h;
-    none = λ never. absurd (never (command, are));
+    crew = λ other is. subst (λ c. CrewHasWorked inputs faults begun c old new waves answer) (same_command line command other are.is is.is) h;
+    demo = λ other is. absurd (no_demo line command are other is);
+    none = λ never. absurd (never (command, are.is));
+  }
+
+  -- or those of a demonstration
+  pub hosts_rested : (line : Line) (command : Command) (hosts : List H) (waves : List (List TaskEnd)) (answer : Option RunFault) → IsDemo line command
+      → sum_by failures_in waves ≡ 0 → CommitsEach answer waves → HostsHaveWorked inputs faults begun line hosts hosts waves answer
+  hosts_rested line command hosts waves answer is none committed = record {
+    crew = λ other are. absurd (no_demo line other are command is);
+    demo = λ other same. record { same = refl; none_failed = none; committed = committed };
+    none = λ never. absurd (never (command, is.is));
   }
 
   -- no host worked
   pub hosts_idle : (line : Line) (hosts : List H) (waves : List (List TaskEnd)) (answer : Option RunFault) → waves ≡ [] → IsNoTask answer → HostsHaveWorked inputs faults begun line hosts hosts waves answer
   hosts_idle line hosts waves answer none other = record {
     crew = λ command is. crew_idle command hosts waves answer none other;
+    demo = λ command is. record {
+      same = refl;
+      none_failed = ap (sum_by failures_in) none;
+      committed = λ done. subst (AllByRecursion (λ ends. IsWonWave (length ends) ends)) (sym none) tt;
+    };
     none = λ never. (refl, none);
   }
 
   -- all hosts together
   module _ (line : Line) (old new : List H) (waves : List (List TaskEnd)) (answer : Option RunFault) (h : HostsHaveWorked inputs faults begun line old new waves answer) where
     pub all_failures : sum_by faults old + sum_by failures_in waves ≤ sum_by faults new
-    all_failures = elim (words_decided line) [
-      | inl words ↦
-          let crew = h.crew words.0 words.1.is in
-          let n = words.0.workers in
-          let before = ap (sum_by faults) (sym (take-append-drop n old)) ∙ sum_by-append faults (take n old) (drop n old) in
-          let now = ap (sum_by faults) (sym (take-append-drop n new)) ∙ sum_by-append faults (take n new) (drop n new) in
-          let rest = ap (sum_by faults) crew.idle in
-          let some = crew.worked.failures in
-          omega (arith, before, now, rest, some)
-      | inr none ↦
-          let still = h.none none in
-          let same = ap (sum_by faults) still.0 in
-          let nothing : sum_by failures_in waves ≡ 0 = ap (sum_by failures_in) still.1 in
-          omega (arith, same, nothing)
-    ]
+    all_failures = by_words (words_decided line)
+      where
+        still : new ≡ old → sum_by failures_in waves ≡ 0 → sum_by faults old + sum_by failures_in waves ≤ sum_by faults new
+        still same nothing = let sums = ap (sum_by faults) same in omega (arith, sums, nothing)
+
+        by_words : WordsAre line → sum_by faults old + sum_by failures_in waves ≤ sum_by faults new
+        by_words (of_script {command = c} are) =
+            let crew = h.crew c are in
+            let n = c.workers in
+            let before = ap (sum_by faults) (sym (take-append-drop n old)) ∙ sum_by-append faults (take n old) (drop n old) in
+            let now = ap (sum_by faults) (sym (take-append-drop n new)) ∙ sum_by-append faults (take n new) (drop n new) in
+            let rest = ap (sum_by faults) crew.idle in
+            let some = crew.worked.failures in
+            omega (arith, before, now, rest, some)
+        by_words (of_demo {command = c} is) = still (h.demo c is).same (h.demo c is).none_failed
+        by_words (of_none none) = still (h.none none).0 (ap (sum_by failures_in) (h.none none).1)
 
     pub all_committed : CommitsEach answer waves
-    all_committed = elim (words_decided line) [
-      | inl words ↦ (h.crew words.0 words.1.is).worked.committed
-      | inr none ↦ (λ _. subst (AllByRecursion (λ ends. IsWonWave (length ends) ends)) (sym (h.none none).1) tt)
-    ]
+    all_committed = by_words (words_decided line)
+      where
+        by_words : WordsAre line → CommitsEach answer waves
+        by_words (of_script {command = c} are) = (h.crew c are).worked.committed
+        by_words (of_demo {command = c} is) = (h.demo c is).committed
+        by_words (of_none none) = λ _. subst (AllByRecursion (λ ends. IsWonWave (length ends) ends)) (sym (h.none none).1) tt
 
     pub all_inputs : map inputs new ≡ map inputs old
-    all_inputs = elim (words_decided line) [
-      | inl words ↦
-          let crew = h.crew words.0 words.1.is in
-          let n = words.0.workers in
-          ap (map inputs) (sym (take-append-drop n new)) ∙ map-append inputs (take n new) (drop n new)
-          ∙ (λ i. crew.worked.same i ++ map inputs (crew.idle i))
-          ∙ sym (map-append inputs (take n old) (drop n old)) ∙ ap (map inputs) (take-append-drop n old)
-      | inr none ↦ ap (map inputs) (h.none none).0
-    ]
+    all_inputs = by_words (words_decided line)
+      where
+        by_words : WordsAre line → map inputs new ≡ map inputs old
+        by_words (of_script {command = c} are) =
+            let crew = h.crew c are in
+            let n = c.workers in
+            ap (map inputs) (sym (take-append-drop n new)) ∙ map-append inputs (take n new) (drop n new)
+            ∙ (λ i. crew.worked.same i ++ map inputs (crew.idle i))
+            ∙ sym (map-append inputs (take n old) (drop n old)) ∙ ap (map inputs) (take-append-drop n old)
+        by_words (of_demo {command = c} is) = ap (map inputs) (h.demo c is).same
+        by_words (of_none none) = ap (map inputs) (h.none none).0
 
 -- ---- what hosts tell
 

@@ -16,7 +16,7 @@ use Rattle.pig_words.proofs.Commands.{one_command}
 use Rattle.pig_words.proofs.Decisions.{command_decided}
 use Rattle.pig_run.specs.declared.outcome.TooLarge.TheVariants as large
 use Rattle.pig_cutter.specs.Limits.{has_too_many}
-use Rattle.pig_run.specs.Due.{CommandDue, HasWords, InputsDue, IsBuilt, IsDue, Line, Looks, OutputsDue, PlanStage, RunDue, ScriptDue, SizeDue, Stage, TasksDue, call, check_due, explain_due, few, is_missing, making_of, no_words, passed, run_due, run_of, runs, script_found, script_missing, script_refused, size_of, small, stages_of, stopped, through, too_big, too_many, with_words}
+use Rattle.pig_run.specs.Due.{AreWords, CommandDue, HasWords, InputsDue, IsDemo, IsDue, IsNoDemo, Line, Looks, NamesScript, OutputsDue, PlanStage, RunDue, ScriptDue, SizeDue, Stage, TasksDue, call, check_due, explain_due, few, is_missing, making_of, no_words, passed, run_due, run_of, runs, script_found, script_missing, script_refused, size_of, small, stages_of, stopped, through, too_big, too_many, with_words}
 use Rattle.pig_run.specs.Reading.{Faulty, Finding, IsFound, Prints, Refuses, Run, Runs, Typed, Verdict}
 use Rattle.pig_keyed.specs.Keyed.{by_key}
 use Rattle.pig_explain.specs.Explained.{explain_text}
@@ -42,27 +42,40 @@ IsSome stage = (a : List DepotCall) × (v : Verdict) × stage a v
 
 -- ---- words
 
-verb_built : (v : Verb) → IsBuilt v ⊎ (IsBuilt v → ⊥)
-verb_built verbs.Run = inl tt
-verb_built verbs.Explain = inl tt
-verb_built verbs.Check = inl tt
-verb_built verbs.Demo = inr (λ e. e)
+verb_of_script : (v : Verb) → NamesScript v ⊎ (v ≡ verbs.Demo)
+verb_of_script verbs.Run = inl tt
+verb_of_script verbs.Explain = inl tt
+verb_of_script verbs.Check = inl tt
+verb_of_script verbs.Demo = inr refl
+
+-- a verb that is none of a demonstration names a script
+pub names_script : (v : Verb) → (v ≡ verbs.Demo → ⊥) → NamesScript v
+names_script v other = elim (verb_of_script v) [
+  | inl names ↦ names
+  | inr demo ↦ absurd (other demo)
+]
 
 pub same_command : (line : Line) (c d : Command) → IsCommand line.hosts line.words c → IsCommand line.hosts line.words d → c ≡ d
 same_command line c d a b = one_command line.hosts line.words c d a b
 
-pub words_decided : (line : Line) → HasWords line ⊎ (HasWords line → ⊥)
+-- words name a script, are those of a demonstration, or are no command
+pub data WordsAre (line : Line) : Type 0 where
+  of_script : {command : Command} → AreWords line command → WordsAre line
+  of_demo : {command : Command} → IsDemo line command → WordsAre line
+  of_none : ¬ HasWords line → WordsAre line
+
+pub words_decided : (line : Line) → WordsAre line
 words_decided line = elim (command_decided line.hosts line.words) [
-  | inr none ↦ inr (λ h. none h.0 h.1.is)
-  | inl command ↦ elim (verb_built command.0.verb) [
-    | inl built ↦ inl (command.0, record { is = command.1; built = built })
-    | inr other ↦ inr (λ h. other (subst (λ c. IsBuilt c.verb) (same_command line h.0 command.0 h.1.is command.1) h.1.built))
+  | inr none ↦ of_none (λ h. none h.0 h.1)
+  | inl command ↦ elim (verb_of_script command.0.verb) [
+    | inl names ↦ of_script (record { is = command.1; scripted = names })
+    | inr demo ↦ of_demo (record { is = command.1; demo = demo })
   ]
 ]
 
--- no words are a command of a verb that is not built
-pub not_built : (line : Line) (command : Command) → IsCommand line.hosts line.words command → (IsBuilt command.verb → ⊥) → ¬ HasWords line
-not_built line command is other h = other (subst (λ c. IsBuilt c.verb) (same_command line h.0 command h.1.is is) h.1.built)
+-- a command that names a script is no demonstration
+pub no_demo : (line : Line) (command : Command) → AreWords line command → IsNoDemo line
+no_demo line command are other demo = subst NamesScript (ap (λ c. c.verb) (same_command line command other are.is demo.is) ∙ demo.demo) are.scripted
 
 -- ---- stages
 
@@ -131,10 +144,10 @@ one_command_due command s n plan _ b _ w (check_due h) (run_due k other) = absur
 one_command_due command s n plan _ _ _ _ (check_due h) (explain_due k) = absurd (let e = sym h ∙ k in cc)
 one_command_due command s n plan _ _ _ _ (check_due h) (check_due k) = (refl, refl)
 
-pub some_command_due : (command : Command) → IsBuilt command.verb → (s : Shelf) (n : ℕ) (plan : Plan) → IsSome (CommandDue command s n plan)
-some_command_due command built s n plan = by_verb command.verb refl built
+pub some_command_due : (command : Command) → NamesScript command.verb → (s : Shelf) (n : ℕ) (plan : Plan) → IsSome (CommandDue command s n plan)
+some_command_due command names s n plan = by_verb command.verb refl names
   where
-    by_verb : (v : Verb) → command.verb ≡ v → IsBuilt v → IsSome (CommandDue command s n plan)
+    by_verb : (v : Verb) → command.verb ≡ v → NamesScript v → IsSome (CommandDue command s n plan)
     by_verb verbs.Run e b = let rest = some_inputs command s plan in (rest.0, rest.1, run_due e rest.2)
     by_verb verbs.Check e b = ([], Prints (ok_text n), check_due e)
     by_verb verbs.Explain e b = ([], Prints (explain_text plan (by_key plan)), explain_due e)
@@ -163,7 +176,7 @@ module _ (laws : PlanLaws) (path : List ℕ) (s : Shelf) (next : PlanStage) wher
       let same = one m p a b v w due (subst (λ i. next i p b w) numbers (subst (λ x. next n x b w) plans other)) in
       (same.0, ap (λ xs. call method.Script path ∷ xs) same.1)
 
-  some_script : ((n : ℕ) (plan : Plan) → IsSome (next n plan)) → IsSome (ScriptDue path s next)
+  pub some_script : ((n : ℕ) (plan : Plan) → IsSome (next n plan)) → IsSome (ScriptDue path s next)
   some_script some = by_script (script_of path s) refl
     where
       by_finding : (script : List ℕ) (v : Finding) → script_of path s ≡ Some script → IsFound script v → IsSome (ScriptDue path s next)
@@ -177,14 +190,19 @@ module _ (laws : PlanLaws) (path : List ℕ) (s : Shelf) (next : PlanStage) wher
 module _ (laws : PlanLaws) (line : Line) (s : Shelf) where
   pub one_due : IsOne (IsDue line s)
   one_due _ _ _ _ (no_words h) (no_words k) = (refl, refl)
-  one_due _ b _ w (no_words h) (with_words {command = d} k due) = absurd (h (d, k))
-  one_due a _ v _ (with_words {command = c} h due) (no_words k) = absurd (k (c, h))
+  one_due _ b _ w (no_words h) (with_words {command = d} k due) = absurd (h (d, k.is))
+  one_due a _ v _ (with_words {command = c} h due) (no_words k) = absurd (k (c, h.is))
   one_due a b v w (with_words {command = c} h due) (with_words {command = d} k other) =
       one_script laws c.operand s (CommandDue c s) (one_command_due c s) a b v w due
       (subst (λ x. ScriptDue x.operand s (CommandDue x s) b w) (same_command line d c k.is h.is) other)
 
-  pub some_due : IsSome (IsDue line s)
-  some_due = elim (words_decided line) [
-    | inl words ↦ (let rest = some_script laws words.0.operand s (CommandDue words.0 s) (some_command_due words.0 words.1.built s) in (rest.0, rest.1, with_words words.1 rest.2))
-    | inr none ↦ ([], Refuses no_command, no_words none)
-  ]
+  -- what is due of words that are no demonstration
+  pub some_due : IsNoDemo line → IsSome (IsDue line s)
+  some_due other = by_words (words_decided line)
+    where
+      by_words : WordsAre line → IsSome (IsDue line s)
+      by_words (of_script {command = c} are) =
+          let rest = some_script laws c.operand s (CommandDue c s) (some_command_due c are.scripted s) in
+          (rest.0, rest.1, with_words are rest.2)
+      by_words (of_demo {command = c} is) = absurd (other c is)
+      by_words (of_none none) = ([], Refuses no_command, no_words none)

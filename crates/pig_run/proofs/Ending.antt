@@ -1,8 +1,8 @@
 -- From how the steps ended to what a call says of a shelf that is told.
-use Rattle.std.proofs.Common.{◌≡◌, ◌++◌, ◌<◌, ◌≤◌, ◌+◌, ◌%◌, ◌^◌, ℕ, zero, suc, true, false, List, [], ◌∷◌, length, map, Option, Some, None, Result, Ok, Err, refl, sym, ◌∙◌, ap, subst, arith, inl, inr, cond}
+use Rattle.std.proofs.Common.{◌≡◌, ◌++◌, ◌<◌, ◌%◌, ◌^◌, ℕ, suc, true, false, List, [], ◌∷◌, length, map, Option, Some, None, Result, Ok, Err, refl, sym, ◌∙◌, ap, subst, arith, inl, inr, cond}
 use Rattle.std.specs.List.{AllByRecursion, flat_map, sum_by}
-use Rattle.std.specs.Option.{ForSome, option_map}
-use Rattle.std.proofs.lemmas.List.{append_assoc, append-nil, length-append, map-append}
+use Rattle.std.specs.Option.{option_map}
+use Rattle.std.proofs.lemmas.List.{append_assoc, append-nil}
 use Rattle.std.proofs.lemmas.List.Folds.{flat_map-map}
 use Rattle.std.proofs.lemmas.List.Sums.{sum_by-cons}
 use Rattle.pig_value.specs.declared.inputs.Input.{Input}
@@ -48,7 +48,7 @@ quiet_kept progress h = ap (λ b. cond b progress.kept []) h
 pub standing_kept : (progress : Progress) → progress.stands ≡ true → kept_in progress ≡ progress.kept
 standing_kept progress h = ap (λ b. cond b progress.kept []) h
 
-untouched : (s : Shelf) (new : Option Shelf) (progress : Progress) → new ≡ Some s → IsFresh progress → IsUntouched s (left_in [] progress new)
+pub untouched : (s : Shelf) (new : Option Shelf) (progress : Progress) → new ≡ Some s → IsFresh progress → IsUntouched s (left_in [] progress new)
 untouched s new progress same fresh = record {
   unmade = record { same = same; no_outputs = refl };
   none_kept = quiet_kept progress fresh.stands;
@@ -75,7 +75,7 @@ silent_commit : (run : Run) (n : ℕ) (f : RunFault) → IsCommitFault n f → s
 silent_commit run n f (inl is) = ap (λ g. said_behind (Runs run) (Some g)) is
 silent_commit run n f (inr is) = ap (λ g. said_behind (Runs run) (Some g)) is
 
-no_numbers : (tells : Type 0) (v : Verdict) (s : Shelf) (left : Left) (counts : Counts) (f : RunFault) → CountsAre tells v s left counts (Some f)
+pub no_numbers : (tells : Type 0) (v : Verdict) (s : Shelf) (left : Left) (counts : Counts) (f : RunFault) → CountsAre tells v s left counts (Some f)
 no_numbers tells (Refuses refusal) s left counts f = tt
 no_numbers tells (Prints text) s left counts f = λ e. absurd (cc)
 no_numbers tells (Runs run) s left counts f = λ e. absurd (cc)

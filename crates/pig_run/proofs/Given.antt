@@ -1,10 +1,11 @@
 -- What outputs of all waves give is what the script's plan means, and what its STOREs store.
-use Rattle.std.proofs.Common.{◌≡◌, ◌≢◌, ◌<◌, ◌+◌, ◌++◌, ◌||◌, ◌&&◌, ◌%◌, ◌^◌, ◌==◌, ℕ, zero, suc, Bool, true, false, List, [], ◌∷◌, length, map, Option, Some, None, slice_get, drop, refl, sym, ◌∙◌, ap, subst, arith, cond}
-use Rattle.std.specs.List.{AllByRecursion, cons_option, filter, filter_map, flat_map, range_with_len}
-use Rattle.std.specs.Option.{option_map, option_map_or}
-use Rattle.std.proofs.lemmas.Bool.{cases_Bool}
+use Rattle.std.proofs.Common.{◌≡◌, ◌≢◌, ◌<◌, ◌+◌, ◌++◌, ◌||◌, ◌%◌, ◌^◌, ℕ, zero, suc, Bool, true, false, List, [], ◌∷◌, length, map, Option, Some, None, slice_get, drop, refl, sym, ◌∙◌, ap, subst, arith, cond, inl, inr}
+use Rattle.std.specs.List.{AllByRecursion, cons_option, filter, range_with_len}
+use Rattle.std.specs.Option.{option_map, option_map_or, unwrap_or}
+use Rattle.std.proofs.lemmas.Bool.{cases_lt}
 use Rattle.std.proofs.lemmas.Bool.Decides.{Decides-eqb}
 use Rattle.std.proofs.lemmas.List.{append-nil}
+use Rattle.std.proofs.lemmas.Option.{slice_get_past}
 use Rattle.std.proofs.lemmas.List.Concat.{flat_map-append}
 use Rattle.pig_value.specs.declared.inputs.Input.{Input}
 use Rattle.pig_value.specs.declared.outcomes.Kept.{Kept}
@@ -14,29 +15,32 @@ use Rattle.pig_value.specs.Valid.{IsValue}
 use Rattle.pig_plan.specs.Asserts.{first_unmet}
 use Rattle.pig_plan.specs.Laws.{AreOfBytes, PlanLiteralsAre}
 use Rattle.pig_plan.specs.Meaning.{IsKept, meaning}
-use Rattle.pig_plan.specs.Nodes.{is_list, is_live, is_store, is_used, live, op_at}
+use Rattle.pig_plan.specs.Nodes.{is_live, is_store, is_used, op_at}
 use Rattle.pig_plan.specs.Plans.{Plan, PlanNode, PlanOp, p_load, p_filter, p_foreach, p_group_all, p_group, p_join, p_union, p_distinct, p_order, p_limit, p_store, p_assert, p_rank}
-use Rattle.pig_plan.specs.Stored.{AnswersFor, StoresBag, StoresList, StoresMeaning}
+use Rattle.pig_plan.specs.Stored.{StoresBag, StoresList}
 use Rattle.pig_plan.specs.Valid.{IsPlan}
 use Rattle.pig_plan.proofs.Lower.{names_lower}
 use Rattle.pig_plain.specs.StoredLines.{AnswersAreStoredLines}
-use Rattle.pig_reach.specs.Reach.{lines_read, store_of, stores_of}
+use Rattle.pig_reach.specs.Reach.{store_of, stores_of}
 use Rattle.pig_reach.specs.declared.storing.Store.{Store}
 use Rattle.pig_reach.proofs.Enough.{named_lives}
 use Rattle.pig_runs.specs.Cutting.{Point}
 use Rattle.pig_physical.specs.Outs.{Outs, TaskOut, bytes_in, outs_at}
-use Rattle.pig_physical.specs.Running.{AreOutputs, IsRun, all_unmet, bytes_for, bytes_given, is_for, store_wave}
-use Rattle.pig_physical.specs.Stages.{Stages, Task, stores, tasks_in}
+use Rattle.pig_physical.specs.Running.{AreOutputs, IsRun, all_unmet, bytes_for, is_for, store_wave}
+use Rattle.pig_physical.specs.Stages.{Stages, Task, heads, stores, tasks_in, tasks_of}
 use Rattle.pig_waves.specs.Laws.{HaveStages}
 use Rattle.pig_work.specs.Working.{Tellings}
 use Rattle.pig_cutter.specs.Laws.{GiveMeaning, StagesGiveMeaning, stores_at}
 use Rattle.pig_driver.specs.Going.{HasRunAll}
+use Rattle.pig_driver.specs.Left.{IsOver}
+use Rattle.pig_driver.specs.Standing.{AreStanding}
 use Rattle.pig_commit.specs.declared.parts.StorePart.{StorePart}
-use Rattle.pig_collect.specs.Collecting.{entries_handed, joined, least, lines_in, parts_for, parts_given}
-use Rattle.pig_collect.specs.Laws.{RunsReadLines, RunsTellTheFirstUnmet}
+use Rattle.pig_driver.specs.Handing.{entries_handed}
+use Rattle.pig_collect.specs.Collecting.{HasStoreOutputs, joined, least, lines_in, parts_for, parts_given}
+use Rattle.pig_collect.specs.Laws.{RunsReadLines, RunsTellTheFirstUnmet, TellTheSame, WhatIsLeftTellsTheSame}
 use Rattle.pig_keyed.specs.Keyed.{KeyedPlansRunTheSame, RunsTheSame, by_key}
-use Rattle.pig_run.specs.Outputs.{AreOutputsOf, IsOutputOf, IsRunOf}
-use Rattle.pig_run.specs.Running.{GivesAll, IsGiven, IsUnmetOver, UnmetAll}
+use Rattle.pig_run.specs.Outputs.{AreOutputsOf, IsOutputOf}
+use Rattle.pig_run.specs.Running.{GivesAll, UnmetAll}
 
 -- ---- STOREs by number, and as they stand in a plan
 
@@ -138,6 +142,20 @@ joined_for k (task ∷ tasks) (out ∷ outs) =
     one : (b : Bool) → joined (cond b (bytes_in out.form ∷ []) []) ≡ cond b (bytes_in out.form) []
     one true = append-nil (bytes_in out.form)
     one false = refl
+
+-- ---- what is left of outputs
+
+stored_whole : (s : Stages) (whole : Outs) → length whole ≡ length (heads s.plan) → AreStanding s whole (length (heads s.plan)) → HasStoreOutputs s whole
+stored_whole s whole size standing = elim (cases_lt 0 (length (heads s.plan))) [
+  | inl some ↦ standing.counts (store_wave s.plan) (omega (arith, some))
+  | inr none ↦ ap (λ o. length (unwrap_or o [])) (slice_get_past whole (store_wave s.plan) (omega (arith, none, size)))
+      ∙ sym (ap (λ o. length (option_map_or (tasks_of s (store_wave s.plan)) o [])) (slice_get_past (heads s.plan) (store_wave s.plan) (omega (arith, none))))
+]
+
+pub told_same : (s : Stages) → WhatIsLeftTellsTheSame → IsPlan s.plan → HaveStages s.plan → (tellings : Tellings) (left : Outs) (shuffled : ℕ) (over : IsOver s tellings left shuffled)
+    → TellTheSame s over.whole left
+told_same s law valid staged tellings left shuffled over =
+    law s over.whole left valid staged over.run.size (stored_whole s over.whole over.run.size over.run.standing) over.are
 
 -- ---- the run
 

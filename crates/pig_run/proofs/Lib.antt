@@ -1,6 +1,7 @@
 mod Apart
 mod Crews
 mod Deciding
+mod DemoSteps
 mod Ending
 mod Given
 mod Laying

@@ -1,5 +1,5 @@
 -- What is said where some hosts tell their inputs is said where more of them do.
-use Rattle.std.proofs.Common.{◌≡◌, ℕ, List, Option, Some, Result}
+use Rattle.std.proofs.Common.{ℕ, List, Option, Result}
 use Rattle.pig_value.specs.declared.inputs.Input.{Input}
 use Rattle.pig_value.specs.declared.outcomes.Kept.{Kept}
 use Rattle.pig_outside.specs.Calls.{DepotCall}

@@ -1,33 +1,28 @@
 -- From a run, and from what the console made of its text, to what the top call says.
-use Rattle.std.proofs.Common.{◌≡◌, ◌≢◌, ◌<◌, ◌≤◌, ◌+◌, ◌++◌, ℕ, zero, suc, List, [], ◌∷◌, length, map, take, drop, Option, Some, None, Result, Ok, Err, MatchResult, IfErr, All, refl, sym, ◌∙◌, ap, subst, arith, inl, inr, ◌⊎◌}
-use Rattle.std.specs.List.{AllByRecursion, sum_by}
+use Rattle.std.proofs.Common.{◌≡◌, ◌<◌, ◌≤◌, ◌+◌, ◌++◌, ℕ, zero, suc, List, [], ◌∷◌, take, Option, Some, None, Result, Ok, Err, MatchResult, IfErr, refl, sym, ◌∙◌, ap, subst, arith, inl, inr, ◌⊎◌}
+use Rattle.std.specs.List.{sum_by}
 use Rattle.std.proofs.lemmas.List.Sums.{sum_by-cons}
 use Rattle.pig_value.specs.declared.inputs.Input.{Input}
 use Rattle.pig_outside.specs.Calls.{Attempt, DepotCall}
 use Rattle.pig_outside.specs.Shelf.{Shelf}
 use Rattle.pig_board.specs.End.{end_of}
 use Rattle.pig_board.specs.declared.end.TaskEnd.{TaskEnd}
-use Rattle.pig_pool.specs.Wave.{IsWonWave, failures_in}
-use Rattle.pig_driver.specs.Failing.{IsGivenUp}
-use Rattle.pig_driver.specs.Going.{AreWon}
+use Rattle.pig_pool.specs.Wave.{failures_in}
 use Rattle.pig_run.specs.declared.outcome.Outcome.{Outcome}
 use Rattle.pig_run.specs.declared.outcome.RunFault.{RunFault}
 use Rattle.pig_run.specs.declared.outcome.RunFault.TheVariants as fault
 use Rattle.pig_run.specs.declared.progress.Progress.{Progress}
-use Rattle.pig_words.specs.CommandWords.{IsCommand}
-use Rattle.pig_words.specs.declared.words.Command.{Command}
-use Rattle.pig_run.specs.declared.outcome.Counts.{Counts}
-use Rattle.pig_run.specs.Blame.{BlamesTask, CommitsEach, CrewHasWorked, HaveWorked, HostsHaveWorked, ShowsFailure}
+use Rattle.pig_run.specs.Blame.{BlamesTask, CommitsEach, HaveWorked, HostsHaveWorked}
 use Rattle.pig_run.specs.Due.{HasWords, IsDue, Line, Stage}
 use Rattle.pig_run.specs.Ends.{Console, Ends, Fails, Shown, assert_failed, counts_shown, cut_short, done, failed, lookup_failed, no_memory, no_memory_at, no_memory_behind, no_memory_in, no_text, no_text_cut, no_text_failed, printed, refused, shows, store_failed, task_failed, unshown}
 use Rattle.pig_run.specs.Outputs.{IsLost, Left}
-use Rattle.pig_run.specs.Reading.{Prints, Refuses, Run, Runs, Verdict}
+use Rattle.pig_run.specs.Reading.{Run, Verdict}
 use Rattle.pig_run.specs.Refusals.{by_depot, cause_of}
 use Rattle.pig_run.specs.Running.{RunEnd, RunTold, counts_in, end_text, found_in, kept_in, left_in}
 use Rattle.pig_run.specs.Steps.{DepotCause, SaysWords, StoreBlame}
 use Rattle.pig_run.specs.Texts.{answer_text, fault_text}
 use Rattle.pig_run.specs.Told.{CountsAre, HaveFailed, IsCaused, IsRight, Seen, Told, all_done, most_lost, unmet}
-use Rattle.pig_run.proofs.Deciding.{just, same_command}
+use Rattle.pig_run.proofs.Deciding.{just}
 
 -- ---- faults by their causes
 
@@ -52,7 +47,7 @@ caused old new (Err f) depot = λ store is. depot.failed store (ap Err (depot_of
 
 -- ---- a task that failed
 
-sum_joined : {X : Type 0} (f : X → ℕ) (xs : List X) (x : X) → sum_by f (xs ++ x ∷ []) ≡ sum_by f xs + f x
+pub sum_joined : {X : Type 0} (f : X → ℕ) (xs : List X) (x : X) → sum_by f (xs ++ x ∷ []) ≡ sum_by f xs + f x
 sum_joined f [] x = let e = sum_by-cons f x [] in omega (arith, e)
 sum_joined f (y ∷ xs) x =
     let a = sum_by-cons f y (xs ++ x ∷ []) in
@@ -61,12 +56,13 @@ sum_joined f (y ∷ xs) x =
     omega (arith, a, b, more)
 
 -- the failures of a wave are no fewer than those of one task
-one_of : (ends : List TaskEnd) (t : ℕ) → t < length ends → (end_of ends t).failed ≤ failures_in ends
-one_of [] t h = absurd (omega (arith, h))
-one_of (e ∷ ends) zero h = let a = sum_by-cons (λ e. e.failed) e ends in omega (arith, a)
-one_of (e ∷ ends) (suc t) h =
+pub one_of : (ends : List TaskEnd) (t : ℕ) → (end_of ends t).failed ≤ failures_in ends
+one_of [] zero = omega arith
+one_of [] (suc t) = omega arith
+one_of (e ∷ ends) zero = let a = sum_by-cons (λ e. e.failed) e ends in omega (arith, a)
+one_of (e ∷ ends) (suc t) =
     let a = sum_by-cons (λ e. e.failed) e ends in
-    let rest = one_of ends t (omega (arith, h)) in
+    let rest = one_of ends t in
     omega (arith, a, rest)
 
 -- so a task is given up only where the hosts failed as often
@@ -75,7 +71,7 @@ enough_lost run s wave task times before now left is rise =
     let up = is.given_up in
     let least = up.failing.least in
     let sums = ap (sum_by failures_in) up.are ∙ sum_joined failures_in up.before up.last in
-    let one = one_of up.last task least.below in
+    let one = one_of up.last task in
     let many = least.failed in
     omega (arith, rise, sums, one, many)
 
@@ -232,7 +228,8 @@ module _ (text : List ℕ) (old new : Console) (result : Result (List ℕ) RunFa
 
     pub hosts_shown : (line : Line) (before now : List H) (waves : List (List TaskEnd)) → HostsHaveWorked inputs faults begun line before now waves (found_in result) → HostsHaveWorked inputs faults begun line before now waves final
     hosts_shown line before now waves h = record {
-      crew = λ command is. let crew = h.crew command is in record { worked = worked_shown command.attempts (take command.workers before) (take command.workers now) waves crew.worked; idle = crew.idle };
+      crew = λ command are. let crew = h.crew command are in record { worked = worked_shown command.attempts (take command.workers before) (take command.workers now) waves crew.worked; idle = crew.idle };
+      demo = λ command is. let rested = h.demo command is in record { same = rested.same; none_failed = rested.none_failed; committed = committed waves rested.committed };
       none = h.none;
     }
 

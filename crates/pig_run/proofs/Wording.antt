@@ -21,7 +21,7 @@ use Rattle.pig_run.proofs.Stages.{passes_itself, refuses, wants}
 
 module _ (line : Line) (s : Shelf) (command : Command) (are : AreWords line command) where
   script_behind : (asked : List DepotCall) (v : Verdict) → IsDue line s asked v → ScriptDue command.operand s (CommandDue command s) asked v
-  script_behind _ _ (no_words none) = absurd (none (command, are))
+  script_behind _ _ (no_words none) = absurd (none (command, are.is))
   script_behind asked v (with_words {command = c} words due) =
       subst (λ x. ScriptDue x.operand s (CommandDue x s) asked v) (same_command line c command words.is are.is) due
 

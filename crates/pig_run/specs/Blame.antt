@@ -8,13 +8,12 @@ use Rattle.pig_board.specs.declared.end.TaskEnd.{TaskEnd}
 use Rattle.pig_pool.specs.Begins.{CrewTells, crew_tells}
 use Rattle.pig_pool.specs.Wave.{HasUnwon, IsWonWave, failures_in}
 use Rattle.pig_driver.specs.Begun.{WavesBegun}
-use Rattle.pig_words.specs.CommandWords.{IsCommand}
 use Rattle.pig_words.specs.declared.words.Command.{Command}
 use Rattle.pig_run.specs.declared.outcome.RunFault.{RunFault}
 use Rattle.pig_run.specs.declared.outcome.RunFault.TheVariants as fault
-use Rattle.pig_run.specs.Due.{HasWords, Line}
+use Rattle.pig_run.specs.Due.{AreWords, HasWords, IsDemo, Line}
 
--- Usage is answered only to words that are no command that is built
+-- Usage is answered only to words that are no command
 abbrev pub UsageIsOff : Line → Option RunFault → Type 0
 UsageIsOff line answer = answer ≡ Some fault.Usage → ¬ HasWords line
 
@@ -83,8 +82,15 @@ pub record CrewHasWorked {H : Type 0} (inputs : H → Option (List Input)) (faul
   pub worked : HaveWorked inputs faults begun command.attempts (take command.workers old) (take command.workers new) waves answer
   pub idle : drop command.workers new ≡ drop command.workers old
 
--- without a command no host works, and no wave ends
+-- Of a demonstration, which has hosts of its own, these are as they were; no attempt at a task fails.
+pub record HaveRested {H : Type 0} (old new : List H) (waves : List (List TaskEnd)) (answer : Option RunFault) : Type 0 where
+  pub same : new ≡ old
+  pub none_failed : sum_by failures_in waves ≡ 0
+  pub committed : CommitsEach answer waves
+
+-- Hosts work on a command that names a script; without a command none does, and no wave ends.
 pub record HostsHaveWorked {H : Type 0} (inputs : H → Option (List Input)) (faults : H → ℕ) (begun : H → Option (List Attempt)) (line : Line) (old new : List H)
     (waves : List (List TaskEnd)) (answer : Option RunFault) : Type 0 where
-  pub crew : (command : Command) → IsCommand line.hosts line.words command → CrewHasWorked inputs faults begun command old new waves answer
+  pub crew : (command : Command) → AreWords line command → CrewHasWorked inputs faults begun command old new waves answer
+  pub demo : (command : Command) → IsDemo line command → HaveRested old new waves answer
   pub none : ¬ HasWords line → (new ≡ old) × (waves ≡ [])

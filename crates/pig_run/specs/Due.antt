@@ -1,5 +1,5 @@
 -- What is due of the words and the shelf, stage by stage in the order of the refusals, and what the depot is asked for it.
-use Rattle.std.specs.Prelude.{◌≡◌, ◌<◌, ◌≤◌, ◌^◌, ℕ, zero, suc, Bool, true, false, List, [], ◌∷◌, ◌++◌, length, map, Option, Some, None, is_none, unwrap_or, if◌then◌else◌}
+use Rattle.std.specs.Prelude.{◌≡◌, ◌<◌, ◌≤◌, ◌^◌, ℕ, zero, suc, Bool, true, false, List, [], ◌∷◌, ◌++◌, length, map, Some, None, is_none, unwrap_or, if◌then◌else◌}
 use Rattle.std.specs.List.{find, sum_by}
 use Rattle.pig_outside.specs.Calls.{DepotCall}
 use Rattle.pig_outside.specs.declared.failing.Method.{Method}
@@ -30,21 +30,30 @@ pub record Line : Type 0 where
   pub hosts : ℕ
   pub words : List (List ℕ)
 
--- the verbs that are built
-abbrev pub IsBuilt : Verb → Type 0
-IsBuilt verbs.Run = Unit {0}
-IsBuilt verbs.Explain = Unit {0}
-IsBuilt verbs.Check = Unit {0}
-IsBuilt verbs.Demo = ⊥
+-- the verbs whose operand is the path of a script
+abbrev pub NamesScript : Verb → Type 0
+NamesScript verbs.Run = Unit {0}
+NamesScript verbs.Explain = Unit {0}
+NamesScript verbs.Check = Unit {0}
+NamesScript verbs.Demo = ⊥
 
--- the words are this command, and it is built
+-- the words are a command
+abbrev pub HasWords : Line → Type 0
+HasWords line = (command : Command) × IsCommand line.hosts line.words command
+
+-- they are this command, which names a script
 pub record AreWords (line : Line) (command : Command) : Type 0 where
   pub is : IsCommand line.hosts line.words command
-  pub built : IsBuilt command.verb
+  pub scripted : NamesScript command.verb
 
--- the words are a command that is built
-abbrev pub HasWords : Line → Type 0
-HasWords line = (command : Command) × AreWords line command
+-- or they are this command, of a demonstration
+pub record IsDemo (line : Line) (command : Command) : Type 0 where
+  pub is : IsCommand line.hosts line.words command
+  pub demo : command.verb ≡ verbs.Demo
+
+-- or they are none of a demonstration
+abbrev pub IsNoDemo : Line → Type 0
+IsNoDemo line = (command : Command) → ¬ IsDemo line command
 
 -- ---- what the depot is asked
 
@@ -153,7 +162,7 @@ pub data ScriptDue (path : List ℕ) (shelf : Shelf) (next : PlanStage) : List D
   script_found : {script : List ℕ} {n : ℕ} {plan : Plan} {asked : List DepotCall} {verdict : Verdict} → script_of path shelf ≡ Some script
       → IsFound script (Typed n plan) → next n plan asked verdict → ScriptDue path shelf next (call method.Script path ∷ asked) verdict
 
--- What is due, and all that the depot is asked before it is done.
+-- What is due of words that are no demonstration, and all that the depot is asked before it is done.
 pub data IsDue (line : Line) (shelf : Shelf) : List DepotCall → Verdict → Type 0 where
   no_words : ¬ HasWords line → IsDue line shelf [] (Refuses no_command)
   with_words : {command : Command} {asked : List DepotCall} {verdict : Verdict} → AreWords line command

@@ -1,9 +1,11 @@
 pub mod Blame
+pub mod Demonstration
 pub mod Due
 pub mod Ends
 pub mod Looking
 pub mod Orderly
 pub mod Outputs
+pub mod OwnRun
 pub mod Reading
 pub mod Refusals
 pub mod Running

@@ -23,7 +23,8 @@ use Rattle.pig_driver.specs.Failing.{HaveWon, IsGivenUp}
 use Rattle.pig_driver.specs.Going.{AreWon}
 use Rattle.pig_commit.specs.Committed.{LeftOpen, with_stored}
 use Rattle.pig_commit.specs.declared.parts.StorePart.{StorePart}
-use Rattle.pig_collect.specs.Collecting.{entries_handed, joined, parts_given}
+use Rattle.pig_driver.specs.Handing.{entries_handed}
+use Rattle.pig_collect.specs.Collecting.{joined, parts_given}
 use Rattle.pig_run.specs.declared.outcome.Counts.{Counts}
 use Rattle.pig_run.specs.Reading.{Run}
 use Rattle.pig_run.specs.Texts.{line_count}

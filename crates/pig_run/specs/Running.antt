@@ -34,7 +34,7 @@ use Rattle.pig_run.specs.Outputs.{AreOutputsOf, IsRunOf, Left}
 use Rattle.pig_run.specs.Reading.{Run, Runs, Verdict}
 use Rattle.pig_run.specs.Steps.{IsCommitFault}
 use Rattle.pig_run.specs.Texts.{done_text, due_text, assert_message, fault_text, line_count, said, said_behind, stored_line}
-use Rattle.pig_run.specs.Told.{Asked, CountsAre, IsAsked, IsPrefix}
+use Rattle.pig_run.specs.Told.{CountsAre, IsAsked}
 
 -- ---- what may be asked of a command and of stages
 

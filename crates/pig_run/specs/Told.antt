@@ -16,7 +16,7 @@ use Rattle.pig_run.specs.Due.{IsDue, Line}
 use Rattle.pig_run.specs.Ends.{Console, Ends, Fails, Shown, counts_shown}
 use Rattle.pig_commit.specs.declared.parts.StorePart.{StorePart}
 use Rattle.pig_run.specs.Outputs.{AreCounts, Left, no_counts}
-use Rattle.pig_run.specs.Reading.{Verdict, Prints, Refuses, Run, Runs}
+use Rattle.pig_run.specs.Reading.{Verdict, Prints, Refuses, Runs}
 use Rattle.pig_run.specs.Refusals.{Names, by_assert, by_depot, by_memory, by_tasks, cause_of}
 use Rattle.pig_run.specs.Texts.{answer_text}
 

@@ -9,7 +9,8 @@ ghost use Rattle.pig_physical.specs.Seen.{staged};
 ghost use Rattle.pig_physical.specs.Stages.{heads};
 ghost use Rattle.pig_waves.specs.Laws.{HaveStages};
 ghost use Rattle.pig_cutter.specs.Limits.{has_too_many};
-ghost use Rattle.pig_driver.specs.Going.{AreWon, HasRunAll, TellSizes};
+ghost use Rattle.pig_driver.specs.Going.{AreWon, TellSizes};
+ghost use Rattle.pig_driver.specs.Left.{IsOver};
 ghost use Rattle.pig_run.specs.Blame.{HaveWorked};
 ghost use Rattle.pig_run.specs.Running.{EndsFinding, HasFailedAssert, HasFound, IsFresh, WavesEnd, found_in};
 ghost use Rattle.pig_run.specs.Steps.{stages_fault_of};
@@ -17,13 +18,15 @@ ghost use Rattle.pig_run.specs.Texts.{assert_message, asserts_at, message_in, sa
 
 use crate::progress::Progress;
 use crate::{RunFault, Waves};
-use pig_collect::{Collected, collect, runs_read_lines, runs_tell_the_first_unmet};
+use pig_collect::{
+    Collected, collect, runs_read_lines, runs_tell_the_first_unmet, what_is_left_tells_the_same,
+};
 use pig_commit::StoreParts;
 use pig_cutter::stages_give_meaning;
-use pig_driver::{StagesFault, few_tasks_fit, have_stages, run_stages};
+use pig_driver::{Ran, StagesFault, few_tasks_fit, have_stages, run_stages};
 use pig_keyed::keyed_plans_run_the_same;
 use pig_outside::Host;
-use pig_physical::{Outs, Stages};
+use pig_physical::Stages;
 use pig_plain::answers_are_stored_lines;
 use pig_plan::{Node, NodeOp, Plan};
 use pig_reach::{Store, Stores};
@@ -51,7 +54,7 @@ fn run_waves<R: Threads + Sync, H: Host + Send>(
     hosts: &mut [H],
     limit: u32,
     ends: &mut Waves,
-) -> Result<Outs, RunFault>
+) -> Result<Ran, RunFault>
     requires hosts { (0 < length hosts.old) × (length hosts.old ≤ 256) }
     requires limit { (0 < limit) × (limit ≤ 16) }
     requires reducers { (0 < (staged stages.now).sizing.reducers)
@@ -59,8 +62,8 @@ fn run_waves<R: Threads + Sync, H: Host + Send>(
     requires few { has_too_many (staged stages.now) ≡ false }
     requires sizes { TellSizes (staged stages.now) (map H.inputs hosts.old) }
     requires none { ends.old ≡ [] }
-    ensures run { IfOk result (λ outs. HasRunAll (staged stages.now)
-        (map H.inputs hosts.old) (outs_of outs)) }
+    ensures run { IfOk result (λ ran. IsOver (staged stages.now)
+        (map H.inputs hosts.old) (outs_of ran.outs) ran.shuffled) }
     ensures staged { IfOk result (λ _. HaveStages (staged stages.now).plan) }
     ensures ended { MatchResult result
         (λ _. AreWon (staged stages.now) ends.new (length (heads (staged stages.now).plan)))
@@ -74,7 +77,7 @@ fn run_waves<R: Threads + Sync, H: Host + Send>(
         return Err(RunFault::OutOfMemory);
     }
     match run_stages(rt, alloc, stages, hosts, limit, ends) {
-        Ok(outs) => Ok(outs),
+        Ok(ran) => Ok(ran),
         Err(fault) => Err(stages_fault(fault)),
     }
 }
@@ -122,13 +125,14 @@ pub fn find<R: Threads + Sync, H: Host + Send>(
     answers_are_stored_lines();
     stages.plan().nodes();
     know_delimiters(stores.as_slice());
-    let outs = run_waves(rt, alloc, stages, hosts, limit, &mut progress.ends)?;
+    what_is_left_tells_the_same();
+    let ran = run_waves(rt, alloc, stages, hosts, limit, &mut progress.ends)?;
+    let Ran { outs, shuffled } = ran;
     let collected = collect(alloc, stages, stores.as_slice(), outs)?;
     let Collected {
         parts,
         kept,
         read,
-        shuffled,
         unmet,
     } = collected;
     progress.kept = kept;

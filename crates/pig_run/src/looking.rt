@@ -5,12 +5,13 @@ ghost use Rattle.pig_outside.specs.declared.failing.Method.TheVariants as method
 ghost use Rattle.pig_plan.specs.Plans.{PlanNode, plan_of};
 ghost use Rattle.pig_keyed.specs.Keyed.{by_key};
 ghost use Rattle.pig_reach.specs.Reach.{live_paths, stores_of};
+ghost use Rattle.pig_words.specs.CommandWords.{IsCommand};
 ghost use Rattle.pig_words.specs.declared.words.Command.{Command};
 ghost use Rattle.pig_check.specs.States.{StoresAreApart};
-ghost use Rattle.pig_run.specs.Due.{AreWords, CommandDue, HasWords, InputsDue, IsDue, OutputsDue, ScriptDue, SizeDue, TasksDue, call};
+ghost use Rattle.pig_run.specs.Due.{CommandDue, HasWords, InputsDue, OutputsDue, ScriptDue, SizeDue, TasksDue, call};
 ghost use Rattle.pig_run.specs.Looking.{HasSize, IsAbsentIn, IsPrepared, IsReady, LooksForInput, LooksForOutput, LooksForScript, LooksForSize, line_given, total_of};
-ghost use Rattle.pig_run.specs.Orderly.{AsksAll, AsksScript, AsksSome, LooksUp};
-ghost use Rattle.pig_run.specs.Steps.{DepotCause, IsPlanFault, SaysWords, Step, depot_fault_of};
+ghost use Rattle.pig_run.specs.Orderly.{AsksAll, AsksSome, LooksUp};
+ghost use Rattle.pig_run.specs.Steps.{DepotCause, IsPlanFault, Step, depot_fault_of};
 ghost use Rattle.pig_run.specs.Told.{Asked};
 ghost use Rattle.pig_run.specs.declared.outcome.RunFault.TheVariants as fault;
 ghost use Rattle.pig_run.specs.declared.outcome.TooLarge.TheVariants as large;
@@ -25,7 +26,7 @@ use pig_physical::{Size, Sizes};
 use pig_plan::Plan;
 use pig_reach::{Stores, live_paths, stores};
 use pig_value::{Lengths, Text, WordFault};
-use pig_words::{Command, Verb, read_words};
+use pig_words::{Command, read_words};
 use std::alloc::Global;
 
 /// The limit on the inputs that a run reads, in bytes.
@@ -41,19 +42,14 @@ pub fn depot_fault(error: OutsideError, store: Option<u32>) -> RunFault
     }
 }
 
-/// The command that the words are, where it is built.
-fn read_command(alloc: Global, line: &CommandLine) -> Result<Command, RunFault>
-    ensures found { IfOk result (λ command. AreWords (line_given line.now) command) }
+/// The command that the words are.
+pub fn read_command(alloc: Global, line: &CommandLine) -> Result<Command, RunFault>
+    ensures found { IfOk result (λ command. IsCommand line.now.hosts line.now.words.now command) }
     ensures usage { IfErr result (λ f. ((f ≡ fault.Usage) × (¬ HasWords (line_given line.now)))
         ⊎ (f ≡ fault.OutOfMemory)) }
 {
     match read_words(alloc, line.words, line.hosts) {
-        Ok(command) => match command.verb {
-            Verb::Run => Ok(command),
-            Verb::Check => Ok(command),
-            Verb::Explain => Ok(command),
-            Verb::Demo => Err(RunFault::Usage),
-        },
+        Ok(command) => Ok(command),
         Err(WordFault::Usage) => Err(RunFault::Usage),
         Err(WordFault::OutOfMemory) => Err(RunFault::OutOfMemory),
     }
@@ -79,7 +75,7 @@ fn script_bytes<D: Depot>(alloc: Global, depot: &mut D, path: &str) -> Result<Ve
 }
 
 /// The plan of the script that a command names.
-fn load_script<D: Depot>(
+pub fn load_script<D: Depot>(
     alloc: Global,
     depot: &mut D,
     command: &Command,
@@ -99,33 +95,6 @@ fn load_script<D: Depot>(
     a_script_has_one_plan();
     let script = script_bytes(alloc, depot, command.operand.as_str())?;
     read_script(alloc, script.as_slice())
-}
-
-/// A command, and the script that it names, which was checked.
-#[derive(Drop)]
-pub struct Request {
-    pub command: Command,
-    pub checked: Checked,
-}
-
-/// The command that the words are, and the plan of the script that it names.
-pub fn load<D: Depot>(alloc: Global, line: &CommandLine, depot: &mut D) -> Result<Request, RunFault>
-    ensures told { ForSome (D.shelf depot.old) (λ s. Step (IsDue (line_given line.now) s)
-        (λ r. CommandDue r.command s r.checked.statements (plan_of r.checked.plan))
-        (D.calls depot.old) (D.calls depot.new) result) }
-    ensures are { IfOk result (λ r. AreWords (line_given line.now) r.command) }
-    ensures apart { IfOk result (λ r. StoresAreApart (plan_of r.checked.plan)) }
-    ensures words { MatchResult result (λ _. HasWords (line_given line.now))
-        (SaysWords (line_given line.now)) }
-    ensures fault { IfErr result (λ f. (f ≡ fault.Usage) ⊎ IsPlanFault f) }
-    ensures shelf { D.shelf depot.new ≡ D.shelf depot.old }
-    ensures cause { DepotCause (D.faults depot.old) (D.faults depot.new) result }
-    ensures stores { D.store_faults depot.new ≡ D.store_faults depot.old }
-    ensures asked { AsksScript (D.calls depot.old) (D.calls depot.new) }
-{
-    let command = read_command(alloc, line)?;
-    let checked = load_script(alloc, depot, &command)?;
-    Ok(Request { command, checked })
 }
 
 /// The lengths of the pieces of the input at a path.

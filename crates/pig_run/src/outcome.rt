@@ -12,7 +12,7 @@ use thiserror::Error;
 /// Why a run did not end well.
 #[derive(Debug, Drop, Error)]
 pub enum RunFault {
-    /// The words are no command that is built: `run`, `explain` or `check`, the path of one script, and options.
+    /// The words are no command: `run`, `explain` or `check` and the path of one script, or `demo` and a number, and options.
     #[error("the words are no command")]
     Usage,
     /// The depot has no such script.

@@ -1,4 +1,4 @@
-ghost use Rattle.std.specs.Prelude.{◌≡◌, ◌≢◌, ◌<◌, ◌≤◌, ◌⊎◌, ◌%◌, ◌^◌, List, [], false, true, length, map, IfErr, IfOk, MatchResult};
+ghost use Rattle.std.specs.Prelude.{◌≡◌, ◌<◌, ◌≤◌, ◌⊎◌, ◌%◌, ◌^◌, List, [], false, true, length, map, IfErr, IfOk, MatchResult};
 ghost use Rattle.std.specs.Option.{ForSome};
 ghost use Rattle.std.specs.List.{AllByRecursion, sum_by};
 ghost use Rattle.pig_plan.specs.Plans.{PlanNode, plan_of};
@@ -10,21 +10,20 @@ ghost use Rattle.pig_cutter.specs.Limits.{has_too_many};
 ghost use Rattle.pig_driver.specs.Going.{TellSizes};
 ghost use Rattle.pig_keyed.specs.Keyed.{by_key};
 ghost use Rattle.pig_explain.specs.Explained.{explain_text};
-ghost use Rattle.pig_run.specs.Blame.{CrewHasWorked, HaveWorked, HostsHaveWorked};
-ghost use Rattle.pig_run.specs.Due.{CommandDue, HasWords, InputsDue, IsBuilt, IsDue, TasksDue};
-ghost use Rattle.pig_run.specs.Looking.{IsAbsentIn, IsPrepared, IsReady, are_apart, line_given};
+ghost use Rattle.pig_run.specs.Blame.{CrewHasWorked, HaveWorked};
+ghost use Rattle.pig_run.specs.Due.{CommandDue, InputsDue, NamesScript, ScriptDue, TasksDue};
+ghost use Rattle.pig_run.specs.Looking.{IsAbsentIn, IsPrepared, IsReady, are_apart};
 ghost use Rattle.pig_run.specs.Orderly.{IsOrderly, IsOrderlyBehind, Makes};
 ghost use Rattle.pig_run.specs.Reading.{Run};
 ghost use Rattle.pig_run.specs.Running.{IsFresh, IsUsable, RunTold, RunsTold, counts_in, found_in};
-ghost use Rattle.pig_run.specs.Steps.{DepotCause, IsLaterFault, SaysWords, StoreBlame};
+ghost use Rattle.pig_run.specs.Steps.{DepotCause, IsLaterFault, StoreBlame};
 ghost use Rattle.pig_run.specs.Texts.{ok_text};
-ghost use Rattle.pig_run.specs.Told.{AllTell, CrewTells, TellsInputs, TellsOf};
+ghost use Rattle.pig_run.specs.Told.{CrewTells, TellsInputs, TellsOf};
 ghost use Rattle.pig_run.specs.declared.outcome.RunFault.TheVariants as fault;
 ghost use Rattle.pig_run.specs.declared.outcome.TooLarge.TheVariants as large;
 
 use crate::finding::find;
-use crate::line::CommandLine;
-use crate::looking::{Prepared, Request, load, prepare};
+use crate::looking::{Prepared, load_script, prepare};
 use crate::progress::{Notes, Progress};
 use crate::reading::Checked;
 use crate::storing::{note_all, store_all};
@@ -258,6 +257,13 @@ fn print_explain(alloc: Global, plan: &Plan) -> Result<Blob, RunFault>
     Ok(Blob::from_vec(text))
 }
 
+/// A command, and the script that it names, which was checked.
+#[derive(Drop)]
+struct Request {
+    command: Command,
+    checked: Checked,
+}
+
 /// Does with a script that was checked what the command says.
 fn obey<R: Threads + Sync, D: Depot, H: Host + Send>(
     rt: &R,
@@ -269,7 +275,7 @@ fn obey<R: Threads + Sync, D: Depot, H: Host + Send>(
 ) -> Result<Blob, RunFault>
     requires few { length hosts.old ≤ 256 }
     requires usable { IsUsable (length hosts.old) request.command }
-    requires built { IsBuilt request.command.verb }
+    requires scripted { NamesScript request.command.verb }
     requires apart { StoresAreApart (plan_of request.checked.plan) }
     requires tells { AllByRecursion (TellsOf (D.shelf depot.old)) (map H.inputs hosts.old) }
     requires fresh { IsFresh progress.old }
@@ -290,36 +296,38 @@ fn obey<R: Threads + Sync, D: Depot, H: Host + Send>(
         Verb::Run => run_on_crew(rt, alloc, depot, hosts, &command, plan, progress),
         Verb::Check => print_check(alloc, statements),
         Verb::Explain => print_explain(alloc, &plan),
-        // Not built: `load` gives no such command.
+        // It names no script.
         Verb::Demo => Err(RunFault::OutOfMemory),
     }
 }
 
-/// Reads the words and the script, and does what they say.
-pub fn run<R: Threads + Sync, D: Depot, H: Host + Send>(
+/// Reads the script that a command names, and does with it what the command says.
+pub fn run_script<R: Threads + Sync, D: Depot, H: Host + Send>(
     rt: &R,
     alloc: Global,
-    line: &CommandLine,
     depot: &mut D,
     hosts: &mut [H],
+    command: Command,
     progress: &mut Progress,
 ) -> Result<Blob, RunFault>
-    requires hosts { length hosts.old ≡ line.now.hosts }
+    requires few { length hosts.old ≤ 256 }
+    requires usable { IsUsable (length hosts.old) command }
+    requires scripted { NamesScript command.verb }
     requires tells { AllByRecursion (TellsOf (D.shelf depot.old)) (map H.inputs hosts.old) }
     requires fresh { IsFresh progress.old }
-    ensures told { ForSome (D.shelf depot.old) (λ s. RunTold (IsDue (line_given line.now) s) s
-        (AllTell H.inputs (line_given line.now) hosts.old) (D.calls depot.old)
+    ensures told { ForSome (D.shelf depot.old) (λ s.
+        RunTold (ScriptDue command.operand s (CommandDue command s)) s
+        (CrewTells H.inputs command hosts.old) (D.calls depot.old)
         (D.calls depot.new) (D.shelf depot.new) progress.new result) }
-    ensures fault { IfErr result (λ f. f ≢ fault.ConsoleFault) }
-    ensures words { MatchResult result (λ _. HasWords (line_given line.now))
-        (SaysWords (line_given line.now)) }
+    ensures fault { IfErr result IsLaterFault }
     ensures depot { DepotCause (D.faults depot.old) (D.faults depot.new) result }
     ensures stores { StoreBlame (D.store_faults depot.old) (D.store_faults depot.new) result }
-    ensures worked { HostsHaveWorked H.inputs H.faults H.begun (line_given line.now)
-        hosts.old hosts.new progress.new.ends (found_in result) }
+    ensures worked { CrewHasWorked H.inputs H.faults H.begun command hosts.old hosts.new
+        progress.new.ends (found_in result) }
     ensures asked { IsOrderly (found_in result) (D.calls depot.old) (D.calls depot.new) }
 {
     a_script_has_one_plan();
-    let request = load(alloc, line, depot)?;
+    let checked = load_script(alloc, depot, &command)?;
+    let request = Request { command, checked };
     obey(rt, alloc, depot, hosts, request, progress)
 }

@@ -1,14 +1,18 @@
 ghost use Rattle.std.specs.Prelude.{◌≡◌, ◌++◌, ◌∷◌, [], map, codes, decimal, IfOk, OnOk};
 ghost use Rattle.pig_run.specs.Texts.{done_line, fault_text, kind_name, large_name, ok_text, stored_line};
 ghost use Rattle.std.specs.List.{flat_map};
+ghost use Rattle.std.specs.Option.{option_copied};
+ghost use Rattle.pig_run.specs.OwnRun.{parts_found};
+ghost use Rattle.pig_collect.specs.Collecting.{joined};
 ghost use Rattle.pig_run.specs.Running.{noted_line};
 ghost use Rattle.pig_run.specs.declared.outcome.RunFault.TheVariants as fault;
 
 use crate::progress::Notes;
 use crate::{Counts, RunFault, TooLarge};
 use itoa::Buffer;
+use pig_outside::DirState;
 use pig_typing::CheckKind;
-use pig_value::Text;
+use pig_value::{Blob, Text};
 use std::alloc::{AllocError, Global};
 
 /// The parts of a line, joined, with an LF behind them.
@@ -258,6 +262,35 @@ pub fn done_bytes(alloc: Global, notes: &Notes, counts: &Counts) -> Result<Vec<u
     while let [note, rest @ ..] = left {
         add_stored(&mut out, note.dir.as_bytes(), note.lines)?;
         left = rest;
+    }
+    add_done(&mut out, counts)?;
+    Ok(out)
+}
+
+/// Adds parts, one after the other.
+fn add_parts(out: &mut Vec<u8>, parts: &[Blob]) -> Result<(), AllocError>
+    ensures { OnOk result (out.new.items ≡ out.old.items ++ joined parts.now) }
+{
+    let mut left = parts;
+    while let [part, rest @ ..] = left {
+        out.extend_from_slice(part.as_slice())?;
+        left = rest;
+    }
+    Ok(())
+}
+
+/// The text of what stands in a directory, if it is there, and of numbers.
+pub fn top_bytes(
+    alloc: Global,
+    top: Option<&DirState>,
+    counts: &Counts,
+) -> Result<Vec<u8>, AllocError>
+    ensures { IfOk result (λ text. text.items
+        ≡ joined (parts_found (option_copied top.entry)) ++ done_line counts.now) }
+{
+    let mut out = Vec::new(alloc);
+    if let Some(top) = top {
+        add_parts(&mut out, top.parts.as_slice())?;
     }
     add_done(&mut out, counts)?;
     Ok(out)

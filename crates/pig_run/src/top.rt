@@ -4,7 +4,9 @@ ghost use Rattle.std.specs.List.{sum_by};
 ghost use Rattle.pig_outside.specs.Calls.{DepotCall};
 ghost use Rattle.pig_outside.specs.Shelf.{Shelf};
 ghost use Rattle.pig_pool.specs.Wave.{failures_in};
-ghost use Rattle.pig_run.specs.Due.{HasWords, IsDue, Line};
+ghost use Rattle.pig_words.specs.declared.words.Command.{Command};
+ghost use Rattle.pig_run.specs.Demonstration.{Demoed};
+ghost use Rattle.pig_run.specs.Due.{HasWords, IsDemo, IsDue, IsNoDemo, Line};
 ghost use Rattle.pig_run.specs.Ends.{Shown, counts_shown, unshown};
 ghost use Rattle.pig_run.specs.Reading.{Verdict};
 ghost use Rattle.pig_run.specs.Refusals.{status_of};
@@ -15,9 +17,10 @@ ghost use Rattle.pig_run.specs.Orderly.{IsOrderly};
 ghost use Rattle.pig_run.specs.Told.{AllTell, TellsOf, Told, line_of, seen};
 ghost use Rattle.pig_run.specs.declared.outcome.RunFault.TheVariants as fault;
 
+use crate::commands::run;
 use crate::line::CommandLine;
 use crate::progress::Progress;
-use crate::running::{counts_of, run};
+use crate::running::counts_of;
 use crate::texts::fault_bytes;
 use crate::{Counts, Outcome, RunFault};
 use pig_check::a_script_has_one_plan;
@@ -122,9 +125,9 @@ fn kept_shown(alloc: Global, stands: bool, kept: KeptList) -> KeptList
 
 /// Does what the words say, and answers how it ended.
 ///
-/// `words` are the program's words without its name, as [`read_words`](pig_words::read_words) takes them; of the verbs `run`,
-/// `explain` and `check` are built. The depot keeps scripts, inputs and outputs. The first hosts make the attempts of tasks, each in a
-/// thread of its own, as many as the words say; the console is shown one text.
+/// `words` are the program's words without its name, as [`read_words`](pig_words::read_words) takes them. The depot keeps scripts, inputs
+/// and outputs. The first hosts make the attempts of tasks, each in a thread of its own, as many as the words say; the console is shown
+/// one text. For `demo` the depot and the hosts are not called: it has its own.
 pub fn pig_main<R: Threads + Sync, D: Depot, H: Host + Send, C: Console>(
     rt: &R,
     alloc: Global,
@@ -137,12 +140,20 @@ pub fn pig_main<R: Threads + Sync, D: Depot, H: Host + Send, C: Console>(
     requires few_hosts { length hosts.old.items ≤ 256 }
     requires hosts_tell { All (λ h. TellsOf (D.shelf depot.old) (H.inputs h)) hosts.old.items }
     // The answer, and what then stands.
-    ensures told { ForSome (D.shelf depot.old) (λ s. Told (line_of hosts.old.items words.now) s
+    ensures told { ForSome (D.shelf depot.old) (λ s. IsNoDemo (line_of hosts.old.items words.now)
+        → Told (line_of hosts.old.items words.now) s
         (AllTell H.inputs (line_of hosts.old.items words.now) hosts.old.items)
         (seen D.shelf D.calls D.faults H.faults C.text C.faults depot.old hosts.old.items
         console.old)
         (seen D.shelf D.calls D.faults H.faults C.text C.faults depot.new hosts.new.items
         console.new) result) }
+    // The answer to a `demo`, which touches nothing but the console.
+    ensures demo { (command : Command) → IsDemo (line_of hosts.old.items words.now) command
+        → Demoed command (record { text = C.text console.old; faults = C.faults console.old })
+        (record { text = C.text console.new; faults = C.faults console.new }) result }
+    ensures untouched { (command : Command) → IsDemo (line_of hosts.old.items words.now) command
+        → (depot.new ≡ depot.old) × (hosts.new.items ≡ hosts.old.items) }
+    // The words.
     ensures usage { UsageIsOff (line_of hosts.old.items words.now) result.fault }
     ensures off_words { OffIsUsage (line_of hosts.old.items words.now) result.fault }
     ensures status { result.status ≡ status_of result.fault }
@@ -193,11 +204,11 @@ pub fn pig_main<R: Threads + Sync, D: Depot, H: Host + Send, C: Console>(
     }
 }
 
-/// Exactly one thing is due of the same words, number of hosts and shelf: a refusal, which names its statement where one has
-/// no typing, or the run of a plan; and for it the depot is asked one list of calls.
+/// Exactly one thing is due of the same words but a demonstration's, number of hosts and shelf: a refusal, which
+/// names its statement where one has no typing, or the run of a plan; and for it the depot is asked one list of calls.
 pub fn one_verdict()
-    ensures some { (line : Line) (shelf : Shelf) → (calls : List DepotCall) × (verdict : Verdict)
-        × IsDue line shelf calls verdict }
+    ensures some { (line : Line) (shelf : Shelf) → IsNoDemo line
+        → (calls : List DepotCall) × (verdict : Verdict) × IsDue line shelf calls verdict }
     ensures one { (line : Line) (shelf : Shelf) (calls others : List DepotCall) (v w : Verdict)
         → IsDue line shelf calls v → IsDue line shelf others w → (v ≡ w) × (calls ≡ others) }
 {

@@ -99,6 +99,6 @@ fn run_set<N: Setting + Send + Sync, R: Threads + Sync, H: Host + Send>(
     ensures inputs { map H.inputs hosts.new ≡ map H.inputs hosts.old }
     ensures later { sum_by H.faults hosts.old ≤ sum_by H.faults hosts.new }
 {
-    let work = StageWork::<'_, N>::of(alloc, stages, prior, wave);
+    let work = StageWork::<'_, N>::new(alloc, stages, wave, prior);
     run_wave(rt, alloc, &work, wave, hosts, limit)
 }

@@ -63,7 +63,12 @@ impl<'w, N: Setting> Model for StageWork<'w, N> {
 
 impl<'w, N: Setting> StageWork<'w, N> {
     /// The tasks of a wave for which all that they name stands.
-    pub fn of(alloc: Global, stages: &'w Stages<'w>, prior: &'w Outs, wave: u32) -> StageWork<'w, N>
+    pub fn new(
+        alloc: Global,
+        stages: &'w Stages<'w>,
+        wave: u32,
+        prior: &'w Outs,
+    ) -> StageWork<'w, N>
         requires outs { outs_of prior.now ≡ N.outs }
         requires ready { IsReady (staged stages.now) N.outs wave }
         ensures { result ≡ (stages.now, wave) }

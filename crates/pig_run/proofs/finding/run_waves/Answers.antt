@@ -1,4 +1,4 @@
-use Rattle.std.proofs.Common.{rules, refl, ◌≡◌, ◌≤◌, Some, subst, sym, arith}
+use Rattle.std.proofs.Common.{rules, refl, Some, subst, sym, arith}
 use Rattle.pig_plan.specs.Valid.{IsPlan}
 use Rattle.pig_waves.specs.Laws.{HaveStages}
 use Rattle.pig_physical.specs.Seen.{staged}

@@ -1,8 +1,7 @@
-use Rattle.std.proofs.Common.{rules, refl, ◌≡◌, Ok, Err, IfOk, MatchResult}
+use Rattle.std.proofs.Common.{rules, refl, ◌≡◌, Ok, Err}
 use Rattle.std.proofs.lemmas.Result.{MatchResult-weaker}
 use Rattle.pig_plan.specs.Plans.{plan_of}
 use Rattle.pig_words.specs.declared.words.Verb.TheVariants as verbs
-use Rattle.pig_run.specs.declared.outcome.RunFault.TheVariants as fault
 use Rattle.pig_run.specs.Due.{CommandDue, InputsDue, check_due, explain_due}
 use Rattle.pig_run.specs.Running.{found_in}
 use Rattle.pig_keyed.specs.Keyed.{by_key}
@@ -43,7 +42,7 @@ returns-in-Check-clause-told g c s told =
     let is : c.args.request.command.verb ≡ verbs.Check = search rules in
     MatchResult-weaker c.print_check.result c.print_check.ensures
     (λ text same. told_shown stage (ok_text r.checked.statements) (check_due is) s tells now now shelf c.args.progress.now refl told c.requires.fresh text same)
-    (λ f same. told_stopped stage (some_command_due r.command c.requires.built s r.checked.statements plan) s tells now now shelf c.args.progress.now told c.requires.fresh f (wants stage now now refl f same))
+    (λ f same. told_stopped stage (some_command_due r.command c.requires.scripted s r.checked.statements plan) s tells now now shelf c.args.progress.now told c.requires.fresh f (wants stage now now refl f same))
 
 pub returns-in-Check-clause-worked : goal.returns-in-Check-clause-worked
 returns-in-Check-clause-worked g c =
@@ -64,7 +63,7 @@ returns-in-Explain-clause-told g c s told =
     let is : c.args.request.command.verb ≡ verbs.Explain = search rules in
     MatchResult-weaker c.print_explain.result c.print_explain.ensures
     (λ text same. told_shown stage (explain_text plan (by_key plan)) (explain_due is) s tells now now shelf c.args.progress.now refl told c.requires.fresh text same)
-    (λ f same. told_stopped stage (some_command_due r.command c.requires.built s r.checked.statements plan) s tells now now shelf c.args.progress.now told c.requires.fresh f (wants stage now now refl f same))
+    (λ f same. told_stopped stage (some_command_due r.command c.requires.scripted s r.checked.statements plan) s tells now now shelf c.args.progress.now told c.requires.fresh f (wants stage now now refl f same))
 
 pub returns-in-Explain-clause-worked : goal.returns-in-Explain-clause-worked
 returns-in-Explain-clause-worked g c =

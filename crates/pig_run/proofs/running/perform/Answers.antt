@@ -1,4 +1,4 @@
-use Rattle.std.proofs.Common.{rules, refl, ◌≡◌, ◌⊎◌, ◌≤◌, ◌<◌, Some, Ok, Err, IfOk, IfErr, MatchResult, map, true, false, ap, subst, sym, ◌∙◌, arith}
+use Rattle.std.proofs.Common.{rules, refl, ◌≡◌, ◌⊎◌, ◌≤◌, ◌<◌, Ok, Err, IfOk, IfErr, MatchResult, map, true, false, ap, subst, sym, ◌∙◌}
 use Rattle.std.proofs.lemmas.Result.{IfErr-weaker, MatchResult-weaker}
 use Rattle.std.specs.List.{AllByRecursion}
 use Rattle.pig_plan.specs.Plans.{plan_of}
@@ -8,7 +8,7 @@ use Rattle.pig_driver.specs.Going.{TellSizes}
 use Rattle.pig_physical.specs.Seen.{cut_of, staged}
 use Rattle.pig_run.specs.declared.outcome.RunFault.TheVariants as fault
 use Rattle.pig_run.specs.declared.outcome.TooLarge.TheVariants as large
-use Rattle.pig_run.specs.Due.{TasksDue, making_of, run_of}
+use Rattle.pig_run.specs.Due.{TasksDue, run_of}
 use Rattle.pig_run.specs.Running.{RunEnd, RunsEnd, found_in}
 use Rattle.pig_run.specs.Told.{TellsInputs}
 use Rattle.pig_run.proofs.Crews.{cut_fault, idle_worked}

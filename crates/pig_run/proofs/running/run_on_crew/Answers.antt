@@ -1,4 +1,4 @@
-use Rattle.std.proofs.Common.{rules, refl, ◌≡◌, ◌++◌, length, map, subst, sym, ◌∙◌}
+use Rattle.std.proofs.Common.{refl, ◌++◌, map, subst, sym}
 use Rattle.std.specs.List.{AllByRecursion}
 use Rattle.pig_run.specs.Running.{found_in}
 use Rattle.pig_run.specs.Told.{TellsOf}

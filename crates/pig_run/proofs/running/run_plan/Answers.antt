@@ -1,4 +1,4 @@
-use Rattle.std.proofs.Common.{rules, refl, ◌≡◌, Some, Ok, Err, IfOk, IfErr, MatchResult, map, ◌∙◌}
+use Rattle.std.proofs.Common.{rules, ◌≡◌, Some, Ok, Err, IfOk, IfErr, MatchResult, map, ◌∙◌}
 use Rattle.std.proofs.lemmas.Result.{IfErr-weaker, MatchResult-weaker}
 use Rattle.std.specs.List.{AllByRecursion}
 use Rattle.pig_plan.specs.Plans.{plan_of}

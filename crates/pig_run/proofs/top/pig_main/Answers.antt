@@ -1,15 +1,16 @@
-use Rattle.std.proofs.Common.{rules, ◌≡◌, ◌≤◌, ◌+◌, MatchResult, IfErr, length, map, ap, subst, sym, refl, ◌∙◌}
+use Rattle.std.proofs.Common.{rules, ◌≡◌, ◌≤◌, ◌+◌, MatchResult, length, map, ap, subst, sym, refl, ◌∙◌}
 use Rattle.std.specs.List.{AllByRecursion, sum_by}
 use Rattle.pig_pool.specs.Wave.{failures_in}
 use Rattle.pig_run.specs.declared.outcome.Outcome.{Outcome}
 use Rattle.pig_run.specs.Blame.{HostsHaveWorked}
-use Rattle.pig_run.specs.Due.{HasWords, IsDue, Line}
-use Rattle.pig_run.specs.Ends.{Shown, counts_shown}
+use Rattle.pig_run.specs.Due.{HasWords, IsDemo, IsDue, IsNoDemo}
+use Rattle.pig_run.specs.Ends.{Console, Shown, counts_shown}
 use Rattle.pig_run.specs.Running.{RunEnd, counts_in, end_text, found_in, kept_in}
 use Rattle.pig_run.specs.Steps.{SaysWords}
 use Rattle.pig_run.specs.Told.{AllTell, Seen, TellsOf, Told, line_of, seen}
 use Rattle.pig_run.proofs.Crews.{all_committed, all_failures, own_hosts, tell_each}
 use Rattle.pig_run.proofs.Topping.{answers_none, committed, console_blamed, depot_blamed, hosts_shown, lookup_blamed, off_words, run_told, store_blamed, told_all, usage_blamed}
+use Rattle.pig_run.proofs.DemoSteps.{demo_shown}
 use Rattle.pig_run.proofs.Ordering.{orderly_shown}
 use Rattle.pig_run.proofs.top.pig_main.Goals as goal
 
@@ -95,14 +96,15 @@ returns-clause-hosts g c =
     ap (map g.H.Host.inputs) back ∙ own.same
 
 pub returns-clause-told : goal.returns-clause-told
-returns-clause-told g c s told =
+returns-clause-told g c s told other =
     let line = line_of c.args.hosts.now.items c.args.words.now in
     let slice : c.as_mut_slice.result.now ≡ c.args.hosts.now.items = search rules in
     let count : c.len.result ≡ length c.args.hosts.now.items = search rules in
     let own = own_hosts g.H.Host.inputs g.H.Host.faults g.H.Host.begun c.args.words.now c.as_mut_slice.result.now c.args.hosts.now.items c.run-end.new.hosts c.len.result c.run-end.new.progress.ends
     (found_in c.run-end.result) slice count c.run-end.ensures.worked in
     let back = own.back c.args.hosts.now.len c.args.hosts.now.ok.0 in
-    let ended = run_told _ s _ _ _ _ c.run-end.new.progress c.run-end.result (c.run-end.ensures.told s told) in
+    let other_line = subst (λ n. IsNoDemo (record { hosts = n; words = c.args.words.now })) (sym count) other in
+    let ended = run_told _ s _ _ _ _ c.run-end.new.progress c.run-end.result (c.run-end.ensures.told s told other_line) in
     let ended_over = subst (λ hosts. RunEnd (IsDue (record { hosts = c.len.result; words = c.args.words.now }) s) s (AllTell g.H.Host.inputs (record { hosts = c.len.result; words = c.args.words.now }) hosts)
     (g.D.Depot.calls c.args.depot.now) (g.D.Depot.calls c.run-end.new.depot) (g.D.Depot.shelf c.run-end.new.depot) c.run-end.new.progress c.run-end.result) slice ended in
     let ended_line = subst (λ n. RunEnd (IsDue (record { hosts = n; words = c.args.words.now }) s) s (AllTell g.H.Host.inputs (record { hosts = n; words = c.args.words.now }) c.args.hosts.now.items)
@@ -118,3 +120,28 @@ returns-clause-told g c s told =
     (told_all line s (AllTell g.H.Host.inputs line c.args.hosts.now.items) old new outcome c.run-end.new.progress c.run-end.result ended_line
     (subst (λ text. Shown (end_text text c.run-end.result) old.console new.console (found_in c.run-end.result) c.show_end-fault.result) said c.show_end-fault.ensures.shown) kept refl counts c.run-end.ensures.depot
     (all_failures g.H.Host.inputs g.H.Host.faults g.H.Host.begun line c.args.hosts.now.items c.run-end.new.hosts c.run-end.new.progress.ends (found_in c.run-end.result) own.worked))
+
+-- ---- a demonstration
+
+pub returns-clause-demo : goal.returns-clause-demo
+returns-clause-demo g c command demo =
+    let count : c.len.result ≡ length c.args.hosts.now.items = search rules in
+    let given : IsDemo (record { hosts = c.len.result; words = c.args.words.now }) command = subst (λ n. IsDemo (record { hosts = n; words = c.args.words.now }) command) (sym count) demo in
+    let old : Console = record { text = g.C.Console.text c.args.console.now; faults = g.C.Console.faults c.args.console.now } in
+    let new : Console = record { text = g.C.Console.text c.show_end-fault.new.console; faults = g.C.Console.faults c.show_end-fault.new.console } in
+    let outcome : Outcome = record { status = c.status.result; fault = c.show_end-fault.result; kept = c.kept_shown.result; waves = c.run-end.new.progress.ends; counts = c.counts_shown-counts.result } in
+    let kept : c.kept_shown.result ≡ kept_in c.run-end.new.progress = search rules in
+    let said : c.as_slice.result.now ≡ c.run-end.new.progress.said.items = search rules in
+    let counts : c.counts_shown-counts.result ≡ counts_shown c.show_end-fault.result (counts_in c.run-end.new.progress) = search rules in
+    demo_shown command old new outcome c.run-end.new.progress c.run-end.result (c.run-end.ensures.demo command given)
+    (subst (λ text. Shown (end_text text c.run-end.result) old new (found_in c.run-end.result) c.show_end-fault.result) said c.show_end-fault.ensures.shown) kept refl counts
+
+pub returns-clause-untouched : goal.returns-clause-untouched
+returns-clause-untouched g c command demo =
+    let slice : c.as_mut_slice.result.now ≡ c.args.hosts.now.items = search rules in
+    let count : c.len.result ≡ length c.args.hosts.now.items = search rules in
+    let given : IsDemo (record { hosts = c.len.result; words = c.args.words.now }) command = subst (λ n. IsDemo (record { hosts = n; words = c.args.words.now }) command) (sym count) demo in
+    let own = own_hosts g.H.Host.inputs g.H.Host.faults g.H.Host.begun c.args.words.now c.as_mut_slice.result.now c.args.hosts.now.items c.run-end.new.hosts c.len.result c.run-end.new.progress.ends
+    (found_in c.run-end.result) slice count c.run-end.ensures.worked in
+    let back = own.back c.args.hosts.now.len c.args.hosts.now.ok.0 in
+    (c.run-end.ensures.untouched command given, back ∙ (own.worked.demo command demo).same)

@@ -15,11 +15,11 @@ run_wave-requires-sync-W g c κs within = search (sendable, work_shared)
 
 pub run_wave-requires-clause-suit : goal.run_wave-requires-clause-suit
 run_wave-requires-clause-suit g c κs within = λ k d less.
-    subst (λ v. Suits (staged v.0) g.N.Setting.told v.1 (g.H.Host.inputs (slice_index_or c.args.hosts.now k d))) (sym c.of-work.ensures)
+    subst (λ v. Suits (staged v.0) g.N.Setting.told v.1 (g.H.Host.inputs (slice_index_or c.args.hosts.now k d))) (sym c.new-work.ensures)
     (host_suits g.H.Host.inputs (staged c.args.stages.now) c.args.wave c.args.hosts.now g.N.Setting.told c.requires.told c.requires.sources k d less)
 
 pub returns-clause-outs : goal.returns-clause-outs
 returns-clause-outs g c =
     subst (λ v. IfOk c.run_wave.result (λ r. AreOutputs (λ place out. IsRightAt (staged v.0) g.N.Setting.told g.N.Setting.outs v.1 place (out_of out))
     (length (tasks_in (staged v.0) v.1)) r.outs))
-    c.of-work.ensures c.run_wave.ensures.outs
+    c.new-work.ensures c.run_wave.ensures.outs

@@ -1,0 +1,73 @@
+use Rattle.std.proofs.Common.{rules, refl, ◌≡◌, [], ◌∷◌, Some, Ok, Err, IfOk, IfErr, MatchResult, ◌∙◌, arith}
+use Rattle.std.proofs.lemmas.Result.{IfErr-weaker, MatchResult-weaker}
+use Rattle.pig_plan.specs.Plans.{plan_of}
+use Rattle.pig_run.specs.Due.{CommandDue, ScriptDue}
+use Rattle.pig_run.specs.Orderly.{AsksScript}
+use Rattle.pig_run.specs.Running.{RunEnd, found_in}
+use Rattle.pig_run.specs.Steps.{IsPlanFault, Passes, StopsIn}
+use Rattle.pig_run.specs.Told.{CrewTells}
+use Rattle.pig_run.proofs.Crews.{crew_idle, plan_fault}
+use Rattle.pig_run.proofs.Deciding.{some_command_due, some_script}
+use Rattle.pig_run.proofs.Ending.{end_behind, told_stopped}
+use Rattle.pig_run.proofs.Ordering.{orderly_behind, orderly_idle}
+use Rattle.pig_run.proofs.Readings.{PlanLaws}
+use Rattle.pig_run.proofs.Wording.{later_plan}
+use Rattle.pig_run.proofs.running.run_script.Goals as goal
+
+pub returns-in_err-checked-clause-told : goal.returns-in_err-checked-clause-told
+returns-in_err-checked-clause-told g c s told =
+    let law = c.a_script_has_one_plan.ensures in
+    let laws : PlanLaws = record { one = law.one; some = law.some; never_both = law.never_both; one_statement = law.one_statement } in
+    let command = c.args.command in
+    let next = CommandDue command s in
+    let tells = CrewTells g.H.Host.inputs c.args.command c.args.hosts.now in
+    let old = g.D.Depot.calls c.args.depot.now in
+    let new = g.D.Depot.calls c.load_script.new.depot in
+    let shelf = g.D.Depot.shelf c.load_script.new.depot in
+    let stopped : MatchResult c.from_residual.result
+    (λ text. RunEnd (ScriptDue c.args.command.operand s (CommandDue c.args.command s)) s (CrewTells g.H.Host.inputs c.args.command c.args.hosts.now) (g.D.Depot.calls c.args.depot.now) (g.D.Depot.calls c.load_script.new.depot)
+    (g.D.Depot.shelf c.load_script.new.depot) c.args.progress.now (Ok text))
+    (StopsIn (ScriptDue c.args.command.operand s (CommandDue c.args.command s)) (g.D.Depot.calls c.args.depot.now) (g.D.Depot.calls c.load_script.new.depot)) = search rules in
+    MatchResult-weaker c.from_residual.result stopped (λ text h. h)
+    (λ f h. told_stopped (ScriptDue command.operand s next) (some_script laws command.operand s next (some_command_due command c.requires.scripted s)) s tells old new shelf c.args.progress.now
+    (c.load_script.ensures.shelf ∙ told) c.requires.fresh f h)
+
+pub returns-clause-told : goal.returns-clause-told
+returns-clause-told g c s told =
+    let command = c.args.command in
+    let checked = c.in_ok-checked.checked in
+    let stage = ScriptDue command.operand s (CommandDue command s) in
+    let next = CommandDue command s checked.statements (plan_of checked.plan) in
+    let tells = CrewTells g.H.Host.inputs c.args.command c.args.hosts.now in
+    let old = g.D.Depot.calls c.args.depot.now in
+    let mid = g.D.Depot.calls c.load_script.new.depot in
+    let new = g.D.Depot.calls c.obey.new.depot in
+    let shelf = g.D.Depot.shelf c.obey.new.depot in
+    let told_mid : g.D.Depot.shelf c.load_script.new.depot ≡ Some s = c.load_script.ensures.shelf ∙ told in
+    let passes : Passes (ScriptDue c.args.command.operand s (CommandDue c.args.command s))
+    (CommandDue c.args.command s c.in_ok-checked.checked.statements (plan_of c.in_ok-checked.checked.plan)) (g.D.Depot.calls c.args.depot.now) (g.D.Depot.calls c.load_script.new.depot) = search rules in
+    MatchResult-weaker c.obey.result (c.obey.ensures.told s told_mid)
+    (λ text h. end_behind stage next s tells old mid new shelf c.obey.new.progress (Ok text) passes h)
+    (λ f h. end_behind stage next s tells old mid new shelf c.obey.new.progress (Err f) passes h)
+
+pub returns-in_err-checked-clause-fault : goal.returns-in_err-checked-clause-fault
+returns-in_err-checked-clause-fault g c =
+    let is : IfErr c.from_residual.result IsPlanFault = search rules in
+    IfErr-weaker c.from_residual.result _ _ (λ f h. later_plan f h) is
+
+pub returns-in_err-checked-clause-worked : goal.returns-in_err-checked-clause-worked
+returns-in_err-checked-clause-worked g c =
+    let stops : IfOk c.from_residual.result (λ _. ⊥) = search rules in
+    let is : IfErr c.from_residual.result IsPlanFault = search rules in
+    crew_idle g.H.Host.inputs g.H.Host.faults g.H.Host.begun c.args.command c.args.hosts.now c.args.progress.now.ends (found_in c.from_residual.result) c.requires.fresh.ends (plan_fault c.from_residual.result stops is)
+
+pub returns-in_err-checked-clause-asked : goal.returns-in_err-checked-clause-asked
+returns-in_err-checked-clause-asked g c =
+    let new = g.D.Depot.calls c.load_script.new.depot in
+    let script : AsksScript (g.D.Depot.calls c.args.depot.now) (g.D.Depot.calls c.load_script.new.depot) = record { scripts = c.args.command.operand ∷ []; one = omega arith; asked = c.load_script.ensures.asked } in
+    orderly_behind (found_in c.from_residual.result) (g.D.Depot.calls c.args.depot.now) new new script (orderly_idle c.from_residual.result new new refl)
+
+pub returns-clause-asked : goal.returns-clause-asked
+returns-clause-asked g c =
+    let script : AsksScript (g.D.Depot.calls c.args.depot.now) (g.D.Depot.calls c.load_script.new.depot) = record { scripts = c.args.command.operand ∷ []; one = omega arith; asked = c.load_script.ensures.asked } in
+    orderly_behind (found_in c.obey.result) (g.D.Depot.calls c.args.depot.now) (g.D.Depot.calls c.load_script.new.depot) (g.D.Depot.calls c.obey.new.depot) script c.obey.ensures.asked
