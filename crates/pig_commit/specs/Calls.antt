@@ -1,5 +1,5 @@
 -- What a commit asks of the depot, in order.
-use Rattle.std.specs.Prelude.{◌≡◌, ◌++◌, ℕ, List, [], ◌∷◌, map, Option, Result, IfOk}
+use Rattle.std.specs.Prelude.{◌≡◌, ◌++◌, ℕ, List, [], ◌∷◌, map, Option, None, Result, IfOk}
 use Rattle.std.specs.Option.{option_map}
 use Rattle.pig_outside.specs.Calls.{DepotCall}
 use Rattle.pig_outside.specs.declared.failing.Method.{Method}
@@ -7,7 +7,7 @@ use Rattle.pig_outside.specs.declared.failing.Method.TheVariants as method
 use Rattle.pig_commit.specs.declared.parts.StorePart.{StorePart}
 
 abbrev pub call : Method → List ℕ → DepotCall
-call of dir = record { method = of; path = dir }
+call of dir = record { method = of; path = dir; most = None }
 
 -- a call for each part
 abbrev pub put_calls : List ℕ → List (List ℕ) → List DepotCall

@@ -42,6 +42,10 @@ impl Host for OwnHost {
 
     ghost faults = { λ _. 0 };
 
+    fn tells_bytes(&self) {
+        self.inner.tells_bytes();
+    }
+
     fn begin(&mut self, wave: u32, task: u32, attempt: u32) -> Result<(), Failed> {
         self.inner.begin(wave, task, attempt)
     }

@@ -24,6 +24,8 @@ impl Host for Lent<'_> {
 
     ghost faults = { λ h. h.faults };
 
+    fn tells_bytes(&self) {}
+
     fn begin(&mut self, _wave: u32, _task: u32, _attempt: u32) -> Result<(), Failed> {
         Ok(())
     }

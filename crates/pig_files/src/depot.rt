@@ -58,7 +58,7 @@ impl<R: Files + AllocGlobal + Clone + Drop> Depot for FileDepot<R> {
     ghost store_faults = { λ d. stores_failed d.faults };
 
     fn script(&mut self, path: &str, most: u64, into: &mut Vec<u8>) -> Result<bool, OutsideError> {
-        self.tell(Method::Script, path);
+        self.history = self.history.and(&Asked::Script { path, most });
         match read_front(&self.rt, self.alloc, path, most, into) {
             Ok(there) => Ok(there),
             Err(error) => Err(answer(&mut self.faults, error)),

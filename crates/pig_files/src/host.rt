@@ -77,6 +77,8 @@ impl<R: Files<File = File> + AllocGlobal + Clone + Drop> Host for FileHost<R> {
 
     ghost faults = { λ h. all_faults h.faults };
 
+    fn tells_bytes(&self) {}
+
     fn begin(&mut self, wave: u32, task: u32, attempt: u32) -> Result<(), Failed> {
         self.history = self.history.and(&Asked::Begin {
             wave,

@@ -49,6 +49,8 @@ impl Host for Silent<'_> {
 
     ghost faults = { λ h. h.faults };
 
+    fn tells_bytes(&self) {}
+
     fn begin(&mut self, _wave: u32, _task: u32, _attempt: u32) -> Result<(), Failed> {
         Ok(())
     }
@@ -101,6 +103,8 @@ impl Host for Numbered<'_> {
 
     ghost faults = { λ h. h.faults };
 
+    fn tells_bytes(&self) {}
+
     fn begin(&mut self, _wave: u32, task: u32, _attempt: u32) -> Result<(), Failed> {
         self.task = task;
         Ok(())
@@ -152,6 +156,8 @@ impl Host for Meeting<'_> {
     ghost begun = { λ _. None };
 
     ghost faults = { λ h. h.faults };
+
+    fn tells_bytes(&self) {}
 
     fn begin(&mut self, _wave: u32, _task: u32, _attempt: u32) -> Result<(), Failed> {
         self.own.store(true, Ordering::SeqCst);

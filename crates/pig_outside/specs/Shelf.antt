@@ -1,7 +1,9 @@
 -- What a depot holds, and what its calls leave.
 use Rattle.std.specs.Prelude.{◌≡◌, ◌≤◌, ◌+◌, ◌++◌, ◌⊎◌, ℕ, Bool, true, false, List, [], ◌∷◌, Option, Some, None, length, map, take, drop, is_some, unwrap_or, slice_get, option_and_then, find, if◌then◌else◌}
+use Rattle.std.specs.List.{AllByRecursion}
 use Rattle.std.specs.Option.{option_map}
 use Rattle.std.specs.Str.{bytes_eq}
+use Rattle.pig_value.specs.Leaves.{AreBytes}
 use Rattle.pig_value.specs.declared.inputs.Input.{Input}
 use Rattle.pig_outside.specs.declared.contents.Source.{Source}
 use Rattle.pig_outside.specs.declared.contents.DirState.{DirState}
@@ -40,6 +42,10 @@ lengths_at path shelf = option_map lengths_of (pieces_of path shelf.inputs)
 -- One piece of the input at a path.
 abbrev pub piece_of : List ℕ → ℕ → List Input → Option (List ℕ)
 piece_of path piece inputs = option_and_then (λ pieces. slice_get pieces piece) (pieces_of path inputs)
+
+-- The pieces of inputs are of bytes.
+abbrev pub AreOfBytes : List Input → Type 0
+AreOfBytes inputs = AllByRecursion (λ input. AllByRecursion AreBytes input.pieces) inputs
 
 -- So many bytes of that piece from a place on.
 abbrev pub range_of : List ℕ → ℕ → ℕ → ℕ → List Input → List ℕ

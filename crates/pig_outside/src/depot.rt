@@ -1,7 +1,7 @@
 // A depot, by what is on its shelf.
 ghost use Rattle.std.specs.Prelude.{◌≡◌, ◌++◌, ℕ, List, Option, Ok, false, IfOk, OnOk, OnErr, is_some};
 ghost use Rattle.std.specs.Option.{ForSome, option_map};
-ghost use Rattle.pig_outside.specs.Calls.{DepotCall, and_call};
+ghost use Rattle.pig_outside.specs.Calls.{DepotCall, and_call, and_script};
 ghost use Rattle.pig_outside.specs.Faults.{HasCause};
 ghost use Rattle.pig_outside.specs.Shelf.{Shelf, script_of, script_bytes, lengths_at, has_dir, with_new, with_part, with_mark, Grows, CanCreate, CanPut, CanFinish, LeftUnmarked, LeftAbsentOrEmpty};
 
@@ -34,8 +34,7 @@ pub trait Depot {
         ensures absent { result ≡ Ok false → into.new.items ≡ into.old.items }
         ensures err { OnErr result (into.new.items ≡ into.old.items) }
         ensures shelf { shelf self.new ≡ shelf self.old }
-        ensures calls { calls self.new ≡ option_map (and_call Method.Script path.now)
-            (calls self.old) }
+        ensures calls { calls self.new ≡ option_map (and_script path.now most) (calls self.old) }
         ensures cause { HasCause (faults self.old) (faults self.new) result }
         ensures store_faults { store_faults self.new ≡ store_faults self.old };
 

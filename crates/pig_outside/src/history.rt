@@ -14,6 +14,11 @@ pub enum Asked<'a> {
         method: Method,
         path: &'a str,
     },
+    /// A call for at most so many bytes of a script.
+    Script {
+        path: &'a str,
+        most: u64,
+    },
     /// An attempt begins on a host that has failed so often.
     Begin {
         wave: u32,

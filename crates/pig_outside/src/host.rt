@@ -4,7 +4,7 @@ ghost use Rattle.std.specs.Option.{ForSome, option_map};
 ghost use Rattle.pig_value.specs.declared.inputs.Input.{Input};
 ghost use Rattle.pig_outside.specs.Calls.{Attempt, and_attempt};
 ghost use Rattle.pig_outside.specs.Faults.{HasCause};
-ghost use Rattle.pig_outside.specs.Shelf.{HasRange, range_of};
+ghost use Rattle.pig_outside.specs.Shelf.{AreOfBytes, HasRange, range_of};
 
 use crate::{Failed, OutsideError};
 
@@ -19,6 +19,10 @@ pub trait Host {
 
     /// How often it has failed.
     ghost faults: { Self → ℕ };
+
+    /// The inputs that it tells are of bytes. It does nothing: what a proof needs of them is known once it was called.
+    fn tells_bytes(&self)
+        ensures { ForSome (inputs self.now) AreOfBytes };
 
     /// An attempt starts. Failed: this attempt is lost. It takes no memory.
     fn begin(&mut self, wave: u32, task: u32, attempt: u32) -> Result<(), Failed>

@@ -94,7 +94,7 @@ impl MemoryDepot {
 
 impl Depot for MemoryDepot {
     ghost use Rattle.std.specs.Prelude.{Ok, false};
-    ghost use Rattle.pig_outside.specs.Calls.{and_call};
+    ghost use Rattle.pig_outside.specs.Calls.{and_call, and_script};
     ghost use Rattle.pig_outside.specs.Memory.{told_shelf, told_calls, depot_failing, depot_faults, depot_store_faults};
     ghost use Rattle.pig_outside.specs.Failing.{EndsAsDue};
 
@@ -115,14 +115,15 @@ impl Depot for MemoryDepot {
         ensures absent { result ≡ Ok false → into.new.items ≡ into.old.items }
         ensures err { OnErr result (into.new.items ≡ into.old.items) }
         ensures shelf { told_shelf self.new ≡ told_shelf self.old }
-        ensures calls { told_calls self.new ≡ option_map (and_call Method.Script path.now)
+        ensures calls { told_calls self.new ≡ option_map (and_script path.now most)
             (told_calls self.old) }
         ensures cause { HasCause (depot_faults self.old) (depot_faults self.new) result }
         ensures store_faults { depot_store_faults self.new ≡ depot_store_faults self.old }
         ensures due { EndsAsDue Method.Script (depot_failing self.old)
             (depot_failing self.new) result }
     {
-        self.call(Method::Script, path)?;
+        self.history = self.history.and(&Asked::Script { path, most });
+        self.failing.call(Method::Script)?;
         match find(self.scripts.as_slice(), path) {
             Some(source) => {
                 append_front(source.bytes.as_slice(), most, into)?;

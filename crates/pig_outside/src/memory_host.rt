@@ -5,6 +5,7 @@ ghost use Rattle.pig_outside.specs.Shelf.{piece_of, HasRange, range_of};
 
 use crate::failing::{Calls, Failing, Method};
 use crate::history::{Asked, History};
+use crate::laws::inputs_are_of_bytes;
 use crate::lookups::find;
 use crate::{Failed, Host, OutsideError};
 use pig_value::{Blob, Input, Inputs};
@@ -65,6 +66,10 @@ impl Host for MemoryHost {
     ghost begun = { told_begun };
 
     ghost faults = { host_faults };
+
+    fn tells_bytes(&self) {
+        inputs_are_of_bytes(self.inputs.as_slice());
+    }
 
     fn begin(&mut self, wave: u32, task: u32, attempt: u32) -> Result<(), Failed>
         ensures inputs { told_inputs self.new ≡ told_inputs self.old }

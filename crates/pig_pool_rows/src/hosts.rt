@@ -59,6 +59,8 @@ impl Host for Meeting {
 
     ghost faults = { λ h. h.faults };
 
+    fn tells_bytes(&self) {}
+
     fn begin(&mut self, _wave: u32, _task: u32, _attempt: u32) -> Result<(), Failed> {
         self.own.store(true, Ordering::SeqCst);
         let met = is_set(&self.other, self.turns);
@@ -128,6 +130,8 @@ impl Host for Reader {
     ghost begun = { λ _. None };
 
     ghost faults = { λ h. h.faults };
+
+    fn tells_bytes(&self) {}
 
     fn begin(&mut self, _wave: u32, _task: u32, _attempt: u32) -> Result<(), Failed> {
         Ok(())
