@@ -183,10 +183,13 @@ impl Window {
         Ok(())
     }
 
-    // Brings what is held to the front of the buffer.
+    // Brings what is held to the front of the buffer. A line of many blocks stands there already.
     fn move_front(&mut self)
         ensures { self.new ≡ self.old }
     {
+        if self.begin == 0 {
+            return;
+        }
         remove_front(&mut self.bytes, self.begin);
         self.clean -= self.begin;
         self.begin = 0;
