@@ -1,7 +1,7 @@
 -- A plan in which nodes were changed in place means what it meant, where each live node but those that are gone gives what it gave, and its ends
 -- (LIMITs, STOREs, ASSERTs) are as they were.
-use Rattle.std.specs.Prelude.{◌≡◌, ◌<◌, ℕ, Bool, true, false, not, List, [], ◌∷◌, ◌++◌, map, length, Option, Some, None, slice_get, refl}
-use Rattle.std.proofs.Common.{ap, sym, ◌∙◌, subst, arith, true≢false}
+use Rattle.std.specs.Prelude.{◌≡◌, ◌<◌, ◌⊎◌, ℕ, Bool, true, false, not, List, [], ◌∷◌, ◌++◌, map, length, Option, Some, None, slice_get, refl}
+use Rattle.std.proofs.Common.{ap, sym, ◌∙◌, subst, arith, true≢false, inl, inr}
 use Rattle.std.specs.List.{AllByRecursion, list_all, range_with_len}
 use Rattle.std.proofs.lemmas.Option.{none-some}
 use Rattle.pig_value.proofs.list_laws.Indexing.{some_at}
@@ -84,6 +84,10 @@ inputs_live p valid n v stands alive =
     })
     (inputs_of v.op) (names_lower p valid n v stands) (named_each (inputs_of v.op) (inputs_of v.op) (λ i e. e))
 
+-- what was kept is valid for the one plan, or for the other
+abbrev pub Allowed : Plan → Plan → List Input → List Kept → Type 0
+Allowed p q inputs kept = EachIsKept p inputs kept ⊎ EachIsKept q inputs kept
+
 module _ (p q : Plan) (gone : ℕ → Bool) where
   pub record StaysEnd (n : ℕ) (v : PlanNode) : Type 0 where
     pub there : slice_get q n ≡ Some v
@@ -92,7 +96,9 @@ module _ (p q : Plan) (gone : ℕ → Bool) where
 
   pub record Keeps : Type 0 where
     pub size : length q ≡ length p
-    pub same : (inputs : List Input) (kept : List Kept) (n : ℕ) (v : PlanNode) → slice_get p n ≡ Some v → is_live p n ≡ true → gone n ≡ false → IsSame p q (λ k. k) inputs kept n
+    pub same : (inputs : List Input) (kept : List Kept) → Allowed p q inputs kept → (n : ℕ) (v : PlanNode) → slice_get p n ≡ Some v → is_live p n ≡ true → gone n ≡ false
+        → IsSame p q (λ k. k) inputs kept n
+    pub sorted : (n : ℕ) (v : PlanNode) → slice_get p n ≡ Some v → is_live p n ≡ true → gone n ≡ false → is_sorted q n ≡ is_sorted p n
     pub lists : (n : ℕ) (v : PlanNode) → slice_get p n ≡ Some v → is_live p n ≡ true → gone n ≡ false → is_list q n ≡ is_list p n
     pub stays : (n : ℕ) (v : PlanNode) → slice_get p n ≡ Some v → is_live p n ≡ true → is_end v.op ≡ true → StaysEnd n v
     pub came : (n : ℕ) (w : PlanNode) → slice_get q n ≡ Some w → is_live q n ≡ true → is_end w.op ≡ true → (slice_get p n ≡ Some w) × (is_live p n ≡ true)
@@ -102,12 +108,12 @@ module _ (p q : Plan) (valid : IsPlan p) (gone : ℕ → Bool) (k : Keeps p q go
     pub same : IsSame p q (λ n. n) inputs kept i
     pub listed : is_list q i ≡ is_list p i
 
-  inputs_same : (inputs : List Input) (kept : List Kept) (n : ℕ) (v : PlanNode) → slice_get p n ≡ Some v → is_live p n ≡ true → is_end v.op ≡ true
+  inputs_same : (inputs : List Input) (kept : List Kept) → Allowed p q inputs kept → (n : ℕ) (v : PlanNode) → slice_get p n ≡ Some v → is_live p n ≡ true → is_end v.op ≡ true
       → AllByRecursion (InputSame inputs kept) (inputs_of v.op)
-  inputs_same inputs kept n v stands alive e =
+  inputs_same inputs kept allowed n v stands alive e =
       each_both (IsInput p n) (λ i. gone i ≡ false) (InputSame inputs kept)
       (λ i input stays. record {
-        same = k.same inputs kept i input.node input.stands input.lives stays;
+        same = k.same inputs kept allowed i input.node input.stands input.lives stays;
         listed = k.lists i input.node input.stands input.lives stays;
       })
       (inputs_of v.op) (inputs_live p valid n v stands alive) (k.stays n v stands alive e).inputs
@@ -117,14 +123,14 @@ module _ (p q : Plan) (valid : IsPlan p) (gone : ℕ → Bool) (k : Keeps p q go
   each_on : (inputs : List Input) (kept : List Kept) → EachIsKept p inputs kept → EachIsKept q inputs kept
   each_on inputs kept each n statement input count there alive unsorted =
       let was = k.came n (node_with (p_limit input count) statement) there alive refl in
-      let same : AllByRecursion (InputSame inputs kept) (input ∷ []) = inputs_same inputs kept n (node_with (p_limit input count) statement) was.0 was.1 refl in
+      let same : AllByRecursion (InputSame inputs kept) (input ∷ []) = inputs_same inputs kept (inl each) n (node_with (p_limit input count) statement) was.0 was.1 refl in
       subst (λ rows. AreKept count rows (kept_at kept statement)) (sym same.0.same.rows)
       (each n statement input count was.0 was.1 (sym same.0.same.sorted ∙ unsorted))
 
   each_back : (inputs : List Input) (kept : List Kept) → EachIsKept q inputs kept → EachIsKept p inputs kept
   each_back inputs kept each n statement input count stands alive unsorted =
       let end : StaysEnd p q gone n (node_with (p_limit input count) statement) = k.stays n (node_with (p_limit input count) statement) stands alive refl in
-      let same : AllByRecursion (InputSame inputs kept) (input ∷ []) = inputs_same inputs kept n (node_with (p_limit input count) statement) stands alive refl in
+      let same : AllByRecursion (InputSame inputs kept) (input ∷ []) = inputs_same inputs kept (inr each) n (node_with (p_limit input count) statement) stands alive refl in
       subst (λ rows. AreKept count rows (kept_at kept statement)) same.0.same.rows
       (each n statement input count end.there end.lives (same.0.same.sorted ∙ unsorted))
 
@@ -158,8 +164,8 @@ module _ (p q : Plan) (valid : IsPlan p) (gone : ℕ → Bool) (k : Keeps p q go
   same_bare : (n : ℕ) (v : PlanNode) → slice_get p n ≡ Some v → is_live p n ≡ true → is_end v.op ≡ true → is_bare (is_sorted q) v.op ≡ is_bare (is_sorted p) v.op
   same_bare n v stands alive e =
       bare_goes (is_sorted q) (is_sorted p) v.op
-      (each_both (InputSame [] []) (InputSame [] []) (λ i. is_sorted q i ≡ is_sorted p i) (λ i a b. a.same.sorted) (inputs_of v.op)
-      (inputs_same [] [] n v stands alive e) (inputs_same [] [] n v stands alive e))
+      (each_both (IsInput p n) (λ i. gone i ≡ false) (λ i. is_sorted q i ≡ is_sorted p i) (λ i input stays. k.sorted i input.node input.stands input.lives stays)
+      (inputs_of v.op) (inputs_live p valid n v stands alive) (k.stays n v stands alive e).inputs)
 
   one_same : (n : ℕ) (v : PlanNode) (b c : Bool) → b ≡ c → bare_q v ≡ b → bare_p v ≡ c → adds_q true (Some v) ≡ adds_p true (Some v)
   one_same n v true true e f g =
@@ -211,13 +217,13 @@ module _ (p q : Plan) (valid : IsPlan p) (gone : ℕ → Bool) (k : Keeps p q go
   -- ---- what is stored, and what fails
 
   module _ (stay : (n : ℕ) (v : PlanNode) → slice_get p n ≡ Some v → is_live p n ≡ true → is_end v.op ≡ true → gone n ≡ false) where
-    stores_on : (inputs : List Input) (kept : List Kept) (path : List ℕ) (delim : ℕ) (rows : List (List Tree)) (listed : Bool) → Stores p inputs kept path delim rows listed → Stores q inputs kept path delim rows listed
-    stores_on inputs kept path delim rows listed s =
+    stores_on : (inputs : List Input) (kept : List Kept) → Allowed p q inputs kept → (path : List ℕ) (delim : ℕ) (rows : List (List Tree)) (listed : Bool) → Stores p inputs kept path delim rows listed → Stores q inputs kept path delim rows listed
+    stores_on inputs kept allowed path delim rows listed s =
         let alive : is_live p s.node ≡ true = store_lives p s.node (node_with (p_store s.input path delim) s.statement) s.stands refl in
         let end : StaysEnd p q gone s.node (node_with (p_store s.input path delim) s.statement) = k.stays s.node (node_with (p_store s.input path delim) s.statement) s.stands alive refl in
-        let same : AllByRecursion (InputSame inputs kept) (s.input ∷ []) = inputs_same inputs kept s.node (node_with (p_store s.input path delim) s.statement) s.stands alive refl in
+        let same : AllByRecursion (InputSame inputs kept) (s.input ∷ []) = inputs_same inputs kept allowed s.node (node_with (p_store s.input path delim) s.statement) s.stands alive refl in
         let own : IsSame p q (λ n. n) inputs kept s.node =
-        k.same inputs kept s.node (node_with (p_store s.input path delim) s.statement) s.stands alive (stay s.node (node_with (p_store s.input path delim) s.statement) s.stands alive refl) in
+        k.same inputs kept allowed s.node (node_with (p_store s.input path delim) s.statement) s.stands alive (stay s.node (node_with (p_store s.input path delim) s.statement) s.stands alive refl) in
         record {
           node = s.node;
           input = s.input;
@@ -227,12 +233,12 @@ module _ (p q : Plan) (valid : IsPlan p) (gone : ℕ → Bool) (k : Keeps p q go
           list_is = same.0.listed ∙ s.list_is;
         }
 
-    stores_back : (inputs : List Input) (kept : List Kept) (path : List ℕ) (delim : ℕ) (rows : List (List Tree)) (listed : Bool) → Stores q inputs kept path delim rows listed → Stores p inputs kept path delim rows listed
-    stores_back inputs kept path delim rows listed s =
+    stores_back : (inputs : List Input) (kept : List Kept) → Allowed p q inputs kept → (path : List ℕ) (delim : ℕ) (rows : List (List Tree)) (listed : Bool) → Stores q inputs kept path delim rows listed → Stores p inputs kept path delim rows listed
+    stores_back inputs kept allowed path delim rows listed s =
         let was = k.came s.node (node_with (p_store s.input path delim) s.statement) s.stands (store_lives q s.node (node_with (p_store s.input path delim) s.statement) s.stands refl) refl in
-        let same : AllByRecursion (InputSame inputs kept) (s.input ∷ []) = inputs_same inputs kept s.node (node_with (p_store s.input path delim) s.statement) was.0 was.1 refl in
+        let same : AllByRecursion (InputSame inputs kept) (s.input ∷ []) = inputs_same inputs kept allowed s.node (node_with (p_store s.input path delim) s.statement) was.0 was.1 refl in
         let own : IsSame p q (λ n. n) inputs kept s.node =
-        k.same inputs kept s.node (node_with (p_store s.input path delim) s.statement) was.0 was.1 (stay s.node (node_with (p_store s.input path delim) s.statement) was.0 was.1 refl) in
+        k.same inputs kept allowed s.node (node_with (p_store s.input path delim) s.statement) was.0 was.1 (stay s.node (node_with (p_store s.input path delim) s.statement) was.0 was.1 refl) in
         record {
           node = s.node;
           input = s.input;
@@ -242,10 +248,10 @@ module _ (p q : Plan) (valid : IsPlan p) (gone : ℕ → Bool) (k : Keeps p q go
           list_is = sym same.0.listed ∙ s.list_is;
         }
 
-    fails_on : (inputs : List Input) (kept : List Kept) (statement : ℕ) → Fails p inputs kept statement → Fails q inputs kept statement
-    fails_on inputs kept statement f =
+    fails_on : (inputs : List Input) (kept : List Kept) → Allowed p q inputs kept → (statement : ℕ) → Fails p inputs kept statement → Fails q inputs kept statement
+    fails_on inputs kept allowed statement f =
         let end : StaysEnd p q gone f.node (node_with (p_assert f.input f.cond f.message) statement) = k.stays f.node (node_with (p_assert f.input f.cond f.message) statement) f.stands f.lives refl in
-        let same : AllByRecursion (InputSame inputs kept) (f.input ∷ []) = inputs_same inputs kept f.node (node_with (p_assert f.input f.cond f.message) statement) f.stands f.lives refl in
+        let same : AllByRecursion (InputSame inputs kept) (f.input ∷ []) = inputs_same inputs kept allowed f.node (node_with (p_assert f.input f.cond f.message) statement) f.stands f.lives refl in
         record {
           node = f.node;
           input = f.input;
@@ -256,10 +262,10 @@ module _ (p q : Plan) (valid : IsPlan p) (gone : ℕ → Bool) (k : Keeps p q go
           unmet = ap (list_all (passes f.cond)) same.0.same.rows ∙ f.unmet;
         }
 
-    fails_back : (inputs : List Input) (kept : List Kept) (statement : ℕ) → Fails q inputs kept statement → Fails p inputs kept statement
-    fails_back inputs kept statement f =
+    fails_back : (inputs : List Input) (kept : List Kept) → Allowed p q inputs kept → (statement : ℕ) → Fails q inputs kept statement → Fails p inputs kept statement
+    fails_back inputs kept allowed statement f =
         let was = k.came f.node (node_with (p_assert f.input f.cond f.message) statement) f.stands f.lives refl in
-        let same : AllByRecursion (InputSame inputs kept) (f.input ∷ []) = inputs_same inputs kept f.node (node_with (p_assert f.input f.cond f.message) statement) was.0 was.1 refl in
+        let same : AllByRecursion (InputSame inputs kept) (f.input ∷ []) = inputs_same inputs kept allowed f.node (node_with (p_assert f.input f.cond f.message) statement) was.0 was.1 refl in
         record {
           node = f.node;
           input = f.input;
@@ -275,11 +281,11 @@ module _ (p q : Plan) (valid : IsPlan p) (gone : ℕ → Bool) (k : Keeps p q go
       kept_on = kept_on;
       kept_back = kept_back;
       goes = λ inputs kept h. record {
-        stores = stores_on inputs kept;
-        fails = λ statement f. record { first = statement; no_later = omega arith; fails = fails_on inputs kept statement f };
+        stores = stores_on inputs kept (inl h.each);
+        fails = λ statement f. record { first = statement; no_later = omega arith; fails = fails_on inputs kept (inl h.each) statement f };
       };
       comes = λ inputs kept h. record {
-        stores = stores_back inputs kept;
-        fails = λ statement f. record { first = statement; no_later = omega arith; fails = fails_back inputs kept statement f };
+        stores = stores_back inputs kept (inr h.each);
+        fails = λ statement f. record { first = statement; no_later = omega arith; fails = fails_back inputs kept (inr h.each) statement f };
       };
     }

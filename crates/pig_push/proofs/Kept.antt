@@ -8,12 +8,13 @@ use Rattle.std.proofs.lemmas.Option.{slice_get_within}
 use Rattle.pig_value.proofs.list_laws.Listing.{each_weaker}
 use Rattle.pig_value.specs.declared.inputs.Input.{Input}
 use Rattle.pig_value.specs.declared.outcomes.Kept.{Kept}
+use Rattle.pig_value.specs.declared.operators.Side.{Side}
 use Rattle.pig_typed.specs.Typed.{Typed, TypedBlock}
 use Rattle.pig_plan.proofs.Listed.{list_of_node, sorted_of_node}
 use Rattle.pig_plan.proofs.Lower.{meaning_of_node, names_lower}
 use Rattle.pig_plan.proofs.Unfolds.{before_is, result-append, result_before}
 use Rattle.pig_plan.specs.Meaning.{kept_at, meaning, setting, width_at}
-use Rattle.pig_plan.specs.NodeKinds.{Before, RowKinds, foreach_gives, group_gives, is_test, kinds_at, kinds_step, node_gives, only_if, same_gives, tested_gives}
+use Rattle.pig_plan.specs.NodeKinds.{Before, RowKinds, foreach_gives, group_gives, is_test, join_gives, kinds_at, kinds_step, node_gives, only_if, same_gives, tested_gives}
 use Rattle.pig_plan.specs.Nodes.{inputs_of, is_list, is_sorted, lists, sorts}
 use Rattle.pig_plan.specs.Operators.{operator_rows}
 use Rattle.pig_plan.specs.Plans.{Keyed, Plan, PlanNode, PlanOp, p_load, p_filter, p_foreach, p_group_all, p_group, p_join, p_union, p_distinct, p_order, p_limit, p_store, p_assert, p_rank}
@@ -125,6 +126,13 @@ grouped_kinds k o = unwrap_or (group_gives (λ n. o) (k ∷ [])) None
 pub group_kinds_of : (p : Plan) → IsPlan p → (n : ℕ) (k : Keyed) (statement : ℕ) → slice_get p n ≡ Some (node_with (p_group (k ∷ [])) statement) → kinds_at p n ≡ grouped_kinds k (kinds_at p k.input)
 group_kinds_of p valid n k statement stands = kinds_of_node p valid n (node_with (p_group (k ∷ [])) statement) stands
 
+abbrev pub joined_kinds : Before → List Keyed → Side → Bool → Option RowKinds
+joined_kinds before inputs s replicated = unwrap_or (join_gives before inputs s replicated) None
+
+pub join_kinds_of : (p : Plan) → IsPlan p → (n : ℕ) (inputs : List Keyed) (s : Side) (replicated : Bool) (statement : ℕ) → slice_get p n ≡ Some (node_with (p_join inputs s replicated) statement)
+    → kinds_at p n ≡ joined_kinds (kinds_at p) inputs s replicated
+join_kinds_of p valid n inputs s replicated statement stands = kinds_of_node p valid n (node_with (p_join inputs s replicated) statement) stands
+
 -- ---- a node that stays
 
 module _ (p q : Plan) (valid : IsPlan p) (valid_q : IsPlan q) where
@@ -153,3 +161,10 @@ module _ (p q : Plan) (valid : IsPlan p) (valid_q : IsPlan q) where
       ∙ ap (λ o. lists (is_sorted q) o (is_list q)) (sym (renamed_itself v.op))
       ∙ lists_moved (λ k. k) (is_list q) (is_list p) (is_sorted q) (is_sorted p) v.op sorted listed
       ∙ sym (list_of_node p valid n v stands)
+
+  pub sorted_kept : (n : ℕ) (v : PlanNode) → slice_get p n ≡ Some v → slice_get q n ≡ Some v → AllByRecursion (λ i. is_sorted q i ≡ is_sorted p i) (inputs_of v.op) → is_sorted q n ≡ is_sorted p n
+  sorted_kept n v stands there sorted =
+      sorted_of_node q valid_q n v there
+      ∙ ap (λ o. sorts o (is_sorted q)) (sym (renamed_itself v.op))
+      ∙ sorts_moved (λ k. k) (is_sorted q) (is_sorted p) v.op sorted
+      ∙ sym (sorted_of_node p valid n v stands)

@@ -1,6 +1,6 @@
 -- A FILTER on an operator's rows keeps what the operator makes of the rows that a FILTER below it keeps.
 use Rattle.std.specs.Prelude.{◌≡◌, ◌==◌, ◌-◌, ℕ, zero, suc, Bool, true, false, ◌&&◌, List, [], ◌∷◌, ◌++◌, map, Option, Some, None, refl, if◌then◌else◌}
-use Rattle.std.proofs.Common.{ap, sym, ◌∙◌, arith, cond, true≢false, append-nil}
+use Rattle.std.proofs.Common.{ap, sym, ◌∙◌, arith, cond, true≢false}
 use Rattle.std.specs.List.{AllByRecursion, filter, flat_map, list_all}
 use Rattle.std.specs.Option.{is_some, unwrap_or}
 use Rattle.std.proofs.lemmas.Bool.{eq-eqb, eqb-true}
@@ -27,6 +27,7 @@ use Rattle.pig_plan.proofs.Moved.{puts}
 use Rattle.pig_plan.specs.Conjuncts.{conjuncts}
 use Rattle.pig_plan.specs.Moves.{arg_fields, field_of, fields_in, link_fields, put}
 use Rattle.pig_plan.specs.Operators.{filter_rows}
+use Rattle.pig_push.proofs.Chains.{chained_passes}
 use Rattle.pig_push.specs.Pushed.{conjoined, each_arg, each_field, each_link, handed_on, hands_all, is_handed, lead_at}
 
 abbrev pub Rows : Type 0
@@ -36,9 +37,8 @@ Rows = List (List Tree)
 
 conjoined_passes : (a b : Typed) (row : List Tree) → passes (conjoined a b) row ≡ (passes a row && passes b row)
 conjoined_passes a b row =
-    by_conjuncts row (conjoined a b)
-    ∙ list_all-append (λ c. passes c row) (conjuncts a) (conjuncts b ++ [])
-    ∙ ap (λ cs. list_all (λ c. passes c row) (conjuncts a) && list_all (λ c. passes c row) cs) (append-nil (conjuncts b))
+    chained_passes row (conjuncts a ++ conjuncts b)
+    ∙ list_all-append (λ c. passes c row) (conjuncts a) (conjuncts b)
     ∙ (λ i. sym (by_conjuncts row a) i && sym (by_conjuncts row b) i)
 
 -- sorting before a FILTER changes nothing
@@ -67,17 +67,20 @@ kept_or_not : {X : Type 0} (p : X → Bool) (b : Bool) (xs : List X) → AllByRe
 kept_or_not p true xs h = filter_all p xs h
 kept_or_not p false xs h = filter_none p xs h
 
-module _ {X Y : Type 0} (f : X → List Y) (p : Y → Bool) (t : X → Bool) (goes : (x : X) → AllByRecursion (λ y. p y ≡ t x) (f x)) where
+module _ {X Y : Type 0} (f : X → List Y) (p : Y → Bool) (t : X → Bool) where
   one_kept : (b : Bool) (x : X) (xs : List X) → cond b (f x) [] ++ flat_map f xs ≡ flat_map f (cond b (x ∷ xs) xs)
   one_kept true x xs = refl
   one_kept false x xs = refl
 
-  pub filter_goes_in : (xs : List X) → filter p (flat_map f xs) ≡ flat_map f (filter t xs)
-  filter_goes_in [] = refl
-  filter_goes_in (x ∷ xs) =
+  pub filter_goes_within : (xs : List X) → AllByRecursion (λ x. AllByRecursion (λ y. p y ≡ t x) (f x)) xs → filter p (flat_map f xs) ≡ flat_map f (filter t xs)
+  filter_goes_within [] goes = refl
+  filter_goes_within (x ∷ xs) goes =
       filter-append p (f x) (flat_map f xs)
-      ∙ (λ i. kept_or_not p (t x) (f x) (goes x) i ++ filter_goes_in xs i)
+      ∙ (λ i. kept_or_not p (t x) (f x) goes.0 i ++ filter_goes_within xs goes.1 i)
       ∙ one_kept (t x) x (filter t xs)
+
+  pub filter_goes_in : ((x : X) → AllByRecursion (λ y. p y ≡ t x) (f x)) → (xs : List X) → filter p (flat_map f xs) ≡ flat_map f (filter t xs)
+  filter_goes_in goes xs = filter_goes_within xs (each_of_all (λ x. AllByRecursion (λ y. p y ≡ t x) (f x)) goes xs)
 
 made_sorted : (f : List Tree → Rows) (rows : Rows) → bag_of (flat_map f (bag_of rows)) ≡ bag_of (flat_map f rows)
 made_sorted f rows =

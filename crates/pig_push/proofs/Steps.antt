@@ -1,34 +1,41 @@
 -- What the code's loops and tests say of plans, over plain data.
-use Rattle.std.specs.Prelude.{◌≡◌, ◌<◌, ◌≤◌, ◌+◌, ◌==◌, ◌&&◌, not, ℕ, zero, suc, Bool, true, false, List, [], ◌∷◌, ◌++◌, map, length, Option, Some, None, slice_get, slice_set, refl}
-use Rattle.std.proofs.Common.{ap, sym, ◌∙◌, subst, arith, true≢false}
+use Rattle.std.specs.Prelude.{◌≡◌, ◌<◌, ◌≤◌, ◌+◌, ◌-◌, ◌==◌, ◌&&◌, ◌||◌, not, ℕ, zero, suc, Bool, true, false, List, [], ◌∷◌, ◌++◌, map, length, take, Option, Some, None, slice_get, slice_set, refl}
+use Rattle.std.proofs.Common.{ap, sym, ◌∙◌, subst, arith, true≢false, append_assoc, append-nil}
 use Rattle.std.proofs.Math.Nat.{eq-or-lt_of_le}
+use Rattle.std.proofs.lemmas.Bool.{cases_lt}
 use Rattle.std.proofs.Common.{inl, inr}
 use Rattle.std.specs.Prelude.{Err, IfOk, MatchOption, Ok, Result}
 use Rattle.std.specs.declared.alloc.AllocError.{AllocError}
-use Rattle.std.specs.Option.{option_map}
+use Rattle.std.specs.List.{list_all, list_any}
+use Rattle.std.specs.Option.{option_map, unwrap_or}
 use Rattle.std.proofs.lemmas.Bool.{eq-eqb, eqb-true}
-use Rattle.std.proofs.lemmas.List.{length-append, length-map}
+use Rattle.std.proofs.lemmas.List.{length-append, length-map, map-append}
 use Rattle.std.proofs.lemmas.List.FromFn.{get_or-map-range_with_len}
 use Rattle.std.proofs.lemmas.Option.{get_or_from_slice_get, none-some, slice_get_past, slice_get_within}
 use Rattle.pig_value.proofs.list_laws.Elementwise.{get-behind}
-use Rattle.pig_value.proofs.list_laws.Indexing.{get_map}
+use Rattle.pig_value.proofs.list_laws.Indexing.{get_map, more_taken}
 use Rattle.pig_value.proofs.list_laws.Listing.{some_same}
 use Rattle.pig_value.specs.declared.operators.ChainOp.{ChainOp}
 use Rattle.pig_value.specs.declared.operators.Rel.{Rel}
 use Rattle.pig_typed.specs.declared.exprs.TExpr.{TExpr}
+use Rattle.pig_typed.specs.declared.exprs.TLink.{TLink}
 use Rattle.pig_typed.specs.declared.exprs.TExpr.TheOpen.{TExpr-F}
 use Rattle.pig_typed.specs.declared.exprs.TExpr.TheFolds.{fold-roll-TExpr}
 use Rattle.pig_typed.specs.declared.exprs.TExpr.TheVariants as expr
-use Rattle.pig_typed.specs.Typed.{Typed, args_of, link_step, links_of, more_args, more_links, typed, typed_step, x_choose, x_compare}
+use Rattle.pig_typed.specs.Premises.{FunctionsKeepKinds}
+use Rattle.pig_typed.specs.Typed.{Typed, args_of, link_of, link_step, links_of, more_args, more_links, TypedItem, typed, typed_step, x_chain, x_choose, x_compare, x_field}
 use Rattle.pig_plan.proofs.Unfolds.{get-front}
 use Rattle.pig_plan.specs.declared.nodes.Node.{Node}
-use Rattle.pig_plan.specs.Moves.{put, put_args, put_links}
+use Rattle.pig_plan.specs.Conjuncts.{conjuncts, link_conjuncts}
+use Rattle.pig_plan.specs.Meaning.{width_at}
+use Rattle.pig_plan.specs.Moves.{arg_fields, fields_in, link_fields, put, put_args, put_links}
 use Rattle.pig_plan.specs.Nodes.{is_live, live_marks, names}
 use Rattle.pig_plan.specs.Plans.{Plan, PlanNode, PlanOp, node_of, p_filter, plan_of}
 use Rattle.pig_plan.specs.Rewrites.{SameMeaning}
 use Rattle.pig_plan.specs.Valid.{IsPlan}
+use Rattle.pig_push.proofs.Chains.{SomeOf, some_of}
 use Rattle.pig_push.proofs.Tidy.{pushed_means}
-use Rattle.pig_push.specs.Pushed.{AreMoves, AreNew, CanMove, IsCleared, IsClearedTo, IsMove, IsNext, IsOnlyUse, IsPushed, may_pass, put_link, reads_nothing}
+use Rattle.pig_push.specs.Pushed.{AreMoves, AreNew, CanMove, IsCleared, IsClearedTo, IsMove, IsNext, IsOnlyUse, IsPushed, CanPart, all_pass, may_pass, some_pass, handed_from, handed_number, is_union, lead_at, linked, put_link, reads_nothing}
 use Rattle.pig_push.proofs.Keeps.{node_with}
 
 -- ---- expressions, and those in lists
@@ -133,7 +140,7 @@ module _ (nodes : List Node) (marks : List Bool) (live : marks ≡ live_marks (p
 -- ---- what is found below a FILTER
 
 abbrev pub NoMove : List Node → ℕ → Type 0
-NoMove nodes k = (i : ℕ) → CanMove (plan_of nodes) i k → ⊥
+NoMove nodes k = (i : ℕ) → CanPart (plan_of nodes) i k → ⊥
 
 pub none_there : (nodes : List Node) (k : ℕ) → slice_get nodes k ≡ None → NoMove nodes k
 none_there nodes k h i m = none-some (node_with (p_filter i m.cond) m.statement) (sym (get_map node_of nodes k ∙ ap (option_map node_of) h) ∙ m.above)
@@ -158,29 +165,29 @@ module _ (nodes : List Node) (k : ℕ) (x : Node) (at : slice_get nodes k ≡ So
   above_is : slice_get (plan_of nodes) k ≡ Some (node_with (p_filter input c) (node_of x).statement)
   above_is = node_there nodes k x at ∙ ap (λ o. Some (node_with o (node_of x).statement)) is
 
-  same_node : (i : ℕ) (m : CanMove (plan_of nodes) i k) → node_with (p_filter input c) (node_of x).statement ≡ node_with (p_filter i m.cond) m.statement
+  same_node : (i : ℕ) (m : CanPart (plan_of nodes) i k) → node_with (p_filter input c) (node_of x).statement ≡ node_with (p_filter i m.cond) m.statement
   same_node i m = some_same (node_with (p_filter input c) (node_of x).statement) (node_with (p_filter i m.cond) m.statement) (sym above_is ∙ m.above)
 
-  same_input : (i : ℕ) (m : CanMove (plan_of nodes) i k) → input ≡ i
+  same_input : (i : ℕ) (m : CanPart (plan_of nodes) i k) → input ≡ i
   same_input i m = ap (λ v. input_of v.op) (same_node i m)
 
-  same_cond : (i : ℕ) (m : CanMove (plan_of nodes) i k) → c ≡ m.cond
+  same_cond : (i : ℕ) (m : CanPart (plan_of nodes) i k) → c ≡ m.cond
   same_cond i m = ap (λ v. cond_of c v.op) (same_node i m)
 
   pub no_input : slice_get nodes input ≡ None → NoMove nodes k
   no_input h i m = none-some m.below (sym (get_map node_of nodes input ∙ ap (option_map node_of) h) ∙ ap (slice_get (plan_of nodes)) (same_input i m) ∙ m.stands)
 
   module _ (y : Node) (under : slice_get nodes input ≡ Some y) where
-    same_below : (i : ℕ) (m : CanMove (plan_of nodes) i k) → node_of y ≡ m.below
+    same_below : (i : ℕ) (m : CanPart (plan_of nodes) i k) → node_of y ≡ m.below
     same_below i m = some_same (node_of y) m.below (sym (node_there nodes input y under) ∙ ap (slice_get (plan_of nodes)) (same_input i m) ∙ m.stands)
 
-    pub not_passing : may_pass (node_of y).op c ≡ false → NoMove nodes k
-    not_passing h i m = true≢false (sym m.passes ∙ (λ j. may_pass ((sym (same_below i m) j).op) (sym (same_cond i m) j)) ∙ h)
+    pub not_passing : some_pass (width_at (plan_of nodes)) (node_of y).op c ≡ false → NoMove nodes k
+    not_passing h i m = true≢false (sym m.passes ∙ (λ j. some_pass (width_at (plan_of nodes)) ((sym (same_below i m) j).op) (sym (same_cond i m) j)) ∙ h)
 
     pub not_only : (IsOnlyUse (plan_of nodes) input k → ⊥) → NoMove nodes k
     not_only h i m = h (subst (λ n. IsOnlyUse (plan_of nodes) n k) (sym (same_input i m)) m.only)
 
-    pub can_move : may_pass (node_of y).op c ≡ true → IsOnlyUse (plan_of nodes) input k → CanMove (plan_of nodes) input k
+    pub can_move : all_pass (width_at (plan_of nodes)) (node_of y).op c ≡ true → IsOnlyUse (plan_of nodes) input k → CanMove (plan_of nodes) input k
     can_move h only = record {
       below = node_of y;
       cond = c;
@@ -191,10 +198,12 @@ module _ (nodes : List Node) (k : ℕ) (x : Node) (at : slice_get nodes k ≡ So
       passes = h;
     }
 
-pub one_more_none : (nodes : List Node) (end : ℕ) → ((k : ℕ) → k < end → NoMove nodes k) → NoMove nodes end → (k : ℕ) → k < end + 1 → NoMove nodes k
-one_more_none nodes end never here k below = elim (eq-or-lt_of_le (let e : k ≤ end = omega (arith, below) in e)) [
-  | inl same ↦ subst (NoMove nodes) (sym same) here
-  | inr lower ↦ never k lower
+-- the nodes behind one, and that one
+pub one_before : (nodes : List Node) (count behind : ℕ) → behind < count → ((k : ℕ) → count ≤ k + behind → k < count → NoMove nodes k) → NoMove nodes (count - 1 - behind)
+    → (k : ℕ) → count ≤ k + (behind + 1) → k < count → NoMove nodes k
+one_before nodes count behind within never here k more below = elim (cases_lt (k + behind) count) [
+  | inl lower ↦ (let at : count - 1 - behind ≡ k = omega (arith, within, more, lower) in subst (NoMove nodes) at here)
+  | inr none ↦ never k (omega (arith, none)) below
 ]
 
 -- no other use so far, and in all
@@ -228,7 +237,7 @@ only_use nodes i k end whole none n v stands name =
     let long = length-map nodes node_of in
     none n v (omega (arith, within, long, whole)) stands name
 
-pub none_at_all : (nodes : List Node) (end : ℕ) → end ≡ length nodes → ((k : ℕ) → k < end → NoMove nodes k) → (i k : ℕ) → CanMove (plan_of nodes) i k → ⊥
+pub none_at_all : (nodes : List Node) (end : ℕ) → end ≡ length nodes → ((k : ℕ) → k < end → NoMove nodes k) → (i k : ℕ) → CanPart (plan_of nodes) i k → ⊥
 none_at_all nodes end whole never i k m =
     let within = slice_get_within (plan_of nodes) k (node_with (p_filter i m.cond) m.statement) m.above in
     let long = length-map nodes node_of in
@@ -259,11 +268,101 @@ pub all_pushed : (r : Result (List Node) AllocError) (p q : Plan) → IsPlan q �
 all_pushed (Ok m) p q valid_q is moves = record { cleared = q; valid = valid_q; clears = is; moves = moves }
 all_pushed (Err e) p q valid_q is moves = tt
 
-pub means_pushed : (r : Result (List Node) AllocError) (p : Plan) → IsPlan p → IfOk r (λ m. IsPushed p (plan_of m)) → IfOk r (λ m. SameMeaning p (plan_of m))
-means_pushed (Ok m) p valid pushed = pushed_means p (plan_of m) valid pushed
-means_pushed (Err e) p valid pushed = tt
+pub means_pushed : FunctionsKeepKinds → (r : Result (List Node) AllocError) (p : Plan) → IsPlan p → IfOk r (λ m. IsPushed p (plan_of m)) → IfOk r (λ m. SameMeaning p (plan_of m))
+means_pushed functions (Ok m) p valid pushed = pushed_means functions p (plan_of m) valid pushed
+means_pushed functions (Err e) p valid pushed = tt
 
 -- where nothing is found, what holds then
 pub first_of : {X A : Type 0} (B : X → Type 0) (o : Option X) → MatchOption o A B → ((x : X) → o ≡ Some x → ⊥) → A
 first_of B None h none = h
 first_of B (Some x) h none = absurd (none x refl)
+
+-- ---- conjuncts
+
+pub typed_chain : (first : TExpr) (rest : List TLink) → typed (expr.Chain first rest) ≡ x_chain (typed first) (links_of (map link_of rest))
+typed_chain first rest = ap typed (sym (expr.rolls-Chain first rest)) ∙ fold-roll-TExpr Typed (ChainOp × Typed) typed_step link_step (TExpr-F.Chain first rest)
+
+pub linked_some : (first : Typed) (rest : List TLink) → (rest ≡ [] → ⊥) → x_chain first (links_of (map link_of rest)) ≡ linked first (links_of (map link_of rest))
+linked_some first [] h = absurd (h refl)
+linked_some first (l ∷ rest) h = refl
+
+link_conjuncts_joined : (xs ys : List (ChainOp × Typed)) → link_conjuncts (links_of (xs ++ ys)) ≡ link_conjuncts (links_of xs) ++ link_conjuncts (links_of ys)
+link_conjuncts_joined [] ys = refl
+link_conjuncts_joined (x ∷ xs) ys = ap (λ cs. conjuncts x.1 ++ cs) (link_conjuncts_joined xs ys) ∙ sym (append_assoc (conjuncts x.1) (link_conjuncts (links_of xs)) (link_conjuncts (links_of ys)))
+
+pub links_taken : (links : List TLink) (i : ℕ) (l : TLink) → slice_get links i ≡ Some l
+    → link_conjuncts (links_of (map link_of (take (i + 1) links))) ≡ link_conjuncts (links_of (map link_of (take i links))) ++ conjuncts (link_of l).1
+links_taken links i l h =
+    ap (λ ls. link_conjuncts (links_of (map link_of ls))) (more_taken links i l h)
+    ∙ ap (λ ls. link_conjuncts (links_of ls)) (map-append link_of (take i links) (l ∷ []))
+    ∙ link_conjuncts_joined (map link_of (take i links)) (link_of l ∷ [])
+    ∙ ap (λ cs. link_conjuncts (links_of (map link_of (take i links))) ++ cs) (append-nil (conjuncts (link_of l).1))
+
+-- the loop that adds them
+pub links_added : (links : List TLink) (i : ℕ) (l : TLink) (old so_far new : List Typed) → slice_get links i ≡ Some l → so_far ≡ old ++ link_conjuncts (links_of (map link_of (take i links)))
+    → new ≡ so_far ++ conjuncts (link_of l).1 → new ≡ old ++ link_conjuncts (links_of (map link_of (take (i + 1) links)))
+links_added links i l old so_far new at is added =
+    added ∙ ap (λ cs. cs ++ conjuncts (link_of l).1) is
+    ∙ append_assoc old (link_conjuncts (links_of (map link_of (take i links)))) (conjuncts (link_of l).1)
+    ∙ ap (λ cs. old ++ cs) (sym (links_taken links i l at))
+
+-- columns from the first one on are as they are
+pub from_first : (items : List TypedItem) (e : Typed) → put (λ n. x_field (handed_from items 0 n)) e ≡ put (λ n. x_field (handed_number items n)) e
+from_first items e = λ i. put (λ n. x_field (unwrap_or (lead_at items n) (same n i))) e
+  where
+    same : (n : ℕ) → n - 0 ≡ n
+    same n = omega arith
+
+-- ---- columns
+
+link_fields_joined : (xs ys : List (ChainOp × Typed)) → link_fields (links_of (xs ++ ys)) ≡ link_fields (links_of xs) ++ link_fields (links_of ys)
+link_fields_joined [] ys = refl
+link_fields_joined (x ∷ xs) ys = ap (λ ns. fields_in x.1 ++ ns) (link_fields_joined xs ys) ∙ sym (append_assoc (fields_in x.1) (link_fields (links_of xs)) (link_fields (links_of ys)))
+
+arg_fields_joined : (xs ys : List Typed) → arg_fields (args_of (xs ++ ys)) ≡ arg_fields (args_of xs) ++ arg_fields (args_of ys)
+arg_fields_joined [] ys = refl
+arg_fields_joined (x ∷ xs) ys = ap (λ ns. fields_in x ++ ns) (arg_fields_joined xs ys) ∙ sym (append_assoc (fields_in x) (arg_fields (args_of xs)) (arg_fields (args_of ys)))
+
+pub link_fields_added : (links : List TLink) (i : ℕ) (l : TLink) (old so_far new : List ℕ) → slice_get links i ≡ Some l → so_far ≡ old ++ link_fields (links_of (map link_of (take i links)))
+    → new ≡ so_far ++ fields_in (link_of l).1 → new ≡ old ++ link_fields (links_of (map link_of (take (i + 1) links)))
+link_fields_added links i l old so_far new at is added =
+    added ∙ ap (λ ns. ns ++ fields_in (link_of l).1) is
+    ∙ append_assoc old (link_fields (links_of (map link_of (take i links)))) (fields_in (link_of l).1)
+    ∙ ap (λ ns. old ++ (link_fields (links_of (map link_of (take i links))) ++ ns)) (sym (append-nil (fields_in (link_of l).1)))
+    ∙ ap (λ ns. old ++ ns) (sym (link_fields_joined (map link_of (take i links)) (link_of l ∷ [])))
+    ∙ ap (λ ls. old ++ link_fields (links_of ls)) (sym (map-append link_of (take i links) (l ∷ [])))
+    ∙ ap (λ ls. old ++ link_fields (links_of (map link_of ls))) (sym (more_taken links i l at))
+
+pub arg_fields_added : (args : List TExpr) (i : ℕ) (e : TExpr) (old so_far new : List ℕ) → slice_get args i ≡ Some e → so_far ≡ old ++ arg_fields (args_of (map typed (take i args)))
+    → new ≡ so_far ++ fields_in (typed e) → new ≡ old ++ arg_fields (args_of (map typed (take (i + 1) args)))
+arg_fields_added args i e old so_far new at is added =
+    added ∙ ap (λ ns. ns ++ fields_in (typed e)) is
+    ∙ append_assoc old (arg_fields (args_of (map typed (take i args)))) (fields_in (typed e))
+    ∙ ap (λ ns. old ++ (arg_fields (args_of (map typed (take i args))) ++ ns)) (sym (append-nil (fields_in (typed e))))
+    ∙ ap (λ ns. old ++ ns) (sym (arg_fields_joined (map typed (take i args)) (typed e ∷ [])))
+    ∙ ap (λ es. old ++ arg_fields (args_of es)) (sym (map-append typed (take i args) (e ∷ [])))
+    ∙ ap (λ es. old ++ arg_fields (args_of (map typed es))) (sym (more_taken args i e at))
+
+-- what a test without the conjuncts tells
+pub any_true : (c : Typed) → list_any (λ e. true) (conjuncts c) ≡ true
+any_true c = let some : SomeOf c = some_of c in ap (list_any (λ e. true)) some.are
+
+all_true : (cs : List Typed) → list_all (λ e. true) cs ≡ true
+all_true [] = refl
+all_true (c ∷ cs) = all_true cs
+
+pub filter_passes : (width : ℕ → ℕ) (input : ℕ) (first c : Typed) → all_pass width (p_filter input first) c ≡ true
+filter_passes width input first c = all_true (conjuncts c)
+
+pub none_pass : (width : ℕ → ℕ) (o : PlanOp) (c : Typed) → is_union o ≡ false → ((e : Typed) → may_pass width o e ≡ false) → some_pass width o c ≡ false
+none_pass width o c other never = ap (λ b. b || list_any (may_pass width o) (conjuncts c)) other ∙ each (conjuncts c)
+  where
+    each : (cs : List Typed) → list_any (may_pass width o) cs ≡ false
+    each [] = refl
+    each (e ∷ cs) = ap (λ b. b || list_any (may_pass width o) cs) (never e) ∙ each cs
+
+pub union_passes : (width : ℕ → ℕ) (o : PlanOp) (c : Typed) → is_union o ≡ true → some_pass width o c ≡ true
+union_passes width o c is = ap (λ b. b || list_any (may_pass width o) (conjuncts c)) is
+
+pub some_passes : (width : ℕ → ℕ) (o : PlanOp) (c : Typed) (cs : List Typed) (b : Bool) → is_union o ≡ false → cs ≡ conjuncts c → b ≡ list_any (may_pass width o) cs → b ≡ some_pass width o c
+some_passes width o c cs b other all told = told ∙ ap (list_any (may_pass width o)) all ∙ sym (ap (λ d. d || list_any (may_pass width o) (conjuncts c)) other)

@@ -7,10 +7,11 @@ use Rattle.std.proofs.lemmas.Bool.{eqb-true, ne_eqb}
 use Rattle.std.proofs.lemmas.Option.{none-some}
 use Rattle.pig_value.proofs.list_laws.Listing.{some_same}
 use Rattle.pig_typed.specs.Typed.{Typed, TypedArgs, TypedBlock, TypedItem, TypedLinks, x_null, x_bool, x_int, x_long, x_chars, x_field, x_local, x_chain, x_compare, x_is_null, x_not, x_minus, x_choose, x_cast, x_project, x_look, x_call, no_links, more_links, no_args, more_args}
-use Rattle.pig_plan.specs.Moves.{below_key, field_of, fields_in, moves, only_where, plain_at, put, put_args, put_links}
+use Rattle.pig_plan.specs.Moves.{below_key, field_of, fields_in, moves, names_some, only_where, plain_at, put, put_args, put_links}
 use Rattle.pig_plan.specs.Plans.{PlanOp, p_load, p_filter, p_foreach, p_group_all, p_group, p_join, p_union, p_distinct, p_order, p_limit, p_store, p_assert, p_rank}
-use Rattle.pig_push.specs.Pushed.{each_arg, each_field, each_link, from_key, gone_to, handed_on, hands_key, is_handed, key_items, lead_at, may_pass}
+use Rattle.pig_push.specs.Pushed.{each_arg, each_field, each_link, from_key, gone_to, handed_on, hands_key, is_handed, is_open, key_items, lead_at, may_pass, spot_for}
 use Rattle.pig_push.proofs.Passing.{each_is}
+use Rattle.pig_push.proofs.Spots.{join_moves}
 
 -- what leads is plain
 lead_plain : (items : List TypedItem) (n m : ℕ) → lead_at items n ≡ Some m → plain_at items n ≡ Some m
@@ -163,7 +164,7 @@ hands_one e m c plain =
 pub puts_one : (e : Typed) (m : ℕ) (c : Typed) → field_of e ≡ Some m → put (from_key (x_field m ∷ [])) c ≡ put (from_key (e ∷ [])) c
 puts_one e m c plain = ap (λ x. put (from_key (x ∷ [])) c) (sym (key_is e m plain))
 
-pub moves_of_the_table : (width : ℕ → ℕ) (o : PlanOp) (c : Typed) → may_pass o c ≡ true → moves width o c ≡ gone_to o c ∷ []
+pub moves_of_the_table : (width : ℕ → ℕ) (o : PlanOp) (c : Typed) → may_pass width o c ≡ true → moves width o c ≡ gone_to width o c ∷ []
 moves_of_the_table width (p_filter x first) c h = refl
 moves_of_the_table width (p_distinct x) c h = refl
 moves_of_the_table width (p_foreach x block) c h =
@@ -174,7 +175,9 @@ moves_of_the_table width (p_group_all input) c h = absurd (true≢false (sym h))
 moves_of_the_table width (p_group []) c h = absurd (true≢false (sym h))
 moves_of_the_table width (p_group (input ∷ [])) c h = keyed_move input.input input.keys c h
 moves_of_the_table width (p_group (a ∷ b ∷ inputs)) c h = absurd (true≢false (sym h))
-moves_of_the_table width (p_join inputs side replicated) c h = absurd (true≢false (sym h))
+moves_of_the_table width (p_join inputs sd replicated) c h =
+    let two = both (names_some (fields_in c)) (is_open sd (spot_for width inputs c)) h in
+    join_moves width inputs sd replicated c (spot_for width inputs c) refl two.0 two.1
 moves_of_the_table width (p_union inputs) c h = absurd (true≢false (sym h))
 moves_of_the_table width (p_order input keys) c h = absurd (true≢false (sym h))
 moves_of_the_table width (p_limit input count) c h = absurd (true≢false (sym h))

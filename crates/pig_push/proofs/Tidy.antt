@@ -1,9 +1,8 @@
 -- A plan whose dead nodes read nothing means what it meant; such a plan stays one by moves, and a search that finds no move finds none that there
 -- may be.
-use Rattle.std.specs.Prelude.{◌≡◌, ◌<◌, ◌≤◌, ◌+◌, ◌==◌, ◌||◌, ℕ, zero, suc, Bool, true, false, List, [], ◌∷◌, length, Some, slice_get, slice_set, refl}
-use Rattle.std.proofs.Common.{ap, sym, ◌∙◌, arith, true≢false, inl, inr}
+use Rattle.std.specs.Prelude.{◌≡◌, ◌<◌, ◌≤◌, ◌+◌, ◌==◌, ℕ, zero, suc, Bool, true, false, List, length, Some, slice_get, refl}
+use Rattle.std.proofs.Common.{ap, sym, ◌∙◌, arith, true≢false}
 use Rattle.std.specs.List.{AllByRecursion, list_any}
-use Rattle.std.proofs.lemmas.Bool.{eq-eqb}
 use Rattle.std.proofs.lemmas.Option.{slice_get_within}
 use Rattle.pig_value.proofs.list_laws.Bags.{either_way}
 use Rattle.pig_value.proofs.list_laws.Indexing.{some_at}
@@ -13,15 +12,19 @@ use Rattle.pig_value.specs.declared.outcomes.Kept.{Kept}
 use Rattle.pig_plan.proofs.Meanings.{live_input}
 use Rattle.pig_plan.proofs.Rewrites.{each_same, same_itself, same_on}
 use Rattle.pig_plan.specs.Nodes.{inputs_of, is_list, is_live, is_sorted, is_store, names}
-use Rattle.pig_plan.specs.Plans.{Plan, PlanNode, PlanOp, p_filter}
+use Rattle.pig_plan.specs.Plans.{Plan, PlanNode}
 use Rattle.pig_plan.specs.Renumbered.{IsSame}
 use Rattle.pig_plan.specs.Rewrites.{SameMeaning}
 use Rattle.pig_plan.specs.Valid.{IsPlan}
 use Rattle.pig_share.proofs.Living.{User, store_lives, user_of}
-use Rattle.pig_push.specs.Pushed.{AreMoves, CanMove, IsCleared, IsMove, IsPushed, IsTidy, NoneMayMove, low_of, none, one_more}
-use Rattle.pig_push.proofs.Keeps.{IsInput, Keeps, inputs_live, keeps_meaning, node_with}
-use Rattle.pig_push.proofs.Kept.{list_kept, node_kept}
-use Rattle.pig_push.proofs.Change.{at_low, at_other, by_place, goes_down, low_reads, move_means, stays_live}
+use Rattle.pig_push.specs.Pushed.{AreMoves, CanPart, IsCleared, IsTidy, NoneMayMove, PushedPlansMeanTheSame, none, one_more, one_room, one_split, one_union}
+use Rattle.pig_typed.specs.Premises.{FunctionsKeepKinds}
+use Rattle.pig_push.proofs.Keeps.{IsInput, Keeps, inputs_live, keeps_meaning}
+use Rattle.pig_push.proofs.Kept.{list_kept, node_kept, sorted_kept}
+use Rattle.pig_push.proofs.Change.{move_means, stays_tidy}
+use Rattle.pig_push.proofs.Room.{room_means, room_tidy}
+use Rattle.pig_push.proofs.Splits.{split_means, split_tidy}
+use Rattle.pig_push.proofs.Unions.{union_means, union_tidy}
 
 module _ (p q : Plan) (valid : IsPlan p) (valid_q : IsPlan q) (c : IsCleared p q) where
   in_q : (n : ℕ) (v : PlanNode) → slice_get p n ≡ Some v → (w : PlanNode) × (slice_get q n ≡ Some w)
@@ -84,20 +87,27 @@ module _ (p q : Plan) (valid : IsPlan p) (valid_q : IsPlan q) (c : IsCleared p q
       node_kept p q valid valid_q inputs kept n v stands (c.lives n v stands alive)
       (each_weaker (IsInput p n) (IsSame p q (λ j. j) inputs kept) (λ j input. earlier j input.lower input.lives refl) (inputs_of v.op) (inputs_live p valid n v stands alive)))
 
-  lists_up_to : (fuel n : ℕ) (v : PlanNode) → n < fuel → slice_get p n ≡ Some v → is_live p n ≡ true → is_list q n ≡ is_list p n
+  record SameList (n : ℕ) : Type 0 where
+    sorted : is_sorted q n ≡ is_sorted p n
+    listed : is_list q n ≡ is_list p n
+
+  lists_up_to : (fuel n : ℕ) (v : PlanNode) → n < fuel → slice_get p n ≡ Some v → is_live p n ≡ true → SameList n
   lists_up_to zero n v low stands alive = absurd (omega (arith, low))
   lists_up_to (suc fuel) n v low stands alive =
-      let inputs : AllByRecursion (IsInput p n) (inputs_of v.op) = inputs_live p valid n v stands alive in
-      list_kept p q valid valid_q n v stands (c.lives n v stands alive)
-      (each_weaker (IsInput p n) (λ j. is_sorted q j ≡ is_sorted p j) (λ j input. (node_same [] [] j input.node input.stands input.lives refl).sorted) (inputs_of v.op) inputs)
-      (each_weaker (IsInput p n) (λ j. is_list q j ≡ is_list p j)
-      (λ j input. let less = input.lower in lists_up_to fuel j input.node (omega (arith, less, low)) input.stands input.lives) (inputs_of v.op) inputs)
+      let all : AllByRecursion SameList (inputs_of v.op) = each_weaker (IsInput p n) SameList
+      (λ j input. let less = input.lower in lists_up_to fuel j input.node (omega (arith, less, low)) input.stands input.lives) (inputs_of v.op) (inputs_live p valid n v stands alive) in
+      let sorted : AllByRecursion (λ j. is_sorted q j ≡ is_sorted p j) (inputs_of v.op) = each_weaker SameList (λ j. is_sorted q j ≡ is_sorted p j) (λ j s. s.sorted) (inputs_of v.op) all in
+      record {
+        sorted = sorted_kept p q valid valid_q n v stands (c.lives n v stands alive) sorted;
+        listed = list_kept p q valid valid_q n v stands (c.lives n v stands alive) sorted (each_weaker SameList (λ j. is_list q j ≡ is_list p j) (λ j s. s.listed) (inputs_of v.op) all);
+      }
 
   keeps : Keeps p q gone
   keeps = record {
     size = c.size;
-    same = node_same;
-    lists = λ n v stands alive stays. lists_up_to (suc n) n v (omega arith) stands alive;
+    same = λ inputs kept allowed. node_same inputs kept;
+    sorted = λ n v stands alive stays. (lists_up_to (suc n) n v (omega arith) stands alive).sorted;
+    lists = λ n v stands alive stays. (lists_up_to (suc n) n v (omega arith) stands alive).listed;
     stays = λ n v stands alive e. record {
       there = c.lives n v stands alive;
       lives = cleared_live n v stands alive;
@@ -121,60 +131,47 @@ cleared_tidy p q valid valid_q c n w there dead = either_way (is_live p n)
     absurd (true≢false (sym (cleared_live p q valid valid_q c n own.0 own.1 alive) ∙ dead)))
     (λ was. ap inputs_of (c.dead n w there was))
 
-module _ (p q : Plan) (valid : IsPlan p) (valid_q : IsPlan q) (i k : ℕ) (m : IsMove p q i k) (tidy : IsTidy p) where
-  filter_reads : (x : ℕ) (xs : List ℕ) → x ∷ xs ≡ [] → ⊥
-  filter_reads x xs e = absurd (cc)
-
-  -- the FILTER of a move is live, since it reads something, and so is what it stands on
-  filter_lives : is_live p k ≡ true
-  filter_lives = either_way (is_live p k) (λ e. e) (λ e. absurd (filter_reads i [] (tidy k (node_with (p_filter i m.can.cond) m.can.statement) m.can.above e)))
-
-  below_lives : is_live p i ≡ true
-  below_lives = live_input p k (node_with (p_filter i m.can.cond) m.can.statement) m.can.above filter_lives i (goes_down p q valid valid_q i k m) m.can.below m.can.stands (names_itself i)
-    where
-      names_itself : (a : ℕ) → ((a == a) || false) ≡ true
-      names_itself a = ap (λ b. b || false) (eq-eqb a a refl)
-
-  pub stays_tidy : IsTidy q
-  stays_tidy n w there dead = by_place n i k
-      (λ e. elim (low_reads p q valid valid_q i k m) [
-        | inl nothing ↦ ap (λ u. inputs_of u.op) (some_same w (node_with (low_of m.can.below.op m.can.cond) m.can.statement) (sym there ∙ ap (slice_get q) e ∙ at_low p q valid valid_q i k m)) ∙ nothing
-        | inr named ↦ absurd (true≢false (sym (stays_live p q valid valid_q i k m i m.can.below m.can.stands below_lives (λ j. named)) ∙ sym (ap (is_live q) e) ∙ dead))
-      ])
-      (λ e.
-      let down = goes_down p q valid valid_q i k m in
-      absurd (true≢false (sym (stays_live p q valid valid_q i k m k (node_with (p_filter i m.can.cond) m.can.statement) m.can.above filter_lives (λ is. absurd (omega (arith, is, down))))
-      ∙ sym (ap (is_live q) e) ∙ dead)))
-      (λ a b.
-      let stands : slice_get p n ≡ Some w = sym (at_other p q valid valid_q i k m n a b) ∙ there in
-      either_way (is_live p n)
-      (λ alive. absurd (true≢false (sym (stays_live p q valid valid_q i k m n w stands alive (λ is. absurd (a is))) ∙ dead)))
-      (λ was. tidy n w stands was))
-
 -- ---- moves
 
 pub moves_valid : (p r : Plan) → IsPlan p → AreMoves p r → IsPlan r
 moves_valid p _ valid none = valid
 moves_valid p _ valid (one_more q r i k before valid_r move) = valid_r
+moves_valid p _ valid (one_room q r k before valid_r within is) = valid_r
+moves_valid p _ valid (one_union q r i k before valid_r union) = valid_r
+moves_valid p _ valid (one_split q r k before roomy_q valid_r split) = valid_r
 
-pub moves_mean : (p r : Plan) → IsPlan p → AreMoves p r → SameMeaning p r
-moves_mean p _ valid none = same_itself p
-moves_mean p _ valid (one_more q r i k before valid_r move) =
-    same_on p q r (moves_mean p q valid before) (move_means q r (moves_valid p q valid before) valid_r i k move)
+pub moves_tidy : (p r : Plan) → IsPlan p → IsTidy p → AreMoves p r → IsTidy r
+moves_tidy p _ valid tidy none = tidy
+moves_tidy p _ valid tidy (one_more q r i k before valid_r move) =
+    stays_tidy q r (moves_valid p q valid before) valid_r i k move (moves_tidy p q valid tidy before)
+moves_tidy p _ valid tidy (one_room q r k before valid_r within is) =
+    room_tidy q r (moves_valid p q valid before) valid_r k is (omega (arith, within)) (moves_tidy p q valid tidy before)
+moves_tidy p _ valid tidy (one_union q r i k before valid_r union) =
+    union_tidy q r (moves_valid p q valid before) valid_r i k union (moves_tidy p q valid tidy before)
+moves_tidy p _ valid tidy (one_split q r k before roomy_q valid_r split) =
+    split_tidy q r (moves_valid p q valid before) k roomy_q valid_r split (moves_tidy p q valid tidy before)
 
-pub pushed_means : (p r : Plan) → IsPlan p → IsPushed p r → SameMeaning p r
-pushed_means p r valid pushed =
-    same_on p pushed.cleared r (cleared_means p pushed.cleared valid pushed.valid pushed.clears) (moves_mean pushed.cleared r pushed.valid pushed.moves)
+pub moves_mean : FunctionsKeepKinds → (p r : Plan) → IsPlan p → IsTidy p → AreMoves p r → SameMeaning p r
+moves_mean functions p _ valid tidy none = same_itself p
+moves_mean functions p _ valid tidy (one_more q r i k before valid_r move) =
+    same_on p q r (moves_mean functions p q valid tidy before)
+    (move_means q r (moves_valid p q valid before) valid_r i k move (moves_tidy p q valid tidy before) functions)
+moves_mean functions p _ valid tidy (one_room q r k before valid_r within is) =
+    same_on p q r (moves_mean functions p q valid tidy before) (room_means q r (moves_valid p q valid before) valid_r k is (omega (arith, within)))
+moves_mean functions p _ valid tidy (one_union q r i k before valid_r union) =
+    same_on p q r (moves_mean functions p q valid tidy before)
+    (union_means q r (moves_valid p q valid before) valid_r i k union (moves_tidy p q valid tidy before))
+moves_mean functions p _ valid tidy (one_split q r k before roomy_q valid_r split) =
+    same_on p q r (moves_mean functions p q valid tidy before)
+    (split_means q r (moves_valid p q valid before) k roomy_q valid_r split (moves_tidy p q valid tidy before))
 
-pub pushed_first : (p q : Plan) → IsPlan q → IsCleared p q → IsPushed p q
-pushed_first p q valid_q c = record { cleared = q; valid = valid_q; clears = c; moves = none }
-
-pub pushed_more : (p q r : Plan) (i k : ℕ) → IsPushed p q → IsPlan r → IsMove q r i k → IsPushed p r
-pushed_more p q r i k pushed valid_r move =
-    record { cleared = pushed.cleared; valid = pushed.valid; clears = pushed.clears; moves = one_more q r i k pushed.moves valid_r move }
+pub pushed_means : FunctionsKeepKinds → PushedPlansMeanTheSame
+pushed_means functions p r valid pushed =
+    same_on p pushed.cleared r (cleared_means p pushed.cleared valid pushed.valid pushed.clears)
+    (moves_mean functions pushed.cleared r pushed.valid (cleared_tidy p pushed.cleared valid pushed.valid pushed.clears) pushed.moves)
 
 -- where no FILTER stands alone on what it may pass, none that is the only live use does
-pub none_moves : (p : Plan) → IsTidy p → ((i k : ℕ) → CanMove p i k → ⊥) → NoneMayMove p
+pub none_moves : (p : Plan) → IsTidy p → ((i k : ℕ) → CanPart p i k → ⊥) → NoneMayMove p
 none_moves p tidy never i k move = never i k (record {
   below = move.below;
   cond = move.cond;
@@ -185,28 +182,3 @@ none_moves p tidy never i k move = never i k (record {
       (λ dead. absurd (true≢false (sym name ∙ ap (λ ns. list_any (λ j. j == i) ns) (tidy n v stands dead))));
   passes = move.passes;
 })
-
--- ---- how far FILTERs are from the sources
-
-abbrev pub height : ℕ → PlanOp → ℕ
-height n (p_filter input cond) = n + 1
-height n o = 0
-
-abbrev pub heights : ℕ → Plan → ℕ
-heights n [] = 0
-heights n (v ∷ vs) = height n v.op + heights (n + 1) vs
-
-pub heights_set : (xs : Plan) (n j : ℕ) (v w : PlanNode) → slice_get xs j ≡ Some v → heights n (slice_set xs j w) + height (n + j) v.op ≡ heights n xs + height (n + j) w.op
-heights_set [] n j v w h = let within = slice_get_within [] j v h in absurd (omega (arith, within))
-heights_set (x ∷ xs) n zero v w h =
-    let here : n + 0 ≡ n = omega arith in
-    ap (λ k. height n w.op + heights (n + 1) xs + height k v.op) here
-    ∙ (let e : height n w.op + heights (n + 1) xs + height n v.op ≡ height n v.op + heights (n + 1) xs + height n w.op = omega arith in e)
-    ∙ ap (λ u. height n u.op + heights (n + 1) xs + height n w.op) (sym (some_same x v h))
-    ∙ ap (λ k. height n x.op + heights (n + 1) xs + height k w.op) (sym here)
-heights_set (x ∷ xs) n (suc j) v w h =
-    let next : n + suc j ≡ (n + 1) + j = omega arith in
-    let rest : heights (n + 1) (slice_set xs j w) + height ((n + 1) + j) v.op ≡ heights (n + 1) xs + height ((n + 1) + j) w.op = heights_set xs (n + 1) j v w h in
-    ap (λ k. height n x.op + heights (n + 1) (slice_set xs j w) + height k v.op) next
-    ∙ (let e : height n x.op + heights (n + 1) (slice_set xs j w) + height ((n + 1) + j) v.op ≡ height n x.op + heights (n + 1) xs + height ((n + 1) + j) w.op = omega (arith, rest) in e)
-    ∙ ap (λ k. height n x.op + heights (n + 1) xs + height k w.op) (sym next)

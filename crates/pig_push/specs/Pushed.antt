@@ -1,19 +1,43 @@
--- FILTERs move towards the sources, in place: two FILTERs become one, or a FILTER and the operator that it stands on, which nothing else reads,
--- change their numbers. No other node is changed.
-use Rattle.std.specs.Prelude.{◌≡◌, ◌<◌, ◌==◌, ◌-◌, ℕ, Bool, true, false, ◌&&◌, List, [], ◌∷◌, length, Option, Some, None, slice_get, slice_set, if◌then◌else◌}
+-- Conjuncts of FILTERs move towards the sources. A FILTER and the operator that it stands on, which nothing else reads, change their numbers, and
+-- two FILTERs become one. A FILTER of which only some conjuncts pass is made two first, and below a UNION there is one for each input: for
+-- those there is room made.
+use Rattle.std.specs.Prelude.{◌≡◌, ◌<◌, ◌≤◌, max, ◌==◌, ◌+◌, ◌-◌, ℕ, zero, suc, Bool, not, true, false, ◌&&◌, ◌||◌, List, [], ◌∷◌, ◌++◌, map, length, Option, Some, None, slice_get, slice_set, if◌then◌else◌}
+use Rattle.std.specs.List.{AllByRecursion, filter, list_all, list_any}
 use Rattle.std.specs.Option.{is_some, unwrap_or}
 use Rattle.pig_value.specs.declared.operators.ChainOp.{ChainOp}
 use Rattle.pig_value.specs.declared.operators.ChainOp.TheVariants as op
-use Rattle.pig_typed.specs.Typed.{Typed, TypedArgs, TypedBlock, TypedItem, TypedLinks, x_field, x_chain, x_compare, x_is_null, x_not, x_minus, x_choose, x_cast, x_project, x_look, x_call, no_links, more_links, no_args, more_args}
-use Rattle.pig_plan.specs.Moves.{Move, field_of, moves, put}
+use Rattle.pig_value.specs.declared.operators.Side.{Side}
+use Rattle.pig_value.specs.declared.operators.Side.TheVariants as side
+use Rattle.pig_typed.specs.Typed.{Typed, TypedArgs, TypedBlock, TypedItem, TypedLinks, links_of, x_bool, x_field, x_chain, x_compare, x_is_null, x_not, x_minus, x_choose, x_cast, x_project, x_look, x_call, no_links, more_links, no_args, more_args}
+use Rattle.pig_plan.specs.Conjuncts.{conjuncts}
+use Rattle.pig_plan.specs.Meaning.{width_at}
+use Rattle.pig_plan.specs.Moves.{Move, field_of, fields_in, holds_all, moves, names_some, put}
 use Rattle.pig_plan.specs.Nodes.{inputs_of, is_live, names}
-use Rattle.pig_plan.specs.Plans.{Plan, PlanNode, PlanOp, p_load, p_filter, p_foreach, p_group, p_distinct}
+use Rattle.pig_plan.specs.Plans.{Keyed, Plan, PlanNode, PlanOp, p_load, p_filter, p_foreach, p_group, p_join, p_union, p_distinct}
 use Rattle.pig_plan.specs.Rewrites.{SameMeaning}
+use Rattle.pig_share.specs.Shared.{renamed}
+use Rattle.pig_push.specs.declared.joining.Spot.{Spot}
 use Rattle.pig_plan.specs.Valid.{IsPlan}
 
--- the conjuncts of the one condition, and behind them those of the other
+-- conditions as one: none always hold, one is itself, and several are a chain of AND
+abbrev pub linked : Typed → TypedLinks → Typed
+linked first no_links = first
+linked first (more_links operator a links) = x_chain first (more_links operator a links)
+
+abbrev pub and_links : List Typed → TypedLinks
+and_links cs = links_of (map (λ c. (op.And, c)) cs)
+
+abbrev pub chained : List Typed → Typed
+chained [] = x_bool true
+chained (c ∷ cs) = linked c (and_links cs)
+
+-- conjuncts that pass a test, and the others, each as one condition
+abbrev pub chained_where : (Typed → Bool) → Typed → Typed
+chained_where test cond = chained (filter test (conjuncts cond))
+
+-- the conjuncts of the one condition, and behind them those of the other, in one chain with none within it
 abbrev pub conjoined : Typed → Typed → Typed
-conjoined first more = x_chain first (more_links op.And more no_links)
+conjoined first more = chained (conjuncts first ++ conjuncts more)
 
 -- The column that an item hands on, by the position of what it makes, where neither it nor an item before it stands under FLATTEN: behind
 -- one the positions are not known here.
@@ -24,6 +48,10 @@ lead_at (item ∷ items) n = if item.flatten then None else (if n == 0 then fiel
 -- what an item hands on, in the place of what it makes
 abbrev pub handed_number : List TypedItem → ℕ → ℕ
 handed_number items n = unwrap_or (lead_at items n) n
+
+-- and else the column that it has behind those of others
+abbrev pub handed_from : List TypedItem → ℕ → ℕ → ℕ
+handed_from items first n = unwrap_or (lead_at items n) (n - first)
 
 abbrev pub handed_on : TypedBlock → ℕ → Typed
 handed_on block n = x_field (handed_number block.items n)
@@ -75,61 +103,142 @@ from_key keys n = x_field (handed_number (key_items keys) n)
 abbrev pub hands_key : List Typed → Typed → Bool
 hands_key keys cond = is_handed (key_items keys) 0 && each_field (is_handed (key_items keys)) cond
 
--- Whether a condition on the rows of an operator may pass below it as a whole, by the operator alone.
-abbrev pub may_pass : PlanOp → Typed → Bool
-may_pass (p_filter input first) cond = true
-may_pass (p_distinct input) cond = true
-may_pass (p_foreach input block) cond = hands_all block cond
-may_pass (p_group (input ∷ [])) cond = hands_key input.keys cond
-may_pass o cond = false
+-- The input of a JOIN whose columns have all of these, of inputs from a place on, behind so many columns.
+abbrev pub spot_of : (ℕ → ℕ) → List ℕ → ℕ → ℕ → List Keyed → Option Spot
+spot_of width fields first place [] = None
+spot_of width fields first place (k ∷ ks) =
+    if holds_all fields (record { input = k.input; first = first; size = width k.input })
+    then Some (record { place = place; input = k.input; first = first })
+    else spot_of width fields (first + width k.input) (place + 1) ks
+
+-- the inputs whose rows all stand among the joined ones, or else with nulls for the other side
+abbrev pub opens : Side → ℕ → Bool
+opens side.Inner place = true
+opens side.Left place = place == 0
+opens side.Right place = place == 1
+opens side.Full place = false
+
+abbrev pub is_open : Side → Option Spot → Bool
+is_open s None = false
+is_open s (Some spot) = opens s spot.place
+
+abbrev pub spot_for : (ℕ → ℕ) → List Keyed → Typed → Option Spot
+spot_for width inputs cond = spot_of width (fields_in cond) 0 0 inputs
+
+-- Whether a condition on the rows of an operator may pass below it, by the operator alone; the nodes' rows are so many fields wide.
+abbrev pub may_pass : (ℕ → ℕ) → PlanOp → Typed → Bool
+may_pass width (p_filter input first) cond = true
+may_pass width (p_distinct input) cond = true
+may_pass width (p_foreach input block) cond = hands_all block cond
+may_pass width (p_group (input ∷ [])) cond = hands_key input.keys cond
+may_pass width (p_join inputs s replicated) cond = names_some (fields_in cond) && is_open s (spot_for width inputs cond)
+may_pass width o cond = false
+
+-- the whole condition may, and each of its conjuncts
+abbrev pub all_pass : (ℕ → ℕ) → PlanOp → Typed → Bool
+all_pass width o cond = may_pass width o cond && list_all (may_pass width o) (conjuncts cond)
+
+-- one of its conjuncts may, at least; below a UNION all do, to each of its inputs
+abbrev pub is_union : PlanOp → Bool
+is_union (p_union inputs) = true
+is_union o = false
+
+abbrev pub some_pass : (ℕ → ℕ) → PlanOp → Typed → Bool
+some_pass width o cond = is_union o || list_any (may_pass width o) (conjuncts cond)
+
+-- Conditions that may pass below a JOIN pass together where they go to the same place; below other operators all do.
+abbrev pub stands_at : ℕ → Option Spot → Bool
+stands_at place None = false
+stands_at place (Some spot) = spot.place == place
+
+abbrev pub passes_at : (ℕ → ℕ) → PlanOp → ℕ → Typed → Bool
+passes_at width (p_join inputs s replicated) place cond = may_pass width (p_join inputs s replicated) cond && stands_at place (spot_for width inputs cond)
+passes_at width o place cond = may_pass width o cond
+
+-- the condition on the rows of the one input of a JOIN
+abbrev pub at_spot : Option Spot → Typed → Move
+at_spot None cond = record { input = 0; cond = cond }
+at_spot (Some spot) cond = record { input = spot.input; cond = put (λ n. x_field (n - spot.first)) cond }
 
 -- Where the table of moves has a condition go, and as what.
-abbrev pub gone_to : PlanOp → Typed → Move
-gone_to (p_filter x first) cond = record { input = x; cond = cond }
-gone_to (p_distinct x) cond = record { input = x; cond = cond }
-gone_to (p_foreach x block) cond = record { input = x; cond = put (handed_on block) cond }
-gone_to (p_group (input ∷ [])) cond = record { input = input.input; cond = put (from_key input.keys) cond }
-gone_to o cond = record { input = 0; cond = cond }
+abbrev pub gone_to : (ℕ → ℕ) → PlanOp → Typed → Move
+gone_to width (p_filter x first) cond = record { input = x; cond = cond }
+gone_to width (p_distinct x) cond = record { input = x; cond = cond }
+gone_to width (p_foreach x block) cond = record { input = x; cond = put (handed_on block) cond }
+gone_to width (p_group (input ∷ [])) cond = record { input = input.input; cond = put (from_key input.keys) cond }
+gone_to width (p_join inputs s replicated) cond = at_spot (spot_for width inputs cond) cond
+gone_to width o cond = record { input = 0; cond = cond }
 
 -- A condition that may pass has one way to go in the table of moves, and this is it.
 abbrev pub MovesAreOfTheTable : Type 0
-MovesAreOfTheTable = (width : ℕ → ℕ) (o : PlanOp) (cond : Typed) → may_pass o cond ≡ true → moves width o cond ≡ gone_to o cond ∷ []
+MovesAreOfTheTable = (width : ℕ → ℕ) (o : PlanOp) (cond : Typed) → may_pass width o cond ≡ true → moves width o cond ≡ gone_to width o cond ∷ []
+
+-- What is left out: items behind a FLATTEN, and keys of a GROUP that are no plain columns. A UNION has moves of its own.
+abbrev pub is_left_out : PlanOp → Bool
+is_left_out (p_foreach input block) = list_any (λ item. item.flatten) block.items
+is_left_out (p_group (input ∷ [])) = true
+is_left_out (p_union inputs) = true
+is_left_out o = false
+
+-- but for that, a condition that may not pass has no way to go in the table of moves
+abbrev pub NoOtherWays : Type 0
+NoOtherWays = (width : ℕ → ℕ) (o : PlanOp) (cond : Typed) → is_left_out o ≡ false → may_pass width o cond ≡ false → moves width o cond ≡ []
+
+-- an input by key that reads another node, and inputs of which the one at a place does
+abbrev pub on_input : ℕ → Keyed → Keyed
+on_input i k = record { input = i; keys = k.keys; inner = k.inner }
+
+abbrev pub over_at : ℕ → ℕ → ℕ → List Keyed → List Keyed
+over_at i place from [] = []
+over_at i place from (k ∷ ks) = (if from == place then on_input i k else k) ∷ over_at i place (from + 1) ks
+
+abbrev pub over_spot : ℕ → Option Spot → List Keyed → List Keyed
+over_spot i None inputs = inputs
+over_spot i (Some spot) inputs = over_at i spot.place 0 inputs
 
 -- What stands at the number of an operator below a FILTER, and at that of the FILTER, once the condition has passed: at the one the FILTER, and
 -- at the other the operator over it. Of two FILTERs the upper one has both conditions, and the lower number is left to a node that reads nothing.
-abbrev pub low_of : PlanOp → Typed → PlanOp
-low_of (p_filter x first) cond = p_load [] 9 []
-low_of (p_distinct x) cond = p_filter x cond
-low_of (p_foreach x block) cond = p_filter x (put (handed_on block) cond)
-low_of (p_group (input ∷ [])) cond = p_filter input.input (put (from_key input.keys) cond)
-low_of o cond = o
+abbrev pub filter_as : Move → PlanOp
+filter_as move = p_filter move.input move.cond
 
-abbrev pub high_of : ℕ → PlanOp → Typed → PlanOp
-high_of i (p_filter x first) cond = p_filter x (conjoined first cond)
-high_of i (p_distinct x) cond = p_distinct i
-high_of i (p_foreach x block) cond = p_foreach i block
-high_of i (p_group (input ∷ [])) cond = p_group (record { input = i; keys = input.keys; inner = input.inner } ∷ [])
-high_of i o cond = o
+abbrev pub low_of : (ℕ → ℕ) → PlanOp → Typed → PlanOp
+low_of width (p_filter x first) cond = p_load [] 9 []
+low_of width o cond = filter_as (gone_to width o cond)
+
+abbrev pub high_of : (ℕ → ℕ) → ℕ → PlanOp → Typed → PlanOp
+high_of width i (p_filter x first) cond = p_filter x (conjoined first cond)
+high_of width i (p_distinct x) cond = p_distinct i
+high_of width i (p_foreach x block) cond = p_foreach i block
+high_of width i (p_group (input ∷ [])) cond = p_group (on_input i input ∷ [])
+high_of width i (p_join inputs s replicated) cond = p_join (over_spot i (spot_for width inputs cond) inputs) s replicated
+high_of width i o cond = o
 
 -- no node but the one numbered k reads the node numbered i
 abbrev pub IsOnlyUse : Plan → ℕ → ℕ → Type 0
 IsOnlyUse p i k = (n : ℕ) (v : PlanNode) → slice_get p n ≡ Some v → names v.op i ≡ true → n ≡ k
 
--- The FILTER numbered k stands on the node numbered i, which no other node reads, and its condition may pass below it.
-pub record CanMove (p : Plan) (i k : ℕ) : Type 0 where
+-- The FILTER numbered k stands on the node numbered i, which no other node reads, and its condition passes a test on that node's operator.
+pub record StandsOn (test : (ℕ → ℕ) → PlanOp → Typed → Bool) (p : Plan) (i k : ℕ) : Type 0 where
   pub below : PlanNode
   pub cond : Typed
   pub statement : ℕ
   pub stands : slice_get p i ≡ Some below
   pub above : slice_get p k ≡ Some (record { op = p_filter i cond; statement = statement })
   pub only : IsOnlyUse p i k
-  pub passes : may_pass below.op cond ≡ true
+  pub passes : test (width_at p) below.op cond ≡ true
+
+-- its condition may pass as a whole, and one of its conjuncts may
+abbrev pub CanMove : Plan → ℕ → ℕ → Type 0
+CanMove = StandsOn all_pass
+
+abbrev pub CanPart : Plan → ℕ → ℕ → Type 0
+CanPart = StandsOn some_pass
 
 -- a move: what stands at the two numbers, statements with their operators
 pub record IsMove (p q : Plan) (i k : ℕ) : Type 0 where
   pub can : CanMove p i k
-  pub is : q ≡ slice_set (slice_set p i (record { op = low_of can.below.op can.cond; statement = can.statement })) k
-      (record { op = high_of i can.below.op can.cond; statement = can.below.statement })
+  pub is : q ≡ slice_set (slice_set p i (record { op = low_of (width_at p) can.below.op can.cond; statement = can.statement })) k
+      (record { op = high_of (width_at p) i can.below.op can.cond; statement = can.below.statement })
 
 -- what stands at the number of a dead node: it reads nothing
 abbrev pub reads_nothing : PlanOp → Type 0
@@ -159,13 +268,131 @@ pub record IsNext (p : Plan) (n : ℕ) (w : PlanNode) : Type 0 where
 -- the new nodes of a move
 pub record AreNew (p : Plan) (i k : ℕ) (low high : PlanNode) : Type 0 where
   pub low_is : (below : PlanNode) (cond : Typed) (statement : ℕ) → slice_get p i ≡ Some below → slice_get p k ≡ Some (record { op = p_filter i cond; statement = statement })
-      → low ≡ record { op = low_of below.op cond; statement = statement }
+      → low ≡ record { op = low_of (width_at p) below.op cond; statement = statement }
   pub high_is : (below : PlanNode) (cond : Typed) (statement : ℕ) → slice_get p i ≡ Some below → slice_get p k ≡ Some (record { op = p_filter i cond; statement = statement })
-      → high ≡ record { op = high_of i below.op cond; statement = below.statement }
+      → high ≡ record { op = high_of (width_at p) i below.op cond; statement = below.statement }
+
+-- ---- a FILTER of several conjuncts
+
+-- a node that reads nothing
+abbrev pub idle : PlanNode
+idle = record { op = p_load [] 9 []; statement = 0 }
+
+-- a list with one element more at a place, and the number that an element has then
+abbrev pub insert : {X : Type 0} → ℕ → X → List X → List X
+insert zero y xs = y ∷ xs
+insert (suc at) y [] = y ∷ []
+insert (suc at) y (x ∷ xs) = x ∷ insert at y xs
+
+abbrev pub past : ℕ → ℕ → ℕ
+past zero n = suc n
+past (suc at) zero = zero
+past (suc at) (suc n) = suc (past at n)
+
+-- the plan with room for one node at a place
+abbrev pub roomy : ℕ → Plan → Plan
+roomy at p = insert at idle (map (renamed (past at)) p)
+
+-- a node over inputs at these numbers, and what stands for it, where the room is before the node numbered at
+abbrev pub renamed_past : ℕ → PlanNode → PlanNode
+renamed_past at = renamed (past at)
+
+abbrev pub with_room : ℕ → ℕ → PlanNode → Plan
+with_room at own node = if own == at then idle ∷ node ∷ [] else node ∷ []
+
+-- A FILTER is two, one on the other: the conjuncts that pass a test stand in the room below, and the others above. Both keep their order.
+pub record IsSplit (p q : Plan) (k : ℕ) : Type 0 where
+  pub input : ℕ
+  pub cond : Typed
+  pub statement : ℕ
+  pub test : Typed → Bool
+  pub above : slice_get p k ≡ Some (record { op = p_filter input cond; statement = statement })
+  pub is : q ≡ slice_set (slice_set (roomy k p) k (record { op = p_filter input (chained_where test cond); statement = statement })) (k + 1)
+      (record { op = p_filter k (chained_where (λ c. not (test c)) cond); statement = statement })
+
+-- what a FILTER's parts are made of
+pub record ArePartsOf (p : Plan) (k input statement : ℕ) (low high : Typed) : Type 0 where
+  pub cond : Typed
+  pub test : Typed → Bool
+  pub above : slice_get p k ≡ Some (record { op = p_filter input cond; statement = statement })
+  pub low_is : low ≡ chained_where test cond
+  pub high_is : high ≡ chained_where (λ c. not (test c)) cond
+
+-- the plan with room is one, and the FILTER stands split in it
+pub record IsParted (p q : Plan) (k : ℕ) : Type 0 where
+  pub room : IsPlan (roomy k p)
+  pub split : IsSplit p q k
+
+-- ---- a UNION
+
+-- the first place of a number in a list
+abbrev pub place_in : List ℕ → ℕ → ℕ
+place_in [] n = 0
+place_in (m ∷ ms) n = if m == n then 0 else suc (place_in ms n)
+
+-- a list with others in the place of its elements from one on
+abbrev pub put_from : {X : Type 0} → ℕ → List X → List X → List X
+put_from first [] xs = xs
+put_from first (y ∷ ys) xs = put_from (first + 1) ys (slice_set xs first y)
+
+-- FILTERs of one condition on each of these nodes
+abbrev pub filter_on : Typed → ℕ → ℕ → PlanNode
+filter_on cond statement n = record { op = p_filter n cond; statement = statement }
+
+-- the number of the FILTER on an input, where those on all of them stand in turn
+abbrev pub filtered : ℕ → List ℕ → ℕ → ℕ
+filtered first each n = first + place_in each n
+
+abbrev pub is_load : PlanOp → Bool
+is_load (p_load path delim columns) = true
+is_load o = false
+
+-- a node that reads nothing and is read by none
+pub record IsFree (p : Plan) (n : ℕ) : Type 0 where
+  pub node : PlanNode
+  pub stands : slice_get p n ≡ Some node
+  pub idles : is_load node.op ≡ true
+  pub unread : (m : ℕ) (v : PlanNode) → slice_get p m ≡ Some v → names v.op n ≡ false
+
+-- The FILTER numbered k stands on the UNION numbered i, which no other node reads, and below it there is room for a FILTER on each input.
+pub record CanUnite (p : Plan) (i k first : ℕ) (each inputs : List ℕ) (cond : Typed) (own statement : ℕ) : Type 0 where
+  pub stands : slice_get p i ≡ Some (record { op = p_union inputs; statement = own })
+  pub above : slice_get p k ≡ Some (record { op = p_filter i cond; statement = statement })
+  pub only : IsOnlyUse p i k
+  pub within : first + length each ≤ k
+  pub free : (j n : ℕ) → slice_get each j ≡ Some n → IsFree p (first + j)
+  pub whole : AllByRecursion (λ n. slice_get each (place_in each n) ≡ Some n) inputs
+  pub once : (j n : ℕ) → slice_get each j ≡ Some n → (place_in each n ≡ j) × (list_any (λ m. m == n) inputs ≡ true)
+
+-- the same, with the numbers that the inputs' FILTERs will have
+pub record CanUniteAs (p : Plan) (i k first : ℕ) (each numbers : List ℕ) (cond : Typed) (own statement : ℕ) : Type 0 where
+  pub inputs : List ℕ
+  pub can : CanUnite p i k first each inputs cond own statement
+  pub are : numbers ≡ map (filtered first each) inputs
+
+-- Each distinct input has its FILTER then, and the UNION goes over those, at the FILTER's number; at its own stands what reads nothing.
+pub record IsUnited (p q : Plan) (i k : ℕ) : Type 0 where
+  pub first : ℕ
+  pub each : List ℕ
+  pub inputs : List ℕ
+  pub cond : Typed
+  pub own : ℕ
+  pub statement : ℕ
+  pub can : CanUnite p i k first each inputs cond own statement
+  pub is : q ≡ slice_set (slice_set (put_from first (map (filter_on cond statement) each) p) i idle) k (record { op = p_union (map (filtered first each) inputs); statement = own })
+
+-- ---- moves in turn
 
 pub data AreMoves (p : Plan) : Plan → Type 0 where
   none : AreMoves p p
   one_more : (q r : Plan) (i k : ℕ) → AreMoves p q → IsPlan r → IsMove q r i k → AreMoves p r
+  one_room : (q r : Plan) (k : ℕ) → AreMoves p q → IsPlan r → k < length q → r ≡ roomy k q → AreMoves p r
+  one_union : (q r : Plan) (i k : ℕ) → AreMoves p q → IsPlan r → IsUnited q r i k → AreMoves p r
+  one_split : (q r : Plan) (k : ℕ) → AreMoves p q → IsPlan (roomy k q) → IsPlan r → IsSplit q r k → AreMoves p r
+
+-- whatever comes to the one plan by moves comes to the other
+abbrev pub GoesOn : Plan → Plan → Type 0
+GoesOn q r = (p : Plan) → AreMoves p q → AreMoves p r
 
 -- the plan is reached by moves, once its dead nodes read nothing
 pub record IsPushed (p r : Plan) : Type 0 where
@@ -174,7 +401,7 @@ pub record IsPushed (p r : Plan) : Type 0 where
   pub clears : IsCleared p cleared
   pub moves : AreMoves cleared r
 
--- A live FILTER stands on a node that no other live node reads, and its condition may pass below it.
+-- A live FILTER stands on a node that no other live node reads, and one of its conjuncts may pass below it.
 pub record MayMove (p : Plan) (i k : ℕ) : Type 0 where
   pub below : PlanNode
   pub cond : Typed
@@ -183,10 +410,46 @@ pub record MayMove (p : Plan) (i k : ℕ) : Type 0 where
   pub above : slice_get p k ≡ Some (record { op = p_filter i cond; statement = statement })
   pub lives : is_live p k ≡ true
   pub only : (n : ℕ) (v : PlanNode) → slice_get p n ≡ Some v → is_live p n ≡ true → names v.op i ≡ true → n ≡ k
-  pub passes : may_pass below.op cond ≡ true
+  pub passes : some_pass (width_at p) below.op cond ≡ true
 
 abbrev pub NoneMayMove : Plan → Type 0
 NoneMayMove p = (i k : ℕ) → MayMove p i k → ⊥
 
+-- Conditions that become one have the conjuncts of both, in their order.
+abbrev pub ConjunctsAreKept : Type 0
+ConjunctsAreKept = (first more : Typed) → conjuncts (conjoined first more) ≡ conjuncts first ++ conjuncts more
+
 abbrev pub PushedPlansMeanTheSame : Type 0
 PushedPlansMeanTheSame = (p r : Plan) → IsPlan p → IsPushed p r → SameMeaning p r
+
+-- ---- how deep conditions nest
+
+abbrev mutual
+  pub depth : Typed → ℕ
+  depth (x_chain first links) = suc (max (depth first) (link_depth links))
+  depth (x_compare r a b) = suc (max (depth a) (depth b))
+  depth (x_is_null a negated) = suc (depth a)
+  depth (x_not a) = suc (depth a)
+  depth (x_minus a) = suc (depth a)
+  depth (x_choose test a b) = suc (max (depth test) (max (depth a) (depth b)))
+  depth (x_cast to a) = suc (depth a)
+  depth (x_project a ns single) = suc (depth a)
+  depth (x_look a key) = suc (depth a)
+  depth (x_call function args) = suc (arg_depth args)
+  depth e = 0
+
+  pub link_depth : TypedLinks → ℕ
+  link_depth no_links = 0
+  link_depth (more_links operator a links) = max (depth a) (link_depth links)
+
+  pub arg_depth : TypedArgs → ℕ
+  arg_depth no_args = 0
+  arg_depth (more_args e args) = max (depth e) (arg_depth args)
+
+abbrev pub filter_depth : PlanOp → ℕ
+filter_depth (p_filter input cond) = depth cond
+filter_depth o = 0
+
+-- no condition of a FILTER nests deeper
+abbrev pub NestUpTo : ℕ → Plan → Type 0
+NestUpTo most p = (n : ℕ) (v : PlanNode) → slice_get p n ≡ Some v → filter_depth v.op ≤ most

@@ -63,3 +63,10 @@ pub fn push_node(made: &mut Plan, node: Node) -> Result<(), AllocError>
     made.add(node)?;
     Ok(())
 }
+
+/// A plan is valid.
+pub fn known_plan(plan: &Plan)
+    ensures { IsPlan (plan_of plan.now) }
+{
+    plan.nodes();
+}

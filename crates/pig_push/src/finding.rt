@@ -1,77 +1,251 @@
-ghost use Rattle.std.specs.Prelude.{◌≡◌, ℕ, IfOk, MatchOption, length, map};
-ghost use Rattle.pig_plan.specs.Plans.{keyed_of, op_of, p_group, plan_of};
-ghost use Rattle.pig_typed.specs.Typed.{typed};
-ghost use Rattle.pig_push.specs.Pushed.{CanMove, may_pass};
+ghost use Rattle.std.specs.Prelude.{◌≡◌, ℕ, IfOk, MatchOption, ⊤, false, length, map};
+ghost use Rattle.std.specs.List.{list_all, list_any};
+ghost use Rattle.pig_plan.specs.Meaning.{width_at};
+ghost use Rattle.pig_plan.specs.Plans.{keyed_of, op_of, p_group, p_join, plan_of};
+ghost use Rattle.pig_typed.specs.Typed.{Typed, typed};
+ghost use Rattle.pig_push.specs.Pushed.{CanMove, CanPart, all_pass, is_union, may_pass, some_pass};
 
+use crate::chaining::conjuncts;
+use crate::fields::fields;
 use crate::handing::{hands_all, hands_key};
+use crate::joining::{find_spot, is_open};
 use crate::reading::is_only_use;
-use pig_plan::{KeyedInput, Node, NodeOp};
+use pig_plan::{KeyedInput, NodeOp, Plan};
 use pig_typed::TExpr;
-use std::alloc::AllocError;
+use pig_value::Side;
+use std::alloc::{AllocError, Global};
 
-/// The numbers of an operator and of a FILTER on it whose condition may pass below it, where there
-/// are such nodes.
-pub fn find_move(nodes: &[Node]) -> Result<Option<(u32, u32)>, AllocError>
+/// The number of the last FILTER of which a conjunct may pass below the operator that it alone reads,
+/// where there is one. So FILTERs become one before they pass what they stand on.
+pub fn find_part(alloc: Global, plan: &Plan) -> Result<Option<u32>, AllocError>
     ensures { IfOk result (λ found. MatchOption found
-        ((i k : ℕ) → CanMove (plan_of nodes.now) i k → ⊥)
-        (λ move. CanMove (plan_of nodes.now) move.0 move.1)) }
+        ((i k : ℕ) → CanPart (plan_of plan.now) i k → ⊥) (λ high. ⊤)) }
 {
-    for high in 0..number_of_nodes(nodes)? {
-        if let Some(low) = below(nodes, high) {
-            return Ok(Some((low, high)));
+    let count = number_of_nodes(plan)?;
+    for behind in 0..count {
+        let high = count - 1 - behind;
+        let parts = may_part(alloc, plan, high)?;
+        if parts {
+            return Ok(Some(high));
         }
     }
     Ok(None)
 }
 
 /// How many nodes there are, as a number of a node.
-fn number_of_nodes(nodes: &[Node]) -> Result<u32, AllocError>
-    ensures { IfOk result (λ n. n ≡ length nodes.now) }
+fn number_of_nodes(plan: &Plan) -> Result<u32, AllocError>
+    ensures { IfOk result (λ n. n ≡ length plan.now) }
 {
-    u32::try_from(nodes.len()).map_err(|_| AllocError)
+    u32::try_from(plan.nodes().len()).map_err(|_| AllocError)
 }
 
-/// The number of the operator that the FILTER at a number may pass, where one stands there.
-fn below(nodes: &[Node], high: u32) -> Option<u32>
-    ensures { MatchOption result ((i : ℕ) → CanMove (plan_of nodes.now) i high → ⊥)
-        (λ low. CanMove (plan_of nodes.now) low high) }
+/// Whether a FILTER stands at a number of which a conjunct may pass below the operator that it alone
+/// reads.
+fn may_part(alloc: Global, plan: &Plan, high: u32) -> Result<bool, AllocError>
+    ensures { IfOk result (λ b. b ≡ false → (i : ℕ) → CanPart (plan_of plan.now) i high → ⊥) }
 {
+    let nodes = plan.nodes().as_slice();
     let Some(node) = nodes.get(high as usize) else {
-        return None;
+        return Ok(false);
     };
     let NodeOp::Filter { input, cond } = &node.op else {
-        return None;
+        return Ok(false);
     };
     let Some(under) = nodes.get(*input as usize) else {
-        return None;
+        return Ok(false);
     };
-    if !may_pass(&under.op, cond) {
-        return None;
+    let passes = some_pass(alloc, plan, &under.op, cond)?;
+    if !passes {
+        return Ok(false);
     }
-    if !is_only_use(nodes, *input, high) {
-        return None;
-    }
-    Some(*input)
+    Ok(is_only_use(nodes, *input, high))
 }
 
-/// Whether a condition may pass below an operator, by the operator alone.
-fn may_pass(op: &NodeOp, cond: &TExpr) -> bool
-    ensures { result ≡ may_pass (op_of op.now) (typed cond.now) }
+/// The number of the operator below which the FILTER at a number may pass as a whole, where there is
+/// one.
+pub fn below(alloc: Global, plan: &Plan, high: u32) -> Result<Option<u32>, AllocError>
+    ensures { IfOk result (λ found. MatchOption found ⊤
+        (λ low. CanMove (plan_of plan.now) low high)) }
+{
+    let nodes = plan.nodes().as_slice();
+    let Some(node) = nodes.get(high as usize) else {
+        return Ok(None);
+    };
+    let NodeOp::Filter { input, cond } = &node.op else {
+        return Ok(None);
+    };
+    let Some(under) = nodes.get(*input as usize) else {
+        return Ok(None);
+    };
+    if !is_only_use(nodes, *input, high) {
+        return Ok(None);
+    }
+    let passes = all_pass(alloc, plan, &under.op, cond)?;
+    if !passes {
+        return Ok(None);
+    }
+    Ok(Some(*input))
+}
+
+/// Whether one of the conjuncts of a condition may pass below an operator.
+fn some_pass(alloc: Global, plan: &Plan, op: &NodeOp, cond: &TExpr) -> Result<bool, AllocError>
+    ensures { IfOk result (λ b. b
+        ≡ some_pass (width_at (plan_of plan.now)) (op_of op.now) (typed cond.now)) }
+{
+    if let NodeOp::Filter { .. } = op {
+        return Ok(true);
+    }
+    let union = is_union(op);
+    if union {
+        return Ok(true);
+    }
+    if !is_ever_passed(op) {
+        return Ok(false);
+    }
+    let all = conjuncts(alloc, cond)?;
+    let passes = one_passes(alloc, plan, op, all.as_slice())?;
+    Ok(passes)
+}
+
+pub fn is_union(op: &NodeOp) -> bool
+    ensures { result ≡ is_union (op_of op.now) }
+{
+    matches!(op, NodeOp::Union { .. })
+}
+
+/// Whether the FILTER at a number stands on a UNION.
+pub fn stands_on_union(plan: &Plan, number: u32) -> bool {
+    let nodes = plan.nodes().as_slice();
+    let Some(node) = nodes.get(number as usize) else {
+        return false;
+    };
+    let NodeOp::Filter { input, .. } = &node.op else {
+        return false;
+    };
+    let Some(under) = nodes.get(*input as usize) else {
+        return false;
+    };
+    is_union(&under.op)
+}
+
+/// Whether any condition may pass below such an operator.
+fn is_ever_passed(op: &NodeOp) -> bool
+    ensures { result ≡ false → (width : ℕ → ℕ) (cond : Typed)
+        → may_pass width (op_of op.now) cond ≡ false }
 {
     match op {
         NodeOp::Filter { .. } => true,
         NodeOp::Distinct { .. } => true,
-        NodeOp::Foreach { input: _, block } => hands_all(block.items.as_slice(), cond),
-        NodeOp::Group { inputs } => passes_groups(inputs.as_slice(), cond),
+        NodeOp::Foreach { .. } => true,
+        NodeOp::Group { .. } => true,
+        NodeOp::Join { .. } => true,
         _ => false,
     }
 }
 
-fn passes_groups(inputs: &[KeyedInput], cond: &TExpr) -> bool
-    ensures { result ≡ may_pass (p_group (map keyed_of inputs.now)) (typed cond.now) }
+fn one_passes(
+    alloc: Global,
+    plan: &Plan,
+    op: &NodeOp,
+    conditions: &[TExpr],
+) -> Result<bool, AllocError>
+    ensures { IfOk result (λ b. b
+        ≡ list_any (may_pass (width_at (plan_of plan.now)) (op_of op.now))
+        (map typed conditions.now)) }
+{
+    let mut left = conditions;
+    while let [first, rest @ ..] = left {
+        let passes = may_pass(alloc, plan, op, first)?;
+        if passes {
+            return Ok(true);
+        }
+        left = rest;
+    }
+    Ok(false)
+}
+
+/// Whether a condition may pass below an operator, and each of its conjuncts.
+fn all_pass(alloc: Global, plan: &Plan, op: &NodeOp, cond: &TExpr) -> Result<bool, AllocError>
+    ensures { IfOk result (λ b. b
+        ≡ all_pass (width_at (plan_of plan.now)) (op_of op.now) (typed cond.now)) }
+{
+    if let NodeOp::Filter { .. } = op {
+        return Ok(true);
+    }
+    let whole = may_pass(alloc, plan, op, cond)?;
+    if !whole {
+        return Ok(false);
+    }
+    let all = conjuncts(alloc, cond)?;
+    each_passes(alloc, plan, op, all.as_slice())
+}
+
+fn each_passes(
+    alloc: Global,
+    plan: &Plan,
+    op: &NodeOp,
+    conditions: &[TExpr],
+) -> Result<bool, AllocError>
+    ensures { IfOk result (λ b. b
+        ≡ list_all (may_pass (width_at (plan_of plan.now)) (op_of op.now))
+        (map typed conditions.now)) }
+{
+    let mut left = conditions;
+    while let [first, rest @ ..] = left {
+        let passes = may_pass(alloc, plan, op, first)?;
+        if !passes {
+            return Ok(false);
+        }
+        left = rest;
+    }
+    Ok(true)
+}
+
+/// Whether a condition may pass below an operator, by the operator alone.
+pub fn may_pass(alloc: Global, plan: &Plan, op: &NodeOp, cond: &TExpr) -> Result<bool, AllocError>
+    ensures { IfOk result (λ b. b
+        ≡ may_pass (width_at (plan_of plan.now)) (op_of op.now) (typed cond.now)) }
+{
+    match op {
+        NodeOp::Filter { .. } => Ok(true),
+        NodeOp::Distinct { .. } => Ok(true),
+        NodeOp::Foreach { input: _, block } => Ok(hands_all(block.items.as_slice(), cond)),
+        NodeOp::Group { inputs } => Ok(passes_groups(plan, inputs.as_slice(), cond)),
+        NodeOp::Join {
+            inputs,
+            side,
+            replicated: _,
+        } => passes_join(alloc, plan, inputs.as_slice(), *side, cond),
+        _ => Ok(false),
+    }
+}
+
+fn passes_groups(plan: &Plan, inputs: &[KeyedInput], cond: &TExpr) -> bool
+    ensures { result
+        ≡ may_pass (width_at (plan_of plan.now)) (p_group (map keyed_of inputs.now))
+        (typed cond.now) }
 {
     let [input] = inputs else {
         return false;
     };
     hands_key(input.keys.as_slice(), cond)
+}
+
+fn passes_join(
+    alloc: Global,
+    plan: &Plan,
+    inputs: &[KeyedInput],
+    side: Side,
+    cond: &TExpr,
+) -> Result<bool, AllocError>
+    ensures { IfOk result (λ b. b
+        ≡ may_pass (width_at (plan_of plan.now))
+        (p_join (map keyed_of inputs.now) side false) (typed cond.now)) }
+{
+    let fields = fields(alloc, cond)?;
+    if fields.as_slice().is_empty() {
+        return Ok(false);
+    }
+    let spot = find_spot(plan, inputs, fields.as_slice())?;
+    Ok(is_open(side, &spot))
 }

@@ -1,8 +1,8 @@
-ghost use Rattle.std.specs.Prelude.{◌≡◌, ◌∷◌, [], false, IfOk, map};
+ghost use Rattle.std.specs.Prelude.{◌≡◌, ◌-◌, ◌∷◌, [], false, IfOk, map};
 ghost use Rattle.std.specs.Option.{is_some};
 ghost use Rattle.pig_plan.specs.Moves.{field_of, put, put_args, put_links};
 ghost use Rattle.pig_typed.specs.Typed.{args_of, item_typed, link_of, links_of, typed, x_choose, x_compare, x_field};
-ghost use Rattle.pig_push.specs.Pushed.{each_arg, each_field, each_link, from_key, handed_number, hands_key, is_handed, key_items, lead_at, put_link};
+ghost use Rattle.pig_push.specs.Pushed.{each_arg, each_field, each_link, from_key, handed_from, handed_number, hands_key, is_handed, key_items, lead_at, put_link};
 
 use pig_typed::{BlockItem, TExpr, TExprs, TLink, TLinks, copy_positions};
 use pig_value::{Boxed, Rel, Seq, copy_kind};
@@ -143,7 +143,7 @@ fn put_column(alloc: Global, column: u32, e: &TExpr) -> Result<TExpr, AllocError
     ensures { IfOk result (λ c. typed c ≡ put (from_key (x_field column ∷ [])) (typed e.now)) }
 {
     let items = [key_item(column)];
-    put_back(alloc, &items, e)
+    put_items(alloc, &items, e)
 }
 
 fn field_of(e: &TExpr) -> Option<u32>
@@ -155,17 +155,32 @@ fn field_of(e: &TExpr) -> Option<u32>
     }
 }
 
-fn handed(items: &[BlockItem], n: u32) -> u32
-    ensures { result ≡ handed_number (map item_typed items.now) n }
+fn handed(items: &[BlockItem], from: u32, n: u32) -> u32
+    ensures { result ≡ handed_from (map item_typed items.now) from n }
 {
-    lead_at(items, n).unwrap_or(n)
+    lead_at(items, n).unwrap_or(n.saturating_sub(from))
 }
 
 /// An expression over what the items hand on.
-#[cycle(put_back)]
-pub fn put_back(alloc: Global, items: &[BlockItem], e: &TExpr) -> Result<TExpr, AllocError>
+pub fn put_items(alloc: Global, items: &[BlockItem], e: &TExpr) -> Result<TExpr, AllocError>
     ensures { IfOk result (λ c. typed c
         ≡ put (λ n. x_field (handed_number (map item_typed items.now) n)) (typed e.now)) }
+{
+    put_back(alloc, items, 0, e)
+}
+
+/// An expression over the columns from one on.
+pub fn put_columns(alloc: Global, from: u32, e: &TExpr) -> Result<TExpr, AllocError>
+    ensures { IfOk result (λ c. typed c ≡ put (λ n. x_field (n - from)) (typed e.now)) }
+{
+    put_back(alloc, &[], from, e)
+}
+
+/// An expression over what the items hand on, and else over the columns from one on.
+#[cycle(put_back)]
+fn put_back(alloc: Global, items: &[BlockItem], from: u32, e: &TExpr) -> Result<TExpr, AllocError>
+    ensures { IfOk result (λ c. typed c
+        ≡ put (λ n. x_field (handed_from (map item_typed items.now) from n)) (typed e.now)) }
 {
     match e {
         TExpr::Null => Ok(TExpr::Null),
@@ -173,28 +188,28 @@ pub fn put_back(alloc: Global, items: &[BlockItem], e: &TExpr) -> Result<TExpr, 
         TExpr::Int(n) => Ok(TExpr::Int(*n)),
         TExpr::Long(n) => Ok(TExpr::Long(*n)),
         TExpr::Chars(text) => Ok(TExpr::Chars(text.copy(alloc)?)),
-        TExpr::Field(n) => Ok(TExpr::Field(handed(items, *n))),
+        TExpr::Field(n) => Ok(TExpr::Field(handed(items, from, *n))),
         TExpr::Local(n) => Ok(TExpr::Local(*n)),
         TExpr::Chain { first, rest } => {
-            let first = put_boxed(alloc, items, first)?;
-            let rest = put_links(alloc, items, rest)?;
+            let first = put_boxed(alloc, items, from, first)?;
+            let rest = put_links(alloc, items, from, rest)?;
             Ok(TExpr::Chain { first, rest })
         }
-        TExpr::Compare { op, a, b } => put_compare(alloc, items, *op, a, b),
+        TExpr::Compare { op, a, b } => put_compare(alloc, items, from, *op, a, b),
         TExpr::IsNull { a, not } => Ok(TExpr::IsNull {
-            a: put_boxed(alloc, items, a)?,
+            a: put_boxed(alloc, items, from, a)?,
             not: *not,
         }),
-        TExpr::Not(a) => Ok(TExpr::Not(put_boxed(alloc, items, a)?)),
-        TExpr::Minus(a) => Ok(TExpr::Minus(put_boxed(alloc, items, a)?)),
-        TExpr::Choose { cond, yes, no } => put_choose(alloc, items, cond, yes, no),
+        TExpr::Not(a) => Ok(TExpr::Not(put_boxed(alloc, items, from, a)?)),
+        TExpr::Minus(a) => Ok(TExpr::Minus(put_boxed(alloc, items, from, a)?)),
+        TExpr::Choose { cond, yes, no } => put_choose(alloc, items, from, cond, yes, no),
         TExpr::Cast { to, a } => {
-            let a = put_boxed(alloc, items, a)?;
+            let a = put_boxed(alloc, items, from, a)?;
             let to = copy_kind(alloc, to)?;
             Ok(TExpr::Cast { to, a })
         }
         TExpr::Project { a, fields, single } => {
-            let a = put_boxed(alloc, items, a)?;
+            let a = put_boxed(alloc, items, from, a)?;
             let fields = copy_positions(alloc, fields)?;
             Ok(TExpr::Project {
                 a,
@@ -203,13 +218,13 @@ pub fn put_back(alloc: Global, items: &[BlockItem], e: &TExpr) -> Result<TExpr, 
             })
         }
         TExpr::Look { a, key } => {
-            let a = put_boxed(alloc, items, a)?;
+            let a = put_boxed(alloc, items, from, a)?;
             let key = key.copy(alloc)?;
             Ok(TExpr::Look { a, key })
         }
         TExpr::Call { function, args } => Ok(TExpr::Call {
             function: *function,
-            args: put_args(alloc, items, args)?,
+            args: put_args(alloc, items, from, args)?,
         }),
     }
 }
@@ -218,29 +233,31 @@ pub fn put_back(alloc: Global, items: &[BlockItem], e: &TExpr) -> Result<TExpr, 
 fn put_boxed(
     alloc: Global,
     items: &[BlockItem],
+    from: u32,
     e: &Boxed<TExpr>,
 ) -> Result<Boxed<TExpr>, AllocError>
     ensures { IfOk result (λ c. typed c
-        ≡ put (λ n. x_field (handed_number (map item_typed items.now) n)) (typed e.now)) }
+        ≡ put (λ n. x_field (handed_from (map item_typed items.now) from n)) (typed e.now)) }
 {
-    Boxed::new(alloc, put_back(alloc, items, e.get())?)
+    Boxed::new(alloc, put_back(alloc, items, from, e.get())?)
 }
 
 #[cycle(put_back)]
 fn put_compare(
     alloc: Global,
     items: &[BlockItem],
+    from: u32,
     op: Rel,
     a: &Boxed<TExpr>,
     b: &Boxed<TExpr>,
 ) -> Result<TExpr, AllocError>
     ensures { IfOk result (λ c. typed c
         ≡ x_compare op
-        (put (λ n. x_field (handed_number (map item_typed items.now) n)) (typed a.now))
-        (put (λ n. x_field (handed_number (map item_typed items.now) n)) (typed b.now))) }
+        (put (λ n. x_field (handed_from (map item_typed items.now) from n)) (typed a.now))
+        (put (λ n. x_field (handed_from (map item_typed items.now) from n)) (typed b.now))) }
 {
-    let a = put_boxed(alloc, items, a)?;
-    let b = put_boxed(alloc, items, b)?;
+    let a = put_boxed(alloc, items, from, a)?;
+    let b = put_boxed(alloc, items, from, b)?;
     Ok(TExpr::Compare { op, a, b })
 }
 
@@ -248,56 +265,72 @@ fn put_compare(
 fn put_choose(
     alloc: Global,
     items: &[BlockItem],
+    from: u32,
     cond: &Boxed<TExpr>,
     yes: &Boxed<TExpr>,
     no: &Boxed<TExpr>,
 ) -> Result<TExpr, AllocError>
     ensures { IfOk result (λ c. typed c
         ≡ x_choose
-        (put (λ n. x_field (handed_number (map item_typed items.now) n)) (typed cond.now))
-        (put (λ n. x_field (handed_number (map item_typed items.now) n)) (typed yes.now))
-        (put (λ n. x_field (handed_number (map item_typed items.now) n)) (typed no.now))) }
+        (put (λ n. x_field (handed_from (map item_typed items.now) from n)) (typed cond.now))
+        (put (λ n. x_field (handed_from (map item_typed items.now) from n)) (typed yes.now))
+        (put (λ n. x_field (handed_from (map item_typed items.now) from n)) (typed no.now))) }
 {
-    let cond = put_boxed(alloc, items, cond)?;
-    let yes = put_boxed(alloc, items, yes)?;
-    let no = put_boxed(alloc, items, no)?;
+    let cond = put_boxed(alloc, items, from, cond)?;
+    let yes = put_boxed(alloc, items, from, yes)?;
+    let no = put_boxed(alloc, items, from, no)?;
     Ok(TExpr::Choose { cond, yes, no })
 }
 
 #[cycle(put_back)]
-fn put_link(alloc: Global, items: &[BlockItem], link: &TLink) -> Result<TLink, AllocError>
+fn put_link(
+    alloc: Global,
+    items: &[BlockItem],
+    from: u32,
+    link: &TLink,
+) -> Result<TLink, AllocError>
     ensures { IfOk result (λ c. link_of c
-        ≡ put_link (λ n. x_field (handed_number (map item_typed items.now) n))
+        ≡ put_link (λ n. x_field (handed_from (map item_typed items.now) from n))
         (link_of link.now)) }
 {
-    let a = put_back(alloc, items, &link.a)?;
+    let a = put_back(alloc, items, from, &link.a)?;
     Ok(TLink { op: link.op, a })
 }
 
 #[cycle(put_back)]
-fn put_links(alloc: Global, items: &[BlockItem], links: &TLinks) -> Result<TLinks, AllocError>
+fn put_links(
+    alloc: Global,
+    items: &[BlockItem],
+    from: u32,
+    links: &TLinks,
+) -> Result<TLinks, AllocError>
     ensures { IfOk result (λ c. links_of (map link_of c)
-        ≡ put_links (λ n. x_field (handed_number (map item_typed items.now) n))
+        ≡ put_links (λ n. x_field (handed_from (map item_typed items.now) from n))
         (links_of (map link_of links.now))) }
 {
     let links = links.as_slice();
     let mut made = Vec::with_capacity(alloc, links.len())?;
     for link in links {
-        made.push(put_link(alloc, items, link)?)?;
+        made.push(put_link(alloc, items, from, link)?)?;
     }
     Ok(Seq::from_vec(made))
 }
 
 #[cycle(put_back)]
-fn put_args(alloc: Global, items: &[BlockItem], args: &TExprs) -> Result<TExprs, AllocError>
+fn put_args(
+    alloc: Global,
+    items: &[BlockItem],
+    from: u32,
+    args: &TExprs,
+) -> Result<TExprs, AllocError>
     ensures { IfOk result (λ c. args_of (map typed c)
-        ≡ put_args (λ n. x_field (handed_number (map item_typed items.now) n))
+        ≡ put_args (λ n. x_field (handed_from (map item_typed items.now) from n))
         (args_of (map typed args.now))) }
 {
     let args = args.as_slice();
     let mut made = Vec::with_capacity(alloc, args.len())?;
     for e in args {
-        made.push(put_back(alloc, items, e)?)?;
+        made.push(put_back(alloc, items, from, e)?)?;
     }
     Ok(Seq::from_vec(made))
 }

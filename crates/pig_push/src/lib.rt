@@ -1,13 +1,21 @@
 //! Conditions move towards the sources.
 #![tactic(auto)]
 
+mod chaining;
 mod clearing;
+mod fields;
 mod finding;
 mod handing;
+mod joining;
 mod laws;
 mod moving;
 mod pushing;
 mod reading;
+mod rooming;
+mod splitting;
+mod uniting;
 
-pub use laws::{moves_are_of_the_table, pushed_plans_mean_the_same};
+pub use laws::{
+    conjuncts_are_kept, moves_are_of_the_table, no_other_ways, pushed_plans_mean_the_same,
+};
 pub use pushing::push;

@@ -1,13 +1,17 @@
-ghost use Rattle.std.specs.Prelude.{◌≡◌, IfOk, map};
-ghost use Rattle.pig_plan.specs.Plans.{keyed_of, node_of, op_of, p_group, plan_of};
+ghost use Rattle.std.specs.Prelude.{◌≡◌, IfOk, false, map};
+ghost use Rattle.pig_plan.specs.Meaning.{width_at};
+ghost use Rattle.pig_plan.specs.Plans.{keyed_of, node_of, op_of, p_group, p_join, plan_of};
 ghost use Rattle.pig_typed.specs.Typed.{typed};
-ghost use Rattle.pig_push.specs.Pushed.{AreNew, CanMove, IsMove, conjoined, high_of, low_of};
+ghost use Rattle.pig_push.specs.Pushed.{AreNew, CanMove, IsMove, high_of, low_of, over_spot, spot_for};
 
+use crate::chaining::conjoined;
 use crate::clearing::{no_rows, push_node};
-use crate::handing::{put_back, put_key};
+use crate::fields::fields;
+use crate::handing::{put_columns, put_items, put_key};
+use crate::joining::{find_spot, over_at};
 use pig_plan::{KeyedInput, KeyedInputs, Node, NodeOp, Nodes, Plan};
-use pig_typed::{TExpr, TLink, TLinks, copy_block, copy_expr, copy_exprs};
-use pig_value::{Boxed, ChainOp};
+use pig_typed::{TExpr, copy_block, copy_expr, copy_exprs};
+use pig_value::Side;
 use std::alloc::{AllocError, Global};
 
 /// The plan in which the FILTER at a number and the operator that it stands on changed places.
@@ -15,7 +19,7 @@ pub fn moved(alloc: Global, plan: Plan, low: u32, high: u32) -> Result<Plan, All
     requires { CanMove (plan_of plan) low high }
     ensures { IfOk result (λ q. IsMove (plan_of plan) (plan_of q) low high) }
 {
-    let (lower, upper) = new_nodes(alloc, plan.nodes().as_slice(), low, high)?;
+    let (lower, upper) = new_nodes(alloc, &plan, low, high)?;
     let mut nodes = plan.into_nodes();
     if nodes.len() <= low as usize || nodes.len() <= high as usize {
         return Err(AllocError);
@@ -26,7 +30,7 @@ pub fn moved(alloc: Global, plan: Plan, low: u32, high: u32) -> Result<Plan, All
 }
 
 /// The nodes as a plan.
-fn planned(alloc: Global, nodes: Nodes) -> Result<Plan, AllocError>
+pub fn planned(alloc: Global, nodes: Nodes) -> Result<Plan, AllocError>
     ensures { IfOk result (λ q. plan_of q ≡ plan_of nodes) }
 {
     let mut made = Plan::empty(alloc);
@@ -37,10 +41,11 @@ fn planned(alloc: Global, nodes: Nodes) -> Result<Plan, AllocError>
 }
 
 /// What stands at the two numbers then. Each operator keeps its statement.
-fn new_nodes(alloc: Global, nodes: &[Node], low: u32, high: u32) -> Result<(Node, Node), AllocError>
-    ensures { IfOk result (λ new. AreNew (plan_of nodes.now) low high
+fn new_nodes(alloc: Global, plan: &Plan, low: u32, high: u32) -> Result<(Node, Node), AllocError>
+    ensures { IfOk result (λ new. AreNew (plan_of plan.now) low high
         (node_of new.0) (node_of new.1)) }
 {
+    let nodes = plan.nodes().as_slice();
     let (Some(under), Some(above)) = (nodes.get(low as usize), nodes.get(high as usize)) else {
         return Err(AllocError);
     };
@@ -48,19 +53,20 @@ fn new_nodes(alloc: Global, nodes: &[Node], low: u32, high: u32) -> Result<(Node
         return Err(AllocError);
     };
     let lower = Node {
-        op: low_op(alloc, &under.op, cond)?,
+        op: low_op(alloc, plan, &under.op, cond)?,
         statement: above.statement,
     };
     let upper = Node {
-        op: high_op(alloc, low, &under.op, cond)?,
+        op: high_op(alloc, plan, low, &under.op, cond)?,
         statement: under.statement,
     };
     Ok((lower, upper))
 }
 
 /// What stands at the lower number.
-fn low_op(alloc: Global, op: &NodeOp, cond: &TExpr) -> Result<NodeOp, AllocError>
-    ensures { IfOk result (λ o. op_of o ≡ low_of (op_of op.now) (typed cond.now)) }
+fn low_op(alloc: Global, plan: &Plan, op: &NodeOp, cond: &TExpr) -> Result<NodeOp, AllocError>
+    ensures { IfOk result (λ o. op_of o
+        ≡ low_of (width_at (plan_of plan.now)) (op_of op.now) (typed cond.now)) }
 {
     match op {
         NodeOp::Filter { .. } => no_rows(alloc),
@@ -70,16 +76,27 @@ fn low_op(alloc: Global, op: &NodeOp, cond: &TExpr) -> Result<NodeOp, AllocError
         }),
         NodeOp::Foreach { input, block } => Ok(NodeOp::Filter {
             input: *input,
-            cond: put_back(alloc, block.items.as_slice(), cond)?,
+            cond: put_items(alloc, block.items.as_slice(), cond)?,
         }),
-        NodeOp::Group { inputs } => below_groups(alloc, inputs.as_slice(), cond),
+        NodeOp::Group { inputs } => below_groups(alloc, plan, inputs.as_slice(), cond),
+        NodeOp::Join {
+            inputs,
+            side,
+            replicated: _,
+        } => below_join(alloc, plan, inputs.as_slice(), *side, cond),
         _ => Err(AllocError),
     }
 }
 
-fn below_groups(alloc: Global, inputs: &[KeyedInput], cond: &TExpr) -> Result<NodeOp, AllocError>
+fn below_groups(
+    alloc: Global,
+    plan: &Plan,
+    inputs: &[KeyedInput],
+    cond: &TExpr,
+) -> Result<NodeOp, AllocError>
     ensures { IfOk result (λ o. op_of o
-        ≡ low_of (p_group (map keyed_of inputs.now)) (typed cond.now)) }
+        ≡ low_of (width_at (plan_of plan.now)) (p_group (map keyed_of inputs.now))
+        (typed cond.now)) }
 {
     let [input] = inputs else {
         return Err(AllocError);
@@ -91,9 +108,37 @@ fn below_groups(alloc: Global, inputs: &[KeyedInput], cond: &TExpr) -> Result<No
     })
 }
 
+fn below_join(
+    alloc: Global,
+    plan: &Plan,
+    inputs: &[KeyedInput],
+    side: Side,
+    cond: &TExpr,
+) -> Result<NodeOp, AllocError>
+    ensures { IfOk result (λ o. op_of o
+        ≡ low_of (width_at (plan_of plan.now)) (p_join (map keyed_of inputs.now) side false)
+        (typed cond.now)) }
+{
+    let fields = fields(alloc, cond)?;
+    let Some(spot) = find_spot(plan, inputs, fields.as_slice())? else {
+        return Err(AllocError);
+    };
+    Ok(NodeOp::Filter {
+        input: spot.input,
+        cond: put_columns(alloc, spot.first, cond)?,
+    })
+}
+
 /// What stands at the upper number, over the lower one.
-fn high_op(alloc: Global, low: u32, op: &NodeOp, cond: &TExpr) -> Result<NodeOp, AllocError>
-    ensures { IfOk result (λ o. op_of o ≡ high_of low (op_of op.now) (typed cond.now)) }
+fn high_op(
+    alloc: Global,
+    plan: &Plan,
+    low: u32,
+    op: &NodeOp,
+    cond: &TExpr,
+) -> Result<NodeOp, AllocError>
+    ensures { IfOk result (λ o. op_of o
+        ≡ high_of (width_at (plan_of plan.now)) low (op_of op.now) (typed cond.now)) }
 {
     match op {
         NodeOp::Filter { input, cond: first } => Ok(NodeOp::Filter {
@@ -105,7 +150,19 @@ fn high_op(alloc: Global, low: u32, op: &NodeOp, cond: &TExpr) -> Result<NodeOp,
             input: low,
             block: copy_block(alloc, block)?,
         }),
-        NodeOp::Group { inputs } => groups_over(alloc, low, inputs.as_slice(), cond),
+        NodeOp::Group { inputs } => groups_over(alloc, plan, low, inputs.as_slice(), cond),
+        NodeOp::Join {
+            inputs,
+            side,
+            replicated,
+        } => {
+            let inputs = inputs_over(alloc, plan, low, inputs.as_slice(), cond)?;
+            Ok(NodeOp::Join {
+                inputs,
+                side: *side,
+                replicated: *replicated,
+            })
+        }
         _ => Err(AllocError),
     }
 }
@@ -113,12 +170,14 @@ fn high_op(alloc: Global, low: u32, op: &NodeOp, cond: &TExpr) -> Result<NodeOp,
 /// The groups over another input.
 fn groups_over(
     alloc: Global,
+    plan: &Plan,
     low: u32,
     inputs: &[KeyedInput],
     cond: &TExpr,
 ) -> Result<NodeOp, AllocError>
     ensures { IfOk result (λ o. op_of o
-        ≡ high_of low (p_group (map keyed_of inputs.now)) (typed cond.now)) }
+        ≡ high_of (width_at (plan_of plan.now)) low (p_group (map keyed_of inputs.now))
+        (typed cond.now)) }
 {
     let [input] = inputs else {
         return Err(AllocError);
@@ -133,14 +192,22 @@ fn groups_over(
     Ok(NodeOp::Group { inputs })
 }
 
-/// Both conditions, the second behind the first.
-fn conjoined(alloc: Global, first: &TExpr, more: &TExpr) -> Result<TExpr, AllocError>
-    ensures { IfOk result (λ c. typed c ≡ conjoined (typed first.now) (typed more.now)) }
+/// The inputs of a JOIN, with another node at the place whose columns the condition names.
+fn inputs_over(
+    alloc: Global,
+    plan: &Plan,
+    low: u32,
+    inputs: &[KeyedInput],
+    cond: &TExpr,
+) -> Result<KeyedInputs, AllocError>
+    ensures { IfOk result (λ made. map keyed_of made
+        ≡ over_spot low
+        (spot_for (width_at (plan_of plan.now)) (map keyed_of inputs.now) (typed cond.now))
+        (map keyed_of inputs.now)) }
 {
-    let first = Boxed::new(alloc, copy_expr(alloc, first)?)?;
-    let a = copy_expr(alloc, more)?;
-    let op = ChainOp::And;
-    let mut rest = TLinks::new(alloc);
-    rest.push(TLink { op, a })?;
-    Ok(TExpr::Chain { first, rest })
+    let fields = fields(alloc, cond)?;
+    let Some(spot) = find_spot(plan, inputs, fields.as_slice())? else {
+        return Err(AllocError);
+    };
+    over_at(alloc, inputs, spot.place, low)
 }

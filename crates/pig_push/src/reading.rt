@@ -26,7 +26,7 @@ fn is_other_use(node: &Node, other: usize, number: u32, user: u32) -> bool
 }
 
 /// Whether an operator reads a node.
-fn reads(op: &NodeOp, number: u32) -> bool
+pub fn reads(op: &NodeOp, number: u32) -> bool
     ensures { result ≡ names (op_of op.now) number }
 {
     match op {
@@ -52,7 +52,7 @@ fn is_number(input: u32, number: u32) -> bool
     input == number
 }
 
-fn holds(numbers: &[u32], number: u32) -> bool
+pub fn holds(numbers: &[u32], number: u32) -> bool
     ensures { result ≡ list_any (λ i. i == number) numbers.now }
 {
     let mut left = numbers;

@@ -6,7 +6,7 @@ use pig_push::push;
 use pig_typed::{
     Block, BlockItem, BlockItems, BlockSteps, SortKey, SortKeys, TExpr, TExprs, TLink, TLinks,
 };
-use pig_value::{Boxed, ChainOp, Column, Columns, Delim, Dir, Kind, Numbers, Seq, Text};
+use pig_value::{Boxed, ChainOp, Column, Columns, Delim, Dir, Kind, Numbers, Rel, Seq, Side, Text};
 use std::alloc::Global;
 use std::process::Abort;
 
@@ -70,14 +70,44 @@ fn by_first<R: Abort>(rt: &R, alloc: Global) -> SortKeys {
     keys
 }
 
-/// That a column is there, or for a letter that which always holds.
-fn test<R: Abort>(rt: &R, alloc: Global, byte: u8) -> TExpr {
-    if byte == b't' {
-        return TExpr::Bool(true);
-    }
+/// That a column is there.
+fn is_there<R: Abort>(rt: &R, alloc: Global, column: u32) -> TExpr {
     TExpr::IsNull {
-        a: Boxed::new(alloc, TExpr::Field(digit(byte))).expect(rt, "memory"),
+        a: Boxed::new(alloc, TExpr::Field(column)).expect(rt, "memory"),
         not: true,
+    }
+}
+
+/// That the first two columns are there, or one of them.
+fn first_two<R: Abort>(rt: &R, alloc: Global, op: ChainOp) -> TExpr {
+    let first = is_there(rt, alloc, 0);
+    let mut rest = TLinks::new(alloc);
+    let a = is_there(rt, alloc, 1);
+    put(rt, &mut rest, TLink { op, a });
+    TExpr::Chain {
+        first: Boxed::new(alloc, first).expect(rt, "memory"),
+        rest,
+    }
+}
+
+/// That columns 0 and 2 are equal.
+fn are_equal<R: Abort>(rt: &R, alloc: Global) -> TExpr {
+    TExpr::Compare {
+        op: Rel::Eq,
+        a: Boxed::new(alloc, TExpr::Field(0)).expect(rt, "memory"),
+        b: Boxed::new(alloc, TExpr::Field(2)).expect(rt, "memory"),
+    }
+}
+
+/// That a column is there; `t` for what always holds, `n` for the first two columns in a chain of
+/// their own, `o` for one of them, `x` for columns 0 and 2 that are equal.
+fn test<R: Abort>(rt: &R, alloc: Global, byte: u8) -> TExpr {
+    match byte {
+        b't' => TExpr::Bool(true),
+        b'n' => first_two(rt, alloc, ChainOp::And),
+        b'o' => first_two(rt, alloc, ChainOp::Or),
+        b'x' => are_equal(rt, alloc),
+        _ => is_there(rt, alloc, digit(byte)),
     }
 }
 
@@ -139,9 +169,37 @@ fn group<R: Abort>(rt: &R, alloc: Global, input: u32, bytes: &[u8]) -> NodeOp {
     NodeOp::Group { inputs }
 }
 
+/// An input by its first column.
+fn by_column<R: Abort>(rt: &R, alloc: Global, input: u32) -> KeyedInput {
+    let mut keys = TExprs::new(alloc);
+    put(rt, &mut keys, TExpr::Field(0));
+    let inner = false;
+    KeyedInput { input, keys, inner }
+}
+
+/// A JOIN of a side, by the first columns: `i`, `l`, `r`, `f`, and `L` for a replicated LEFT.
+fn join<R: Abort>(rt: &R, alloc: Global, letter: u8, bytes: &[u8]) -> NodeOp {
+    let mut inputs = KeyedInputs::new(alloc);
+    for byte in bytes {
+        put(rt, &mut inputs, by_column(rt, alloc, digit(*byte)));
+    }
+    let side = match letter {
+        b'i' => Side::Inner,
+        b'r' => Side::Right,
+        b'f' => Side::Full,
+        _ => Side::Left,
+    };
+    NodeOp::Join {
+        inputs,
+        side,
+        replicated: letter == b'L',
+    }
+}
+
 /// The node of a word: a letter, the digit of its input, and what else it has: `La`, `f001` (FILTER
 /// of node 0 where its columns 0 and 1 are there), `g010` (FOREACH of node 0 with columns 1 and 0),
-/// `k01` (GROUP of node 0 by column 1), `d0`, `u01`, `o0`, `l0`, `a0`, `s4p`.
+/// `k01` (GROUP of node 0 by column 1), `jl01` (LEFT JOIN of nodes 0 and 1), `d0`, `u01`, `o0`,
+/// `l0`, `a0`, `s4p`.
 fn op<R: Abort>(rt: &R, alloc: Global, word: &str) -> NodeOp {
     let [letter, rest @ ..] = word.as_bytes() else {
         return load(rt, alloc, "c");
@@ -160,6 +218,7 @@ fn op<R: Abort>(rt: &R, alloc: Global, word: &str) -> NodeOp {
             block: block(rt, alloc, more),
         },
         b'k' => group(rt, alloc, input, more),
+        b'j' => join(rt, alloc, *first, more),
         b'u' => NodeOp::Union {
             inputs: digits(rt, alloc, rest),
         },
@@ -207,6 +266,8 @@ fn column<R: Abort>(rt: &R, alloc: Global, into: &mut String, e: &TExpr) {
     match e {
         TExpr::Field(n) => add_number(rt, alloc, into, *n),
         TExpr::Bool(_) => add(rt, into, "t"),
+        TExpr::Compare { .. } => add(rt, into, "x"),
+        TExpr::Chain { .. } => add(rt, into, "o"),
         _ => add(rt, into, "?"),
     }
 }
@@ -218,23 +279,34 @@ fn tested<R: Abort>(rt: &R, alloc: Global, into: &mut String, e: &TExpr) {
     }
 }
 
-/// The columns that tests ask for, those of a chain in their order.
+/// Whether the links of a chain are ANDs, as all are or none in these plans.
+fn is_and(links: &[TLink]) -> bool {
+    match links.first() {
+        Some(link) => matches!(link.op, ChainOp::And),
+        None => true,
+    }
+}
+
+/// The columns that tests ask for; those of a chain within one stand in brackets.
 fn chained<R: Abort>(rt: &R, alloc: Global, into: &mut String, e: &TExpr) {
     match e {
-        TExpr::Chain { first, rest } => {
+        TExpr::Chain { first, rest } if is_and(rest.as_slice()) => {
+            add(rt, into, "[");
             tested(rt, alloc, into, first.get());
             for link in rest.as_slice() {
+                add(rt, into, ",");
                 tested(rt, alloc, into, &link.a);
             }
+            add(rt, into, "]");
         }
         _ => tested(rt, alloc, into, e),
     }
 }
 
-/// The columns that a condition asks for; chains of a chain stand in brackets.
+/// The columns that a condition asks for, those of a chain in their order.
 fn asked<R: Abort>(rt: &R, alloc: Global, into: &mut String, e: &TExpr) {
     match e {
-        TExpr::Chain { first, rest } => {
+        TExpr::Chain { first, rest } if is_and(rest.as_slice()) => {
             add(rt, into, "(");
             chained(rt, alloc, into, first.get());
             for link in rest.as_slice() {
@@ -257,6 +329,11 @@ fn op_told<R: Abort>(rt: &R, alloc: Global, into: &mut String, op: &NodeOp) {
         NodeOp::Foreach { .. } => add(rt, into, "g"),
         NodeOp::Distinct { .. } => add(rt, into, "d"),
         NodeOp::Group { .. } => add(rt, into, "k"),
+        NodeOp::Join {
+            replicated: true,
+            ..
+        } => add(rt, into, "J"),
+        NodeOp::Join { .. } => add(rt, into, "j"),
         NodeOp::Store { .. } => add(rt, into, "s"),
         _ => add(rt, into, "-"),
     }
@@ -288,43 +365,118 @@ fn told<R: Abort>(rt: &R, alloc: Global, words: &str) -> String {
     told
 }
 
-// The words of a plan, and the live nodes once conditions have moved: below a FILTER, a DISTINCT, a
-// FOREACH that hands the columns on, and a GROUP by the one column that is named; not below what is
-// computed, FLATTEN, a bag, several keys, ORDER, LIMIT, ASSERT, UNION or LOAD, nor below what two
-// nodes read.
+// The words of a plan, and the live nodes once conjuncts have moved: below a FILTER, a DISTINCT, a
+// FOREACH that hands the columns on, a UNION to each distinct input, a GROUP by the one column that
+// is named, and a JOIN to the input whose columns are named, where its rows all stand among the
+// joined ones; not below what is computed, FLATTEN, a bag, several keys, ORDER, LIMIT, ASSERT or
+// LOAD, nor below what two nodes read.
 const TOLD: &str = "La f00 f11 s2p: 0L 2f(0,1).0 3s.2
-La f001 f11 s2p: 0L 2f(01,1).0 3s.2
+La f001 f11 s2p: 0L 2f(0,1,1).0 3s.2
+La f0n f11 s2p: 0L 2f(0,1,1).0 3s.2
+La f0n1 f1n s2p: 0L 2f(0,1,1,0,1).0 3s.2
 La d0 f10 s2p: 0L 1f0.0 2d.1 3s.2
 La d0 f1t s2p: 0L 1ft.0 2d.1 3s.2
+La d0 f1n0 s2p: 0L 1f([0,1],0).0 2d.1 3s.2
 La g010 f10 s2p: 0L 1f1.0 2g.1 3s.2
 La g010 f101 s2p: 0L 1f(1,0).0 2g.1 3s.2
+La g010 f1t s2p: 0L 1ft.0 2g.1 3s.2
+La g010 f1o s2p: 0L 1fo.0 2g.1 3s.2
+La g01c f1o s2p: 0L 1g.0 2fo.1 3s.2
 La g01c f10 s2p: 0L 1f1.0 2g.1 3s.2
 La g01c f11 s2p: 0L 1g.0 2f1.1 3s.2
-La g01c f101 s2p: 0L 1g.0 2f(0,1).1 3s.2
+La g01c f101 s2p: 0L 1f1.0 2g.1 3f1.2 4s.3
+La g01c f110t0 s2p: 0L 1f(1,t,1).0 2g.1 3f1.2 4s.3
 La g01F f10 s2p: 0L 1f1.0 2g.1 3s.2
 La g0F1 f11 s2p: 0L 1g.0 2f1.1 3s.2
 La d0 g110 f20 s3p: 0L 1f1.0 2d.1 3g.2 4s.3
+La d0 g11c f210 s3p: 0L 1f1.0 2d.1 3g.2 4f1.3 5s.4
 La f00 d1 f21 s3p: 0L 2f(0,1).0 3d.2 4s.3
+La g01c f11 f20 s3p: 0L 1f1.0 3g.1 4f1.3 5s.4
 La o0 f10 s2p: 0L 1-.0 2f0.1 3s.2
 La l0 f10 s2p: 0L 1-.0 2f0.1 3s.2
 La a0 f10 s2p: 0L 1-.0 2f0.1 3s.2
-La u00 f10 s2p: 0L 1-.0.0 2f0.1 3s.2
+La u00 f10 s2p: 0L 2f0.0 3-.2.2 4s.3
+La u00 f101 s2p: 0L 2f(0,1).0 3-.2.2 4s.3
+La u00 f1t s2p: 0L 2ft.0 3-.2.2 4s.3
+La Lb u01 f20 s3p: 0L 1L 3f0.0 4f0.1 5-.3.4 6s.5
+La Lb u10 f20 s3p: 0L 1L 3f0.1 4f0.0 5-.3.4 6s.5
+La d0 u10 f20 s3p: 0L 1f0.0 3d.1 4f0.0 5-.3.4 6s.5
+La u00 f10 u12 s3p: 0L 1-.0.0 2f0.1 3-.1.2 4s.3
 La k01 f10 s2p: 0L 1f1.0 2k.1 3s.2
 La k01 f1t s2p: 0L 1ft.0 2k.1 3s.2
 La k01 f11 s2p: 0L 1k.0 2f1.1 3s.2
-La k01 f101 s2p: 0L 1k.0 2f(0,1).1 3s.2
+La k01 f101 s2p: 0L 1f1.0 2k.1 3f1.2 4s.3
 La k001 f10 s2p: 0L 1k.0 2f0.1 3s.2
 La k0c f10 s2p: 0L 1k.0 2f0.1 3s.2
 La f00 s1p: 0L 1f0.0 2s.1
 La d0 f10 u12 s3p: 0L 1d.0 2f0.1 3-.1.2 4s.3
 La d0 f10 d1 s2p: 0L 1f0.0 2d.1 4s.2
+La d0 f10 u22 s3p: 0L 1f0.0 2d.1 3-.2.2 4s.3
+La Lb ji01 d2 f31 s4p: 0L 1L 2f1.0 3j.2.1 4d.3 5s.4
+La Lb ji01 d2 f313 s4p: 0L 1L 2f1.0 3f1.1 4j.2.3 5d.4 6s.5
+La Lb jl01 f213 s3p: 0L 1L 2f1.0 3j.2.1 4f3.3 5s.4
+La Lb jl01 f21 s3p: 0L 1L 2f1.0 3j.2.1 4s.3
+La Lb jl01 f23 s3p: 0L 1L 2j.0.1 3f3.2 4s.3
+La Lb jL01 f213 s3p: 0L 1L 2f1.0 3J.2.1 4f3.3 5s.4
+La Lb jl01 f2n3 s3p: 0L 1L 2f(0,1).0 3j.2.1 4f3.3 5s.4
+La Lb jr01 f213 s3p: 0L 1L 2f1.1 3j.0.2 4f1.3 5s.4
+La Lb jf01 f213 s3p: 0L 1L 2j.0.1 3f(1,3).2 4s.3
+La Lb ji01 f213 s3p: 0L 1L 2f1.0 3f1.1 4j.2.3 5s.4
+La Lb ji01 f2031 s3p: 0L 1L 2f(0,1).0 3f1.1 4j.2.3 5s.4
+La Lb ji01 f2x s3p: 0L 1L 2j.0.1 3fx.2 4s.3
+La Lb ji01 f2x3 s3p: 0L 1L 2f1.1 3j.0.2 4fx.3 5s.4
+La Lb ji01 f2t s3p: 0L 1L 2j.0.1 3ft.2 4s.3
+La Lb ji01 f2t1 s3p: 0L 1L 2f1.0 3j.2.1 4ft.3 5s.4
+La Lb Lc ji012 f35 s4p: 0L 1L 2L 3f1.2 4j.0.1.3 5s.4
+La ji00 f113 s2p: 0L 1f1.0 2f1.0 3j.1.2 4s.3
+La ji00 f13 s2p: 0L 1f1.0 2j.0.1 3s.2
+La Lb f00 ji21 f30 s4p: 0L 1L 3f(0,0).0 4j.3.1 5s.4
 ";
 
 #[test]
-fn where_conditions_go(rt: HostRuntime) {
+fn where_conjuncts_go(rt: HostRuntime) {
     for line in TOLD.lines() {
         let (words, want) = line.split_once(':').unwrap_or((line, ""));
         let got = told(&rt, rt.alloc(), words);
         assert_eq!(rt; got.as_str(), want, "at {words}");
     }
+}
+
+/// A plan of so many FILTERs, each on the one before.
+fn filters<R: Abort>(rt: &R, alloc: Global, count: u32) -> Plan {
+    let mut plan = Plan::empty(alloc);
+    let op = load(rt, alloc, "a");
+    let statement = 1;
+    add_fitting(rt, &mut plan, Node { op, statement });
+    for input in 0..count {
+        let cond = is_there(rt, alloc, input & 1);
+        let op = NodeOp::Filter { input, cond };
+        add_fitting(rt, &mut plan, Node { op, statement });
+    }
+    let op = store(rt, alloc, count, "p");
+    add_fitting(rt, &mut plan, Node { op, statement });
+    plan
+}
+
+/// How many tests stand in the chain of the FILTER at a number.
+fn tests_at(plan: &Plan, number: usize) -> usize {
+    let Some(node) = plan.nodes().get(number) else {
+        return 0;
+    };
+    match &node.op {
+        NodeOp::Filter {
+            input: 0,
+            cond: TExpr::Chain { first: _, rest },
+        } => rest.len(),
+        _ => 0,
+    }
+}
+
+#[test]
+fn a_thousand_filters_are_one(rt: HostRuntime) {
+    let pushed = push(rt.alloc(), filters(&rt, rt.alloc(), 1000)).expect(&rt, "memory");
+    let live = live_numbers(rt.alloc(), &pushed).expect(&rt, "memory");
+    assert_eq!(rt; live.len(), 3);
+    assert_eq!(rt; tests_at(&pushed, 1000), 999);
+    drop(pushed);
 }

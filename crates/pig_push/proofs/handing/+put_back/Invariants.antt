@@ -2,7 +2,7 @@ use Rattle.std.proofs.Common.{◌≡◌, ◌+◌, ◌*◌, map, max, take}
 use Rattle.pig_typed.specs.Typed.{item_typed, link_of, typed, x_field}
 use Rattle.pig_plan.specs.Moves.{put}
 use Rattle.pig_typed.specs.declared.exprs.TExpr.TheViews.{size-TExpr}
-use Rattle.pig_push.specs.Pushed.{handed_number, put_link}
+use Rattle.pig_push.specs.Pushed.{handed_from, put_link}
 use Rattle.pig_push.proofs.handing.+put_back.Given as goal
 
 abbrev pub decreases-put_back : goal.decreases-put_back
@@ -27,7 +27,7 @@ abbrev pub decreases-put_args : goal.decreases-put_args
 decreases-put_args l = 4 * goal.size-put_args l + 1
 
 abbrev pub invariant-put_links-loop-link : goal.invariant-put_links-loop-link
-invariant-put_links-loop-link l = map link_of l.made.items ≡ map (put_link (λ n. x_field (handed_number (map item_typed l.items) n))) (map link_of (take l.link-index l.links))
+invariant-put_links-loop-link l = map link_of l.made.items ≡ map (put_link (λ n. x_field (handed_from (map item_typed l.items) l.from n))) (map link_of (take l.link-index l.links))
 
 abbrev pub invariant-put_args-loop-e : goal.invariant-put_args-loop-e
-invariant-put_args-loop-e l = map typed l.made.items ≡ map (put (λ n. x_field (handed_number (map item_typed l.items) n))) (map typed (take l.e-index l.args))
+invariant-put_args-loop-e l = map typed l.made.items ≡ map (put (λ n. x_field (handed_from (map item_typed l.items) l.from n))) (map typed (take l.e-index l.args))

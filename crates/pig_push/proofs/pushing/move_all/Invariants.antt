@@ -1,10 +1,6 @@
 use Rattle.pig_plan.specs.Plans.{plan_of}
-use Rattle.pig_push.specs.Pushed.{AreMoves, IsTidy}
-use Rattle.pig_push.proofs.Tidy.{heights}
+use Rattle.pig_push.specs.Pushed.{AreMoves}
 use Rattle.pig_push.proofs.pushing.move_all.Given as goal
 
 abbrev pub invariant-moves : goal.invariant-moves
-invariant-moves l = AreMoves (plan_of l.fn.plan) (plan_of l.made) × IsTidy (plan_of l.made)
-
-abbrev pub decreases-moves : goal.decreases-moves
-decreases-moves l = heights 0 (plan_of l.made)
+invariant-moves l = AreMoves (plan_of l.fn.plan) (plan_of l.made)

@@ -1,0 +1,30 @@
+use Rattle.std.proofs.Common.{rules, ◌≡◌, ◌∙◌, ap, false, sym, true, map}
+use Rattle.std.specs.List.{list_any}
+use Rattle.pig_plan.specs.Conjuncts.{conjuncts}
+use Rattle.pig_typed.specs.Typed.{typed}
+use Rattle.pig_plan.specs.Meaning.{width_at}
+use Rattle.pig_plan.specs.Plans.{op_of, plan_of}
+use Rattle.pig_push.specs.Pushed.{is_union, may_pass, some_pass}
+use Rattle.pig_push.proofs.Steps.{any_true, none_pass, some_passes, union_passes}
+use Rattle.pig_push.proofs.finding.some_pass.Goals as goal
+
+pub returns-in-Filter : goal.returns-in-Filter
+returns-in-Filter c = sym (ap (λ o. some_pass (width_at (plan_of c.args.plan.now)) (op_of o) (typed c.args.cond.now)) c.in-Filter.is ∙ any_true (typed c.args.cond.now))
+
+pub returns-then-not-is_ever_passed : goal.returns-then-not-is_ever_passed
+returns-then-not-is_ever_passed c =
+    let other : is_union (op_of c.args.op.now) ≡ false = search rules in
+    let no : c.is_ever_passed.result ≡ false = search rules in
+    sym (none_pass (width_at (plan_of c.args.plan.now)) (op_of c.args.op.now) (typed c.args.cond.now) other (λ e. c.is_ever_passed.ensures no (width_at (plan_of c.args.plan.now)) e))
+
+pub returns-then-union : goal.returns-then-union
+returns-then-union c =
+    let is : is_union (op_of c.args.op.now) ≡ true = search rules in
+    sym (union_passes (width_at (plan_of c.args.plan.now)) (op_of c.args.op.now) (typed c.args.cond.now) is)
+
+pub returns : goal.returns
+returns c =
+    let other : is_union (op_of c.args.op.now) ≡ false = search rules in
+    let all : map typed c.in_ok-all.all ≡ conjuncts (typed c.args.cond.now) = search rules in
+    let told : c.in_ok-passes.passes ≡ list_any (may_pass (width_at (plan_of c.args.plan.now)) (op_of c.args.op.now)) (map typed c.in_ok-all.all) = search rules in
+    some_passes (width_at (plan_of c.args.plan.now)) (op_of c.args.op.now) (typed c.args.cond.now) (map typed c.in_ok-all.all) c.in_ok-passes.passes other all told
