@@ -1,0 +1,5 @@
+mod Taken
+mod Least
+mod Unmet
+mod Outputs
+pub mod Alike

@@ -1,0 +1,66 @@
+ghost use Rattle.std.specs.Prelude.{◌≡◌, ◌++◌, ◌∷◌, [], true, IfOk, OnOk};
+ghost use Rattle.pig_plan.specs.Plans.{node_of, plan_of};
+ghost use Rattle.pig_plan.specs.Valid.{IsPlan};
+ghost use Rattle.pig_reach.specs.Reach.{stores_of};
+ghost use Rattle.pig_rewrites.specs.Alike.{RunsAlike, are_apart};
+ghost use Rattle.pig_rewrites.specs.Reached.{IsReached};
+
+use crate::comparing::show_alike;
+use pig_keyed::{by_key, keyed_plans_run_the_same};
+use pig_plan::{Node, Plan, copy_node};
+use pig_prune::prune;
+use pig_push::push;
+use pig_share::share;
+use std::alloc::{AllocError, Global};
+
+/// The plan that is cut into tasks: nodes that do the same become one, conditions move towards the
+/// sources, what nothing needs goes, and each JOIN goes by key. A run of it does what a run of the
+/// plan does. A refusal is for want of memory.
+pub fn rewrite(alloc: Global, plan: &Plan) -> Result<Plan, AllocError>
+    requires apart { are_apart (stores_of (plan_of plan.now)) ≡ true }
+    ensures reached { IfOk result (λ q. IsReached (plan_of plan.now) (plan_of q)) }
+    ensures alike { IfOk result (λ q. RunsAlike (plan_of plan.now) (plan_of q)) }
+{
+    let checked = copied(alloc, plan)?;
+    let shared = share(alloc, checked)?;
+    let pushed = push(alloc, shared)?;
+    let pruned = prune(alloc, pushed)?;
+    // No rewrite changes a STORE or what is read, so no run ends here.
+    if !show_alike(alloc, plan, &pruned)? {
+        return Err(AllocError);
+    }
+    known_plan(plan);
+    known_plan(&pruned);
+    keyed_plans_run_the_same();
+    by_key(alloc, pruned)
+}
+
+fn copied(alloc: Global, plan: &Plan) -> Result<Plan, AllocError>
+    ensures { IfOk result (λ copy. plan_of copy ≡ plan_of plan.now) }
+{
+    let mut copy = Plan::empty(alloc);
+    let mut left = plan.nodes().as_slice();
+    while let [node, rest @ ..] = left {
+        push_node(&mut copy, copy_node(alloc, node)?)?;
+        left = rest;
+    }
+    Ok(copy)
+}
+
+/// Adds a node, which fits, since the plan is valid that it comes from.
+fn push_node(copy: &mut Plan, node: Node) -> Result<(), AllocError>
+    ensures { OnOk result (plan_of copy.new ≡ plan_of copy.old ++ node_of node ∷ []) }
+{
+    if !copy.fits(&node)? {
+        return Err(AllocError);
+    }
+    copy.add(node)?;
+    Ok(())
+}
+
+/// A plan is valid.
+fn known_plan(plan: &Plan)
+    ensures { IsPlan (plan_of plan.now) }
+{
+    plan.nodes();
+}
