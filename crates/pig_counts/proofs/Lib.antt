@@ -1,0 +1,4 @@
+mod TaskCounts
+mod Standing
+mod Counted
+mod Samples

@@ -1,0 +1,104 @@
+//! Whether that stands which a task names.
+ghost use Rattle.std.specs.Prelude.{◌≡◌, ◌<◌, IsTrue, length, map};
+ghost use Rattle.std.specs.List.{AllByRecursion};
+ghost use Rattle.std.specs.Option.{is_some, option_map};
+ghost use Rattle.pig_plan.specs.Entries.{sort_keys};
+ghost use Rattle.pig_plan.specs.Nodes.{op_at};
+ghost use Rattle.pig_plan.specs.Plans.{op_of};
+ghost use Rattle.pig_physical.specs.Fitting.{HasOutput, HasPart, HasWave};
+ghost use Rattle.pig_physical.specs.Handed.{out_of, outs_of};
+ghost use Rattle.pig_physical.specs.Outs.{runs_in};
+ghost use Rattle.pig_physical.specs.Seen.{staged};
+ghost use Rattle.pig_physical.specs.Stages.{heads};
+ghost use Rattle.pig_tasks_rows.specs.Fits.{AllFit};
+
+use pig_physical::{Out, OutForm, Outs, Part, ReduceTask, Stages};
+use pig_plan::NodeOp;
+
+/// Whether the output of a task of an earlier wave stands.
+fn output_stands(stages: &Stages, prior: &Outs, wave: u32, at: u32) -> bool
+    requires { AllFit (staged stages.now) (outs_of prior.now) }
+    ensures { IsTrue result → HasOutput (staged stages.now) (outs_of prior.now) wave at }
+{
+    let Some(outs) = prior.get(wave as usize) else {
+        return false;
+    };
+    match outs.get(at as usize) {
+        Some(_) => true,
+        None => false,
+    }
+}
+
+/// Whether the part stands that a task reads.
+pub fn part_stands(stages: &Stages, prior: &Outs, part: &Part) -> bool
+    requires { AllFit (staged stages.now) (outs_of prior.now) }
+    ensures { IsTrue result → HasPart (staged stages.now) (outs_of prior.now) part.now }
+{
+    match part {
+        Part::Split(_) => true,
+        Part::Output { wave, at } => output_stands(stages, prior, *wave, *at),
+    }
+}
+
+/// Whether an output has so many runs.
+fn has_runs(out: &Out, count: u32) -> bool
+    ensures { IsTrue result → length (runs_in (out_of out.now).form) ≡ count }
+{
+    match &out.form {
+        OutForm::Runs(runs) => runs.len() == count as usize,
+        OutForm::Rows(_) => count == 0,
+        OutForm::Parts(_) => count == 0,
+    }
+}
+
+/// Whether each output does.
+fn have_runs(outs: &[Out], count: u32) -> bool
+    ensures { IsTrue result
+        → AllByRecursion (λ out. length (runs_in out.form) ≡ count) (map out_of outs.now) }
+{
+    let mut left = outs;
+    while let [out, rest @ ..] = left {
+        if !has_runs(out, count) {
+            return false;
+        }
+        left = rest;
+    }
+    true
+}
+
+/// The operator of a node.
+pub fn operator<'p>(stages: &'p Stages, node: u32) -> Option<&'p NodeOp>
+    ensures { option_map (λ op. op_of op.now) result ≡ op_at (staged stages.now).plan node }
+{
+    match stages.plan().nodes().get(node as usize) {
+        Some(node) => Some(&node.op),
+        None => None,
+    }
+}
+
+fn sorts(op: &NodeOp) -> bool
+    ensures { result ≡ is_some (sort_keys (op_of op.now)) }
+{
+    matches!(op, NodeOp::Order { .. } | NodeOp::Rank { .. })
+}
+
+/// Whether the wave stands that a reduce task reads. The runs of a node that sorts are cut.
+pub fn wave_stands(stages: &Stages, prior: &Outs, task: &ReduceTask) -> bool
+    requires wave { task.now.wave < length (heads (staged stages.now).plan) }
+    requires fit { AllFit (staged stages.now) (outs_of prior.now) }
+    ensures { IsTrue result → HasWave (staged stages.now) (outs_of prior.now) task.now }
+{
+    let Some(outs) = prior.get(task.wave as usize) else {
+        return false;
+    };
+    if outs.len() != stages.tasks(task.wave) as usize {
+        return false;
+    }
+    let Some(op) = operator(stages, task.node) else {
+        return false;
+    };
+    if !sorts(op) {
+        return true;
+    }
+    have_runs(outs.as_slice(), stages.reducers())
+}
