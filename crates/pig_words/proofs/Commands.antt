@@ -1,10 +1,14 @@
 -- How what was given makes a command, and that words are at most one.
-use Rattle.std.proofs.Common.{◌≡◌, ◌∙◌, ◌==◌, ◌≤◌, ℕ, Bool, cond, true, false, refl, sym, ap, subst, List, [], ◌∷◌, length, drop, min, Option, Some, None, is_some, option_and_then, true≢false, unwrap_or, slice_index_or}
+use Rattle.std.proofs.Common.{◌≡◌, ◌∙◌, ◌==◌, ◌≤◌, ℕ, Bool, cond, true, false, refl, sym, ap, subst, List, [], ◌∷◌, length, drop, map, min, Option, Some, None, is_some, option_and_then, true≢false, unwrap_or, slice_index_or}
 use Rattle.std.specs.Str.Parse.{digits_value}
+use Rattle.pig_params.specs.Given.{named_of}
+use Rattle.pig_params.specs.ParamWords.{Parted, taken}
+use Rattle.pig_params.specs.Substitution.{Named}
+use Rattle.pig_params.specs.declared.values.Param.{Param}
 use Rattle.pig_words.specs.declared.words.Command.{Command}
 use Rattle.pig_words.specs.declared.words.Verb.{Verb}
 use Rattle.pig_words.specs.declared.words.Verb.TheVariants as verbs
-use Rattle.pig_words.specs.CommandWords.{Given, Gives, finished, operand, joined, apart, dashes, operand_last, IsCommand, IsCount, IsSet, IsOptionWord, Makes, Setting, Workers, Reducers, Split, Attempts, Word, is_same, nothing_given, verb_word, with_value}
+use Rattle.pig_words.specs.CommandWords.{Given, Gives, finished, operand, joined, apart, dashes, operand_last, IsBare, IsCommand, IsCount, IsSet, IsOptionWord, Makes, Setting, Workers, Reducers, Split, Attempts, Word, is_same, nothing_given, verb_word, with_value}
 use Rattle.pig_words.specs.declared.words.Numbers.{Numbers}
 use Rattle.pig_words.specs.ClapWords.{AreRead, AreValues, number_at, numbers_at, setting_at, takes}
 use Rattle.pig_words.proofs.Options.{each}
@@ -47,10 +51,10 @@ count_taken verbs.Demo word h =
     ap is_some (set_number word 0 100000 (digits_value 10 word) count.value (refl, count.some, count.few))
 
 -- what the numbers are read from makes the command
-pub made : (hosts : ℕ) (v : Verb) (g : Given) (word : Word) (n : Numbers) → takes v word ≡ true → g.operand ≡ Some word → numbers_at hosts g ≡ Some n
-    → AreValues g × Makes hosts g (record { verb = v; operand = word; workers = n.workers; reducers = n.reducers; split = n.split; attempts = n.attempts })
+pub made : (hosts : ℕ) (v : Verb) (g : Given) (word : Word) (n : Numbers) (params : List Param) → takes v word ≡ true → g.operand ≡ Some word → numbers_at hosts g ≡ Some n
+    → AreValues g × Makes hosts g (record { verb = v; operand = word; workers = n.workers; reducers = n.reducers; split = n.split; attempts = n.attempts; params = params })
 unfolding numbers_at
-made hosts v g word n t o e =
+made hosts v g word n params t o e =
     let parts = each_some (setting_at (min 4 hosts) hosts (g.values Workers)) (setting_at 4 256 (g.values Reducers)) (setting_at 1048576 67108864 (g.values Split)) (setting_at 4 16 (g.values Attempts)) n e in
     let workers = setting_set (g.values Workers) (min 4 hosts) hosts n.workers parts.0 in
     let reducers = setting_set (g.values Reducers) 4 256 n.reducers parts.1 in
@@ -99,21 +103,48 @@ set_once : (value : Option Word) (default most n m : ℕ) → IsSet value defaul
 set_once None default most n m h k = h ∙ sym k
 set_once (Some word) default most n m h k = h.0 ∙ sym k.0
 
-pub made_once : (hosts : ℕ) (g : Given) (c d : Command) → c.verb ≡ d.verb → Makes hosts g c → Makes hosts g d → c ≡ d
-made_once hosts g c d v m n =
+pub made_once : (hosts : ℕ) (g : Given) (c d : Command) → c.verb ≡ d.verb → c.params ≡ d.params → Makes hosts g c → Makes hosts g d → c ≡ d
+made_once hosts g c d v p m n =
     let o : c.operand ≡ d.operand = ap (λ (x : Option Word). unwrap_or x c.operand) (sym m.operand ∙ n.operand) in
     let w = set_once (g.values Workers) (min 4 hosts) hosts c.workers d.workers m.workers n.workers in
     let r = set_once (g.values Reducers) 4 256 c.reducers d.reducers m.reducers n.reducers in
     let s = set_once (g.values Split) 1048576 67108864 c.split d.split m.split n.split in
     let t = set_once (g.values Attempts) 4 16 c.attempts d.attempts m.attempts n.attempts in
-    λ i. record { verb = v i; operand = o i; workers = w i; reducers = r i; split = s i; attempts = t i }
+    λ i. record { verb = v i; operand = o i; workers = w i; reducers = r i; split = s i; attempts = t i; params = p i }
 
-pub one_command : (hosts : ℕ) (words : List Word) (c d : Command) → IsCommand hosts words c → IsCommand hosts words d → c ≡ d
-one_command hosts words c d h k =
+one_bare : (hosts : ℕ) (words : List Word) (c d : Command) → c.params ≡ d.params → IsBare hosts words c → IsBare hosts words d → c ≡ d
+one_bare hosts words c d params h k =
     let same = sym h.begins ∙ k.begins in
     let rest = same_rest c.verb d.verb h.rest k.rest same in
     let given = one_given k.rest h.given k.given (subst (λ xs. Gives nothing_given xs h.given) rest h.gives) k.gives in
-    made_once hosts k.given c d (same_verb c.verb d.verb h.rest k.rest same) (subst (λ g. Makes hosts g c) given h.makes) k.makes
+    made_once hosts k.given c d (same_verb c.verb d.verb h.rest k.rest same) params (subst (λ g. Makes hosts g c) given h.makes) k.makes
+
+-- the parameter of a name and a value
+abbrev pub param_with : Named → Param
+param_with n = record { name = n.0; value = n.1 }
+
+-- parameters are known by their names and values
+params_back : (params : List Param) → map param_with (map named_of params) ≡ params
+params_back [] = refl
+params_back (p ∷ params) = ap (λ ps. p ∷ ps) (params_back params)
+
+pub named_back : (named : List Named) → map named_of (map param_with named) ≡ named
+named_back [] = refl
+named_back (n ∷ named) = ap (λ ns. n ∷ ns) (named_back named)
+
+-- what is taken of words is one thing
+pub same_taken : (words : List Word) (p q : Parted) → taken words ≡ Some p → taken words ≡ Some q → p ≡ q
+same_taken words p q e f = ap (λ (o : Option Parted). unwrap_or o p) (sym e ∙ f)
+
+-- the words that are left are the command
+pub left_bare : (hosts : ℕ) (words : List Word) (p : Parted) (c : Command) → taken words ≡ Some p → IsCommand hosts words c → IsBare hosts p.0 c
+left_bare hosts words p c e is = subst (λ ws. IsBare hosts ws c) (ap (λ (q : Parted). q.0) (same_taken words (is.left, map named_of c.params) p is.takes e)) is.bare
+
+pub one_command : (hosts : ℕ) (words : List Word) (c d : Command) → IsCommand hosts words c → IsCommand hosts words d → c ≡ d
+one_command hosts words c d h k =
+    let same = same_taken words (h.left, map named_of c.params) (k.left, map named_of d.params) h.takes k.takes in
+    let params : c.params ≡ d.params = sym (params_back c.params) ∙ ap (λ (p : Parted). map param_with p.1) same ∙ params_back d.params in
+    one_bare hosts k.left c d params (subst (λ ws. IsBare hosts ws c) (ap (λ (p : Parted). p.0) same) h.bare) k.bare
 
 -- ---- what words give has values
 
@@ -139,7 +170,7 @@ pub none_given : AreValues nothing_given
 none_given s v e = cc
 
 -- a command of words whose options were read is made of what was read
-pub made_of_read : (hosts : ℕ) (words : List Word) (v : Verb) (g : Given) (c : Command) → words ≡ verb_word v ∷ drop 1 words → AreRead (drop 1 words) g → IsCommand hosts words c
+pub made_of_read : (hosts : ℕ) (words : List Word) (v : Verb) (g : Given) (c : Command) → words ≡ verb_word v ∷ drop 1 words → AreRead (drop 1 words) g → IsBare hosts words c
     → (c.verb ≡ v) × AreValues g × Makes hosts g c
 made_of_read hosts words v g c begins read is =
     let same = sym is.begins ∙ begins in

@@ -1,5 +1,5 @@
 -- Words are a command or none.
-use Rattle.std.proofs.Common.{◌≡◌, ◌≢◌, ◌≤◌, ℕ, zero, suc, ◌==◌, true, false, List, [], ◌∷◌, ◌++◌, length, Option, Some, None, is_some, unwrap_or, codes, refl, sym, ◌∙◌, ap, subst, arith, inl, inr, ◌⊎◌, true≢false}
+use Rattle.std.proofs.Common.{◌≡◌, ◌≢◌, ◌≤◌, ℕ, zero, suc, ◌==◌, true, false, List, [], ◌∷◌, ◌++◌, length, map, Option, Some, None, is_some, unwrap_or, codes, refl, sym, ◌∙◌, ap, subst, arith, inl, inr, ◌⊎◌, true≢false}
 use Rattle.std.specs.List.{AllByRecursion}
 use Rattle.std.specs.Str.{bytes_eq}
 use Rattle.std.proofs.lemmas.Bool.{cases_Bool}
@@ -7,14 +7,17 @@ use Rattle.std.proofs.lemmas.List.{append_assoc}
 use Rattle.std.proofs.lemmas.Bool.Decides.{Decides-eqb}
 use Rattle.std.proofs.lemmas.Slice.Eq.{bytes_eq-Decides}
 use Rattle.clap.specs.Lexer.{long_of}
+use Rattle.pig_params.specs.Given.{named_of}
+use Rattle.pig_params.specs.ParamWords.{Parted, taken}
+use Rattle.pig_params.specs.declared.values.Param.{Param}
 use Rattle.pig_words.specs.declared.words.Command.{Command}
 use Rattle.pig_words.specs.declared.words.Numbers.{Numbers}
 use Rattle.pig_words.specs.declared.words.Verb.{Verb}
 use Rattle.pig_words.specs.declared.words.Verb.TheVariants as verbs
-use Rattle.pig_words.specs.CommandWords.{Given, Gives, finished, operand, joined, apart, dashes, operand_last, IsCommand, IsOptionWord, Makes, Setting, Word, is_dashed, nothing_given, option_word, settings, verb_word, with_operand, with_value}
+use Rattle.pig_words.specs.CommandWords.{Given, Gives, finished, operand, joined, apart, dashes, operand_last, IsBare, IsCommand, IsOptionWord, Makes, Setting, Word, is_dashed, nothing_given, option_word, settings, verb_word, with_operand, with_value}
 use Rattle.pig_words.specs.ClapWords.{is_value, numbers_at, takes}
 use Rattle.pig_words.proofs.Options.{each, listed, same_setting}
-use Rattle.pig_words.proofs.Commands.{made, none_given, numbers_of_made, same_rest, same_verb, taken_of_made, values_given}
+use Rattle.pig_words.proofs.Commands.{left_bare, made, named_back, none_given, numbers_of_made, param_with, same_rest, same_verb, taken_of_made, values_given}
 use Rattle.pig_words.proofs.WordNumbers.{value_from, value_test}
 use Rattle.pig_words.proofs.ClapFinds.{one_given}
 
@@ -267,25 +270,29 @@ gives_decided (suc n) (word ∷ rest) few g =
 
 -- ---- commands
 
+-- words without parameters are a command with these parameters, or none
+abbrev BareDecided : ℕ → List Param → List Word → Type 0
+BareDecided hosts params words = ((c : Command) × (c.params ≡ params) × IsBare hosts words c) ⊎ ((c : Command) → IsBare hosts words c → ⊥)
+
 -- the words behind the verb give what makes a command, or not
-module _ (hosts : ℕ) (verb : Verb) (rest : List Word) where
+module _ (hosts : ℕ) (params : List Param) (verb : Verb) (rest : List Word) where
   -- whatever command it is, the words give what makes it
-  makes_it : (given : Given) → Gives nothing_given rest given → (c : Command) → IsCommand hosts (verb_word verb ∷ rest) c → (c.verb ≡ verb) × Makes hosts given c
+  makes_it : (given : Given) → Gives nothing_given rest given → (c : Command) → IsBare hosts (verb_word verb ∷ rest) c → (c.verb ≡ verb) × Makes hosts given c
   makes_it given gives c is =
       let v : verb ≡ c.verb = same_verb verb c.verb rest is.rest is.begins in
       let r : rest ≡ is.rest = same_rest verb c.verb rest is.rest is.begins in
       (sym v, subst (λ g. Makes hosts g c) (one_given rest is.given given (subst (λ ws. Gives nothing_given ws is.given) (sym r) is.gives) gives) is.makes)
 
   by_numbers : (given : Given) → Gives nothing_given rest given → (word : Word) → given.operand ≡ Some word → takes verb word ≡ true → (numbers : Option Numbers) → numbers_at hosts given ≡ numbers
-      → ((c : Command) × IsCommand hosts (verb_word verb ∷ rest) c) ⊎ ((c : Command) → IsCommand hosts (verb_word verb ∷ rest) c → ⊥)
+      → BareDecided hosts params (verb_word verb ∷ rest)
   by_numbers given gives word is taken None e =
       inr (λ c command. let wrong = sym e ∙ numbers_of_made hosts given c (values_given gives none_given) (makes_it given gives c command).1 in cc)
   by_numbers given gives word is taken (Some n) e =
-      let c : Command = record { verb = verb; operand = word; workers = n.workers; reducers = n.reducers; split = n.split; attempts = n.attempts } in
-      inl (c, record { rest = rest; given = given; begins = refl; gives = gives; makes = (made hosts verb given word n taken is e).1 })
+      let c : Command = record { verb = verb; operand = word; workers = n.workers; reducers = n.reducers; split = n.split; attempts = n.attempts; params = params } in
+      inl (c, refl, record { rest = rest; given = given; begins = refl; gives = gives; makes = (made hosts verb given word n params taken is e).1 })
 
   by_operand : (given : Given) → Gives nothing_given rest given → (o : Option Word) → given.operand ≡ o
-      → ((c : Command) × IsCommand hosts (verb_word verb ∷ rest) c) ⊎ ((c : Command) → IsCommand hosts (verb_word verb ∷ rest) c → ⊥)
+      → BareDecided hosts params (verb_word verb ∷ rest)
   by_operand given gives None e = inr (λ c command. let wrong = sym e ∙ (makes_it given gives c command).1.operand in cc)
   by_operand given gives (Some word) e = elim (cases_Bool (takes verb word)) [
     | inl taken ↦ by_numbers given gives word e taken (numbers_at hosts given) refl
@@ -295,7 +302,7 @@ module _ (hosts : ℕ) (verb : Verb) (rest : List Word) where
         let wrong = sym refused ∙ taken in cc)
   ]
 
-  behind_verb : ((c : Command) × IsCommand hosts (verb_word verb ∷ rest) c) ⊎ ((c : Command) → IsCommand hosts (verb_word verb ∷ rest) c → ⊥)
+  behind_verb : BareDecided hosts params (verb_word verb ∷ rest)
   behind_verb = elim (gives_decided (length rest) rest (omega arith) nothing_given) [
     | inl gives ↦ by_operand gives.0 gives.1 gives.0.operand refl
     | inr nothing ↦ inr (λ c is.
@@ -324,9 +331,24 @@ verb_decided word = elim (text_decided word (codes "run")) [
     no_verb a b c d verbs.Check = c
     no_verb a b c d verbs.Demo = d
 
-pub command_decided : (hosts : ℕ) (words : List Word) → ((c : Command) × IsCommand hosts words c) ⊎ ((c : Command) → IsCommand hosts words c → ⊥)
-command_decided hosts [] = inr (λ c is. let wrong = is.begins in cc)
-command_decided hosts (word ∷ rest) = elim (verb_decided word) [
+bare_decided : (hosts : ℕ) (params : List Param) (words : List Word) → BareDecided hosts params words
+bare_decided hosts params [] = inr (λ c is. let wrong = is.begins in cc)
+bare_decided hosts params (word ∷ rest) = elim (verb_decided word) [
   | inr none ↦ inr (λ c is. none c.verb (let e = is.begins in let first : word ≡ verb_word c.verb = cc in first))
-  | inl verb ↦ subst (λ w. ((c : Command) × IsCommand hosts (w ∷ rest) c) ⊎ ((c : Command) → IsCommand hosts (w ∷ rest) c → ⊥)) (sym verb.1) (behind_verb hosts verb.0 rest)
+  | inl verb ↦ subst (λ w. BareDecided hosts params (w ∷ rest)) (sym verb.1) (behind_verb hosts params verb.0 rest)
 ]
+
+abbrev CommandDecided : ℕ → List Word → Type 0
+CommandDecided hosts words = ((c : Command) × IsCommand hosts words c) ⊎ ((c : Command) → IsCommand hosts words c → ⊥)
+
+pub command_decided : (hosts : ℕ) (words : List Word) → CommandDecided hosts words
+command_decided hosts words = by_taken (taken words) refl
+  where
+    by_taken : (o : Option Parted) → taken words ≡ o → CommandDecided hosts words
+    by_taken None e = inr (λ c is. let wrong = sym e ∙ is.takes in cc)
+    by_taken (Some p) e = elim (bare_decided hosts (map param_with p.1) p.0) [
+      | inr none ↦ inr (λ c is. none c (left_bare hosts words p c e is))
+      | inl found ↦
+          (let params : map named_of found.0.params ≡ p.1 = ap (map named_of) found.1 ∙ named_back p.1 in
+          inl (found.0, record { left = p.0; takes = e ∙ ap (λ ns. Some (p.0, ns)) (sym params); bare = found.2 }))
+    ]

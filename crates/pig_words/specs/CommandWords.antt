@@ -1,9 +1,11 @@
 -- The words of a command line, and the command that they are.
-use Rattle.std.specs.Prelude.{◌≡◌, ◌==◌, ◌≤◌, ℕ, Bool, true, false, List, [], ◌∷◌, ◌++◌, length, min, Option, Some, None, codes, if◌then◌else◌}
+use Rattle.std.specs.Prelude.{◌≡◌, ◌==◌, ◌≤◌, ℕ, Bool, true, false, List, [], ◌∷◌, ◌++◌, length, map, min, Option, Some, None, codes, if◌then◌else◌}
 use Rattle.std.specs.Char.{is_ascii_digit}
 use Rattle.std.specs.List.{list_all}
 use Rattle.std.specs.Str.{bytes_eq}
 use Rattle.std.specs.Str.Parse.{digits_value}
+use Rattle.pig_params.specs.Given.{named_of}
+use Rattle.pig_params.specs.ParamWords.{taken}
 use Rattle.pig_words.specs.declared.words.Command.{Command}
 use Rattle.pig_words.specs.declared.words.Verb.{Verb}
 use Rattle.pig_words.specs.declared.words.Verb.TheVariants as verbs
@@ -102,10 +104,16 @@ pub record Makes (hosts : ℕ) (given : Given) (c : Command) : Type 0 where
   pub attempts : IsSet (given.values Attempts) 4 16 c.attempts
   pub count : c.verb ≡ verbs.Demo → IsCount c.operand
 
--- The words are the command: its verb, and words that give what makes it.
-pub record IsCommand (hosts : ℕ) (words : List Word) (c : Command) : Type 0 where
+-- The words without parameters are the command: its verb, and words that give what makes it.
+pub record IsBare (hosts : ℕ) (words : List Word) (c : Command) : Type 0 where
   pub rest : List Word
   pub given : Given
   pub begins : words ≡ verb_word c.verb ∷ rest
   pub gives : Gives nothing_given rest given
   pub makes : Makes hosts given c
+
+-- The words are the command: its parameters are taken from them, and it is what the words are that are left.
+pub record IsCommand (hosts : ℕ) (words : List Word) (c : Command) : Type 0 where
+  pub left : List Word
+  pub takes : taken words ≡ Some (left, map named_of c.params)
+  pub bare : IsBare hosts left c

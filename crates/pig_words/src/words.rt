@@ -5,13 +5,14 @@ ghost use Rattle.std.specs.Str.Parse.{digits_value};
 ghost use Rattle.clap.specs.Words.{FailsBy, kind_of, app_of, fault_of, found_of, matches_of, rows_of, rule_of, with_rule};
 ghost use Rattle.clap.specs.declared.error.kind.ErrorKind.TheVariants as kind;
 ghost use Rattle.pig_value.specs.declared.outcomes.WordFault.TheVariants as faults;
-ghost use Rattle.pig_words.specs.CommandWords.{IsCommand, Makes, verb_word};
+ghost use Rattle.pig_words.specs.CommandWords.{IsBare, IsCommand, Makes, verb_word};
 ghost use Rattle.pig_words.specs.ClapWords.{pig, bare_pig, operand_rule, option_rule, given_of, AreValues, AreRead, LackOperand, is_value, number_at, numbers_at, setting_at, takes};
 ghost use Rattle.pig_words.specs.declared.words.Command.{Command};
 ghost use Rattle.pig_words.specs.declared.words.Verb.{Verb};
 
 use clap::error::ErrorKind;
 use clap::{Arg, ArgAction, ArgMatches};
+use pig_params::{Params, Taken, take_params};
 use pig_value::{Text, WordFault, Words};
 use std::alloc::{AllocError, Global};
 
@@ -31,7 +32,7 @@ pub enum Verb {
     Demo,
 }
 
-/// A command: what is to be done with what, and the numbers that its options set.
+/// A command: what is to be done with what, the numbers that its options set, and the parameters of the script.
 #[derive(Debug, Drop)]
 pub struct Command {
     pub verb: Verb,
@@ -45,6 +46,8 @@ pub struct Command {
     pub split: u64,
     /// The number of failed attempts at one task with which a run is given up, from 1 to 16.
     pub attempts: u32,
+    /// The parameters that are put into the script, as they come, at most 64; `demo` ignores them.
+    pub params: Params,
 }
 
 // What clap found: the operand, and the options that were given.
@@ -266,10 +269,17 @@ fn takes(verb: Verb, operand: &str) -> bool
     }
 }
 
-// The command of a verb and of what was given.
-fn make_command(alloc: Global, verb: Verb, found: &Found, hosts: u32) -> Result<Command, WordFault>
+// The command of a verb, of what was given and of parameters.
+fn make_command(
+    alloc: Global,
+    verb: Verb,
+    found: &Found,
+    params: Params,
+    hosts: u32,
+) -> Result<Command, WordFault>
     ensures makes { IfOk result (λ c. (c.verb ≡ verb) × AreValues (given_of found.now)
         × Makes hosts (given_of found.now) c) }
+    ensures params { IfOk result (λ c. c.params ≡ params) }
     ensures usage { IfErr result (λ f. f ≡ faults.Usage → (c : Command) → c.verb ≡ verb
         → AreValues (given_of found.now) → ¬ Makes hosts (given_of found.now) c) }
 {
@@ -287,16 +297,39 @@ fn make_command(alloc: Global, verb: Verb, found: &Found, hosts: u32) -> Result<
             reducers: numbers.reducers,
             split: u64::from(numbers.split),
             attempts: numbers.attempts,
+            params,
         }),
+        Err(_) => Err(WordFault::OutOfMemory),
+    }
+}
+
+// The command that words without parameters are, with these parameters.
+fn read_bare(alloc: Global, words: &Words, params: Params, hosts: u32) -> Result<Command, WordFault>
+    requires some { 1 ≤ hosts }
+    requires few { hosts ≤ 256 }
+    ensures command { IfOk result (IsBare hosts words.now) }
+    ensures params { IfOk result (λ c. c.params ≡ params) }
+    ensures usage { IfErr result (λ f. f ≡ faults.Usage → (c : Command)
+        → ¬ IsBare hosts words.now c) }
+{
+    let Some(verb) = first_verb(words) else {
+        return Err(WordFault::Usage);
+    };
+    match texts(alloc, words) {
+        Ok(texts) => {
+            let found = read_options(alloc, texts.as_slice())?;
+            make_command(alloc, verb, &found, params, hosts)
+        }
         Err(_) => Err(WordFault::OutOfMemory),
     }
 }
 
 /// The command that the words of a command line are, without the program's name, where there are so many hosts.
 ///
-/// The first word is the verb: `run`, `explain`, `check` or `demo`. Then come one operand, and at most once each
-/// `--workers`, `--reducers`, `--split` and `--attempts` with a number, as two words or as one with `=`; behind a word
-/// `--` only the operand may stand. `Usage` comes exactly where the words are no command.
+/// `--param NAME=VALUE`, as two words or as `--param=NAME=VALUE`, may stand anywhere before a word `--`, at most 64 times.
+/// Of the words that are left the first is the verb: `run`, `explain`, `check` or `demo`. Then come one operand, and at
+/// most once each `--workers`, `--reducers`, `--split` and `--attempts` with a number, as two words or as one with `=`;
+/// behind a word `--` only the operand may stand. `Usage` comes exactly where the words are no command.
 pub fn read_words(alloc: Global, words: &Words, hosts: u32) -> Result<Command, WordFault>
     requires some { 1 ≤ hosts }
     requires few { hosts ≤ 256 }
@@ -304,13 +337,8 @@ pub fn read_words(alloc: Global, words: &Words, hosts: u32) -> Result<Command, W
     ensures usage { IfErr result (λ f. f ≡ faults.Usage → (c : Command)
         → ¬ IsCommand hosts words.now c) }
 {
-    let Some(verb) = first_verb(words) else {
-        return Err(WordFault::Usage);
-    };
-    match texts(alloc, words) {
-        Ok(texts) => make_command(alloc, verb, &read_options(alloc, texts.as_slice())?, hosts),
-        Err(_) => Err(WordFault::OutOfMemory),
-    }
+    let Taken { rest, params } = take_params(alloc, words)?;
+    read_bare(alloc, &rest, params, hosts)
 }
 
 /// Words are at most one command, and it is decided whether they are one.

@@ -12,8 +12,8 @@ returns-in_default-clause-usage c = λ _ command same values makes.
 pub returns-in-Ok-clause-makes : goal.returns-in-Ok-clause-makes
 returns-in-Ok-clause-makes c =
     let g = given_of c.args.found.now in
-    let m = made c.args.hosts c.args.verb g c.args.found.now.operand.now c.in-Some.numbers (search rules) refl (sym c.read_numbers.ensures ∙ c.in-Some.is) in
-    let command : Command = record { verb = c.args.verb; operand = c.in-Ok.operand; workers = c.in-Some.numbers.workers; reducers = c.in-Some.numbers.reducers; split = c.from.result; attempts = c.in-Some.numbers.attempts } in
-    let same : ◌≡◌ {A = Command} (record { verb = c.args.verb; operand = c.args.found.now.operand.now; workers = c.in-Some.numbers.workers; reducers = c.in-Some.numbers.reducers; split = c.in-Some.numbers.split; attempts = c.in-Some.numbers.attempts }) command =
-    λ i. record { verb = c.args.verb; operand = sym c.in-Ok.ensures i; workers = c.in-Some.numbers.workers; reducers = c.in-Some.numbers.reducers; split = sym c.from.ensures i; attempts = c.in-Some.numbers.attempts } in
+    let m = made c.args.hosts c.args.verb g c.args.found.now.operand.now c.in-Some.numbers c.args.params (search rules) refl (sym c.read_numbers.ensures ∙ c.in-Some.is) in
+    let command : Command = record { verb = c.args.verb; operand = c.in-Ok.operand; workers = c.in-Some.numbers.workers; reducers = c.in-Some.numbers.reducers; split = c.from.result; attempts = c.in-Some.numbers.attempts; params = c.args.params } in
+    let same : ◌≡◌ {A = Command} (record { verb = c.args.verb; operand = c.args.found.now.operand.now; workers = c.in-Some.numbers.workers; reducers = c.in-Some.numbers.reducers; split = c.in-Some.numbers.split; attempts = c.in-Some.numbers.attempts; params = c.args.params }) command =
+    λ i. record { verb = c.args.verb; operand = sym c.in-Ok.ensures i; workers = c.in-Some.numbers.workers; reducers = c.in-Some.numbers.reducers; split = sym c.from.ensures i; attempts = c.in-Some.numbers.attempts; params = c.args.params } in
     (refl, m.0, subst (Makes c.args.hosts g) same m.1)

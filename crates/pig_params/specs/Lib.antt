@@ -1,0 +1,12 @@
+pub mod Cuts
+pub mod Directives
+pub mod Given
+pub mod Known
+pub mod LineViews
+pub mod Making
+pub mod Names
+pub mod ParamWords
+pub mod Plain
+pub mod Substitution
+pub mod Tables
+pub mod TakenViews
