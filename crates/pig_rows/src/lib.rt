@@ -5,6 +5,8 @@
 #[cfg(test)]
 mod files;
 #[cfg(test)]
+mod params;
+#[cfg(test)]
 mod refusals;
 #[cfg(test)]
 mod runs;

@@ -156,9 +156,11 @@ fn a_plan_is_explained(rt: HostRuntime) {
         j = JOIN a BY k LEFT, b BY k; f = FILTER j BY v > 1 AND w > 2; STORE f INTO 'q';";
     let plan = "0 LOAD 'no' 09 0:int 1:int\n1 LOAD 'b' 09 0:int 1:int\n\
         2 JOIN 0 BY $0 LEFT; 1 BY $0\n3 FILTER 2 (($1 > 1) AND ($3 > 2))\n4 STORE 3 'q' 09\n";
+    let cut = "0 LOAD 'no' 09 0:int 1:int\n1 FILTER 0 ($1 > 1)\n2 LOAD 'b' 09 0:int 1:int\n\
+        3 JOIN 1 BY $0 LEFT; 2 BY $0\n4 FILTER 3 ($3 > 2)\n5 STORE 4 'q' 09\n";
     let alloc = rt.alloc();
     let want = format!(in alloc;
-        "0 kept 0\nchecked\n{plan}rewritten\n{plan}waves\n0 map 2\n1 reduce 2\n2 store\n\
+        "0 kept 0\nchecked\n{plan}rewritten\n{cut}waves\n0 map 3\n1 reduce 3\n2 store\n\
         p none\nq open\n"
     );
     let want = want.expect(&rt, "memory");

@@ -7,14 +7,20 @@ use pig_words::{Command, read_words};
 use std::alloc::Global;
 use std::process::Abort;
 
-// The command's verb, operand, workers, reducers, split and attempts.
+// The command's verb, operand, workers, reducers, split and attempts, and each parameter.
 fn shown_command<R: Abort>(rt: &R, alloc: Global, command: &Command) -> String {
     let verb = command.verb;
     let operand = command.operand.as_str();
     let (workers, reducers, split) = (command.workers, command.reducers, command.split);
     let attempts = command.attempts;
     let text = format!(in alloc; "{verb:?} {operand} {workers} {reducers} {split} {attempts}");
-    text.expect(rt, "memory")
+    let mut text = text.expect(rt, "memory");
+    for param in command.params.as_slice() {
+        let (name, value) = (param.name.as_str(), param.value.as_str());
+        let shown = format!(in alloc; " {name}={value}").expect(rt, "memory");
+        text.push_str(shown.as_str()).expect(rt, "memory");
+    }
+    text
 }
 
 // The command, or the fault.
@@ -174,6 +180,36 @@ const COUNTS: &str = "\
 16|demo -- 5|Demo 5 4 4 1048576 4
 ";
 
+// Parameters, which are taken out before all else up to `--`.
+const PARAMS: &str = "\
+16|run s --param n=1|Run s 4 4 1048576 4 n=1
+16|run --param n=1 s|Run s 4 4 1048576 4 n=1
+16|--param n=1 run s|Run s 4 4 1048576 4 n=1
+16|run s --param=n=1|Run s 4 4 1048576 4 n=1
+16|run s --param n=|Run s 4 4 1048576 4 n=
+16|run s --param n=a=b|Run s 4 4 1048576 4 n=a=b
+16|run s --param n=$n;'|Run s 4 4 1048576 4 n=$n;'
+16|run s --param _x9=1 --param=_x9=2|Run s 4 4 1048576 4 _x9=1 _x9=2
+16|run --workers --param n=1 3 s|Run s 3 4 1048576 4 n=1
+16|explain s --param n=--workers|Explain s 4 4 1048576 4 n=--workers
+16|check --param n=1 -- -s|Check -s 4 4 1048576 4 n=1
+16|demo 3 --param n=1|Demo 3 4 4 1048576 4 n=1
+16|run -- --param=n=1|Run --param=n=1 4 4 1048576 4
+16|run s -- --param n=1|usage
+16|run --param n=1|usage
+16|run --param -- n=1|usage
+16|run s --param|usage
+16|run s --param n|usage
+16|run s --param 1=2|usage
+16|run s --param =2|usage
+16|run s --param=|usage
+16|run s --param=n|usage
+16|run s --param é=2|usage
+16|run s --param n-1=2|usage
+16|run s --params n=1|usage
+16|run s --PARAM n=1|usage
+";
+
 // The first line of a table that is answered otherwise; nothing where there is none.
 fn first_wrong<'t, R: Abort>(rt: &R, alloc: Global, table: &'t str) -> &'t str {
     for case in table.lines() {
@@ -193,10 +229,33 @@ fn first_wrong<'t, R: Abort>(rt: &R, alloc: Global, table: &'t str) -> &'t str {
 
 #[test]
 fn reads_each_command(rt: HostRuntime) {
-    for table in [VERBS, OPTIONS, FAULTS, DASHES, VALUES, COUNTS] {
+    for table in [VERBS, OPTIONS, FAULTS, DASHES, VALUES, COUNTS, PARAMS] {
         assert_eq!(rt; first_wrong(&rt, rt.alloc(), table), "");
     }
     let none = Words::new(rt.alloc());
     let found = shown(&rt, rt.alloc(), &none, 16);
+    assert_eq!(rt; found.as_str(), "usage");
+}
+
+// The words `run s` with so many parameters.
+fn with_params<R: Abort>(rt: &R, alloc: Global, count: usize) -> Words {
+    let mut line = String::from_str(alloc, "run s").expect(rt, "memory");
+    for _ in 0..count {
+        line.push_str(" --param=n=1").expect(rt, "memory");
+    }
+    words_of(alloc, line.as_str()).expect(rt, "memory")
+}
+
+#[test]
+fn at_most_64_parameters_are_taken(rt: HostRuntime) {
+    let alloc = rt.alloc();
+    let found = read_words(alloc, &with_params(&rt, alloc, 64), 16);
+    let taken = match &found {
+        Ok(command) => command.params.len(),
+        Err(_) => 0,
+    };
+    drop(found);
+    assert_eq!(rt; taken, 64);
+    let found = shown(&rt, alloc, &with_params(&rt, alloc, 65), 16);
     assert_eq!(rt; found.as_str(), "usage");
 }

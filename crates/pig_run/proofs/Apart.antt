@@ -8,7 +8,7 @@ use Rattle.pig_plan.specs.Plans.{Plan, PlanOp, p_store}
 use Rattle.pig_reach.specs.Reach.{dirs_of, stores_of}
 use Rattle.pig_reach.specs.declared.storing.Store.{Store}
 use Rattle.pig_check.specs.States.{StoresAreApart, stored_paths}
-use Rattle.pig_run.specs.Looking.{are_apart, is_stored_in}
+use Rattle.pig_rewrites.specs.Alike.{are_apart, is_stored_in}
 
 -- the directories are the paths of the plan's STOREs
 pub dirs_are : (p : Plan) → dirs_of p ≡ stored_paths p

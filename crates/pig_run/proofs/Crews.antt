@@ -1,11 +1,13 @@
 -- What hosts show of waves: of none, of those before a later fault, of the first hosts and of all.
 use Rattle.std.proofs.Common.{◌≡◌, ◌≤◌, ◌+◌, ◌++◌, ◌⊎◌, ℕ, zero, suc, List, [], ◌∷◌, length, map, take, drop, min, Option, Some, None, Result, Ok, Err, IfOk, IfErr, MatchResult, All, slice_get, refl, sym, ◌∙◌, ap, subst, arith, inl, inr}
 use Rattle.std.specs.List.{AllByRecursion, sum_by}
+use Rattle.std.specs.Option.{ForSome}
 use Rattle.std.proofs.Math.Seq.{drop-append_seam, take-append_seam}
 use Rattle.std.proofs.lemmas.List.{length-map, map-append, take-append-drop}
 use Rattle.std.proofs.lemmas.List.Sums.{sum_by-append}
 use Rattle.pig_value.specs.declared.inputs.Input.{Input}
 use Rattle.pig_outside.specs.Calls.{Attempt}
+use Rattle.pig_outside.specs.Shelf.{AreOfBytes}
 use Rattle.pig_board.specs.declared.end.TaskEnd.{TaskEnd}
 use Rattle.pig_pool.specs.Wave.{IsWonWave, failures_in}
 use Rattle.pig_plan.specs.Plans.{Plan}
@@ -25,7 +27,7 @@ use Rattle.pig_run.specs.Due.{AreWords, IsDemo, Line}
 use Rattle.pig_run.specs.declared.progress.Progress.{Progress}
 use Rattle.pig_run.specs.Running.{HasFailedAssert, IsUsable, WavesEnd, asserted, found_in, untold}
 use Rattle.pig_run.specs.Steps.{IsCommitFault, IsPlanFault, stages_fault_of}
-use Rattle.pig_run.specs.Told.{line_of}
+use Rattle.pig_run.specs.Told.{IsTold, TellsInputs, line_of}
 use Rattle.pig_run.proofs.Deciding.{WordsAre, no_demo, of_demo, of_none, of_script, same_command, words_decided}
 
 -- ---- the numbers of a command
@@ -41,10 +43,10 @@ pub usable : (hosts : ℕ) (words : List (List ℕ)) (command : Command) → 1 �
 usable hosts words command some is =
     let least = some_min hosts some in
     record {
-      workers = in_range (is.given.values Workers) (min 4 hosts) hosts command.workers least.0 least.1 is.makes.workers;
-      reducers = in_range (is.given.values Reducers) 4 256 command.reducers (omega arith) (omega arith) is.makes.reducers;
-      split = (in_range (is.given.values Split) 1048576 67108864 command.split (omega arith) (omega arith) is.makes.split).0;
-      attempts = in_range (is.given.values Attempts) 4 16 command.attempts (omega arith) (omega arith) is.makes.attempts;
+      workers = in_range (is.bare.given.values Workers) (min 4 hosts) hosts command.workers least.0 least.1 is.bare.makes.workers;
+      reducers = in_range (is.bare.given.values Reducers) 4 256 command.reducers (omega arith) (omega arith) is.bare.makes.reducers;
+      split = (in_range (is.bare.given.values Split) 1048576 67108864 command.split (omega arith) (omega arith) is.bare.makes.split).0;
+      attempts = in_range (is.bare.given.values Attempts) 4 16 command.attempts (omega arith) (omega arith) is.bare.makes.attempts;
     }
 
 -- ---- faults that are no task's
@@ -222,6 +224,14 @@ pub tell_first : {X : Type 0} (P : Option (List Input) → Type 0) (inputs : X �
 tell_first P inputs zero xs h = tt
 tell_first P inputs (suc n) [] h = tt
 tell_first P inputs (suc n) (x ∷ xs) h = (h.0, tell_first P inputs n xs h.1)
+
+-- the inputs that all hosts tell are of bytes, so those that the first ones are known to tell are
+pub told_are_bytes : {X : Type 0} (inputs : X → Option (List Input)) (n : ℕ) (xs : List X) → AllByRecursion (λ told. ForSome told AreOfBytes) (map inputs xs)
+    → AllByRecursion IsTold (map inputs (take n xs)) → AllByRecursion TellsInputs (map inputs (take n xs))
+told_are_bytes inputs zero xs known told = tt
+told_are_bytes inputs (suc n) [] known told = tt
+told_are_bytes inputs (suc n) (x ∷ xs) known told =
+    ((told.0.0, told.0.1, known.0 told.0.0 told.0.1), told_are_bytes inputs n xs known.1 told.1)
 
 -- ---- a task that is given up
 

@@ -26,7 +26,7 @@ use Rattle.pig_run.specs.declared.progress.Progress.{Progress}
 use Rattle.pig_run.specs.Blame.{CrewHasWorked, HaveWorked}
 use Rattle.pig_run.specs.Demonstration.{DemoDue, Demoed, IsDemoAnswer, demo_answer, demo_text, script_run, shelf_of, visits_of}
 use Rattle.pig_run.specs.OwnRun.{DemoEnd, IsDemoFault}
-use Rattle.pig_run.specs.Due.{CommandDue, HasWords, IsDemo, Line, ScriptDue}
+use Rattle.pig_run.specs.Due.{CommandDue, HasWords, IsDemo, Line, ScriptDue, given_by}
 use Rattle.pig_run.specs.Ends.{Console, Ends, Shown, assert_failed, counts_shown, cut_short, done, failed, lookup_failed, no_memory, no_memory_at, no_memory_behind, no_memory_in, no_text, no_text_cut, no_text_failed, printed, refused, shows, store_failed, task_failed}
 use Rattle.pig_run.specs.Outputs.{Left}
 use Rattle.pig_run.specs.Reading.{Verdict}
@@ -115,6 +115,7 @@ answer_is (Some (fault.TooLarge large.Depth)) = tt
 answer_is (Some (fault.TooLarge large.Input)) = tt
 answer_is (Some fault.Usage) = tt
 answer_is (Some fault.NoScript) = tt
+answer_is (Some (fault.Param offset)) = tt
 answer_is (Some (fault.Lex offset)) = tt
 answer_is (Some (fault.Syntax n)) = tt
 answer_is (Some (fault.Check n kind)) = tt
@@ -180,7 +181,7 @@ module _ (laws : PlanLaws) (command : Command) where
   some_demo =
       let run = script_run command in
       let shelf = shelf_of command in
-      some_script laws script_path shelf (CommandDue run shelf) (some_command_due run tt shelf)
+      some_script laws [] script_path shelf (CommandDue run shelf) (some_command_due run tt shelf)
 
   -- memory was wanting before it began
   pub demo_unbegun : (progress : Progress) → IsFresh progress → (f : RunFault) → f ≡ fault.OutOfMemory → DemoEnd command progress (Err f)
@@ -283,7 +284,7 @@ module _ (laws : PlanLaws) (command : Command) where
 module _ (laws : PlanLaws) (command run : Command) (run_is : run ≡ script_run command) (usable : IsUsable 256 command) (n : ℕ) (visits : n ≡ visits_of command)
     (first last : MemoryDepot) (shelf_is : depot_shelf first ≡ demo_shelf n) (own lent hosts : List MemoryHost) (each : All (λ host. host_inputs host ≡ demo_inputs n) own) (slice : lent ≡ own)
     (before progress : Progress) (ran : Result (List ℕ) RunFault)
-    (told : ForSome (told_shelf first) (λ s. RunTold (ScriptDue run.operand s (CommandDue run s)) s (CrewTells told_inputs run lent) (told_calls first) (told_calls last) (told_shelf last) before ran))
+    (told : ForSome (told_shelf first) (λ s. RunTold (ScriptDue (given_by run) run.operand s (CommandDue run s)) s (CrewTells told_inputs run lent) (told_calls first) (told_calls last) (told_shelf last) before ran))
     (cause : DepotCause 0 0 ran) (worked : CrewHasWorked told_inputs (λ _. 0) (λ _. None) run lent hosts before.ends (found_in ran))
     (same : progress ≡ record before { said = progress.said }) (silent : progress.said.items ≡ []) where
   told_here : told_shelf first ≡ Some (shelf_of command)
@@ -293,7 +294,7 @@ module _ (laws : PlanLaws) (command run : Command) (run_is : run ≡ script_run 
   tells = subst (CrewTells told_inputs (script_run command)) (sym slice) (crew_tells n command.workers own each)
 
   ended : RunEnd (DemoDue command) (shelf_of command) (CrewTells told_inputs (script_run command) lent) (told_calls first) (told_calls last) (Some (depot_shelf last)) before ran
-  ended = subst (λ r. RunEnd (ScriptDue r.operand (shelf_of command) (CommandDue r (shelf_of command))) (shelf_of command) (CrewTells told_inputs r lent) (told_calls first) (told_calls last) (Some (depot_shelf last)) before ran)
+  ended = subst (λ r. RunEnd (ScriptDue (given_by r) r.operand (shelf_of command) (CommandDue r (shelf_of command))) (shelf_of command) (CrewTells told_inputs r lent) (told_calls first) (told_calls last) (Some (depot_shelf last)) before ran)
       run_is (run_told _ (shelf_of command) _ _ _ _ before ran (told (shelf_of command) told_here))
 
   some_attempts : 1 ≤ run.attempts

@@ -24,7 +24,7 @@ use Rattle.pig_driver.specs.Going.{AllTell, AreWon}
 use Rattle.pig_commit.specs.Calls.{AskedFor, put_calls, store_calls as calls_for_store}
 use Rattle.pig_commit.specs.Committed.{LeftOpen, with_stored}
 use Rattle.pig_commit.specs.declared.parts.StorePart.{StorePart}
-use Rattle.pig_keyed.specs.Keyed.{KeyedPlansRunTheSame, by_key}
+use Rattle.pig_rewrites.specs.Alike.{RunsAlike}
 use Rattle.pig_run.specs.declared.outcome.Counts.{Counts}
 use Rattle.pig_run.specs.declared.outcome.RunFault.{RunFault}
 use Rattle.pig_run.specs.declared.outcome.RunFault.TheVariants as fault
@@ -32,12 +32,13 @@ use Rattle.pig_run.specs.declared.progress.Progress.{Progress}
 use Rattle.pig_run.specs.Due.{Stage, call, calls, making, making_of}
 use Rattle.pig_run.specs.Ends.{Ends, assert_failed, done, lookup_failed, no_memory, no_memory_at, no_memory_behind, no_memory_in, refused, shows, store_failed, task_failed}
 use Rattle.pig_run.specs.Outputs.{AreOutputsOf, IsMet, IsRunOf, IsStopped, IsUnmade, IsUntouched, IsWhole, Left}
-use Rattle.pig_run.specs.Reading.{Prints, Refuses, Run, Runs, Verdict}
+use Rattle.pig_run.specs.Reading.{Prints, Refuses, Run, Runs, Verdict, Wants}
 use Rattle.pig_run.specs.Running.{AreLaid, EndsFinding, GivesAll, HasFailedAssert, IsBrokenAt, IsGiven, IsFresh, RunEnd, RunsEnd, UnmetAll, WavesEnd, asserted, counts_in, kept_in, left_in, lost, no_room, not_met, note_of, noted_line, untold}
 use Rattle.pig_run.specs.Steps.{IsCommitFault, IsLookFault, Passes, StopsIn}
 use Rattle.pig_run.specs.Texts.{done_line, line_count, said_behind}
 use Rattle.pig_run.specs.Told.{CountsAre, EndsEarly, IsAsked, TellsInputs, TellsOf}
 use Rattle.pig_run.proofs.Deciding.{IsSome}
+use Rattle.pig_run.proofs.Laying.{same_dirs, same_statements}
 use Rattle.pig_run.proofs.Stages.{asked_nothing, asked_then}
 
 -- ---- nothing was made
@@ -68,6 +69,7 @@ early_commit n f (inr is) = subst (λ g. EndsEarly (Some g)) (sym is) (inr (inr 
 silent_look : (v : Verdict) (f : RunFault) → IsLookFault f → said_behind v (Some f) ≡ []
 silent_look (Refuses refusal) f h = refl
 silent_look (Prints text) f h = refl
+silent_look Wants f h = refl
 silent_look (Runs run) f (inl is) = ap (λ g. said_behind (Runs run) (Some g)) is
 silent_look (Runs run) f (inr is) = ap (λ g. said_behind (Runs run) (Some g)) is
 
@@ -78,6 +80,7 @@ silent_commit run n f (inr is) = ap (λ g. said_behind (Runs run) (Some g)) is
 pub no_numbers : (tells : Type 0) (v : Verdict) (s : Shelf) (left : Left) (counts : Counts) (f : RunFault) → CountsAre tells v s left counts (Some f)
 no_numbers tells (Refuses refusal) s left counts f = tt
 no_numbers tells (Prints text) s left counts f = λ e. absurd (cc)
+no_numbers tells Wants s left counts f = tt
 no_numbers tells (Runs run) s left counts f = λ e. absurd (cc)
 
 -- ---- a step before the run ended the call
@@ -186,38 +189,35 @@ pub told_bytes : (shelf : Option Shelf) (s : Shelf) → shelf ≡ Some s → (te
 told_bytes shelf s told [] some of tells = absurd (omega (arith, some))
 told_bytes shelf s told (t ∷ ts) some of tells = let here = tells.0 in subst AreOfBytes (told_inputs shelf s here.0 told (of.0 here.0 here.1)) here.2
 
--- the plan that is cut has the STOREs of the script
-pub same_stores : KeyedPlansRunTheSame → (plan cut : Plan) → IsPlan plan → cut ≡ by_key plan → stores_of cut ≡ stores_of plan
-same_stores law plan cut valid keyed = ap stores_of keyed ∙ (law plan valid).stores
-
 -- ---- how waves, and what is collected of them, end
 
-pub waves_ends : (limit : ℕ) (s : Stages) (tellings : Tellings) (progress : Progress) → progress.stands ≡ false → progress.said.items ≡ [] → (f : RunFault)
-    → WavesEnd limit s progress.ends f → EndsFinding s limit tellings progress f
-waves_ends limit s tellings progress quiet silent fault.Usage h = absurd h
-waves_ends limit s tellings progress quiet silent fault.NoScript h = absurd h
-waves_ends limit s tellings progress quiet silent (fault.Lex offset) h = absurd h
-waves_ends limit s tellings progress quiet silent (fault.Syntax n) h = absurd h
-waves_ends limit s tellings progress quiet silent (fault.Check n kind) h = absurd h
-waves_ends limit s tellings progress quiet silent (fault.NoInput path) h = absurd h
-waves_ends limit s tellings progress quiet silent (fault.OutputExists dir) h = absurd h
-waves_ends limit s tellings progress quiet silent (fault.DepotFault store) h = absurd h
-waves_ends limit s tellings progress quiet silent (fault.TaskFailed wave task failed) h = lost h quiet silent
-waves_ends limit s tellings progress quiet silent (fault.AssertFailed n) h = absurd h
-waves_ends limit s tellings progress quiet silent fault.OutOfMemory h = no_room h quiet silent
-waves_ends limit s tellings progress quiet silent fault.ConsoleFault h = absurd h
-waves_ends limit s tellings progress quiet silent (fault.TooLarge which) h = absurd h
+pub waves_ends : (plan : Plan) (limit : ℕ) (s : Stages) (tellings : Tellings) (progress : Progress) → progress.stands ≡ false → progress.said.items ≡ [] → (f : RunFault)
+    → WavesEnd limit s progress.ends f → EndsFinding plan s limit tellings progress f
+waves_ends plan limit s tellings progress quiet silent fault.Usage h = absurd h
+waves_ends plan limit s tellings progress quiet silent fault.NoScript h = absurd h
+waves_ends plan limit s tellings progress quiet silent (fault.Param offset) h = absurd h
+waves_ends plan limit s tellings progress quiet silent (fault.Lex offset) h = absurd h
+waves_ends plan limit s tellings progress quiet silent (fault.Syntax n) h = absurd h
+waves_ends plan limit s tellings progress quiet silent (fault.Check n kind) h = absurd h
+waves_ends plan limit s tellings progress quiet silent (fault.NoInput path) h = absurd h
+waves_ends plan limit s tellings progress quiet silent (fault.OutputExists dir) h = absurd h
+waves_ends plan limit s tellings progress quiet silent (fault.DepotFault store) h = absurd h
+waves_ends plan limit s tellings progress quiet silent (fault.TaskFailed wave task failed) h = lost h quiet silent
+waves_ends plan limit s tellings progress quiet silent (fault.AssertFailed n) h = absurd h
+waves_ends plan limit s tellings progress quiet silent fault.OutOfMemory h = no_room h quiet silent
+waves_ends plan limit s tellings progress quiet silent fault.ConsoleFault h = absurd h
+waves_ends plan limit s tellings progress quiet silent (fault.TooLarge which) h = absurd h
 
-module _ (s : Stages) (n : ℕ) (old new : Progress) where
-  pub assert_ends : (limit : ℕ) (tellings : Tellings) (f : RunFault) → HasFailedAssert s.plan n old new f → AreWon s old.ends (length (heads s.plan)) → UnmetAll s tellings old.kept n
-      → old.stands ≡ false → old.said.items ≡ [] → EndsFinding s limit tellings new f
+module _ (plan : Plan) (s : Stages) (n : ℕ) (old new : Progress) where
+  pub assert_ends : (limit : ℕ) (tellings : Tellings) (f : RunFault) → HasFailedAssert plan n old new f → AreWon s old.ends (length (heads s.plan)) → UnmetAll s tellings old.kept n
+      → old.stands ≡ false → old.said.items ≡ [] → EndsFinding plan s limit tellings new f
   assert_ends limit tellings _ (asserted same said) won unmet quiet silent =
       not_met (subst (λ ends. AreWon s ends (length (heads s.plan))) (sym (ap (λ p. p.ends) same)) won) (subst (λ kept. UnmetAll s tellings kept n) (sym (ap (λ p. p.kept) same)) unmet) (ap (λ p. p.stands) same) said
   assert_ends limit tellings _ (untold same) won unmet quiet silent =
-      subst (λ p. EndsFinding s limit tellings p fault.OutOfMemory) (sym same)
+      subst (λ p. EndsFinding plan s limit tellings p fault.OutOfMemory) (sym same)
       (no_room (record { waves = length (heads s.plan); within = omega arith; won = won }) quiet silent)
 
-  pub assert_keeps : (f : RunFault) → HasFailedAssert s.plan n old new f → (new.ends ≡ old.ends) × (new.notes ≡ old.notes)
+  pub assert_keeps : (f : RunFault) → HasFailedAssert plan n old new f → (new.ends ≡ old.ends) × (new.notes ≡ old.notes)
   assert_keeps _ (asserted same said) = (ap (λ p. p.ends) same, ap (λ p. p.notes) same)
   assert_keeps _ (untold same) = (ap (λ p. p.ends) same, ap (λ p. p.notes) same)
 
@@ -306,8 +306,8 @@ module _ (run : Run) (s : Shelf) (tells : Type 0) (old new : Option (List DepotC
   }
 
   -- the waves, an ASSERT or memory ended it
-  module _ (tellings : Tellings) (valid : IsPlan run.plan) (keyed : run.stages.plan ≡ by_key run.plan) (tell : tells → AllTell s.inputs tellings) (bytes : tells → AreOfBytes s.inputs) where
-    pub told_unfound : (f : RunFault) → shelf ≡ Some s → new ≡ old → EndsFinding run.stages run.limit tellings progress f → RunsEnd run s tells old new shelf progress (Err f)
+  module _ (tellings : Tellings) (alike : RunsAlike run.plan run.stages.plan) (tell : tells → AllTell s.inputs tellings) (bytes : tells → AreOfBytes s.inputs) where
+    pub told_unfound : (f : RunFault) → shelf ≡ Some s → new ≡ old → EndsFinding run.plan run.stages run.limit tellings progress f → RunsEnd run s tells old new shelf progress (Err f)
     told_unfound _ same asked (lost {wave} {task} {failed} given_up quiet silent) = record {
       outs = [];
       state = task_failed (record { unmade = unmade same; none_kept = quiet_kept progress quiet; given_up = given_up });
@@ -321,8 +321,8 @@ module _ (run : Run) (s : Shelf) (tells : Type 0) (old new : Option (List DepotC
       state = assert_failed (record {
         unmade = unmade same;
         won = won;
-        kept = λ t. subst (IsKept run.plan s.inputs) (sym (standing_kept progress stands)) (unmet run.plan valid keyed s.inputs (tell t) (bytes t)).kept_valid;
-        first = λ t. subst (λ k. first_unmet run.plan s.inputs k ≡ Some n) (sym (standing_kept progress stands)) (unmet run.plan valid keyed s.inputs (tell t) (bytes t)).first;
+        kept = λ t. subst (IsKept run.plan s.inputs) (sym (standing_kept progress stands)) (unmet run.plan alike s.inputs (tell t) (bytes t)).kept_valid;
+        first = λ t. subst (λ k. first_unmet run.plan s.inputs k ≡ Some n) (sym (standing_kept progress stands)) (unmet run.plan alike s.inputs (tell t) (bytes t)).first;
       });
       asked = asked_none (fault.AssertFailed n) (inr (inl refl)) asked;
       numbers = λ e. absurd (cc);
@@ -332,21 +332,18 @@ module _ (run : Run) (s : Shelf) (tells : Type 0) (old new : Option (List DepotC
     told_unfound _ same asked (no_room won quiet silent) = told_wanting same asked won quiet silent
 
     -- what was found is stored
-    module _ (all : List Store) (all_are : all ≡ stores_of run.stages.plan) (same_stores : stores_of run.stages.plan ≡ stores_of run.plan) (outs : List StorePart)
+    module _ (all : List Store) (all_are : all ≡ stores_of run.stages.plan) (outs : List StorePart)
         (won : AreWon run.stages progress.ends (length (heads run.stages.plan))) (laid : AreLaid run.stages all outs)
         (gives : GivesAll run.stages run.limit tellings progress.kept outs progress.read progress.shuffled None)
         (stands : progress.stands ≡ true) (silent : progress.said.items ≡ []) where
       given : tells → IsGiven run s.inputs progress.kept outs progress.read progress.shuffled None
-      given t = gives run.plan valid keyed s.inputs (tell t) (bytes t)
+      given t = gives run.plan alike s.inputs (tell t) (bytes t)
 
       kept_same : kept_in progress ≡ progress.kept
       kept_same = standing_kept progress stands
 
-      stores_are : all ≡ stores_of run.plan
-      stores_are = all_are ∙ same_stores
-
       dirs_are : map (λ out. out.dir) outs ≡ dirs_of run.plan
-      dirs_are = laid.dirs ∙ ap (map (λ store. store.dir)) stores_are
+      dirs_are = laid.dirs ∙ ap (map (λ store. store.dir)) all_are ∙ same_dirs run.plan run.stages.plan (stores_of run.plan) (stores_of run.stages.plan) alike.stores
 
       calls_are : flat_map calls_for_store outs ≡ making_of run
       calls_are = made_calls outs ∙ (λ i. making (dirs_are i) (laid.counts i))
@@ -363,7 +360,8 @@ module _ (run : Run) (s : Shelf) (tells : Type 0) (old new : Option (List DepotC
       split_stores before behind store are =
           split_at (stores_of run.plan) before store behind
           (ap (map (λ part. part.dir)) (sym are) ∙ dirs_are)
-          (ap (map (λ part. part.statement)) (sym are) ∙ laid.statements ∙ ap (map (λ store. store.statement)) stores_are)
+          (ap (map (λ part. part.statement)) (sym are) ∙ laid.statements ∙ ap (map (λ store. store.statement)) all_are
+          ∙ same_statements run.plan run.stages.plan (stores_of run.plan) (stores_of run.stages.plan) alike.stores)
 
       stopped_at : (f : RunFault) (broken : IsBrokenAt outs f (Some s) shelf) (n : ℕ) → broken.store.statement ≡ n → IsStopped tells run s n (left_in broken.before progress shelf)
       stopped_at f broken n named =
@@ -409,7 +407,7 @@ module _ (run : Run) (s : Shelf) (tells : Type 0) (old new : Option (List DepotC
         whole = record {
           ran = ran outs;
           stored = record {
-            dirs = laid.dirs ∙ ap (map (λ store. store.dir)) stores_are;
+            dirs = dirs_are;
             are = λ t. subst (λ k. AreOutputsOf run.plan s.inputs k (stores_of run.plan) outs) (sym kept_same) (given t).outs_are;
           };
           made = made;

@@ -38,7 +38,8 @@ use Rattle.pig_commit.specs.declared.parts.StorePart.{StorePart}
 use Rattle.pig_driver.specs.Handing.{entries_handed}
 use Rattle.pig_collect.specs.Collecting.{HasStoreOutputs, joined, least, lines_in, parts_for, parts_given}
 use Rattle.pig_collect.specs.Laws.{RunsReadLines, RunsTellTheFirstUnmet, TellTheSame, WhatIsLeftTellsTheSame}
-use Rattle.pig_keyed.specs.Keyed.{KeyedPlansRunTheSame, RunsTheSame, by_key}
+use Rattle.pig_counts.specs.Laws.{EntriesAreDue}
+use Rattle.pig_rewrites.specs.Alike.{AllAlike, RunsAlike, StoresAlike}
 use Rattle.pig_run.specs.Outputs.{AreOutputsOf, IsOutputOf}
 use Rattle.pig_run.specs.Running.{GivesAll, UnmetAll}
 
@@ -159,55 +160,57 @@ told_same s law valid staged tellings left shuffled over =
 
 -- ---- the run
 
-module _ (law : StagesGiveMeaning) (reads : RunsReadLines) (unmets : RunsTellTheFirstUnmet) (keyed : KeyedPlansRunTheSame) (lines : AnswersAreStoredLines)
+module _ (law : StagesGiveMeaning) (reads : RunsReadLines) (unmets : RunsTellTheFirstUnmet) (counts : EntriesAreDue) (lines : AnswersAreStoredLines)
     (s : Stages) (valid : IsPlan s.plan) (literals : PlanLiteralsAre IsValue s.plan) (staged : HaveStages s.plan) (some : 0 < s.sizing.reducers) (splits : 0 < s.sizing.split)
     (tellings : Tellings) (outs : Outs) (run : HasRunAll s tellings outs) (kept : List Kept) (kept_are : AreOutputs s.plan outs kept) where
-  module _ (plan : Plan) (plan_valid : IsPlan plan) (is : s.plan ≡ by_key plan) (inputs : List Input) (points : ℕ → List Point) (runs : IsRun s inputs points outs) where
+  module _ (plan : Plan) (alike : RunsAlike plan s.plan) (inputs : List Input) (points : ℕ → List Point) (runs : IsRun s inputs points outs) where
     means : GiveMeaning s inputs kept outs
     means = law s inputs kept points outs valid staged some splits runs kept_are
 
-    same : RunsTheSame plan s.plan
-    same = subst (RunsTheSame plan) (sym is) (keyed plan plan_valid)
-
     kept_valid : IsKept plan inputs kept
-    kept_valid = same.kept_back inputs kept means.valid
+    kept_valid = alike.kept_back inputs kept means.valid
 
     first_is : (unmet : Option ℕ) → unmet ≡ least (all_unmet outs) → unmet ≡ first_unmet plan inputs kept
-    first_is unmet found = found ∙ unmets s inputs kept points outs valid staged some splits runs kept_are ∙ same.unmet inputs kept
+    first_is unmet found = found ∙ unmets s inputs kept points outs valid staged some splits runs kept_are ∙ alike.unmet inputs kept kept_valid
 
     module _ (bytes : AreOfBytes inputs) where
-      output_is : (k : ℕ) (store : Store) (part : StorePart) → store_at s.plan k store → store.delim ≢ 10 → part.parts ≡ parts_given s outs k → IsOutputOf plan inputs kept store part
-      output_is k store part at other given =
-          let answers = means.stores k store.statement store.relation store.delim store.dir at in
-          let text : joined part.parts ≡ rows_text store.delim answers.rows =
+      -- a STORE of the script, by that of the plan that is cut
+      output_is : (k : ℕ) (store other : Store) (part : StorePart) → StoresAlike plan s.plan store other → store_at s.plan k other → other.delim ≢ 10 → part.parts ≡ parts_given s outs k
+          → IsOutputOf plan inputs kept store part
+      output_is k store other part stands at no_end given =
+          let answers = means.stores k other.statement other.relation other.delim other.dir at in
+          let text : joined part.parts ≡ rows_text other.delim answers.rows =
           ap joined given ∙ joined_for k (tasks_in s (store_wave s.plan)) (outs_at outs (store_wave s.plan)) ∙ answers.bytes in
-          let stored = lines s.plan inputs kept valid literals bytes means.valid store.relation (relation_lives s.plan valid k store at) answers.rows answers.answers store.delim other in
-          let meant : meaning s.plan inputs kept store.relation ≡ meaning plan inputs kept store.relation = same.meaning inputs kept store.relation in
-          record {
+          let stored = lines s.plan inputs kept valid literals bytes means.valid other.relation (relation_lives s.plan valid k other at) answers.rows answers.answers other.delim no_end in
+          let meant : meaning s.plan inputs kept other.relation ≡ meaning plan inputs kept store.relation = stands.rows inputs kept kept_valid in
+          let whole : IsOutputOf plan inputs kept (record { statement = store.statement; relation = store.relation; dir = store.dir; delim = other.delim }) part = record {
             rows = answers.rows;
             answer = record {
               bag = answers.answers.bag ∙ ap bag_of meant;
-              list = λ listed. answers.answers.list (same.lists store.relation ∙ listed) ∙ meant;
+              list = λ listed. answers.answers.list (stands.lists ∙ listed) ∙ meant;
             };
             bytes = text;
             stored = record {
-              bag = subst (λ bs. StoresBag store.delim bs (meaning plan inputs kept store.relation)) (sym text)
-                  (subst (StoresBag store.delim (rows_text store.delim answers.rows)) meant stored.bag);
-              list = λ listed. subst (λ bs. StoresList store.delim bs (meaning plan inputs kept store.relation)) (sym text)
-                  (subst (StoresList store.delim (rows_text store.delim answers.rows)) meant (stored.list (same.lists store.relation ∙ listed)));
+              bag = subst (λ bs. StoresBag other.delim bs (meaning plan inputs kept store.relation)) (sym text)
+                  (subst (StoresBag other.delim (rows_text other.delim answers.rows)) meant stored.bag);
+              list = λ listed. subst (λ bs. StoresList other.delim bs (meaning plan inputs kept store.relation)) (sym text)
+                  (subst (StoresList other.delim (rows_text other.delim answers.rows)) meant (stored.list (stands.lists ∙ listed)));
             };
-          }
+          } in
+          subst (λ delim. IsOutputOf plan inputs kept (record { statement = store.statement; relation = store.relation; dir = store.dir; delim = delim }) part) stands.delim whole
 
-      outputs_are : (ks : List ℕ) (stores : List Store) (parts : List StorePart) → EachAt s.plan ks stores → AllByRecursion (λ store. store.delim ≢ 10) stores
+      outputs_are : (ks : List ℕ) (stores others : List Store) (parts : List StorePart) → AllAlike plan s.plan stores others → EachAt s.plan ks others → AllByRecursion (λ store. store.delim ≢ 10) others
           → map (λ part. part.parts) parts ≡ map (parts_given s outs) ks → AreOutputsOf plan inputs kept stores parts
-      outputs_are [] [] [] at others e = tt
-      outputs_are [] [] (part ∷ parts) at others e = absurd (let wrong : ◌≡◌ {A = List (List (List ℕ))} (part.parts ∷ map (λ part. part.parts) parts) [] = e in cc)
-      outputs_are [] (store ∷ stores) parts at others e = absurd at
-      outputs_are (k ∷ ks) [] parts at others e = absurd at
-      outputs_are (k ∷ ks) (store ∷ stores) [] at others e = absurd (let wrong : ◌≡◌ {A = List (List (List ℕ))} [] (parts_given s outs k ∷ map (parts_given s outs) ks) = e in cc)
-      outputs_are (k ∷ ks) (store ∷ stores) (part ∷ parts) at others e = (
-        output_is k store part at.0 others.0 (head_same e),
-        outputs_are ks stores parts at.1 others.1 (tail_same e),
+      outputs_are [] [] [] [] stand at ends e = tt
+      outputs_are [] [] [] (part ∷ parts) stand at ends e = absurd (let wrong : ◌≡◌ {A = List (List (List ℕ))} (part.parts ∷ map (λ part. part.parts) parts) [] = e in cc)
+      outputs_are [] (store ∷ stores) [] parts stand at ends e = absurd stand
+      outputs_are [] stores (other ∷ others) parts stand at ends e = absurd at
+      outputs_are (k ∷ ks) stores [] parts stand at ends e = absurd at
+      outputs_are (k ∷ ks) [] (other ∷ others) parts stand at ends e = absurd stand
+      outputs_are (k ∷ ks) (store ∷ stores) (other ∷ others) [] stand at ends e = absurd (let wrong : ◌≡◌ {A = List (List (List ℕ))} [] (parts_given s outs k ∷ map (parts_given s outs) ks) = e in cc)
+      outputs_are (k ∷ ks) (store ∷ stores) (other ∷ others) (part ∷ parts) stand at ends e = (
+        output_is k store other part stand.0 at.0 ends.0 (head_same e),
+        outputs_are ks stores others parts stand.1 at.1 ends.1 (tail_same e),
       )
         where
           head_same : {x y : List (List ℕ)} {xs ys : List (List (List ℕ))} → x ∷ xs ≡ y ∷ ys → x ≡ y
@@ -220,24 +223,22 @@ module _ (law : StagesGiveMeaning) (reads : RunsReadLines) (unmets : RunsTellThe
       (parts_are : map (λ part. part.parts) parts ≡ map (parts_given s outs) (stores s.plan)) where
     pub given_all : (limit read shuffled : ℕ) (unmet : Option ℕ) → read ≡ lines_in outs % 2 ^ 64 → shuffled ≡ entries_handed s outs % 2 ^ 64 → unmet ≡ least (all_unmet outs)
         → GivesAll s limit tellings kept parts read shuffled unmet
-    given_all limit read shuffled unmet read_is shuffled_is unmet_is = λ plan plan_valid is inputs tell bytes.
+    given_all limit read shuffled unmet read_is shuffled_is unmet_is = λ plan alike inputs tell bytes.
         let found = run.runs inputs tell in
-        let same_plan = same plan plan_valid is inputs found.points found.run in
         record {
-          kept_valid = kept_valid plan plan_valid is inputs found.points found.run;
-          outs_are = subst (λ xs. AreOutputsOf plan inputs kept xs parts) same_plan.stores
-              (outputs_are plan plan_valid is inputs found.points found.run bytes (stores s.plan) (stores_of s.plan) parts (stores_listed s.plan)
-              (subst (AllByRecursion (λ store. store.delim ≢ 10)) all_are others) parts_are);
-          read_is = read_is ∙ ap (λ n. n % 2 ^ 64) (reads s inputs found.points outs valid staged splits found.run ∙ same_plan.read inputs);
-          unmet_is = first_is plan plan_valid is inputs found.points found.run unmet unmet_is;
-          run_of = record { points = found.points; outs = outs; run = found.run; kept_are = kept_are; parts_are = parts_are; handed = shuffled_is };
+          kept_valid = kept_valid plan alike inputs found.points found.run;
+          outs_are = outputs_are plan alike inputs found.points found.run bytes (stores s.plan) (stores_of plan) (stores_of s.plan) parts alike.stores (stores_listed s.plan)
+              (subst (AllByRecursion (λ store. store.delim ≢ 10)) all_are others) parts_are;
+          read_is = read_is ∙ ap (λ n. n % 2 ^ 64) (reads s inputs found.points outs valid staged splits found.run);
+          unmet_is = first_is plan alike inputs found.points found.run unmet unmet_is;
+          run_of = record { points = found.points; outs = outs; run = found.run; kept_are = kept_are; parts_are = parts_are; handed = shuffled_is ∙ ap (λ n. n % 2 ^ 64) (counts s inputs found.points outs some found.run) };
         }
 
   -- an ASSERT that tasks tell of is the first that is not met
   pub unmet_all : (n : ℕ) → Some n ≡ least (all_unmet outs) → UnmetAll s tellings kept n
-  unmet_all n told = λ plan plan_valid is inputs tell bytes.
+  unmet_all n told = λ plan alike inputs tell bytes.
       let found = run.runs inputs tell in
       record {
-        kept_valid = kept_valid plan plan_valid is inputs found.points found.run;
-        first = sym (first_is plan plan_valid is inputs found.points found.run (Some n) told);
+        kept_valid = kept_valid plan alike inputs found.points found.run;
+        first = sym (first_is plan alike inputs found.points found.run (Some n) told);
       }

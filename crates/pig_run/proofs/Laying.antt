@@ -6,12 +6,14 @@ use Rattle.std.proofs.Math.Seq.{take-suc}
 use Rattle.std.proofs.lemmas.List.{get_or-map}
 use Rattle.std.specs.Str.{bytes_eq}
 use Rattle.pig_outside.proofs.ShelfLaws.{bytes_eq-same}
-use Rattle.pig_outside.specs.Shelf.{CanCreate, Shelf, state_of}
+use Rattle.pig_outside.specs.Shelf.{CanCreate, Shelf, has_dir, state_of}
 use Rattle.pig_outside.specs.declared.contents.DirState.{DirState}
+use Rattle.pig_plan.specs.Plans.{Plan}
 use Rattle.pig_commit.specs.Committed.{AreAbsent, AreApart}
 use Rattle.pig_commit.specs.declared.parts.StorePart.{StorePart}
 use Rattle.pig_reach.specs.declared.storing.Store.{Store}
-use Rattle.pig_run.specs.Looking.{IsAbsentIn, are_apart, is_stored_in}
+use Rattle.pig_rewrites.specs.Alike.{AllAlike, are_apart, is_stored_in}
+use Rattle.pig_run.specs.Looking.{IsAbsentIn}
 
 pub taken : {X : Type 0} (xs : List X) (place : ℕ) (x d : X) → place < length xs → x ≡ get_or xs place d → take (place + 1) xs ≡ take place xs ++ x ∷ []
 taken xs place x d within at = ap (λ n. take n xs) (add-one place) ∙ take-suc xs place d within ∙ ap (λ y. take place xs ++ y ∷ []) (sym at)
@@ -75,3 +77,41 @@ are_apart_all (store ∷ stores) (part ∷ parts) e h =
           (no_other store.dir stores parts (tail_same e) (not_true (is_stored_in store.dir stores) both.0)),
       are_apart_all stores parts (tail_same e) both.1,
     )
+
+-- ---- the STOREs of a plan and of the one that it was rewritten to
+
+pub same_dirs : (p q : Plan) (stores others : List Store) → AllAlike p q stores others → map (λ store. store.dir) others ≡ map (λ store. store.dir) stores
+same_dirs p q [] [] h = refl
+same_dirs p q [] (other ∷ others) h = absurd h
+same_dirs p q (store ∷ stores) [] h = absurd h
+same_dirs p q (store ∷ stores) (other ∷ others) h = λ i. h.0.dir i ∷ same_dirs p q stores others h.1 i
+
+pub same_statements : (p q : Plan) (stores others : List Store) → AllAlike p q stores others → map (λ store. store.statement) others ≡ map (λ store. store.statement) stores
+same_statements p q [] [] h = refl
+same_statements p q [] (other ∷ others) h = absurd h
+same_statements p q (store ∷ stores) [] h = absurd h
+same_statements p q (store ∷ stores) (other ∷ others) h = λ i. h.0.statement i ∷ same_statements p q stores others h.1 i
+
+no_dirs : {x : List ℕ} {xs : List (List ℕ)} {B : Type 0} → x ∷ xs ≡ [] → B
+no_dirs e = absurd (cc)
+
+-- what is said of directories alone is said of STOREs with the same ones
+stored_same : (dir : List ℕ) (stores others : List Store) → map (λ store. store.dir) others ≡ map (λ store. store.dir) stores → is_stored_in dir others ≡ is_stored_in dir stores
+stored_same dir [] [] e = refl
+stored_same dir [] (other ∷ others) e = no_dirs e
+stored_same dir (store ∷ stores) [] e = no_dirs (sym e)
+stored_same dir (store ∷ stores) (other ∷ others) e = λ i. bytes_eq (head_same e i) dir || stored_same dir stores others (tail_same e) i
+
+pub apart_same : (stores others : List Store) → map (λ store. store.dir) others ≡ map (λ store. store.dir) stores → are_apart others ≡ are_apart stores
+apart_same [] [] e = refl
+apart_same [] (other ∷ others) e = no_dirs e
+apart_same (store ∷ stores) [] e = no_dirs (sym e)
+apart_same (store ∷ stores) (other ∷ others) e =
+    ap (λ dir. not (is_stored_in dir others) && are_apart others) (head_same e)
+    ∙ (λ i. not (stored_same store.dir stores others (tail_same e) i) && apart_same stores others (tail_same e) i)
+
+pub absent_same : (s : Shelf) (stores others : List Store) → map (λ store. store.dir) others ≡ map (λ store. store.dir) stores → AllByRecursion (IsAbsentIn s) stores → AllByRecursion (IsAbsentIn s) others
+absent_same s [] [] e h = tt
+absent_same s [] (other ∷ others) e h = no_dirs e
+absent_same s (store ∷ stores) [] e h = no_dirs (sym e)
+absent_same s (store ∷ stores) (other ∷ others) e h = (ap (λ dir. has_dir dir s) (head_same e) ∙ h.0, absent_same s stores others (tail_same e) h.1)

@@ -7,6 +7,7 @@ mod Given
 mod Laying
 mod LookUps
 mod Ordering
+mod Preparing
 mod Readings
 mod ReadingSteps
 mod Scripts

@@ -59,6 +59,11 @@ module _ {T : Type 0} (dirs : List (List ℕ)) (found : Result T RunFault) (old 
   pub looks_both : (p : Prepared) → dirs ≡ map (λ store. store.dir) p.stores → outputs.paths ≡ dirs → LooksUp (Ok p) old new
   looks_both p are same = record { inputs = inputs.paths; outputs = outputs.paths; asked = both; whole = same ∙ are }
 
+  -- the plan was rewritten behind them
+  pub looks_behind : (result : Result Prepared RunFault) → outputs.paths ≡ dirs → IfOk result (λ p. map (λ store. store.dir) p.stores ≡ dirs) → LooksUp result old new
+  looks_behind (Ok p) same are = looks_both p (sym are) same
+  looks_behind (Err f) same are = looks_stopped (Err f) tt
+
 -- ---- making
 
 -- nothing was made, and a fault came

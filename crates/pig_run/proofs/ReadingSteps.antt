@@ -1,9 +1,10 @@
 -- The steps of the reading of a script.
-use Rattle.std.proofs.Common.{◌≡◌, ◌+◌, ◌<◌, ◌≤◌, ℕ, refl, List, [], ◌∷◌, ◌++◌, length, take, get_or, Result, Ok, Err, sym, ◌∙◌, ap, subst, inl, inr, ◌⊎◌, add-one}
+use Rattle.std.proofs.Common.{◌≡◌, ◌+◌, ◌<◌, ◌≤◌, ◌^◌, ℕ, refl, List, [], ◌∷◌, ◌++◌, length, take, get_or, Result, Ok, Err, sym, ◌∙◌, ap, subst, inl, inr, ◌⊎◌, add-one}
 use Rattle.std.specs.List.{All}
 use Rattle.std.proofs.Math.Seq.{take-suc}
 use Rattle.std.proofs.lemmas.List.{take_all}
 use Rattle.std.proofs.lemmas.List.Elements.{All-append, All-cons, All-nil}
+use Rattle.pig_params.specs.Substitution.{IsLonger, Named, Outcome, substituted}
 use Rattle.pig_syntax.specs.declared.cutting.Piece.{Piece}
 use Rattle.pig_syntax.specs.declared.tokens.Token.{Token}
 use Rattle.pig_parser.specs.Parsing.{IsFirstOff}
@@ -12,8 +13,9 @@ use Rattle.pig_run.specs.declared.outcome.RunFault.{RunFault}
 use Rattle.pig_run.specs.declared.reading.Checked.{Checked}
 use Rattle.pig_plan.specs.Plans.{plan_of}
 use Rattle.pig_run.specs.declared.outcome.RunFault.TheVariants as fault
-use Rattle.pig_run.specs.Reading.{IsLexed, IsParsed, Faulty, Finding, Typed, bad_place, no_tree}
-use Rattle.pig_run.specs.Refusals.{Names, Refusal, no_token, off_grammar}
+use Rattle.pig_run.specs.declared.outcome.TooLarge.TheVariants as large
+use Rattle.pig_run.specs.Reading.{IsFilled, IsLexed, IsParsed, Faulty, Finding, Typed, bad_place, grown, missing, no_tree}
+use Rattle.pig_run.specs.Refusals.{Names, Refusal, no_token, no_value, off_grammar, too_large}
 use Rattle.pig_run.specs.Steps.{TellsPlan}
 
 -- what a stage finds, the stage before it finds
@@ -28,6 +30,19 @@ off_told ts ps {n = n} off = inl (off_grammar n, no_tree off, refl)
 
 pub bad_told : (script : List ℕ) {n : ℕ} → IsBadAt script n → ((refusal : Refusal) × IsLexed script (Faulty refusal) × Names refusal (fault.Lex n)) ⊎ (fault.Lex n ≡ fault.OutOfMemory)
 bad_told script {n = n} bad = inl (no_token n, bad_place bad, refl)
+
+pub missing_told : (given : List Named) (script : List ℕ) {n : ℕ} → substituted given script ≡ Err n
+    → ((refusal : Refusal) × IsFilled given script (Faulty refusal) × Names refusal (fault.Param n)) ⊎ (fault.Param n ≡ fault.OutOfMemory)
+missing_told given script {n = n} is = inl (no_value n, missing is, refl)
+
+pub grown_told : (given : List Named) (script : List ℕ) (n : ℕ) → n ≡ 2 ^ 20 → IsLonger n (substituted given script)
+    → ((refusal : Refusal) × IsFilled given script (Faulty refusal) × Names refusal (fault.TooLarge large.Script)) ⊎ (fault.TooLarge large.Script ≡ fault.OutOfMemory)
+grown_told given script n limit h =
+    inl (too_large large.Script, by_outcome (substituted given script) refl (subst (λ m. IsLonger m (substituted given script)) limit h), refl)
+  where
+    by_outcome : (o : Outcome) → substituted given script ≡ o → IsLonger (2 ^ 20) o → IsFilled given script (Faulty (too_large large.Script))
+    by_outcome (Ok text) e h = grown e h
+    by_outcome (Err offset) e h = absurd h
 
 -- one more member passes
 pub passes_more : {X : Type 0} (P : X → Type 0) (xs : List X) (i : ℕ) (x : X) → i < length xs → x ≡ get_or xs i x → P x → All P (take i xs) → All P (take (i + 1) xs)

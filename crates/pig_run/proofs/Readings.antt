@@ -1,8 +1,9 @@
 -- A script is found to be one thing and no other.
-use Rattle.std.proofs.Common.{◌≡◌, ◌^◌, ℕ, List, [], ◌∷◌, length, refl, ap, subst, arith, inl, inr, ◌⊎◌}
+use Rattle.std.proofs.Common.{◌≡◌, ◌^◌, ℕ, List, [], ◌∷◌, length, Ok, Err, refl, sym, ◌∙◌, ap, subst, arith, inl, inr, ◌⊎◌}
 use Rattle.std.specs.List.{All}
 use Rattle.std.proofs.lemmas.Bool.{cases_lt}
 use Rattle.std.proofs.lemmas.List.Elements.{All-nil, All-cons, All-head, All-tail}
+use Rattle.pig_params.specs.Substitution.{Named, Outcome, substituted}
 use Rattle.pig_syntax.specs.declared.cutting.Piece.{Piece}
 use Rattle.pig_syntax.specs.declared.tokens.Token.{Token}
 use Rattle.pig_syntax.specs.declared.trees.Stmt.{Stmt}
@@ -17,8 +18,8 @@ use Rattle.pig_typing.specs.declared.faults.CheckKind.{CheckKind}
 use Rattle.pig_plan.specs.Plans.{Plan}
 use Rattle.pig_check.specs.Scripts.{IsFirstUntyped, IsPlanOf}
 use Rattle.pig_run.specs.declared.outcome.TooLarge.TheVariants as large
-use Rattle.pig_run.specs.Reading.{Faulty, Finding, Typed, IsChecked, no_typing, checked, IsParsed, no_tree, parsed, IsMeasured, too_many, too_deep, measured, IsLexed, bad_place, lexed, IsFound, too_long, short}
-use Rattle.pig_run.specs.Refusals.{no_token, off_grammar, too_large, untyped}
+use Rattle.pig_run.specs.Reading.{Faulty, Finding, Typed, IsChecked, no_typing, checked, IsParsed, no_tree, parsed, IsMeasured, too_many, too_deep, measured, IsLexed, bad_place, lexed, IsFilled, missing, grown, filled, IsFound, too_long, short}
+use Rattle.pig_run.specs.Refusals.{no_token, no_value, off_grammar, too_large, untyped}
 
 -- what is known of plans of scripts
 pub record PlanLaws : Type 0 where
@@ -26,6 +27,16 @@ pub record PlanLaws : Type 0 where
   pub some : (ss : List Stmt) → ((p : Plan) × IsPlanOf ss p) ⊎ ((n : ℕ) × (kind : CheckKind) × IsFirstUntyped ss n kind)
   pub never_both : (ss : List Stmt) (p : Plan) (n : ℕ) (kind : CheckKind) → IsPlanOf ss p → ¬ IsFirstUntyped ss n kind
   pub one_statement : (ss : List Stmt) (m n : ℕ) (j k : CheckKind) → IsFirstUntyped ss m j → IsFirstUntyped ss n k → m ≡ n
+
+-- an outcome is one text, or one offset
+one_text : (t u : List ℕ) → ◌≡◌ {A = Outcome} (Ok t) (Ok u) → t ≡ u
+one_text t u e = cc
+
+one_offset : {m n : ℕ} → ◌≡◌ {A = Outcome} (Err m) (Err n) → m ≡ n
+one_offset e = cc
+
+no_outcome : {A : Type 0} {t : List ℕ} {n : ℕ} → ◌≡◌ {A = Outcome} (Ok t) (Err n) → A
+no_outcome e = absurd (cc)
 
 module _ (laws : PlanLaws) where
   -- ---- at most one
@@ -62,11 +73,22 @@ module _ (laws : PlanLaws) where
       let also : qs ≡ ps = same_statements ts (subst (λ x. AreStatements x qs) same cuts) statements in
       one_measured ts ps v w h (subst (λ x. IsMeasured ts x w) also (subst (λ x. IsMeasured x qs w) same k))
 
-  pub one_found : (script : List ℕ) (v w : Finding) → IsFound script v → IsFound script w → v ≡ w
-  one_found script _ _ (too_long h) (too_long k) = refl
-  one_found script _ w (too_long h) (short few k) = absurd (omega (arith, h, few))
-  one_found script v _ (short few h) (too_long k) = absurd (omega (arith, k, few))
-  one_found script v w (short few h) (short less k) = one_lexed script v w h k
+  one_filled : (given : List Named) (script : List ℕ) (v w : Finding) → IsFilled given script v → IsFilled given script w → v ≡ w
+  one_filled given script _ _ (missing e) (missing f) = ap (λ i. Faulty (no_value i)) (one_offset (sym e ∙ f))
+  one_filled given script _ _ (missing e) (grown f big) = no_outcome (sym f ∙ e)
+  one_filled given script _ w (missing e) (filled f few k) = no_outcome (sym f ∙ e)
+  one_filled given script _ _ (grown e big) (missing f) = no_outcome (sym e ∙ f)
+  one_filled given script _ _ (grown e big) (grown f also) = refl
+  one_filled given script _ w (grown {text = t} e big) (filled {text = u} f few k) = absurd (let same = ap length (one_text t u (sym e ∙ f)) in omega (arith, big, few, same))
+  one_filled given script v _ (filled e few h) (missing f) = no_outcome (sym e ∙ f)
+  one_filled given script v _ (filled {text = t} e few h) (grown {text = u} f big) = absurd (let same = ap length (one_text t u (sym e ∙ f)) in omega (arith, big, few, same))
+  one_filled given script v w (filled {text = t} e few h) (filled {text = u} f less k) = one_lexed t v w h (subst (λ x. IsLexed x w) (one_text u t (sym f ∙ e)) k)
+
+  pub one_found : (given : List Named) (script : List ℕ) (v w : Finding) → IsFound given script v → IsFound given script w → v ≡ w
+  one_found given script _ _ (too_long h) (too_long k) = refl
+  one_found given script _ w (too_long h) (short few k) = absurd (omega (arith, h, few))
+  one_found given script v _ (short few h) (too_long k) = absurd (omega (arith, k, few))
+  one_found given script v w (short few h) (short less k) = one_filled given script v w h k
 
   -- ---- at least one
 
@@ -121,8 +143,18 @@ module _ (laws : PlanLaws) where
     | inr bad ↦ (Faulty (no_token bad.0), bad_place bad.1)
   ]
 
-  pub some_found : (script : List ℕ) → (v : Finding) × IsFound script v
-  some_found script = elim (cases_lt (2 ^ 20) (length script)) [
+  some_filled : (given : List Named) (script : List ℕ) → (v : Finding) × IsFilled given script v
+  some_filled given script = by_outcome (substituted given script) refl
+    where
+      by_outcome : (o : Outcome) → substituted given script ≡ o → (v : Finding) × IsFilled given script v
+      by_outcome (Err offset) e = (Faulty (no_value offset), missing e)
+      by_outcome (Ok text) e = elim (cases_lt (2 ^ 20) (length text)) [
+        | inl long ↦ (Faulty (too_large large.Script), grown e long)
+        | inr few ↦ (let rest = some_lexed text in (rest.0, filled e few rest.1))
+      ]
+
+  pub some_found : (given : List Named) (script : List ℕ) → (v : Finding) × IsFound given script v
+  some_found given script = elim (cases_lt (2 ^ 20) (length script)) [
     | inl long ↦ (Faulty (too_large large.Script), too_long long)
-    | inr few ↦ (let rest = some_lexed script in (rest.0, short few rest.1))
+    | inr few ↦ (let rest = some_filled given script in (rest.0, short few rest.1))
   ]

@@ -13,7 +13,6 @@ use Rattle.pig_outside.specs.Shelf.{Shelf, has_dir, lengths_at, lengths_of, piec
 use Rattle.pig_outside.specs.declared.failing.Method.TheVariants as method
 use Rattle.pig_plan.specs.Operators.{pieces_of as plan_pieces}
 use Rattle.pig_plan.specs.Plans.{Plan, PlanNode, p_load, plan_of}
-use Rattle.pig_plan.specs.Valid.{IsPlan}
 use Rattle.pig_plan.specs.declared.nodes.Node.{Node}
 use Rattle.pig_reach.specs.Paths.{is_among}
 use Rattle.pig_reach.specs.Reach.{dirs_of, live_paths}
@@ -24,7 +23,7 @@ use Rattle.pig_physical.specs.Stages.{Stages}
 use Rattle.pig_work.specs.Working.{Tellings}
 use Rattle.pig_cutter.specs.Limits.{has_too_many}
 use Rattle.pig_driver.specs.Going.{TellSizes}
-use Rattle.pig_keyed.specs.Keyed.{KeyedPlansRunTheSame, by_key}
+use Rattle.pig_rewrites.specs.Reached.{IsReached}
 use Rattle.pig_physical.specs.declared.staged.Size.{Size}
 use Rattle.pig_words.specs.declared.words.Command.{Command}
 use Rattle.pig_run.specs.declared.outcome.RunFault.{RunFault}
@@ -181,21 +180,20 @@ tell_sizes shelf stages fits (told ∷ tellings) of = (λ inputs is. one shelf f
 
 -- ---- the stages that the code cuts are those of the command
 
-module _ (law : KeyedPlansRunTheSame) (command : Command) (s : Shelf) (plan : Plan) (valid : IsPlan plan) (nodes : List Node) (keyed : plan_of nodes ≡ by_key plan)
+module _ (command : Command) (s : Shelf) (plan : Plan) (nodes : List Node) (reached : IsReached plan (plan_of nodes))
     (sizes : List Size) (paths : map (λ size. size.path) sizes ≡ live_paths (plan_of nodes)) (have : AllByRecursion (HasSize s) sizes) where
-  sizes_are : sizes ≡ sizes_on s plan
-  sizes_are =
-      are_sizes s sizes have
-      ∙ ap (map (λ path. record { path = path; lengths = unwrap_or (lengths_at path s) [] })) (paths ∙ ap live_paths keyed ∙ (law plan valid).paths)
+  sizes_are : sizes ≡ sizes_on s (plan_of nodes)
+  sizes_are = are_sizes s sizes have ∙ ap (map (λ path. record { path = path; lengths = unwrap_or (lengths_at path s) [] })) paths
 
-  pub stages_are : staged (cut_of nodes sizes command.reducers command.split) ≡ stages_of command s plan
-  stages_are i = record { plan = keyed i; sizing = record { lengths = lengths_in (sizes_are i); reducers = command.reducers; split = command.split } }
+  pub stages_are : staged (cut_of nodes sizes command.reducers command.split) ≡ stages_of command s (plan_of nodes)
+  stages_are i = record { plan = plan_of nodes; sizing = record { lengths = lengths_in (sizes_are i); reducers = command.reducers; split = command.split } }
 
   module _ (now : Option (List DepotCall)) where
     pub tasks_stop : (f : RunFault) → ((f ≡ fault.TooLarge large.Tasks) × (has_too_many (staged (cut_of nodes sizes command.reducers command.split)) ≡ true)) ⊎ (f ≡ fault.OutOfMemory)
         → StopsIn (TasksDue command s plan) now now f
-    tasks_stop f (inl h) = refuses (TasksDue command s plan) now now refl f (too_large large.Tasks) h.0 (too_many (ap has_too_many (sym stages_are) ∙ h.1))
+    tasks_stop f (inl h) = refuses (TasksDue command s plan) now now refl f (too_large large.Tasks) h.0 (too_many reached (ap has_too_many (sym stages_are) ∙ h.1))
     tasks_stop f (inr is) = wants (TasksDue command s plan) now now refl f is
 
-  pub tasks_due : has_too_many (staged (cut_of nodes sizes command.reducers command.split)) ≡ false → TasksDue command s plan (making_of (run_of command s plan)) (Runs (run_of command s plan))
-  tasks_due h = few (ap has_too_many (sym stages_are) ∙ h) runs
+  pub tasks_due : has_too_many (staged (cut_of nodes sizes command.reducers command.split)) ≡ false
+      → TasksDue command s plan (making_of (run_of command s plan (plan_of nodes))) (Runs (run_of command s plan (plan_of nodes)))
+  tasks_due h = few reached (ap has_too_many (sym stages_are) ∙ h) runs

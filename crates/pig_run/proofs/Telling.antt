@@ -13,7 +13,7 @@ use Rattle.pig_run.specs.declared.progress.Progress.{Progress}
 use Rattle.pig_run.specs.Due.{Stage}
 use Rattle.pig_run.specs.Ends.{Ends, assert_failed, done, lookup_failed, no_memory, no_memory_at, no_memory_behind, no_memory_in, refused, shows, store_failed, task_failed}
 use Rattle.pig_run.specs.Outputs.{AreStored, IsMet, IsStopped, IsUnmet, IsWhole, Left}
-use Rattle.pig_run.specs.Reading.{Prints, Refuses, Run, Runs, Verdict}
+use Rattle.pig_run.specs.Reading.{Prints, Refuses, Run, Runs, Verdict, Wants}
 use Rattle.pig_run.specs.Running.{RunEnd, counts_in, found_in, left_in}
 use Rattle.pig_run.specs.Told.{CountsAre}
 
@@ -58,6 +58,7 @@ module _ (tells others : Type 0) (more : others → tells) where
   numbers_told : (v : Verdict) (s : Shelf) (left : Left) (counts : Counts) (found : Option RunFault) → CountsAre tells v s left counts found → CountsAre others v s left counts found
   numbers_told (Refuses refusal) s left counts found h = h
   numbers_told (Prints text) s left counts found h = h
+  numbers_told Wants s left counts found h = h
   numbers_told (Runs run) s left counts found h = λ e. let k = h e in record { read = λ t. k.read (more t); shuffled = λ t. k.shuffled (more t); stored = k.stored }
 
   pub end_told : (s : Shelf) (stage : Stage) (old new : Option (List DepotCall)) (shelf : Option Shelf) (progress : Progress) (result : Result (List ℕ) RunFault)

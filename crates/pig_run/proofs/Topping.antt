@@ -29,6 +29,7 @@ use Rattle.pig_run.proofs.Deciding.{just}
 depot_of : (f : RunFault) (store : Option ℕ) → cause_of f ≡ by_depot store → f ≡ fault.DepotFault store
 depot_of fault.Usage store e = absurd (cc)
 depot_of fault.NoScript store e = absurd (cc)
+depot_of (fault.Param offset) store e = absurd (cc)
 depot_of (fault.Lex offset) store e = absurd (cc)
 depot_of (fault.Syntax n) store e = absurd (cc)
 depot_of (fault.Check n kind) store e = absurd (cc)

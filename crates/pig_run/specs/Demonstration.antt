@@ -27,13 +27,13 @@ visits_of command = digits_value 10 command.operand
 abbrev pub shelf_of : Command → Shelf
 shelf_of command = demo_shelf (visits_of command)
 
--- the run of that script, with the numbers of the command
+-- the run of that script, with the numbers of the command and no parameters
 abbrev pub script_run : Command → Command
-script_run command = record command { verb = verbs.Run; operand = script_path }
+script_run command = record command { verb = verbs.Run; operand = script_path; params = [] }
 
 -- what is due is what is due of that run on that shelf
 abbrev pub DemoDue : Command → Stage
-DemoDue command = ScriptDue script_path (shelf_of command) (CommandDue (script_run command) (shelf_of command))
+DemoDue command = ScriptDue [] script_path (shelf_of command) (CommandDue (script_run command) (shelf_of command))
 
 -- What is answered of how the run ended. The script has no ASSERT and is found to be a plan, and its input and output are as they should be, so
 -- that nothing but too many tasks is refused; another refusal would be answered as want of memory.

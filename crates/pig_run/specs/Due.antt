@@ -1,5 +1,5 @@
 -- What is due of the words and the shelf, stage by stage in the order of the refusals, and what the depot is asked for it.
-use Rattle.std.specs.Prelude.{◌≡◌, ◌<◌, ◌≤◌, ◌^◌, ℕ, zero, suc, Bool, true, false, List, [], ◌∷◌, ◌++◌, length, map, Some, None, is_none, unwrap_or, if◌then◌else◌}
+use Rattle.std.specs.Prelude.{◌≡◌, ◌<◌, ◌≤◌, ◌+◌, ◌^◌, ℕ, zero, suc, Bool, true, false, List, [], ◌∷◌, ◌++◌, length, map, Option, Some, None, is_none, unwrap_or, if◌then◌else◌}
 use Rattle.std.specs.List.{find, sum_by}
 use Rattle.pig_outside.specs.Calls.{DepotCall}
 use Rattle.pig_outside.specs.declared.failing.Method.{Method}
@@ -11,15 +11,17 @@ use Rattle.pig_physical.specs.Seen.{lengths_in}
 use Rattle.pig_physical.specs.Stages.{Stages, stores}
 use Rattle.pig_physical.specs.declared.staged.Size.{Size}
 use Rattle.pig_cutter.specs.Limits.{has_too_many}
-use Rattle.pig_keyed.specs.Keyed.{by_key}
+use Rattle.pig_rewrites.specs.Reached.{IsReached}
 use Rattle.pig_explain.specs.Explained.{explain_text}
 use Rattle.pig_collect.specs.Collecting.{part_count}
+use Rattle.pig_params.specs.Given.{named_of}
+use Rattle.pig_params.specs.Substitution.{Named}
 use Rattle.pig_words.specs.CommandWords.{IsCommand}
 use Rattle.pig_words.specs.declared.words.Command.{Command}
 use Rattle.pig_words.specs.declared.words.Verb.{Verb}
 use Rattle.pig_words.specs.declared.words.Verb.TheVariants as verbs
 use Rattle.pig_run.specs.declared.outcome.TooLarge.TheVariants as large
-use Rattle.pig_run.specs.Reading.{Faulty, IsFound, Prints, Refuses, Run, Runs, Typed, Verdict}
+use Rattle.pig_run.specs.Reading.{Faulty, IsFound, Prints, Refuses, Run, Runs, Typed, Verdict, Wants}
 use Rattle.pig_run.specs.Refusals.{Refusal, no_command, no_input, no_script, output_there, too_large}
 use Rattle.pig_run.specs.Texts.{ok_text}
 
@@ -57,8 +59,13 @@ IsNoDemo line = (command : Command) → ¬ IsDemo line command
 
 -- ---- what the depot is asked
 
+-- how many bytes are asked for at most: of a script one more than it may have
+abbrev pub most_asked : Method → Option ℕ
+most_asked method.Script = Some (2 ^ 20 + 1)
+most_asked m = None
+
 abbrev pub call : Method → List ℕ → DepotCall
-call m path = record { method = m; path = path }
+call m path = record { method = m; path = path; most = most_asked m }
 
 -- a list up to and with the first member that is so, or all of it
 abbrev pub through : {X : Type 0} → (X → Bool) → List X → List X
@@ -85,16 +92,17 @@ making dirs counts = []
 abbrev pub sizes_on : Shelf → Plan → List Size
 sizes_on shelf plan = map (λ path. record { path = path; lengths = unwrap_or (lengths_at path shelf) [] }) (live_paths plan)
 
--- The stages of a plan: each JOIN goes by key, and it is cut by the lengths of its inputs on the shelf, with as many reduce tasks of a wave
--- and as many bytes of a split as the command says.
+-- The stages that a plan is cut into, by the lengths of its inputs on the shelf, with as many reduce tasks of a wave and as many bytes of a
+-- split as the command says.
 abbrev pub stages_of : Command → Shelf → Plan → Stages
-stages_of command shelf plan = record {
-  plan = by_key plan;
-  sizing = record { lengths = lengths_in (sizes_on shelf plan); reducers = command.reducers; split = command.split };
+stages_of command shelf cut = record {
+  plan = cut;
+  sizing = record { lengths = lengths_in (sizes_on shelf cut); reducers = command.reducers; split = command.split };
 }
 
-abbrev pub run_of : Command → Shelf → Plan → Run
-run_of command shelf plan = record { plan = plan; stages = stages_of command shelf plan; limit = command.attempts }
+-- the run of a plan by the stages of the one that it was rewritten to
+abbrev pub run_of : Command → Shelf → Plan → Plan → Run
+run_of command shelf plan cut = record { plan = plan; stages = stages_of command shelf cut; limit = command.attempts }
 
 -- each STORE has a part for each of its tasks
 abbrev pub making_of : Run → List DepotCall
@@ -115,11 +123,12 @@ pub data Looks (is_so : List ℕ → Bool) (refusal : List ℕ → Refusal) (m :
 pub data RunDue (run : Run) : List DepotCall → Verdict → Type 0 where
   runs : RunDue run (making_of run) (Runs run)
 
--- no wave has more tasks than the limit
+-- the plan is rewritten, and no wave of it has more tasks than the limit; unless memory is wanting for the plan that is cut
 pub data TasksDue (command : Command) (shelf : Shelf) (plan : Plan) : List DepotCall → Verdict → Type 0 where
-  too_many : has_too_many (stages_of command shelf plan) ≡ true → TasksDue command shelf plan [] (Refuses (too_large large.Tasks))
-  few : {asked : List DepotCall} {verdict : Verdict} → has_too_many (stages_of command shelf plan) ≡ false
-      → RunDue (run_of command shelf plan) asked verdict → TasksDue command shelf plan asked verdict
+  too_many : {cut : Plan} → IsReached plan cut → has_too_many (stages_of command shelf cut) ≡ true → TasksDue command shelf plan [] (Refuses (too_large large.Tasks))
+  few : {cut : Plan} {asked : List DepotCall} {verdict : Verdict} → IsReached plan cut → has_too_many (stages_of command shelf cut) ≡ false
+      → RunDue (run_of command shelf plan cut) asked verdict → TasksDue command shelf plan asked verdict
+  unreached : TasksDue command shelf plan [] Wants
 
 -- a directory of a STORE may be there already
 abbrev pub OutputsDue : Command → Shelf → Plan → Stage
@@ -146,24 +155,29 @@ InputsDue command shelf plan = Looks (is_missing shelf) no_input method.Pieces (
 abbrev pub PlanStage : Type 1
 PlanStage = ℕ → Plan → Stage
 
--- the command goes on from a plan: `run` runs it, `explain` prints it as it was checked and as it is cut, with its waves, and `check` prints how
--- many statements have it
+-- the command goes on from a plan: `run` runs it, `explain` prints it as it was checked and as it was rewritten, with its waves, and `check`
+-- prints how many statements have it
 pub data CommandDue (command : Command) (shelf : Shelf) (statements : ℕ) (plan : Plan) : List DepotCall → Verdict → Type 0 where
   run_due : {asked : List DepotCall} {verdict : Verdict} → command.verb ≡ verbs.Run
       → InputsDue command shelf plan asked verdict → CommandDue command shelf statements plan asked verdict
-  explain_due : command.verb ≡ verbs.Explain → CommandDue command shelf statements plan [] (Prints (explain_text plan (by_key plan)))
+  explain_due : {cut : Plan} → command.verb ≡ verbs.Explain → IsReached plan cut → CommandDue command shelf statements plan [] (Prints (explain_text plan cut))
+  explain_wants : command.verb ≡ verbs.Explain → CommandDue command shelf statements plan [] Wants
   check_due : command.verb ≡ verbs.Check → CommandDue command shelf statements plan [] (Prints (ok_text statements))
 
--- the depot has the script, and it is found to be a plan, behind which the next stage is due
-pub data ScriptDue (path : List ℕ) (shelf : Shelf) (next : PlanStage) : List DepotCall → Verdict → Type 0 where
-  script_missing : script_of path shelf ≡ None → ScriptDue path shelf next (call method.Script path ∷ []) (Refuses no_script)
-  script_refused : {script : List ℕ} {refusal : Refusal} → script_of path shelf ≡ Some script → IsFound script (Faulty refusal)
-      → ScriptDue path shelf next (call method.Script path ∷ []) (Refuses refusal)
+-- the parameters of a command, by their names
+abbrev pub given_by : Command → List Named
+given_by command = map named_of command.params
+
+-- the depot has the script, and with the given parameters it is found to be a plan, behind which the next stage is due
+pub data ScriptDue (given : List Named) (path : List ℕ) (shelf : Shelf) (next : PlanStage) : List DepotCall → Verdict → Type 0 where
+  script_missing : script_of path shelf ≡ None → ScriptDue given path shelf next (call method.Script path ∷ []) (Refuses no_script)
+  script_refused : {script : List ℕ} {refusal : Refusal} → script_of path shelf ≡ Some script → IsFound given script (Faulty refusal)
+      → ScriptDue given path shelf next (call method.Script path ∷ []) (Refuses refusal)
   script_found : {script : List ℕ} {n : ℕ} {plan : Plan} {asked : List DepotCall} {verdict : Verdict} → script_of path shelf ≡ Some script
-      → IsFound script (Typed n plan) → next n plan asked verdict → ScriptDue path shelf next (call method.Script path ∷ asked) verdict
+      → IsFound given script (Typed n plan) → next n plan asked verdict → ScriptDue given path shelf next (call method.Script path ∷ asked) verdict
 
 -- What is due of words that are no demonstration, and all that the depot is asked before it is done.
 pub data IsDue (line : Line) (shelf : Shelf) : List DepotCall → Verdict → Type 0 where
   no_words : ¬ HasWords line → IsDue line shelf [] (Refuses no_command)
   with_words : {command : Command} {asked : List DepotCall} {verdict : Verdict} → AreWords line command
-      → ScriptDue command.operand shelf (CommandDue command shelf) asked verdict → IsDue line shelf asked verdict
+      → ScriptDue (given_by command) command.operand shelf (CommandDue command shelf) asked verdict → IsDue line shelf asked verdict

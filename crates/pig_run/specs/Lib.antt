@@ -1,4 +1,5 @@
 pub mod Blame
+pub mod Decided
 pub mod Demonstration
 pub mod Due
 pub mod Ends

@@ -1,11 +1,13 @@
 -- How the steps that look for the script, the inputs and the outputs speak of each other.
-use Rattle.std.specs.Prelude.{◌≡◌, ◌⊎◌, ◌&&◌, ℕ, Bool, true, false, not, List, [], ◌∷◌, ◌++◌, ◌+◌, take, map, Option, Some, None, Result, MatchResult, bytes_eq}
-use Rattle.std.specs.List.{AllByRecursion, list_any, sum_by}
+use Rattle.std.specs.Prelude.{◌≡◌, ◌⊎◌, ℕ, true, false, List, [], ◌∷◌, ◌++◌, ◌+◌, take, map, Option, Some, None, Result, MatchResult}
+use Rattle.std.specs.List.{AllByRecursion, sum_by}
 use Rattle.pig_outside.specs.Shelf.{Shelf, has_dir, lengths_at, script_of}
 use Rattle.pig_plan.specs.Plans.{plan_of}
 use Rattle.pig_physical.specs.declared.staged.Size.{Size}
 use Rattle.pig_reach.specs.Reach.{live_paths, stores_of}
 use Rattle.pig_reach.specs.declared.storing.Store.{Store}
+use Rattle.pig_rewrites.specs.Alike.{RunsAlike, are_apart}
+use Rattle.pig_rewrites.specs.Reached.{IsReached}
 use Rattle.pig_run.specs.declared.line.CommandLine.{CommandLine}
 use Rattle.pig_run.specs.declared.looking.Prepared.{Prepared}
 use Rattle.pig_run.specs.declared.outcome.RunFault.{RunFault}
@@ -57,21 +59,15 @@ abbrev pub LooksForOutput : {T : Type 0} → List ℕ → Shelf → Result T Run
 LooksForOutput dir s result = MatchResult result (λ _. has_dir dir s ≡ false)
     (λ found. ((found ≡ fault.OutputExists dir) × (has_dir dir s ≡ true)) ⊎ IsLookFault found)
 
-abbrev pub is_stored_in : List ℕ → List Store → Bool
-is_stored_in dir stores = list_any (λ store. bytes_eq store.dir dir) stores
-
--- no two STOREs have one directory
-abbrev pub are_apart : List Store → Bool
-are_apart [] = true
-are_apart (store ∷ stores) = not (is_stored_in store.dir stores) && are_apart stores
-
 abbrev pub IsAbsentIn : Shelf → Store → Type 0
 IsAbsentIn s store = has_dir store.dir s ≡ false
 
 -- ---- both
 
--- what is prepared belongs to the plan that is cut
+-- the plan that is cut is reached from the checked one, and what is prepared belongs to it
 pub record IsPrepared (p : Prepared) : Type 0 where
+  pub reached : IsReached (plan_of p.checked) (plan_of p.plan)
+  pub alike : RunsAlike (plan_of p.checked) (plan_of p.plan)
   pub paths : map (λ size. size.path) p.sizes ≡ live_paths (plan_of p.plan)
   pub stores : p.stores ≡ stores_of (plan_of p.plan)
   pub apart : are_apart p.stores ≡ true

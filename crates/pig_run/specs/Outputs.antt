@@ -23,7 +23,7 @@ use Rattle.pig_driver.specs.Failing.{HaveWon, IsGivenUp}
 use Rattle.pig_driver.specs.Going.{AreWon}
 use Rattle.pig_commit.specs.Committed.{LeftOpen, with_stored}
 use Rattle.pig_commit.specs.declared.parts.StorePart.{StorePart}
-use Rattle.pig_driver.specs.Handing.{entries_handed}
+use Rattle.pig_counts.specs.Due.{entries_due}
 use Rattle.pig_collect.specs.Collecting.{joined, parts_given}
 use Rattle.pig_run.specs.declared.outcome.Counts.{Counts}
 use Rattle.pig_run.specs.Reading.{Run}
@@ -118,19 +118,20 @@ pub record IsStopped (tells : Type 0) (run : Run) (shelf : Shelf) (n : ℕ) (lef
 
 -- ---- numbers
 
--- Parts, kept rows and the number of entries are those of a run of the stages: outputs of all waves, each the value of its task. So a part
--- whose rows come from a LOAD holds just those of its own split.
+-- Parts and kept rows are those of a run of the stages: outputs of all waves, each the value of its task. So a part whose rows come from a
+-- LOAD holds just those of its own split. The number of entries is that which is due of the rows of the map tasks: each row, or each key of a
+-- task that combines, and of a LIMIT's as many rows as it says.
 pub record IsRunOf (s : Stages) (inputs : List Input) (kept : List Kept) (parts : List (List (List ℕ))) (shuffled : ℕ) : Type 0 where
   pub points : ℕ → List Point
   pub outs : Outs
   pub run : IsRun s inputs points outs
   pub kept_are : AreOutputs s.plan outs kept
   pub parts_are : parts ≡ map (parts_given s outs) (stores s.plan)
-  pub handed : shuffled ≡ entries_handed s outs % 2 ^ 64
+  pub handed : shuffled ≡ entries_due s inputs outs % 2 ^ 64
 
--- the numbers of a run that stored all: the lines that were read, the entries that map tasks handed on, and the lines that were stored
+-- the numbers of a run that stored all: the lines that the plan that is cut reads, the entries that map tasks handed on, and the lines that were stored
 pub record AreCounts (tells : Type 0) (run : Run) (inputs : List Input) (kept : List Kept) (outs : List StorePart) (counts : Counts) : Type 0 where
-  pub read : tells → counts.read ≡ lines_read run.plan inputs % 2 ^ 64
+  pub read : tells → counts.read ≡ lines_read run.stages.plan inputs % 2 ^ 64
   pub shuffled : tells → IsRunOf run.stages inputs kept (map (λ out. out.parts) outs) counts.shuffled
   pub stored : counts.stored ≡ sum_by line_count outs % 2 ^ 64
 

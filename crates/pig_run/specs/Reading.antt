@@ -1,6 +1,9 @@
--- What a script is found to be, stage by stage: its size, its tokens, its statements, their trees, and the plan of these.
-use Rattle.std.specs.Prelude.{◌<◌, ◌≤◌, ◌^◌, ℕ, List, length}
+-- What a script is found to be, stage by stage: its size, the values of its parameters, its tokens, its statements, their trees, and the plan of
+-- these.
+use Rattle.std.specs.Prelude.{◌≡◌, ◌<◌, ◌≤◌, ◌^◌, ℕ, List, length}
 use Rattle.std.specs.List.{All}
+use Rattle.std.specs.declared.result.Result.TheVariants.{Ok, Err}
+use Rattle.pig_params.specs.Substitution.{Named, substituted}
 use Rattle.pig_syntax.specs.declared.cutting.Piece.{Piece}
 use Rattle.pig_syntax.specs.declared.tokens.Token.{Token}
 use Rattle.pig_syntax.specs.declared.trees.Stmt.{Stmt}
@@ -12,20 +15,21 @@ use Rattle.pig_plan.specs.Plans.{Plan}
 use Rattle.pig_physical.specs.Stages.{Stages}
 use Rattle.pig_check.specs.Scripts.{IsPlanOf, IsFirstUntyped}
 use Rattle.pig_run.specs.declared.outcome.TooLarge.TheVariants as large
-use Rattle.pig_run.specs.Refusals.{Refusal, no_token, off_grammar, too_large, untyped}
+use Rattle.pig_run.specs.Refusals.{Refusal, no_token, no_value, off_grammar, too_large, untyped}
 
--- what is run: the plan of the script, the stages that it is cut into, and the number of failed attempts at one task with which it is
--- given up
+-- what is run: the plan of the script, the stages into which the plan that it was rewritten to is cut, and the number of failed attempts at
+-- one task with which it is given up
 pub record Run : Type 0 where
   pub plan : Plan
   pub stages : Stages
   pub limit : ℕ
 
--- what is due: a refusal, a text that is printed, or a run
+-- what is due: a refusal, a text that is printed, or a run; or nothing yet, where memory was wanting before there was a plan to cut
 pub data Verdict : Type 0 where
   Refuses : Refusal → Verdict
   Prints : List ℕ → Verdict
   Runs : Run → Verdict
+  Wants : Verdict
 
 -- what a script is found to be: refused, or so many statements that have a plan
 pub data Finding : Type 0 where
@@ -53,7 +57,13 @@ pub data IsLexed (script : List ℕ) : Finding → Type 0 where
   bad_place : {offset : ℕ} → IsBadAt script offset → IsLexed script (Faulty (no_token offset))
   lexed : {ts : List Token} {ps : List Piece} {found : Finding} → AreTokens script ts → AreStatements ts ps → IsMeasured ts ps found → IsLexed script found
 
--- the script has at most 1,048,576 bytes
-pub data IsFound (script : List ℕ) : Finding → Type 0 where
-  too_long : 2 ^ 20 < length script → IsFound script (Faulty (too_large large.Script))
-  short : {found : Finding} → length script ≤ 2 ^ 20 → IsLexed script found → IsFound script found
+-- with the values of parameters the script is a text of at most 1,048,576 bytes, or a value is missing
+pub data IsFilled (given : List Named) (script : List ℕ) : Finding → Type 0 where
+  missing : {offset : ℕ} → substituted given script ≡ Err offset → IsFilled given script (Faulty (no_value offset))
+  grown : {text : List ℕ} → substituted given script ≡ Ok text → 2 ^ 20 < length text → IsFilled given script (Faulty (too_large large.Script))
+  filled : {text : List ℕ} {found : Finding} → substituted given script ≡ Ok text → length text ≤ 2 ^ 20 → IsLexed text found → IsFilled given script found
+
+-- the script as it was read has at most 1,048,576 bytes, too
+pub data IsFound (given : List Named) (script : List ℕ) : Finding → Type 0 where
+  too_long : 2 ^ 20 < length script → IsFound given script (Faulty (too_large large.Script))
+  short : {found : Finding} → length script ≤ 2 ^ 20 → IsFilled given script found → IsFound given script found

@@ -10,6 +10,8 @@ use Rattle.pig_run.specs.declared.outcome.TooLarge.{TooLarge}
 -- What is refused: the words, the script, an input or an output.
 pub data Refusal : Type 0 where
   no_command no_script : Refusal
+  -- of the script as it was read, at this offset a value is missing
+  no_value : ℕ → Refusal
   no_token : ℕ → Refusal
   off_grammar : ℕ → Refusal
   -- of these statements, the one of this number has no typing
@@ -22,6 +24,7 @@ pub data Refusal : Type 0 where
 abbrev pub Names : Refusal → RunFault → Type 0
 Names no_command found = found ≡ fault.Usage
 Names no_script found = found ≡ fault.NoScript
+Names (no_value offset) found = found ≡ fault.Param offset
 Names (no_token offset) found = found ≡ fault.Lex offset
 Names (off_grammar n) found = found ≡ fault.Syntax n
 Names (untyped ss n) found = (kind : CheckKind) × IsFirstUntyped ss n kind × (found ≡ fault.Check n kind)
@@ -37,6 +40,7 @@ pub data Cause : Type 0 where
 abbrev pub cause_of : RunFault → Cause
 cause_of fault.Usage = by_refusal
 cause_of fault.NoScript = by_refusal
+cause_of (fault.Param offset) = by_refusal
 cause_of (fault.Lex offset) = by_refusal
 cause_of (fault.Syntax n) = by_refusal
 cause_of (fault.Check n kind) = by_refusal
@@ -54,6 +58,7 @@ abbrev pub status_of : Option RunFault → ℕ
 status_of None = 0
 status_of (Some fault.Usage) = 1
 status_of (Some fault.NoScript) = 2
+status_of (Some (fault.Param offset)) = 3
 status_of (Some (fault.Lex offset)) = 3
 status_of (Some (fault.Syntax n)) = 3
 status_of (Some (fault.Check n kind)) = 3

@@ -21,7 +21,7 @@ use Rattle.pig_driver.specs.Going.{AllTell, AreWon}
 use Rattle.pig_commit.specs.Committed.{LeftOpen, with_stored}
 use Rattle.pig_commit.specs.declared.parts.StorePart.{StorePart}
 use Rattle.pig_collect.specs.Collecting.{part_count}
-use Rattle.pig_keyed.specs.Keyed.{by_key}
+use Rattle.pig_rewrites.specs.Alike.{RunsAlike}
 use Rattle.pig_words.specs.declared.words.Command.{Command}
 use Rattle.pig_run.specs.declared.outcome.Counts.{Counts}
 use Rattle.pig_run.specs.declared.outcome.RunFault.{RunFault}
@@ -52,14 +52,14 @@ pub record IsUsable (hosts : ℕ) (command : Command) : Type 0 where
 pub record IsGiven (run : Run) (inputs : List Input) (kept : List Kept) (outs : List StorePart) (read shuffled : ℕ) (unmet : Option ℕ) : Type 0 where
   pub kept_valid : IsKept run.plan inputs kept
   pub outs_are : AreOutputsOf run.plan inputs kept (stores_of run.plan) outs
-  pub read_is : read ≡ lines_read run.plan inputs % 2 ^ 64
+  pub read_is : read ≡ lines_read run.stages.plan inputs % 2 ^ 64
   pub unmet_is : unmet ≡ first_unmet run.plan inputs kept
   pub run_of : IsRunOf run.stages inputs kept (map (λ out. out.parts) outs) shuffled
 
--- so it is of the script's plan, whichever the plan that is cut came from, and the inputs that all hosts tell
+-- so it is of the script's plan, whichever a run of the stages' plan does the same for, and the inputs that all hosts tell
 abbrev pub GivesAll : Stages → ℕ → Tellings → List Kept → List StorePart → ℕ → ℕ → Option ℕ → Type 0
 GivesAll s limit tellings kept outs read shuffled unmet =
-    (plan : Plan) → IsPlan plan → s.plan ≡ by_key plan → (inputs : List Input) → AllTell inputs tellings → AreOfBytes inputs
+    (plan : Plan) → RunsAlike plan s.plan → (inputs : List Input) → AllTell inputs tellings → AreOfBytes inputs
     → IsGiven (record { plan = plan; stages = s; limit = limit }) inputs kept outs read shuffled unmet
 
 -- the STOREs' parts are as many as their tasks, in the directories of the STOREs
@@ -89,15 +89,15 @@ pub record IsUnmetOver (plan : Plan) (inputs : List Input) (kept : List Kept) (n
 
 abbrev pub UnmetAll : Stages → Tellings → List Kept → ℕ → Type 0
 UnmetAll s tellings kept n =
-    (plan : Plan) → IsPlan plan → s.plan ≡ by_key plan → (inputs : List Input) → AllTell inputs tellings → AreOfBytes inputs → IsUnmetOver plan inputs kept n
+    (plan : Plan) → RunsAlike plan s.plan → (inputs : List Input) → AllTell inputs tellings → AreOfBytes inputs → IsUnmetOver plan inputs kept n
 
--- Why nothing is stored: a task failed, an ASSERT is not met, or memory was wanting.
-pub data EndsFinding (s : Stages) (limit : ℕ) (tellings : Tellings) (progress : Progress) : RunFault → Type 0 where
+-- Why nothing is stored: a task failed, an ASSERT of the script's plan is not met, or memory was wanting.
+pub data EndsFinding (plan : Plan) (s : Stages) (limit : ℕ) (tellings : Tellings) (progress : Progress) : RunFault → Type 0 where
   lost : {wave task failed : ℕ} → IsGivenUp limit s progress.ends wave task failed → progress.stands ≡ false → progress.said.items ≡ []
-      → EndsFinding s limit tellings progress (fault.TaskFailed wave task failed)
+      → EndsFinding plan s limit tellings progress (fault.TaskFailed wave task failed)
   not_met : {n : ℕ} → AreWon s progress.ends (length (heads s.plan)) → UnmetAll s tellings progress.kept n → progress.stands ≡ true
-      → progress.said.items ≡ said (assert_message s.plan n) → EndsFinding s limit tellings progress (fault.AssertFailed n)
-  no_room : HaveWon s progress.ends → progress.stands ≡ false → progress.said.items ≡ [] → EndsFinding s limit tellings progress fault.OutOfMemory
+      → progress.said.items ≡ said (assert_message plan n) → EndsFinding plan s limit tellings progress (fault.AssertFailed n)
+  no_room : HaveWon s progress.ends → progress.stands ≡ false → progress.said.items ≡ [] → EndsFinding plan s limit tellings progress fault.OutOfMemory
 
 -- the ASSERT of a statement has failed, and its message is said; or memory was wanting for that, and nothing has changed
 pub data HasFailedAssert (plan : Plan) (n : ℕ) (old new : Progress) : RunFault → Type 0 where

@@ -104,6 +104,7 @@ IsPlanFault found = Unit {0}
 
 -- reading a script ends by a refusal of it, or memory
 abbrev pub IsReadFault : RunFault → Type 0
+IsReadFault (fault.Param offset) = Unit {0}
 IsReadFault (fault.Lex offset) = Unit {0}
 IsReadFault (fault.Syntax n) = Unit {0}
 IsReadFault (fault.Check n kind) = Unit {0}

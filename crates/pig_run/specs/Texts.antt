@@ -13,7 +13,7 @@ use Rattle.pig_run.specs.declared.outcome.RunFault.{RunFault}
 use Rattle.pig_run.specs.declared.outcome.RunFault.TheVariants as fault
 use Rattle.pig_run.specs.declared.outcome.TooLarge.{TooLarge}
 use Rattle.pig_run.specs.declared.outcome.TooLarge.TheVariants as large
-use Rattle.pig_run.specs.Reading.{Prints, Refuses, Runs, Verdict}
+use Rattle.pig_run.specs.Reading.{Prints, Refuses, Runs, Verdict, Wants}
 
 abbrev pub kind_name : CheckKind → List ℕ
 kind_name kind.UnknownAlias = codes "UnknownAlias"
@@ -44,6 +44,7 @@ large_name large.Tasks = codes "tasks"
 abbrev pub fault_line : RunFault → List ℕ
 fault_line fault.Usage = codes "usage: pig run|explain|check SCRIPT | demo N [--workers N] [--reducers N] [--split BYTES] [--attempts N]"
 fault_line fault.NoScript = codes "pig: no script"
+fault_line (fault.Param offset) = codes "pig: offset " ++ decimal offset ++ codes ": parameter"
 fault_line (fault.Lex offset) = codes "pig: offset " ++ decimal offset ++ codes ": no token"
 fault_line (fault.Syntax n) = codes "pig: statement " ++ decimal n ++ codes ": syntax"
 fault_line (fault.Check n kind) = codes "pig: statement " ++ decimal n ++ codes ": " ++ kind_name kind
@@ -96,7 +97,8 @@ said_in plan (Some found) = said_of plan found
 abbrev pub said_behind : Verdict → Option RunFault → List ℕ
 said_behind (Refuses refusal) found = []
 said_behind (Prints text) found = []
-said_behind (Runs run) found = said_in run.stages.plan found
+said_behind (Runs run) found = said_in run.plan found
+said_behind Wants found = []
 
 -- ---- a run
 
@@ -124,6 +126,7 @@ abbrev pub due_text : Verdict → List StorePart → Counts → List ℕ
 due_text (Refuses refusal) outs counts = []
 due_text (Prints text) outs counts = text
 due_text (Runs run) outs counts = done_text outs counts
+due_text Wants outs counts = []
 
 -- what is printed of an answer
 abbrev pub answer_text : Verdict → List StorePart → Counts → Option RunFault → List ℕ

@@ -16,7 +16,7 @@ use Rattle.pig_run.specs.Due.{IsDue, Line}
 use Rattle.pig_run.specs.Ends.{Console, Ends, Fails, Shown, counts_shown}
 use Rattle.pig_commit.specs.declared.parts.StorePart.{StorePart}
 use Rattle.pig_run.specs.Outputs.{AreCounts, Left, no_counts}
-use Rattle.pig_run.specs.Reading.{Verdict, Prints, Refuses, Runs}
+use Rattle.pig_run.specs.Reading.{Verdict, Prints, Refuses, Runs, Wants}
 use Rattle.pig_run.specs.Refusals.{Names, by_assert, by_depot, by_memory, by_tasks, cause_of}
 use Rattle.pig_run.specs.Texts.{answer_text}
 
@@ -72,12 +72,14 @@ IsRight (Refuses refusal) None = ⊥
 IsRight (Refuses refusal) (Some found) = Names refusal found
 IsRight (Prints text) answer = answer ≡ None
 IsRight (Runs run) answer = Finishes answer
+IsRight Wants answer = ⊥
 
 -- how many failures of hosts may end it otherwise
 abbrev pub most_lost : Verdict → ℕ
 most_lost (Refuses refusal) = 1
 most_lost (Prints text) = 1
 most_lost (Runs run) = run.limit
+most_lost Wants = 1
 
 -- where the depot and the console did not fail, the hosts failed less often than the limit, and memory sufficed, what is due is answered
 abbrev pub Completes : Verdict → Seen → Seen → Option RunFault → Type 0
@@ -88,6 +90,7 @@ abbrev pub CountsAre : Type 0 → Verdict → Shelf → Left → Counts → Opti
 CountsAre tells (Refuses refusal) shelf left counts found = Unit {0}
 CountsAre tells (Prints text) shelf left counts found = found ≡ None → counts ≡ no_counts
 CountsAre tells (Runs run) shelf left counts found = found ≡ None → AreCounts tells run shelf.inputs left.kept left.outs counts
+CountsAre tells Wants shelf left counts found = Unit {0}
 
 -- Of these words and this shelf: what is due and what is asked for it; what was found, what was stored and counted; what stands; and what
 -- was shown and answered of it.
@@ -128,10 +131,14 @@ seen shelf calls faults host_faults text console_faults depot hosts console = re
 abbrev pub line_of : {H : Type 0} → List H → List (List ℕ) → Line
 line_of hosts words = record { hosts = length hosts; words = words }
 
--- each of the first hosts tells its inputs, as many as the command has workers
+-- it tells its inputs
+abbrev pub IsTold : Option (List Input) → Type 0
+IsTold inputs = (told : List Input) × (inputs ≡ Some told)
+
+-- each of the first hosts tells its inputs, and these are of bytes, as many as the command has workers
 abbrev pub CrewTells : {X : Type 0} → (X → Option (List Input)) → Command → List X → Type 0
 CrewTells inputs command hosts = AllByRecursion TellsInputs (map inputs (take command.workers hosts))
 
--- each host that works does
+-- each host that works tells its inputs
 abbrev pub AllTell : {X : Type 0} → (X → Option (List Input)) → Line → List X → Type 0
-AllTell inputs line hosts = (command : Command) → IsCommand line.hosts line.words command → CrewTells inputs command hosts
+AllTell inputs line hosts = (command : Command) → IsCommand line.hosts line.words command → AllByRecursion IsTold (map inputs (take command.workers hosts))

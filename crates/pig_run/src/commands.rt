@@ -1,6 +1,7 @@
 ghost use Rattle.std.specs.Prelude.{◌≡◌, ◌≢◌, length, map, IfErr, MatchResult};
 ghost use Rattle.std.specs.Option.{ForSome};
 ghost use Rattle.std.specs.List.{AllByRecursion};
+ghost use Rattle.pig_outside.specs.Shelf.{AreOfBytes};
 ghost use Rattle.pig_words.specs.declared.words.Command.{Command};
 ghost use Rattle.pig_run.specs.Blame.{HostsHaveWorked};
 ghost use Rattle.pig_run.specs.OwnRun.{DemoEnd};
@@ -55,9 +56,19 @@ pub fn run<R: Threads + Sync, D: Depot, H: Host + Send>(
     ensures asked { IsOrderly (found_in result) (D.calls depot.old) (D.calls depot.new) }
 {
     a_script_has_one_plan();
+    inputs_are_of_bytes(hosts);
     let command = read_command(alloc, line)?;
     match command.verb {
         Verb::Demo => demonstrate(rt, alloc, &command, progress),
         _ => run_script(rt, alloc, depot, hosts, command, progress),
+    }
+}
+
+/// What hosts tell of their inputs is of bytes.
+fn inputs_are_of_bytes<H: Host>(hosts: &[H])
+    ensures { AllByRecursion (λ inputs. ForSome inputs AreOfBytes) (map H.inputs hosts.now) }
+{
+    for host in hosts {
+        host.tells_bytes();
     }
 }

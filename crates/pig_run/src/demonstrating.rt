@@ -19,6 +19,7 @@ use crate::texts::top_bytes;
 use crate::{RunFault, TooLarge};
 use pig_check::a_script_has_one_plan;
 use pig_demo::{OwnDepot, SCRIPT_PATH, TOP_PATH, own_hosts};
+use pig_params::Params;
 use pig_value::{Blob, Text};
 use pig_words::{Command, Verb};
 use std::alloc::{AllocError, Global};
@@ -35,7 +36,7 @@ fn visits_of(command: &Command) -> u32
     visits
 }
 
-/// The run of the demonstration's script, with the numbers of a command.
+/// The run of the demonstration's script, with the numbers of a command and no parameters.
 fn script_run(alloc: Global, command: &Command) -> Result<Command, AllocError>
     ensures { IfOk result (λ run. run ≡ script_run command.now) }
 {
@@ -46,6 +47,7 @@ fn script_run(alloc: Global, command: &Command) -> Result<Command, AllocError>
         reducers: command.reducers,
         split: command.split,
         attempts: command.attempts,
+        params: Params::new(alloc),
     })
 }
 

@@ -22,9 +22,9 @@ use pig_collect::{
     Collected, collect, runs_read_lines, runs_tell_the_first_unmet, what_is_left_tells_the_same,
 };
 use pig_commit::StoreParts;
+use pig_counts::entries_are_due;
 use pig_cutter::stages_give_meaning;
 use pig_driver::{Ran, StagesFault, few_tasks_fit, have_stages, run_stages};
-use pig_keyed::keyed_plans_run_the_same;
 use pig_outside::Host;
 use pig_physical::Stages;
 use pig_plain::answers_are_stored_lines;
@@ -91,10 +91,11 @@ fn know_delimiters(stores: &[Store])
     }
 }
 
-/// What the waves of stages give to store. In `progress` stands how far they came, what was kept, and the numbers.
+/// What the waves of stages give to store, for a checked plan whose ASSERTs have their messages. In `progress` stands how far they came, what was kept, and the numbers.
 pub fn find<R: Threads + Sync, H: Host + Send>(
     rt: &R,
     alloc: Global,
+    checked: &Plan,
     stages: &Stages,
     stores: &Stores,
     hosts: &mut [H],
@@ -113,7 +114,8 @@ pub fn find<R: Threads + Sync, H: Host + Send>(
     ensures told { MatchResult result
         (λ parts. HasFound (staged stages.now) limit (map H.inputs hosts.old) stores.now parts
         progress.new)
-        (EndsFinding (staged stages.now) limit (map H.inputs hosts.old) progress.new) }
+        (EndsFinding (plan_of checked.now) (staged stages.now) limit (map H.inputs hosts.old)
+        progress.new) }
     ensures worked { HaveWorked H.inputs H.faults H.begun limit hosts.old hosts.new
         progress.new.ends (found_in result) }
     ensures notes { progress.new.notes ≡ [] }
@@ -121,7 +123,7 @@ pub fn find<R: Threads + Sync, H: Host + Send>(
     stages_give_meaning();
     runs_read_lines();
     runs_tell_the_first_unmet();
-    keyed_plans_run_the_same();
+    entries_are_due();
     answers_are_stored_lines();
     stages.plan().nodes();
     know_delimiters(stores.as_slice());
@@ -139,7 +141,7 @@ pub fn find<R: Threads + Sync, H: Host + Send>(
     progress.read = read;
     progress.shuffled = shuffled;
     match unmet {
-        Some(statement) => Err(fail_assert(alloc, stages.plan(), statement, progress)),
+        Some(statement) => Err(fail_assert(alloc, checked, statement, progress)),
         None => Ok(parts),
     }
 }

@@ -3,12 +3,11 @@ ghost use Rattle.std.specs.Option.{ForSome};
 ghost use Rattle.std.specs.List.{AllByRecursion, sum_by};
 ghost use Rattle.pig_outside.specs.declared.failing.Method.TheVariants as method;
 ghost use Rattle.pig_plan.specs.Plans.{PlanNode, plan_of};
-ghost use Rattle.pig_keyed.specs.Keyed.{by_key};
 ghost use Rattle.pig_reach.specs.Reach.{live_paths, stores_of};
 ghost use Rattle.pig_words.specs.CommandWords.{IsCommand};
 ghost use Rattle.pig_words.specs.declared.words.Command.{Command};
 ghost use Rattle.pig_check.specs.States.{StoresAreApart};
-ghost use Rattle.pig_run.specs.Due.{CommandDue, HasWords, InputsDue, OutputsDue, ScriptDue, SizeDue, TasksDue, call};
+ghost use Rattle.pig_run.specs.Due.{CommandDue, HasWords, InputsDue, OutputsDue, ScriptDue, SizeDue, TasksDue, call, given_by};
 ghost use Rattle.pig_run.specs.Looking.{HasSize, IsAbsentIn, IsPrepared, IsReady, LooksForInput, LooksForOutput, LooksForScript, LooksForSize, line_given, total_of};
 ghost use Rattle.pig_run.specs.Orderly.{AsksAll, AsksSome, LooksUp};
 ghost use Rattle.pig_run.specs.Steps.{DepotCause, IsPlanFault, Step, depot_fault_of};
@@ -20,11 +19,11 @@ use crate::line::CommandLine;
 use crate::reading::{Checked, MOST_SCRIPT, read_script};
 use crate::{RunFault, TooLarge};
 use pig_check::a_script_has_one_plan;
-use pig_keyed::{by_key, keyed_plans_run_the_same};
 use pig_outside::{Depot, OutsideError};
 use pig_physical::{Size, Sizes};
 use pig_plan::Plan;
 use pig_reach::{Stores, live_paths, stores};
+use pig_rewrites::rewrite;
 use pig_value::{Lengths, Text, WordFault};
 use pig_words::{Command, read_words};
 use std::alloc::Global;
@@ -81,7 +80,7 @@ pub fn load_script<D: Depot>(
     command: &Command,
 ) -> Result<Checked, RunFault>
     ensures told { ForSome (D.shelf depot.old) (λ s. Step
-        (ScriptDue command.now.operand s (CommandDue command.now s))
+        (ScriptDue (given_by command.now) command.now.operand s (CommandDue command.now s))
         (λ c. CommandDue command.now s c.statements (plan_of c.plan))
         (D.calls depot.old) (D.calls depot.new) result) }
     ensures apart { IfOk result (λ c. StoresAreApart (plan_of c.plan)) }
@@ -94,7 +93,7 @@ pub fn load_script<D: Depot>(
 {
     a_script_has_one_plan();
     let script = script_bytes(alloc, depot, command.operand.as_str())?;
-    read_script(alloc, script.as_slice())
+    read_script(alloc, script.as_slice(), &command.params)
 }
 
 /// The lengths of the pieces of the input at a path.
@@ -244,13 +243,35 @@ fn check_outputs<D: Depot>(alloc: Global, depot: &mut D, stores: &Stores) -> Res
     Ok(())
 }
 
-/// A plan that may be cut into tasks: each JOIN goes by key, its inputs are there, and the directories of its STOREs are
-/// not.
+/// A plan that may be cut into tasks: the checked plan, and that which it was rewritten to. Its inputs are there, and the
+/// directories of its STOREs are not.
 #[derive(Drop)]
 pub struct Prepared {
+    pub checked: Plan,
     pub plan: Plan,
     pub sizes: Sizes,
     pub stores: Stores,
+}
+
+/// A checked plan as what it is rewritten to.
+fn rewritten(alloc: Global, checked: Plan, sizes: Sizes) -> Result<Prepared, RunFault>
+    requires apart { StoresAreApart (plan_of checked) }
+    requires paths { map (λ size. size.path) sizes ≡ live_paths (plan_of checked) }
+    ensures prepared { IfOk result IsPrepared }
+    ensures checked { IfOk result (λ p. plan_of p.checked ≡ plan_of checked) }
+    ensures sizes { IfOk result (λ p. p.sizes ≡ sizes) }
+    ensures dirs { IfOk result (λ p. map (λ store. store.dir) p.stores
+        ≡ map (λ store. store.dir) (stores_of (plan_of checked))) }
+    ensures fault { IfErr result (λ f. f ≡ fault.OutOfMemory) }
+{
+    let plan = rewrite(alloc, &checked)?;
+    let stores = stores(alloc, &plan)?;
+    Ok(Prepared {
+        checked,
+        plan,
+        sizes,
+        stores,
+    })
 }
 
 /// What is to be cut of a plan, where nothing stands in its way.
@@ -261,23 +282,16 @@ pub fn prepare<D: Depot>(alloc: Global, depot: &mut D, plan: Plan) -> Result<Pre
         (D.calls depot.old) (D.calls depot.new) result) }
     ensures ready { ForSome (D.shelf depot.old) (λ s. IfOk result (IsReady s)) }
     ensures prepared { IfOk result IsPrepared }
-    ensures keyed { IfOk result (λ p. plan_of p.plan ≡ by_key (plan_of plan)) }
+    ensures checked { IfOk result (λ p. plan_of p.checked ≡ plan_of plan) }
     ensures fault { IfErr result IsPlanFault }
     ensures shelf { D.shelf depot.new ≡ D.shelf depot.old }
     ensures cause { DepotCause (D.faults depot.old) (D.faults depot.new) result }
     ensures stores { D.store_faults depot.new ≡ D.store_faults depot.old }
     ensures asked { LooksUp result (D.calls depot.old) (D.calls depot.new) }
 {
-    keyed_plans_run_the_same();
-    plan.nodes();
     let sizes = find_inputs(alloc, depot, &plan)?;
     check_size(&sizes)?;
     let stores = stores(alloc, &plan)?;
     check_outputs(alloc, depot, &stores)?;
-    let plan = by_key(alloc, plan)?;
-    Ok(Prepared {
-        plan,
-        sizes,
-        stores,
-    })
+    rewritten(alloc, plan, sizes)
 }

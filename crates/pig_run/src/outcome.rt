@@ -18,7 +18,11 @@ pub enum RunFault {
     /// The depot has no such script.
     #[error("there is no such script")]
     NoScript,
-    /// At this offset of the script, the first such, no token begins.
+    /// At this offset of the script as it was read, the first such, a name has no value, or a `%declare` or `%default`
+    /// begins that isn't whole.
+    #[error("a parameter is missing at byte {offset}")]
+    Param { offset: u64 },
+    /// At this offset of the script with the values of parameters in it, the first such, no token begins.
     #[error("no token begins at byte {offset}")]
     Lex { offset: u64 },
     /// The statement of this number, counted from 1, is the first that is off the grammar.
@@ -57,7 +61,7 @@ pub enum RunFault {
 /// What passes its limit.
 #[derive(Debug, Clone, Copy, PartialEq, Eq, Drop, Error)]
 pub enum TooLarge {
-    /// The script has more than 1,048,576 bytes.
+    /// The script has more than 1,048,576 bytes, as it was read or with the values of parameters in it.
     #[error("script")]
     Script,
     /// The script has more than 4,096 statements, empty ones included.
@@ -82,7 +86,10 @@ impl RunFault {
         match self {
             RunFault::Usage => 1,
             RunFault::NoScript => 2,
-            RunFault::Lex { .. } | RunFault::Syntax { .. } | RunFault::Check { .. } => 3,
+            RunFault::Param { .. }
+            | RunFault::Lex { .. }
+            | RunFault::Syntax { .. }
+            | RunFault::Check { .. } => 3,
             RunFault::NoInput { .. } => 4,
             RunFault::OutputExists { .. } => 5,
             RunFault::DepotFault { .. } => 6,

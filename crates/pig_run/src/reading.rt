@@ -1,15 +1,17 @@
-ghost use Rattle.std.specs.Prelude.{◌≡◌, ◌<◌, ◌≤◌, ◌^◌, ◌↔◌, length, IsTrue, IfErr, IfOk, All};
+ghost use Rattle.std.specs.Prelude.{◌≡◌, ◌<◌, ◌≤◌, ◌^◌, ◌↔◌, length, map, IsTrue, IfErr, IfOk, All};
 ghost use Rattle.pig_syntax.specs.Cutting.{AreStatements, IsWithin};
 ghost use Rattle.pig_parser.specs.Parsing.{IsShallow};
 ghost use Rattle.pig_syntax.specs.Formed.{StmtFormed};
 ghost use Rattle.pig_syntax.specs.Tokens.{HoldsNoLf};
 ghost use Rattle.pig_plan.specs.Plans.{plan_of};
 ghost use Rattle.pig_check.specs.States.{StoresAreApart};
-ghost use Rattle.pig_run.specs.Reading.{IsChecked, IsParsed, IsMeasured, IsLexed, IsFound};
+ghost use Rattle.pig_run.specs.Reading.{IsChecked, IsParsed, IsMeasured, IsLexed, IsFilled, IsFound};
+ghost use Rattle.pig_params.specs.Given.{named_of};
 ghost use Rattle.pig_run.specs.Steps.{IsReadFault, TellsPlan};
 
 use crate::{RunFault, TooLarge};
 use pig_check::{CheckFault, check, stores_are_apart};
+use pig_params::{ParamFault, Params, substitute};
 use pig_parser::{SyntaxFault, parse};
 use pig_plan::Plan;
 use pig_syntax::{
@@ -136,9 +138,25 @@ fn plan_of_script(alloc: Global, script: &[u8]) -> Result<Checked, RunFault>
     }
 }
 
-/// The plan of a script, or the first refusal that it meets.
-pub fn read_script(alloc: Global, script: &[u8]) -> Result<Checked, RunFault>
-    ensures told { TellsPlan (IsFound script.now) result }
+/// The plan of a script with the values of parameters in it.
+fn plan_of_filled(alloc: Global, script: &[u8], params: &Params) -> Result<Checked, RunFault>
+    ensures told { TellsPlan (IsFilled (map named_of params.now) script.now) result }
+    ensures apart { IfOk result (λ c. StoresAreApart (plan_of c.plan)) }
+    ensures fault { IfErr result IsReadFault }
+{
+    match substitute(alloc, script, params, MOST_SCRIPT) {
+        Ok(text) => plan_of_script(alloc, text.as_slice()),
+        Err(ParamFault::Missing { offset }) => Err(RunFault::Param { offset }),
+        Err(ParamFault::TooLong) => Err(RunFault::TooLarge {
+            which: TooLarge::Script,
+        }),
+        Err(ParamFault::OutOfMemory) => Err(RunFault::OutOfMemory),
+    }
+}
+
+/// The plan of a script with these parameters, or the first refusal that it meets.
+pub fn read_script(alloc: Global, script: &[u8], params: &Params) -> Result<Checked, RunFault>
+    ensures told { TellsPlan (IsFound (map named_of params.now) script.now) result }
     ensures apart { IfOk result (λ c. StoresAreApart (plan_of c.plan)) }
     ensures fault { IfErr result IsReadFault }
 {
@@ -147,5 +165,5 @@ pub fn read_script(alloc: Global, script: &[u8]) -> Result<Checked, RunFault>
             which: TooLarge::Script,
         });
     }
-    plan_of_script(alloc, script)
+    plan_of_filled(alloc, script, params)
 }

@@ -2,17 +2,15 @@ ghost use Rattle.std.specs.Prelude.{◌≡◌, ◌<◌, ◌≤◌, ◌⊎◌, �
 ghost use Rattle.std.specs.Option.{ForSome};
 ghost use Rattle.std.specs.List.{AllByRecursion, sum_by};
 ghost use Rattle.pig_plan.specs.Plans.{PlanNode, plan_of};
-ghost use Rattle.pig_plan.specs.Valid.{IsPlan};
 ghost use Rattle.pig_check.specs.States.{StoresAreApart};
-ghost use Rattle.pig_reach.specs.Reach.{stores_of};
 ghost use Rattle.pig_physical.specs.Seen.{cut_of, staged};
 ghost use Rattle.pig_cutter.specs.Limits.{has_too_many};
 ghost use Rattle.pig_driver.specs.Going.{TellSizes};
-ghost use Rattle.pig_keyed.specs.Keyed.{by_key};
+ghost use Rattle.pig_rewrites.specs.Reached.{IsReached};
 ghost use Rattle.pig_explain.specs.Explained.{explain_text};
 ghost use Rattle.pig_run.specs.Blame.{CrewHasWorked, HaveWorked};
-ghost use Rattle.pig_run.specs.Due.{CommandDue, InputsDue, NamesScript, ScriptDue, TasksDue};
-ghost use Rattle.pig_run.specs.Looking.{IsAbsentIn, IsPrepared, IsReady, are_apart};
+ghost use Rattle.pig_run.specs.Due.{CommandDue, InputsDue, NamesScript, ScriptDue, TasksDue, given_by};
+ghost use Rattle.pig_run.specs.Looking.{IsAbsentIn, IsPrepared, IsReady};
 ghost use Rattle.pig_run.specs.Orderly.{IsOrderly, IsOrderlyBehind, Makes};
 ghost use Rattle.pig_run.specs.Reading.{Run};
 ghost use Rattle.pig_run.specs.Running.{IsFresh, IsUsable, RunTold, RunsTold, counts_in, found_in};
@@ -32,11 +30,10 @@ use crate::{Counts, RunFault, TooLarge};
 use pig_check::a_script_has_one_plan;
 use pig_cutter::{CutFault, cut_plan};
 use pig_explain::explain;
-use pig_keyed::{copied_by_key, keyed_plans_run_the_same};
 use pig_outside::{Depot, Host};
 use pig_physical::Stages;
 use pig_plan::Plan;
-use pig_reach::Stores;
+use pig_rewrites::rewrite;
 use pig_value::Blob;
 use pig_words::{Command, Verb};
 use std::alloc::Global;
@@ -72,8 +69,8 @@ fn carry_out<R: Threads + Sync, D: Depot, H: Host + Send>(
     alloc: Global,
     depot: &mut D,
     hosts: &mut [H],
+    prepared: &Prepared,
     stages: &Stages,
-    stores: &Stores,
     limit: u32,
     progress: &mut Progress,
 ) -> Result<Blob, RunFault>
@@ -84,27 +81,33 @@ fn carry_out<R: Threads + Sync, D: Depot, H: Host + Send>(
     requires split { 0 < (staged stages.now).sizing.split }
     requires few { has_too_many (staged stages.now) ≡ false }
     requires sizes { TellSizes (staged stages.now) (map H.inputs hosts.old) }
-    requires stores { stores.now ≡ stores_of (staged stages.now).plan }
-    requires apart { are_apart stores.now ≡ true }
+    requires prepared { IsPrepared prepared.now }
+    requires plan { (staged stages.now).plan ≡ plan_of prepared.now.plan }
     requires absent { ForSome (D.shelf depot.old)
-        (λ s. AllByRecursion (IsAbsentIn s) stores.now) }
+        (λ s. AllByRecursion (IsAbsentIn s) prepared.now.stores) }
     requires tells { AllByRecursion (TellsOf (D.shelf depot.old)) (map H.inputs hosts.old) }
     requires fresh { IsFresh progress.old }
-    ensures told { ForSome (D.shelf depot.old) (λ s. (plan : List PlanNode)
-        → IsPlan plan → (staged stages.now).plan ≡ by_key plan
-        → RunsTold (record { plan = plan; stages = staged stages.now; limit = limit }) s
-        (AllByRecursion TellsInputs (map H.inputs hosts.old)) (D.calls depot.old)
+    ensures told { ForSome (D.shelf depot.old) (λ s.
+        RunsTold (record {
+          plan = plan_of prepared.now.checked;
+          stages = staged stages.now;
+          limit = limit;
+        }) s (AllByRecursion TellsInputs (map H.inputs hosts.old)) (D.calls depot.old)
         (D.calls depot.new) (D.shelf depot.new) progress.new result) }
     ensures fault { IfErr result IsLaterFault }
     ensures depot { DepotCause (D.faults depot.old) (D.faults depot.new) result }
     ensures stores { StoreBlame (D.store_faults depot.old) (D.store_faults depot.new) result }
     ensures worked { HaveWorked H.inputs H.faults H.begun limit hosts.old hosts.new
         progress.new.ends (found_in result) }
-    ensures asked { Makes (map (λ store. store.dir) stores.now) (found_in result)
+    ensures asked { Makes (map (λ store. store.dir) prepared.now.stores) (found_in result)
         (D.calls depot.old) (D.calls depot.new) }
 {
-    keyed_plans_run_the_same();
-    let parts = find(rt, alloc, stages, stores, hosts, limit, progress)?;
+    let Prepared {
+        checked,
+        stores,
+        ..
+    } = prepared;
+    let parts = find(rt, alloc, checked, stages, stores, hosts, limit, progress)?;
     let notes = note_all(alloc, &parts)?;
     progress.notes = notes;
     progress.stands = true;
@@ -157,8 +160,8 @@ fn perform<R: Threads + Sync, D: Depot, H: Host + Send>(
     requires ready { ForSome (D.shelf depot.old) (λ s. IsReady s prepared.now) }
     requires tells { AllByRecursion (TellsOf (D.shelf depot.old)) (map H.inputs hosts.old) }
     requires fresh { IsFresh progress.old }
-    ensures told { ForSome (D.shelf depot.old) (λ s. (plan : List PlanNode)
-        → IsPlan plan → plan_of prepared.now.plan ≡ by_key plan → RunTold (TasksDue command.now s plan) s
+    ensures told { ForSome (D.shelf depot.old) (λ s.
+        RunTold (TasksDue command.now s (plan_of prepared.now.checked)) s
         (AllByRecursion TellsInputs (map H.inputs hosts.old)) (D.calls depot.old)
         (D.calls depot.new) (D.shelf depot.new) progress.new result) }
     ensures fault { IfErr result IsLaterFault }
@@ -169,11 +172,9 @@ fn perform<R: Threads + Sync, D: Depot, H: Host + Send>(
     ensures asked { Makes (map (λ store. store.dir) prepared.now.stores) (found_in result)
         (D.calls depot.old) (D.calls depot.new) }
 {
-    keyed_plans_run_the_same();
     let stages = cut(alloc, command, prepared)?;
     let limit = command.attempts;
-    let stores = &prepared.stores;
-    carry_out(rt, alloc, depot, hosts, &stages, stores, limit, progress)
+    carry_out(rt, alloc, depot, hosts, prepared, &stages, limit, progress)
 }
 
 /// Looks for what stands in the way of a plan, and runs it.
@@ -202,7 +203,6 @@ fn run_plan<R: Threads + Sync, D: Depot, H: Host + Send>(
         hosts.old hosts.new progress.new.ends (found_in result) }
     ensures asked { IsOrderlyBehind (found_in result) (D.calls depot.old) (D.calls depot.new) }
 {
-    plan.nodes();
     let prepared = prepare(alloc, depot, plan)?;
     perform(rt, alloc, depot, hosts, command, &prepared, progress)
 }
@@ -245,15 +245,17 @@ fn print_check(alloc: Global, statements: u64) -> Result<Blob, RunFault>
     Ok(Blob::from_vec(text))
 }
 
-/// The text of a plan as it was checked and as it is cut, and of its waves.
+/// The text of a plan as it was checked and as it was rewritten, and of its waves.
 fn print_explain(alloc: Global, plan: &Plan) -> Result<Blob, RunFault>
+    requires apart { StoresAreApart (plan_of plan.now) }
     ensures { MatchResult result
-        (λ text. text ≡ explain_text (plan_of plan.now) (by_key (plan_of plan.now)))
+        (λ text. ((cut : List PlanNode) × IsReached (plan_of plan.now) cut
+        × (text ≡ explain_text (plan_of plan.now) cut)))
         (λ f. f ≡ fault.OutOfMemory) }
 {
-    let keyed = copied_by_key(alloc, plan)?;
+    let cut = rewrite(alloc, plan)?;
     let mut text = Vec::new(alloc);
-    explain(plan, &keyed, &mut text)?;
+    explain(plan, &cut, &mut text)?;
     Ok(Blob::from_vec(text))
 }
 
@@ -316,7 +318,7 @@ pub fn run_script<R: Threads + Sync, D: Depot, H: Host + Send>(
     requires tells { AllByRecursion (TellsOf (D.shelf depot.old)) (map H.inputs hosts.old) }
     requires fresh { IsFresh progress.old }
     ensures told { ForSome (D.shelf depot.old) (λ s.
-        RunTold (ScriptDue command.operand s (CommandDue command s)) s
+        RunTold (ScriptDue (given_by command) command.operand s (CommandDue command s)) s
         (CrewTells H.inputs command hosts.old) (D.calls depot.old)
         (D.calls depot.new) (D.shelf depot.new) progress.new result) }
     ensures fault { IfErr result IsLaterFault }

@@ -103,6 +103,9 @@ pub fn fault_bytes(alloc: Global, fault: &RunFault, said: &[u8]) -> Result<Vec<u
     match fault {
         RunFault::Usage => line_of(alloc, USAGE.as_bytes(), said),
         RunFault::NoScript => line_of(alloc, b"pig: no script", said),
+        RunFault::Param { offset } => {
+            number_line(alloc, b"pig: offset ", *offset, b": parameter", said)
+        }
         RunFault::Lex { offset } => {
             number_line(alloc, b"pig: offset ", *offset, b": no token", said)
         }

@@ -5,6 +5,7 @@ ghost use Rattle.pig_outside.specs.Calls.{DepotCall};
 ghost use Rattle.pig_outside.specs.Shelf.{Shelf};
 ghost use Rattle.pig_pool.specs.Wave.{failures_in};
 ghost use Rattle.pig_words.specs.declared.words.Command.{Command};
+ghost use Rattle.pig_run.specs.Decided.{Agrees};
 ghost use Rattle.pig_run.specs.Demonstration.{Demoed};
 ghost use Rattle.pig_run.specs.Due.{HasWords, IsDemo, IsDue, IsNoDemo, Line};
 ghost use Rattle.pig_run.specs.Ends.{Shown, counts_shown, unshown};
@@ -204,13 +205,14 @@ pub fn pig_main<R: Threads + Sync, D: Depot, H: Host + Send, C: Console>(
     }
 }
 
-/// Exactly one thing is due of the same words but a demonstration's, number of hosts and shelf: a refusal, which
-/// names its statement where one has no typing, or the run of a plan; and for it the depot is asked one list of calls.
+/// Something is due of words that are no demonstration's, a number of hosts and a shelf, and it is one thing: a refusal, which names its
+/// statement where one has no typing, or the run of a plan; and up to the commits the depot is asked one list of calls. Only the
+/// number of tasks rests on the plan that the checked one is rewritten to.
 pub fn one_verdict()
     ensures some { (line : Line) (shelf : Shelf) → IsNoDemo line
         → (calls : List DepotCall) × (verdict : Verdict) × IsDue line shelf calls verdict }
     ensures one { (line : Line) (shelf : Shelf) (calls others : List DepotCall) (v w : Verdict)
-        → IsDue line shelf calls v → IsDue line shelf others w → (v ≡ w) × (calls ≡ others) }
+        → IsDue line shelf calls v → IsDue line shelf others w → Agrees calls others v w }
 {
     a_script_has_one_plan();
 }

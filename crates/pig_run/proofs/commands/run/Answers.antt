@@ -4,13 +4,13 @@ use Rattle.pig_words.specs.CommandWords.{IsCommand}
 use Rattle.pig_words.specs.declared.words.Verb.TheVariants as verbs
 use Rattle.pig_run.specs.declared.outcome.RunFault.TheVariants as fault
 use Rattle.pig_run.specs.OwnRun.{DemoEnd}
-use Rattle.pig_run.specs.Due.{AreWords, CommandDue, HasWords, IsDue, ScriptDue}
+use Rattle.pig_run.specs.Due.{AreWords, CommandDue, HasWords, IsDue, ScriptDue, given_by}
 use Rattle.pig_run.specs.Looking.{line_given}
 use Rattle.pig_run.specs.Orderly.{AsksScript}
 use Rattle.pig_run.specs.Running.{IsUsable, RunEnd, found_in}
 use Rattle.pig_run.specs.Steps.{IsLaterFault}
 use Rattle.pig_run.specs.Told.{AllTell, CrewTells}
-use Rattle.pig_run.proofs.Crews.{hosts_idle, hosts_rested, hosts_worked, usable, words_fault}
+use Rattle.pig_run.proofs.Crews.{hosts_idle, hosts_rested, hosts_worked, told_are_bytes, usable, words_fault}
 use Rattle.pig_run.proofs.Deciding.{names_script, no_demo, same_command, some_due}
 use Rattle.pig_run.proofs.DemoSteps.{demo_blame, demo_cause, demo_unread, fewer_hosts, later_fault}
 use Rattle.pig_run.proofs.Ending.{end_behind, told_stopped}
@@ -27,7 +27,7 @@ pub demonstrate-requires-clause-count : goal.demonstrate-requires-clause-count
 demonstrate-requires-clause-count g c κs within =
     let is : IsCommand c.args.line.now.hosts c.args.line.now.words.now c.in_ok-command.command = search rules in
     let demo : c.in_ok-command.command.verb ≡ verbs.Demo = search rules in
-    is.makes.count demo
+    is.bare.makes.count demo
 
 pub demonstrate-requires-clause-usable : goal.demonstrate-requires-clause-usable
 demonstrate-requires-clause-usable g c κs within =
@@ -131,11 +131,12 @@ returns-in_default-clause-told g c s told other =
     let old = g.D.Depot.calls c.args.depot.now in
     let new = g.D.Depot.calls c.run_script.new.depot in
     let shelf = g.D.Depot.shelf c.run_script.new.depot in
-    let stage = ScriptDue command.operand s (CommandDue command s) in
+    let stage = ScriptDue (given_by command) command.operand s (CommandDue command s) in
     let is : IsCommand c.args.line.now.hosts c.args.line.now.words.now c.in_ok-command.command = search rules in
     let are : AreWords (line_given c.args.line.now) c.in_ok-command.command = record { is = is; scripted = names_script c.in_ok-command.command.verb (search rules) } in
     let passes = words_pass line s command are old in
-    let more : AllTell g.H.Host.inputs (line_given c.args.line.now) c.args.hosts.now → CrewTells g.H.Host.inputs c.in_ok-command.command c.args.hosts.now = λ all. all c.in_ok-command.command is in
+    let more : AllTell g.H.Host.inputs (line_given c.args.line.now) c.args.hosts.now → CrewTells g.H.Host.inputs c.in_ok-command.command c.args.hosts.now =
+    λ all. told_are_bytes g.H.Host.inputs c.in_ok-command.command.workers c.args.hosts.now c.inputs_are_of_bytes.ensures (all c.in_ok-command.command is) in
     MatchResult-weaker c.run_script.result (c.run_script.ensures.told s told)
     (λ text h. end_told crew tells more s (IsDue line s) old new shelf c.run_script.new.progress (Ok text) (end_behind (IsDue line s) stage s crew old old new shelf c.run_script.new.progress (Ok text) passes h))
     (λ f h. end_told crew tells more s (IsDue line s) old new shelf c.run_script.new.progress (Err f) (end_behind (IsDue line s) stage s crew old old new shelf c.run_script.new.progress (Err f) passes h))

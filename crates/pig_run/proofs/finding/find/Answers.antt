@@ -4,6 +4,7 @@ use Rattle.std.proofs.lemmas.List.{length-map}
 use Rattle.std.proofs.lemmas.Result.{MatchResult-weaker}
 use Rattle.pig_value.specs.Valid.{IsValue}
 use Rattle.pig_plan.specs.Laws.{PlanLiteralsAre}
+use Rattle.pig_plan.specs.Plans.{plan_of}
 use Rattle.pig_plan.specs.Valid.{IsPlan}
 use Rattle.pig_collect.specs.Collecting.{least}
 use Rattle.pig_physical.specs.Handed.{out_of, outs_of}
@@ -39,7 +40,7 @@ returns-in_err-ran-clause-told g c =
     let progress : Progress = record c.args.progress.now { ends = c.run_waves.new.ends } in
     let ended : MatchResult c.from_residual.result (λ _. ⊥) (WavesEnd c.args.limit (staged c.args.stages.now) c.run_waves.new.ends) = search rules in
     MatchResult-weaker c.from_residual.result ended (λ x h. absurd h)
-    (λ f h. waves_ends c.args.limit s tellings progress c.requires.fresh.stands c.requires.fresh.said f h)
+    (λ f h. waves_ends (plan_of c.args.checked.now) c.args.limit s tellings progress c.requires.fresh.stands c.requires.fresh.said f h)
 
 pub returns-in_err-collected-clause-told : goal.returns-in_err-collected-clause-told
 returns-in_err-collected-clause-told g c =
@@ -48,7 +49,7 @@ returns-in_err-collected-clause-told g c =
     let progress : Progress = record c.args.progress.now { ends = c.run_waves.new.ends } in
     let wanting : MatchResult c.from_residual-in_err-collected.result (λ _. ⊥) (λ f. f ≡ fault.OutOfMemory) = search rules in
     MatchResult-weaker c.from_residual-in_err-collected.result wanting (λ x h. absurd h)
-    (λ f h. subst (EndsFinding s c.args.limit tellings progress) (sym h) (no_room (won_all c.in_ok-ran.ensures.ended) c.requires.fresh.stands c.requires.fresh.said))
+    (λ f h. subst (EndsFinding (plan_of c.args.checked.now) s c.args.limit tellings progress) (sym h) (no_room (won_all c.in_ok-ran.ensures.ended) c.requires.fresh.stands c.requires.fresh.said))
 
 pub returns-in_err-collected-clause-worked : goal.returns-in_err-collected-clause-worked
 returns-in_err-collected-clause-worked g c =
@@ -67,9 +68,9 @@ returns-in-Some-clause-told g c =
     let over = c.in_ok-ran.ensures.run in
     let same = told_same s c.what_is_left_tells_the_same.ensures valid c.in_ok-ran.ensures.staged tellings (outs_of c.in_ok-ran.ran.outs) c.in_ok-ran.ran.shuffled over in
     let least_is : Some c.in-Some.statement ≡ least (all_unmet (outs_of c.in_ok-ran.ran.outs)) = search rules in
-    let told : HasFailedAssert (staged c.args.stages.now).plan c.in-Some.statement (record c.args.progress.now { ends = c.run_waves.new.ends; kept = c.in_ok-collected.collected.kept; read = c.in_ok-collected.collected.read; shuffled = c.in_ok-ran.ran.shuffled }) c.fail_assert.new.progress c.fail_assert.result = search rules in
-    assert_ends s c.in-Some.statement progress c.fail_assert.new.progress c.args.limit tellings c.fail_assert.result told c.in_ok-ran.ensures.ended
-    (unmet_all c.stages_give_meaning.ensures c.runs_read_lines.ensures c.runs_tell_the_first_unmet.ensures c.keyed_plans_run_the_same.ensures c.answers_are_stored_lines.ensures s valid literals
+    let told : HasFailedAssert (plan_of c.args.checked.now) c.in-Some.statement (record c.args.progress.now { ends = c.run_waves.new.ends; kept = c.in_ok-collected.collected.kept; read = c.in_ok-collected.collected.read; shuffled = c.in_ok-ran.ran.shuffled }) c.fail_assert.new.progress c.fail_assert.result = search rules in
+    assert_ends (plan_of c.args.checked.now) s c.in-Some.statement progress c.fail_assert.new.progress c.args.limit tellings c.fail_assert.result told c.in_ok-ran.ensures.ended
+    (unmet_all c.stages_give_meaning.ensures c.runs_read_lines.ensures c.runs_tell_the_first_unmet.ensures c.entries_are_due.ensures c.answers_are_stored_lines.ensures s valid literals
     c.in_ok-ran.ensures.staged c.requires.reducers.0 c.requires.split tellings over.whole over.run found.kept (same.kept found.kept c.in_ok-collected.ensures.kept) c.in-Some.statement
     (least_is ∙ ap least same.unmet))
     c.requires.fresh.stands c.requires.fresh.said
@@ -78,8 +79,8 @@ pub returns-in-Some-clause-worked : goal.returns-in-Some-clause-worked
 returns-in-Some-clause-worked g c =
     let found = c.in_ok-collected.collected in
     let progress : Progress = record c.args.progress.now { ends = c.run_waves.new.ends; kept = found.kept; read = found.read; shuffled = c.in_ok-ran.ran.shuffled } in
-    let told : HasFailedAssert (staged c.args.stages.now).plan c.in-Some.statement (record c.args.progress.now { ends = c.run_waves.new.ends; kept = c.in_ok-collected.collected.kept; read = c.in_ok-collected.collected.read; shuffled = c.in_ok-ran.ran.shuffled }) c.fail_assert.new.progress c.fail_assert.result = search rules in
-    let same = (assert_keeps (staged c.args.stages.now) c.in-Some.statement progress c.fail_assert.new.progress c.fail_assert.result told).0 in
+    let told : HasFailedAssert (plan_of c.args.checked.now) c.in-Some.statement (record c.args.progress.now { ends = c.run_waves.new.ends; kept = c.in_ok-collected.collected.kept; read = c.in_ok-collected.collected.read; shuffled = c.in_ok-ran.ran.shuffled }) c.fail_assert.new.progress c.fail_assert.result = search rules in
+    let same = (assert_keeps (plan_of c.args.checked.now) (staged c.args.stages.now) c.in-Some.statement progress c.fail_assert.new.progress c.fail_assert.result told).0 in
     subst (λ ends. HaveWorked g.H.Host.inputs g.H.Host.faults g.H.Host.begun c.args.limit c.args.hosts.now c.run_waves.new.hosts ends (Some c.fail_assert.result)) (sym same)
     (worked_on g.H.Host.inputs g.H.Host.faults g.H.Host.begun c.args.limit c.args.hosts.now c.run_waves.new.hosts c.run_waves.new.ends (Some c.fail_assert.result)
     (assert_no_task c.fail_assert.result told) c.in_ok-ran.ensures.worked)
@@ -88,8 +89,8 @@ pub returns-in-Some-clause-notes : goal.returns-in-Some-clause-notes
 returns-in-Some-clause-notes g c =
     let found = c.in_ok-collected.collected in
     let progress : Progress = record c.args.progress.now { ends = c.run_waves.new.ends; kept = found.kept; read = found.read; shuffled = c.in_ok-ran.ran.shuffled } in
-    let told : HasFailedAssert (staged c.args.stages.now).plan c.in-Some.statement (record c.args.progress.now { ends = c.run_waves.new.ends; kept = c.in_ok-collected.collected.kept; read = c.in_ok-collected.collected.read; shuffled = c.in_ok-ran.ran.shuffled }) c.fail_assert.new.progress c.fail_assert.result = search rules in
-    (assert_keeps (staged c.args.stages.now) c.in-Some.statement progress c.fail_assert.new.progress c.fail_assert.result told).1 ∙ c.requires.fresh.notes
+    let told : HasFailedAssert (plan_of c.args.checked.now) c.in-Some.statement (record c.args.progress.now { ends = c.run_waves.new.ends; kept = c.in_ok-collected.collected.kept; read = c.in_ok-collected.collected.read; shuffled = c.in_ok-ran.ran.shuffled }) c.fail_assert.new.progress c.fail_assert.result = search rules in
+    (assert_keeps (plan_of c.args.checked.now) (staged c.args.stages.now) c.in-Some.statement progress c.fail_assert.new.progress c.fail_assert.result told).1 ∙ c.requires.fresh.notes
 
 pub returns-in-None-clause-told : goal.returns-in-None-clause-told
 returns-in-None-clause-told g c =
@@ -110,7 +111,7 @@ returns-in-None-clause-told g c =
         dirs = c.in_ok-collected.ensures.dirs ∙ ap (map (λ store. store.dir)) same;
         counts = c.in_ok-collected.ensures.counts;
       };
-      gives = given_all c.stages_give_meaning.ensures c.runs_read_lines.ensures c.runs_tell_the_first_unmet.ensures c.keyed_plans_run_the_same.ensures c.answers_are_stored_lines.ensures s valid literals
+      gives = given_all c.stages_give_meaning.ensures c.runs_read_lines.ensures c.runs_tell_the_first_unmet.ensures c.entries_are_due.ensures c.answers_are_stored_lines.ensures s valid literals
           c.in_ok-ran.ensures.staged c.requires.reducers.0 c.requires.split tellings over.whole over.run found.kept (told.kept found.kept c.in_ok-collected.ensures.kept)
           c.args.stores.now c.requires.stores others found.parts (c.in_ok-collected.ensures.parts ∙ ap (λ given. map given (stores s.plan)) told.parts) c.args.limit found.read
           c.in_ok-ran.ran.shuffled None (c.in_ok-collected.ensures.read ∙ ap (λ n. n % 2 ^ 64) told.read) over.count (none ∙ ap least told.unmet);

@@ -2,16 +2,14 @@ use Rattle.std.proofs.Common.{rules, refl, ◌≡◌, ◌≤◌, ◌<◌, ◌^�
 use Rattle.std.proofs.lemmas.Result.{MatchResult-weaker}
 use Rattle.std.specs.List.{AllByRecursion}
 use Rattle.pig_plan.specs.Plans.{plan_of}
-use Rattle.pig_plan.specs.Valid.{IsPlan}
 use Rattle.pig_reach.specs.Reach.{live_paths, stores_of}
-use Rattle.pig_keyed.specs.Keyed.{by_key}
 use Rattle.pig_run.specs.declared.outcome.RunFault.TheVariants as fault
 use Rattle.pig_run.specs.declared.outcome.TooLarge.TheVariants as large
 use Rattle.pig_run.specs.Due.{InputsDue, OutputsDue, TasksDue, SizeDue}
-use Rattle.pig_run.specs.Looking.{HasSize, are_apart, total_of}
-use Rattle.pig_run.proofs.Apart.{stores_apart}
+use Rattle.pig_run.specs.Looking.{HasSize, IsAbsentIn, total_of}
 use Rattle.pig_run.specs.Steps.{Passes, StopsIn}
-use Rattle.pig_run.proofs.Ordering.{looks_both, looks_inputs, looks_stopped}
+use Rattle.pig_run.proofs.Ordering.{looks_behind, looks_inputs, looks_stopped}
+use Rattle.pig_run.proofs.Preparing.{dirs_behind, ends_behind, ready_behind}
 use Rattle.pig_run.proofs.Sizes.{size_passes, size_stops}
 use Rattle.pig_run.proofs.Stages.{passes_both, stops_both, wants}
 use Rattle.pig_run.proofs.looking.prepare.Goals as goal
@@ -57,25 +55,6 @@ returns-in_err-check_outputs-clause-told g c s told command =
     MatchResult-weaker c.from_residual-in_err-check_outputs.result stopped (λ p h. h)
     (λ f h. stops_both (InputsDue command s plan) (OutputsDue command s plan) old mid both new f h)
 
-pub returns-in_err-plan-clause-told : goal.returns-in_err-plan-clause-told
-returns-in_err-plan-clause-told g c s told command =
-    let plan = plan_of c.args.plan in
-    let old = g.D.Depot.calls c.args.depot.now in
-    let mid = g.D.Depot.calls c.find_inputs.new.depot in
-    let new = g.D.Depot.calls c.check_outputs.new.depot in
-    let told_mid : g.D.Depot.shelf c.find_inputs.new.depot ≡ Some s = c.find_inputs.ensures.shelf ∙ told in
-    let first : Passes (InputsDue command s (plan_of c.args.plan)) (SizeDue command s (plan_of c.args.plan)) (g.D.Depot.calls c.args.depot.now) (g.D.Depot.calls c.find_inputs.new.depot) = search rules in
-    let have : AllByRecursion (HasSize s) c.in_ok-sizes.sizes = search rules in
-    let paths : map (λ size. size.path) c.in_ok-sizes.sizes ≡ live_paths (plan_of c.args.plan) = search rules in
-    let few : total_of c.in_ok-sizes.sizes ≤ 2 ^ 26 = search rules in
-    let both = passes_both (InputsDue command s plan) (SizeDue command s plan) old mid first mid (OutputsDue command s plan) (size_passes command plan s c.in_ok-sizes.sizes paths have mid few) in
-    let last : Passes (OutputsDue command s (plan_of c.args.plan)) (TasksDue command s (plan_of c.args.plan)) (g.D.Depot.calls c.find_inputs.new.depot) (g.D.Depot.calls c.check_outputs.new.depot) = search rules in
-    let all = passes_both (InputsDue command s plan) (OutputsDue command s plan) old mid both new (TasksDue command s plan) last in
-    let wanting : MatchResult c.from_residual-in_err-plan.result (λ p. Passes (InputsDue command s (plan_of c.args.plan)) (TasksDue command s (plan_of c.args.plan)) (g.D.Depot.calls c.args.depot.now) (g.D.Depot.calls c.check_outputs.new.depot))
-    (λ f. f ≡ fault.OutOfMemory) = search rules in
-    MatchResult-weaker c.from_residual-in_err-plan.result wanting (λ p h. h)
-    (λ f h. stops_both (InputsDue command s plan) (TasksDue command s plan) old new all new f (wants (TasksDue command s plan) new new refl f h))
-
 pub returns-clause-told : goal.returns-clause-told
 returns-clause-told g c s told command =
     let plan = plan_of c.args.plan in
@@ -90,26 +69,16 @@ returns-clause-told g c s told command =
     let both = passes_both (InputsDue command s plan) (SizeDue command s plan) old mid first mid (OutputsDue command s plan) (size_passes command plan s c.in_ok-sizes.sizes paths have mid few) in
     let last : Passes (OutputsDue command s (plan_of c.args.plan)) (TasksDue command s (plan_of c.args.plan)) (g.D.Depot.calls c.find_inputs.new.depot) (g.D.Depot.calls c.check_outputs.new.depot) = search rules in
     let all = passes_both (InputsDue command s plan) (OutputsDue command s plan) old mid both new (TasksDue command s plan) last in
-    all
+    ends_behind _ _ c.rewritten.result (λ p. all)
+    (λ f h. stops_both (InputsDue command s plan) (TasksDue command s plan) old new all new f (wants (TasksDue command s plan) new new refl f h)) c.rewritten.ensures.fault
 
-pub returns-clause-prepared : goal.returns-clause-prepared
-returns-clause-prepared g c =
-    let paths : map (λ size. size.path) c.in_ok-sizes.sizes ≡ live_paths (plan_of c.args.plan) = search rules in
+pub returns-clause-ready : goal.returns-clause-ready
+returns-clause-ready g c s told =
+    let have : AllByRecursion (HasSize s) c.in_ok-sizes.sizes = search rules in
+    let absent : AllByRecursion (IsAbsentIn s) c.in_ok-stores.stores = search rules in
     let stores : c.in_ok-stores.stores ≡ stores_of (plan_of c.args.plan) = search rules in
-    let keyed : plan_of c.in_ok-plan.plan ≡ by_key (plan_of c.args.plan) = search rules in
-    let valid : IsPlan (plan_of c.args.plan) = search rules in
-    let same = c.keyed_plans_run_the_same.ensures (plan_of c.args.plan) valid in
-    record {
-      paths = paths ∙ sym same.paths ∙ sym (ap live_paths keyed);
-      stores = stores ∙ sym same.stores ∙ sym (ap stores_of keyed);
-      apart = ap are_apart stores ∙ stores_apart (plan_of c.args.plan) c.requires.apart;
-    }
-
-pub returns-in_err-plan-clause-asked : goal.returns-in_err-plan-clause-asked
-returns-in_err-plan-clause-asked g c =
-    let stops : IfOk c.from_residual-in_err-plan.result (λ _. ⊥) = search rules in
-    looks_stopped (map (λ store. store.dir) c.in_ok-stores.stores) c.check_outputs.result (g.D.Depot.calls c.args.depot.now) (g.D.Depot.calls c.find_inputs.new.depot) (g.D.Depot.calls c.check_outputs.new.depot)
-    c.find_inputs.ensures.asked c.check_outputs.ensures.asked c.from_residual-in_err-plan.result stops
+    ready_behind s c.in_ok-sizes.sizes c.in_ok-stores.stores c.rewritten.result have absent c.rewritten.ensures.sizes
+    (dirs_behind (stores_of (plan_of c.args.plan)) c.in_ok-stores.stores stores c.rewritten.result c.rewritten.ensures.dirs)
 
 pub returns-in_err-sizes-clause-asked : goal.returns-in_err-sizes-clause-asked
 returns-in_err-sizes-clause-asked g c =
@@ -134,5 +103,7 @@ returns-in_err-check_outputs-clause-asked g c =
 
 pub returns-clause-asked : goal.returns-clause-asked
 returns-clause-asked g c =
-    looks_both {T = Unit {0}} (map (λ store. store.dir) c.in_ok-stores.stores) (Ok tt) (g.D.Depot.calls c.args.depot.now) (g.D.Depot.calls c.find_inputs.new.depot) (g.D.Depot.calls c.check_outputs.new.depot)
-    c.find_inputs.ensures.asked c.in_ok-check_outputs.ensures.asked (record { plan = c.in_ok-plan.plan; sizes = c.in_ok-sizes.sizes; stores = c.in_ok-stores.stores }) refl c.in_ok-check_outputs.ensures.asked.whole
+    let stores : c.in_ok-stores.stores ≡ stores_of (plan_of c.args.plan) = search rules in
+    looks_behind {T = Unit {0}} (map (λ store. store.dir) c.in_ok-stores.stores) (Ok tt) (g.D.Depot.calls c.args.depot.now) (g.D.Depot.calls c.find_inputs.new.depot) (g.D.Depot.calls c.check_outputs.new.depot)
+    c.find_inputs.ensures.asked c.in_ok-check_outputs.ensures.asked c.rewritten.result c.in_ok-check_outputs.ensures.asked.whole
+    (dirs_behind (stores_of (plan_of c.args.plan)) c.in_ok-stores.stores stores c.rewritten.result c.rewritten.ensures.dirs)

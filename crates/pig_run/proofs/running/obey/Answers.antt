@@ -4,7 +4,6 @@ use Rattle.pig_plan.specs.Plans.{plan_of}
 use Rattle.pig_words.specs.declared.words.Verb.TheVariants as verbs
 use Rattle.pig_run.specs.Due.{CommandDue, InputsDue, check_due, explain_due}
 use Rattle.pig_run.specs.Running.{found_in}
-use Rattle.pig_keyed.specs.Keyed.{by_key}
 use Rattle.pig_explain.specs.Explained.{explain_text}
 use Rattle.pig_run.specs.Texts.{ok_text}
 use Rattle.pig_run.specs.Told.{CrewTells}
@@ -62,7 +61,7 @@ returns-in-Explain-clause-told g c s told =
     let stage = CommandDue r.command s r.checked.statements plan in
     let is : c.args.request.command.verb ≡ verbs.Explain = search rules in
     MatchResult-weaker c.print_explain.result c.print_explain.ensures
-    (λ text same. told_shown stage (explain_text plan (by_key plan)) (explain_due is) s tells now now shelf c.args.progress.now refl told c.requires.fresh text same)
+    (λ text shows. told_shown stage (explain_text plan shows.0) (explain_due is shows.1) s tells now now shelf c.args.progress.now refl told c.requires.fresh text shows.2)
     (λ f same. told_stopped stage (some_command_due r.command c.requires.scripted s r.checked.statements plan) s tells now now shelf c.args.progress.now told c.requires.fresh f (wants stage now now refl f same))
 
 pub returns-in-Explain-clause-worked : goal.returns-in-Explain-clause-worked

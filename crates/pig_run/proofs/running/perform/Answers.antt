@@ -2,7 +2,6 @@ use Rattle.std.proofs.Common.{rules, refl, ◌≡◌, ◌⊎◌, ◌≤◌, ◌<
 use Rattle.std.proofs.lemmas.Result.{IfErr-weaker, MatchResult-weaker}
 use Rattle.std.specs.List.{AllByRecursion}
 use Rattle.pig_plan.specs.Plans.{plan_of}
-use Rattle.pig_reach.specs.Reach.{stores_of}
 use Rattle.pig_cutter.specs.Limits.{has_too_many}
 use Rattle.pig_driver.specs.Going.{TellSizes}
 use Rattle.pig_physical.specs.Seen.{cut_of, staged}
@@ -37,28 +36,29 @@ carry_out-requires-clause-sizes g c κs within =
     (λ s told. are_fitting s p.sizes (plan_of p.plan) c.args.command.now.reducers c.args.command.now.split c.requires.prepared.paths (c.requires.ready s told).inputs)
     (map g.H.Host.inputs c.args.hosts.now) c.requires.tells)
 
-pub carry_out-requires-clause-stores : goal.carry_out-requires-clause-stores
-carry_out-requires-clause-stores g c κs within =
-    c.requires.prepared.stores ∙ sym (ap (λ cut. stores_of (staged cut).plan) c.in_ok-stages.ensures.stages)
+pub carry_out-requires-clause-plan : goal.carry_out-requires-clause-plan
+carry_out-requires-clause-plan g c κs within = ap (λ cut. (staged cut).plan) c.in_ok-stages.ensures.stages
 
 pub returns-in_err-stages-clause-told : goal.returns-in_err-stages-clause-told
-returns-in_err-stages-clause-told g c s told plan valid keyed =
+returns-in_err-stages-clause-told g c s told =
     let p = c.args.prepared.now in
+    let plan = plan_of p.checked in
     let command = c.args.command.now in
     let tells = AllByRecursion TellsInputs (map g.H.Host.inputs c.args.hosts.now) in
     let now = g.D.Depot.calls c.args.depot.now in
     let shelf = g.D.Depot.shelf c.args.depot.now in
     let stopped : MatchResult c.from_residual.result
-    (λ text. RunEnd (TasksDue c.args.command.now s plan) s (AllByRecursion TellsInputs (map g.H.Host.inputs c.args.hosts.now)) (g.D.Depot.calls c.args.depot.now) (g.D.Depot.calls c.args.depot.now)
+    (λ text. RunEnd (TasksDue c.args.command.now s (plan_of c.args.prepared.now.checked)) s (AllByRecursion TellsInputs (map g.H.Host.inputs c.args.hosts.now)) (g.D.Depot.calls c.args.depot.now) (g.D.Depot.calls c.args.depot.now)
     (g.D.Depot.shelf c.args.depot.now) c.args.progress.now (Ok text))
     (λ f. ((f ≡ fault.TooLarge large.Tasks) × (has_too_many (staged (cut_of c.args.prepared.now.plan c.args.prepared.now.sizes c.args.command.now.reducers c.args.command.now.split)) ≡ true)) ⊎ (f ≡ fault.OutOfMemory)) = search rules in
     MatchResult-weaker c.from_residual.result stopped (λ text h. h)
     (λ f h. told_stopped (TasksDue command s plan) (some_tasks command s plan) s tells now now shelf c.args.progress.now told c.requires.fresh f
-    (tasks_stop c.keyed_plans_run_the_same.ensures command s plan valid p.plan keyed p.sizes c.requires.prepared.paths (c.requires.ready s told).inputs now f h))
+    (tasks_stop command s plan p.plan c.requires.prepared.reached p.sizes c.requires.prepared.paths (c.requires.ready s told).inputs now f h))
 
 pub returns-clause-told : goal.returns-clause-told
-returns-clause-told g c s told plan valid keyed =
+returns-clause-told g c s told =
     let p = c.args.prepared.now in
+    let plan = plan_of p.checked in
     let command = c.args.command.now in
     let tells = AllByRecursion TellsInputs (map g.H.Host.inputs c.args.hosts.now) in
     let old = g.D.Depot.calls c.args.depot.now in
@@ -66,12 +66,12 @@ returns-clause-told g c s told plan valid keyed =
     let shelf = g.D.Depot.shelf c.carry_out.new.depot in
     let progress = c.carry_out.new.progress in
     let cut = c.in_ok-stages.ensures.stages in
-    let same = ap staged cut ∙ stages_are c.keyed_plans_run_the_same.ensures command s plan valid p.plan keyed p.sizes c.requires.prepared.paths (c.requires.ready s told).inputs in
-    let due = tasks_due c.keyed_plans_run_the_same.ensures command s plan valid p.plan keyed p.sizes c.requires.prepared.paths (c.requires.ready s told).inputs c.in_ok-stages.ensures.few in
-    MatchResult-weaker c.carry_out.result (c.carry_out.ensures.told s told plan valid (ap (λ cut. (staged cut).plan) cut ∙ keyed))
-    (λ text h. told_runs (TasksDue command s plan) (run_of command s plan) s tells old new shelf progress (Ok text) due
+    let same = ap staged cut ∙ stages_are command s plan p.plan c.requires.prepared.reached p.sizes c.requires.prepared.paths (c.requires.ready s told).inputs in
+    let due = tasks_due command s plan p.plan c.requires.prepared.reached p.sizes c.requires.prepared.paths (c.requires.ready s told).inputs c.in_ok-stages.ensures.few in
+    MatchResult-weaker c.carry_out.result (c.carry_out.ensures.told s told)
+    (λ text h. told_runs (TasksDue command s plan) (run_of command s plan (plan_of p.plan)) s tells old new shelf progress (Ok text) due
     (subst (λ stages. RunsEnd (record { plan = plan; stages = stages; limit = command.attempts }) s tells old new shelf progress (Ok text)) same h))
-    (λ f h. told_runs (TasksDue command s plan) (run_of command s plan) s tells old new shelf progress (Err f) due
+    (λ f h. told_runs (TasksDue command s plan) (run_of command s plan (plan_of p.plan)) s tells old new shelf progress (Err f) due
     (subst (λ stages. RunsEnd (record { plan = plan; stages = stages; limit = command.attempts }) s tells old new shelf progress (Err f)) same h))
 
 pub returns-in_err-stages-clause-fault : goal.returns-in_err-stages-clause-fault

@@ -1,9 +1,9 @@
-use Rattle.std.proofs.Common.{rules, ◌≡◌, Some, Ok, Err, IfOk, IfErr, MatchResult, map, ◌∙◌}
+use Rattle.std.proofs.Common.{rules, ◌≡◌, Some, Ok, Err, IfOk, IfErr, MatchResult, map, subst, ◌∙◌}
 use Rattle.std.proofs.lemmas.Result.{IfErr-weaker, MatchResult-weaker}
 use Rattle.std.specs.List.{AllByRecursion}
 use Rattle.pig_plan.specs.Plans.{plan_of}
 use Rattle.pig_run.specs.Due.{InputsDue, TasksDue}
-use Rattle.pig_run.specs.Running.{RunEnd, found_in}
+use Rattle.pig_run.specs.Running.{RunEnd, RunTold, found_in}
 use Rattle.pig_run.specs.Steps.{IsPlanFault, Passes, StopsIn}
 use Rattle.pig_run.specs.Told.{TellsInputs}
 use Rattle.pig_run.proofs.Crews.{idle_worked, plan_fault}
@@ -40,7 +40,11 @@ returns-clause-told g c s told =
     let told_mid : g.D.Depot.shelf c.prepare.new.depot ≡ Some s = c.prepare.ensures.shelf ∙ told in
     let passes : Passes (InputsDue c.args.command.now s (plan_of c.args.plan)) (TasksDue c.args.command.now s (plan_of c.args.plan)) (g.D.Depot.calls c.args.depot.now) (g.D.Depot.calls c.prepare.new.depot) =
     c.in_ok-prepared.ensures.told s told c.args.command.now in
-    MatchResult-weaker c.perform.result (c.perform.ensures.told s told_mid plan (search rules) c.in_ok-prepared.ensures.keyed)
+    let same : plan_of c.in_ok-prepared.prepared.checked ≡ plan_of c.args.plan = c.in_ok-prepared.ensures.checked in
+    let tasks : RunTold (TasksDue c.args.command.now s (plan_of c.args.plan)) s (AllByRecursion TellsInputs (map g.H.Host.inputs c.args.hosts.now)) (g.D.Depot.calls c.prepare.new.depot) (g.D.Depot.calls c.perform.new.depot)
+    (g.D.Depot.shelf c.perform.new.depot) c.perform.new.progress c.perform.result =
+    subst (λ cut. RunTold (TasksDue command s cut) s tells mid new shelf c.perform.new.progress c.perform.result) same (c.perform.ensures.told s told_mid) in
+    MatchResult-weaker c.perform.result tasks
     (λ text h. end_behind (InputsDue command s plan) (TasksDue command s plan) s tells old mid new shelf c.perform.new.progress (Ok text) passes h)
     (λ f h. end_behind (InputsDue command s plan) (TasksDue command s plan) s tells old mid new shelf c.perform.new.progress (Err f) passes h)
 

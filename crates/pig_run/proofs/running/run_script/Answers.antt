@@ -1,7 +1,7 @@
 use Rattle.std.proofs.Common.{rules, refl, ◌≡◌, [], ◌∷◌, Some, Ok, Err, IfOk, IfErr, MatchResult, ◌∙◌, arith}
 use Rattle.std.proofs.lemmas.Result.{IfErr-weaker, MatchResult-weaker}
 use Rattle.pig_plan.specs.Plans.{plan_of}
-use Rattle.pig_run.specs.Due.{CommandDue, ScriptDue}
+use Rattle.pig_run.specs.Due.{CommandDue, ScriptDue, given_by}
 use Rattle.pig_run.specs.Orderly.{AsksScript}
 use Rattle.pig_run.specs.Running.{RunEnd, found_in}
 use Rattle.pig_run.specs.Steps.{IsPlanFault, Passes, StopsIn}
@@ -25,18 +25,18 @@ returns-in_err-checked-clause-told g c s told =
     let new = g.D.Depot.calls c.load_script.new.depot in
     let shelf = g.D.Depot.shelf c.load_script.new.depot in
     let stopped : MatchResult c.from_residual.result
-    (λ text. RunEnd (ScriptDue c.args.command.operand s (CommandDue c.args.command s)) s (CrewTells g.H.Host.inputs c.args.command c.args.hosts.now) (g.D.Depot.calls c.args.depot.now) (g.D.Depot.calls c.load_script.new.depot)
+    (λ text. RunEnd (ScriptDue (given_by c.args.command) c.args.command.operand s (CommandDue c.args.command s)) s (CrewTells g.H.Host.inputs c.args.command c.args.hosts.now) (g.D.Depot.calls c.args.depot.now) (g.D.Depot.calls c.load_script.new.depot)
     (g.D.Depot.shelf c.load_script.new.depot) c.args.progress.now (Ok text))
-    (StopsIn (ScriptDue c.args.command.operand s (CommandDue c.args.command s)) (g.D.Depot.calls c.args.depot.now) (g.D.Depot.calls c.load_script.new.depot)) = search rules in
+    (StopsIn (ScriptDue (given_by c.args.command) c.args.command.operand s (CommandDue c.args.command s)) (g.D.Depot.calls c.args.depot.now) (g.D.Depot.calls c.load_script.new.depot)) = search rules in
     MatchResult-weaker c.from_residual.result stopped (λ text h. h)
-    (λ f h. told_stopped (ScriptDue command.operand s next) (some_script laws command.operand s next (some_command_due command c.requires.scripted s)) s tells old new shelf c.args.progress.now
+    (λ f h. told_stopped (ScriptDue (given_by command) command.operand s next) (some_script laws (given_by command) command.operand s next (some_command_due command c.requires.scripted s)) s tells old new shelf c.args.progress.now
     (c.load_script.ensures.shelf ∙ told) c.requires.fresh f h)
 
 pub returns-clause-told : goal.returns-clause-told
 returns-clause-told g c s told =
     let command = c.args.command in
     let checked = c.in_ok-checked.checked in
-    let stage = ScriptDue command.operand s (CommandDue command s) in
+    let stage = ScriptDue (given_by command) command.operand s (CommandDue command s) in
     let next = CommandDue command s checked.statements (plan_of checked.plan) in
     let tells = CrewTells g.H.Host.inputs c.args.command c.args.hosts.now in
     let old = g.D.Depot.calls c.args.depot.now in
@@ -44,7 +44,7 @@ returns-clause-told g c s told =
     let new = g.D.Depot.calls c.obey.new.depot in
     let shelf = g.D.Depot.shelf c.obey.new.depot in
     let told_mid : g.D.Depot.shelf c.load_script.new.depot ≡ Some s = c.load_script.ensures.shelf ∙ told in
-    let passes : Passes (ScriptDue c.args.command.operand s (CommandDue c.args.command s))
+    let passes : Passes (ScriptDue (given_by c.args.command) c.args.command.operand s (CommandDue c.args.command s))
     (CommandDue c.args.command s c.in_ok-checked.checked.statements (plan_of c.in_ok-checked.checked.plan)) (g.D.Depot.calls c.args.depot.now) (g.D.Depot.calls c.load_script.new.depot) = search rules in
     MatchResult-weaker c.obey.result (c.obey.ensures.told s told_mid)
     (λ text h. end_behind stage next s tells old mid new shelf c.obey.new.progress (Ok text) passes h)
