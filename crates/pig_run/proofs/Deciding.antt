@@ -19,7 +19,7 @@ use Rattle.pig_words.proofs.Decisions.{command_decided}
 use Rattle.pig_run.specs.declared.outcome.TooLarge.TheVariants as large
 use Rattle.pig_cutter.specs.Limits.{has_too_many}
 use Rattle.pig_run.specs.Due.{AreWords, CommandDue, HasWords, InputsDue, IsDemo, IsDue, IsNoDemo, Line, Looks, NamesScript, OutputsDue, PlanStage, RunDue, ScriptDue, SizeDue, Stage, TasksDue, call, check_due, explain_due, explain_wants, few, given_by, is_missing, making_of, no_words, passed, run_due, run_of, runs, script_found, script_missing, script_refused, size_of, small, stages_of, stopped, through, too_big, too_many, unreached, with_words}
-use Rattle.pig_run.specs.Decided.{AgreeOn, Agrees, made_for}
+use Rattle.pig_run.specs.Decided.{AgreeOn, Agrees, made_for, of_plans, same_plan, same_text}
 use Rattle.pig_run.specs.Reading.{Faulty, Finding, IsFound, Prints, Refuses, Run, Runs, Typed, Verdict, Wants}
 use Rattle.pig_run.specs.Texts.{ok_text}
 use Rattle.pig_run.specs.Refusals.{Refusal, no_command, no_input, no_script, output_there, too_large}
@@ -164,17 +164,17 @@ one_command_due command s n plan a _ v _ (run_due h due) (explain_due k reached)
 one_command_due command s n plan a _ v _ (run_due h due) (explain_wants k) = absurd (let e = sym h ∙ k in cc)
 one_command_due command s n plan a _ v _ (run_due h due) (check_due k) = absurd (let e = sym h ∙ k in cc)
 one_command_due command s n plan _ b _ w (explain_due h reached) (run_due k other) = absurd (let e = sym h ∙ k in cc)
-one_command_due command s n plan _ _ _ _ (explain_due h reached) (explain_due k also) = agree_at_once _ _ refl refl tt
-one_command_due command s n plan _ _ _ _ (explain_due h reached) (explain_wants k) = agree_at_once _ _ refl refl (tt, tt)
+one_command_due command s n plan _ _ _ _ (explain_due h reached) (explain_due k also) = agree_at_once _ _ refl refl same_plan
+one_command_due command s n plan _ _ _ _ (explain_due h reached) (explain_wants k) = agree_at_once _ _ refl refl (of_plans, tt)
 one_command_due command s n plan _ _ _ _ (explain_due h reached) (check_due k) = absurd (let e = sym h ∙ k in cc)
 one_command_due command s n plan _ b _ w (explain_wants h) (run_due k other) = absurd (let e = sym h ∙ k in cc)
-one_command_due command s n plan _ _ _ _ (explain_wants h) (explain_due k also) = agree_at_once _ _ refl refl (tt, tt)
+one_command_due command s n plan _ _ _ _ (explain_wants h) (explain_due k also) = agree_at_once _ _ refl refl (tt, of_plans)
 one_command_due command s n plan _ _ _ _ (explain_wants h) (explain_wants k) = agree_at_once _ _ refl refl (tt, tt)
 one_command_due command s n plan _ _ _ _ (explain_wants h) (check_due k) = absurd (let e = sym h ∙ k in cc)
 one_command_due command s n plan _ b _ w (check_due h) (run_due k other) = absurd (let e = sym h ∙ k in cc)
 one_command_due command s n plan _ _ _ _ (check_due h) (explain_due k also) = absurd (let e = sym h ∙ k in cc)
 one_command_due command s n plan _ _ _ _ (check_due h) (explain_wants k) = absurd (let e = sym h ∙ k in cc)
-one_command_due command s n plan _ _ _ _ (check_due h) (check_due k) = agree_at_once _ _ refl refl tt
+one_command_due command s n plan _ _ _ _ (check_due h) (check_due k) = agree_at_once _ _ refl refl same_text
 
 pub some_command_due : (command : Command) → NamesScript command.verb → (s : Shelf) (n : ℕ) (plan : Plan) → IsSome (CommandDue command s n plan)
 some_command_due command names s n plan = by_verb command.verb refl names
