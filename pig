@@ -1,6 +1,7 @@
 #!/bin/sh
 # Runs the proved program with the words given, and ends with its status. It is proved and built first where neither
-# this nor the gate has done so for these sources with this toolchain; where that fails, the status is 70.
+# this nor the gate has done so for these sources with this toolchain; where that fails, the status is 70. Where the script
+# is refused, standard error has the statement that is meant.
 root=$(cd "$(dirname "$0")" && pwd) || exit 70
 program=$root/crates/pig/out/pig
 built=$root/crates/pig/out/pig.sources
@@ -20,4 +21,12 @@ if [ ! -x "$program" ] || [ ! -e "$built" ] || touched; then
     fi
     printf '%s\n' "$sources" > "$built"
 fi
-exec "$program" "$@"
+# A limit on the length of files is a failure of the disk, and no signal.
+trap '' XFSZ
+"$program" "$@"
+status=$?
+# A refused script makes nothing, so its answer may be asked for again.
+if [ "$status" -eq 3 ] && command -v python3 > /dev/null; then
+    "$program" "$@" | "$root/tools/where" "$@"
+fi
+exit "$status"
