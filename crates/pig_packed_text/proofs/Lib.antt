@@ -1,0 +1,4 @@
+mod Front
+mod Joined
+mod Lines
+mod Rows

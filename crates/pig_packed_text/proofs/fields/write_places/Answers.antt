@@ -1,0 +1,13 @@
+use Rattle.std.proofs.Common.{◌≡◌, ◌∷◌, ◌++◌, ℕ, List, ap, map, rules}
+use Rattle.pig_packed_text.specs.SeenTexts.{seen_text, text_at}
+use Rattle.pig_packed_text.proofs.Joined.{all_written, behind}
+use Rattle.pig_packed_text.proofs.fields.write_places.Goals as goal
+
+pub returns : goal.returns
+returns c =
+    let first : List ℕ = text_at (map seen_text c.args.fields.now) c.in-Some.first.now in
+    let more : List (List ℕ) = map (text_at (map seen_text c.args.fields.now)) c.in-Some.more.now in
+    let whole : c.args.places.now ≡ c.in-Some.first.now ∷ c.in-Some.more.now = search rules in
+    let one : c.write_place.new.out.items ≡ c.args.out.now.items ++ first = search rules in
+    let others : c.write_more_places.new.out.items ≡ c.write_place.new.out.items ++ behind c.args.delim more = search rules in
+    all_written c.args.delim c.args.out.now.items c.write_place.new.out.items c.write_more_places.new.out.items first more (map (text_at (map seen_text c.args.fields.now)) c.args.places.now) (ap (map (text_at (map seen_text c.args.fields.now))) whole) one others
