@@ -19,6 +19,8 @@ impl Host for Pieces<'_> {
 
     ghost faults = { λ h. h.faults };
 
+    fn tells_bytes(&self) {}
+
     fn begin(&mut self, _wave: u32, _task: u32, _attempt: u32) -> Result<(), Failed> {
         Ok(())
     }
