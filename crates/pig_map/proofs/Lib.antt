@@ -3,3 +3,5 @@ mod Splitting
 mod Runs
 mod Fitted
 mod Shuffled
+mod Choices
+mod LentRows

@@ -1,3 +1,4 @@
 pub mod First
 pub mod Reading
 pub mod Making
+pub mod Choosing

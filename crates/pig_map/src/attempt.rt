@@ -22,6 +22,7 @@ ghost use Rattle.pig_physical.specs.declared.parts.Task.TheVariants as tasks;
 ghost use Rattle.pig_map.specs.Making.{FormBy, HasMade, HasRun, attempt_fault_of, handing_of};
 
 use crate::first::FirstPacked;
+use crate::lent::lent_text;
 use crate::parts::{operator, take_part};
 use crate::unmet::ascending;
 use pig_fitting::{loads_fit, map_forms_fit, parts_fit};
@@ -131,6 +132,9 @@ fn text_out<H: Host, S: Stop>(
     ensures begun { H.begun host.new ≡ H.begun host.old }
     ensures cause { HasCause (H.faults host.old) (H.faults host.new) result }
 {
+    if let Some(out) = lent_text(alloc, stages, task, prior, delim)? {
+        return Ok(Some(out));
+    }
     let mut sink = StoredText::new(alloc, delim);
     let Some(ran) = run(alloc, stages, task, prior, host, block, stop, &mut sink)? else {
         return Ok(None);

@@ -3,7 +3,9 @@
 
 mod attempt;
 mod calls;
+mod choosing;
 mod first;
+mod lent;
 mod never;
 mod parts;
 mod reading;

@@ -166,8 +166,8 @@ fn take_rows<K: Sink>(
     Ok(())
 }
 
-// The rows of an output, where it holds such.
-fn rows_of(prior: &Outs, wave: u32, at: u32) -> Option<&Packed>
+/// The rows of an output, where it holds such.
+pub fn rows_of(prior: &Outs, wave: u32, at: u32) -> Option<&Packed>
     ensures { option_map_or (λ rows. rows.now) result [] ≡ rows_at (outs_of prior.now) wave at }
 {
     match prior.get(wave as usize) {

@@ -1,0 +1,57 @@
+-- The text of an earlier wave's rows, as a task of a STORE hands it on.
+use Rattle.std.proofs.Common.{◌≡◌, ℕ, Bool, List, [], length, refl, sym, ◌∙◌, ap, subst, Option, Some}
+use Rattle.std.specs.Option.{option_map_or}
+use Rattle.std.specs.Ordering.{nat_cmp}
+use Rattle.pig_value.specs.declared.inputs.Input.{Input}
+use Rattle.pig_value.specs.Sorts.{sort}
+use Rattle.pig_value.specs.Texts.{rows_text}
+use Rattle.pig_value.specs.Trees.{Tree}
+use Rattle.pig_plan.specs.Asserts.{unmet_on}
+use Rattle.pig_plan.specs.Nodes.{Entering, op_at}
+use Rattle.pig_plan.specs.Plans.{Plan, PlanOp}
+use Rattle.pig_plan.specs.Steps.{AreFoldMarks, Folding, through}
+use Rattle.pig_stream.specs.Stepping.{marked_folding}
+use Rattle.pig_physical.specs.Combining.{folds}
+use Rattle.pig_physical.specs.Outs.{Form, Outs, o_bytes, rows_at}
+use Rattle.pig_physical.specs.Stages.{MapTask, Stages}
+use Rattle.pig_physical.specs.Values.{part_lines, part_rows}
+use Rattle.pig_physical.specs.declared.parts.Part.{Part}
+use Rattle.pig_physical.specs.declared.parts.Part.TheVariants as parts
+use Rattle.pig_map.specs.Choosing.{Chooses, chosen_rows}
+use Rattle.pig_map.specs.Making.{AreFrom, HasRun, MayGive}
+use Rattle.pig_map.specs.declared.choosing.Chosen.{Chosen}
+
+-- the rows of an output of an earlier wave are those of the part
+pub lent_from : (s : Stages) (told : Option (List Input)) (outs : Outs) (source : ℕ) (o : PlanOp) → op_at s.plan source ≡ Some o → (wave at : ℕ) (rows : List (List Tree))
+    → rows ≡ rows_at outs wave at → AreFrom s told outs source (parts.Output wave at) rows 0
+lent_from s told outs source o is wave at rows same = record {
+  rows_are = λ inputs reads. same ∙ sym (ap (λ p. option_map_or (part_rows inputs outs (parts.Output wave at)) p []) is);
+  lines_are = λ inputs reads. sym (ap (λ p. length (option_map_or (part_lines inputs (parts.Output wave at)) p [])) is);
+  given = subst (λ p. MayGive outs (parts.Output wave at) p rows) (sym is) same;
+}
+
+-- what marks of folding nodes stand for
+abbrev pub RowsByMarks : Type 0
+RowsByMarks = (folding : Folding) (folded : List Bool) → AreFoldMarks folding folded → (plan : Plan) (path : List ℕ) (rows : List (List Tree))
+    → through folding plan path rows ≡ through (marked_folding folded) plan path rows
+
+abbrev pub AssertsByMarks : Type 0
+AssertsByMarks = (folding : Folding) (folded : List Bool) → AreFoldMarks folding folded → (plan : Plan) (path : List ℕ) (rows : List (List Tree))
+    → unmet_on folding plan path rows ≡ unmet_on (marked_folding folded) plan path rows
+
+-- the text of what a path chooses is that of its task's rows
+pub lent_run : (s : Stages) (told : Option (List Input)) (outs : Outs) (t : MapTask) (way : Entering) → t.way ≡ way → (folded : List Bool) → AreFoldMarks (folds s.plan) folded
+    → RowsByMarks → AssertsByMarks → (c : Chosen) → Chooses (marked_folding folded) s.plan way.path.nodes c → (rows : List (List Tree))
+    → AreFrom s told outs way.path.source t.part rows 0 → (delim : ℕ) (text : List ℕ) (form : Form) (lines : ℕ) (unmet : List ℕ) → text ≡ rows_text delim (chosen_rows c rows)
+    → form ≡ o_bytes text → lines ≡ 0 → unmet ≡ [] → HasRun s told outs t (λ rows. form ≡ o_bytes (rows_text delim rows)) lines unmet
+lent_run s told outs t way is_way folded marks by_rows by_asserts c chooses rows from delim text form lines unmet is form_is none_read none_unmet =
+    let nodes : t.way.path.nodes ≡ way.path.nodes = ap (λ w. w.path.nodes) is_way in
+    let source : way.path.source ≡ t.way.path.source = ap (λ w. w.path.source) (sym is_way) in
+    record {
+      rows = rows;
+      from = subst (AreFrom s told outs t.way.path.source t.part rows) (sym none_read) (subst (λ k. AreFrom s told outs k t.part rows 0) source from);
+      taken = form_is ∙ ap o_bytes (is ∙ ap (rows_text delim) (sym (ap (λ ns. through (folds s.plan) s.plan ns rows) nodes
+          ∙ (by_rows (folds s.plan) folded marks s.plan way.path.nodes rows ∙ chooses.rows rows))));
+      unmet_are = none_unmet ∙ ap (sort nat_cmp) (sym (ap (λ ns. unmet_on (folds s.plan) s.plan ns rows) nodes
+          ∙ (by_asserts (folds s.plan) folded marks s.plan way.path.nodes rows ∙ chooses.asserts rows)));
+    }

@@ -1,0 +1,14 @@
+use Rattle.std.proofs.Common.{◌≡◌, ◌++◌, [], ◌∷◌, List, length, map}
+use Rattle.pig_value.specs.Trees.{Tree}
+use Rattle.pig_keycode.specs.Keys.{fields_at}
+use Rattle.pig_typed.specs.Blocks.{item_lists}
+use Rattle.pig_typed.specs.Products.{product}
+use Rattle.pig_typed.specs.Typed.{item_typed}
+use Rattle.pig_map.proofs.Choices.{AreLeft}
+use Rattle.pig_map.proofs.choosing.item_places.Given as goal
+
+abbrev pub invariant-loop-left : goal.invariant-loop-left
+invariant-loop-left l = AreLeft (map item_typed l.items) l.places.items (map item_typed l.left)
+
+abbrev pub decreases-loop-left : goal.decreases-loop-left
+decreases-loop-left l = length l.left
