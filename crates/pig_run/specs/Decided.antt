@@ -15,12 +15,12 @@ made_for v = []
 
 -- a text is that of a plan as it was checked and as it was rewritten
 pub data TellsPlans : List ℕ → Type 0 where
-  of_plans : {plan cut : Plan} → TellsPlans (explain_text plan cut)
+  of_plans : (plan cut : Plan) → TellsPlans (explain_text plan cut)
 
 -- Two texts are the same, or they tell the same checked plan.
 pub data AgreeInText : List ℕ → List ℕ → Type 0 where
   same_text : {text : List ℕ} → AgreeInText text text
-  same_plan : {plan cut other : Plan} → AgreeInText (explain_text plan cut) (explain_text plan other)
+  same_plan : (plan cut other : Plan) → AgreeInText (explain_text plan cut) (explain_text plan other)
 
 -- what rests on the plan that is cut: too many tasks, the run and the text of plans, and nothing as long as there is none
 abbrev pub IsOpen : Verdict → Type 0
