@@ -3,3 +3,5 @@
 
 #[cfg(test)]
 mod packing;
+#[cfg(test)]
+mod text;

@@ -24,7 +24,7 @@ fn any_row<R: Abort>(rt: &R, alloc: Global, number: u8) -> Tuple {
 }
 
 // A row, read back from its code.
-fn sound<R: Abort>(rt: &R, alloc: Global, any: &Tuple) -> Tuple
+pub fn sound<R: Abort>(rt: &R, alloc: Global, any: &Tuple) -> Tuple
     ensures { IsRow (row_tree result) }
 {
     let mut bytes = Vec::new(alloc);
