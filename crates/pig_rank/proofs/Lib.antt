@@ -1,0 +1,5 @@
+mod Keys
+mod Ranked
+mod Samples
+mod Sorted
+mod Steps
