@@ -1,7 +1,8 @@
 -- The order of rows by keys alone: it is total, it ties rows just where their key fields are the same, and what ORDER gives is sorted by it.
-use Rattle.std.specs.Prelude.{◌≡◌, false, Bool, List, [], ◌∷◌, refl}
+use Rattle.std.specs.Prelude.{◌≡◌, false, Bool, ◌&&◌, List, [], ◌∷◌, refl}
 use Rattle.std.proofs.Common.{ap, true≢false}
 use Rattle.std.specs.Cmp.{IsTotalOrder}
+use Rattle.std.specs.List.{list_all}
 use Rattle.std.specs.Ordering.{is_eq, is_gt, ordering_reverse, ordering_then}
 use Rattle.std.specs.declared.cmp.Ordering.{Ordering}
 use Rattle.std.specs.declared.cmp.Ordering.TheVariants.{Less, Equal, Greater}
@@ -18,6 +19,7 @@ use Rattle.pig_typed.specs.declared.blocks.SortKey.{SortKey}
 use Rattle.pig_typed.specs.Blocks.{keys_cmp}
 use Rattle.pig_plan.specs.Operators.{key_fields, order_rows, sort_keys_cmp}
 use Rattle.pig_plan.proofs.Ordered.{keys_total}
+use Rattle.pig_rank.specs.Walks.{has_same_field}
 
 all_tie : IsTotalOrder (sort_keys_cmp [])
 all_tie = record { antisymm = λ x y. refl; trans = λ x y z h k. absurd (cc); congr = λ x y z h. refl }
@@ -53,6 +55,19 @@ ties_are [] x y = refl
 ties_are (key ∷ keys) x y =
     then_ties (tree_cmp (at key.position x) (at key.position y)) (dir_cmp key.dir (at key.position x) (at key.position y)) (row_cmp (key_fields keys x) (key_fields keys y)) (sort_keys_cmp keys x y)
     (dir_ties key.dir (at key.position x) (at key.position y)) (ties_are keys x y)
+
+-- the test of the code
+pub fields_tie : (keys : List SortKey) (x y : List Tree) → list_all (has_same_field x y) keys ≡ is_eq (sort_keys_cmp keys x y)
+fields_tie [] x y = refl
+fields_tie (key ∷ keys) x y =
+    let a = at key.position x in
+    let b = at key.position y in
+    ap (λ rest. is_eq (tree_cmp a b) && rest) (fields_tie keys x y) ∙ both (is_eq (tree_cmp a b)) (dir_cmp key.dir a b) (sort_keys_cmp keys x y) (dir_ties key.dir a b)
+  where
+    both : (t : Bool) (r s : Ordering) → t ≡ is_eq r → (t && is_eq s) ≡ is_eq (ordering_then r s)
+    both t Less s e = ap (λ u. u && is_eq s) e
+    both t Equal s e = ap (λ u. u && is_eq s) e
+    both t Greater s e = ap (λ u. u && is_eq s) e
 
 -- ---- the order of ORDER
 

@@ -3,3 +3,4 @@ mod Ranked
 mod Samples
 mod Sorted
 mod Steps
+mod Words

@@ -1,17 +1,14 @@
 -- The ranks that the rows of a partition get behind its start are those in the whole, and ranked partitions are in turn the ranked whole.
-use Rattle.std.specs.Prelude.{◌≡◌, ◌+◌, ◌-◌, ◌%◌, ◌^◌, ℕ, suc, pos, Bool, true, false, Option, None, List, [], ◌∷◌, ◌++◌, length, map, take, zip, refl}
+use Rattle.std.specs.Prelude.{◌≡◌, ◌+◌, ℕ, suc, pos, Bool, true, false, Option, None, List, [], ◌∷◌, ◌++◌, length, zip, refl}
 use Rattle.std.proofs.Common.{ap, sym, ◌∙◌, subst, arith}
-use Rattle.std.specs.Int.{cast_signed, int_wrap, w64}
-use Rattle.std.specs.List.{filter, range_with_len}
 use Rattle.std.specs.List.Sorted.{IsPermutation}
 use Rattle.std.specs.Option.{option_map_or}
-use Rattle.std.proofs.Math.Nat.{mod-mod}
-use Rattle.std.proofs.lemmas.List.{append_assoc, append-nil, map-append}
+use Rattle.std.proofs.lemmas.List.{append_assoc, map-append}
 use Rattle.pig_value.specs.Elementwise.{Each}
 use Rattle.pig_value.specs.Functions.{long_of}
 use Rattle.pig_value.specs.Orders.{bag_of, row_cmp}
-use Rattle.pig_value.specs.Sorts.{sort, times}
-use Rattle.pig_value.specs.Trees.{Tree, v_long}
+use Rattle.pig_value.specs.Sorts.{times}
+use Rattle.pig_value.specs.Trees.{Tree}
 use Rattle.pig_value.proofs.OrderLaws.{row_same, row_total}
 use Rattle.pig_value.proofs.list_laws.Bags.{bag_from_permutation, sort_permutes}
 use Rattle.pig_typed.specs.declared.blocks.SortKey.{SortKey}
@@ -19,21 +16,12 @@ use Rattle.pig_typed.specs.Blocks.{keys_cmp}
 use Rattle.pig_plan.specs.Operators.{Setting, key_fields, order_rows, rank_of, rank_rows, sort_keys_cmp, stand_before}
 use Rattle.pig_plan.specs.Plans.{p_rank}
 use Rattle.pig_plan.proofs.Seen.{seen}
-use Rattle.pig_rank.specs.Ranks.{AreRanked, AreSorted, EachIsRanked, PartStart, Rows, distinct_keys, joined, last_row, ranked_among, start_behind, tail_of}
-use Rattle.pig_rank.specs.Walks.{and_row, rank_told, ranked_on}
+use Rattle.pig_rank.specs.Ranks.{AreRanked, AreSorted, EachIsRanked, PartStart, Rows, distinct_keys, joined, ranked_among, start_behind, tail_of}
+use Rattle.pig_rank.specs.Walks.{rank_told, ranked_on}
 use Rattle.pig_rank.proofs.Keys.{order_sorted, sort_total, ties_are}
 use Rattle.pig_rank.proofs.Sorted.{keys_up_to_it, last_behind, up_to_it}
+use Rattle.pig_rank.proofs.Words.{long_word, ranks_on}
 use Rattle.pig_rank.proofs.Steps.{further, one_row, starts_behind, up_to_row}
-
--- ---- numbers
-
--- a number and its remainder make the same long
-long_word : (n : ℕ) → long_of (pos (n % 2 ^ 64)) ≡ long_of (pos n)
-unfolding int_wrap
-long_word n = ap (λ k. v_long (cast_signed w64 k)) (mod-mod n (2 ^ 64))
-
-ranks_on : (b t l : ℕ) → b + t ≡ l → ((l % 2 ^ 64 + (2 ^ 64 - t % 2 ^ 64)) % 2 ^ 64 + 1) % 2 ^ 64 ≡ (b + 1) % 2 ^ 64
-ranks_on b t l h = omega (arith, h)
 
 module _ (keys : List SortKey) where
   -- ---- a row

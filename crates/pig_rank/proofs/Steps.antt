@@ -1,7 +1,14 @@
 -- What stands before a place of a sorted list, with one more row, with one more partition, and up to each partition.
-use Rattle.std.specs.Prelude.{◌≡◌, ◌<◌, ◌≤◌, ◌+◌, ◌-◌, ◌%◌, ◌^◌, ℕ, suc, Bool, true, false, Some, None, List, [], ◌∷◌, ◌++◌, length, map, take, refl}
+use Rattle.std.specs.Prelude.{◌≡◌, ◌<◌, ◌≤◌, ◌+◌, ◌^◌, ℕ, suc, Bool, not, Option, Some, None, List, [], ◌∷◌, ◌++◌, length, map, take, refl}
 use Rattle.std.proofs.Common.{ap, sym, ◌∙◌, subst, arith, cond}
-use Rattle.std.specs.List.{fold, range_with_len}
+use Rattle.std.specs.List.{filter, fold, range_with_len}
+use Rattle.std.specs.Option.{option_map_or}
+use Rattle.std.specs.Ordering.{is_eq}
+use Rattle.std.proofs.lemmas.List.{length-map}
+use Rattle.std.proofs.lemmas.List.Filters.{length-filter_both}
+use Rattle.std.proofs.lemmas.List.Sorted.{length_permutation}
+use Rattle.pig_value.specs.Sorts.{distinct, put}
+use Rattle.pig_value.proofs.list_laws.Bags.{put_permutes}
 use Rattle.std.proofs.lemmas.List.{append_assoc, append-nil, length-append}
 use Rattle.pig_value.specs.Orders.{row_cmp}
 use Rattle.pig_value.specs.Trees.{Tree}
@@ -10,31 +17,11 @@ use Rattle.pig_value.proofs.list_laws.Elementwise.{range_up}
 use Rattle.pig_typed.specs.declared.blocks.SortKey.{SortKey}
 use Rattle.pig_plan.specs.Operators.{key_fields, sort_keys_cmp}
 use Rattle.pig_rank.specs.declared.parts.Summary.{Summary}
-use Rattle.pig_rank.specs.Ranks.{ArePartsOf, AreSorted, PartStart, Rows, distinct_keys, joined, last_row, start_behind, starts_of, summary_of, summary_tree, tail_of}
+use Rattle.pig_rank.specs.Ranks.{ArePartsOf, AreSorted, PartStart, Rows, distinct_keys, first_row, joined, last_row, start_behind, starts_of, summary_of, summary_tree, tail_of, with_key_of}
 use Rattle.pig_rank.specs.Walks.{and_part, and_row, and_rows, behind_part, goes_on, nothing, starts_on}
 use Rattle.pig_rank.proofs.Keys.{sort_total, ties_are}
+use Rattle.pig_rank.proofs.Words.{counts_on, fits, keys_on, more_keys, more_tail, tail_on}
 use Rattle.pig_rank.proofs.Sorted.{front_ascends, keys_joined, last_behind, last_some, some_key, tail_joined, times_alone}
-
--- ---- numbers
-
-counts_on : (a b c : ℕ) → c ≡ a + b → (a % 2 ^ 64 + b) % 2 ^ 64 ≡ c % 2 ^ 64
-counts_on a b c h = omega (arith, h)
-
-keys_on : (b : Bool) (d e : ℕ) → e + cond b 1 0 ≡ d + 1 → cond b (d % 2 ^ 64) ((d % 2 ^ 64 + 1) % 2 ^ 64) ≡ e % 2 ^ 64
-keys_on true d e h = omega (arith, h)
-keys_on false d e h = omega (arith, h)
-
-tail_on : (b : Bool) (t u : ℕ) → u ≡ cond b t 0 + 1 → cond b ((t % 2 ^ 64 + 1) % 2 ^ 64) 1 ≡ u % 2 ^ 64
-tail_on true t u h = omega (arith, h)
-tail_on false t u h = omega (arith, h)
-
-more_keys : (b : Bool) (d p e : ℕ) → 1 ≤ p → e + cond b 1 0 ≡ d + p → (d % 2 ^ 64 + cond b (p - 1) p) % 2 ^ 64 ≡ e % 2 ^ 64
-more_keys true d p e some h = omega (arith, some, h)
-more_keys false d p e some h = omega (arith, some, h)
-
-more_tail : (b : Bool) (t p u : ℕ) → u ≡ cond b t 0 + p → (cond b (t % 2 ^ 64) 0 + p) % 2 ^ 64 ≡ u % 2 ^ 64
-more_tail true t p u h = omega (arith, h)
-more_tail false t p u h = omega (arith, h)
 
 module _ (keys : List SortKey) where
   -- ---- rows
@@ -121,3 +108,42 @@ module _ (keys : List SortKey) where
   -- what the summaries of partitions give
   pub starts_found : (parts : List Rows) (summaries : List Summary) → ArePartsOf keys parts summaries → starts_on keys nothing (map summary_tree summaries) ≡ starts_of keys parts
   starts_found parts summaries h = ap (starts_on keys nothing) h.0 ∙ starts_are [] parts h.1
+
+  -- ---- a summary
+
+  none_more : {X : Type 0} (p : X → Bool) (xs : List X) → length (filter p xs) ≤ length xs
+  none_more p xs = let both = length-filter_both p (λ x. not (p x)) (λ x. refl) xs in omega (arith, both)
+
+  fewer_keys : (ks : List (List Tree)) → length (distinct row_cmp ks) ≤ length ks
+  fewer_keys [] = omega arith
+  fewer_keys (k ∷ ks) =
+      let others = filter (λ l. not (is_eq (row_cmp k l))) (distinct row_cmp ks) in
+      let size : length (put row_cmp k others) ≡ suc (length others) = length_permutation (k ∷ others) (put row_cmp k others) (put_permutes row_cmp k others) in
+      let kept : length others ≤ length (distinct row_cmp ks) = none_more (λ l. not (is_eq (row_cmp k l))) (distinct row_cmp ks) in
+      let rest : length (distinct row_cmp ks) ≤ length ks = fewer_keys ks in
+      omega (arith, size, kept, rest)
+
+  keys_fit : (rows : Rows) → length (distinct_keys keys rows) ≤ length rows
+  keys_fit rows = let size = length-map rows (key_fields keys) in let fewer = fewer_keys (map (key_fields keys) rows) in omega (arith, size, fewer)
+
+  tail_fits : (rows : Rows) → tail_of keys rows ≤ length rows
+  tail_fits rows = of_last (last_row rows)
+    where
+      of_last : (o : Option (List Tree)) → option_map_or (λ row. length (with_key_of keys row rows)) o 0 ≤ length rows
+      of_last None = omega arith
+      of_last (Some row) = none_more (λ other. is_eq (sort_keys_cmp keys row other)) rows
+
+  -- what was passed from the first row on
+  pub summed : (rows : Rows) (passed : PartStart) (n : ℕ) (first last : Option (List Tree)) → AreSorted keys rows → n < 2 ^ 64 → n ≡ length rows → passed ≡ and_rows keys nothing rows
+      → first ≡ first_row rows → last ≡ passed.last → record { rows = n; keys = passed.dense; first = first; last = last; tail = passed.tail } ≡ summary_of keys rows
+  summed rows passed n first last sorted fits_word size is first_is last_is =
+      let all : passed ≡ start_behind keys rows = is ∙ from_nothing rows sorted in
+      let below : length rows < 2 ^ 64 = subst (λ m. m < 2 ^ 64) size fits_word in
+      (λ i. record { rows = size i; keys = (all i).dense; first = first_is i; last = (last_is ∙ (λ j. (all j).last)) i; tail = (all i).tail })
+      ∙ (λ i. record {
+        rows = length rows;
+        keys = fits (length (distinct_keys keys rows)) (length rows) (keys_fit rows) below i;
+        first = first_row rows;
+        last = last_row rows;
+        tail = fits (tail_of keys rows) (length rows) (tail_fits rows) below i;
+      })

@@ -5,7 +5,8 @@ use Rattle.std.specs.Option.{option_copied, option_map, option_map_or}
 use Rattle.std.specs.List.{fold}
 use Rattle.std.specs.Ordering.{is_eq}
 use Rattle.pig_value.specs.Functions.{long_of}
-use Rattle.pig_value.specs.Trees.{Tree, row_tree}
+use Rattle.pig_value.specs.Orders.{tree_cmp}
+use Rattle.pig_value.specs.Trees.{Tree, at, row_tree}
 use Rattle.pig_value.specs.declared.values.Value.{Value}
 use Rattle.pig_typed.specs.declared.blocks.SortKey.{SortKey}
 use Rattle.pig_plan.specs.Operators.{sort_keys_cmp}
@@ -21,6 +22,10 @@ passed_start p = record { rank = p.rows; dense = p.keys; last = found_row p.last
 
 abbrev pub nothing : PartStart
 nothing = record { rank = 0; dense = 0; last = None; tail = 0 }
+
+-- whether two rows have the same value in the field of a key
+abbrev pub has_same_field : List Tree → List Tree → SortKey → Bool
+has_same_field x y key = is_eq (tree_cmp (at key.position x) (at key.position y))
 
 -- whether a row has the key of the last one
 abbrev pub goes_on : List SortKey → Option (List Tree) → List Tree → Bool

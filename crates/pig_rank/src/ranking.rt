@@ -47,6 +47,7 @@ fn behind_rank(alloc: Global, rank: u64, row: &Tuple) -> Result<Tuple, AllocErro
 }
 
 /// The long of the same 64 bits.
+#[tactic(auto, using(crate::proofs::Words::long_number))]
 fn as_long(number: u64) -> i64
     ensures { result ≡ int_wrap w64 (pos number) }
 {

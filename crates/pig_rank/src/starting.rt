@@ -1,8 +1,9 @@
-ghost use Rattle.std.specs.Prelude.{◌≡◌, List, map, IfOk};
-ghost use Rattle.pig_rank.specs.Ranks.{ArePartsOf, Rows as RowTrees, start_tree, starts_of};
+ghost use Rattle.std.specs.Prelude.{◌≡◌, ◌++◌, List, map, IfOk, OnOk};
+ghost use Rattle.pig_rank.specs.Ranks.{ArePartsOf, Rows as RowTrees, start_tree, starts_of, summary_tree};
+ghost use Rattle.pig_rank.specs.Walks.{passed_start, starts_on};
 
 use crate::passing::Passed;
-use crate::{Starts, Summaries};
+use crate::{Starts, Summaries, Summary};
 use pig_typed::SortKeys;
 use std::alloc::{AllocError, Global};
 
@@ -13,10 +14,31 @@ pub fn find_starts(alloc: Global, parts: &Summaries, keys: &SortKeys) -> Result<
         → map start_tree starts ≡ starts_of keys.now rows) }
 {
     let mut starts = Starts::with_capacity(alloc, parts.len())?;
-    let mut passed = Passed::nothing();
-    for part in parts.as_slice() {
+    add_starts(
+        alloc,
+        Passed::nothing(),
+        parts.as_slice(),
+        keys,
+        &mut starts,
+    )?;
+    Ok(starts)
+}
+
+// Adds the starts of further partitions.
+fn add_starts<'p>(
+    alloc: Global,
+    before: Passed<'p>,
+    parts: &'p [Summary],
+    keys: &SortKeys,
+    starts: &mut Starts,
+) -> Result<(), AllocError>
+    ensures { OnOk result (map start_tree starts.new ≡ map start_tree starts.old
+        ++ starts_on keys.now (passed_start before.entry) (map summary_tree parts.now)) }
+{
+    let mut passed = before;
+    for part in parts {
         starts.push(passed.start(alloc)?)?;
         passed = passed.and_part(part, keys);
     }
-    Ok(starts)
+    Ok(())
 }

@@ -1,7 +1,7 @@
 ghost use Rattle.std.specs.Prelude.{◌≡◌, IfOk};
 ghost use Rattle.pig_value.specs.Trees.{rows_tree};
 ghost use Rattle.pig_rank.specs.Ranks.{AreSorted, summary_of, summary_tree};
-ghost use Rattle.pig_rank.specs.Walks.{and_rows, nothing, passed_start};
+ghost use Rattle.pig_rank.specs.Walks.{and_rows, passed_start};
 
 use crate::Summary;
 use crate::passing::{Passed, copy_found};
@@ -17,7 +17,7 @@ pub fn sum_up(alloc: Global, rows: &Rows, keys: &SortKeys) -> Result<Summary, Al
         → summary_tree summary ≡ summary_of keys.now (rows_tree rows.now)) }
 {
     let rows = rows.as_slice();
-    let passed = pass(rows, keys);
+    let passed = pass(Passed::nothing(), rows, keys);
     Ok(Summary {
         rows: rows.len() as u64,
         keys: passed.keys,
@@ -27,10 +27,12 @@ pub fn sum_up(alloc: Global, rows: &Rows, keys: &SortKeys) -> Result<Summary, Al
     })
 }
 
-fn pass<'r>(rows: &'r [Tuple], keys: &SortKeys) -> Passed<'r>
-    ensures { passed_start result ≡ and_rows keys.now nothing (rows_tree rows.now) }
+// What stands behind further rows.
+fn pass<'r>(before: Passed<'r>, rows: &'r [Tuple], keys: &SortKeys) -> Passed<'r>
+    ensures { passed_start result
+        ≡ and_rows keys.now (passed_start before.entry) (rows_tree rows.now) }
 {
-    let mut passed = Passed::nothing();
+    let mut passed = before;
     for row in rows {
         passed = passed.and_row(row, keys);
     }

@@ -1,0 +1,5 @@
+use Rattle.pig_rank.proofs.Keys.{order_sorted}
+use Rattle.pig_rank.proofs.laws.ordered_rows_are_sorted.Goals as goal
+
+pub returns : goal.returns
+returns c = order_sorted
