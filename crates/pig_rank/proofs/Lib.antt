@@ -1,6 +1,7 @@
-mod Keys
-mod Ranked
+pub mod Keys
+pub mod Ranked
 mod Samples
 mod Sorted
 mod Steps
 mod Words
+mod WrongBodies

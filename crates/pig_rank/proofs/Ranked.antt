@@ -1,9 +1,12 @@
 -- The ranks that the rows of a partition get behind its start are those in the whole, and ranked partitions are in turn the ranked whole.
-use Rattle.std.specs.Prelude.{◌≡◌, ◌+◌, ℕ, suc, pos, Bool, true, false, Option, None, List, [], ◌∷◌, ◌++◌, length, zip, refl}
+use Rattle.std.specs.Prelude.{◌≡◌, ◌+◌, ℕ, zero, suc, pos, Bool, true, false, Option, None, Some, List, [], ◌∷◌, ◌++◌, length, map, slice_get, zip, refl}
 use Rattle.std.proofs.Common.{ap, sym, ◌∙◌, subst, arith}
+use Rattle.std.specs.List.{AllByRecursion}
 use Rattle.std.specs.List.Sorted.{IsPermutation}
 use Rattle.std.specs.Option.{option_map_or}
-use Rattle.std.proofs.lemmas.List.{append_assoc, map-append}
+use Rattle.std.specs.Ordering.{is_lt}
+use Rattle.std.proofs.lemmas.List.{append_assoc, append-nil, map-append}
+use Rattle.std.proofs.lemmas.List.Sorted.{IsPermutation-map, length_permutation}
 use Rattle.pig_value.specs.Elementwise.{Each}
 use Rattle.pig_value.specs.Functions.{long_of}
 use Rattle.pig_value.specs.Orders.{bag_of, row_cmp}
@@ -11,6 +14,9 @@ use Rattle.pig_value.specs.Sorts.{times}
 use Rattle.pig_value.specs.Trees.{Tree}
 use Rattle.pig_value.proofs.OrderLaws.{row_same, row_total}
 use Rattle.pig_value.proofs.list_laws.Bags.{bag_from_permutation, sort_permutes}
+use Rattle.pig_value.proofs.list_laws.Distinct.{distinct_permuted}
+use Rattle.pig_value.proofs.list_laws.Listing.{some_same}
+use Rattle.pig_value.proofs.list_laws.Permutations.{IsPermutation-filter}
 use Rattle.pig_typed.specs.declared.blocks.SortKey.{SortKey}
 use Rattle.pig_typed.specs.Blocks.{keys_cmp}
 use Rattle.pig_plan.specs.Operators.{Setting, key_fields, order_rows, rank_of, rank_rows, sort_keys_cmp, stand_before}
@@ -19,7 +25,7 @@ use Rattle.pig_plan.proofs.Seen.{seen}
 use Rattle.pig_rank.specs.Ranks.{AreRanked, AreSorted, EachIsRanked, PartStart, Rows, distinct_keys, joined, ranked_among, start_behind, tail_of}
 use Rattle.pig_rank.specs.Walks.{rank_told, ranked_on}
 use Rattle.pig_rank.proofs.Keys.{order_sorted, sort_total, ties_are}
-use Rattle.pig_rank.proofs.Sorted.{keys_up_to_it, last_behind, up_to_it}
+use Rattle.pig_rank.proofs.Sorted.{back_ascends, front_ascends, keys_up_to_it, last_behind, up_to_it}
 use Rattle.pig_rank.proofs.Words.{long_word, ranks_on}
 use Rattle.pig_rank.proofs.Steps.{further, one_row, starts_behind, up_to_row}
 
@@ -65,6 +71,11 @@ module _ (keys : List SortKey) where
 
   -- ---- partitions
 
+  pub parts_sorted : (parts : List Rows) → AreSorted keys (joined parts) → AllByRecursion (AreSorted keys) parts
+  parts_sorted [] h = tt
+  parts_sorted (part ∷ parts) h =
+      (front_ascends (sort_keys_cmp keys) (sort_total keys) part (joined parts) h, parts_sorted parts (back_ascends (sort_keys_cmp keys) (sort_total keys) part (joined parts) h))
+
   each_ranked : (dense : Bool) (whole earlier : Rows) (parts ranked : List Rows) → whole ≡ earlier ++ joined parts → AreSorted keys whole
       → Each (λ part made. AreRanked keys dense part.0 part.1 made) (zip (starts_behind keys earlier parts) parts) ranked → joined ranked ≡ ranked_among keys dense whole (joined parts)
   each_ranked dense whole earlier [] [] is h each = refl
@@ -80,7 +91,34 @@ module _ (keys : List SortKey) where
   pub by_partitions : (dense : Bool) (parts ranked : List Rows) → AreSorted keys (joined parts) → EachIsRanked keys dense parts ranked → joined ranked ≡ rank_rows keys dense (joined parts)
   by_partitions dense parts ranked h each = each_ranked dense (joined parts) [] parts ranked refl h each
 
+  -- the partition at a place
+  ranked_at : (dense : Bool) (whole earlier : Rows) (parts : List Rows) (i : ℕ) (start : PartStart) (part ranked : Rows) → whole ≡ earlier ++ joined parts → AreSorted keys whole
+      → slice_get (starts_behind keys earlier parts) i ≡ Some start → slice_get parts i ≡ Some part → AreRanked keys dense start part ranked → ranked ≡ ranked_among keys dense whole part
+  ranked_at dense whole earlier [] i start part ranked is h begins at made = absurd (cc)
+  ranked_at dense whole earlier (first ∷ parts) zero start part ranked is h begins at made =
+      let same : first ≡ part = some_same first part at in
+      let starts : start ≡ start_behind keys earlier = sym (some_same (start_behind keys (earlier ++ [])) start begins) ∙ ap (start_behind keys) (append-nil earlier) in
+      let grouped : whole ≡ (earlier ++ part) ++ joined parts = is ∙ sym (append_assoc earlier first (joined parts)) ∙ ap (λ p. (earlier ++ p) ++ joined parts) same in
+      made earlier (joined parts) (subst (AreSorted keys) grouped h) starts ∙ ap (λ w. ranked_among keys dense w part) (sym grouped)
+  ranked_at dense whole earlier (first ∷ parts) (suc i) start part ranked is h begins at made =
+      ranked_at dense whole (earlier ++ first) parts i start part ranked (is ∙ sym (append_assoc earlier first (joined parts))) h
+      (ap (λ starts. slice_get starts (suc i)) (sym (further keys earlier first parts)) ∙ begins) at made
+
+  pub in_the_whole : (dense : Bool) (parts : List Rows) (i : ℕ) (start : PartStart) (part ranked : Rows) → AreSorted keys (joined parts)
+      → slice_get (starts_behind keys [] parts) i ≡ Some start → slice_get parts i ≡ Some part → AreRanked keys dense start part ranked → ranked ≡ ranked_among keys dense (joined parts) part
+  in_the_whole dense parts i start part ranked h begins at made = ranked_at dense (joined parts) [] parts i start part ranked refl h begins at made
+
   -- ---- bags
+
+  pub rank_sees_bags : (dense : Bool) (rows others : Rows) (row : List Tree) → IsPermutation rows others → rank_of keys dense rows row ≡ rank_of keys dense others row
+  rank_sees_bags dense rows others row h = counted dense (IsPermutation-filter (λ other. is_lt (sort_keys_cmp keys other row)) rows others h)
+    where
+      counted : (dense : Bool) → IsPermutation (stand_before keys rows row) (stand_before keys others row) → rank_of keys dense rows row ≡ rank_of keys dense others row
+      counted true before =
+          ap (λ ks. long_of (pos (length ks + 1)))
+          (distinct_permuted row_cmp row_total row_same (map (key_fields keys) (stand_before keys rows row)) (map (key_fields keys) (stand_before keys others row))
+          (IsPermutation-map (key_fields keys) (stand_before keys rows row) (stand_before keys others row) before))
+      counted false before = ap (λ n. long_of (pos (n + 1))) (sym (length_permutation (stand_before keys rows row) (stand_before keys others row) before))
 
   abbrev setting : Setting
   setting = record { inputs = []; kept = λ statement. []; width = λ input. 0; sorted = λ input. false }

@@ -7,32 +7,32 @@ use Rattle.pig_typed.specs.declared.blocks.SortKey.{SortKey}
 use Rattle.pig_plan.specs.Operators.{order_rows, rank_rows}
 use Rattle.pig_rank.specs.Ranks.{Rows, ranked_among, starts_of, summary_of}
 
-abbrev int : ℕ → Tree
+abbrev pub int : ℕ → Tree
 int n = v_int (pos n)
 
-abbrev long : ℕ → Tree
+abbrev pub long : ℕ → Tree
 long n = v_long (pos n)
 
-abbrev row : Tree → ℕ → List Tree
+abbrev pub row : Tree → ℕ → List Tree
 row key byte = key ∷ v_chars (byte ∷ []) ∷ []
 
 -- (3, a), (1, b), (3, c), (, d) by the first field, descending
-abbrev keys : List SortKey
+abbrev pub keys : List SortKey
 keys = record { position = 0; dir = dir.Desc } ∷ []
 
-abbrev a : List Tree
+abbrev pub a : List Tree
 a = row (int 3) 97
 
-abbrev b : List Tree
+abbrev pub b : List Tree
 b = row (int 1) 98
 
-abbrev c : List Tree
+abbrev pub c : List Tree
 c = row (int 3) 99
 
-abbrev d : List Tree
+abbrev pub d : List Tree
 d = row v_null 100
 
-abbrev sorted : Rows
+abbrev pub sorted : Rows
 sorted = a ∷ c ∷ b ∷ d ∷ []
 
 ordered : order_rows keys (a ∷ b ∷ c ∷ d ∷ []) ≡ sorted
@@ -66,6 +66,6 @@ unfolding int_wrap
 dense_ranks = refl
 
 -- a partition's rows among all
-of_one_partition : ranked_among keys false sorted (c ∷ b ∷ []) ≡ (long 1 ∷ c) ∷ (long 3 ∷ b) ∷ []
+pub of_one_partition : ranked_among keys false sorted (c ∷ b ∷ []) ≡ (long 1 ∷ c) ∷ (long 3 ∷ b) ∷ []
 unfolding int_wrap
 of_one_partition = refl

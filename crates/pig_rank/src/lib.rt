@@ -12,9 +12,11 @@ mod ranking;
 mod same;
 mod starting;
 mod summing;
+mod threads;
 
 pub use laws::{ordered_rows_are_sorted, ranks_go_by_partitions, ranks_see_bags};
 pub use parts::{Start, Starts, Summaries, Summary};
 pub use ranking::rank_rows;
 pub use starting::find_starts;
 pub use summing::sum_up;
+pub use threads::parts_cross_threads;

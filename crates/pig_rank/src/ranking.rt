@@ -1,8 +1,9 @@
-ghost use Rattle.std.specs.Prelude.{◌≡◌, ◌<◌, ◌^◌, ◌∷◌, pos, IfOk};
+ghost use Rattle.std.specs.Prelude.{◌≡◌, ◌∷◌, pos, IfOk};
 ghost use Rattle.std.specs.Int.{int_wrap, w64};
 ghost use Rattle.pig_value.specs.Functions.{long_of};
 ghost use Rattle.pig_value.specs.Trees.{row_tree, rows_tree};
 ghost use Rattle.pig_rank.specs.Ranks.{AreRanked, start_tree};
+ghost use Rattle.pig_rank.specs.Walks.{passed_start, ranked_on};
 
 use crate::Start;
 use crate::passing::Passed;
@@ -24,9 +25,23 @@ pub fn rank_rows(
     ensures { IfOk result (λ ranked. AreRanked keys.now dense (start_tree start.now)
         (rows_tree rows.now) (rows_tree ranked)) }
 {
+    ranked_behind(alloc, Passed::before(start), rows.as_slice(), keys, dense)
+}
+
+// Rows behind their ranks, where so much stands before them.
+fn ranked_behind<'r>(
+    alloc: Global,
+    before: Passed<'r>,
+    rows: &'r [Tuple],
+    keys: &SortKeys,
+    dense: bool,
+) -> Result<Rows, AllocError>
+    ensures { IfOk result (λ ranked. rows_tree ranked
+        ≡ ranked_on keys.now dense (passed_start before.entry) (rows_tree rows.now)) }
+{
     let mut ranked = Rows::with_capacity(alloc, rows.len())?;
-    let mut passed = Passed::before(start);
-    for row in rows.as_slice() {
+    let mut passed = before;
+    for row in rows {
         passed = passed.and_row(row, keys);
         ranked.push(behind_rank(alloc, passed.rank(dense), row)?)?;
     }

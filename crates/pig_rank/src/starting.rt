@@ -1,4 +1,4 @@
-ghost use Rattle.std.specs.Prelude.{◌≡◌, ◌++◌, List, map, IfOk, OnOk};
+ghost use Rattle.std.specs.Prelude.{◌≡◌, ◌++◌, List, length, map, IfOk, OnOk};
 ghost use Rattle.pig_rank.specs.Ranks.{ArePartsOf, Rows as RowTrees, start_tree, starts_of, summary_tree};
 ghost use Rattle.pig_rank.specs.Walks.{passed_start, starts_on};
 
@@ -9,7 +9,8 @@ use std::alloc::{AllocError, Global};
 
 /// The start of each partition, in order, by the summaries of consecutive partitions of a list that is sorted by the keys.
 pub fn find_starts(alloc: Global, parts: &Summaries, keys: &SortKeys) -> Result<Starts, AllocError>
-    ensures { IfOk result (λ starts. (rows : List RowTrees)
+    ensures size { IfOk result (λ starts. length starts ≡ length parts.now) }
+    ensures starts { IfOk result (λ starts. (rows : List RowTrees)
         → ArePartsOf keys.now rows parts.now
         → map start_tree starts ≡ starts_of keys.now rows) }
 {

@@ -1,5 +1,5 @@
-use Rattle.pig_rank.proofs.Ranked.{by_partitions, partitions_give_the_bag}
+use Rattle.pig_rank.proofs.Ranked.{by_partitions, in_the_whole, partitions_give_the_bag}
 use Rattle.pig_rank.proofs.laws.ranks_go_by_partitions.Goals as goal
 
 pub returns : goal.returns
-returns c = record { sorted = by_partitions; bag = partitions_give_the_bag }
+returns c = record { joined = by_partitions; each = in_the_whole; bag = partitions_give_the_bag }
