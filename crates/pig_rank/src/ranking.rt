@@ -53,7 +53,7 @@ fn behind_rank(alloc: Global, rank: u64, row: &Tuple) -> Result<Tuple, AllocErro
     ensures { IfOk result (λ made. row_tree made ≡ long_of (pos rank) ∷ row_tree row.now) }
 {
     let fields = row.as_slice();
-    let mut made = Tuple::new(alloc);
+    let mut made = Tuple::with_capacity(alloc, fields.len().saturating_add(1))?;
     made.push(Value::Long(as_long(rank)))?;
     for field in fields {
         made.push(copy(alloc, field)?)?;
