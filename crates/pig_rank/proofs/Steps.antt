@@ -17,7 +17,7 @@ use Rattle.pig_value.proofs.list_laws.Elementwise.{range_up}
 use Rattle.pig_typed.specs.declared.blocks.SortKey.{SortKey}
 use Rattle.pig_plan.specs.Operators.{key_fields, sort_keys_cmp}
 use Rattle.pig_rank.specs.declared.parts.Summary.{Summary}
-use Rattle.pig_rank.specs.Ranks.{ArePartsOf, AreSorted, PartStart, PartSummary, Rows, distinct_keys, first_row, joined, last_row, start_behind, starts_of, summary_of, summary_tree, tail_of, with_key_of}
+use Rattle.pig_rank.specs.Ranks.{AreSummariesOf, AreSorted, PartStart, PartSummary, Rows, distinct_keys, first_row, joined, last_row, start_behind, starts_of, summary_of, summary_tree, tail_of, with_key_of}
 use Rattle.pig_rank.specs.Walks.{and_part, and_row, and_rows, behind_part, goes_on, nothing, starts_on}
 use Rattle.pig_rank.proofs.Keys.{sort_total, ties_are}
 use Rattle.pig_rank.proofs.Words.{counts_on, fits, keys_on, more_keys, more_tail, tail_on}
@@ -110,7 +110,7 @@ module _ (keys : List SortKey) where
   starts_size s (part ∷ parts) = ap suc (starts_size (and_part keys s part) parts)
 
   -- what the summaries of partitions give
-  pub starts_found : (parts : List Rows) (summaries : List Summary) → ArePartsOf keys parts summaries → starts_on keys nothing (map summary_tree summaries) ≡ starts_of keys parts
+  pub starts_found : (parts : List Rows) (summaries : List Summary) → AreSummariesOf keys parts summaries → starts_on keys nothing (map summary_tree summaries) ≡ starts_of keys parts
   starts_found parts summaries h = ap (starts_on keys nothing) h.0 ∙ starts_are [] parts h.1
 
   -- ---- a summary

@@ -91,8 +91,8 @@ abbrev pub starts_of : List SortKey → List Rows → List PartStart
 starts_of keys parts = map (λ i. start_behind keys (joined (take i parts))) (range_with_len 0 (length parts))
 
 -- summaries of consecutive partitions of a sorted list
-abbrev pub ArePartsOf : List SortKey → List Rows → List Summary → Type 0
-ArePartsOf keys parts summaries = (map summary_tree summaries ≡ map (summary_of keys) parts) × AreSorted keys (joined parts)
+abbrev pub AreSummariesOf : List SortKey → List Rows → List Summary → Type 0
+AreSummariesOf keys parts summaries = (map summary_tree summaries ≡ map (summary_of keys) parts) × AreSorted keys (joined parts)
 
 -- ---- ranked rows
 

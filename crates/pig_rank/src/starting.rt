@@ -1,5 +1,5 @@
 ghost use Rattle.std.specs.Prelude.{◌≡◌, ◌++◌, List, length, map, IfOk, OnOk};
-ghost use Rattle.pig_rank.specs.Ranks.{ArePartsOf, Rows as RowTrees, start_tree, starts_of, summary_tree};
+ghost use Rattle.pig_rank.specs.Ranks.{AreSummariesOf, Rows as RowTrees, start_tree, starts_of, summary_tree};
 ghost use Rattle.pig_rank.specs.Walks.{passed_start, starts_on};
 
 use crate::passing::Passed;
@@ -11,7 +11,7 @@ use std::alloc::{AllocError, Global};
 pub fn find_starts(alloc: Global, parts: &Summaries, keys: &SortKeys) -> Result<Starts, AllocError>
     ensures size { IfOk result (λ starts. length starts ≡ length parts.now) }
     ensures starts { IfOk result (λ starts. (rows : List RowTrees)
-        → ArePartsOf keys.now rows parts.now
+        → AreSummariesOf keys.now rows parts.now
         → map start_tree starts ≡ starts_of keys.now rows) }
 {
     let mut starts = Starts::with_capacity(alloc, parts.len())?;
