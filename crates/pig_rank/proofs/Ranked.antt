@@ -6,6 +6,7 @@ use Rattle.std.specs.List.Sorted.{IsPermutation}
 use Rattle.std.specs.Option.{option_map_or}
 use Rattle.std.specs.Ordering.{is_lt}
 use Rattle.std.proofs.lemmas.List.{append_assoc, append-nil, map-append}
+use Rattle.std.proofs.lemmas.List.Folds.{flat_map-map}
 use Rattle.std.proofs.lemmas.List.Sorted.{IsPermutation-map, length_permutation}
 use Rattle.pig_value.specs.Elementwise.{Each}
 use Rattle.pig_value.specs.Functions.{long_of}
@@ -15,7 +16,7 @@ use Rattle.pig_value.specs.Trees.{Tree}
 use Rattle.pig_value.proofs.OrderLaws.{row_same, row_total}
 use Rattle.pig_value.proofs.list_laws.Bags.{bag_from_permutation, sort_permutes}
 use Rattle.pig_value.proofs.list_laws.Distinct.{distinct_permuted}
-use Rattle.pig_value.proofs.list_laws.Listing.{some_same}
+use Rattle.pig_value.proofs.list_laws.Listing.{map-flat_map, some_same}
 use Rattle.pig_value.proofs.list_laws.Permutations.{IsPermutation-filter}
 use Rattle.pig_typed.specs.declared.blocks.SortKey.{SortKey}
 use Rattle.pig_typed.specs.Blocks.{keys_cmp}
@@ -107,6 +108,10 @@ module _ (keys : List SortKey) where
   pub in_the_whole : (dense : Bool) (parts : List Rows) (i : ℕ) (start : PartStart) (part ranked : Rows) → AreSorted keys (joined parts)
       → slice_get (starts_behind keys [] parts) i ≡ Some start → slice_get parts i ≡ Some part → AreRanked keys dense start part ranked → ranked ≡ ranked_among keys dense (joined parts) part
   in_the_whole dense parts i start part ranked h begins at made = ranked_at dense (joined parts) [] parts i start part ranked refl h begins at made
+
+  pub ranked_in_turn : (dense : Bool) (parts : List Rows) → joined (map (ranked_among keys dense (joined parts)) parts) ≡ rank_rows keys dense (joined parts)
+  ranked_in_turn dense parts =
+      flat_map-map (λ part. part) (ranked_among keys dense (joined parts)) parts ∙ sym (map-flat_map (λ row. rank_of keys dense (joined parts) row ∷ row) (λ part. part) parts)
 
   -- ---- bags
 

@@ -1,5 +1,5 @@
 -- What ranks over partitions give together.
-use Rattle.std.specs.Prelude.{◌≡◌, ℕ, Bool, Some, List, slice_get}
+use Rattle.std.specs.Prelude.{◌≡◌, ℕ, Bool, Some, List, map, slice_get}
 use Rattle.std.specs.List.{AllByRecursion}
 use Rattle.std.specs.List.Sorted.{IsPermutation}
 use Rattle.pig_value.specs.Orders.{bag_of}
@@ -17,6 +17,10 @@ RanksGoByPartitions = (keys : List SortKey) (dense : Bool) (parts ranked : List 
 abbrev pub EachIsRankedInTheWhole : Type 0
 EachIsRankedInTheWhole = (keys : List SortKey) (dense : Bool) (parts : List Rows) (i : ℕ) (start : PartStart) (part ranked : Rows) → AreSorted keys (joined parts)
     → slice_get (starts_of keys parts) i ≡ Some start → slice_get parts i ≡ Some part → AreRanked keys dense start part ranked → ranked ≡ ranked_among keys dense (joined parts) part
+
+-- The partitions of any list, each row behind its rank in the list, are in turn the ranked list.
+abbrev pub RankedPartitionsJoin : Type 0
+RankedPartitionsJoin = (keys : List SortKey) (dense : Bool) (parts : List Rows) → joined (map (ranked_among keys dense (joined parts)) parts) ≡ rank_rows keys dense (joined parts)
 
 -- A row has the same rank among rows that come in another order, and so these get the same ranks.
 abbrev pub RankSeesBags : Type 0

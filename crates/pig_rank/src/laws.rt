@@ -1,4 +1,4 @@
-ghost use Rattle.pig_rank.specs.Laws.{EachIsRankedInTheWhole, OrderedRowsAreSorted, PartitionsAreSorted, PartitionsGiveTheBag, RankSeesBags, RanksGoByPartitions, RanksSeeBags};
+ghost use Rattle.pig_rank.specs.Laws.{EachIsRankedInTheWhole, OrderedRowsAreSorted, PartitionsAreSorted, PartitionsGiveTheBag, RankSeesBags, RankedPartitionsJoin, RanksGoByPartitions, RanksSeeBags};
 
 /// However a sorted list is cut into consecutive partitions: these, each ranked behind its start as
 /// [`rank_rows`](crate::rank_rows) does, are in turn the ranked rows of the list, each row behind its rank in the list.
@@ -6,6 +6,7 @@ ghost use Rattle.pig_rank.specs.Laws.{EachIsRankedInTheWhole, OrderedRowsAreSort
 pub fn ranks_go_by_partitions()
     ensures joined { RanksGoByPartitions }
     ensures each { EachIsRankedInTheWhole }
+    ensures in_turn { RankedPartitionsJoin }
     ensures bag { PartitionsGiveTheBag }
 {}
 
