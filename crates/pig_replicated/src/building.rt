@@ -85,7 +85,8 @@ fn groups_of(alloc: Global, held: &[Held]) -> Result<Vec<Group>, AllocError>
 
 // How many rows from the front on have the key.
 fn run_len(key: &Value, held: &[Held]) -> usize
-    ensures count { result ≡ prefix_len (λ h. is_eq (tree_cmp (tree h.key) (tree key.now))) held.now }
+    ensures count { result
+        ≡ prefix_len (λ h. is_eq (tree_cmp (tree h.key) (tree key.now))) held.now }
     ensures within { result ≤ length held.now }
 {
     held.iter()
