@@ -7,12 +7,10 @@ use Rattle.pig_replicated.proofs.finding.found.Goals as goal
 
 pub returns-in-Ok : goal.returns-in-Ok
 returns-in-Ok c =
-    let key = tree c.args.key.now in
-    found_is c.args.groups.now key c.requires c.in-Ok.at c.index-groups-at.result c.in-Ok.ensures.bound
-    (c.in-Ok.ensures.position (λ group. tree_cmp (tree group.key) key) (always_returns_same _ _ _ (λ a r f called. search rules))) c.index-groups-at.is
+    found_is c.args.groups.now (tree c.args.key.now) c.requires c.in-Ok.at c.index-groups-at.result c.in-Ok.ensures.bound
+    (c.in-Ok.ensures.position (λ group. tree_cmp (tree group.key) (tree c.args.key.now)) (always_returns_same _ _ _ (λ a r f called. search rules))) c.index-groups-at.is
 
 pub returns-in-Err : goal.returns-in-Err
 returns-in-Err c =
-    let key = tree c.args.key.now in
-    absent_is c.args.groups.now key c.requires c.in-Err.field-0
-    (c.in-Err.ensures.position (λ group. tree_cmp (tree group.key) key) (always_returns_same _ _ _ (λ a r f called. search rules)))
+    absent_is c.args.groups.now (tree c.args.key.now) c.requires c.in-Err.field-0
+    (c.in-Err.ensures.position (λ group. tree_cmp (tree group.key) (tree c.args.key.now)) (always_returns_same _ _ _ (λ a r f called. search rules)))
