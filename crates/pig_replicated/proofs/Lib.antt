@@ -1,0 +1,9 @@
+mod Adding
+mod ByKeys
+mod Grouping
+pub mod Held
+mod Joined
+pub mod Probed
+mod Samples
+mod Searched
+mod Sides

@@ -1,0 +1,5 @@
+pub mod Grouped
+pub mod Held
+pub mod Holding
+pub mod Joining
+pub mod Laws
