@@ -1,10 +1,9 @@
 -- A cube and a rollup of two rows, computed.
 use Rattle.std.specs.Prelude.{◌≡◌, ℕ, pos, Bool, true, false, List, [], ◌∷◌, codes, Some, refl}
-use Rattle.pig_value.specs.Trees.{Tree, v_null, v_int, v_chars, v_bag, v_tuple, fields_of, tuples_of, KindTree, k_int, k_chars, k_bag, k_tuple, kinds_of}
+use Rattle.pig_value.specs.Trees.{Tree, v_null, v_int, v_chars, v_bag, v_tuple, fields_of, tuples_of, KindTree, k_int, k_chars}
 use Rattle.pig_typed.specs.Blocks.{foreach_all, foreach_rows}
 use Rattle.pig_typed.specs.BlockKinds.{row_kinds}
 use Rattle.pig_plan.specs.Operators.{group_rows}
-use Rattle.pig_plan.specs.Plans.{Keyed}
 use Rattle.pig_typed.specs.Typed.{x_field}
 use Rattle.pig_cube.specs.Cubes.{cube_rows, expanded_rows}
 use Rattle.pig_cube.specs.Dimensions.{prefixes, subsets}

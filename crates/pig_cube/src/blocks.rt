@@ -1,9 +1,9 @@
-ghost use Rattle.std.specs.Prelude.{◌≡◌, ◌<◌, ◌∷◌, ◌++◌, [], length, map, IfOk, OnOk};
+ghost use Rattle.std.specs.Prelude.{◌≡◌, ◌<◌, ◌^◌, ◌∷◌, ◌++◌, [], length, map, IfOk, OnOk};
 ghost use Rattle.pig_typed.specs.Typed.{block_typed, item_typed, typed};
 ghost use Rattle.pig_cube.specs.Dimensions.{AreDimensions, other_positions};
 ghost use Rattle.pig_cube.specs.Expanding.{expanded_block, flat_item, known_field, null_text, plain_item, set_tuple, slot};
 
-use crate::sets::{Sets, chosen_sets, is_in};
+use crate::sets::{Sets, chosen_sets, is_in, other_positions};
 use pig_typed::{Block, BlockItem, BlockItems, TExpr, TExprs};
 use pig_value::{Boxed, Function, Kind, Positions, Seq, Text};
 use std::alloc::{AllocError, Global};
@@ -112,11 +112,10 @@ fn plain_items(alloc: Global, dims: &Positions, width: u32) -> Result<BlockItems
     ensures { IfOk result (λ items. map item_typed items
         ≡ map plain_item (other_positions dims.now width)) }
 {
+    let others = other_positions(alloc, dims.as_slice(), width)?;
     let mut items = Seq::new(alloc);
-    for position in 0..width {
-        if !is_in(dims.as_slice(), position) {
-            items.push(plain_item(position))?;
-        }
+    for position in others.as_slice() {
+        items.push(plain_item(*position))?;
     }
     Ok(items)
 }

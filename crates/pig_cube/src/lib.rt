@@ -6,7 +6,9 @@
 #![tactic(auto)]
 
 mod blocks;
+mod laws;
 mod sets;
 
 pub use blocks::expand;
+pub use laws::{blocks_expand_rows, blocks_have_kinds, plans_take_cubes, two_nodes_give_the_cube};
 pub use sets::are_dimensions;

@@ -1,6 +1,6 @@
 ghost use Rattle.std.specs.Prelude.{◌≡◌, ◌∷◌, ◌<◌, [], ◌↔◌, map, take, IfOk, IsTrue};
 ghost use Rattle.std.specs.List.{AllByRecursion};
-ghost use Rattle.pig_cube.specs.Dimensions.{AreDimensions, AreDistinct, chosen_sets, is_in, prefixes, subsets};
+ghost use Rattle.pig_cube.specs.Dimensions.{AreDimensions, AreDistinct, chosen_sets, is_in, other_positions, prefixes, subsets};
 
 use pig_value::{Positions, Seq};
 use std::alloc::{AllocError, Global};
@@ -61,12 +61,28 @@ fn are_distinct(positions: &[u32]) -> bool
 pub fn is_in(positions: &[u32], position: u32) -> bool
     ensures { result ≡ is_in positions.now position }
 {
-    for other in positions {
-        if *other == position {
+    let mut left = positions;
+    while let [first, rest @ ..] = left {
+        if *first == position {
             return true;
         }
+        left = rest;
     }
     false
+}
+
+/// The other positions of a row, in order.
+pub fn other_positions(alloc: Global, dims: &[u32], width: u32) -> Result<Positions, AllocError>
+    ensures { IfOk result (λ others. others ≡ other_positions dims.now width) }
+{
+    let mut others = Seq::new(alloc);
+    for position in 0..width {
+        if is_in(dims, position) {
+            continue;
+        }
+        others.push(position)?;
+    }
+    Ok(others)
 }
 
 /// The sets that CUBE or ROLLUP chooses of the dimensions.
@@ -84,7 +100,8 @@ fn prefixes(alloc: Global, positions: &[u32]) -> Result<Sets, AllocError>
     ensures { IfOk result (λ sets. sets ≡ prefixes positions.now) }
 {
     let mut sets = Seq::new(alloc);
-    for n in 0..=positions.len() {
+    let count = positions.len() + 1;
+    for n in 0..count {
         sets.push(copied(alloc, &positions[..n])?)?;
     }
     Ok(sets)
