@@ -89,7 +89,7 @@ module _ (row : List Tree) where
     bag_is [] h = absurd (omega (arith, h))
     bag_is (set ∷ sets) h = ap (λ found. or_null (option_map bag_tree found)) (fronts_are (set ∷ sets))
 
-    flat_is : (rollup : Bool) → item_lists (flat_item dims rollup) row [] ≡ bag_of (map front (chosen_sets rollup dims))
+    flat_is : (rollup : Bool) → item_lists (flat_item dims (chosen_sets rollup dims)) row [] ≡ bag_of (map front (chosen_sets rollup dims))
     flat_is rollup =
         ap (flattened (length dims)) (bag_is (chosen_sets rollup dims) (some_set rollup dims))
         ∙ tuples_back (bag_of (map front (chosen_sets rollup dims)))

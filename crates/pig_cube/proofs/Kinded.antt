@@ -79,12 +79,12 @@ module _ (kinds : List KindTree) where
     tuples_kinds [] = refl
     tuples_kinds (set ∷ sets) = λ i. tuple_kind set i >>= (λ k. tuples_kinds sets i >>= (λ ks. Some (k ∷ ks)))
 
-    bag_kind : (rollup : Bool) → expr_kind (sets_bag dims rollup) kinds [] ≡ Some (k_bag (kinds_of (texts (length dims))))
+    bag_kind : (rollup : Bool) → expr_kind (sets_bag dims (chosen_sets rollup dims)) kinds [] ≡ Some (k_bag (kinds_of (texts (length dims))))
     bag_kind rollup =
         ap (λ found. found >>= function_kind (function.ToBag (Some (length dims)))) (tuples_kinds (chosen_sets rollup dims))
         ∙ bag_of_tuples (length dims) (chosen_sets rollup dims) (some_set rollup dims)
 
-    flat_kinds : (rollup : Bool) → item_kinds (flat_item dims rollup) kinds [] ≡ Some (texts (length dims))
+    flat_kinds : (rollup : Bool) → item_kinds (flat_item dims (chosen_sets rollup dims)) kinds [] ≡ Some (texts (length dims))
     flat_kinds rollup =
         ap (λ found. found >>= (λ k. given_kinds true k >>= of_width (length dims))) (bag_kind rollup)
         ∙ ap (of_width (length dims)) (kinds_back (texts (length dims)))

@@ -25,18 +25,18 @@ slot set p = if is_in set p then known_field p else null_text
 abbrev pub set_tuple : List ℕ → List ℕ → Typed
 set_tuple dims set = x_call function.ToTuple (args_of (map (slot set) dims))
 
-abbrev pub sets_bag : List ℕ → Bool → Typed
-sets_bag dims rollup = x_call (function.ToBag (Some (length dims))) (args_of (map (set_tuple dims) (chosen_sets rollup dims)))
+abbrev pub sets_bag : List ℕ → List (List ℕ) → Typed
+sets_bag dims sets = x_call (function.ToBag (Some (length dims))) (args_of (map (set_tuple dims) sets))
 
-abbrev pub flat_item : List ℕ → Bool → TypedItem
-flat_item dims rollup = record { value = sets_bag dims rollup; flatten = true; width = length dims }
+abbrev pub flat_item : List ℕ → List (List ℕ) → TypedItem
+flat_item dims sets = record { value = sets_bag dims sets; flatten = true; width = length dims }
 
 abbrev pub plain_item : ℕ → TypedItem
 plain_item p = record { value = x_field p; flatten = false; width = 1 }
 
 -- of rows so many fields wide, with the dimensions at these positions
 abbrev pub expanded_block : List ℕ → ℕ → Bool → TypedBlock
-expanded_block dims width rollup = record { steps = []; items = flat_item dims rollup ∷ map plain_item (other_positions dims width) }
+expanded_block dims width rollup = record { steps = []; items = flat_item dims (chosen_sets rollup dims) ∷ map plain_item (other_positions dims width) }
 
 -- the kinds of its rows: a chararray for each dimension, and then the other kinds in order
 abbrev pub expanded_kinds : List ℕ → List KindTree → List KindTree

@@ -22,8 +22,9 @@ pub fn expand(
     requires { AreDimensions dims.now width }
     ensures { IfOk result (λ block. block_typed block ≡ expanded_block dims.now width rollup) }
 {
+    let sets = chosen_sets(alloc, dims.as_slice(), rollup)?;
     let mut items = Seq::new(alloc);
-    items.push(flat_item(alloc, dims, rollup)?)?;
+    items.push(flat_item(alloc, dims, &sets)?)?;
     items.extend(plain_items(alloc, dims, width)?)?;
     Ok(Block {
         steps: Seq::new(alloc),
@@ -31,14 +32,13 @@ pub fn expand(
     })
 }
 
-/// FLATTEN of the bag of a tuple for each chosen set.
-fn flat_item(alloc: Global, dims: &Positions, rollup: bool) -> Result<BlockItem, AllocError>
+/// FLATTEN of the bag of a tuple for each set.
+fn flat_item(alloc: Global, dims: &Positions, sets: &Sets) -> Result<BlockItem, AllocError>
     requires { length dims.now < 2 ^ 32 }
-    ensures { IfOk result (λ item. item_typed item ≡ flat_item dims.now rollup) }
+    ensures { IfOk result (λ item. item_typed item ≡ flat_item dims.now sets.now) }
 {
     let width = dims.len() as u32;
-    let sets = chosen_sets(alloc, dims.as_slice(), rollup)?;
-    let args = tuples(alloc, dims, &sets)?;
+    let args = tuples(alloc, dims, sets)?;
     let function = Function::ToBag { width: Some(width) };
     Ok(BlockItem {
         value: TExpr::Call { function, args },

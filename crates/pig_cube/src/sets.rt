@@ -1,4 +1,4 @@
-ghost use Rattle.std.specs.Prelude.{◌≡◌, ◌∷◌, ◌<◌, [], ◌↔◌, map, take, IfOk, IsTrue};
+ghost use Rattle.std.specs.Prelude.{◌≡◌, ◌∷◌, ◌<◌, ◌≤◌, [], ◌↔◌, length, map, take, IfOk, IsTrue};
 ghost use Rattle.std.specs.List.{AllByRecursion};
 ghost use Rattle.pig_cube.specs.Dimensions.{AreDimensions, AreDistinct, chosen_sets, is_in, other_positions, prefixes, subsets};
 
@@ -102,9 +102,17 @@ fn prefixes(alloc: Global, positions: &[u32]) -> Result<Sets, AllocError>
     let mut sets = Seq::new(alloc);
     let count = positions.len() + 1;
     for n in 0..count {
-        sets.push(copied(alloc, &positions[..n])?)?;
+        sets.push(prefix(alloc, positions, n)?)?;
     }
     Ok(sets)
+}
+
+/// The first positions.
+fn prefix(alloc: Global, positions: &[u32], count: usize) -> Result<Positions, AllocError>
+    requires { count ≤ length positions.now }
+    ensures { IfOk result (λ prefix. prefix ≡ take count positions.now) }
+{
+    copied(alloc, &positions[..count])
 }
 
 /// All subsets, by those of the positions behind the first: each with the first in front, and each as it is.

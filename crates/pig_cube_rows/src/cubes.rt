@@ -1,43 +1,53 @@
-//! Rows of three fields, a text, a text and a number, and the rows that a cube makes of each.
+//! The rows that the block of a cube makes of a row.
 // Trees end by `drop`: one call is cheap to prove, and a tree that dies by name is taken apart variant by variant.
-use pig_cube::{are_dimensions, expand};
+use crate::making::{block_of, positions, push};
+use pig_cube::are_dimensions;
 use pig_nested::foreach;
-use pig_typed::Block;
-use pig_value::{Positions, Rows, Seq, Text, Tuple, Value, order_rows};
+use pig_value::{Rows, Seq, Text, Tuple, Value, order_rows};
 use std::alloc::Global;
 use std::cmp::Ordering;
 use std::process::Abort;
 
-fn positions<R: Abort>(rt: &R, alloc: Global, dims: &[u32]) -> Positions {
-    let mut positions = Seq::new(alloc);
-    for p in dims {
-        positions.push(*p).expect(rt, "memory");
+// A line for each row: the dimensions, `cube` or `rollup`, the row, and the rows that it becomes, in the order of a bag.
+// A field is null `-`, an int after `#`, or a text.
+const TABLE: &str = "\
+01|cube|car,2012,#10|-,-,#10 -,2012,#10 car,-,#10 car,2012,#10
+01|cube|-,2012,#5|-,-,#5 -,2012,#5 unknown,-,#5 unknown,2012,#5
+01|rollup|car,2012,#10|-,-,#10 car,-,#10 car,2012,#10
+01|rollup|-,2012,#5|-,-,#5 unknown,-,#5 unknown,2012,#5
+01|cube|-,-,-|-,-,- -,unknown,- unknown,-,- unknown,unknown,-
+01|cube|unknown,x,#1|-,-,#1 -,x,#1 unknown,-,#1 unknown,x,#1
+0|cube|car,2012,#10|-,2012,#10 car,2012,#10
+0|rollup|-,2012,#5|-,2012,#5 unknown,2012,#5
+0|cube|car,-,-|-,-,- car,-,-
+20|cube|car,#10,-|-,-,#10 -,car,#10 unknown,-,#10 unknown,car,#10
+20|rollup|car,#10,-|-,-,#10 unknown,-,#10 unknown,car,#10
+1|rollup|#1,b,#3|-,#1,#3 b,#1,#3
+210|rollup|a,b,c|-,-,- c,-,- c,b,- c,b,a
+";
+
+fn value<R: Abort>(rt: &R, alloc: Global, text: &str) -> Value {
+    if text == "-" {
+        return Value::Null;
     }
-    positions
+    match text.strip_prefix('#') {
+        Some(digits) => Value::Int(digits.parse().unwrap_or(0)),
+        None => Value::Chars(Text::from_str(alloc, text).expect(rt, "memory")),
+    }
 }
 
-// A field of a row: null for `-`, a number where it begins with `#`, and otherwise a text.
-fn field<R: Abort>(rt: &R, alloc: Global, text: &str) -> Value {
-    match text {
-        "-" => Value::Null,
-        "#5" => Value::Int(5),
-        "#10" => Value::Int(10),
-        text => Value::Chars(Text::from_str(alloc, text).expect(rt, "memory")),
-    }
-}
-
-fn row<R: Abort>(rt: &R, alloc: Global, text: &str) -> Tuple {
+fn row_of<R: Abort>(rt: &R, alloc: Global, text: &str) -> Tuple {
     let mut row = Seq::new(alloc);
     for part in text.split(',') {
-        row.push(field(rt, alloc, part)).expect(rt, "memory");
+        push(rt, &mut row, value(rt, alloc, part));
     }
     row
 }
 
-fn rows<R: Abort>(rt: &R, alloc: Global, text: &str) -> Rows {
+fn rows_of<R: Abort>(rt: &R, alloc: Global, text: &str) -> Rows {
     let mut rows = Seq::new(alloc);
     for part in text.split(' ') {
-        rows.push(row(rt, alloc, part)).expect(rt, "memory");
+        push(rt, &mut rows, row_of(rt, alloc, part));
     }
     rows
 }
@@ -57,56 +67,75 @@ fn are_same(a: &Rows, b: &Rows) -> bool {
     true
 }
 
-// The block, where these are dimensions.
-fn block<R: Abort>(rt: &R, alloc: Global, dims: &[u32], width: u32, rollup: bool) -> Option<Block> {
+// The rows that the block makes of a row of three fields; none where these are no dimensions.
+fn made<R: Abort>(rt: &R, alloc: Global, dims: &str, rollup: bool, row: &str) -> Rows {
+    let given = row_of(rt, alloc, row);
+    match block_of(rt, alloc, dims, 3, rollup) {
+        Some(block) => {
+            let found = foreach(alloc, &block, &given).expect(rt, "memory");
+            drop(block);
+            found
+        }
+        None => Seq::new(alloc),
+    }
+}
+
+// Whether a line of the table holds.
+fn holds<R: Abort>(rt: &R, alloc: Global, line: &str) -> bool {
+    let (dims, rest) = line.split_once('|').unwrap_or((line, ""));
+    let (kind, rest) = rest.split_once('|').unwrap_or((rest, ""));
+    let (row, wanted) = rest.split_once('|').unwrap_or((rest, ""));
+    let found = made(rt, alloc, dims, kind == "rollup", row);
+    are_same(&found, &rows_of(rt, alloc, wanted))
+}
+
+#[test]
+fn rows_become_those_of_the_chosen_sets(rt: HostRuntime) {
+    for line in TABLE.lines() {
+        assert!(rt; holds(&rt, rt.alloc(), line), "{line}");
+    }
+}
+
+// The number of rows that a row of nine texts becomes by the first eight.
+fn count<R: Abort>(rt: &R, alloc: Global, rollup: bool) -> usize {
+    let given = row_of(rt, alloc, "a,b,c,d,e,f,g,h,i");
+    match block_of(rt, alloc, "01234567", 9, rollup) {
+        Some(block) => {
+            let found = foreach(alloc, &block, &given).expect(rt, "memory");
+            drop(block);
+            found.len()
+        }
+        None => 0,
+    }
+}
+
+#[test]
+fn eight_dimensions_have_256_sets_and_9_prefixes(rt: HostRuntime) {
+    assert_eq!(rt; count(&rt, rt.alloc(), false), 256);
+    assert_eq!(rt; count(&rt, rt.alloc(), true), 9);
+}
+
+// Whether these are dimensions of rows so wide.
+fn may_be<R: Abort>(rt: &R, alloc: Global, dims: &str, width: u32) -> bool {
     let dims = positions(rt, alloc, dims);
-    if !are_dimensions(&dims, width) {
-        return None;
-    }
-    Some(expand(alloc, &dims, width, rollup).expect(rt, "memory"))
-}
-
-// Whether the block of these dimensions makes just these rows of the row, in the order of a bag.
-fn makes<R: Abort>(
-    rt: &R,
-    alloc: Global,
-    dims: &[u32],
-    rollup: bool,
-    given: &str,
-    expected: &str,
-) -> bool {
-    let given = row(rt, alloc, given);
-    let Some(block) = block(rt, alloc, dims, 3, rollup) else {
-        return false;
-    };
-    let found = foreach(alloc, &block, &given).expect(rt, "memory");
-    drop(block);
-    let expected = rows(rt, alloc, expected);
-    are_same(&found, &expected)
+    are_dimensions(&dims, width)
 }
 
 #[test]
-fn cubes(rt: HostRuntime) {
-    for (given, expected) in [
-        ("car,2012,#10", "-,-,#10 -,2012,#10 car,-,#10 car,2012,#10"),
-        ("-,2012,#5", "-,-,#5 -,2012,#5 unknown,-,#5 unknown,2012,#5"),
+fn dimensions_are_1_to_8_distinct_positions(rt: HostRuntime) {
+    for (dims, width, wanted) in [
+        ("", 3, false),
+        ("2", 3, true),
+        ("3", 3, false),
+        ("010", 3, false),
+        ("20", 512, true),
+        ("20", 513, false),
+        ("76543210", 8, true),
+        ("876543210", 9, false),
     ] {
         assert!(rt;
-            makes(&rt, rt.alloc(), &[0, 1], false, given, expected),
-            "{given}"
-        );
-    }
-}
-
-#[test]
-fn rollups(rt: HostRuntime) {
-    for (given, expected) in [
-        ("car,2012,#10", "-,-,#10 car,-,#10 car,2012,#10"),
-        ("-,2012,#5", "-,-,#5 unknown,-,#5 unknown,2012,#5"),
-    ] {
-        assert!(rt;
-            makes(&rt, rt.alloc(), &[0, 1], true, given, expected),
-            "{given}"
+            may_be(&rt, rt.alloc(), dims, width) == wanted,
+            "{dims} of {width}"
         );
     }
 }

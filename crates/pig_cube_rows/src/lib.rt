@@ -3,3 +3,7 @@
 
 #[cfg(test)]
 mod cubes;
+#[cfg(test)]
+mod making;
+#[cfg(test)]
+mod nodes;
