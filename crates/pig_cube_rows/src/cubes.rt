@@ -92,7 +92,7 @@ fn holds<R: Abort>(rt: &R, alloc: Global, line: &str) -> bool {
 #[test]
 fn rows_become_those_of_the_chosen_sets(rt: HostRuntime) {
     for line in TABLE.lines() {
-        assert!(rt; holds(&rt, rt.alloc(), line), "{line}");
+        assert!(rt; holds(&rt, rt.alloc(), line));
     }
 }
 
@@ -111,31 +111,34 @@ fn count<R: Abort>(rt: &R, alloc: Global, rollup: bool) -> usize {
 
 #[test]
 fn eight_dimensions_have_256_sets_and_9_prefixes(rt: HostRuntime) {
-    assert_eq!(rt; count(&rt, rt.alloc(), false), 256);
-    assert_eq!(rt; count(&rt, rt.alloc(), true), 9);
+    let sets = count(&rt, rt.alloc(), false);
+    let prefixes = count(&rt, rt.alloc(), true);
+    assert!(rt; sets == 256 && prefixes == 9);
 }
 
-// Whether these are dimensions of rows so wide.
-fn may_be<R: Abort>(rt: &R, alloc: Global, dims: &str, width: u32) -> bool {
-    let dims = positions(rt, alloc, dims);
-    are_dimensions(&dims, width)
+// A line for each list of positions, with the width of rows, and whether it may be the dimensions of these.
+const DIMENSIONS: &str = "\
+|3|no
+2|3|yes
+3|3|no
+010|3|no
+20|512|yes
+20|513|no
+76543210|8|yes
+876543210|9|no
+";
+
+// Whether a line of the dimensions holds.
+fn is_as_said<R: Abort>(rt: &R, alloc: Global, line: &str) -> bool {
+    let (digits, rest) = line.split_once('|').unwrap_or((line, ""));
+    let (width, wanted) = rest.split_once('|').unwrap_or((rest, ""));
+    let dims = positions(rt, alloc, digits);
+    are_dimensions(&dims, width.parse().unwrap_or(0)) == (wanted == "yes")
 }
 
 #[test]
 fn dimensions_are_1_to_8_distinct_positions(rt: HostRuntime) {
-    for (dims, width, wanted) in [
-        ("", 3, false),
-        ("2", 3, true),
-        ("3", 3, false),
-        ("010", 3, false),
-        ("20", 512, true),
-        ("20", 513, false),
-        ("76543210", 8, true),
-        ("876543210", 9, false),
-    ] {
-        assert!(rt;
-            may_be(&rt, rt.alloc(), dims, width) == wanted,
-            "{dims} of {width}"
-        );
+    for line in DIMENSIONS.lines() {
+        assert!(rt; is_as_said(&rt, rt.alloc(), line));
     }
 }
