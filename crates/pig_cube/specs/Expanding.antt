@@ -1,8 +1,7 @@
 -- The block that makes the rows of a cube: one FLATTEN of the bag of a tuple for each chosen set, and then the other fields.
 -- (Pig Latin Basics: "CUBE", "FOREACH", "Flatten Operator".)
-use Rattle.std.specs.Prelude.{ℕ, Bool, true, false, List, [], ◌∷◌, length, map, Some, if◌then◌else◌}
+use Rattle.std.specs.Prelude.{ℕ, Bool, true, false, List, [], ◌∷◌, ◌++◌, length, map, replicate, Some, slice_get, if◌then◌else◌}
 use Rattle.std.specs.List.{filter_map}
-use Rattle.std.specs.Prelude.{◌++◌, replicate, slice_get}
 use Rattle.pig_value.specs.declared.functions.Function.TheVariants as function
 use Rattle.pig_value.specs.Trees.{KindTree, k_chars}
 use Rattle.pig_typed.specs.Typed.{Typed, TypedBlock, TypedItem, args_of, x_call, x_cast, x_chars, x_choose, x_field, x_is_null, x_null}

@@ -12,7 +12,8 @@ use std::alloc::{AllocError, Global};
 /// positions: with `rollup` for each prefix of their list, and otherwise for each set of them.
 ///
 /// Each row that it makes is the dimensions, null where not in the set and the text `unknown` where null before, and then the
-/// other fields in order. Only memory can be wanting.
+/// other fields in order. The positions are 1 to 8 and distinct, and rows are 512 fields wide at most; that can be tested by
+/// [`are_dimensions`](crate::are_dimensions). Only memory can be wanting.
 pub fn expand(
     alloc: Global,
     dims: &Positions,
