@@ -1,0 +1,4 @@
+pub mod Dimensions
+pub mod Cubes
+pub mod Expanding
+pub mod Laws
