@@ -1,5 +1,5 @@
 -- The operators over relations that go by keys: the node that each gives, and the columns of its rows.
--- (Pig Latin Basics: "GROUP", "COGROUP", "JOIN (inner)", "JOIN (outer)". USING is left out here but for replicated JOINs, and names of
+-- (Pig Latin Basics: "GROUP", "COGROUP", "JOIN (inner)", "JOIN (outer)", "CUBE". USING is left out here but for replicated JOINs, and names of
 -- fields are choices of this profile.)
 use Rattle.std.specs.Prelude.{◌≡◌, ◌≢◌, ◌&&◌, ℕ, Bool, true, false, List, [], ◌∷◌, map, length, codes, Option, Some, None, if◌then◌else◌}
 use Rattle.std.specs.List.{flat_map}
@@ -138,6 +138,12 @@ pub data JoinsNot (aliases : Aliases) : List KeyedForm → Side → Option (List
       → TypesKeyedNot aliases is f → JoinsNot aliases is side hint f
   join_past_limits : {is : List KeyedForm} {side : Side} {hint : Option (List ℕ)} {k : Keyable} {f : CheckKind}
       → TypesKeyed aliases is k → limited_row (join_columns k) ≡ Err f → JoinsNot aliases is side hint f
+
+-- ---- CUBE
+
+-- the columns of the groups of a cube: the dimensions, as a GROUP by them names them, and a bag of rows with these columns
+abbrev pub cube_columns : List FieldTree → List FieldTree → List FieldTree
+cube_columns dims row = group_column dims ∷ bag_column (codes "cube") row ∷ []
 
 -- ---- the same as functions
 

@@ -8,7 +8,7 @@ ghost use Rattle.pig_typing.specs.Results.{IfRefused, Tells};
 ghost use Rattle.pig_typing.specs.Written.{with_name};
 ghost use Rattle.pig_relations.specs.Aliases.{aliases_of, relation_tree};
 ghost use Rattle.pig_relations.specs.Keyed.{group_form, join_form};
-ghost use Rattle.pig_relations.specs.Operators.{Groups, GroupsAll, GroupsAllNot, GroupsNot, Joins, JoinsNot, columns_under, first_keys, group_all_columns, group_all_of, group_column, group_columns, group_of, group_op, join_columns, join_of, join_op, joined_by, limited_op, may_replicate, op_tree, sided, without};
+ghost use Rattle.pig_relations.specs.Operators.{Groups, GroupsAll, GroupsAllNot, GroupsNot, Joins, JoinsNot, columns_under, cube_columns, first_keys, group_all_columns, group_all_of, group_column, group_columns, group_of, group_op, join_columns, join_of, join_op, joined_by, limited_op, may_replicate, op_tree, sided, without};
 ghost use Rattle.pig_relations.specs.Together.{of_kinds};
 ghost use Rattle.pig_relations.specs.Views.{input_tree, keyable_tree};
 
@@ -315,6 +315,23 @@ fn group_all_columns(alloc: Global, alias: &Text, relation: &Relation) -> Result
         inner: Seq::new(alloc),
     })?;
     columns.push(bag_column(alloc, alias, &relation.columns)?)?;
+    Ok(columns)
+}
+
+// ---- CUBE
+
+/// The columns of the groups of a CUBE: `group`, which is the one dimension or a tuple of several, and the bag `cube` of
+/// rows with these columns.
+pub fn cube_columns(alloc: Global, dims: Schema, row: &Schema) -> Result<Schema, AllocError>
+    ensures { IfOk result (λ s. schema_tree s
+        ≡ cube_columns (schema_tree dims) (schema_tree row.now)) }
+{
+    let name = group_name(alloc)?;
+    let key = key_column(alloc, dims)?;
+    let alias = Text::from_str(alloc, "cube")?;
+    let mut columns = Seq::with_capacity(alloc, 2)?;
+    columns.push(named(name, key))?;
+    columns.push(bag_column(alloc, &alias, row)?)?;
     Ok(columns)
 }
 
