@@ -1,5 +1,5 @@
 -- No two STOREs of a plan collide: the typing of each asks that it collides with none before it.
-use Rattle.std.proofs.Common.{◌≡◌, ◌∙◌, ◌++◌, ◌||◌, ℕ, Bool, true, false, List, [], ◌∷◌, map, refl, sym, ap, subst, append-nil}
+use Rattle.std.proofs.Common.{◌≡◌, ◌∙◌, ◌++◌, ◌||◌, ℕ, Bool, true, false, List, [], ◌∷◌, map, length, refl, sym, ap, subst, append-nil}
 use Rattle.std.specs.Prelude.{Option, Some, None, bytes_eq}
 use Rattle.std.specs.List.{AllByRecursion, IsDistinct, cons_option, list_any}
 use Rattle.std.proofs.Math.Bool.{or_comm}
@@ -13,12 +13,13 @@ use Rattle.pig_typed.specs.Typed.{Typed, TypedBlock}
 use Rattle.pig_plan.specs.Plans.{Plan, PlanOp, p_assert, p_filter, p_store}
 use Rattle.pig_relations.specs.Operators.{TypedOp, groups, groups_all, joins}
 use Rattle.pig_relations.specs.Unions.{UnionInput}
+use Rattle.pig_cube.specs.Laws.{cube_foreach, cube_group}
 use Rattle.pig_check.specs.Operators.{OpTypes, distinct, filter, foreach, group, group_all, join, limit, load, order}
 use Rattle.pig_check.specs.Paths.{collide, is_within}
 use Rattle.pig_check.proofs.Within.{within_itself}
 use Rattle.pig_check.specs.Scripts.{IsPlanOf, TypesAll, next_types, none_left, plan_of_all}
 use Rattle.pig_check.specs.States.{Added, NoStoresCollide, State, after, is_stored, node_of_statement, stored_path, stored_paths, stores_beside}
-use Rattle.pig_check.specs.Statements.{StatementTypes, asserts, assigns, nothing, splits, stores, unites}
+use Rattle.pig_check.specs.Statements.{StatementTypes, asserts, assigns, makes_cube, nothing, splits, stores, unites}
 use Rattle.pig_check.specs.Unions.{widening_ops, widenings}
 
 -- ---- paths
@@ -110,6 +111,8 @@ statement_keeps n {s = s} nothing none = still_none n s.nodes [] tt none
 statement_keeps n {s = s} (assigns {t = t} h) none = still_none n s.nodes (t.op ∷ []) (op_stores_none h, tt) none
 statement_keeps n {s = s} (unites {t = t} h) none =
     still_none n s.nodes _ (each-append StoresNone (widenings t.inputs) _ (widenings_store_none t.inputs) (refl, tt)) none
+statement_keeps n {s = s} (makes_cube {rollup = rollup} {t = t} h) none =
+    still_none n s.nodes (cube_foreach t.dims t.width rollup t.node ∷ cube_group t.dims (length s.nodes) ∷ []) (refl, (refl, tt)) none
 statement_keeps n {s = s} (splits {r = r} e h) none = still_none n s.nodes _ (filters_store_none r.node _) none
 statement_keeps n {s = s} (asserts {message = message} {r = r} {t = t} e h) none = still_none n s.nodes (p_assert r.node t message ∷ []) (refl, tt) none
 statement_keeps n {s = s} (stores {path = path} {r = r} {d = d} e h g w v) none =

@@ -1,16 +1,16 @@
 -- The FILTERs of a SPLIT fit in turn, and each gives the rows of the relation that is split. So does an ASSERT.
 use Rattle.std.proofs.Common.{◌≡◌, ◌∙◌, ◌+◌, ◌++◌, ℕ, List, [], ◌∷◌, map, length, true, false, refl, sym, ap, subst, arith, append-nil}
-use Rattle.std.specs.Prelude.{⊤, Option, Some, None}
+use Rattle.std.specs.Prelude.{Option, Some, None}
 use Rattle.std.specs.List.{AllByRecursion}
 use Rattle.std.proofs.lemmas.List.{length-append, length-map}
 use Rattle.pig_value.proofs.list_laws.Listing.{each-append}
 use Rattle.pig_value.specs.Trees.{KindTree, k_boolean}
-use Rattle.pig_schema.specs.FieldTrees.{FieldTree, tree_kind}
+use Rattle.pig_schema.specs.FieldTrees.{tree_kind}
 use Rattle.pig_syntax.specs.declared.trees.Branch.{Branch}
 use Rattle.pig_typed.specs.ExprKinds.{expr_kind, links_kind}
 use Rattle.pig_typed.specs.Typed.{Typed, links_of, x_not}
 use Rattle.pig_plan.specs.NodeKinds.{kinds_at}
-use Rattle.pig_plan.specs.Plans.{Plan, PlanOp, p_assert, p_filter}
+use Rattle.pig_plan.specs.Plans.{Plan, p_assert, p_filter}
 use Rattle.pig_plan.specs.Valid.{fits}
 use Rattle.pig_plan.specs.Written.{links_write_lf, writes_lf}
 use Rattle.pig_relations.specs.Aliases.{IsRelation, RelationTree}

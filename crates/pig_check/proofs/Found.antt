@@ -1,11 +1,10 @@
 -- What holds of statements is found, so there is one typing of a statement, or a refusal, and never both.
 use Rattle.std.proofs.Common.{◌≡◌, ◌∙◌, ℕ, Bool, true, false, List, refl, subst, sym}
-use Rattle.std.specs.Prelude.{Option, Some, None, if◌then◌else◌}
+use Rattle.std.specs.Prelude.{Option, if◌then◌else◌}
 use Rattle.std.specs.Bool.{Decides}
 use Rattle.std.specs.Str.{bytes_eq}
 use Rattle.std.specs.declared.result.Result.TheVariants.{Ok, Err}
 use Rattle.std.proofs.lemmas.Slice.Eq.{bytes_eq-Decides}
-use Rattle.pig_schema.specs.FieldTrees.{FieldTree}
 use Rattle.pig_syntax.specs.ExprTrees.{expr_form}
 use Rattle.pig_syntax.specs.declared.trees.Branch.{Branch}
 use Rattle.pig_syntax.specs.declared.trees.Func.{Func}
@@ -17,8 +16,7 @@ use Rattle.pig_typing.specs.declared.faults.CheckKind.{CheckKind}
 use Rattle.pig_typing.specs.declared.faults.CheckKind.TheVariants as kind
 use Rattle.pig_typing.specs.Columns.{Place}
 use Rattle.pig_typing.specs.Conditions.{condition_on}
-use Rattle.pig_typing.specs.Limits.{limited_row}
-use Rattle.pig_typing.specs.Results.{Checked, due, ◌>>=◌}
+use Rattle.pig_typing.specs.Results.{due}
 use Rattle.pig_typing.proofs.ItemsFound.{condition_found, condition_fails}
 use Rattle.pig_typing.proofs.References.{Fails, failed, fails_first, fails_next, not_both}
 use Rattle.pig_blocks.proofs.Found.{foreach_found, foreach_fails, order_found, order_fails}
@@ -26,12 +24,14 @@ use Rattle.pig_relations.specs.Aliases.{relation_of}
 use Rattle.pig_relations.specs.Operators.{TypedOp}
 use Rattle.pig_relations.proofs.OperatorsTold.{group_found, group_fails, group_all_found, group_all_fails, join_found, join_fails, union_found, union_fails}
 use Rattle.pig_check.specs.Functions.{HasDelimiter, HasNoDelimiter, none_written, of_pig_storage, other_function, odd_arguments, delimiter_by, delimiter_in, pig_storage}
-use Rattle.pig_check.specs.Operators.{OpTypes, OpNot, load, filter, foreach, group_all, group, join, distinct, order, limit, no_path, own_output, no_delimiter, float_written, past_limits, filter_of_none, no_condition, foreach_of_none, no_block, no_group_all, no_group, no_join, distinct_of_none, order_of_none, no_order, limit_of_none, no_cube, no_rank, not_stored, input_of, schema_of, load_of, filter_of, block_of, distinct_of, order_of, limit_of}
-use Rattle.pig_check.specs.Paths.{GivesPath, GivesNoPath, a_path, not_plain, compressed, is_compressed, is_plain, kept, path_of}
+use Rattle.pig_check.specs.Operators.{OpTypes, OpNot, load, filter, foreach, group_all, group, join, distinct, order, limit, no_path, own_output, no_delimiter, float_written, past_limits, filter_of_none, no_condition, foreach_of_none, no_block, no_group_all, no_group, no_join, distinct_of_none, order_of_none, no_order, limit_of_none, no_rank, not_stored, input_of, schema_of, load_of, filter_of, block_of, distinct_of, order_of, limit_of}
+use Rattle.pig_check.specs.Paths.{GivesPath, GivesNoPath, a_path, not_plain, compressed, is_plain, kept, path_of}
 use Rattle.pig_check.specs.Splits.{AllConditions, AllConditionsNot, no_branches, more_branches, here_not, later_not, conditions_of, split_of}
 use Rattle.pig_check.specs.States.{Added, State, is_loaded, is_stored}
-use Rattle.pig_check.specs.Statements.{StatementTypes, StatementNot, nothing, assigns, unites, splits, stores, asserts, left_out, assigns_not, unites_not, split_of_none, no_branch, store_of_none, stored_at_none, stored_twice, stored_over_input, stored_by_none, assert_of_none, no_test, assert_of, apart_from, output_of, store_of, op_of, node_of, assign_of, statement_of}
+use Rattle.pig_check.specs.Statements.{StatementTypes, StatementNot, nothing, assigns, unites, makes_cube, splits, stores, asserts, left_out, assigns_not, unites_not, makes_no_cube, split_of_none, no_branch, store_of_none, stored_at_none, stored_twice, stored_over_input, stored_by_none, assert_of_none, no_test, assert_of, apart_from, output_of, store_of, op_of, node_of, assign_of, statement_of}
 use Rattle.pig_check.specs.Unions.{union_at}
+use Rattle.pig_check.specs.Cubes.{cube_at}
+use Rattle.pig_check.proofs.CubesTold.{cube_fails, cube_found}
 
 -- ---- paths and storage functions
 
@@ -103,7 +103,6 @@ op_fails (distinct_of_none e) = rw (e) failed
 op_fails (order_of_none e) = rw (e) failed
 op_fails (no_order e h) = rw (e) (fails_first _ (order_fails h))
 op_fails (limit_of_none e) = rw (e) failed
-op_fails no_cube = failed
 op_fails no_rank = failed
 
 -- ---- statements
@@ -118,7 +117,7 @@ unfolding conditions_of
 conditions_fail (here_not h) = fails_first _ (condition_fails h)
 conditions_fail {s = s} (later_not {b = b} h) = fails_next _ (condition_on s (expr_form b.cond)) (λ t. fails_first _ (conditions_fail h))
 
--- an operator that is typed alone is no UNION
+-- an operator that is typed alone is no UNION and no CUBE
 node_found : {s : State} (alias : List ℕ) {o : Op} {t : TypedOp} → OpTypes s o t → assign_of s alias o ≡ node_of s alias o
 node_found alias (load h e g w v) = refl
 node_found alias (filter e h) = refl
@@ -147,7 +146,6 @@ node_not alias (distinct_of_none e) = refl
 node_not alias (order_of_none e) = refl
 node_not alias (no_order e h) = refl
 node_not alias (limit_of_none e) = refl
-node_not alias no_cube = refl
 node_not alias no_rank = refl
 
 stored_before : (nodes : Plan) {text path : List ℕ} → GivesPath text path → is_stored path nodes ≡ true → Fails (output_of nodes text)
@@ -159,21 +157,23 @@ unfolding output_of apart_from
 over_input nodes {path = path} h e = rw (path_found h, e) (either_fails (is_stored path nodes) kind.OutputTwice kind.SelfLoad)
 
 pub statement_found : {s : State} {st : Stmt} {added : Added} → StatementTypes s st added → statement_of s st ≡ Ok added
-unfolding statement_of node_of union_at split_of store_of output_of apart_from relation_of assert_of
+unfolding statement_of node_of union_at cube_at split_of store_of output_of apart_from relation_of assert_of
 statement_found nothing = refl
 statement_found (assigns {alias = alias} h) = node_found alias h ∙ (rw (op_found h) refl)
 statement_found (unites h) = rw (union_found h) refl
+statement_found (makes_cube h) = rw (cube_found h) refl
 statement_found (splits e h) = rw (e, conditions_found h) refl
 statement_found (stores e h g w d) = rw (e, path_found h, g, w, delimiter_found d) refl
 statement_found (asserts e h) = rw (e, condition_found h) refl
 
 pub statement_fails : {s : State} {st : Stmt} {f : CheckKind} → StatementNot s st f → Fails (statement_of s st)
-unfolding statement_of node_of union_at split_of store_of output_of apart_from relation_of assert_of
+unfolding statement_of node_of union_at cube_at split_of store_of output_of apart_from relation_of assert_of
 statement_fails left_out = failed
 statement_fails (assert_of_none e) = rw (e) failed
 statement_fails (no_test e h) = rw (e) (fails_first _ (condition_fails h))
 statement_fails (assigns_not {alias = alias} h) = subst Fails (sym (node_not alias h)) (fails_first _ (op_fails h))
 statement_fails (unites_not h) = fails_first _ (union_fails h)
+statement_fails (makes_no_cube h) = fails_first _ (cube_fails h)
 statement_fails (split_of_none e) = rw (e) failed
 statement_fails (no_branch e h) = rw (e) (fails_first _ (conditions_fail h))
 statement_fails (store_of_none e) = rw (e) failed

@@ -1,16 +1,16 @@
 -- A plan with a further node: what earlier nodes give stays, and the new one gives what it does on these.
-use Rattle.std.specs.Prelude.{◌≡◌, ◌<◌, ◌≤◌, ◌+◌, ◌&&◌, ◌||◌, ◌⊎◌, ◌==◌, ℕ, Bool, true, false, List, [], ◌∷◌, ◌++◌, length, map, Option, Some, None, slice_get, refl}
+use Rattle.std.specs.Prelude.{◌≡◌, ◌<◌, ◌≤◌, ◌&&◌, ◌||◌, ◌⊎◌, ◌==◌, ℕ, Bool, true, false, List, [], ◌∷◌, ◌++◌, length, map, Option, Some, None, slice_get, refl}
 use Rattle.std.specs.List.{AllByRecursion, list_any}
 use Rattle.std.specs.Option.{unwrap_or}
-use Rattle.std.proofs.Common.{ap, sym, ◌∙◌, subst, arith, zero, suc, append_assoc, append-nil, inl, inr}
+use Rattle.std.proofs.Common.{ap, sym, ◌∙◌, arith, zero, suc, append_assoc, append-nil, inl, inr}
 use Rattle.std.proofs.lemmas.Bool.{cases_lt, ne_eqb}
 use Rattle.std.proofs.lemmas.Option.{slice_get_past}
-use Rattle.pig_plan.specs.NodeKinds.{Before, NodeGives, RowKinds, kinds_at, kinds_step, kinds_table, node_gives}
+use Rattle.pig_plan.specs.NodeKinds.{RowKinds, kinds_at, kinds_step, kinds_table, node_gives}
 use Rattle.pig_plan.specs.Plans.{Plan, PlanNode, PlanOp}
 use Rattle.pig_plan.specs.Results.{at_place}
 use Rattle.pig_plan.specs.Valid.{are_twins, fits, is_twin, op_writes_lf}
 use Rattle.pig_plan.proofs.Unfolds.{length-results, result-append, results-append}
-use Rattle.pig_check.specs.States.{AllFit, IsEarlier, node_of_statement}
+use Rattle.pig_check.specs.States.{IsEarlier, node_of_statement}
 
 -- what the nodes of the first plan give, those of the second do
 abbrev pub Stays : Plan → Plan → Type 0

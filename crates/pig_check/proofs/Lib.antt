@@ -8,6 +8,9 @@ mod Found
 mod ScriptsTold
 mod Filters
 mod Unites
+mod CubesTold
+mod CubeFits
+mod CubeSteps
 mod Sound
 mod Steps
 mod Within

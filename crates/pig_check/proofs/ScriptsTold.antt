@@ -12,7 +12,7 @@ use Rattle.pig_check.specs.declared.faults.CheckFault.{CheckFault}
 use Rattle.pig_check.specs.declared.faults.CheckFault.TheVariants as fault
 use Rattle.pig_check.specs.Views.{StepTells, TellsState}
 use Rattle.pig_check.specs.Scripts.{FirstUntyped, IfRefusedAt, IsFirstUntyped, IsPlanOf, TypesAll, first_not, later_not, next_types, goes_on, none_left, plan_of_all, script_of}
-use Rattle.pig_check.specs.Statements.{StatementNot, StatementTypes, statement_of}
+use Rattle.pig_check.specs.Statements.{StatementTypes, statement_of}
 use Rattle.pig_check.specs.States.{Added, State, after, nothing_yet}
 use Rattle.pig_check.proofs.Found.{no_statement, one_statement}
 use Rattle.pig_check.proofs.Told.{IsStatementTold, statement_told}

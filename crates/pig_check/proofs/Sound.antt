@@ -1,9 +1,8 @@
 -- Operators of typed statements may be added, and give rows of the kinds of their columns.
-use Rattle.std.proofs.Common.{◌≡◌, ◌∙◌, ◌+◌, ◌++◌, ◌&&◌, ℕ, Bool, true, false, List, [], ◌∷◌, map, length, refl, sym, ap, subst, arith}
-use Rattle.std.specs.Prelude.{⊤, Option, Some, None, nat_lt}
+use Rattle.std.proofs.Common.{◌≡◌, ◌∙◌, ◌+◌, ℕ, true, List, [], ◌∷◌, map, length, refl, ap, subst, arith}
+use Rattle.std.specs.Prelude.{Some, nat_lt}
 use Rattle.std.specs.Option.{option_map}
 use Rattle.std.proofs.lemmas.Bool.{lt-ltb}
-use Rattle.pig_value.specs.declared.inputs.Column.{Column}
 use Rattle.pig_value.specs.Trees.{KindTree, KindTrees, k_boolean, k_int, k_long, k_chars, k_bytes, k_tuple, k_bag, k_map, kind_tree, kinds_of, no_kinds, more_kinds}
 use Rattle.pig_value.proofs.TreeLaws.{kind_tree-Boolean, kind_tree-Int, kind_tree-Long, kind_tree-Chararray, kind_tree-Bytearray, kind_tree-Tuple, kind_tree-Bag, kind_tree-Map}
 use Rattle.pig_schema.specs.FieldTrees.{FieldTree, inner_list, inner_of, tree_kind}
@@ -13,7 +12,7 @@ use Rattle.pig_syntax.specs.declared.trees.Expr.{Expr}
 use Rattle.pig_syntax.specs.declared.trees.FieldTree as syntax
 use Rattle.pig_syntax.specs.declared.trees.Op.{Op}
 use Rattle.pig_typed.specs.Typed.{Typed}
-use Rattle.pig_plan.specs.NodeKinds.{ascend, kinds_at, stands_first}
+use Rattle.pig_plan.specs.NodeKinds.{ascend, kinds_at}
 use Rattle.pig_plan.specs.Plans.{Plan}
 use Rattle.pig_typing.specs.Columns.{AreColumns}
 use Rattle.pig_typing.specs.Conditions.{Conditions}
@@ -24,7 +23,7 @@ use Rattle.pig_typing.proofs.NoLineEnds.{condition_free}
 use Rattle.pig_blocks.specs.Foreach.{block_in}
 use Rattle.pig_blocks.proofs.BlockKinds.{foreach_holds, order_keys, order_some}
 use Rattle.pig_blocks.proofs.LineFree.{foreach_free}
-use Rattle.pig_relations.specs.Aliases.{IsRelation, IsTable, RelationTree}
+use Rattle.pig_relations.specs.Aliases.{IsTable, RelationTree}
 use Rattle.pig_relations.specs.Keyed.{group_form}
 use Rattle.pig_relations.specs.Operators.{TypedOp}
 use Rattle.pig_relations.proofs.Gives.{group_all_gives, group_gives, join_gives}

@@ -1,12 +1,11 @@
 -- What a typed statement adds fits the plan in turn, and the state behind it is sound again.
-use Rattle.std.proofs.Common.{◌≡◌, ◌∙◌, ◌+◌, ◌<◌, ◌++◌, ℕ, List, [], ◌∷◌, map, length, suc, true, refl, sym, ap, subst, arith, append_assoc, append-nil}
-use Rattle.std.specs.Prelude.{⊤, Option, Some, None, All}
+use Rattle.std.proofs.Common.{◌≡◌, ◌+◌, ◌++◌, ℕ, List, [], ◌∷◌, map, length, suc, refl, sym, ap, subst, arith, append_assoc, append-nil}
+use Rattle.std.specs.Prelude.{Option, None, All}
 use Rattle.std.specs.List.{AllByRecursion}
 use Rattle.std.specs.declared.result.Result.TheVariants.{Ok}
 use Rattle.std.proofs.lemmas.List.Elements.{All-head, All-tail}
 use Rattle.pig_value.proofs.list_laws.Listing.{each-append, each_weaker}
 use Rattle.pig_schema.specs.FieldTrees.{tree_kind}
-use Rattle.pig_syntax.specs.ExprTrees.{expr_form}
 use Rattle.pig_syntax.specs.Formed.{BranchFormed, StmtFormed}
 use Rattle.pig_syntax.specs.declared.trees.Branch.{Branch}
 use Rattle.pig_syntax.specs.declared.trees.Stmt.{Stmt}
@@ -18,12 +17,13 @@ use Rattle.pig_relations.specs.Aliases.{Aliases, IsRelation, IsTable, RelationTr
 use Rattle.pig_relations.proofs.Tables.{table_behind, table_stays}
 use Rattle.pig_check.specs.Splits.{AllConditions, more_branches, no_branches}
 use Rattle.pig_check.specs.States.{Added, AllFit, IsEarlier, IsSound, State, after, node_of_statement, row_of}
-use Rattle.pig_check.specs.Statements.{StatementTypes, asserts, assigns, nothing, splits, statement_of, stores, unites}
+use Rattle.pig_check.specs.Statements.{StatementTypes, asserts, assigns, makes_cube, nothing, splits, statement_of, stores, unites}
 use Rattle.pig_check.proofs.Filters.{IsTest, all_test, assert_may, as_many, filters_fit, filters_give}
 use Rattle.pig_check.proofs.Grown.{MayAdd, all_stay, it_fits, last_gives, no_twins}
 use Rattle.pig_check.proofs.Unites.{union_fits, union_given}
+use Rattle.pig_check.proofs.CubeFits.{cube_fits, cube_given}
 use Rattle.pig_check.proofs.Told.{IsStatementTold, statement_told}
-use Rattle.pig_check.proofs.Sound.{IsMade, condition_tests, op_made}
+use Rattle.pig_check.proofs.Sound.{condition_tests, op_made}
 
 table_all : (before : Before) (aliases given : Aliases) → IsTable before aliases → AllByRecursion (λ g. IsRelation before g.1) given → IsTable before (aliases ++ given)
 table_all before aliases [] t h = subst (IsTable before) (sym (append-nil aliases)) t
@@ -78,6 +78,11 @@ module _ (statement : ℕ) (s : State) (sound : IsSound statement s) where
       record {
         fit = union_fits statement s.nodes s.aliases sound.table onschema names t h;
         given = (union_given statement s.nodes s.aliases sound.table onschema names t h, tt);
+      }
+  statement_steps st added formed (makes_cube {alias = alias} {from = from} {rollup = rollup} {dims = dims} {t = t} h) =
+      record {
+        fit = cube_fits statement s.nodes s.aliases sound.table alias rollup from dims t h;
+        given = (cube_given statement s.nodes s.aliases sound.table alias rollup from dims t h, tt);
       }
   statement_steps st added formed (splits {from = from} {bs = bs} {otherwise = otherwise} {r = r} {ts = ts} e h) =
       let is = sound.table from r e in

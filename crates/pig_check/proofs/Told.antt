@@ -1,5 +1,5 @@
 -- What the readers of statements tell holds: what a statement adds, and of what is refused a condition.
-use Rattle.std.proofs.Common.{◌≡◌, ℕ, Bool, true, false, List, [], ◌∷◌, map, length, refl}
+use Rattle.std.proofs.Common.{◌≡◌, ℕ, Bool, true, false, List, [], ◌∷◌, map, refl}
 use Rattle.std.specs.Prelude.{Option, Some, None, if◌then◌else◌}
 use Rattle.std.specs.Bool.{Decides}
 use Rattle.std.specs.Str.{bytes_eq}
@@ -10,6 +10,7 @@ use Rattle.pig_schema.specs.FieldTrees.{FieldTree}
 use Rattle.pig_syntax.specs.ExprTrees.{expr_form}
 use Rattle.pig_syntax.specs.declared.trees.Branch.{Branch}
 use Rattle.pig_syntax.specs.declared.trees.Expr.{Expr}
+use Rattle.pig_syntax.specs.declared.trees.FieldRef.{FieldRef}
 use Rattle.pig_syntax.specs.declared.trees.FieldTree as written
 use Rattle.pig_syntax.specs.declared.trees.Func.{Func}
 use Rattle.pig_syntax.specs.declared.trees.Item.{Item}
@@ -19,9 +20,7 @@ use Rattle.pig_syntax.specs.declared.trees.OrderKeys.{OrderKeys}
 use Rattle.pig_syntax.specs.declared.trees.Step.{Step}
 use Rattle.pig_syntax.specs.declared.trees.Stmt.{Stmt}
 use Rattle.pig_syntax.specs.declared.trees.Stmt.TheVariants as stmt
-use Rattle.pig_plan.specs.Plans.{Plan}
 use Rattle.pig_typed.specs.Typed.{Typed}
-use Rattle.pig_typing.specs.declared.faults.CheckKind.{CheckKind}
 use Rattle.pig_typing.specs.declared.faults.CheckKind.TheVariants as kind
 use Rattle.pig_typing.specs.Columns.{Place}
 use Rattle.pig_typing.specs.Conditions.{condition_on}
@@ -32,18 +31,20 @@ use Rattle.pig_typing.proofs.ItemsTold.{IsConditionTold, condition_told}
 use Rattle.pig_blocks.specs.Foreach.{foreach_of}
 use Rattle.pig_blocks.specs.SortKeys.{sorted_by}
 use Rattle.pig_blocks.proofs.Told.{IsForeachTold, IsOrderTold, foreach_told, order_told}
-use Rattle.pig_relations.specs.Aliases.{Aliases, RelationTree, relation_at, relation_of}
+use Rattle.pig_relations.specs.Aliases.{relation_at, relation_of}
 use Rattle.pig_relations.specs.Keyed.{group_form, join_form}
 use Rattle.pig_relations.specs.Operators.{TypedOp, group_all_of, group_of, join_of}
-use Rattle.pig_relations.specs.Unions.{TypedUnion, union_of}
+use Rattle.pig_relations.specs.Unions.{union_of}
 use Rattle.pig_relations.proofs.OperatorsTold.{IsGroupTold, IsGroupAllTold, IsJoinTold, IsUnionTold, group_told, group_all_told, join_told, union_told}
 use Rattle.pig_check.specs.Functions.{HasDelimiter, HasNoDelimiter, none_written, of_pig_storage, other_function, odd_arguments, delimiter_by, delimiter_in, pig_storage}
-use Rattle.pig_check.specs.Operators.{OpTypes, OpNot, load, filter, foreach, group_all, group, join, distinct, order, limit, no_path, own_output, no_delimiter, float_written, past_limits, filter_of_none, no_condition, foreach_of_none, no_block, no_group_all, no_group, no_join, distinct_of_none, order_of_none, no_order, limit_of_none, no_cube, no_rank, written_columns, not_stored, input_of, schema_of, load_of, filter_of, block_of, distinct_of, order_of, limit_of}
+use Rattle.pig_check.specs.Operators.{OpTypes, OpNot, load, filter, foreach, group_all, group, join, distinct, order, limit, no_path, own_output, no_delimiter, float_written, past_limits, filter_of_none, no_condition, foreach_of_none, no_block, no_group_all, no_group, no_join, distinct_of_none, order_of_none, no_order, limit_of_none, no_rank, written_columns, not_stored, input_of, schema_of, load_of, filter_of, block_of, distinct_of, order_of, limit_of}
 use Rattle.pig_check.specs.Paths.{GivesPath, GivesNoPath, a_path, not_plain, compressed, is_compressed, is_plain, kept, path_of}
 use Rattle.pig_check.specs.Splits.{AllConditions, AllConditionsNot, no_branches, more_branches, here_not, later_not, conditions_of, split_of}
 use Rattle.pig_check.specs.States.{Added, State, is_loaded, is_stored, row_of}
-use Rattle.pig_check.specs.Statements.{StatementTypes, StatementNot, nothing, assigns, unites, splits, stores, asserts, left_out, assigns_not, unites_not, split_of_none, no_branch, store_of_none, stored_at_none, stored_twice, stored_over_input, stored_by_none, assert_of_none, no_test, assert_of, apart_from, output_of, store_of, op_of, node_of, assign_of, statement_of}
+use Rattle.pig_check.specs.Statements.{StatementTypes, StatementNot, nothing, assigns, unites, makes_cube, splits, stores, asserts, left_out, assigns_not, unites_not, makes_no_cube, split_of_none, no_branch, store_of_none, stored_at_none, stored_twice, stored_over_input, stored_by_none, assert_of_none, no_test, assert_of, apart_from, output_of, store_of, op_of, node_of, assign_of, statement_of}
 use Rattle.pig_check.specs.Unions.{union_at}
+use Rattle.pig_check.specs.Cubes.{cube_at, cube_of}
+use Rattle.pig_check.proofs.CubesTold.{IsCubeTold, cube_told}
 
 -- ---- paths and storage functions
 
@@ -160,9 +161,10 @@ abbrev pub IsStatementTold : State → Stmt → Checked Added → Type 0
 IsStatementTold s st (Ok added) = StatementTypes s st added
 IsStatementTold s st (Err f) = StatementNot s st f
 
--- UNION alone adds more than one node
+-- UNION and CUBE alone add more than one node
 abbrev AddsOne : Op → Type 0
 AddsOne (operator.Union onschema names) = ⊥
+AddsOne (operator.Cube from rollup dims) = ⊥
 AddsOne o = Unit {0}
 
 op_told : (s : State) (o : Op) → AddsOne o → IsOpTold s o (op_of s o)
@@ -183,7 +185,7 @@ op_told s (operator.Union onschema names) one = absurd one
 op_told s (operator.Distinct from) one = distinct_told s from
 op_told s (operator.Order from keys) one = sorted_told s from keys
 op_told s (operator.Limit from count) one = limit_told s from count
-op_told s (operator.Cube from rollup dims) one = no_cube
+op_told s (operator.Cube from rollup dims) one = absurd one
 op_told s (operator.Rank from keys dense) one = no_rank
 
 node_told : (s : State) (alias : List ℕ) (o : Op) → AddsOne o → IsStatementTold s (stmt.Assign alias o) (node_of s alias o)
@@ -197,8 +199,15 @@ united_told s alias onschema names =
     then_told (IsUnionTold s.aliases onschema names) (IsStatementTold s (stmt.Assign alias (operator.Union onschema names))) _
     (union_of s.aliases onschema names) (union_told s.aliases onschema names) (λ t h. unites h) (λ f h. unites_not h)
 
+cubed_told : (s : State) (alias from : List ℕ) (rollup : Bool) (dims : List FieldRef) → IsStatementTold s (stmt.Assign alias (operator.Cube from rollup dims)) (cube_at s alias from rollup dims)
+unfolding cube_at
+cubed_told s alias from rollup dims =
+    then_told (IsCubeTold s.aliases from dims) (IsStatementTold s (stmt.Assign alias (operator.Cube from rollup dims))) _
+    (cube_of s.aliases from dims) (cube_told s.aliases from dims) (λ t h. makes_cube h) (λ f h. makes_no_cube h)
+
 assign_told : (s : State) (alias : List ℕ) (o : Op) → IsStatementTold s (stmt.Assign alias o) (assign_of s alias o)
 assign_told s alias (operator.Union onschema names) = united_told s alias onschema names
+assign_told s alias (operator.Cube from rollup dims) = cubed_told s alias from rollup dims
 assign_told s alias o = node_told s alias o tt
 
 abbrev AreConditions : Place → List Branch → Checked (List Typed) → Type 0

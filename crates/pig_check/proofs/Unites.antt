@@ -1,10 +1,9 @@
 -- The FOREACHs before a UNION fit in turn, and the UNION behind them gives rows of the kinds of its columns.
-use Rattle.std.proofs.Common.{◌≡◌, ◌∙◌, ◌+◌, ◌++◌, ℕ, suc, List, [], ◌∷◌, map, length, true, false, refl, sym, ap, subst, arith, append_assoc, append-nil}
-use Rattle.std.specs.Prelude.{⊤, Bool, Option, Some, None, IfSome}
-use Rattle.std.specs.List.{AllByRecursion, flat_map}
+use Rattle.std.proofs.Common.{◌≡◌, ◌∙◌, ◌+◌, ◌++◌, ℕ, suc, List, [], ◌∷◌, map, length, false, refl, sym, ap, subst, append_assoc, append-nil}
+use Rattle.std.specs.Prelude.{Bool, Option, Some, None, IfSome}
+use Rattle.std.specs.List.{AllByRecursion}
 use Rattle.std.proofs.lemmas.List.{length-append, length-map, map-append}
 use Rattle.pig_value.proofs.list_laws.Listing.{each_weaker}
-use Rattle.pig_value.specs.Trees.{KindTree}
 use Rattle.pig_schema.specs.FieldTrees.{tree_kind}
 use Rattle.pig_typed.specs.Typed.{TypedBlock}
 use Rattle.pig_plan.specs.NodeKinds.{RowKinds, kinds_at}

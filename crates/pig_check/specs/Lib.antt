@@ -4,6 +4,7 @@ pub mod States
 pub mod Operators
 pub mod Splits
 pub mod Unions
+pub mod Cubes
 pub mod Statements
 pub mod Scripts
 pub mod Views

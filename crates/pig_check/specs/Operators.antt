@@ -12,7 +12,6 @@ use Rattle.pig_syntax.specs.ExprTrees.{expr_form, field_form, field_forms}
 use Rattle.pig_syntax.specs.declared.trees.Expr.{Expr}
 use Rattle.pig_syntax.specs.declared.trees.FieldTree as written
 use Rattle.pig_syntax.specs.declared.trees.Func.{Func}
-use Rattle.pig_syntax.specs.declared.trees.FieldRef.{FieldRef}
 use Rattle.pig_syntax.specs.declared.trees.GroupInput.{GroupInput}
 use Rattle.pig_syntax.specs.declared.trees.Item.{Item}
 use Rattle.pig_syntax.specs.declared.trees.JoinInput.{JoinInput}
@@ -111,7 +110,6 @@ pub data OpNot (s : State) : Op → CheckKind → Type 0 where
   no_order : {from : List ℕ} {keys : OrderKeys} {r : RelationTree} {f : CheckKind}
       → relation_at from s.aliases ≡ Some r → SortsByNot r.columns keys f → OpNot s (operator.Order from keys) f
   limit_of_none : {from : List ℕ} {count : ℕ} → relation_at from s.aliases ≡ None → OpNot s (operator.Limit from count) kind.UnknownAlias
-  no_cube : {from : List ℕ} {rollup : Bool} {dims : List FieldRef} → OpNot s (operator.Cube from rollup dims) kind.Unsupported
   no_rank : {from : List ℕ} {keys : OrderKeys} {dense : Bool} → OpNot s (operator.Rank from keys dense) kind.Unsupported
 
 -- ---- the same as functions

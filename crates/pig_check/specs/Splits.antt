@@ -2,7 +2,7 @@
 -- (Pig Latin Basics: "SPLIT". That a row for which the negation is null goes nowhere is a choice of this profile.)
 use Rattle.std.specs.Prelude.{◌++◌, ◌+◌, ℕ, false, List, [], ◌∷◌, length, map, Option, Some, None}
 use Rattle.std.specs.Option.{option_to_list}
-use Rattle.std.specs.declared.result.Result.TheVariants.{Ok, Err}
+use Rattle.std.specs.declared.result.Result.TheVariants.{Ok}
 use Rattle.pig_value.specs.declared.operators.ChainOp.{ChainOp}
 use Rattle.pig_value.specs.declared.operators.ChainOp.TheVariants as op
 use Rattle.pig_schema.specs.FieldTrees.{FieldTree}

@@ -5,6 +5,7 @@ use Rattle.std.specs.declared.result.Result.TheVariants.{Ok, Err}
 use Rattle.pig_syntax.specs.ExprTrees.{expr_form}
 use Rattle.pig_syntax.specs.declared.trees.Branch.{Branch}
 use Rattle.pig_syntax.specs.declared.trees.Expr.{Expr}
+use Rattle.pig_syntax.specs.declared.trees.FieldRef.{FieldRef}
 use Rattle.pig_syntax.specs.declared.trees.Func.{Func}
 use Rattle.pig_syntax.specs.declared.trees.Op.{Op}
 use Rattle.pig_syntax.specs.declared.trees.Op.TheVariants as operator
@@ -25,6 +26,7 @@ use Rattle.pig_check.specs.Operators.{OpNot, OpTypes, made, load_of, filter_of, 
 use Rattle.pig_check.specs.Paths.{GivesNoPath, GivesPath, path_of}
 use Rattle.pig_check.specs.Splits.{AllConditions, AllConditionsNot, split_into, split_of}
 use Rattle.pig_check.specs.Unions.{union_at, united}
+use Rattle.pig_check.specs.Cubes.{Cubes, CubesNot, TypedCube, cube_at, cubed}
 use Rattle.pig_check.specs.States.{Added, State, adds_nothing, is_loaded, is_stored, row_of}
 
 -- the node of an operator, and the relation that it makes, behind so many nodes
@@ -43,6 +45,8 @@ pub data StatementTypes (s : State) : Stmt → Added → Type 0 where
   assigns : {alias : List ℕ} {o : Op} {t : TypedOp} → OpTypes s o t → StatementTypes s (stmt.Assign alias o) (assigned (length s.nodes) alias t)
   unites : {alias : List ℕ} {onschema : Bool} {names : List (List ℕ)} {t : TypedUnion}
       → Unions s.aliases onschema names t → StatementTypes s (stmt.Assign alias (operator.Union onschema names)) (united (length s.nodes) alias t)
+  makes_cube : {alias from : List ℕ} {rollup : Bool} {dims : List FieldRef} {t : TypedCube}
+      → Cubes s.aliases from dims t → StatementTypes s (stmt.Assign alias (operator.Cube from rollup dims)) (cubed (length s.nodes) alias rollup t)
   splits : {from : List ℕ} {bs : List Branch} {otherwise : Option (List ℕ)} {r : RelationTree} {ts : List Typed}
       → relation_at from s.aliases ≡ Some r → AllConditions (row_of r.columns) bs ts
       → StatementTypes s (stmt.Split from bs otherwise) (split_into (length s.nodes) r bs otherwise ts)
@@ -58,6 +62,8 @@ pub data StatementNot (s : State) : Stmt → CheckKind → Type 0 where
   assigns_not : {alias : List ℕ} {o : Op} {f : CheckKind} → OpNot s o f → StatementNot s (stmt.Assign alias o) f
   unites_not : {alias : List ℕ} {onschema : Bool} {names : List (List ℕ)} {f : CheckKind}
       → UnionsNot s.aliases onschema names f → StatementNot s (stmt.Assign alias (operator.Union onschema names)) f
+  makes_no_cube : {alias from : List ℕ} {rollup : Bool} {dims : List FieldRef} {f : CheckKind}
+      → CubesNot s.aliases from dims f → StatementNot s (stmt.Assign alias (operator.Cube from rollup dims)) f
   split_of_none : {from : List ℕ} {bs : List Branch} {otherwise : Option (List ℕ)}
       → relation_at from s.aliases ≡ None → StatementNot s (stmt.Split from bs otherwise) kind.UnknownAlias
   no_branch : {from : List ℕ} {bs : List Branch} {otherwise : Option (List ℕ)} {r : RelationTree} {f : CheckKind}
@@ -108,10 +114,10 @@ op_of s (operator.Join inputs side using) = join_of s.aliases (map join_form inp
 op_of s (operator.Distinct from) = distinct_of s.aliases from
 op_of s (operator.Order from keys) = order_of s.aliases from keys
 op_of s (operator.Limit from count) = limit_of s.aliases from count
-op_of s (operator.Cube from rollup dims) = Err kind.Unsupported
 op_of s (operator.Rank from keys dense) = Err kind.Unsupported
--- nodes may stand before that of a UNION
+-- nodes may stand before that of a UNION, and one stands before that of a CUBE
 op_of s (operator.Union onschema names) = Err kind.Unsupported
+op_of s (operator.Cube from rollup dims) = Err kind.Unsupported
 
 unfoldable pub node_of : State → List ℕ → Op → Checked Added
 node_of s alias o = do
@@ -120,6 +126,7 @@ node_of s alias o = do
 
 abbrev pub assign_of : State → List ℕ → Op → Checked Added
 assign_of s alias (operator.Union onschema names) = union_at s alias onschema names
+assign_of s alias (operator.Cube from rollup dims) = cube_at s alias from rollup dims
 assign_of s alias o = node_of s alias o
 
 unfoldable pub statement_of : State → Stmt → Checked Added

@@ -2,7 +2,7 @@
 -- (Pig Latin Basics: "UNION". That columns of int and long are brought together by casts is a choice of this profile.)
 use Rattle.std.specs.Prelude.{◌++◌, ◌+◌, ℕ, Bool, List, [], ◌∷◌, length, Option, Some, None}
 use Rattle.std.specs.List.{flat_map}
-use Rattle.std.specs.declared.result.Result.TheVariants.{Ok, Err}
+use Rattle.std.specs.declared.result.Result.TheVariants.{Ok}
 use Rattle.pig_typed.specs.Typed.{TypedBlock}
 use Rattle.pig_plan.specs.Plans.{PlanOp, p_foreach, p_union}
 use Rattle.pig_typing.specs.Results.{Checked, ◌>>=◌}

@@ -2,6 +2,7 @@
 use Rattle.std.specs.Prelude.{◌≡◌, ℕ, map}
 use Rattle.std.specs.declared.result.Result.{Result}
 use Rattle.std.specs.declared.result.Result.TheVariants.{Ok, Err}
+use Rattle.pig_schema.specs.FieldTrees.{schema_tree}
 use Rattle.pig_plan.specs.Plans.{op_of, plan_of}
 use Rattle.pig_relations.specs.Aliases.{aliases_of}
 use Rattle.pig_typing.specs.declared.faults.CheckKind.{CheckKind}
@@ -12,6 +13,8 @@ use Rattle.pig_check.specs.declared.faults.CheckFault.{CheckFault}
 use Rattle.pig_check.specs.declared.faults.CheckFault.TheVariants as fault
 use Rattle.pig_check.specs.declared.state.Addition.{Addition}
 use Rattle.pig_check.specs.declared.state.Progress.{Progress}
+use Rattle.pig_check.specs.declared.cubes.TypedCube as code
+use Rattle.pig_check.specs.Cubes.{TypedCube}
 use Rattle.pig_check.specs.States.{Added, State, after}
 
 abbrev pub state_tree : Progress → State
@@ -19,6 +22,9 @@ state_tree p = record { aliases = aliases_of p.relations; nodes = plan_of p.plan
 
 abbrev pub added_tree : Addition → Added
 added_tree a = record { ops = map op_of a.ops; given = aliases_of a.given }
+
+abbrev pub cube_tree : code.TypedCube → TypedCube
+cube_tree t = record { node = t.node; dims = t.dims; width = t.width; columns = schema_tree t.columns }
 
 -- a refusal of the statement of this number
 abbrev pub fault_at : ℕ → TypeFault → CheckFault

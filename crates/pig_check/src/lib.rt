@@ -4,13 +4,14 @@
 //! refusal whose condition holds of it.
 //!
 //! `specs/Statements` has the typing of statements as a relation, one case for each form, beside the condition of each kind of refusal;
-//! `specs/Operators`, `specs/Splits`, `specs/Unions` and `specs/Paths` its parts, and `specs/Scripts` what the plan of a script is.
+//! `specs/Operators`, `specs/Splits`, `specs/Unions`, `specs/Cubes` and `specs/Paths` its parts, and `specs/Scripts` what the plan of a script is.
 //! [`a_script_has_one_plan`] says that a script has one plan or a first refusal, and never both; [`stores_are_apart`] that no two
 //! STOREs of a plan have one path.
 #![tactic(auto)]
 
 mod asserts;
 mod checking;
+mod cubes;
 mod faults;
 mod functions;
 mod laws;

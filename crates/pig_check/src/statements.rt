@@ -7,6 +7,7 @@ ghost use Rattle.pig_check.specs.Statements.{assign_of, assigned, node_of, op_of
 ghost use Rattle.pig_check.specs.Views.{added_tree, state_tree};
 
 use crate::asserts::assert;
+use crate::cubes::cube;
 use crate::operators::{distinct, filter, foreach, limit, load, order};
 use crate::splits::split;
 use crate::state::{Addition, GivenRelations, Progress, next_number};
@@ -59,6 +60,7 @@ fn assign(alloc: Global, state: &Progress, alias: &Text, op: &Op) -> Result<Addi
 {
     match op {
         Op::Union { onschema, from } => union(alloc, state, alias, *onschema, from),
+        Op::Cube { from, rollup, dims } => cube(alloc, state, alias, from, *rollup, dims),
         Op::Load { .. }
         | Op::Filter { .. }
         | Op::Foreach { .. }
@@ -68,7 +70,6 @@ fn assign(alloc: Global, state: &Progress, alias: &Text, op: &Op) -> Result<Addi
         | Op::Distinct { .. }
         | Op::Order { .. }
         | Op::Limit { .. }
-        | Op::Cube { .. }
         | Op::Rank { .. } => node(alloc, state, alias, op),
     }
 }
@@ -134,9 +135,8 @@ fn operator(alloc: Global, state: &Progress, op: &Op) -> Result<TypedOp, TypeFau
         Op::Distinct { from } => distinct(alloc, relations, from),
         Op::Order { from, keys } => order(alloc, relations, from, keys),
         Op::Limit { from, count } => limit(alloc, relations, from, *count),
-        Op::Cube { .. } => Err(TypeFault::Refused(CheckKind::Unsupported)),
         Op::Rank { .. } => Err(TypeFault::Refused(CheckKind::Unsupported)),
-        // Nodes may stand before that of a UNION.
-        Op::Union { .. } => Err(TypeFault::Refused(CheckKind::Unsupported)),
+        // Nodes may stand before that of a UNION, and one stands before that of a CUBE.
+        Op::Union { .. } | Op::Cube { .. } => Err(TypeFault::Refused(CheckKind::Unsupported)),
     }
 }

@@ -13,6 +13,8 @@ fine: COGROUP a BY k, b BY l;\n\
 fine: COGROUP a BY (k, s) INNER, b BY (l, s);\n\
 fine: JOIN a BY (k, s), b BY (l, s);\n\
 fine: JOIN a BY k + 1 LEFT, b BY $0;\n\
+fine: JOIN a BY k, b BY k, a BY l USING 'replicated';\n\
+fine: JOIN a BY k LEFT OUTER, b BY k USING 'replicated' PARALLEL 2;\n\
 fine: GROUP a ALL;\n\
 fine: UNION a, b, a;\n\
 SchemaMismatch: COGROUP a BY (k, l), b BY k;\n\
@@ -26,7 +28,13 @@ UnknownAlias: COGROUP zz BY k, a BY k;\n\
 UnknownAlias: GROUP zz ALL;\n\
 UnknownAlias: UNION a, zz;\n\
 Unsupported: JOIN a BY k LEFT, b BY k, a BY k;\n\
-Unsupported: JOIN a BY k, b BY k USING 'replicated';\n\
+Unsupported: JOIN a BY k RIGHT, b BY k USING 'replicated';\n\
+Unsupported: JOIN a BY k FULL OUTER, b BY k USING 'replicated';\n\
+Unsupported: JOIN a BY k LEFT, b BY k, a BY k USING 'replicated';\n\
+Unsupported: JOIN a BY k, b BY k USING 'Replicated';\n\
+Unsupported: JOIN a BY k, b BY k USING 'skewed';\n\
+Unsupported: JOIN a BY k LEFT, b BY k USING '';\n\
+Unsupported: COGROUP a BY k, b BY k USING 'replicated';\n\
 Unsupported: COGROUP a BY k, b BY k USING 'merge';\n\
 Unsupported: GROUP a ALL USING 'collected';\n\
 Unsupported: UNION ONSCHEMA a, b;";

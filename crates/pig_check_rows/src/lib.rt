@@ -6,6 +6,8 @@ mod asserted;
 #[cfg(test)]
 mod blocks;
 #[cfg(test)]
+mod cubed;
+#[cfg(test)]
 mod joined;
 #[cfg(test)]
 mod kinds;

@@ -92,6 +92,11 @@ a = LOAD 'a' AS (k:int, v:int); b = LOAD 'b' AS (k:int, w:int); j = JOIN a BY k 
 - 3: Join { inputs: [KeyedInput { input: 0, keys: [Field(0)], inner: false }, KeyedInput { input: 1, keys: [Field(0)], inner: false }], side: Left, replicated: false }\n\
 - 4: Filter { input: 2, cond: Chain { first: Compare { op: Gt, a: Field(1), b: Int(1) }, rest: [TLink { op: And, a: Compare { op: Gt, a: Field(3), b: Int(2) } }] } }\n\
 - 5: Store { input: 3, path: 'o', delim: Delim { byte: 9 } }\n\
+a = LOAD 'a' AS (k:int); b = LOAD 'b' AS (k:long); j = JOIN a BY k LEFT, b BY k USING 'replicated'; i = JOIN b BY k, b BY k USING 'replicated';\n\
+- 1: Load { path: 'a', delim: Delim { byte: 9 }, columns: [Column { position: 0, kind: Int }] }\n\
+- 2: Load { path: 'b', delim: Delim { byte: 9 }, columns: [Column { position: 0, kind: Long }] }\n\
+- 3: Join { inputs: [KeyedInput { input: 0, keys: [Cast { to: Long, a: Field(0) }], inner: false }, KeyedInput { input: 1, keys: [Field(0)], inner: false }], side: Left, replicated: true }\n\
+- 4: Join { inputs: [KeyedInput { input: 1, keys: [Field(0)], inner: false }, KeyedInput { input: 1, keys: [Field(0)], inner: false }], side: Inner, replicated: true }\n\
 a = LOAD 'in' USING PigStorage('\\u0000') AS (x:int); STORE a INTO 'o' USING PigStorage('\\u007f');\n\
 - 1: Load { path: 'in', delim: Delim { byte: 0 }, columns: [Column { position: 0, kind: Int }] }\n\
 - 2: Store { input: 0, path: 'o', delim: Delim { byte: 127 } }\n";

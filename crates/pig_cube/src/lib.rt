@@ -11,4 +11,4 @@ mod sets;
 
 pub use blocks::expand;
 pub use laws::{blocks_expand_rows, blocks_have_kinds, plans_take_cubes, two_nodes_give_the_cube};
-pub use sets::are_dimensions;
+pub use sets::{are_dimensions, is_in, other_positions};

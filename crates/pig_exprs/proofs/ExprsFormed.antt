@@ -49,12 +49,16 @@ listed_formed P each (Listed.more {ts} {mid} {rest} {x} {xs} h later) free =
 
 -- ---- names
 
-literal_free : (text : List ℕ) → text ≡ codes "group" → HasNoLf text
-literal_free text e = subst HasNoLf (sym e) (no_lf is_in_line refl (codes "group") refl)
+group_free : (text : List ℕ) → text ≡ codes "group" → HasNoLf text
+group_free text e = subst HasNoLf (sym e) (no_lf is_in_line refl (codes "group") refl)
+
+cube_free : (text : List ℕ) → text ≡ codes "cube" → HasNoLf text
+cube_free text e = subst HasNoLf (sym e) (no_lf is_in_line refl (codes "cube") refl)
 
 part_free : (t : TokenForm) (text : List ℕ) → part_of t ≡ Some text → HoldsNoLf t → HasNoLf text
 part_free (f.Ident name) text e h = let same : name ≡ text = cc in subst HasNoLf same h
-part_free (f.Keyword k.Group) text e h = literal_free text (cc)
+part_free (f.Keyword k.Group) text e h = group_free text (cc)
+part_free (f.Keyword k.Cube) text e h = cube_free text (cc)
 part_free t text e h = absurd (cc)
 
 pub name_formed : {ts rest : Forms} {text : List ℕ} → IsName ts text rest → Free ts → Formed (HasNoLf text) rest

@@ -183,6 +183,7 @@ begins (f.Keyword k.False) = 11
 begins (f.Keyword k.Null) = 11
 begins (f.Ident text) = 12
 begins (f.Keyword k.Group) = 12
+begins (f.Keyword k.Cube) = 12
 begins (f.Position n) = 12
 begins _ = 0
 
@@ -193,6 +194,7 @@ begins_ahead (t ∷ ts) = begins t
 part_begins : (t : TokenForm) (text : List ℕ) → part_of t ≡ Some text → begins t ≡ 12
 part_begins (f.Ident name) text h = refl
 part_begins (f.Keyword k.Group) text h = refl
+part_begins (f.Keyword k.Cube) text h = refl
 part_begins t text h = absurd (cc)
 
 literal_begins : (t : TokenForm) (a : Expr) → token_literal t ≡ Some a → begins t ≡ 11
@@ -273,6 +275,7 @@ pub no_type : (ts : Forms) → 1 ≤ begins_ahead ts → begins_type ts ≡ fals
 no_type [] h = refl
 no_type (f.Keyword k.Not ∷ ts) h = refl
 no_type (f.Keyword k.Group ∷ ts) h = refl
+no_type (f.Keyword k.Cube ∷ ts) h = refl
 no_type (f.Keyword k.Case ∷ ts) h = refl
 no_type (f.Keyword k.True ∷ ts) h = refl
 no_type (f.Keyword k.False ∷ ts) h = refl

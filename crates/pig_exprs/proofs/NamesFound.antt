@@ -26,6 +26,7 @@ part_fits : (t : TokenForm) (ts : Forms) (text : List ℕ) (d : ℕ) → part_of
 unfolding Fits
 part_fits (f.Ident name) ts text d h fits = fits
 part_fits (f.Keyword k.Group) ts text d h fits = fits
+part_fits (f.Keyword k.Cube) ts text d h fits = fits
 part_fits t ts text d h fits = absurd (cc)
 
 joined_front : (front name : List ℕ) (others : List (List ℕ)) → joined_name (front ++ name) others ≡ front ++ joined_name name others

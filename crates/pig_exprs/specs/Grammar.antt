@@ -32,10 +32,11 @@ pub data Listed {X : Type 0} (Reads : Forms → X → Forms → Type 0) : Forms 
 
 -- ---- names
 
--- part = Ident | GROUP, where GROUP is the name `group`
+-- part = Ident | GROUP | CUBE, where the words are the names `group` and `cube`
 abbrev pub part_of : TokenForm → Option (List ℕ)
 part_of (f.Ident text) = Some text
 part_of (f.Keyword k.Group) = Some (codes "group")
+part_of (f.Keyword k.Cube) = Some (codes "cube")
 part_of _ = None
 
 -- name = part { '::' part }

@@ -20,7 +20,7 @@ mod types;
 
 pub use exprs::{MOST_NESTED, expression};
 pub use limits::{Limits, MOST_COPIED, MOST_STEPS};
-pub use names::{field_ref, selection};
+pub use names::{FieldRefRule, field_ref, selection};
 pub use reading::{
     ParseFault, Rule, Turning, before, beside, close_paren, closed, listed, one, repeat,
 };

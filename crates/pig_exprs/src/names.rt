@@ -14,6 +14,7 @@ fn part(token: &Token) -> Option<&str>
     match &token.form {
         TokenForm::Ident(name) => Some(name.as_str()),
         TokenForm::Keyword(Keyword::Group) => Some("group"),
+        TokenForm::Keyword(Keyword::Cube) => Some("cube"),
         _ => None,
     }
 }
@@ -78,7 +79,7 @@ impl Turning for Parting {
     }
 }
 
-/// A name: parts with `::` between, where GROUP is the part `group`.
+/// A name: parts with `::` between, where GROUP is the part `group` and CUBE the part `cube`.
 #[tactic(auto, unfolding(crate::specs::Reader::name_at))]
 pub fn name(alloc: Global, tokens: &[Token]) -> Result<(Text, &[Token]), ParseFault>
     ensures { Gives (name_at (forms tokens.now)) result }

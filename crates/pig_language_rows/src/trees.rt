@@ -21,6 +21,9 @@ $3 => Field(Position(3))\n\
 a::b => Field(Name('a::b'))\n\
 group => Field(Name('group'))\n\
 a::GROUP::b => Field(Name('a::group::b'))\n\
+cube => Field(Name('cube'))\n\
+a::CUBE::b => Field(Name('a::cube::b'))\n\
+SUM(cube.s) => Call { name: 'SUM', args: [Post { a: Field(Name('cube')), steps: [Project { fields: [Name('s')], single: true }] }] }\n\
 b OR c OR d => Chain { first: Field(Name('b')), rest: [Link { op: Or, a: Field(Name('c')) }, Link { op: Or, a: Field(Name('d')) }] }\n\
 b AND c OR d AND e => Chain { first: Chain { first: Field(Name('b')), rest: [Link { op: And, a: Field(Name('c')) }] }, rest: [Link { op: Or, a: Chain { first: Field(Name('d')), rest: [Link { op: And, a: Field(Name('e')) }] } }] }\n\
 NOT b AND c => Chain { first: Not(Field(Name('b'))), rest: [Link { op: And, a: Field(Name('c')) }] }\n\
@@ -155,6 +158,8 @@ WHEN a THEN b END\n\
 CASE WHEN a THEN b END END\n\
 (CASE WHEN a THEN b)\n\
 INT\n\
+rollup\n\
+cube(a)\n\
 a = b";
 
 // Types, each with its tree; a row with none is off the grammar.
@@ -242,6 +247,9 @@ ORDER a BY b, $1 ASC, c::d DESC => Order { from: 'a', keys: Fields([OrderField {
 ORDER a BY b PARALLEL 2 => Order { from: 'a', keys: Fields([OrderField { field: Name('b'), dir: Asc }]) }\n\
 LIMIT a 0 => Limit { from: 'a', count: 0 }\n\
 LIMIT a 9223372036854775807L => Limit { from: 'a', count: 9223372036854775807 }\n\
+CUBE a BY CUBE(p) => Cube { from: 'a', rollup: false, dims: [Name('p')] }\n\
+CUBE a BY ROLLUP(p, $1, q::r) => Cube { from: 'a', rollup: true, dims: [Name('p'), Position(1), Name('q::r')] }\n\
+cuBe a By RollUp(cube, GROUP) parallel 2 => Cube { from: 'a', rollup: true, dims: [Name('cube'), Name('group')] }\n\
 \x20\n\
 a\n\
 LOAD 'p'\n\
@@ -318,6 +326,22 @@ LIMIT a - 1\n\
 LIMIT a 1.5\n\
 LIMIT a 1 PARALLEL 2\n\
 CUBE a BY b\n\
+CUBE a BY (b)\n\
+CUBE a BY CUBE\n\
+CUBE a BY CUBE b\n\
+CUBE a BY CUBE()\n\
+CUBE a BY CUBE(b,)\n\
+CUBE a BY CUBE(b c)\n\
+CUBE a BY CUBE(b + 1)\n\
+CUBE a BY CUBE(*)\n\
+CUBE a BY CUBE(b\n\
+CUBE a BY GROUP(b)\n\
+CUBE a BY CUBE(b), ROLLUP(c)\n\
+CUBE a BY CUBE(b) USING 'u'\n\
+CUBE a BY CUBE(b) PARALLEL\n\
+CUBE a CUBE(b)\n\
+CUBE cube BY CUBE(b)\n\
+ROLLUP a BY ROLLUP(b)\n\
 RANK a\n\
 ASSERT a BY b";
 
@@ -345,6 +369,7 @@ x; => syntax at 1\n\
 x DISTINCT a; => syntax at 1\n\
 x = ; => syntax at 1\n\
 group = DISTINCT a; => syntax at 1\n\
+cube = DISTINCT a; => syntax at 1\n\
 DISTINCT a; => syntax at 1\n\
 a, b; => syntax at 1\n\
 x = y = DUMP a; => syntax at 1\n\
@@ -392,6 +417,7 @@ x = FILTER nope BY $0 == 1; y = LOAD 'no' AS (a:int); STORE y INTO 'o'; y = LOAD
 a = LOAD 'in' AS (k:int, a:{(x:int)}, b:{(y:int)}); o = FOREACH a GENERATE k, FLATTEN(a), FLATTEN(b); => 2\n\
 a = LOAD 'in' AS (x:int); SPLIT a INTO b IF x > 2, c IF x < 2, d OTHERWISE; => 2\n\
 a = LOAD 'a' AS (x:int); b = LOAD 'b' AS (x:long); u = UNION a, b; o = ORDER u BY x; => 4\n\
+a = LOAD 'in' AS (p:chararray, y:chararray, s:int); c = CUBE a BY CUBE(p, y); r = FOREACH c GENERATE group, SUM(cube.s); => 3\n\
 a = LOAD 'in' AS (s:chararray, t:chararray, n:int); o = FOREACH a GENERATE SIZE(s), SUBSTRING(s,1,3), SUBSTRING(s,3,9), INDEXOF(t,'na'), INDEXOF(t,'x'), ABS(n), STARTSWITH(t,'ba'), ENDSWITH(t,'ba'), CONCAT(s,t); => 2\n\
 a = LOAD 'in' AS (m:map[]); o = FOREACH a GENERATE (int)m#'a' + 1, m#'zz', (m#'b' == 'x' ? 'yes' : 'no'); => 2\n\
 v = LOAD 'visits' AS (user:chararray, page:chararray, time:int); g = GROUP v BY user; c = FOREACH g GENERATE group, COUNT(v) AS n, SUM(v.time) AS t; o = ORDER c BY n DESC, $0; top = LIMIT o 10; STORE top INTO 'top';  => 6";

@@ -26,7 +26,7 @@ use Rattle.pig_syntax.specs.declared.trees.Step.{Step}
 use Rattle.pig_syntax.specs.declared.trees.Stmt.{Stmt}
 use Rattle.pig_syntax.specs.Cutting.{piece_of}
 use Rattle.pig_syntax.specs.Tokens.{HoldsNoLf}
-use Rattle.pig_syntax.specs.Formed.{AtLeast, SelectionFormed, FuncFormed, AsNamesFormed, ItemFormed, OrderFieldFormed, OrderKeysFormed, BagRefFormed, NestedFormed, StepFormed, GroupInputFormed, JoinInputFormed, BranchFormed, IsExprFormed, OpFormed, StmtFormed}
+use Rattle.pig_syntax.specs.Formed.{AtLeast, FieldRefFormed, SelectionFormed, FuncFormed, AsNamesFormed, ItemFormed, OrderFieldFormed, OrderKeysFormed, BagRefFormed, NestedFormed, StepFormed, GroupInputFormed, JoinInputFormed, BranchFormed, IsExprFormed, OpFormed, StmtFormed}
 use Rattle.pig_exprs.specs.Grammar.{Forms, Listed, IsSchemaField}
 use Rattle.pig_exprs.specs.Reader.{forms}
 use Rattle.pig_exprs.proofs.ExprsFormed.{Free, Formed, listed_formed, field_ref_formed, selection_formed, type_formed, schema_formed, field_formed, expr_formed}
@@ -187,6 +187,9 @@ op_formed (IsOp.union {name = name} {others = others} s l) free =
 op_formed (IsOp.distinct p) free = record { tree = free.1.0; free = parallel_free p free.1.1 }
 op_formed (IsOp.order o p) free = let keys = order_keys_formed o free.1.1.1 in record { tree = (free.1.0, keys.tree); free = parallel_free p keys.free }
 op_formed (IsOp.limit is) free = record { tree = free.1.0; free = free.1.1.1 }
+op_formed (IsOp.cube is l p) free =
+    let dims = listed_formed FieldRefFormed (λ ts x rest h from. field_ref_formed h from) l free.1.1.1.1.1 in
+    record { tree = (free.1.0, dims.tree); free = parallel_free p dims.free.1 }
 
 branch_formed : {ts rest : Forms} {b : Branch} → IsBranch ts b rest → Free ts → Formed (BranchFormed b) rest
 branch_formed (IsBranch.branch h) free = let cond = expr_formed h free.1.1 in record { tree = record { alias = free.0; cond = cond.tree }; free = cond.free }

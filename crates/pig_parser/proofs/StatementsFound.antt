@@ -7,18 +7,20 @@ use Rattle.pig_syntax.specs.declared.tokens.Keyword.TheVariants as k
 use Rattle.pig_syntax.specs.declared.tokens.Symbol.TheVariants as s
 use Rattle.pig_syntax.specs.declared.tokens.TokenForm.TheVariants as f
 use Rattle.pig_syntax.specs.declared.trees.Branch.{Branch}
+use Rattle.pig_syntax.specs.declared.trees.FieldRef.{FieldRef}
 use Rattle.pig_syntax.specs.declared.trees.GroupInput.{GroupInput}
 use Rattle.pig_syntax.specs.declared.trees.Op.{Op}
 use Rattle.pig_syntax.specs.declared.trees.Op.TheVariants as op
 use Rattle.pig_syntax.specs.declared.trees.Stmt.{Stmt}
 use Rattle.pig_syntax.specs.declared.trees.Stmt.TheVariants as stmt
-use Rattle.pig_exprs.specs.Grammar.{Forms, Listed, last, more}
-use Rattle.pig_parser.specs.Statements.{IsIdent, ident, IsUsingText, no_text, using_text, IsParallel, no_par, par, IsItem, IsGroupInput, input_bare, input_inner, input_outer, IsJoinInput, IsSide, IsOnSchema, by_place, by_name, is_group_word, IsOp, load, filter, foreach, foreach_block, group_all, group, join, union, distinct, order, limit, IsBranch, branch, IsOtherwise, no_otherwise, otherwise, IsMessage, no_message, with_message, is_unsupported_word, IsStatement, empty, assign, split, store, assertion, unsupported, unsupported_named}
-use Rattle.pig_exprs.specs.Reader.{listed, part_turn}
+use Rattle.pig_exprs.specs.Grammar.{Forms, Listed, last, more, IsFieldRef}
+use Rattle.pig_parser.specs.Statements.{IsIdent, ident, IsUsingText, no_text, using_text, IsParallel, no_par, par, IsItem, IsGroupInput, input_bare, input_inner, input_outer, IsJoinInput, IsSide, IsOnSchema, by_place, by_name, rollup_of, is_group_word, IsOp, load, filter, foreach, foreach_block, group_all, group, join, union, distinct, order, limit, cube, IsBranch, branch, IsOtherwise, no_otherwise, otherwise, IsMessage, no_message, with_message, is_unsupported_word, IsStatement, empty, assign, split, store, assertion, unsupported, unsupported_named}
+use Rattle.pig_exprs.specs.Reader.{listed, comma_turn, close_paren, part_turn, field_ref_at}
 use Rattle.pig_exprs.specs.ExprReader.{colon}
-use Rattle.pig_parser.specs.StatementReader.{comma, as_word, generate_word, block_end, several, dir_at, ident_at, using_func_at, using_text_at, after_parallel, naming_at, item_at, step_turn, steps_at, inner_at, group_input_at, join_input_at, after_outer, side_at, on_schema_at, load_at, filter_at, block_at, foreach_at, groups_at, group_at, join_at, union_at, distinct_at, order_at, limit_at, op_at, branch_with, branch_at, branch_turn, branches_at, otherwise_at, split_at, store_at, message_at, assert_at, is_unsupported, assign_at, front_at, ended, statement_at}
+use Rattle.pig_parser.specs.StatementReader.{comma, as_word, generate_word, block_end, several, dir_at, ident_at, using_func_at, using_text_at, after_parallel, naming_at, item_at, step_turn, steps_at, inner_at, group_input_at, join_input_at, after_outer, side_at, on_schema_at, load_at, filter_at, block_at, foreach_at, groups_at, group_at, join_at, union_at, distinct_at, order_at, limit_at, cube_at, op_at, branch_with, branch_at, branch_turn, branches_at, otherwise_at, split_at, store_at, message_at, assert_at, is_unsupported, assign_at, front_at, ended, statement_at}
 use Rattle.pig_exprs.proofs.Fits.{Fits}
 use Rattle.pig_exprs.proofs.Finds.{Finds, Run, stops, goes, repeat_run, finds_more, finds_listed, listed_finds}
+use Rattle.pig_exprs.proofs.NamesFound.{NameEnds, field_ref_found}
 use Rattle.pig_exprs.proofs.TypesFound.{schema_found}
 use Rattle.pig_exprs.proofs.Follow.{binds_ahead}
 use Rattle.pig_exprs.proofs.ExprsFound.{expr_found}
@@ -133,6 +135,21 @@ union_found {mid = mid} {name = name} h list d fits =
     let found = finds_listed (finds_more first others) in
     rw (on_schema_found h, found.finds, several_listed name list) refl
 
+-- the word of a CUBE is no bracket
+cube_word_fits : (word : Keyword) (rollup : Bool) (ts : Forms) (d : ℕ) → rollup_of word ≡ Some rollup → Fits (f.Keyword word ∷ ts) d → Fits ts d
+unfolding Fits
+cube_word_fits k.Cube rollup ts d h fits = fits
+cube_word_fits k.Rollup rollup ts d h fits = fits
+cube_word_fits word rollup ts d h fits = absurd (cc)
+
+cube_found : {ts mid : Forms} {dims : List FieldRef} (word : Keyword) (rollup : Bool) (name : List ℕ) → rollup_of word ≡ Some rollup → Listed IsFieldRef ts dims (f.Symbol s.CloseParen ∷ mid) → IsParallel mid []
+    → (d : ℕ) → Fits (f.Symbol s.OpenParen ∷ ts) d → cube_at (f.Ident name ∷ f.Keyword k.By ∷ f.Keyword word ∷ f.Symbol s.OpenParen ∷ ts) ≡ Some (op.Cube name rollup dims, [])
+unfolding Fits cube_at close_paren comma_turn part_turn
+cube_found word rollup name is list p zero fits = absurd fits
+cube_found word rollup name is list p (suc d) fits =
+    let found = finds_listed (listed_finds list field_ref_at d NameEnds (λ ts rest r h room may. field_ref_found h d room may) (λ mid. refl) fits refl refl) in
+    rw (is, found.finds, all_of p) refl
+
 op_found : {ts : Forms} {o : Op} → IsOp ts o [] → (d most : ℕ) → Fits ts d → d < most → op_at most ts ≡ Some (o, [])
 unfolding Fits op_at load_at filter_at block_at foreach_at group_at distinct_at order_at limit_at using_func_at as_word generate_word block_end steps_at step_turn naming_at colon comma
 op_found (load using_ h) d most fits low =
@@ -158,6 +175,8 @@ op_found (order o p) d most fits low =
     let may = parallel_may p in
     rw ((order_keys_found o d fits (parallel_order p) may.alone).finds, all_of p) refl
 op_found (limit {t = t} {n = n} is) d most fits low = rw (count_found t [] n is) refl
+op_found (cube {ts = ts} {word = word} {name = name} {rollup = rollup} is list p) d most fits low =
+    cube_found word rollup name is list p d (cube_word_fits word rollup (f.Symbol s.OpenParen ∷ ts) d is fits)
 
 -- ---- statements
 
@@ -236,6 +255,7 @@ supported (union h list) = refl
 supported (distinct p) = refl
 supported (order o p) = refl
 supported (limit is) = refl
+supported (cube is list p) = refl
 
 unsupported_front : (most : ℕ) (word : Keyword) (ts : Forms) → is_unsupported_word word ≡ true → front_at most (f.Keyword word ∷ ts) ≡ Some (stmt.Unsupported, [])
 unfolding front_at is_unsupported

@@ -33,7 +33,7 @@ use Rattle.pig_syntax.specs.declared.trees.Stmt.TheVariants as stmt
 use Rattle.pig_exprs.specs.declared.reading.ParseFault.{ParseFault}
 use Rattle.pig_exprs.specs.declared.reading.ParseFault.TheVariants as fault
 use Rattle.pig_exprs.specs.Grammar.{Forms}
-use Rattle.pig_parser.specs.Statements.{count_of, side_of, is_unsupported_word}
+use Rattle.pig_parser.specs.Statements.{count_of, side_of, rollup_of, is_unsupported_word}
 use Rattle.pig_exprs.specs.Reader.{FoundPart, Turn, repeat, listed, close_paren, field_ref_at, selection_at, field_at, schema_at, type_at}
 use Rattle.pig_exprs.specs.ExprReader.{expr_at}
 use Rattle.pig_value.specs.Results.{◌>>=◌}
@@ -323,6 +323,14 @@ unfoldable pub limit_at : Forms → FoundPart Op
 limit_at (f.Ident name ∷ ts) = option_map (λ p. (op.Limit name p.0, p.1)) (count_at ts)
 limit_at _ = None
 
+unfoldable pub cube_at : Forms → FoundPart Op
+cube_at (f.Ident name ∷ f.Keyword k.By ∷ f.Keyword word ∷ f.Symbol s.OpenParen ∷ ts) = do
+  rollup ← rollup_of word
+  dims ← listed field_ref_at ts
+  rest ← close_paren dims.1
+  Some (op.Cube name rollup dims.0, after_parallel rest)
+cube_at _ = None
+
 unfoldable pub op_at : ℕ → Forms → FoundPart Op
 op_at most (f.Keyword k.Load ∷ ts) = load_at most ts
 op_at most (f.Keyword k.Filter ∷ ts) = filter_at most ts
@@ -334,6 +342,7 @@ op_at most (f.Keyword k.Union ∷ ts) = union_at ts
 op_at most (f.Keyword k.Distinct ∷ ts) = distinct_at ts
 op_at most (f.Keyword k.Order ∷ ts) = order_at ts
 op_at most (f.Keyword k.Limit ∷ ts) = limit_at ts
+op_at most (f.Keyword k.Cube ∷ ts) = cube_at ts
 op_at most _ = None
 
 -- ---- statements

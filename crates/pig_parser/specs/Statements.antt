@@ -173,6 +173,12 @@ pub data IsOnSchema : Forms → Bool → Forms → Type 0 where
   by_place : {ts : Forms} → IsOnSchema ts false ts
   by_name : {ts : Forms} → IsOnSchema (f.Keyword k.OnSchema ∷ ts) true ts
 
+-- CUBE | ROLLUP, and whether ROLLUP stands there
+abbrev pub rollup_of : Keyword → Option Bool
+rollup_of k.Cube = Some false
+rollup_of k.Rollup = Some true
+rollup_of _ = None
+
 -- ---- operators
 
 -- GROUP | COGROUP
@@ -215,6 +221,10 @@ pub data IsOp : Forms → Op → Forms → Type 0 where
       → IsOp (f.Keyword k.Order ∷ f.Ident name ∷ f.Keyword k.By ∷ ts) (op.Order name o) rest
   -- LIMIT Ident ( Int | Long )
   limit : {t : TokenForm} {ts : Forms} {name : List ℕ} {n : ℕ} → count_of t ≡ Some n → IsOp (f.Keyword k.Limit ∷ f.Ident name ∷ t ∷ ts) (op.Limit name n) ts
+  -- CUBE Ident BY ( CUBE | ROLLUP ) '(' fref { ',' fref } ')' [ par ]
+  cube : {ts mid rest : Forms} {word : Keyword} {name : List ℕ} {rollup : Bool} {dims : List FieldRef} → rollup_of word ≡ Some rollup
+      → Listed IsFieldRef ts dims (f.Symbol s.CloseParen ∷ mid) → IsParallel mid rest
+      → IsOp (f.Keyword k.Cube ∷ f.Ident name ∷ f.Keyword k.By ∷ f.Keyword word ∷ f.Symbol s.OpenParen ∷ ts) (op.Cube name rollup dims) rest
 
 -- ---- statements
 

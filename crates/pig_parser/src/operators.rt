@@ -1,16 +1,19 @@
 ghost use Rattle.std.specs.Prelude.{◌≡◌, [], ◌∷◌, Some, IfOk, length, map};
 ghost use Rattle.pig_syntax.specs.declared.tokens.TokenForm.TheVariants as f;
 ghost use Rattle.pig_exprs.specs.Grammar.{Forms};
-ghost use Rattle.pig_parser.specs.Statements.{side_of};
+ghost use Rattle.pig_parser.specs.Statements.{side_of, rollup_of};
 ghost use Rattle.pig_exprs.specs.Reader.{forms, Gives, GivesRest};
-ghost use Rattle.pig_parser.specs.StatementReader.{generate_word, block_end, inner_at, group_input_at, join_input_at, after_outer, side_at, on_schema_at, load_at, filter_at, block_at, foreach_at, groups_at, group_at, join_at, union_at, distinct_at, order_at, limit_at, op_at};
+ghost use Rattle.pig_parser.specs.StatementReader.{GivesFound, generate_word, block_end, inner_at, group_input_at, join_input_at, after_outer, side_at, on_schema_at, load_at, filter_at, block_at, foreach_at, groups_at, group_at, join_at, union_at, distinct_at, order_at, limit_at, cube_at, op_at};
 
 use crate::blocks::{ItemRule, steps};
 use crate::parts::{
     IdentRule, after_parallel, as_word, comma, count, keys, order_keys, several, using_func,
     using_text,
 };
-use pig_exprs::{Limits, MOST_NESTED, ParseFault, Rule, expression, listed, one, schema};
+use pig_exprs::{
+    FieldRefRule, Limits, MOST_NESTED, ParseFault, Rule, close_paren, expression, listed, one,
+    schema,
+};
 use pig_syntax::{GroupInput, JoinInput, Keyword, Op, Steps, Symbol, Token, TokenForm};
 use pig_value::{Side, Text};
 use std::alloc::Global;
@@ -469,6 +472,52 @@ fn limit(alloc: Global, tokens: &[Token]) -> Result<(Op, &[Token]), ParseFault>
     }
 }
 
+// Whether the word is ROLLUP, where it is that or CUBE.
+fn rollup_of(word: Keyword) -> Result<bool, ParseFault>
+    ensures { GivesFound (rollup_of word) result }
+{
+    match word {
+        Keyword::Cube => Ok(false),
+        Keyword::Rollup => Ok(true),
+        _ => Err(ParseFault::Off),
+    }
+}
+
+// A CUBE, behind its word.
+#[tactic(auto, unfolding(crate::specs::StatementReader::cube_at))]
+fn cube(alloc: Global, tokens: &[Token]) -> Result<(Op, &[Token]), ParseFault>
+    ensures { Gives (cube_at (forms tokens.now)) result }
+{
+    match tokens {
+        [
+            Token {
+                form: TokenForm::Ident(name),
+                ..
+            },
+            Token {
+                form: TokenForm::Keyword(Keyword::By),
+                ..
+            },
+            Token {
+                form: TokenForm::Keyword(word),
+                ..
+            },
+            Token {
+                form: TokenForm::Symbol(Symbol::OpenParen),
+                ..
+            },
+            rest @ ..,
+        ] => {
+            let from = name.copy(alloc)?;
+            let rollup = rollup_of(*word)?;
+            let (dims, rest) = listed(alloc, &FieldRefRule { alloc }, rest)?;
+            let rest = close_paren(rest)?;
+            Ok((Op::Cube { from, rollup, dims }, after_parallel(rest)))
+        }
+        _ => Err(ParseFault::Off),
+    }
+}
+
 /// What a relation is made by.
 #[tactic(auto, unfolding(crate::specs::StatementReader::op_at))]
 pub fn operator<'a>(
@@ -510,6 +559,7 @@ fn operator_of<'a>(
         Keyword::Distinct => distinct(alloc, tokens),
         Keyword::Order => order(alloc, tokens),
         Keyword::Limit => limit(alloc, tokens),
+        Keyword::Cube => cube(alloc, tokens),
         _ => Err(ParseFault::Off),
     }
 }

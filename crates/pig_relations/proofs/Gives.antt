@@ -12,7 +12,7 @@ use Rattle.pig_typing.specs.Columns.{AreColumns}
 use Rattle.pig_typing.specs.Items.{under_name}
 use Rattle.pig_relations.specs.Aliases.{Aliases, IsTable}
 use Rattle.pig_relations.specs.Keyed.{KeyedForm, TypedInput, Keyable, join_form, key_columns, keyed, types_input, TypesInputs, no_inputs, more_inputs, TypesKeyed, types_keyed}
-use Rattle.pig_relations.specs.Operators.{TypedOp, Groups, groups, GroupsAll, groups_all, Joins, joins, bag_column, columns_under, group_column, group_columns, group_op, join_columns, join_op}
+use Rattle.pig_relations.specs.Operators.{TypedOp, Groups, groups, GroupsAll, groups_all, Joins, joins, bag_column, columns_under, cube_columns, group_column, group_columns, group_op, join_columns, join_op}
 use Rattle.pig_relations.specs.Together.{of_kinds}
 use Rattle.pig_relations.proofs.KeyedHold.{KeyedHold, HoldsColumns, given, inputs_count, keyed_hold, row_of}
 use Rattle.pig_relations.proofs.TogetherHolds.{columns_given, kinds_given}
@@ -67,6 +67,14 @@ pub group_gives : (before : Before) (aliases : Aliases) (is : List KeyedForm) (h
     → (node_gives before t.op ≡ Some (Some (map tree_kind t.columns))) × AreColumns t.columns
 group_gives before aliases is hint t table (groups {k = k} h e) = keyed_group before k.inputs k.kinds k refl (keyed_hold before aliases is k table h)
 
+-- ---- CUBE
+
+pub cube_kinds : (dims row : List FieldTree) → map tree_kind (cube_columns dims row) ≡ group_kind (map tree_kind dims) ∷ k_bag (kinds_of (map tree_kind row)) ∷ []
+cube_kinds dims row = ap (λ k. k ∷ k_bag (kinds_of (map tree_kind row)) ∷ []) (group_column_kind dims)
+
+pub cube_are : (dims row : List FieldTree) → AreColumns dims → AreColumns row → AreColumns (cube_columns dims row)
+cube_are dims row h g = (group_column_is dims h, (inner_all row g, tt))
+
 -- ---- GROUP ALL
 
 pub group_all_gives : (before : Before) (aliases : Aliases) (alias : List ℕ) (hint : Option (List ℕ)) (t : TypedOp) → IsTable before aliases → GroupsAll aliases alias hint t
@@ -89,7 +97,7 @@ kinds_append : (cs ds : List FieldTree) → map tree_kind (cs ++ ds) ≡ map tre
 kinds_append [] ds = refl
 kinds_append (c ∷ cs) ds = ap (λ more. tree_kind c ∷ more) (kinds_append cs ds)
 
-columns_append : (cs ds : List FieldTree) → AreColumns cs → AreColumns ds → AreColumns (cs ++ ds)
+pub columns_append : (cs ds : List FieldTree) → AreColumns cs → AreColumns ds → AreColumns (cs ++ ds)
 columns_append [] ds h g = g
 columns_append (c ∷ cs) ds h g = (h.0, columns_append cs ds h.1 g)
 

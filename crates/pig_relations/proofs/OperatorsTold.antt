@@ -1,8 +1,12 @@
 -- What the readers of GROUP, COGROUP, JOIN and UNION tell holds, and what holds is found, so there is one typing, or a refusal, and
 -- never both.
 use Rattle.std.proofs.Common.{◌≡◌, ℕ, List, [], ◌∷◌, map, length, refl, sym, subst, Bool, true, false}
-use Rattle.std.specs.Prelude.{Option, Some, None, nat_le, if◌then◌else◌}
+use Rattle.std.specs.Prelude.{Option, Some, None, ◌&&◌, nat_le, if◌then◌else◌}
+use Rattle.std.specs.Bool.{Decides}
+use Rattle.std.specs.Str.{bytes_eq}
 use Rattle.std.specs.declared.result.Result.TheVariants.{Ok, Err}
+use Rattle.std.proofs.lemmas.Bool.{false≢true}
+use Rattle.std.proofs.lemmas.Slice.Eq.{bytes_eq-Decides}
 use Rattle.pig_value.specs.declared.operators.Side.{Side}
 use Rattle.pig_schema.specs.FieldTrees.{FieldTree}
 use Rattle.pig_plan.specs.NodeKinds.{is_join}
@@ -15,7 +19,7 @@ use Rattle.pig_typing.proofs.Chains.{then_told, then_is, due_is}
 use Rattle.pig_typing.proofs.References.{Fails, failed, fails_first, fails_next}
 use Rattle.pig_relations.specs.Aliases.{Aliases, RelationTree, relation_at, relation_of}
 use Rattle.pig_relations.specs.Keyed.{KeyedForm, keyed_of}
-use Rattle.pig_relations.specs.Operators.{TypedOp, Groups, GroupsNot, groups, group_using, group_untyped, group_past_limits, GroupsAll, GroupsAllNot, groups_all, group_all_using, group_all_unknown, group_all_past_limits, JoinedBy, JoinedByNot, by_default, join_using, Joins, JoinsNot, joins, joined_by_none, join_of_side, join_untyped, join_past_limits, group_columns, group_op, group_all_columns, join_columns, join_op, joined_by, limited_op, sided, without, group_of, group_all_of, join_of}
+use Rattle.pig_relations.specs.Operators.{TypedOp, Groups, GroupsNot, groups, group_using, group_untyped, group_past_limits, GroupsAll, GroupsAllNot, groups_all, group_all_using, group_all_unknown, group_all_past_limits, JoinedBy, JoinedByNot, by_default, by_replicated, other_word, other_side, Joins, JoinsNot, joins, joined_by_none, join_of_side, join_untyped, join_past_limits, group_columns, group_op, group_all_columns, join_columns, join_op, joined_by, may_replicate, replicated_word, limited_op, sided, without, group_of, group_all_of, join_of}
 use Rattle.pig_relations.specs.Together.{all_together}
 use Rattle.pig_relations.specs.Unions.{TypedUnion, AllMeant, AllMeantNot, none_meant, more_meant, here_unknown, later_unknown, column_kinds, Unions, UnionsNot, unions, on_schema, of_one_input, of_unknown, of_other_columns, of_two, relations_of, agreed_union, union_of}
 use Rattle.pig_relations.proofs.KeyedTold.{IsKeyedTold, keyed_told, keyed_found, keyed_fails}
@@ -93,15 +97,31 @@ IsJoinedTold side hint (Err f) = JoinedByNot side hint f
 joined_told : (side : Side) (hint : Option (List ℕ)) → IsJoinedTold side hint (joined_by side hint)
 unfolding joined_by
 joined_told side None = by_default
-joined_told side (Some word) = join_using
+joined_told side (Some word) = by (bytes_eq word replicated_word) (bytes_eq-Decides word replicated_word) (may_replicate side) refl
+  where
+    by : (same : Bool) → Decides same (word ≡ replicated_word) → (may : Bool) → may_replicate side ≡ may
+        → IsJoinedTold side (Some word) (if same && may then Ok true else Err kind.Unsupported)
+    by true d true e = by_replicated (d.0 refl) e
+    by true d false e = other_side e
+    by false d may e = other_word (λ same. false≢true (d.1 same))
 
 joined_found : {side : Side} {hint : Option (List ℕ)} {replicated : Bool} → JoinedBy side hint replicated → joined_by side hint ≡ Ok replicated
 unfolding joined_by
 joined_found by_default = refl
+joined_found (by_replicated {word = word} same e) = rw ((bytes_eq-Decides word replicated_word).1 same, e) refl
 
 joined_fails : {side : Side} {hint : Option (List ℕ)} {f : CheckKind} → JoinedByNot side hint f → Fails (joined_by side hint)
 unfolding joined_by
-joined_fails join_using = failed
+joined_fails (other_word {side = side} {word = word} other) = by (bytes_eq word replicated_word) (bytes_eq-Decides word replicated_word)
+  where
+    by : (same : Bool) → Decides same (word ≡ replicated_word) → Fails (if same && may_replicate side then Ok true else Err kind.Unsupported)
+    by true d = absurd (other (d.0 refl))
+    by false d = failed
+joined_fails (other_side {side = side} {word = word} e) = by (bytes_eq word replicated_word)
+  where
+    by : (same : Bool) → Fails (if same && may_replicate side then Ok true else Err kind.Unsupported)
+    by true = rw (e) failed
+    by false = failed
 
 side_fails : (side : Side) (replicated : Bool) (count : ℕ) → is_join side replicated count ≡ false → Fails (sided side replicated count)
 unfolding sided

@@ -87,6 +87,20 @@ joins_three : join_of known (by_key (codes "a") ∷ by_key (codes "b") ∷ by_ke
 unfolding join_of joined_by sided
 joins_three = refl
 
+-- `JOIN a BY k LEFT, b BY k USING 'replicated'`, and the same with RIGHT
+replicates_left : joined_by side.Left (Some (codes "replicated")) ≡ Ok true
+unfolding joined_by
+replicates_left = refl
+
+replicates_no_right : joined_by side.Right (Some (codes "replicated")) ≡ Err kind.Unsupported
+unfolding joined_by
+replicates_no_right = refl
+
+-- the word is written in small letters
+another_word : joined_by side.Inner (Some (codes "Replicated")) ≡ Err kind.Unsupported
+unfolding joined_by
+another_word = refl
+
 -- ---- UNION
 
 -- `UNION a, c`: the int column widens

@@ -1,11 +1,13 @@
 -- The operators over relations that go by keys: the node that each gives, and the columns of its rows.
--- (Pig Latin Basics: "GROUP", "COGROUP", "JOIN (inner)", "JOIN (outer)". USING is left out here, and names of fields are choices of this
--- profile.)
-use Rattle.std.specs.Prelude.{◌≡◌, ℕ, Bool, true, false, List, [], ◌∷◌, map, length, codes, Option, Some, None, if◌then◌else◌}
+-- (Pig Latin Basics: "GROUP", "COGROUP", "JOIN (inner)", "JOIN (outer)", "CUBE". USING is left out here but for replicated JOINs, and names of
+-- fields are choices of this profile.)
+use Rattle.std.specs.Prelude.{◌≡◌, ◌≢◌, ◌&&◌, ℕ, Bool, true, false, List, [], ◌∷◌, map, length, codes, Option, Some, None, if◌then◌else◌}
 use Rattle.std.specs.List.{flat_map}
+use Rattle.std.specs.Str.{bytes_eq}
 use Rattle.std.specs.declared.result.Result.TheVariants.{Ok, Err}
 use Rattle.pig_value.specs.Trees.{k_chars, k_tuple, k_bag}
 use Rattle.pig_value.specs.declared.operators.Side.{Side}
+use Rattle.pig_value.specs.declared.operators.Side.TheVariants as side
 use Rattle.pig_schema.specs.FieldTrees.{FieldTree, schema_tree}
 use Rattle.pig_plan.specs.NodeKinds.{is_join}
 use Rattle.pig_plan.specs.Plans.{PlanOp, op_of, p_group, p_group_all, p_join}
@@ -99,12 +101,25 @@ join_columns k = flat_map columns_under k.inputs
 abbrev pub join_op : Side → Bool → Keyable → PlanOp
 join_op side replicated k = p_join (map (keyed k.kinds) k.inputs) side replicated
 
+-- the word behind USING of a JOIN that holds every input but the first in memory
+abbrev pub replicated_word : List ℕ
+replicated_word = codes "replicated"
+
+-- Tuples of a later input without a partner are known only once all of the first input is seen; so RIGHT and FULL are never replicated.
+abbrev pub may_replicate : Side → Bool
+may_replicate side.Inner = true
+may_replicate side.Left = true
+may_replicate side.Right = false
+may_replicate side.Full = false
+
 -- whether a JOIN of a side, with a word behind USING or none, is replicated
 pub data JoinedBy : Side → Option (List ℕ) → Bool → Type 0 where
   by_default : {side : Side} → JoinedBy side None false
+  by_replicated : {side : Side} {word : List ℕ} → word ≡ replicated_word → may_replicate side ≡ true → JoinedBy side (Some word) true
 
 pub data JoinedByNot : Side → Option (List ℕ) → CheckKind → Type 0 where
-  join_using : {side : Side} {word : List ℕ} → JoinedByNot side (Some word) kind.Unsupported
+  other_word : {side : Side} {word : List ℕ} → word ≢ replicated_word → JoinedByNot side (Some word) kind.Unsupported
+  other_side : {side : Side} {word : List ℕ} → may_replicate side ≡ false → JoinedByNot side (Some word) kind.Unsupported
 
 -- Two inputs at least, and just two where the side is not INNER.
 pub data Joins (aliases : Aliases) : List KeyedForm → Side → Option (List ℕ) → TypedOp → Type 0 where
@@ -124,6 +139,12 @@ pub data JoinsNot (aliases : Aliases) : List KeyedForm → Side → Option (List
   join_past_limits : {is : List KeyedForm} {side : Side} {hint : Option (List ℕ)} {k : Keyable} {f : CheckKind}
       → TypesKeyed aliases is k → limited_row (join_columns k) ≡ Err f → JoinsNot aliases is side hint f
 
+-- ---- CUBE
+
+-- the columns of the groups of a cube: the dimensions, as a GROUP by them names them, and a bag of rows with these columns
+abbrev pub cube_columns : List FieldTree → List FieldTree → List FieldTree
+cube_columns dims row = group_column dims ∷ bag_column (codes "cube") row ∷ []
+
 -- ---- the same as functions
 
 unfoldable pub group_of : Aliases → List KeyedForm → Option (List ℕ) → Checked TypedOp
@@ -140,7 +161,7 @@ group_all_of aliases alias hint = do
 
 unfoldable pub joined_by : Side → Option (List ℕ) → Checked Bool
 joined_by side None = Ok false
-joined_by side (Some word) = Err kind.Unsupported
+joined_by side (Some word) = if bytes_eq word replicated_word && may_replicate side then Ok true else Err kind.Unsupported
 
 unfoldable pub sided : Side → Bool → ℕ → Checked (Unit {0})
 sided side replicated count = if is_join side replicated count then Ok tt else Err kind.Unsupported

@@ -2,6 +2,7 @@
 //!
 //! [`Relations`] tells what each alias means. [`type_group`], [`type_group_all`], [`type_join`] and [`type_union`] take an
 //! operator over them to that of a plan's node and to the columns of its rows, or answer a kind of refusal whose condition holds.
+//! [`cube_columns`] are those of a CUBE, which is more than one node.
 //!
 //! `specs/Aliases`, `specs/Operators` and `specs/Unions` have the definitions, and `src/laws.rt` what is proved of them.
 #![tactic(auto)]
@@ -20,5 +21,5 @@ pub use laws::{
     kinds_together_are_the_least, operators_give_their_columns, operators_write_no_line_end,
     unions_give_their_columns, unions_have_one_typing,
 };
-pub use operators::{TypedOp, type_group, type_group_all, type_join};
+pub use operators::{TypedOp, cube_columns, type_group, type_group_all, type_join};
 pub use unions::{TypedUnion, UnionInput, UnionInputs, type_union};

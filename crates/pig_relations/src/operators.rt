@@ -8,7 +8,7 @@ ghost use Rattle.pig_typing.specs.Results.{IfRefused, Tells};
 ghost use Rattle.pig_typing.specs.Written.{with_name};
 ghost use Rattle.pig_relations.specs.Aliases.{aliases_of, relation_tree};
 ghost use Rattle.pig_relations.specs.Keyed.{group_form, join_form};
-ghost use Rattle.pig_relations.specs.Operators.{Groups, GroupsAll, GroupsAllNot, GroupsNot, Joins, JoinsNot, columns_under, first_keys, group_all_columns, group_all_of, group_column, group_columns, group_of, group_op, join_columns, join_of, join_op, joined_by, limited_op, op_tree, sided, without};
+ghost use Rattle.pig_relations.specs.Operators.{Groups, GroupsAll, GroupsAllNot, GroupsNot, Joins, JoinsNot, columns_under, cube_columns, first_keys, group_all_columns, group_all_of, group_column, group_columns, group_of, group_op, join_columns, join_of, join_op, joined_by, limited_op, may_replicate, op_tree, sided, without};
 ghost use Rattle.pig_relations.specs.Together.{of_kinds};
 ghost use Rattle.pig_relations.specs.Views.{input_tree, keyable_tree};
 
@@ -116,16 +116,16 @@ fn group_all_told(
     )
 }
 
-/// The typing of a JOIN over the aliases so far.
+/// The typing of a JOIN over the aliases so far. USING 'replicated' makes it replicated, where it is inner or LEFT.
 ///
 /// Its rows have the columns of the inputs in turn, each with the input's alias and `::` before its name, where it has
 /// one.
 ///
 /// # Errors
 ///
-/// `Refused` exactly where there is no typing, with a kind whose condition holds: Unsupported for USING and where a side
-/// other than INNER has not just two inputs, UnknownAlias, what a key is refused for, SchemaMismatch where the inputs'
-/// keys do not agree, TooWide and TooDeep.
+/// `Refused` exactly where there is no typing, with a kind whose condition holds: Unsupported for USING with another text
+/// than `replicated`, or of a RIGHT or FULL JOIN, and where a side other than INNER has not just two inputs, UnknownAlias,
+/// what a key is refused for, SchemaMismatch where the inputs' keys do not agree, TooWide and TooDeep.
 pub fn type_join(
     alloc: Global,
     relations: &Relations,
@@ -173,14 +173,30 @@ fn without(hint: &Option<Text>) -> Result<(), TypeFault>
     }
 }
 
-// Whether a JOIN of a side is replicated, by the word behind USING, which is left out.
+// Whether a JOIN of a side is replicated, by the word behind USING.
 #[tactic(auto, unfolding(crate::specs::Operators::joined_by))]
 fn joined_by(side: Side, hint: &Option<Text>) -> Result<bool, TypeFault>
     ensures { Tells (λ replicated. replicated) (joined_by side hint.now) result }
 {
     match hint {
-        Some(_) => Err(TypeFault::Refused(CheckKind::Unsupported)),
+        Some(word) => {
+            if word.as_str() == "replicated" && may_replicate(side) {
+                Ok(true)
+            } else {
+                Err(TypeFault::Refused(CheckKind::Unsupported))
+            }
+        }
         None => Ok(false),
+    }
+}
+
+// Whether a JOIN of the side may be replicated.
+fn may_replicate(side: Side) -> bool
+    ensures { result ≡ may_replicate side }
+{
+    match side {
+        Side::Inner | Side::Left => true,
+        Side::Right | Side::Full => false,
     }
 }
 
@@ -299,6 +315,23 @@ fn group_all_columns(alloc: Global, alias: &Text, relation: &Relation) -> Result
         inner: Seq::new(alloc),
     })?;
     columns.push(bag_column(alloc, alias, &relation.columns)?)?;
+    Ok(columns)
+}
+
+// ---- CUBE
+
+/// The columns of the groups of a CUBE: `group`, which is the one dimension or a tuple of several, and the bag `cube` of
+/// rows with these columns.
+pub fn cube_columns(alloc: Global, dims: Schema, row: &Schema) -> Result<Schema, AllocError>
+    ensures { IfOk result (λ s. schema_tree s
+        ≡ cube_columns (schema_tree dims) (schema_tree row.now)) }
+{
+    let name = group_name(alloc)?;
+    let key = key_column(alloc, dims)?;
+    let alias = Text::from_str(alloc, "cube")?;
+    let mut columns = Seq::with_capacity(alloc, 2)?;
+    columns.push(named(name, key))?;
+    columns.push(bag_column(alloc, &alias, row)?)?;
     Ok(columns)
 }
 

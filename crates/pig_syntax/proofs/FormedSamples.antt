@@ -40,3 +40,7 @@ lone_union name h = let two = h.many in absurd (omega (arith, two))
 -- FOREACH has an item
 no_item : (name : List ℕ) → OpFormed (operator.Foreach name [] []) → ⊥
 no_item name h = let one = h.2.many in absurd (omega (arith, one))
+
+-- CUBE has a dimension
+no_dimension : (name : List ℕ) → OpFormed (operator.Cube name false []) → ⊥
+no_dimension name h = let one = h.1.many in absurd (omega (arith, one))

@@ -1,7 +1,7 @@
 use Rattle.std.proofs.Common.{subst, sym}
 use Rattle.std.specs.declared.result.Result.TheVariants.{Ok, Err}
 use Rattle.pig_plan.specs.Plans.{plan_of}
-use Rattle.pig_check.specs.Scripts.{IfRefusedAt, IsFirstUntyped, IsPlanOf, script_of}
+use Rattle.pig_check.specs.Scripts.{IsPlanOf, script_of}
 use Rattle.pig_check.specs.States.{nothing_yet}
 use Rattle.pig_check.specs.Views.{TellsState, state_tree}
 use Rattle.pig_check.proofs.ScriptsTold.{plan_told, refusal_told}

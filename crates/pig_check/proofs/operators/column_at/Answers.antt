@@ -1,5 +1,4 @@
 use Rattle.std.proofs.Common.{◌∙◌, ap, sym}
-use Rattle.pig_check.specs.Operators.{kind_from}
 use Rattle.pig_check.proofs.KindsBack.{column_kind}
 use Rattle.pig_check.proofs.operators.column_at.Goals as goal
 

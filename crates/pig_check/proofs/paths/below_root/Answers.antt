@@ -1,4 +1,4 @@
-use Rattle.std.proofs.Common.{◌∙◌, ap, sym, Some, None, arith}
+use Rattle.std.proofs.Common.{ap, sym, Some, None, arith}
 use Rattle.std.proofs.lemmas.Str.Pattern.{strip_prefix_char}
 use Rattle.pig_check.specs.Paths.{below_root, slash}
 use Rattle.pig_check.proofs.Kept.{below_itself}

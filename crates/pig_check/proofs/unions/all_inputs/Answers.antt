@@ -1,4 +1,4 @@
-use Rattle.std.proofs.Common.{map, subst, sym, ◌++◌, [], ◌∷◌}
+use Rattle.std.proofs.Common.{map, subst, sym, [], ◌∷◌}
 use Rattle.std.proofs.lemmas.List.{map-append}
 use Rattle.pig_plan.specs.Plans.{op_of}
 use Rattle.pig_relations.specs.Unions.{union_input_tree}
