@@ -5,6 +5,10 @@
 #[cfg(test)]
 mod calls;
 #[cfg(test)]
+mod rows;
+#[cfg(test)]
 mod sizes;
+#[cfg(test)]
+mod table;
 #[cfg(test)]
 mod turns;
