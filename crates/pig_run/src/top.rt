@@ -205,7 +205,7 @@ pub fn pig_main<R: Threads + Sync, D: Depot, H: Host + Send, C: Console>(
     }
 }
 
-/// Something is due of words that are no demonstration's, a number of hosts and a shelf, and it is one thing: a refusal, which names its
+/// Something is due of words that are no demonstration's, a number of hosts and a shelf, and two of them agree: a refusal, which names its
 /// statement where one has no typing, or the run of a plan; and up to the commits the depot is asked one list of calls. Only the
 /// number of tasks rests on the plan that the checked one is rewritten to.
 pub fn one_verdict()
