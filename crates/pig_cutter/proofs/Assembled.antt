@@ -16,20 +16,21 @@ use Rattle.pig_plan.specs.Valid.{IsPlan}
 use Rattle.pig_physical.specs.declared.parts.Part.{Part}
 use Rattle.pig_physical.specs.declared.parts.ReduceTask.{ReduceTask}
 use Rattle.pig_physical.specs.declared.parts.Task as declared
-use Rattle.pig_physical.specs.declared.parts.Task.TheVariants as tasks
 use Rattle.pig_physical.specs.declared.staged.Size.{Size}
 use Rattle.pig_physical.specs.declared.staged.Wave.{Wave}
 use Rattle.pig_physical.specs.declared.waves.WaveHead.{WaveHead}
+use Rattle.pig_physical.specs.declared.waves.WaveKind.{WaveKind}
+use Rattle.pig_physical.specs.declared.waves.WaveKind.TheVariants as kinds
 use Rattle.pig_physical.specs.Seen.{AreWaves, IsOwn, IsWave, cut_of, entering_of, no_way, staged, task_of}
-use Rattle.pig_physical.specs.Stages.{MapTask, Stages, heads, parts_at, stores, t_map, t_reduce, tasks_in, tasks_on, ways_in}
-use Rattle.pig_cutter.specs.Feeds.{IsCut, feeds_of, is_store_in, made_on, partitions_of, tasks_along, tasks_fed, ways_on}
+use Rattle.pig_physical.specs.Stages.{MapTask, Stages, heads, parts_at, stores, t_map, tasks_in, tasks_on, ways_in}
+use Rattle.pig_cutter.specs.Feeds.{IsCut, feeds_of, is_store_in, made_on, partition_task, partitions_of, tasks_along, tasks_fed, ways_on}
 use Rattle.pig_cutter.specs.Limits.{has_too_many}
 use Rattle.pig_cutter.specs.Listed.{AreAll, AreCut, AreListed, CutsInto, IsWhole}
 use Rattle.pig_cutter.specs.Tables.{parts_for, reading_of, readings}
 use Rattle.pig_cutter.specs.declared.feeding.Feed.{Feed}
 use Rattle.pig_cutter.specs.declared.reading.Source.{Source}
 use Rattle.pig_cutter.proofs.Firsts.{parts_are}
-use Rattle.pig_cutter.proofs.Fed.{fed_tasks, tasks_are_fed, ways_are_fed}
+use Rattle.pig_cutter.proofs.Fed.{fed_tasks, partition_seen, tasks_are_fed, ways_are_fed}
 use Rattle.pig_cutter.proofs.Weighed.{any_over_is}
 
 get-next : {X : Type 0} (xs : List X) (x : X) (ys : List X) → slice_get (xs ++ x ∷ ys) (length xs) ≡ Some x
@@ -69,9 +70,17 @@ module _ (s : Stages) (w : ℕ) where
       ∙ ap (λ ts. map t_map (fed_tasks s feed) ++ ts) (seen_fed (front ++ own) feeds)
       ∙ sym (map-append t_map (fed_tasks s feed) (flat_map (fed_tasks s) feeds))
 
-  seen_partitions : (ways : List Entering) (ps : List ReduceTask) → map (task_of ways) (map tasks.Reduce ps) ≡ map t_reduce ps
-  seen_partitions ways [] = refl
-  seen_partitions ways (p ∷ ps) = ap (λ ts. t_reduce p ∷ ts) (seen_partitions ways ps)
+  seen_partition : (ways : List Entering) (kind : WaveKind) (p : ReduceTask) → task_of ways (partition_task kind p) ≡ partition_seen kind p
+  seen_partition ways kinds.Map p = refl
+  seen_partition ways kinds.Reduce p = refl
+  seen_partition ways kinds.Copy p = refl
+  seen_partition ways kinds.Probe p = refl
+  seen_partition ways kinds.Rank p = refl
+  seen_partition ways kinds.Store p = refl
+
+  seen_partitions : (ways : List Entering) (kind : WaveKind) (ps : List ReduceTask) → map (task_of ways) (map (partition_task kind) ps) ≡ map (partition_seen kind) ps
+  seen_partitions ways kind [] = refl
+  seen_partitions ways kind (p ∷ ps) = λ i. seen_partition ways kind p i ∷ seen_partitions ways kind ps i
 
   -- and these are places among them
   own_along : (n k way : ℕ) (ways : List Entering) → way + length ways ≤ n → AllByRecursion (IsOwn w n) (tasks_along (parts_at s) k w way ways)
@@ -90,9 +99,17 @@ module _ (s : Stages) (w : ℕ) where
       (own_along n feed.node way (ways_on s.plan feed) (omega (arith, within, count)))
       (own_fed n (way + length (ways_on s.plan feed)) feeds (omega (arith, within, count)))
 
-  own_partitions : (n : ℕ) (ps : List ReduceTask) → AllByRecursion (IsOwn w n) (map tasks.Reduce ps)
-  own_partitions n [] = tt
-  own_partitions n (p ∷ ps) = (tt, own_partitions n ps)
+  own_partition : (n : ℕ) (kind : WaveKind) (p : ReduceTask) → IsOwn w n (partition_task kind p)
+  own_partition n kinds.Map p = tt
+  own_partition n kinds.Reduce p = tt
+  own_partition n kinds.Copy p = tt
+  own_partition n kinds.Probe p = tt
+  own_partition n kinds.Rank p = tt
+  own_partition n kinds.Store p = tt
+
+  own_partitions : (n : ℕ) (kind : WaveKind) (ps : List ReduceTask) → AllByRecursion (IsOwn w n) (map (partition_task kind) ps)
+  own_partitions n kind [] = tt
+  own_partitions n kind (p ∷ ps) = (own_partition n kind p, own_partitions n kind ps)
 
   module _ (head : WaveHead) (at : slice_get (heads s.plan) w ≡ Some head) (wave : Wave) (is : IsCut s.plan (stores s.plan) (parts_at s) s.sizing.reducers w head wave) where
     abbrev feeds : List Feed
@@ -107,8 +124,8 @@ module _ (s : Stages) (w : ℕ) where
     tasks_seen : map (task_of (ways_in s.plan w)) wave.tasks ≡ tasks_in s w
     tasks_seen =
         (λ i. map (task_of (ways_are_fed s w head at i)) (is.tasks_are i))
-        ∙ map-append (task_of (flat_map (ways_on s.plan) feeds)) fed (map tasks.Reduce partitions)
-        ∙ (λ i. seen_fed [] feeds i ++ seen_partitions (flat_map (ways_on s.plan) feeds) partitions i)
+        ∙ map-append (task_of (flat_map (ways_on s.plan) feeds)) fed (map (partition_task head.kind) partitions)
+        ∙ (λ i. seen_fed [] feeds i ++ seen_partitions (flat_map (ways_on s.plan) feeds) head.kind partitions i)
         ∙ sym (tasks_are_fed s w head at)
 
     all_own : AllByRecursion (IsOwn w (length wave.ways)) wave.tasks
@@ -116,8 +133,8 @@ module _ (s : Stages) (w : ℕ) where
         let a : length (map entering_of wave.ways) ≡ length wave.ways = length-map wave.ways entering_of in
         let b : length (map entering_of wave.ways) ≡ length (flat_map (ways_on s.plan) feeds) = ap length is.ways_are in
         subst (AllByRecursion (IsOwn w (length wave.ways))) (sym is.tasks_are)
-        (each-append (IsOwn w (length wave.ways)) fed (map tasks.Reduce partitions)
-        (own_fed (length wave.ways) 0 feeds (omega (arith, a, b))) (own_partitions (length wave.ways) partitions))
+        (each-append (IsOwn w (length wave.ways)) fed (map (partition_task head.kind) partitions)
+        (own_fed (length wave.ways) 0 feeds (omega (arith, a, b))) (own_partitions (length wave.ways) head.kind partitions))
 
     wave_is : IsWave s w wave
     wave_is = record {

@@ -10,10 +10,11 @@ use Rattle.pig_value.proofs.list_laws.Listing.{each-append, each-map, each_of_al
 use Rattle.pig_plan.specs.Nodes.{Entering, Path, entering, inputs_of, op_at, paths_of}
 use Rattle.pig_plan.specs.Plans.{Plan, PlanOp}
 use Rattle.pig_physical.specs.declared.parts.Part.{Part}
+use Rattle.pig_physical.specs.declared.parts.ReduceTask.{ReduceTask}
 use Rattle.pig_physical.specs.declared.waves.WaveHead.{WaveHead}
 use Rattle.pig_physical.specs.declared.waves.WaveKind.{WaveKind}
 use Rattle.pig_physical.specs.declared.waves.WaveKind.TheVariants as kinds
-use Rattle.pig_physical.specs.Stages.{MapTask, Stages, enters_first, heads, parts_at, path_tasks, store_tasks, stores, t_map, t_reduce, tasks_by, tasks_in, tasks_of, tasks_on, ways_by, ways_in, ways_into, ways_to}
+use Rattle.pig_physical.specs.Stages.{MapTask, Stages, Task, enters_first, heads, parts_at, path_tasks, store_tasks, stores, t_map, t_rank, t_reduce, tasks_by, tasks_in, tasks_of, tasks_on, ways_by, ways_in, ways_into, ways_to}
 use Rattle.pig_cutter.specs.Feeds.{feeds_by, feeds_from, feeds_of, own_feed, partitions_by, partitions_of, ways_on}
 use Rattle.pig_cutter.specs.declared.feeding.Feed.{Feed}
 
@@ -93,6 +94,11 @@ module _ (s : Stages) (k : ℕ) (q : Entering → Bool) where
       by_test true e = ap (λ ts. ts ++ tasks_on s k (filter q ways)) (filter_all (λ t. q t.way) (path_tasks s k way) (alike true e))
       by_test false e = ap (λ ts. ts ++ tasks_on s k (filter q ways)) (filter_none (λ t. q t.way) (path_tasks s k way) (alike false e))
 
+-- what a wave does to a partition
+abbrev pub partition_seen : WaveKind → ReduceTask → Task
+partition_seen kinds.Rank t = t_rank t
+partition_seen kind t = t_reduce t
+
 module _ (s : Stages) where
   abbrev pub fed_tasks : Feed → List MapTask
   fed_tasks feed = tasks_on s feed.node (ways_on s.plan feed)
@@ -111,7 +117,7 @@ module _ (s : Stages) where
   alone xs ys e = ap (map t_map) e ∙ sym (append-nil (map t_map ys))
 
   by_feeds : (w : ℕ) (kind : WaveKind) (k : ℕ) (o : PlanOp)
-      → tasks_by s w kind k o ≡ map t_map (flat_map fed_tasks (feeds_by (stores s.plan) kind k o)) ++ map t_reduce (partitions_by s.sizing.reducers w kind k o)
+      → tasks_by s w kind k o ≡ map t_map (flat_map fed_tasks (feeds_by (stores s.plan) kind k o)) ++ map (partition_seen kind) (partitions_by s.sizing.reducers w kind k o)
   by_feeds w kinds.Map k o = alone (tasks_on s k (ways_into s.plan o)) (flat_map fed_tasks (feeds_from k 0 (inputs_of o))) (along k 0 (inputs_of o))
   by_feeds w kinds.Copy k o = alone (filter (λ t. not (enters_first t)) (tasks_on s k (ways_into s.plan o))) (flat_map fed_tasks (feeds_from k 1 (drop 1 (inputs_of o))))
       (on_passing s k (λ way. not (way.input == 0)) (ways_into s.plan o) ∙ ap (tasks_on s k) (copy_ways (paths_of s.plan) (inputs_of o)) ∙ along k 1 (drop 1 (inputs_of o)))
@@ -131,11 +137,11 @@ module _ (s : Stages) (w : ℕ) (head : WaveHead) (at : slice_get (heads s.plan)
       by_op None = refl
       by_op (Some o) = ways_fed s.plan head.kind head.node o
 
-  pub tasks_are_fed : tasks_in s w ≡ map t_map (flat_map (fed_tasks s) (feeds_of s.plan (stores s.plan) head)) ++ map t_reduce (partitions_of s.plan s.sizing.reducers w head)
+  pub tasks_are_fed : tasks_in s w ≡ map t_map (flat_map (fed_tasks s) (feeds_of s.plan (stores s.plan) head)) ++ map (partition_seen head.kind) (partitions_of s.plan s.sizing.reducers w head)
   tasks_are_fed = ap (λ h. option_map_or (tasks_of s w) h []) at ∙ by_op (op_at s.plan head.node)
     where
       by_op : (o : Option PlanOp) → option_map_or (tasks_by s w head.kind head.node) o []
           ≡ map t_map (flat_map (fed_tasks s) (option_map_or (feeds_by (stores s.plan) head.kind head.node) o []))
-          ++ map t_reduce (option_map_or (partitions_by s.sizing.reducers w head.kind head.node) o [])
+          ++ map (partition_seen head.kind) (option_map_or (partitions_by s.sizing.reducers w head.kind head.node) o [])
       by_op None = refl
       by_op (Some o) = by_feeds s w head.kind head.node o

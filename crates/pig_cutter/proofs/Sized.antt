@@ -8,15 +8,22 @@ use Rattle.pig_plan.specs.Nodes.{Path, paths_of}
 use Rattle.pig_physical.specs.declared.parts.Part.{Part}
 use Rattle.pig_physical.specs.declared.parts.ReduceTask.{ReduceTask}
 use Rattle.pig_physical.specs.declared.waves.WaveHead.{WaveHead}
-use Rattle.pig_physical.specs.Stages.{MapTask, Stages, heads, is_map_task, parts_at, path_tasks, stores, t_map, t_reduce, tasks_on, wave_size}
+use Rattle.pig_physical.specs.declared.waves.WaveKind.{WaveKind}
+use Rattle.pig_physical.specs.declared.waves.WaveKind.TheVariants as kinds
+use Rattle.pig_physical.specs.Stages.{MapTask, Stages, heads, is_map_task, parts_at, path_tasks, stores, t_map, tasks_on, wave_size}
 use Rattle.pig_cutter.specs.Feeds.{feeds_of, partitions_of, ways_on}
 use Rattle.pig_cutter.specs.declared.feeding.Feed.{Feed}
-use Rattle.pig_cutter.proofs.Fed.{enter, fed_tasks, tasks_are_fed, ways_are_fed}
+use Rattle.pig_cutter.proofs.Fed.{enter, fed_tasks, partition_seen, tasks_are_fed, ways_are_fed}
 
-only_maps : (xs : List MapTask) (ys : List ReduceTask) → length (filter is_map_task (map t_map xs ++ map t_reduce ys)) ≡ length xs
-only_maps [] [] = refl
-only_maps [] (y ∷ ys) = only_maps [] ys
-only_maps (x ∷ xs) ys = let more = only_maps xs ys in omega (arith, more)
+only_maps : (kind : WaveKind) (xs : List MapTask) (ys : List ReduceTask) → length (filter is_map_task (map t_map xs ++ map (partition_seen kind) ys)) ≡ length xs
+only_maps kind [] [] = refl
+only_maps kinds.Map [] (y ∷ ys) = only_maps kinds.Map [] ys
+only_maps kinds.Reduce [] (y ∷ ys) = only_maps kinds.Reduce [] ys
+only_maps kinds.Copy [] (y ∷ ys) = only_maps kinds.Copy [] ys
+only_maps kinds.Probe [] (y ∷ ys) = only_maps kinds.Probe [] ys
+only_maps kinds.Rank [] (y ∷ ys) = only_maps kinds.Rank [] ys
+only_maps kinds.Store [] (y ∷ ys) = only_maps kinds.Store [] ys
+only_maps kind (x ∷ xs) ys = let more = only_maps kind xs ys in omega (arith, more)
 
 module _ (s : Stages) where
   abbrev pub path_weight : Path → ℕ
@@ -54,5 +61,5 @@ module _ (s : Stages) where
   size_is w head at =
       let feeds = feeds_of s.plan (stores s.plan) head in
       (λ i. length (filter is_map_task (tasks_are_fed s w head at i)) + length (ways_are_fed s w head at i))
-      ∙ ap (λ n. n + length (flat_map (ways_on s.plan) feeds)) (only_maps (flat_map (fed_tasks s) feeds) (partitions_of s.plan s.sizing.reducers w head))
+      ∙ ap (λ n. n + length (flat_map (ways_on s.plan) feeds)) (only_maps head.kind (flat_map (fed_tasks s) feeds) (partitions_of s.plan s.sizing.reducers w head))
       ∙ on_feeds feeds

@@ -63,7 +63,7 @@ tasks_fed parts plan w way (feed ∷ feeds) =
     tasks_along parts feed.node w way (ways_on plan feed)
     ++ tasks_fed parts plan w (way + length (ways_on plan feed)) feeds
 
--- the partitions of a node, in a wave that brings together what the wave before it handed on
+-- the partitions of a node, in a wave that brings together what the wave before it handed on, or gives its rows their ranks
 abbrev pub partition_count : ℕ → WaveKind → PlanOp → ℕ
 partition_count reducers kinds.Reduce o = reduce_count reducers o
 partition_count reducers kinds.Rank o = reduce_count reducers o
@@ -76,6 +76,11 @@ partitions_by reducers w kind k o =
 abbrev pub partitions_of : Plan → ℕ → ℕ → WaveHead → List ReduceTask
 partitions_of plan reducers w head = option_map_or (partitions_by reducers w head.kind head.node) (op_at plan head.node) []
 
+-- what is done to a partition in a wave
+abbrev pub partition_task : WaveKind → ReduceTask → Task
+partition_task kinds.Rank t = tasks.Rank t
+partition_task kind t = tasks.Reduce t
+
 -- ---- waves
 
 pub record IsCut (plan : Plan) (stores : List ℕ) (parts : ℕ → List Part) (reducers w : ℕ) (head : WaveHead) (wave : Wave)
@@ -83,5 +88,5 @@ pub record IsCut (plan : Plan) (stores : List ℕ) (parts : ℕ → List Part) (
   pub head_is : wave.head ≡ head
   pub ways_are : map entering_of wave.ways ≡ flat_map (ways_on plan) (feeds_of plan stores head)
   pub tasks_are : wave.tasks ≡ tasks_fed parts plan w 0 (feeds_of plan stores head)
-      ++ map tasks.Reduce (partitions_of plan reducers w head)
+      ++ map (partition_task head.kind) (partitions_of plan reducers w head)
   pub few : length wave.tasks < 2 ^ 32

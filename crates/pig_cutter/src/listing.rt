@@ -5,9 +5,8 @@ ghost use Rattle.pig_plan.specs.Plans.{op_of, plan_of};
 ghost use Rattle.pig_plan.specs.Valid.{IsPlan};
 ghost use Rattle.pig_physical.specs.Seen.{entering_of};
 ghost use Rattle.pig_physical.specs.declared.parts.Part.TheVariants as parts;
-ghost use Rattle.pig_physical.specs.declared.parts.Task.TheVariants as forms;
 ghost use Rattle.pig_storage.specs.Splits.{splits_of};
-ghost use Rattle.pig_cutter.specs.Feeds.{IsCut, made_on, partition_count, partitions_of, tasks_along, ways_on};
+ghost use Rattle.pig_cutter.specs.Feeds.{IsCut, made_on, partition_count, partition_task, partitions_of, tasks_along, ways_on};
 ghost use Rattle.pig_cutter.specs.Listed.{AreCut, AreFed};
 ghost use Rattle.pig_cutter.specs.Tables.{parts_for, parts_read, reading_of};
 
@@ -274,19 +273,19 @@ fn add_partitions(
     head: &WaveHead,
     tasks: &mut Tasks,
 ) -> Result<(), AllocError>
-    ensures { OnOk result (tasks.new ≡ tasks.old ++ map forms.Reduce
+    ensures { OnOk result (tasks.new ≡ tasks.old ++ map (partition_task head.now.kind)
         (partitions_of (plan_of listing.now.nodes.now) listing.now.reducers wave head.now)) }
 {
     match operator(listing.nodes, head.node) {
         Some(op) => {
             let count = partition_count(head.kind, op, listing.reducers);
-            add_reduce_tasks(head.node, wave_before(wave), count, tasks)
+            add_partition_tasks(head.kind, head.node, wave_before(wave), count, tasks)
         }
         None => Ok(()),
     }
 }
 
-// The wave whose outputs are brought together; the first wave has none before it.
+// The wave whose outputs a partition is read from; the first wave has none before it.
 fn wave_before(wave: u32) -> u32
     ensures { result ≡ wave - 1 }
 {
@@ -306,13 +305,33 @@ fn partition_count(kind: WaveKind, op: &NodeOp, reducers: u32) -> u32
     }
 }
 
-fn add_reduce_tasks(node: u32, wave: u32, count: u32, tasks: &mut Tasks) -> Result<(), AllocError>
+fn add_partition_tasks(
+    kind: WaveKind,
+    node: u32,
+    wave: u32,
+    count: u32,
+    tasks: &mut Tasks,
+) -> Result<(), AllocError>
     ensures { OnOk result (tasks.new ≡ tasks.old
-        ++ map (λ p. forms.Reduce (record { node = node; wave = wave; part = p }))
+        ++ map (λ p. partition_task kind (record { node = node; wave = wave; part = p }))
         (range_with_len 0 count)) }
 {
     for part in 0..count {
-        tasks.push(Task::Reduce(ReduceTask { node, wave, part }))?;
+        tasks.push(partition_task(kind, ReduceTask { node, wave, part }))?;
     }
     Ok(())
+}
+
+// What is done to a partition in a wave.
+fn partition_task(kind: WaveKind, task: ReduceTask) -> Task
+    ensures { result ≡ partition_task kind task }
+{
+    match kind {
+        WaveKind::Rank => Task::Rank(task),
+        WaveKind::Reduce => Task::Reduce(task),
+        WaveKind::Map => Task::Reduce(task),
+        WaveKind::Copy => Task::Reduce(task),
+        WaveKind::Probe => Task::Reduce(task),
+        WaveKind::Store => Task::Reduce(task),
+    }
 }

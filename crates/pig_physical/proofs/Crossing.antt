@@ -228,7 +228,7 @@ reduce_sends : IsSend reduce_type.the_row
 reduce_sends = declared_send reduce_type.the_type (search sendable, (search sendable, (search sendable, tt)))
 
 task_sends : IsSend task_type.the_row
-task_sends = variants_send task_type.enum ((map_sends, tt), ((reduce_sends, tt), tt))
+task_sends = variants_send task_type.enum ((map_sends, tt), ((reduce_sends, tt), ((reduce_sends, tt), tt)))
 
 head_sends : IsSend head_type.the_row
 head_sends = declared_send head_type.the_type (wave_kind.the_send, (search sendable, (search sendable, tt)))
@@ -255,7 +255,7 @@ reduce_shared : IsSync reduce_type.the_row
 reduce_shared = declared_sync reduce_type.the_type (search sendable, (search sendable, (search sendable, tt)))
 
 task_shared : IsSync task_type.the_row
-task_shared = variants_sync task_type.enum ((map_shared, tt), ((reduce_shared, tt), tt))
+task_shared = variants_sync task_type.enum ((map_shared, tt), ((reduce_shared, tt), ((reduce_shared, tt), tt)))
 
 head_shared : IsSync head_type.the_row
 head_shared = declared_sync head_type.the_type (wave_kind.the_sync, (search sendable, (search sendable, tt)))

@@ -1,17 +1,20 @@
 -- Stages of small plans, and what their tasks hand on, computed.
-use Rattle.std.specs.Prelude.{◌≡◌, ℕ, Bool, true, false, List, [], ◌∷◌, codes, length, map, None, refl}
+use Rattle.std.specs.Prelude.{◌≡◌, ℕ, pos, Bool, true, false, List, [], ◌∷◌, codes, length, map, None, refl}
 use Rattle.pig_value.specs.declared.functions.Function.TheVariants as f
 use Rattle.pig_value.specs.declared.inputs.Input.{Input}
+use Rattle.pig_value.specs.declared.operators.Dir.TheVariants as dir
 use Rattle.pig_value.specs.declared.operators.Side.TheVariants as side
+use Rattle.pig_value.specs.Functions.{long_of}
 use Rattle.pig_value.specs.Gathering.{Entry}
-use Rattle.pig_value.specs.Trees.{Tree, v_chars, v_null}
+use Rattle.pig_value.specs.Trees.{Tree, v_chars, v_int, v_null}
 use Rattle.pig_typed.specs.Typed.{Typed, TypedBlock, TypedItem, more_args, no_args, x_bool, x_call, x_field, x_project}
 use Rattle.pig_storage.specs.Splits.{splits_of}
 use Rattle.pig_plan.specs.Asserts.{unmet_on}
 use Rattle.pig_plan.specs.Plans.{Keyed, Plan, PlanNode, PlanOp, p_load, p_filter, p_foreach, p_group, p_group_all, p_join, p_union, p_distinct, p_limit, p_store, p_assert, p_rank}
 use Rattle.pig_physical.specs.Combining.{folds}
+use Rattle.pig_physical.specs.Outs.{TaskOut, o_rows}
 use Rattle.pig_physical.specs.Stages.{Stages, heads, tasks_in, wave_size}
-use Rattle.pig_physical.specs.Values.{handed_on, split_lines}
+use Rattle.pig_physical.specs.Values.{all_rows, handed_on, ranked, rows_of_part, split_lines}
 use Rattle.pig_physical.specs.declared.waves.WaveHead.{WaveHead}
 use Rattle.pig_physical.specs.declared.waves.WaveKind.{WaveKind}
 use Rattle.pig_physical.specs.declared.waves.WaveKind.TheVariants as kinds
@@ -74,11 +77,30 @@ probed = load ∷ node 2 (p_load (codes "b") 9 []) ∷ node 3 (p_join (by 0 (x_f
 heads_of_probe : map (λ h. h.kind) (heads probed) ≡ kinds.Copy ∷ kinds.Probe ∷ kinds.Store ∷ []
 heads_of_probe = refl
 
-abbrev ranked : Plan
-ranked = load ∷ node 2 (p_rank 0 [] false) ∷ stored 1 ∷ []
+abbrev with_ranks : Plan
+with_ranks = load ∷ node 2 (p_rank 0 [] false) ∷ stored 1 ∷ []
 
-heads_of_rank : map (λ h. h.kind) (heads ranked) ≡ kinds.Map ∷ kinds.Reduce ∷ kinds.Rank ∷ kinds.Store ∷ []
+heads_of_rank : map (λ h. h.kind) (heads with_ranks) ≡ kinds.Map ∷ kinds.Reduce ∷ kinds.Rank ∷ kinds.Store ∷ []
 heads_of_rank = refl
+
+-- the rows 4, 4 in the first partition and 4, 7 in the second: the ranks of the second one's go on from those of the first
+abbrev row : ℕ → List Tree
+row n = v_int (pos n) ∷ []
+
+abbrev by_first : Bool → PlanOp
+by_first dense = p_rank 0 (record { position = 0; dir = dir.Asc } ∷ []) dense
+
+abbrev partitions_of_rows : List TaskOut
+partitions_of_rows =
+    record { form = o_rows (row 4 ∷ row 4 ∷ []); lines = 0; unmet = [] } ∷ record { form = o_rows (row 4 ∷ row 7 ∷ []); lines = 0; unmet = [] } ∷ []
+
+second_ranked : ranked (by_first false) (all_rows partitions_of_rows) (rows_of_part partitions_of_rows 1)
+    ≡ (long_of (pos 1) ∷ v_int (pos 4) ∷ []) ∷ (long_of (pos 4) ∷ v_int (pos 7) ∷ []) ∷ []
+second_ranked = refl
+
+second_dense : ranked (by_first true) (all_rows partitions_of_rows) (rows_of_part partitions_of_rows 1)
+    ≡ (long_of (pos 1) ∷ v_int (pos 4) ∷ []) ∷ (long_of (pos 2) ∷ v_int (pos 7) ∷ []) ∷ []
+second_dense = refl
 
 -- no STORE, no wave
 no_heads : heads (load ∷ node 2 (p_distinct 0) ∷ []) ≡ []
@@ -134,6 +156,10 @@ long_way = load ∷ node 2 (p_union (0 ∷ 0 ∷ [])) ∷ node 3 (p_group_all 1)
 
 tasks_of_waves : map (λ w. length (tasks_in (sized long_way) w)) (0 ∷ 1 ∷ 2 ∷ 3 ∷ 4 ∷ []) ≡ 4 ∷ 3 ∷ 3 ∷ 1 ∷ 1 ∷ []
 tasks_of_waves = refl
+
+-- a RANK: two splits, three partitions that are brought together, then ranked, then stored
+tasks_of_ranks : map (λ w. length (tasks_in (sized with_ranks) w)) (0 ∷ 1 ∷ 2 ∷ 3 ∷ []) ≡ 2 ∷ 3 ∷ 3 ∷ 3 ∷ []
+tasks_of_ranks = refl
 
 -- against the limit count a wave's tasks that are no reduce tasks, and its ways
 sizes_of_waves : map (wave_size (sized long_way)) (0 ∷ 1 ∷ 2 ∷ 3 ∷ 4 ∷ []) ≡ 6 ∷ 0 ∷ 4 ∷ 0 ∷ 2 ∷ []

@@ -20,7 +20,7 @@ use Rattle.pig_plan.specs.Plans.{Keyed, Plan, PlanOp, p_distinct, p_group, p_gro
 use Rattle.pig_runs.specs.Entries.{InDirections}
 use Rattle.pig_physical.specs.Combining.{folds}
 use Rattle.pig_physical.specs.Outs.{Form, Outs, TaskOut, o_bytes, o_rows, o_runs, outs_at, runs_in}
-use Rattle.pig_physical.specs.Stages.{Stages, Task, t_map, t_reduce, tasks_in}
+use Rattle.pig_physical.specs.Stages.{Stages, Task, t_map, t_rank, t_reduce, tasks_in}
 use Rattle.pig_physical.specs.Values.{key_row}
 use Rattle.pig_physical.specs.declared.parts.Part.{Part}
 use Rattle.pig_physical.specs.declared.parts.Part.TheVariants as parts
@@ -30,6 +30,14 @@ use Rattle.pig_physical.specs.declared.parts.ReduceTask.{ReduceTask}
 abbrev pub given_kinds : Plan → ℕ → Option RowKinds
 given_kinds plan k =
     option_map_or (λ block. option_and_then (row_kinds block) (kinds_at plan k)) (folds plan k) (kinds_at plan k)
+
+-- the kinds of the rows that a node's reduce tasks bring together: of a RANK those of its input, which a further wave ranks
+abbrev pub kinds_brought : Plan → ℕ → PlanOp → Option RowKinds
+kinds_brought plan k (p_rank input keys dense) = kinds_at plan input
+kinds_brought plan k o = given_kinds plan k
+
+abbrev pub brought_kinds : Plan → ℕ → Option RowKinds
+brought_kinds plan k = option_and_then (kinds_brought plan k) (op_at plan k)
 
 -- ---- entries
 
@@ -134,7 +142,8 @@ MapFits s k o form = HasRuns s k o form
 
 abbrev pub Fits : Stages → Task → TaskOut → Type 0
 Fits s (t_map t) out = (o : PlanOp) → op_at s.plan t.node ≡ Some o → MapFits s t.node o out.form
-Fits s (t_reduce t) out = HasRows (given_kinds s.plan t.node) out.form
+Fits s (t_reduce t) out = HasRows (brought_kinds s.plan t.node) out.form
+Fits s (t_rank t) out = HasRows (given_kinds s.plan t.node) out.form
 
 -- ---- what has to stand
 
@@ -157,7 +166,13 @@ pub record HasWave (s : Stages) (outs : Outs) (t : ReduceTask) : Type 0 where
   pub sliced : (o : PlanOp) (keys : List SortKey) → op_at s.plan t.node ≡ Some o → sort_keys o ≡ Some keys
       → AllByRecursion (λ out. length (runs_in out.form) ≡ s.sizing.reducers) (outs_at outs t.wave)
 
+-- the outputs of all tasks of a wave, as they are
+pub record HasAll (s : Stages) (outs : Outs) (w : ℕ) : Type 0 where
+  pub count : length (outs_at outs w) ≡ length (tasks_in s w)
+  pub each : (at : ℕ) → at < length (tasks_in s w) → HasOutput s outs w at
+
 -- Of the outputs of earlier waves those stand that a task names; others may be gone.
 abbrev pub HasNamed : Stages → Outs → Task → Type 0
 HasNamed s outs (t_map t) = HasPart s outs t.part
 HasNamed s outs (t_reduce t) = HasWave s outs t
+HasNamed s outs (t_rank t) = HasAll s outs t.wave

@@ -17,7 +17,7 @@ use Rattle.pig_plan.specs.Operators.{pieces_of}
 use Rattle.pig_plan.specs.Plans.{Plan, PlanOp, p_load, p_limit}
 use Rattle.pig_runs.specs.Cutting.{Point, point_cmp}
 use Rattle.pig_physical.specs.Outs.{Outs, TaskOut, bytes_in, outs_at, rows_in}
-use Rattle.pig_physical.specs.Stages.{Stages, Task, first_wave, heads, last_wave, t_map, t_reduce, tasks_in}
+use Rattle.pig_physical.specs.Stages.{Stages, Task, first_wave, heads, last_wave, t_map, t_rank, t_reduce, tasks_in}
 use Rattle.pig_physical.specs.Values.{IsValue}
 
 -- the points that cut an ORDER's runs into as many slices
@@ -56,6 +56,7 @@ pub record AreOutputs (plan : Plan) (outs : Outs) (kept : List Kept) : Type 0 wh
 abbrev pub is_for : ℕ → Task → Bool
 is_for k (t_map t) = t.node == k
 is_for k (t_reduce t) = false
+is_for k (t_rank t) = false
 
 abbrev pub bytes_for : ℕ → List Task → List TaskOut → List ℕ
 bytes_for k [] outs = []

@@ -9,7 +9,7 @@ use Rattle.pig_plan.specs.Operators.{pieces_of}
 use Rattle.pig_plan.specs.Plans.{p_load, plan_of}
 use Rattle.pig_plan.specs.Results.{at_place}
 use Rattle.pig_plan.specs.declared.nodes.Node.{Node}
-use Rattle.pig_physical.specs.Stages.{MapTask, Stages, Task, heads, t_map, t_reduce, tasks_in, ways_in}
+use Rattle.pig_physical.specs.Stages.{MapTask, Stages, Task, heads, t_map, t_rank, t_reduce, tasks_in, ways_in}
 use Rattle.pig_physical.specs.declared.parts.MapTask as mapping
 use Rattle.pig_physical.specs.declared.parts.Part.{Part}
 use Rattle.pig_physical.specs.declared.parts.Part.TheVariants as parts
@@ -51,6 +51,7 @@ no_way = record { input = 0; path = record { source = 0; nodes = [] } }
 abbrev pub task_of : List Entering → declared.Task → Task
 task_of ways (tasks.Map t) = t_map (record { node = t.node; way = at_place no_way ways t.way; part = t.part })
 task_of ways (tasks.Reduce t) = t_reduce t
+task_of ways (tasks.Rank t) = t_rank t
 
 abbrev pub map_task_of : Stages → mapping.MapTask → MapTask
 map_task_of s t = record { node = t.node; way = at_place no_way (ways_in s.plan t.wave) t.way; part = t.part }
@@ -59,6 +60,7 @@ map_task_of s t = record { node = t.node; way = at_place no_way (ways_in s.plan 
 abbrev pub IsOwn : ℕ → ℕ → declared.Task → Type 0
 IsOwn w ways (tasks.Map t) = (t.wave ≡ w) × (t.way < ways)
 IsOwn w ways (tasks.Reduce t) = ⊤
+IsOwn w ways (tasks.Rank t) = ⊤
 
 -- a task, as it stands in a wave
 pub record IsTaskOf (s : Stages) (w : ℕ) (task : declared.Task) : Type 0 where

@@ -72,6 +72,7 @@ pub record MapTask : Type 0 where
 pub data Task : Type 0 where
   t_map : MapTask → Task
   t_reduce : ReduceTask → Task
+  t_rank : ReduceTask → Task
 
 -- a LIMIT has one partition, other nodes as many as there are reducers
 abbrev pub reduce_count : ℕ → PlanOp → ℕ
@@ -119,7 +120,7 @@ tasks_by s w kinds.Map k o = map t_map (map_tasks s k o)
 tasks_by s w kinds.Reduce k o = map t_reduce (partition_tasks s (w - 1) k o)
 tasks_by s w kinds.Copy k o = map t_map (filter (λ t. not (enters_first t)) (map_tasks s k o))
 tasks_by s w kinds.Probe k o = map t_map (filter enters_first (map_tasks s k o))
-tasks_by s w kinds.Rank k o = map t_reduce (partition_tasks s (w - 1) k o)
+tasks_by s w kinds.Rank k o = map t_rank (partition_tasks s (w - 1) k o)
 tasks_by s w kinds.Store k o = map t_map (flat_map (store_tasks s) (stores s.plan))
 
 abbrev pub tasks_of : Stages → ℕ → WaveHead → List Task
@@ -142,10 +143,11 @@ abbrev pub ways_in : Plan → ℕ → List Entering
 ways_in plan w =
     option_map_or (λ head. option_map_or (ways_by plan head.kind head.node) (op_at plan head.node) []) (slice_get (heads plan) w) []
 
--- how much a wave counts against the limit: its tasks that are no reduce tasks, and its ways
+-- how much a wave counts against the limit: its tasks that read ways, and its ways
 abbrev pub is_map_task : Task → Bool
 is_map_task (t_map t) = true
 is_map_task (t_reduce t) = false
+is_map_task (t_rank t) = false
 
 abbrev pub wave_size : Stages → ℕ → ℕ
 wave_size s w = length (filter is_map_task (tasks_in s w)) + length (ways_in s.plan w)

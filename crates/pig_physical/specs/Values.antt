@@ -2,7 +2,7 @@
 -- (Building a High-Level Dataflow System on top of Map-Reduce: "Map-Reduce Plan Compilation", "Use of the combiner". That lines
 -- belong to the split in which they start, how keys go to partitions, and what a LIMIT's tasks hand on, are choices of this
 -- profile.)
-use Rattle.std.specs.Prelude.{◌≡◌, ℕ, ◌+◌, Bool, true, false, List, [], ◌∷◌, map, take, length, Option, Some, None}
+use Rattle.std.specs.Prelude.{◌≡◌, ℕ, ◌+◌, Bool, true, false, List, [], ◌∷◌, map, take, length, Option, Some, None, slice_get}
 use Rattle.std.specs.List.{flat_map, range_with_len}
 use Rattle.std.specs.Option.{option_map_or}
 use Rattle.std.specs.Ordering.{nat_cmp}
@@ -12,18 +12,19 @@ use Rattle.pig_value.specs.FieldRows.{row_of}
 use Rattle.pig_value.specs.Gathering.{Entry, in_part}
 use Rattle.pig_value.specs.Lines.{lines_within}
 use Rattle.pig_value.specs.Orders.{tree_cmp}
-use Rattle.pig_value.specs.Sorts.{distinct, sort}
+use Rattle.pig_value.specs.Sorts.{Ascends, distinct, sort}
 use Rattle.pig_value.specs.Texts.{rows_text}
 use Rattle.pig_value.specs.Trees.{Tree, fields_list, v_tuple}
 use Rattle.pig_storage.specs.declared.splits.Split.{Split}
+use Rattle.pig_typed.specs.declared.blocks.SortKey.{SortKey}
 use Rattle.pig_algebra.specs.Combining.{combined, folded}
 use Rattle.pig_plan.specs.Asserts.{unmet_on}
 use Rattle.pig_plan.specs.ByKey.{gathered}
 use Rattle.pig_plan.specs.Entries.{dirs_of, entries_of, made_by, sort_keys}
 use Rattle.pig_plan.specs.Meaning.{AreKept, width_at}
 use Rattle.pig_plan.specs.Nodes.{is_sorted, op_at}
-use Rattle.pig_plan.specs.Operators.{pieces_of}
-use Rattle.pig_plan.specs.Plans.{Plan, PlanOp, p_load, p_distinct, p_limit, p_store}
+use Rattle.pig_plan.specs.Operators.{pieces_of, rank_of, sort_keys_cmp}
+use Rattle.pig_plan.specs.Plans.{Plan, PlanOp, p_load, p_distinct, p_limit, p_rank, p_store}
 use Rattle.pig_plan.specs.Results.{at_place}
 use Rattle.pig_plan.specs.Steps.{through}
 use Rattle.pig_runs.specs.Cutting.{Point, slice_of}
@@ -31,7 +32,7 @@ use Rattle.pig_runs.specs.Entries.{InDirections, run_cmp, run_of}
 use Rattle.pig_runs.specs.Parts.{pn}
 use Rattle.pig_physical.specs.Combining.{combining, folds}
 use Rattle.pig_physical.specs.Outs.{Form, Outs, TaskOut, entries_at, o_bytes, o_rows, o_runs, outs_at, rows_at, rows_in}
-use Rattle.pig_physical.specs.Stages.{MapTask, Stages, Task, t_map, t_reduce}
+use Rattle.pig_physical.specs.Stages.{MapTask, Stages, Task, t_map, t_rank, t_reduce}
 use Rattle.pig_physical.specs.declared.parts.Part.{Part}
 use Rattle.pig_physical.specs.declared.parts.Part.TheVariants as parts
 use Rattle.pig_physical.specs.declared.parts.ReduceTask.{ReduceTask}
@@ -147,8 +148,37 @@ pub record IsReduceValue (s : Stages) (outs : Outs) (t : ReduceTask) (o : PlanOp
   pub lines : out.lines ≡ 0
   pub unmet : out.unmet ≡ []
 
+-- the rows of a partition as a RANK gives them: each behind its rank among the rows of all partitions, which stand one behind the
+-- other and are sorted by its keys
+abbrev pub ranked : PlanOp → List (List Tree) → List (List Tree) → List (List Tree)
+ranked (p_rank input keys dense) whole rows = map (λ row. rank_of keys dense whole row ∷ row) rows
+ranked o whole rows = rows
+
+abbrev pub AreSortedBy : List SortKey → List (List Tree) → Type 0
+AreSortedBy keys rows = Ascends (sort_keys_cmp keys) rows
+
+abbrev pub AreInOrder : PlanOp → List (List Tree) → Type 0
+AreInOrder o rows = (keys : List SortKey) → sort_keys o ≡ Some keys → AreSortedBy keys rows
+
+-- the rows of all outputs, and those of one
+abbrev pub all_rows : List TaskOut → List (List Tree)
+all_rows outs = flat_map (λ out. rows_in out.form) outs
+
+abbrev pub rows_of_part : List TaskOut → ℕ → List (List Tree)
+rows_of_part outs p = option_map_or (λ out. rows_in out.form) (slice_get outs p) []
+
+abbrev pub IsRankForm : PlanOp → List TaskOut → ℕ → Form → Type 0
+IsRankForm o outs p form = AreInOrder o (all_rows outs) → form ≡ o_rows (ranked o (all_rows outs) (rows_of_part outs p))
+
+pub record IsRankValue (outs : Outs) (t : ReduceTask) (o : PlanOp) (out : TaskOut) : Type 0 where
+  pub form : IsRankForm o (outs_at outs t.wave) t.part out.form
+  pub lines : out.lines ≡ 0
+  pub unmet : out.unmet ≡ []
+
 abbrev pub IsValue : Stages → List Input → Option (List Point) → Outs → Task → TaskOut → Type 0
 IsValue s inputs points outs (t_map t) out =
     (o : PlanOp) → op_at s.plan t.node ≡ Some o → IsMapValue s inputs points outs t o out
 IsValue s inputs points outs (t_reduce t) out =
     (o : PlanOp) → op_at s.plan t.node ≡ Some o → IsReduceValue s outs t o out
+IsValue s inputs points outs (t_rank t) out =
+    (o : PlanOp) → op_at s.plan t.node ≡ Some o → IsRankValue outs t o out

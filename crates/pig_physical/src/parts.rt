@@ -37,7 +37,7 @@ pub struct MapTask {
     pub part: Part,
 }
 
-/// One partition of a node, brought together from what the tasks of a wave handed on.
+/// One partition of a node: brought together from what the tasks of a wave handed on, or of which a wave gave the rows.
 #[derive(Clone, Copy, Drop)]
 pub struct ReduceTask {
     pub node: u32,
@@ -50,7 +50,10 @@ pub struct ReduceTask {
 #[derive(Clone, Copy, Drop)]
 pub enum Task {
     Map(MapTask),
+    /// Bring the entries of a partition together.
     Reduce(ReduceTask),
+    /// Give the rows of a partition their ranks among the rows of all.
+    Rank(ReduceTask),
 }
 
 pub type Tasks = Seq<Task>;

@@ -1,5 +1,5 @@
 -- Where the waves of a boundary node stand among all.
-use Rattle.std.specs.Prelude.{◌≡◌, ◌+◌, ◌-◌, ℕ, Bool, true, false, nat_lt, List, [], ◌∷◌, ◌++◌, length, map, take, Some, slice_get, refl}
+use Rattle.std.specs.Prelude.{◌≡◌, ◌+◌, ◌-◌, ℕ, Bool, true, false, nat_lt, List, [], ◌∷◌, ◌++◌, length, map, take, Some, slice_get, refl, if◌then◌else◌}
 use Rattle.std.proofs.Common.{ap, sym, ◌∙◌, arith, append_assoc, true≢false}
 use Rattle.std.specs.List.{filter, flat_map, range_with_len}
 use Rattle.std.specs.Option.{option_map_or}
@@ -12,9 +12,9 @@ use Rattle.pig_plan.specs.Plans.{Plan, PlanOp, p_load, p_filter, p_foreach, p_gr
 use Rattle.pig_physical.specs.declared.waves.WaveHead.{WaveHead}
 use Rattle.pig_physical.specs.declared.waves.WaveKind.{WaveKind}
 use Rattle.pig_physical.specs.declared.waves.WaveKind.TheVariants as kinds
-use Rattle.pig_physical.specs.Stages.{Stages, boundaries, first_wave, head_of, heads, heads_at, partition_tasks, stores, t_reduce, tasks_by, tasks_in, tasks_of, waves_of}
+use Rattle.pig_physical.specs.Stages.{Stages, boundaries, first_wave, head_of, heads, heads_at, partition_tasks, stores, t_rank, t_reduce, tasks_by, tasks_in, tasks_of, waves_of}
 use Rattle.pig_waves.proofs.Places.{filtered_at, get_front, range_at}
-use Rattle.pig_waves.specs.Laws.{StandsAt, has_stages}
+use Rattle.pig_waves.specs.Laws.{StandsAt, has_stages, ranks}
 
 module _ (plan : Plan) where
   abbrev is_here : ℕ → Bool
@@ -55,10 +55,14 @@ module _ (plan : Plan) where
       ∙ get-behind before own j
       ∙ get_front (heads_at plan k) (flat_map (heads_at plan) (filter (λ i. nat_lt k i) (boundaries plan)) ++ last_heads) j h at
 
-pub two_waves : (o : PlanOp) → has_stages o ≡ true → waves_of o ≡ kinds.Map ∷ kinds.Reduce ∷ []
+-- the waves behind the first two: that of a RANK
+abbrev pub further : PlanOp → List WaveKind
+further o = if ranks o then kinds.Rank ∷ [] else []
+
+pub two_waves : (o : PlanOp) → has_stages o ≡ true → waves_of o ≡ kinds.Map ∷ kinds.Reduce ∷ further o
 two_waves (p_join inputs side true) h = absurd (true≢false (sym h))
 two_waves (p_join inputs side false) h = refl
-two_waves (p_rank input keys dense) h = absurd (true≢false (sym h))
+two_waves (p_rank input keys dense) h = refl
 two_waves (p_load path delim columns) h = refl
 two_waves (p_filter input test) h = refl
 two_waves (p_foreach input block) h = refl
@@ -72,13 +76,13 @@ two_waves (p_store input path delim) h = refl
 two_waves (p_assert input test message) h = refl
 
 module _ (s : Stages) (k : ℕ) (o : PlanOp) (at : op_at s.plan k ≡ Some o) (alive : is_live s.plan k ≡ true) (here : is_boundary o ≡ true) (staged : has_stages o ≡ true) where
-  own_heads : heads_at s.plan k ≡ head_of s.plan k kinds.Map ∷ head_of s.plan k kinds.Reduce ∷ []
+  own_heads : heads_at s.plan k ≡ map (head_of s.plan k) (kinds.Map ∷ kinds.Reduce ∷ further o)
   own_heads = ap (λ found. option_map_or (λ p. map (head_of s.plan k) (waves_of p)) found []) at ∙ ap (map (head_of s.plan k)) (two_waves o staged)
 
   abbrev first : ℕ
   first = first_wave s.plan k
 
-  tasks_at : (j : ℕ) (kind : WaveKind) → slice_get (head_of s.plan k kinds.Map ∷ head_of s.plan k kinds.Reduce ∷ []) j ≡ Some (head_of s.plan k kind)
+  tasks_at : (j : ℕ) (kind : WaveKind) → slice_get (map (head_of s.plan k) (kinds.Map ∷ kinds.Reduce ∷ further o)) j ≡ Some (head_of s.plan k kind)
       → tasks_in s (first + j) ≡ tasks_by s (first + j) kind k o
   tasks_at j kind own =
       ap (λ found. option_map_or (tasks_of s (first + j)) found [])
@@ -89,4 +93,7 @@ module _ (s : Stages) (k : ℕ) (o : PlanOp) (at : op_at s.plan k ≡ Some o) (a
   stands_at = record {
     maps = (let e : first ≡ first + 0 = omega arith in ap (tasks_in s) e) ∙ tasks_at 0 kinds.Map refl;
     reduces = tasks_at 1 kinds.Reduce refl ∙ (let e : first + 1 - 1 ≡ first = omega arith in ap (λ w. map t_reduce (partition_tasks s w k o)) e);
+    ranks = λ is.
+      tasks_at 2 kinds.Rank (ap (λ b. slice_get (map (head_of s.plan k) (kinds.Map ∷ kinds.Reduce ∷ (if b then kinds.Rank ∷ [] else []))) 2) is)
+      ∙ (let e : first + 2 - 1 ≡ first + 1 = omega arith in ap (λ w. map t_rank (partition_tasks s w k o)) e);
   }
