@@ -29,7 +29,7 @@ use Rattle.pig_physical.specs.declared.waves.WaveKind.{WaveKind}
 use Rattle.pig_physical.specs.declared.waves.WaveKind.TheVariants as kinds
 use Rattle.pig_physical.specs.Outs.{Outs, TaskOut, outs_at}
 use Rattle.pig_physical.specs.Running.{IsRun, all_unmet, store_wave}
-use Rattle.pig_physical.specs.Stages.{MapTask, Stages, Task, first_wave, heads, map_tasks, partition_tasks, parts_at, path_tasks, store_tasks, stores, t_map, t_reduce, tasks_by, tasks_in, tasks_of, tasks_on, ways_into, ways_to}
+use Rattle.pig_physical.specs.Stages.{MapTask, Stages, Task, first_wave, heads, map_tasks, partition_tasks, parts_at, path_tasks, store_tasks, stores, t_map, t_rank, t_reduce, tasks_by, tasks_in, tasks_of, tasks_on, ways_into, ways_to}
 use Rattle.pig_physical.specs.Values.{IsValue, read_rows, source_rows}
 use Rattle.pig_waves.proofs.Heads.{stands_at}
 use Rattle.pig_waves.proofs.Places.{all_flat_where}
@@ -83,6 +83,7 @@ module _ (s : Stages) (inputs : List Input) (points : ℕ → List Point) (outs 
   abbrev IsKnown : Task → Type 0
   IsKnown (t_map t) = Reads t
   IsKnown (t_reduce t) = (o : PlanOp) × (op_at s.plan t.node ≡ Some o)
+  IsKnown (t_rank t) = (o : PlanOp) × (op_at s.plan t.node ≡ Some o)
 
   abbrev IsNode : ℕ → Type 0
   IsNode n = (v : PlanNode) × (slice_get s.plan n ≡ Some v)
@@ -113,10 +114,10 @@ module _ (s : Stages) (inputs : List Input) (points : ℕ → List Point) (outs 
   known_maps : (k : ℕ) (v : PlanNode) → slice_get s.plan k ≡ Some v → AllByRecursion Reads (map_tasks s k v.op)
   known_maps k v at = known_on k v.op (ap (option_map (λ n. n.op)) at) (ways_into s.plan v.op) (known_ways 0 (inputs_of v.op) (known_inputs k v at))
 
-  known_reduces : (wave k : ℕ) (v : PlanNode) → slice_get s.plan k ≡ Some v → AllByRecursion IsKnown (map t_reduce (partition_tasks s wave k v.op))
-  known_reduces wave k v at =
-      each-map IsKnown t_reduce (partition_tasks s wave k v.op)
-      (each-map (λ t. (o : PlanOp) × (op_at s.plan t.node ≡ Some o)) (λ p. record { node = k; wave = wave; part = p }) _ (each_of_all (λ p. (o : PlanOp) × (op_at s.plan k ≡ Some o)) (λ p. (v.op, ap (option_map (λ n. n.op)) at)) _))
+  known_partitions : (wave k : ℕ) (v : PlanNode) → slice_get s.plan k ≡ Some v → AllByRecursion (λ t. (o : PlanOp) × (op_at s.plan t.node ≡ Some o)) (partition_tasks s wave k v.op)
+  known_partitions wave k v at =
+      each-map (λ t. (o : PlanOp) × (op_at s.plan t.node ≡ Some o)) (λ p. record { node = k; wave = wave; part = p }) _
+      (each_of_all (λ p. (o : PlanOp) × (op_at s.plan k ≡ Some o)) (λ p. (v.op, ap (option_map (λ n. n.op)) at)) _)
 
   is_here : ℕ → Bool
   is_here n = option_map_or is_store (op_at s.plan n) false
@@ -132,10 +133,10 @@ module _ (s : Stages) (inputs : List Input) (points : ℕ → List Point) (outs 
 
   known_by : (w : ℕ) (kind : WaveKind) (k : ℕ) (v : PlanNode) → slice_get s.plan k ≡ Some v → AllByRecursion IsKnown (tasks_by s w kind k v.op)
   known_by w kinds.Map k v at = each-map IsKnown t_map (map_tasks s k v.op) (known_maps k v at)
-  known_by w kinds.Reduce k v at = known_reduces _ k v at
+  known_by w kinds.Reduce k v at = each-map IsKnown t_reduce _ (known_partitions _ k v at)
   known_by w kinds.Copy k v at = each-map IsKnown t_map _ (each-filter _ Reads (map_tasks s k v.op) (known_maps k v at))
   known_by w kinds.Probe k v at = each-map IsKnown t_map _ (each-filter _ Reads (map_tasks s k v.op) (known_maps k v at))
-  known_by w kinds.Rank k v at = known_reduces _ k v at
+  known_by w kinds.Rank k v at = each-map IsKnown t_rank _ (known_partitions _ k v at)
   known_by w kinds.Store k v at = each-map IsKnown t_map (flat_map (store_tasks s) (stores s.plan)) known_stores
 
   known_tasks : (w : ℕ) → AllByRecursion IsKnown (tasks_in s w)
@@ -223,6 +224,7 @@ module _ (s : Stages) (inputs : List Input) (points : ℕ → List Point) (outs 
             let is = value reads.o reads.known in
             told_by_task t reads (from_sorted statement _ (subst (Among statement) is.unmet said))
         by_task pts (t_reduce t) out value known said = let is = value known.0 known.1 in absurd (in_none (subst (Among statement) is.unmet said))
+        by_task pts (t_rank t) out value known said = let is = value known.0 known.1 in absurd (in_none (subst (Among statement) is.unmet said))
 
     -- not met, and told by a task
     told_in : (w : ℕ) (t : MapTask) (o : PlanOp) → Among (t_map t) (tasks_in s w) → op_at s.plan t.node ≡ Some o → Among statement (unmet_on (folds s.plan) s.plan t.way.path.nodes (read_rows s.plan inputs outs t))

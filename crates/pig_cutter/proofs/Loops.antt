@@ -111,19 +111,19 @@ no_node plan k none = elim (cases_lt k (length plan)) [
 module _ (nodes : List Node) (reducers w : ℕ) (head : WaveHead) where
   -- the tasks that are made of the partitions of a node that there is
   pub partitions_made : (o : PlanOp) (before count : ℕ) → op_at (plan_of nodes) head.node ≡ Some o → before ≡ w - 1 → count ≡ partition_count reducers head.kind o
-      → map (λ p. partition_task head.kind (record { node = head.node; wave = before; part = p })) (range_with_len 0 count) ≡ map partition_task head.kind (partitions_of (plan_of nodes) reducers w head)
+      → map (λ p. partition_task head.kind (record { node = head.node; wave = before; part = p })) (range_with_len 0 count) ≡ map (partition_task head.kind) (partitions_of (plan_of nodes) reducers w head)
   partitions_made o before count at is counted =
       each before (range_with_len 0 count)
-      ∙ (λ i. map partition_task head.kind (map (made (is i)) (range_with_len 0 (counted i))))
-      ∙ ap (λ found. map partition_task head.kind (option_map_or (partitions_by reducers w head.kind head.node) found [])) (sym at)
+      ∙ (λ i. map (partition_task head.kind) (map (made (is i)) (range_with_len 0 (counted i))))
+      ∙ ap (λ found. map (partition_task head.kind) (option_map_or (partitions_by reducers w head.kind head.node) found [])) (sym at)
     where
       made : ℕ → ℕ → ReduceTask
       made wave p = record { node = head.node; wave = wave; part = p }
 
-      each : (wave : ℕ) (ns : List ℕ) → map (λ p. partition_task head.kind (record { node = head.node; wave = wave; part = p })) ns ≡ map partition_task head.kind (map (made wave) ns)
+      each : (wave : ℕ) (ns : List ℕ) → map (λ p. partition_task head.kind (record { node = head.node; wave = wave; part = p })) ns ≡ map (partition_task head.kind) (map (made wave) ns)
       each wave [] = refl
       each wave (n ∷ ns) = ap (λ ts. partition_task head.kind (made wave n) ∷ ts) (each wave ns)
 
-  pub no_partitions : (tasks : List Task) → op_at (plan_of nodes) head.node ≡ None → tasks ≡ tasks ++ map partition_task head.kind (partitions_of (plan_of nodes) reducers w head)
+  pub no_partitions : (tasks : List Task) → op_at (plan_of nodes) head.node ≡ None → tasks ≡ tasks ++ map (partition_task head.kind) (partitions_of (plan_of nodes) reducers w head)
   no_partitions tasks none =
-      sym (append-nil tasks) ∙ ap (λ found. tasks ++ map partition_task head.kind (option_map_or (partitions_by reducers w head.kind head.node) found [])) (sym none)
+      sym (append-nil tasks) ∙ ap (λ found. tasks ++ map (partition_task head.kind) (option_map_or (partitions_by reducers w head.kind head.node) found [])) (sym none)

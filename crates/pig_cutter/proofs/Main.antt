@@ -26,7 +26,7 @@ use Rattle.pig_plan.proofs.Through.{row_step, rows_source, rows_step}
 use Rattle.pig_plan.specs.Laws.{Alike}
 use Rattle.pig_plan.specs.Meaning.{AreKept, IsKept, kept_at, meaning, setting}
 use Rattle.pig_plan.specs.Nodes.{inputs_of, is_boundary, is_list, is_live, is_sorted, is_source, lists, names, op_at}
-use Rattle.pig_plan.specs.Operators.{Setting, limit_rows, load_rows, operator_rows}
+use Rattle.pig_plan.specs.Operators.{Setting, limit_rows, load_rows, operator_rows, rank_rows}
 use Rattle.pig_plan.specs.Plans.{Plan, PlanNode, PlanOp, p_load, p_filter, p_foreach, p_group_all, p_group, p_join, p_union, p_distinct, p_order, p_limit, p_store, p_assert, p_rank}
 use Rattle.pig_plan.specs.Steps.{none_folds, step_rows}
 use Rattle.pig_plan.specs.Stored.{AnswersFor}
@@ -37,6 +37,7 @@ use Rattle.pig_physical.specs.Outs.{Outs}
 use Rattle.pig_physical.specs.Running.{AreOutputs, IsRun, rows_given}
 use Rattle.pig_physical.specs.Stages.{Stages}
 use Rattle.pig_waves.proofs.Given.{as_many}
+use Rattle.pig_waves.proofs.Ranked.{ranks_as_many}
 use Rattle.pig_waves.proofs.Heads.{stands_at}
 use Rattle.pig_waves.proofs.Sources.{load_parts, outputs, rows_of_parts}
 use Rattle.pig_waves.proofs.Tasks.{rows_at_node}
@@ -44,7 +45,7 @@ use Rattle.pig_waves.specs.Laws.{HaveStages, StandsAt, has_stages}
 use Rattle.pig_waves.proofs.Alone.{folds_alone}
 use Rattle.pig_cutter.proofs.Boundaries.{group_all_of, group_by, join_by}
 use Rattle.pig_waves.proofs.Folders.{none_folds_at}
-use Rattle.pig_cutter.proofs.Others.{distinct_is, limit_is, limit_keeps, order_is}
+use Rattle.pig_cutter.proofs.Others.{distinct_is, limit_is, limit_keeps, order_is, rank_is}
 use Rattle.pig_cutter.specs.Laws.{Answers}
 
 abbrev Rows : Type 0
@@ -172,7 +173,15 @@ module _ (law : SortedCombinersLaw) (s : Stages) (inputs : List Input) (kept : L
             folded = λ b is. never k (p_order input keys) at refl b is;
           }
       by_op (p_limit input count) is at bounds has = limit_found k statement input count is alive at (stands_at s k (p_limit input count) at alive bounds has)
-      by_op (p_rank input keys dense) is at bounds has = absurd (true≢false (sym has))
+      by_op (p_rank input keys dense) is at bounds has =
+          let stands = stands_at s k (p_rank input keys dense) at alive bounds has in
+          let ranked = rank_is s inputs points outs run some k input keys dense at alive stands in
+          record {
+            rows_are = outputs s inputs outs k (p_rank input keys dense) at refl (λ part. refl) (ranks_as_many s inputs points outs run k input keys dense at stands);
+            bag = λ none. ranked ∙ sym (once (rank_rows keys dense (rows input)));
+            list = λ e. absurd (true≢false (sym e));
+            folded = λ b is. never k (p_rank input keys dense) at refl b is;
+          }
       by_op (p_load path delim columns) is at bounds has = absurd (true≢false (sym bounds))
       by_op (p_filter input test) is at bounds has = absurd (true≢false (sym bounds))
       by_op (p_foreach input block) is at bounds has = absurd (true≢false (sym bounds))

@@ -37,12 +37,13 @@ use Rattle.pig_plan.specs.Valid.{IsPlan}
 use Rattle.pig_runs.specs.Entries.{InDirections, run_cmp}
 use Rattle.pig_physical.specs.Combining.{folds, groups_one}
 use Rattle.pig_physical.specs.Fitting.{EntryFits, FinishesTo, Fits, GivesAlone, HasOutput, HasRows, HasRuns, HasWave, IsFoldedRow, IsInputRow, MapFits}
-use Rattle.pig_physical.specs.Fitting.{RunFits, given_kinds, keyed_kind}
+use Rattle.pig_physical.specs.Fitting.{RunFits, given_kinds, keyed_kind, kinds_brought}
 use Rattle.pig_physical.specs.Outs.{Form, Outs, TaskOut, entries_at, o_rows, outs_at, rows_in, runs_in}
-use Rattle.pig_physical.specs.Stages.{Stages, map_tasks, t_map, ways_into}
+use Rattle.pig_physical.specs.Stages.{Stages, map_tasks, t_map, tasks_in, ways_into}
 use Rattle.pig_physical.specs.Values.{IsReduceForm, brought_together, key_row, reduced}
 use Rattle.pig_physical.specs.declared.parts.ReduceTask.{ReduceTask}
-use Rattle.pig_waves.specs.Laws.{has_stages}
+use Rattle.pig_physical.specs.declared.waves.WaveKind.TheVariants as kinds
+use Rattle.pig_waves.specs.Laws.{ranks}
 use Rattle.pig_waves.proofs.Among.{mapped_from}
 use Rattle.pig_waves.proofs.Folders.{folds_is, none_folds_at}
 use Rattle.pig_fitting.specs.Laws.{ReduceFormFits}
@@ -51,7 +52,7 @@ use Rattle.pig_fitting.proofs.Finishing.{all_folded}
 use Rattle.pig_fitting.proofs.Formed.{keeps_fit}
 use Rattle.pig_fitting.proofs.Given.{Has, given_of, given_unfolded, kinds_by}
 use Rattle.pig_fitting.proofs.Going.{both_hold, found_of}
-use Rattle.pig_fitting.proofs.Standing.{Reduces, on_ways, task_reduces}
+use Rattle.pig_fitting.proofs.Standing.{OfPartition, on_ways, reduces_at}
 
 -- ---- entries of inputs by key
 
@@ -167,6 +168,16 @@ module _ (functions : FunctionsKeepKinds) (plan : Plan) (valid : IsPlan plan) (k
       (λ e f. (f.row).1 input ks (first_at input e.input f.input) known) entries fit))))
       (kinds_at plan input) (of_found (λ ks. kinds_at plan input ≡ Some ks) (kinds_at plan input) (λ ks known. known)))
 
+  -- of a RANK they are rows of its input, sorted
+  rank_brought : (input : ℕ) (keys : List SortKey) (dense : Bool) → AreFit (p_rank input keys dense)
+      → Has (kinds_at plan input) (brought_together (width_at plan) (p_rank input keys dense) entries)
+  rank_brought input keys dense fit =
+      of_found (λ ks. Each ks (brought_together (width_at plan) (p_rank input keys dense) entries)) (kinds_at plan input)
+      (λ ks known. each-map (λ row. IsRowOf row ks) (λ e. e.row) (sort (run_cmp (dirs_of keys)) entries)
+      (each-sort (run_cmp (dirs_of keys)) (λ e. IsRowOf e.row ks) entries
+      (each_weaker (EntryFits plan k (p_rank input keys dense)) (λ e. IsRowOf e.row ks)
+      (λ e f. (f.row).1 input ks (first_at input e.input f.input) known) entries fit)))
+
   all_brought : (input : ℕ) → op_at plan k ≡ Some (p_group_all input) → folds plan k ≡ None → AreFit (p_group_all input) → Brings (p_group_all input)
   all_brought input at none fit =
       by_op (p_group_all input) at none
@@ -230,39 +241,60 @@ module _ (functions : FunctionsKeepKinds) (plan : Plan) (valid : IsPlan plan) (k
 
   -- ---- all of them
 
-  brought : (o : PlanOp) → op_at plan k ≡ Some o → is_boundary o ≡ true → has_stages o ≡ true → folds plan k ≡ None
+  brought : (o : PlanOp) → op_at plan k ≡ Some o → is_boundary o ≡ true → ranks o ≡ false → folds plan k ≡ None
       → ((input count : ℕ) → o ≡ p_limit input count → ⊥) → AreFit o → Brings o
-  brought (p_group_all input) at here staged none other fit = all_brought input at none fit
-  brought (p_group inputs) at here staged none other fit = group_brought inputs at none fit
-  brought (p_join inputs side replicated) at here staged none other fit = join_brought inputs side replicated at fit
-  brought (p_distinct input) at here staged none other fit = distinct_brought input fit
-  brought (p_order input keys) at here staged none other fit = order_brought input keys at fit
-  brought (p_limit input count) at here staged none other fit = absurd (other input count refl)
-  brought (p_rank input keys dense) at here staged none other fit = absurd (true≢false (sym staged))
-  brought (p_load path delim columns) at here staged none other fit = absurd (true≢false (sym here))
-  brought (p_filter input test) at here staged none other fit = absurd (true≢false (sym here))
-  brought (p_foreach input block) at here staged none other fit = absurd (true≢false (sym here))
-  brought (p_union inputs) at here staged none other fit = absurd (true≢false (sym here))
-  brought (p_store input path delim) at here staged none other fit = absurd (true≢false (sym here))
-  brought (p_assert input test message) at here staged none other fit = absurd (true≢false (sym here))
+  brought (p_group_all input) at here unranked none other fit = all_brought input at none fit
+  brought (p_group inputs) at here unranked none other fit = group_brought inputs at none fit
+  brought (p_join inputs side replicated) at here unranked none other fit = join_brought inputs side replicated at fit
+  brought (p_distinct input) at here unranked none other fit = distinct_brought input fit
+  brought (p_order input keys) at here unranked none other fit = order_brought input keys at fit
+  brought (p_limit input count) at here unranked none other fit = absurd (other input count refl)
+  brought (p_rank input keys dense) at here unranked none other fit = absurd (true≢false unranked)
+  brought (p_load path delim columns) at here unranked none other fit = absurd (true≢false (sym here))
+  brought (p_filter input test) at here unranked none other fit = absurd (true≢false (sym here))
+  brought (p_foreach input block) at here unranked none other fit = absurd (true≢false (sym here))
+  brought (p_union inputs) at here unranked none other fit = absurd (true≢false (sym here))
+  brought (p_store input path delim) at here unranked none other fit = absurd (true≢false (sym here))
+  brought (p_assert input test message) at here unranked none other fit = absurd (true≢false (sym here))
 
-  by_folds : (o : PlanOp) → op_at plan k ≡ Some o → is_boundary o ≡ true → has_stages o ≡ true → ((input count : ℕ) → o ≡ p_limit input count → ⊥) → AreFit o
+  by_folds : (o : PlanOp) → op_at plan k ≡ Some o → is_boundary o ≡ true → ranks o ≡ false → ((input count : ℕ) → o ≡ p_limit input count → ⊥) → AreFit o
       → (found : Option TypedBlock) → folds plan k ≡ found
       → Has (given_kinds plan k) (option_map_or (λ block. folded block entries) found (brought_together (width_at plan) o entries))
-  by_folds o at here staged other fit None found = brought o at here staged found other fit
-  by_folds o at here staged other fit (Some block) found = folded_brought block found o at fit
+  by_folds o at here unranked other fit None found = brought o at here unranked found other fit
+  by_folds o at here unranked other fit (Some block) found = folded_brought block found o at fit
 
-  pub reduced_fit : (o : PlanOp) → op_at plan k ≡ Some o → is_boundary o ≡ true → has_stages o ≡ true → ((input count : ℕ) → o ≡ p_limit input count → ⊥)
+  pub reduced_fit : (o : PlanOp) → op_at plan k ≡ Some o → is_boundary o ≡ true → ranks o ≡ false → ((input count : ℕ) → o ≡ p_limit input count → ⊥)
       → AreFit o
       → (form : Form) → form ≡ o_rows (reduced plan k o entries) → HasRows (given_kinds plan k) form
-  reduced_fit o at here staged other fit form is = record {
+  reduced_fit o at here unranked other fit form is = record {
     rows = reduced plan k o entries;
     is = is;
     kinds = λ ks known. rows_of_from_each ks (reduced plan k o entries)
-        (found_is (λ ls. Each ls (reduced plan k o entries)) (given_kinds plan k) ks known (by_folds o at here staged other fit (folds plan k) refl));
+        (found_is (λ ls. Each ls (reduced plan k o entries)) (given_kinds plan k) ks known (by_folds o at here unranked other fit (folds plan k) refl));
   }
 
+  pub rank_fits : (input : ℕ) (keys : List SortKey) (dense : Bool) → op_at plan k ≡ Some (p_rank input keys dense) → AreFit (p_rank input keys dense)
+      → (form : Form) → form ≡ o_rows (reduced plan k (p_rank input keys dense) entries) → HasRows (kinds_at plan input) form
+  rank_fits input keys dense at fit form is =
+      let none = none_folds_at plan k (p_rank input keys dense) at refl in
+      let rows = brought_together (width_at plan) (p_rank input keys dense) entries in
+      record {
+        rows = rows;
+        is = is ∙ ap (λ found. o_rows (option_map_or (λ block. folded block entries) found rows)) none;
+        kinds = λ ks known. rows_of_from_each ks rows (found_is (λ ls. Each ls rows) (kinds_at plan input) ks known (rank_brought input keys dense fit));
+      }
+
 -- ---- the outputs of a wave
+
+-- the tasks that a reduce task of a boundary node reads
+record Reduces (s : Stages) (t : ReduceTask) (o : PlanOp) : Type 0 where
+  pub here : is_boundary o ≡ true
+  pub maps : tasks_in s t.wave ≡ map t_map (map_tasks s t.node o)
+
+reduces_as : (s : Stages) (w : ℕ) (t : ReduceTask) (o : PlanOp) → op_at s.plan t.node ≡ Some o → OfPartition s w t kinds.Reduce kinds.Map → Reduces s t o
+reduces_as s w t o at of =
+    let same : of.op ≡ o = some_same of.op o (sym of.at ∙ at) in
+    record { here = ap is_boundary (sym same) ∙ of.here; maps = of.reads ∙ ap (λ p. map t_map (map_tasks s t.node p)) same }
 
 each_of_places : {X : Type 0} (P : X → Type 0) (xs : List X) → ((i : ℕ) (x : X) → slice_get xs i ≡ Some x → P x) → AllByRecursion P xs
 each_of_places P [] h = tt
@@ -323,32 +355,35 @@ module _ (functions : FunctionsKeepKinds) (s : Stages) (valid : IsPlan s.plan) (
       (keeps_fit (kinds_at s.plan input) (is_sorted s.plan input) count (flat_map (λ out. rows_in out.form) (outs_at outs t.wave)) form
       (rows_fit (kinds_at s.plan input) (outs_at outs t.wave) (maps_fit s t (p_limit input count) at reduces outs has)) is)
 
-  node_fits : (o : PlanOp) → op_at s.plan t.node ≡ Some o → has_stages o ≡ true → Reduces s t o → IsReduceForm s t.node o (outs_at outs t.wave) t.part form
-      → HasRows (given_kinds s.plan t.node) form
-  node_fits (p_limit input count) at staged reduces is = limit_fits input count at reduces is
-  node_fits (p_group_all input) at staged reduces is =
-      reduced_fit functions s.plan valid t.node entries (p_group_all input) at reduces.here staged (λ i n e. absurd (cc))
+  node_fits : (o : PlanOp) → op_at s.plan t.node ≡ Some o → Reduces s t o → IsReduceForm s t.node o (outs_at outs t.wave) t.part form
+      → HasRows (kinds_brought s.plan t.node o) form
+  node_fits (p_limit input count) at reduces is = limit_fits input count at reduces is
+  node_fits (p_group_all input) at reduces is =
+      reduced_fit functions s.plan valid t.node entries (p_group_all input) at reduces.here refl (λ i n e. absurd (cc))
       (entries_fit s t (p_group_all input) at reduces outs has (λ f h. h) t.part) form is
-  node_fits (p_group inputs) at staged reduces is =
-      reduced_fit functions s.plan valid t.node entries (p_group inputs) at reduces.here staged (λ i n e. absurd (cc))
+  node_fits (p_group inputs) at reduces is =
+      reduced_fit functions s.plan valid t.node entries (p_group inputs) at reduces.here refl (λ i n e. absurd (cc))
       (entries_fit s t (p_group inputs) at reduces outs has (λ f h. h) t.part) form is
-  node_fits (p_join inputs side replicated) at staged reduces is =
-      reduced_fit functions s.plan valid t.node entries (p_join inputs side replicated) at reduces.here staged (λ i n e. absurd (cc))
+  node_fits (p_join inputs side replicated) at reduces is =
+      reduced_fit functions s.plan valid t.node entries (p_join inputs side replicated) at reduces.here refl (λ i n e. absurd (cc))
       (entries_fit s t (p_join inputs side replicated) at reduces outs has (λ f h. h) t.part) form is
-  node_fits (p_distinct input) at staged reduces is =
-      reduced_fit functions s.plan valid t.node entries (p_distinct input) at reduces.here staged (λ i n e. absurd (cc))
+  node_fits (p_distinct input) at reduces is =
+      reduced_fit functions s.plan valid t.node entries (p_distinct input) at reduces.here refl (λ i n e. absurd (cc))
       (entries_fit s t (p_distinct input) at reduces outs has (λ f h. h) t.part) form is
-  node_fits (p_order input keys) at staged reduces is =
-      reduced_fit functions s.plan valid t.node entries (p_order input keys) at reduces.here staged (λ i n e. absurd (cc))
+  node_fits (p_order input keys) at reduces is =
+      reduced_fit functions s.plan valid t.node entries (p_order input keys) at reduces.here refl (λ i n e. absurd (cc))
       (entries_fit s t (p_order input keys) at reduces outs has (λ f h. h) t.part) form is
-  node_fits (p_rank input keys dense) at staged reduces is = absurd (true≢false (sym staged))
-  node_fits (p_load path delim columns) at staged reduces is = absurd (true≢false (sym reduces.here))
-  node_fits (p_filter input test) at staged reduces is = absurd (true≢false (sym reduces.here))
-  node_fits (p_foreach input block) at staged reduces is = absurd (true≢false (sym reduces.here))
-  node_fits (p_union inputs) at staged reduces is = absurd (true≢false (sym reduces.here))
-  node_fits (p_store input path delim) at staged reduces is = absurd (true≢false (sym reduces.here))
-  node_fits (p_assert input test message) at staged reduces is = absurd (true≢false (sym reduces.here))
+  node_fits (p_rank input keys dense) at reduces is =
+      rank_fits functions s.plan valid t.node entries input keys dense at
+      (entries_fit s t (p_rank input keys dense) at reduces outs has (λ f h. h) t.part) form is
+  node_fits (p_load path delim columns) at reduces is = absurd (true≢false (sym reduces.here))
+  node_fits (p_filter input test) at reduces is = absurd (true≢false (sym reduces.here))
+  node_fits (p_foreach input block) at reduces is = absurd (true≢false (sym reduces.here))
+  node_fits (p_union inputs) at reduces is = absurd (true≢false (sym reduces.here))
+  node_fits (p_store input path delim) at reduces is = absurd (true≢false (sym reduces.here))
+  node_fits (p_assert input test message) at reduces is = absurd (true≢false (sym reduces.here))
 
 pub reduce_forms_fit : FunctionsKeepKinds → ReduceFormFits
-reduce_forms_fit functions s valid w place t stands o at staged outs has form is =
-    node_fits functions s valid t outs has form o at staged (task_reduces s t o at staged w place stands) is
+reduce_forms_fit functions s valid w place t stands o at outs has form is =
+    subst (λ found. HasRows found form) (sym (ap (option_and_then (kinds_brought s.plan t.node)) at))
+    (node_fits functions s valid t outs has form o at (reduces_as s w t o at (reduces_at s t w place stands)) is)

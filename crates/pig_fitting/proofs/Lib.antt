@@ -8,3 +8,4 @@ mod Combined
 mod Formed
 mod Finishing
 mod Brought
+mod Ranked

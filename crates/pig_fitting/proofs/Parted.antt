@@ -2,7 +2,7 @@
 use Rattle.std.specs.Prelude.{◌≡◌, ◌<◌, ◌+◌, ◌==◌, ℕ, zero, suc, true, false, List, [], ◌∷◌, length, map, Some, slice_get, refl}
 use Rattle.std.proofs.Common.{ap, sym, ◌∙◌, arith, subst, true≢false}
 use Rattle.std.specs.List.{filter, range_with_len}
-use Rattle.std.specs.Option.{option_map, option_map_or}
+use Rattle.std.specs.Option.{option_and_then, option_map, option_map_or}
 use Rattle.std.proofs.lemmas.Bool.{eq-eqb}
 use Rattle.std.proofs.lemmas.Option.{slice_get_within}
 use Rattle.pig_storage.specs.declared.splits.Split.{Split}
@@ -21,12 +21,13 @@ use Rattle.pig_plan.specs.Plans.{p_assert, p_rank}
 use Rattle.pig_plan.specs.Valid.{IsPlan}
 use Rattle.pig_physical.specs.declared.parts.Part.{Part}
 use Rattle.pig_physical.specs.declared.parts.Part.TheVariants as parts
+use Rattle.pig_physical.specs.declared.parts.ReduceTask.{ReduceTask}
 use Rattle.pig_physical.specs.declared.waves.WaveKind.{WaveKind}
 use Rattle.pig_physical.specs.declared.waves.WaveKind.TheVariants as kinds
-use Rattle.pig_physical.specs.Fitting.{Fits, HasOutput, HasPart, HasRows, HasRuns, MapFits, given_kinds}
+use Rattle.pig_physical.specs.Fitting.{Fits, HasOutput, HasPart, HasRows, HasRuns, MapFits, brought_kinds, given_kinds, kinds_brought}
 use Rattle.pig_physical.specs.Outs.{Outs, TaskOut, rows_at, rows_in}
 use Rattle.pig_physical.specs.Stages.{MapTask, Stages, Task, enters_first, first_wave, head_of, last_wave, map_tasks, partition_tasks, parts_at, parts_of}
-use Rattle.pig_physical.specs.Stages.{reduce_count, t_map, t_reduce, tasks_by, tasks_in, tasks_of, waves_of, ways_into}
+use Rattle.pig_physical.specs.Stages.{reduce_count, t_map, t_rank, t_reduce, tasks_by, tasks_in, tasks_of, waves_of, ways_into}
 use Rattle.pig_waves.proofs.Among.{Among, any_holds, mapped_from}
 use Rattle.pig_waves.proofs.Heads.{head_at}
 use Rattle.pig_fitting.specs.Laws.{PartFits}
@@ -124,11 +125,25 @@ module _ (s : Stages) (k : ℕ) (o : PlanOp) (at : op_at s.plan k ≡ Some o) (l
         (subst (λ form. Has (given_kinds s.plan n) (rows_in form)) (sym h.is)
         (of_found (λ ks. Each ks h.rows) (given_kinds s.plan n) (λ ks found. rows_of_each ks h.rows (h.kinds ks found))))
 
-    of_reduces : (w : ℕ) → Among task (map t_reduce (partition_tasks s w k o)) → HasGiven
-    of_reduces w among =
+    on_node : (w : ℕ) (t : ReduceTask) → Among t (partition_tasks s w k o) → t.node ≡ k
+    on_node w t among =
+        let own = mapped_from (λ p. record { node = k; wave = w; part = p }) (range_with_len 0 (reduce_count s.sizing.reducers o)) t among in
+        subst (λ u. u.node ≡ k) own.is refl
+
+    -- those that reduce tasks bring together, where these are rows of the node
+    of_reduces : kinds_brought s.plan k o ≡ given_kinds s.plan k → (w : ℕ) → Among task (map t_reduce (partition_tasks s w k o)) → HasGiven
+    of_reduces same w among =
         let from = mapped_from t_reduce (partition_tasks s w k o) task among in
-        let own = mapped_from (λ p. record { node = k; wave = w; part = p }) (range_with_len 0 (reduce_count s.sizing.reducers o)) from.x from.among in
-        of_rows (from.x).node (subst (λ u. u.node ≡ k) own.is refl) (subst (λ u. Fits s u out) (sym from.is) fits)
+        let node = on_node w from.x from.among in
+        of_rows k refl
+        (subst (λ found. HasRows found out.form)
+        (ap (brought_kinds s.plan) node ∙ ap (option_and_then (kinds_brought s.plan k)) at ∙ same)
+        (subst (λ u. Fits s u out) (sym from.is) fits))
+
+    of_ranks : (w : ℕ) → Among task (map t_rank (partition_tasks s w k o)) → HasGiven
+    of_ranks w among =
+        let from = mapped_from t_rank (partition_tasks s w k o) task among in
+        of_rows (from.x).node (on_node w from.x from.among) (subst (λ u. Fits s u out) (sym from.is) fits)
 
     -- runs are no rows
     no_rows : (n : ℕ) → HasRuns s n o out.form → HasGiven
@@ -153,26 +168,26 @@ last_fits : (s : Stages) (k : ℕ) (o : PlanOp) → op_at s.plan k ≡ Some o �
     → wave ≡ last_wave s.plan k o
     → (task : Task) (out : TaskOut) → slice_get (tasks_in s wave) place ≡ Some task → Fits s task out → Has (given_kinds s.plan k) (rows_in out.form)
 last_fits s k (p_group_all input) at live here wave place is task out stands fits =
-    of_reduces s k (p_group_all input) at live here task out fits _
+    of_reduces s k (p_group_all input) at live here task out fits refl _
     (in_wave s k (p_group_all input) at live here wave place 1 kinds.Reduce is refl task stands)
 last_fits s k (p_group inputs) at live here wave place is task out stands fits =
-    of_reduces s k (p_group inputs) at live here task out fits _ (in_wave s k (p_group inputs) at live here wave place 1 kinds.Reduce is refl task stands)
+    of_reduces s k (p_group inputs) at live here task out fits refl _ (in_wave s k (p_group inputs) at live here wave place 1 kinds.Reduce is refl task stands)
 last_fits s k (p_join inputs side false) at live here wave place is task out stands fits =
-    of_reduces s k (p_join inputs side false) at live here task out fits _
+    of_reduces s k (p_join inputs side false) at live here task out fits refl _
     (in_wave s k (p_join inputs side false) at live here wave place 1 kinds.Reduce is refl task stands)
 last_fits s k (p_join inputs side true) at live here wave place is task out stands fits =
     of_probes s k (p_join inputs side true) at live here task out fits (λ n found h. h (p_join inputs side true) found)
     (in_wave s k (p_join inputs side true) at live here wave place 1 kinds.Probe is refl task stands)
 last_fits s k (p_distinct input) at live here wave place is task out stands fits =
-    of_reduces s k (p_distinct input) at live here task out fits _ (in_wave s k (p_distinct input) at live here wave place 1 kinds.Reduce is refl task stands)
+    of_reduces s k (p_distinct input) at live here task out fits refl _ (in_wave s k (p_distinct input) at live here wave place 1 kinds.Reduce is refl task stands)
 last_fits s k (p_order input keys) at live here wave place is task out stands fits =
-    of_reduces s k (p_order input keys) at live here task out fits _
+    of_reduces s k (p_order input keys) at live here task out fits refl _
     (in_wave s k (p_order input keys) at live here wave place 1 kinds.Reduce is refl task stands)
 last_fits s k (p_limit input count) at live here wave place is task out stands fits =
-    of_reduces s k (p_limit input count) at live here task out fits _
+    of_reduces s k (p_limit input count) at live here task out fits refl _
     (in_wave s k (p_limit input count) at live here wave place 1 kinds.Reduce is refl task stands)
 last_fits s k (p_rank input keys dense) at live here wave place is task out stands fits =
-    of_reduces s k (p_rank input keys dense) at live here task out fits _
+    of_ranks s k (p_rank input keys dense) at live here task out fits _
     (in_wave s k (p_rank input keys dense) at live here wave place 2 kinds.Rank is refl task stands)
 last_fits s k (p_load path delim columns) at live here wave place is task out stands fits = absurd (true≢false (sym here))
 last_fits s k (p_filter input test) at live here wave place is task out stands fits = absurd (true≢false (sym here))

@@ -13,11 +13,10 @@ use Rattle.pig_physical.specs.declared.waves.WaveHead.{WaveHead}
 use Rattle.pig_physical.specs.declared.waves.WaveKind.{WaveKind}
 use Rattle.pig_physical.specs.declared.waves.WaveKind.TheVariants as kinds
 use Rattle.pig_physical.specs.Stages.{MapTask, Stages, Task, boundaries, enters_first, head_of, heads, heads_at, map_tasks, partition_tasks, parts_at}
-use Rattle.pig_physical.specs.Stages.{path_tasks, reduce_count, store_tasks, stores, t_map, t_reduce, tasks_by, tasks_in, tasks_of, tasks_on, waves_of}
+use Rattle.pig_physical.specs.Stages.{path_tasks, reduce_count, store_tasks, stores, t_map, t_rank, t_reduce, tasks_by, tasks_in, tasks_of, tasks_on, waves_of}
 use Rattle.pig_physical.specs.Stages.{ways_into, ways_to}
 use Rattle.pig_waves.proofs.Among.{Among, Side, among_first, among_later, behind, in_front, made_of, mapped_from, side_of}
-use Rattle.pig_waves.proofs.Heads.{two_waves}
-use Rattle.pig_waves.specs.Laws.{has_stages}
+use Rattle.pig_waves.specs.Laws.{ranks}
 
 -- ---- elements of lists
 
@@ -162,26 +161,42 @@ headed s w place task h = by_head (slice_get (heads s.plan) w) refl h
     by_head None e g = absurd (cc)
     by_head (Some head) e g = by_op head e (op_at s.plan head.node) refl g
 
--- the map task or the reduce task that a task is
+-- the map task that a task is, or the task on a partition
 abbrev map_in : MapTask → Task → MapTask
 map_in other (t_map t) = t
-map_in other (t_reduce t) = other
+map_in other task = other
 
-abbrev reduce_in : ReduceTask → Task → ReduceTask
-reduce_in other (t_map t) = other
-reduce_in other (t_reduce t) = t
+abbrev partition_in : ReduceTask → Task → ReduceTask
+partition_in other (t_map t) = other
+partition_in other (t_reduce t) = t
+partition_in other (t_rank t) = t
 
 pub among_maps : (ts : List MapTask) (t : MapTask) → Among (t_map t) (map t_map ts) → Among t ts
 among_maps ts t h = let from = mapped_from t_map ts (t_map t) h in subst (λ u. Among u ts) (ap (map_in t) from.is) from.among
 
 pub among_reduces : (ts : List ReduceTask) (t : ReduceTask) → Among (t_reduce t) (map t_reduce ts) → Among t ts
-among_reduces ts t h = let from = mapped_from t_reduce ts (t_reduce t) h in subst (λ u. Among u ts) (ap (reduce_in t) from.is) from.among
+among_reduces ts t h = let from = mapped_from t_reduce ts (t_reduce t) h in subst (λ u. Among u ts) (ap (partition_in t) from.is) from.among
+
+pub among_ranks : (ts : List ReduceTask) (t : ReduceTask) → Among (t_rank t) (map t_rank ts) → Among t ts
+among_ranks ts t h = let from = mapped_from t_rank ts (t_rank t) h in subst (λ u. Among u ts) (ap (partition_in t) from.is) from.among
 
 no_map : (ts : List ReduceTask) (t : MapTask) → Among (t_map t) (map t_reduce ts) → ⊥
 no_map ts t h = let from = mapped_from t_reduce ts (t_map t) h in let wrong = from.is in absurd (cc)
 
+no_map_ranks : (ts : List ReduceTask) (t : MapTask) → Among (t_map t) (map t_rank ts) → ⊥
+no_map_ranks ts t h = let from = mapped_from t_rank ts (t_map t) h in let wrong = from.is in absurd (cc)
+
 no_reduce : (ts : List MapTask) (t : ReduceTask) → Among (t_reduce t) (map t_map ts) → ⊥
 no_reduce ts t h = let from = mapped_from t_map ts (t_reduce t) h in let wrong = from.is in absurd (cc)
+
+no_reduce_ranks : (ts : List ReduceTask) (t : ReduceTask) → Among (t_reduce t) (map t_rank ts) → ⊥
+no_reduce_ranks ts t h = let from = mapped_from t_rank ts (t_reduce t) h in let wrong = from.is in absurd (cc)
+
+no_rank : (ts : List MapTask) (t : ReduceTask) → Among (t_rank t) (map t_map ts) → ⊥
+no_rank ts t h = let from = mapped_from t_map ts (t_rank t) h in let wrong = from.is in absurd (cc)
+
+no_rank_reduces : (ts : List ReduceTask) (t : ReduceTask) → Among (t_rank t) (map t_reduce ts) → ⊥
+no_rank_reduces ts t h = let from = mapped_from t_reduce ts (t_rank t) h in let wrong = from.is in absurd (cc)
 
 module _ (s : Stages) (t : MapTask) where
   of_live : (k : ℕ) (o : PlanOp) → op_at s.plan k ≡ Some o → is_live s.plan k ≡ true → is_boundary o ≡ true → Among t (map_tasks s k o) → Stands s t
@@ -211,7 +226,7 @@ module _ (s : Stages) (t : MapTask) where
       of_live head.node o at own.live (ap is_boundary (some_same o own.op (sym at ∙ own.at)) ∙ own.is)
       (among_filtered enters_first (map_tasks s head.node o) t (among_maps (filter enters_first (map_tasks s head.node o)) t h))
   of_kind head is w o at kinds.Reduce e h = absurd (no_map (partition_tasks s (w - 1) head.node o) t h)
-  of_kind head is w o at kinds.Rank e h = absurd (no_map (partition_tasks s (w - 1) head.node o) t h)
+  of_kind head is w o at kinds.Rank e h = absurd (no_map_ranks (partition_tasks s (w - 1) head.node o) t h)
   of_kind head is w o at kinds.Store e h = of_store (among_maps (flat_map (store_tasks s) (stores s.plan)) t h)
 
   pub task_stands : (w place : ℕ) → slice_get (tasks_in s w) place ≡ Some (t_map t) → Stands s t
@@ -219,51 +234,64 @@ module _ (s : Stages) (t : MapTask) where
       let in_wave = headed s w place (t_map t) h in
       of_kind in_wave.head (head_is s.plan in_wave.head (record { at = w; is = in_wave.stands })) w in_wave.op in_wave.at in_wave.head.kind refl in_wave.among
 
--- ---- the wave before that of a reduce task
+-- ---- the wave before that of a task on a partition
 
--- each head of a wave of reduce tasks stands behind that of the map tasks of its node
+-- the kind of the wave whose outputs a wave of partitions reads
+abbrev pub kind_before : WaveKind → Option WaveKind
+kind_before kinds.Reduce = Some kinds.Map
+kind_before kinds.Rank = Some kinds.Reduce
+kind_before kind = None
+
+abbrev pub IsBehind : Plan → Option WaveHead → WaveHead → Type 0
+IsBehind plan before head = (kind : WaveKind) → kind_before head.kind ≡ Some kind → before ≡ Some (head_of plan head.node kind)
+
+-- each head of a wave of partitions stands behind that of the wave that it reads, of its node
 abbrev Follows : Plan → Option WaveHead → List WaveHead → Type 0
 Follows plan before [] = ⊤
-Follows plan before (head ∷ hs) = (head.kind ≡ kinds.Reduce → before ≡ Some (head_of plan head.node kinds.Map)) × Follows plan (Some head) hs
+Follows plan before (head ∷ hs) = IsBehind plan before head × Follows plan (Some head) hs
 
 module _ (plan : Plan) where
   behind_one : (before : WaveHead) (hs : List WaveHead) → Follows plan (Some before) hs → (w : ℕ) (head : WaveHead) → slice_get hs w ≡ Some head
-      → head.kind ≡ kinds.Reduce
-      → slice_get (before ∷ hs) w ≡ Some (head_of plan head.node kinds.Map)
-  behind_one before [] f w head at kind = absurd (cc)
-  behind_one before (h ∷ hs) f zero head at kind =
-      subst (λ x. x.kind ≡ kinds.Reduce → Some before ≡ Some (head_of plan x.node kinds.Map)) (some_same h head at) f.0 kind
-  behind_one before (h ∷ hs) f (suc w) head at kind = behind_one h hs f.1 w head at kind
+      → IsBehind plan (slice_get (before ∷ hs) w) head
+  behind_one before [] f w head at = absurd (cc)
+  behind_one before (h ∷ hs) f zero head at = subst (IsBehind plan (Some before)) (some_same h head at) f.0
+  behind_one before (h ∷ hs) f (suc w) head at = behind_one h hs f.1 w head at
 
-  map_before : (hs : List WaveHead) → Follows plan None hs → (w : ℕ) (head : WaveHead) → slice_get hs w ≡ Some head → head.kind ≡ kinds.Reduce
-      → slice_get hs (w - 1) ≡ Some (head_of plan head.node kinds.Map)
-  map_before [] f w head at kind = absurd (cc)
-  map_before (h ∷ hs) f zero head at kind =
-      let wrong : None ≡ Some (head_of plan head.node kinds.Map) =
-      subst (λ x. x.kind ≡ kinds.Reduce → None ≡ Some (head_of plan x.node kinds.Map)) (some_same h head at) f.0 kind in absurd (cc)
-  map_before (h ∷ hs) f (suc w) head at kind =
-      let e : suc w - 1 ≡ w = omega arith in ap (slice_get (h ∷ hs)) e ∙ behind_one h hs f.1 w head at kind
+  wave_before : (hs : List WaveHead) → Follows plan None hs → (w : ℕ) (head : WaveHead) → slice_get hs w ≡ Some head
+      → (kind : WaveKind) → kind_before head.kind ≡ Some kind → (w ≡ (w - 1) + 1) × (slice_get hs (w - 1) ≡ Some (head_of plan head.node kind))
+  wave_before [] f w head at kind is = absurd (cc)
+  wave_before (h ∷ hs) f zero head at kind is =
+      let wrong : None ≡ Some (head_of plan head.node kind) = subst (IsBehind plan None) (some_same h head at) f.0 kind is in absurd (cc)
+  wave_before (h ∷ hs) f (suc w) head at kind is =
+      let e : suc w - 1 ≡ w = omega arith in (omega arith, ap (slice_get (h ∷ hs)) e ∙ behind_one h hs f.1 w head at kind is)
 
-  no_reduces : (before : Option WaveHead) (ks : List ℕ) → Follows plan before (map (λ k. head_of plan k kinds.Store) ks)
-  no_reduces before [] = tt
-  no_reduces before (k ∷ ks) = ((λ e. absurd (cc)), no_reduces (Some (head_of plan k kinds.Store)) ks)
+  none_behind : (before : Option WaveHead) (ks : List ℕ) → Follows plan before (map (λ k. head_of plan k kinds.Store) ks)
+  none_behind before [] = tt
+  none_behind before (k ∷ ks) = ((λ kind e. absurd (cc)), none_behind (Some (head_of plan k kinds.Store)) ks)
+
+  two_follow : (k : ℕ) (rest : List WaveHead) → ((before : Option WaveHead) → Follows plan before rest) → (before : Option WaveHead)
+      → Follows plan before (head_of plan k kinds.Map ∷ head_of plan k kinds.Reduce ∷ rest)
+  two_follow k rest on before = ((λ kind e. absurd (cc)), ((λ kind e. ap (λ x. Some (head_of plan k x)) (some_same kinds.Map kind e)), on _))
 
   waves_follow : (k : ℕ) (rest : List WaveHead) → ((before : Option WaveHead) → Follows plan before rest) → (before : Option WaveHead) (o : PlanOp)
       → Follows plan before (map (head_of plan k) (waves_of o) ++ rest)
-  waves_follow k rest on before (p_join inputs side true) = ((λ e. absurd (cc)), ((λ e. absurd (cc)), on _))
-  waves_follow k rest on before (p_join inputs side false) = ((λ e. absurd (cc)), ((λ e. refl), on _))
-  waves_follow k rest on before (p_rank input keys dense) = ((λ e. absurd (cc)), ((λ e. refl), ((λ e. absurd (cc)), on _)))
-  waves_follow k rest on before (p_load path delim columns) = ((λ e. absurd (cc)), ((λ e. refl), on _))
-  waves_follow k rest on before (p_filter input test) = ((λ e. absurd (cc)), ((λ e. refl), on _))
-  waves_follow k rest on before (p_foreach input block) = ((λ e. absurd (cc)), ((λ e. refl), on _))
-  waves_follow k rest on before (p_group_all input) = ((λ e. absurd (cc)), ((λ e. refl), on _))
-  waves_follow k rest on before (p_group inputs) = ((λ e. absurd (cc)), ((λ e. refl), on _))
-  waves_follow k rest on before (p_union inputs) = ((λ e. absurd (cc)), ((λ e. refl), on _))
-  waves_follow k rest on before (p_distinct input) = ((λ e. absurd (cc)), ((λ e. refl), on _))
-  waves_follow k rest on before (p_order input keys) = ((λ e. absurd (cc)), ((λ e. refl), on _))
-  waves_follow k rest on before (p_limit input count) = ((λ e. absurd (cc)), ((λ e. refl), on _))
-  waves_follow k rest on before (p_store input path delim) = ((λ e. absurd (cc)), ((λ e. refl), on _))
-  waves_follow k rest on before (p_assert input test message) = ((λ e. absurd (cc)), ((λ e. refl), on _))
+  waves_follow k rest on before (p_join inputs side true) = ((λ kind e. absurd (cc)), ((λ kind e. absurd (cc)), on _))
+  waves_follow k rest on before (p_join inputs side false) = two_follow k rest on before
+  waves_follow k rest on before (p_rank input keys dense) = (
+    (λ kind e. absurd (cc)),
+    ((λ kind e. ap (λ x. Some (head_of plan k x)) (some_same kinds.Map kind e)), ((λ kind e. ap (λ x. Some (head_of plan k x)) (some_same kinds.Reduce kind e)), on _)),
+  )
+  waves_follow k rest on before (p_load path delim columns) = two_follow k rest on before
+  waves_follow k rest on before (p_filter input test) = two_follow k rest on before
+  waves_follow k rest on before (p_foreach input block) = two_follow k rest on before
+  waves_follow k rest on before (p_group_all input) = two_follow k rest on before
+  waves_follow k rest on before (p_group inputs) = two_follow k rest on before
+  waves_follow k rest on before (p_union inputs) = two_follow k rest on before
+  waves_follow k rest on before (p_distinct input) = two_follow k rest on before
+  waves_follow k rest on before (p_order input keys) = two_follow k rest on before
+  waves_follow k rest on before (p_limit input count) = two_follow k rest on before
+  waves_follow k rest on before (p_store input path delim) = two_follow k rest on before
+  waves_follow k rest on before (p_assert input test message) = two_follow k rest on before
 
   own_follow : (k : ℕ) (rest : List WaveHead) → ((before : Option WaveHead) → Follows plan before rest) → (before : Option WaveHead) (found : Option PlanOp)
       → Follows plan before (option_map_or (λ o. map (head_of plan k) (waves_of o)) found [] ++ rest)
@@ -272,112 +300,113 @@ module _ (plan : Plan) where
 
   all_follow : (ks : List ℕ) (before : Option WaveHead)
       → Follows plan before (flat_map (heads_at plan) ks ++ map (λ k. head_of plan k kinds.Store) (take 1 (stores plan)))
-  all_follow [] before = no_reduces before (take 1 (stores plan))
+  all_follow [] before = none_behind before (take 1 (stores plan))
   all_follow (k ∷ ks) before =
       subst (Follows plan before) (sym (append_assoc (heads_at plan k) (flat_map (heads_at plan) ks)
       (map (λ j. head_of plan j kinds.Store) (take 1 (stores plan)))))
       (own_follow k (flat_map (heads_at plan) ks ++ map (λ j. head_of plan j kinds.Store) (take 1 (stores plan))) (λ b. all_follow ks b) before
       (op_at plan k))
 
-no_rank : (o : PlanOp) → has_stages o ≡ true → Among kinds.Rank (waves_of o) → ⊥
-no_rank o staged among = by_place among.at (subst (λ ws. slice_get ws among.at ≡ Some kinds.Rank) (two_waves o staged) among.is)
+module _ (s : Stages) (t : ReduceTask) where
+  pub in_partition : (w k : ℕ) (p : PlanOp) → Among t (partition_tasks s w k p) → (t.node ≡ k) × (t.wave ≡ w)
+  in_partition w k p h =
+      let from = mapped_from (λ i. record { node = k; wave = w; part = i }) (range_with_len 0 (reduce_count s.sizing.reducers p)) t h in
+      subst (λ u. (u.node ≡ k) × (u.wave ≡ w)) from.is (refl, refl)
+
+-- A task on a partition of a live boundary node, in a wave of this kind: the wave before has the node's tasks that it reads.
+pub record OfPartition (s : Stages) (w : ℕ) (t : ReduceTask) (kind before : WaveKind) : Type 0 where
+  pub op : PlanOp
+  pub at : op_at s.plan t.node ≡ Some op
+  pub live : is_live s.plan t.node ≡ true
+  pub here : is_boundary op ≡ true
+  pub among : Among kind (waves_of op)
+  pub behind : w ≡ t.wave + 1
+  pub reads : tasks_in s t.wave ≡ tasks_by s t.wave before t.node op
+
+module _ (s : Stages) (t : ReduceTask) where
+  of_node_found : (kind before : WaveKind) → kind_before kind ≡ Some before → (head : WaveHead) → HeadOf s.plan head → (w : ℕ) → slice_get (heads s.plan) w ≡ Some head
+      → (p : PlanOp) → op_at s.plan head.node ≡ Some p → head.kind ≡ kind → (kind ≡ kinds.Store → ⊥) → Among t (partition_tasks s (w - 1) head.node p) → OfPartition s w t kind before
+  of_node_found kind before is head (of_stores store) w stands p found e other h = absurd (other (sym e ∙ store))
+  of_node_found kind before is head (of_node own among) w stands p found e other h =
+      let on = in_partition s t (w - 1) head.node p h in
+      let same : own.op ≡ p = some_same own.op p (sym own.at ∙ found) in
+      let behind = wave_before s.plan (heads s.plan) (all_follow s.plan (boundaries s.plan) None) w head stands before (ap kind_before e ∙ is) in
+      record {
+        op = p;
+        at = ap (op_at s.plan) on.0 ∙ found;
+        live = ap (is_live s.plan) on.0 ∙ own.live;
+        here = ap is_boundary (sym same) ∙ own.is;
+        among = subst (λ q. Among kind (waves_of q)) same (subst (λ x. Among x (waves_of own.op)) e among);
+        behind = behind.0 ∙ ap (λ n. n + 1) (sym on.1);
+        reads =
+          ap (tasks_in s) on.1 ∙ ap (λ found. option_map_or (tasks_of s (w - 1)) found []) behind.1
+          ∙ ap (λ found. option_map_or (tasks_by s (w - 1) before head.node) found []) found
+          ∙ (λ i. tasks_by s (sym on.1 i) before (sym on.0 i) p);
+      }
+
+  by_reduce : (head : WaveHead) → HeadOf s.plan head → (w : ℕ) → slice_get (heads s.plan) w ≡ Some head → (p : PlanOp) → op_at s.plan head.node ≡ Some p
+      → (kind : WaveKind) → head.kind ≡ kind → Among (t_reduce t) (tasks_by s w kind head.node p) → OfPartition s w t kinds.Reduce kinds.Map
+  by_reduce head is w stands p found kinds.Map e h = absurd (no_reduce (map_tasks s head.node p) t h)
+  by_reduce head is w stands p found kinds.Copy e h = absurd (no_reduce (filter (λ u. not (enters_first u)) (map_tasks s head.node p)) t h)
+  by_reduce head is w stands p found kinds.Probe e h = absurd (no_reduce (filter enters_first (map_tasks s head.node p)) t h)
+  by_reduce head is w stands p found kinds.Store e h = absurd (no_reduce (flat_map (store_tasks s) (stores s.plan)) t h)
+  by_reduce head is w stands p found kinds.Rank e h = absurd (no_reduce_ranks (partition_tasks s (w - 1) head.node p) t h)
+  by_reduce head is w stands p found kinds.Reduce e h =
+      of_node_found kinds.Reduce kinds.Map refl head is w stands p found e (λ wrong. absurd (cc)) (among_reduces (partition_tasks s (w - 1) head.node p) t h)
+
+  by_rank : (head : WaveHead) → HeadOf s.plan head → (w : ℕ) → slice_get (heads s.plan) w ≡ Some head → (p : PlanOp) → op_at s.plan head.node ≡ Some p
+      → (kind : WaveKind) → head.kind ≡ kind → Among (t_rank t) (tasks_by s w kind head.node p) → OfPartition s w t kinds.Rank kinds.Reduce
+  by_rank head is w stands p found kinds.Map e h = absurd (no_rank (map_tasks s head.node p) t h)
+  by_rank head is w stands p found kinds.Copy e h = absurd (no_rank (filter (λ u. not (enters_first u)) (map_tasks s head.node p)) t h)
+  by_rank head is w stands p found kinds.Probe e h = absurd (no_rank (filter enters_first (map_tasks s head.node p)) t h)
+  by_rank head is w stands p found kinds.Store e h = absurd (no_rank (flat_map (store_tasks s) (stores s.plan)) t h)
+  by_rank head is w stands p found kinds.Reduce e h = absurd (no_rank_reduces (partition_tasks s (w - 1) head.node p) t h)
+  by_rank head is w stands p found kinds.Rank e h =
+      of_node_found kinds.Rank kinds.Reduce refl head is w stands p found e (λ wrong. absurd (cc)) (among_ranks (partition_tasks s (w - 1) head.node p) t h)
+
+  -- a reduce task reads what the map tasks of its node hand on
+  pub reduces_at : (w place : ℕ) → slice_get (tasks_in s w) place ≡ Some (t_reduce t) → OfPartition s w t kinds.Reduce kinds.Map
+  reduces_at w place h =
+      let in_wave = headed s w place (t_reduce t) h in
+      by_reduce in_wave.head (head_is s.plan in_wave.head
+      (record { at = w; is = in_wave.stands })) w in_wave.stands in_wave.op in_wave.at in_wave.head.kind refl in_wave.among
+
+  -- and a rank task what its reduce tasks do
+  pub ranks_at : (w place : ℕ) → slice_get (tasks_in s w) place ≡ Some (t_rank t) → OfPartition s w t kinds.Rank kinds.Reduce
+  ranks_at w place h =
+      let in_wave = headed s w place (t_rank t) h in
+      by_rank in_wave.head (head_is s.plan in_wave.head
+      (record { at = w; is = in_wave.stands })) w in_wave.stands in_wave.op in_wave.at in_wave.head.kind refl in_wave.among
+
+not_of_two : Among kinds.Rank (kinds.Map ∷ kinds.Reduce ∷ []) → ⊥
+not_of_two h = by_place h.at h.is
   where
     by_place : (i : ℕ) → slice_get (kinds.Map ∷ kinds.Reduce ∷ []) i ≡ Some kinds.Rank → ⊥
     by_place zero wrong = absurd (cc)
     by_place (suc zero) wrong = absurd (cc)
     by_place (suc (suc i)) wrong = absurd (cc)
 
-module _ (s : Stages) (t : ReduceTask) where
-  in_partition : (w k : ℕ) (p : PlanOp) → Among t (partition_tasks s w k p) → (t.node ≡ k) × (t.wave ≡ w)
-  in_partition w k p h =
-      let from = mapped_from (λ i. record { node = k; wave = w; part = i }) (range_with_len 0 (reduce_count s.sizing.reducers p)) t h in
-      subst (λ u. (u.node ≡ k) × (u.wave ≡ w)) from.is (refl, refl)
+not_of_probes : Among kinds.Rank (kinds.Copy ∷ kinds.Probe ∷ []) → ⊥
+not_of_probes h = by_place h.at h.is
+  where
+    by_place : (i : ℕ) → slice_get (kinds.Copy ∷ kinds.Probe ∷ []) i ≡ Some kinds.Rank → ⊥
+    by_place zero wrong = absurd (cc)
+    by_place (suc zero) wrong = absurd (cc)
+    by_place (suc (suc i)) wrong = absurd (cc)
 
--- A reduce task of a live boundary node, which is no RANK: the wave that it names has the node's map tasks.
-pub record Reduces (s : Stages) (t : ReduceTask) (o : PlanOp) : Type 0 where
-  pub live : is_live s.plan t.node ≡ true
-  pub here : is_boundary o ≡ true
-  pub maps : tasks_in s t.wave ≡ map t_map (map_tasks s t.node o)
-
-module _ (s : Stages) (t : ReduceTask) (o : PlanOp) (at : op_at s.plan t.node ≡ Some o) (staged : has_stages o ≡ true) where
-  maps_are : (w k : ℕ) → slice_get (heads s.plan) w ≡ Some (head_of s.plan k kinds.Map) → t.wave ≡ w → t.node ≡ k
-      → tasks_in s t.wave ≡ map t_map (map_tasks s t.node o)
-  maps_are w k stands wave node =
-      ap (tasks_in s) wave ∙ ap (λ found. option_map_or (tasks_of s w) found []) stands
-      ∙ ap (λ n. option_map_or (tasks_by s w kinds.Map n) (op_at s.plan n) []) (sym node)
-      ∙ ap (λ found. option_map_or (tasks_by s w kinds.Map t.node) found []) at
-
-  of_head : (head : WaveHead) → HeadOf s.plan head → (w : ℕ) → slice_get (heads s.plan) w ≡ Some head → (p : PlanOp) → op_at s.plan head.node ≡ Some p
-      → (kind : WaveKind) → head.kind ≡ kind → Among (t_reduce t) (tasks_by s w kind head.node p) → Reduces s t o
-  of_head head is w stands p found kinds.Map e h = absurd (no_reduce (map_tasks s head.node p) t h)
-  of_head head is w stands p found kinds.Copy e h = absurd (no_reduce (filter (λ u. not (enters_first u)) (map_tasks s head.node p)) t h)
-  of_head head is w stands p found kinds.Probe e h = absurd (no_reduce (filter enters_first (map_tasks s head.node p)) t h)
-  of_head head is w stands p found kinds.Store e h = absurd (no_reduce (flat_map (store_tasks s) (stores s.plan)) t h)
-  of_head head (of_stores store) w stands p found kinds.Reduce e h = let wrong = sym e ∙ store in absurd (cc)
-  of_head head (of_stores store) w stands p found kinds.Rank e h = let wrong = sym e ∙ store in absurd (cc)
-  of_head head (of_node own kind) w stands p found kinds.Reduce e h =
-      let on = in_partition s t (w - 1) head.node p (among_reduces (partition_tasks s (w - 1) head.node p) t h) in
-      let same : own.op ≡ o = some_same own.op o (sym own.at ∙ ap (op_at s.plan) (sym on.0) ∙ at) in
-      record {
-        live = ap (is_live s.plan) on.0 ∙ own.live;
-        here = ap is_boundary (sym same) ∙ own.is;
-        maps = maps_are (w - 1) head.node (map_before s.plan (heads s.plan) (all_follow s.plan (boundaries s.plan) None) w head stands e) on.1 on.0;
-      }
-  of_head head (of_node own kind) w stands p found kinds.Rank e h =
-      let on = in_partition s t (w - 1) head.node p (among_reduces (partition_tasks s (w - 1) head.node p) t h) in
-      let same : own.op ≡ o = some_same own.op o (sym own.at ∙ ap (op_at s.plan) (sym on.0) ∙ at) in
-      absurd (no_rank o staged (subst (λ q. Among kinds.Rank (waves_of q)) same (subst (λ x. Among x (waves_of own.op)) e kind)))
-
-  pub task_reduces : (w place : ℕ) → slice_get (tasks_in s w) place ≡ Some (t_reduce t) → Reduces s t o
-  task_reduces w place h =
-      let in_wave = headed s w place (t_reduce t) h in
-      of_head in_wave.head (head_is s.plan in_wave.head
-      (record { at = w; is = in_wave.stands })) w in_wave.stands in_wave.op in_wave.at in_wave.head.kind refl in_wave.among
-
--- ---- a reduce task by itself
-
--- the operator of a reduce task's node; where it is no RANK, the task reads the wave before its own
-pub record ReducesAt (s : Stages) (w : ℕ) (t : ReduceTask) : Type 0 where
-  pub op : PlanOp
-  pub at : op_at s.plan t.node ≡ Some op
-  pub behind : has_stages op ≡ true → w ≡ t.wave + 1
-
--- no wave of reduce tasks is the first
-not_first : (plan : Plan) (hs : List WaveHead) → Follows plan None hs → (w : ℕ) (head : WaveHead) → slice_get hs w ≡ Some head → head.kind ≡ kinds.Reduce
-    → w ≡ (w - 1) + 1
-not_first plan [] f w head at kind = absurd (cc)
-not_first plan (h ∷ hs) f zero head at kind =
-    let wrong : None ≡ Some (head_of plan head.node kinds.Map) =
-    subst (λ x. x.kind ≡ kinds.Reduce → None ≡ Some (head_of plan x.node kinds.Map)) (some_same h head at) f.0 kind in absurd (cc)
-not_first plan (h ∷ hs) f (suc w) head at kind = omega arith
-
-module _ (s : Stages) (t : ReduceTask) where
-  by_head : (head : WaveHead) → HeadOf s.plan head → (w : ℕ) → slice_get (heads s.plan) w ≡ Some head → (p : PlanOp) → op_at s.plan head.node ≡ Some p
-      → (kind : WaveKind) → head.kind ≡ kind → Among (t_reduce t) (tasks_by s w kind head.node p) → ReducesAt s w t
-  by_head head is w stands p found kinds.Map e h = absurd (no_reduce (map_tasks s head.node p) t h)
-  by_head head is w stands p found kinds.Copy e h = absurd (no_reduce (filter (λ u. not (enters_first u)) (map_tasks s head.node p)) t h)
-  by_head head is w stands p found kinds.Probe e h = absurd (no_reduce (filter enters_first (map_tasks s head.node p)) t h)
-  by_head head is w stands p found kinds.Store e h = absurd (no_reduce (flat_map (store_tasks s) (stores s.plan)) t h)
-  by_head head (of_stores store) w stands p found kinds.Reduce e h = let wrong = sym e ∙ store in absurd (cc)
-  by_head head (of_stores store) w stands p found kinds.Rank e h = let wrong = sym e ∙ store in absurd (cc)
-  by_head head (of_node own kind) w stands p found kinds.Reduce e h =
-      let on = in_partition s t (w - 1) head.node p (among_reduces (partition_tasks s (w - 1) head.node p) t h) in
-      record {
-        op = p;
-        at = ap (op_at s.plan) on.0 ∙ found;
-        behind = λ staged. not_first s.plan (heads s.plan) (all_follow s.plan (boundaries s.plan) None) w head stands e ∙ ap (λ n. n + 1) (sym on.1);
-      }
-  by_head head (of_node own kind) w stands p found kinds.Rank e h =
-      let on = in_partition s t (w - 1) head.node p (among_reduces (partition_tasks s (w - 1) head.node p) t h) in
-      let same : own.op ≡ p = some_same own.op p (sym own.at ∙ found) in
-      record {
-        op = p;
-        at = ap (op_at s.plan) on.0 ∙ found;
-        behind = λ staged. absurd (no_rank own.op (ap has_stages same ∙ staged) (subst (λ x. Among x (waves_of own.op)) e kind));
-      }
-
-  pub reduces_at : (w place : ℕ) → slice_get (tasks_in s w) place ≡ Some (t_reduce t) → ReducesAt s w t
-  reduces_at w place h =
-      let in_wave = headed s w place (t_reduce t) h in
-      by_head in_wave.head (head_is s.plan in_wave.head
-      (record { at = w; is = in_wave.stands })) w in_wave.stands in_wave.op in_wave.at in_wave.head.kind refl in_wave.among
+-- the node of a rank task is a RANK
+pub ranks_alone : (o : PlanOp) → Among kinds.Rank (waves_of o) → ranks o ≡ true
+ranks_alone (p_rank input keys dense) h = refl
+ranks_alone (p_join inputs side true) h = absurd (not_of_probes h)
+ranks_alone (p_join inputs side false) h = absurd (not_of_two h)
+ranks_alone (p_load path delim columns) h = absurd (not_of_two h)
+ranks_alone (p_filter input test) h = absurd (not_of_two h)
+ranks_alone (p_foreach input block) h = absurd (not_of_two h)
+ranks_alone (p_group_all input) h = absurd (not_of_two h)
+ranks_alone (p_group inputs) h = absurd (not_of_two h)
+ranks_alone (p_union inputs) h = absurd (not_of_two h)
+ranks_alone (p_distinct input) h = absurd (not_of_two h)
+ranks_alone (p_order input keys) h = absurd (not_of_two h)
+ranks_alone (p_limit input count) h = absurd (not_of_two h)
+ranks_alone (p_store input path delim) h = absurd (not_of_two h)
+ranks_alone (p_assert input test message) h = absurd (not_of_two h)

@@ -1,4 +1,4 @@
-ghost use Rattle.pig_fitting.specs.Laws.{LoadFits, MapFormFits, PartFits, ReduceFormFits};
+ghost use Rattle.pig_fitting.specs.Laws.{LoadFits, MapFormFits, PartFits, RankFormFits, ReduceFormFits};
 
 use pig_algebra::parts_make_the_rows;
 use pig_builtins::function_laws;
@@ -26,9 +26,15 @@ pub fn map_forms_fit()
 }
 
 /// What a reduce task brings together of outputs that fit is rows of the kinds that its node hands
-/// on. A RANK is left out, and so is a replicated JOIN, which has no reduce tasks.
+/// on; of a RANK it is rows of the kinds of its input.
 pub fn reduce_forms_fit()
     ensures { ReduceFormFits }
 {
     function_laws();
 }
+
+/// The rows of the partition of a rank task, each behind a long, are of the kinds that its node
+/// hands on, where the outputs fit that it reads.
+pub fn rank_forms_fit()
+    ensures { RankFormFits }
+{}

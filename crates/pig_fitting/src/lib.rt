@@ -3,4 +3,4 @@
 
 mod laws;
 
-pub use laws::{loads_fit, map_forms_fit, parts_fit, reduce_forms_fit};
+pub use laws::{loads_fit, map_forms_fit, parts_fit, rank_forms_fit, reduce_forms_fit};

@@ -10,3 +10,4 @@ pub mod ByKey
 pub mod Distinct
 pub mod Sorted
 pub mod Limits
+pub mod Ranked
