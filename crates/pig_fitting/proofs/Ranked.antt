@@ -3,7 +3,6 @@ use Rattle.std.specs.Prelude.{◌≡◌, ◌<◌, ◌-◌, ℕ, Bool, true, fals
 use Rattle.std.proofs.Common.{ap, sym, ◌∙◌, arith, subst, true≢false}
 use Rattle.std.specs.Option.{option_and_then, option_map_or}
 use Rattle.std.proofs.lemmas.Option.{slice_get_within}
-use Rattle.pig_value.specs.Elementwise.{Each as Beside}
 use Rattle.pig_value.specs.Kinds.{IsRowOf}
 use Rattle.pig_value.specs.Trees.{Tree, k_long}
 use Rattle.pig_value.proofs.KindLaws.{rows_of_each, rows_of_from_each}
@@ -25,7 +24,8 @@ use Rattle.pig_physical.specs.declared.parts.ReduceTask.{ReduceTask}
 use Rattle.pig_waves.proofs.Among.{Among, mapped_from}
 use Rattle.pig_waves.proofs.Folders.{none_folds_at}
 use Rattle.pig_waves.specs.Laws.{ranks}
-use Rattle.pig_fitting.specs.Laws.{AreBehindLongs, IsBehindLong, RankFormFits}
+use Rattle.pig_rank.specs.Ranks.{AreBehindLongs, IsBehindLong}
+use Rattle.pig_fitting.specs.Laws.{RankFormFits}
 use Rattle.pig_fitting.proofs.Given.{Has, given_of, given_unfolded, kinds_by}
 use Rattle.pig_fitting.proofs.Standing.{in_partition, ranks_alone, ranks_at}
 

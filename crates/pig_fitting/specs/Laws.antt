@@ -1,15 +1,15 @@
 -- That what right tasks hand on fits them, where their rows are of the kinds of their source.
-use Rattle.std.specs.Prelude.{◌≡◌, ℕ, ℤ, List, ◌∷◌, None, Some, map, slice_get}
+use Rattle.std.specs.Prelude.{◌≡◌, ℕ, List, None, Some, map, slice_get}
 use Rattle.pig_value.specs.declared.inputs.Column.{Column}
 use Rattle.pig_value.specs.FieldRows.{row_of}
 use Rattle.pig_value.specs.Kinds.{AreRowsOf}
-use Rattle.pig_value.specs.Elementwise.{Each}
-use Rattle.pig_value.specs.Trees.{Tree, v_long}
+use Rattle.pig_value.specs.Trees.{Tree}
 use Rattle.pig_plan.specs.NodeKinds.{RowKinds}
 use Rattle.pig_plan.specs.Nodes.{op_at}
 use Rattle.pig_plan.specs.Plans.{Plan, PlanOp, p_load}
 use Rattle.pig_plan.specs.Steps.{through}
 use Rattle.pig_plan.specs.Valid.{IsPlan}
+use Rattle.pig_rank.specs.Ranks.{AreBehindLongs}
 use Rattle.pig_physical.specs.Combining.{folds}
 use Rattle.pig_physical.specs.Fitting.{HasAll, HasPart, HasRows, HasWave, MapFits, brought_kinds, given_kinds}
 use Rattle.pig_physical.specs.Outs.{Form, Outs, o_rows, outs_at, rows_at}
@@ -49,14 +49,6 @@ ReduceFormFits = (s : Stages) → IsPlan s.plan → (w at : ℕ) (t : ReduceTask
     → (o : PlanOp) → op_at s.plan t.node ≡ Some o
     → (outs : Outs) → HasWave s outs t
     → (form : Form) → IsReduceForm s t.node o (outs_at outs t.wave) t.part form → HasRows (brought_kinds s.plan t.node) form
-
--- rows, each behind a long
-pub record IsBehindLong (row made : List Tree) : Type 0 where
-  pub long : ℤ
-  pub is : made ≡ v_long long ∷ row
-
-abbrev pub AreBehindLongs : List (List Tree) → List (List Tree) → Type 0
-AreBehindLongs = Each IsBehindLong
 
 -- the rows of the partition of a rank task, each behind a long, whichever
 abbrev pub RankFormFits : Type 0

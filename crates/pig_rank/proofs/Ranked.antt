@@ -23,8 +23,8 @@ use Rattle.pig_typed.specs.Blocks.{keys_cmp}
 use Rattle.pig_plan.specs.Operators.{Setting, key_fields, order_rows, rank_of, rank_rows, sort_keys_cmp, stand_before}
 use Rattle.pig_plan.specs.Plans.{p_rank}
 use Rattle.pig_plan.proofs.Seen.{seen}
-use Rattle.pig_rank.specs.Ranks.{AreRanked, AreSorted, EachIsRanked, PartStart, Rows, distinct_keys, joined, ranked_among, start_behind, tail_of}
-use Rattle.pig_rank.specs.Walks.{rank_told, ranked_on}
+use Rattle.pig_rank.specs.Ranks.{AreBehindLongs, AreRanked, AreSorted, EachIsRanked, PartStart, Rows, distinct_keys, joined, ranked_among, start_behind, tail_of}
+use Rattle.pig_rank.specs.Walks.{and_row, rank_told, ranked_on}
 use Rattle.pig_rank.proofs.Keys.{order_sorted, sort_total, ties_are}
 use Rattle.pig_rank.proofs.Sorted.{back_ascends, front_ascends, keys_up_to_it, last_behind, up_to_it}
 use Rattle.pig_rank.proofs.Words.{long_word, ranks_on}
@@ -69,6 +69,11 @@ module _ (keys : List SortKey) where
   are_ranked dense start rows ranked is earlier later sorted begins =
       is ∙ ap (λ s. ranked_on keys dense s rows) begins
       ∙ ranked_is dense (earlier ++ rows ++ later) earlier rows later (append_assoc earlier rows later) sorted
+
+  pub behind_longs : (dense : Bool) (start : PartStart) (rows : Rows) → AreBehindLongs rows (ranked_on keys dense start rows)
+  behind_longs dense start [] = tt
+  behind_longs dense start (row ∷ rows) =
+      (record { long = pos (rank_told dense (and_row keys start row)); is = refl }, behind_longs dense (and_row keys start row) rows)
 
   -- ---- partitions
 

@@ -1,10 +1,11 @@
 -- Ranks over consecutive partitions of a sorted list: what is told of a partition, what stands before it, and what its rows are ranked by that.
 -- (Pig Latin Basics: "RANK". That ranks are found partition by partition, and counted modulo 2 to the 64, is a choice of this profile.)
-use Rattle.std.specs.Prelude.{◌≡◌, ℕ, ◌%◌, ◌^◌, Bool, Option, None, List, ◌∷◌, ◌++◌, map, length, take, zip, slice_get}
+use Rattle.std.specs.Prelude.{◌≡◌, ℕ, ℤ, ◌%◌, ◌^◌, Bool, Option, None, List, ◌∷◌, ◌++◌, map, length, take, zip, slice_get}
 use Rattle.std.specs.List.{filter, flat_map, last_or, range_with_len}
 use Rattle.std.specs.Option.{option_map, option_map_or}
 use Rattle.std.specs.Ordering.{is_eq}
 use Rattle.pig_value.specs.Elementwise.{Each}
+use Rattle.pig_value.specs.Functions.{long_of}
 use Rattle.pig_value.specs.Orders.{row_cmp}
 use Rattle.pig_value.specs.Sorts.{Ascends, distinct}
 use Rattle.pig_value.specs.Trees.{Tree, row_tree}
@@ -104,6 +105,14 @@ ranked_among keys dense whole rows = map (λ row. rank_of keys dense whole row �
 abbrev pub AreRanked : List SortKey → Bool → PartStart → Rows → Rows → Type 0
 AreRanked keys dense start rows ranked = (earlier later : Rows) → AreSorted keys (earlier ++ rows ++ later) → start ≡ start_behind keys earlier
     → ranked ≡ ranked_among keys dense (earlier ++ rows ++ later) rows
+
+-- whatever the start, each row stands behind a long
+pub record IsBehindLong (row made : List Tree) : Type 0 where
+  pub long : ℤ
+  pub is : made ≡ long_of long ∷ row
+
+abbrev pub AreBehindLongs : Rows → Rows → Type 0
+AreBehindLongs = Each IsBehindLong
 
 -- each partition's rows ranked behind its start
 abbrev pub EachIsRanked : List SortKey → Bool → List Rows → List Rows → Type 0

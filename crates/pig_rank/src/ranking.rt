@@ -2,7 +2,7 @@ ghost use Rattle.std.specs.Prelude.{◌≡◌, ◌∷◌, pos, IfOk};
 ghost use Rattle.std.specs.Int.{int_wrap, w64};
 ghost use Rattle.pig_value.specs.Functions.{long_of};
 ghost use Rattle.pig_value.specs.Trees.{row_tree, rows_tree};
-ghost use Rattle.pig_rank.specs.Ranks.{AreRanked, start_tree};
+ghost use Rattle.pig_rank.specs.Ranks.{AreBehindLongs, AreRanked, start_tree};
 ghost use Rattle.pig_rank.specs.Walks.{passed_start, ranked_on};
 
 use crate::Start;
@@ -22,8 +22,10 @@ pub fn rank_rows(
     start: &Start,
     dense: bool,
 ) -> Result<Rows, AllocError>
-    ensures { IfOk result (λ ranked. AreRanked keys.now dense (start_tree start.now)
+    ensures ranked { IfOk result (λ ranked. AreRanked keys.now dense (start_tree start.now)
         (rows_tree rows.now) (rows_tree ranked)) }
+    ensures longs { IfOk result (λ ranked. AreBehindLongs (rows_tree rows.now)
+        (rows_tree ranked)) }
 {
     ranked_behind(alloc, Passed::before(start), rows.as_slice(), keys, dense)
 }

@@ -6,3 +6,4 @@ mod ByOperator
 mod Handing
 mod Behind
 mod Fitting
+mod PartRanks

@@ -1,11 +1,12 @@
 -- What reduce tasks make of entries that are lent: of each key and of the rows that have it.
-use Rattle.std.specs.Prelude.{◌≡◌, ℕ, Bool, true, false, List, [], ◌∷◌, map, drop, Option, Some, None, slice_get, ⊤}
+use Rattle.std.specs.Prelude.{◌≡◌, ℕ, Bool, true, false, List, [], ◌∷◌, map, drop, take, Option, Some, None, slice_get, ⊤}
 use Rattle.std.specs.List.{AllByRecursion}
 use Rattle.pig_value.specs.Functions.{column_tree}
 use Rattle.pig_value.specs.Gathering.{Entry}
 use Rattle.pig_value.specs.Trees.{Tree, at}
 use Rattle.pig_value.specs.Valid.{IsValue}
 use Rattle.pig_keycode.specs.Codable.{IsCodeOf}
+use Rattle.pig_typed.specs.declared.blocks.SortKey.{SortKey}
 use Rattle.pig_typed.specs.Evaluation.{ev}
 use Rattle.pig_typed.specs.Literals.{LiteralsAre}
 use Rattle.pig_algebra.specs.Combining.{finished}
@@ -14,17 +15,18 @@ use Rattle.pig_algebra.specs.Parts.{merging}
 use Rattle.pig_value.specs.declared.operators.Dir.{Dir}
 use Rattle.pig_value.specs.declared.operators.Side.{Side}
 use Rattle.pig_plan.specs.ByKey.{gathered, outer_of}
+use Rattle.pig_plan.specs.Entries.{sort_keys}
 use Rattle.pig_plan.specs.Nodes.{op_at}
-use Rattle.pig_plan.specs.Plans.{Keyed, PlanOp, p_distinct, p_limit}
+use Rattle.pig_plan.specs.Plans.{Keyed, Plan, PlanOp, p_distinct, p_limit, p_rank}
 use Rattle.pig_operators.specs.declared.by_key.Gathering.{Gathering}
 use Rattle.pig_operators.specs.Given.{made}
 use Rattle.pig_runs.specs.Entries.{InDirections}
-use Rattle.pig_physical.specs.Outs.{TaskOut, o_rows, runs_in}
-use Rattle.pig_physical.specs.Fitting.{Fits}
-use Rattle.pig_physical.specs.Stages.{Stages, t_reduce}
+use Rattle.pig_physical.specs.Outs.{TaskOut, o_rows, rows_in, runs_in}
+use Rattle.pig_physical.specs.Stages.{Stages}
 use Rattle.pig_physical.specs.declared.parts.ReduceTask.{ReduceTask}
-use Rattle.pig_physical.specs.Values.{IsReduceForm, key_row}
-use Rattle.pig_waves.specs.Laws.{has_stages}
+use Rattle.pig_physical.specs.Values.{IsReduceForm, all_rows, key_row}
+use Rattle.pig_rank.specs.Ranks.{AreSorted, start_behind, start_tree, starts_of}
+use Rattle.pig_rank.specs.declared.parts.Start.{Start}
 
 -- ---- DISTINCT
 
@@ -108,6 +110,21 @@ pub record IsReduced (s : Stages) (k : ℕ) (o : PlanOp) (outs : List TaskOut) (
   pub lines : out.lines ≡ 0
   pub unmet : out.unmet ≡ []
 
--- what a reduce task hands on fits it, where the waves of its node are one of maps and one of reduces
-abbrev pub FitsStaged : Stages → ReduceTask → TaskOut → Type 0
-FitsStaged s t out = (o : PlanOp) → op_at s.plan t.node ≡ Some o → has_stages o ≡ true → Fits s (t_reduce t) out
+-- ---- ranks
+
+abbrev pub is_dense : PlanOp → Bool
+is_dense (p_rank input keys dense) = dense
+is_dense o = false
+
+-- What stands before a partition of a node that sorts: where the rows of all partitions, one behind the other, are sorted by its keys,
+-- it is what stands before the partition's first row.
+abbrev pub IsStartBy : PlanOp → List TaskOut → ℕ → Start → Type 0
+IsStartBy o outs p start = (keys : List SortKey) → sort_keys o ≡ Some keys
+    → AreSorted keys (all_rows outs) → start_tree start ≡ start_behind keys (all_rows (take p outs))
+
+abbrev pub IsStartOf : Plan → List TaskOut → ReduceTask → Start → Type 0
+IsStartOf plan outs t start = (o : PlanOp) → op_at plan t.node ≡ Some o → IsStartBy o outs t.part start
+
+-- the starts of all partitions
+abbrev pub AreStartsBy : List SortKey → List TaskOut → List Start → Type 0
+AreStartsBy keys outs starts = AreSorted keys (all_rows outs) → map start_tree starts ≡ starts_of keys (map (λ out. rows_in out.form) outs)

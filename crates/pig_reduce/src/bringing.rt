@@ -78,7 +78,7 @@ fn is_distinct(op: &NodeOp) -> bool
 }
 
 // The fields that an operator sorts by, where it does.
-fn sort_keys(op: &NodeOp) -> Option<&SortKeys>
+pub(crate) fn sort_keys(op: &NodeOp) -> Option<&SortKeys>
     ensures { option_map (λ keys. keys.now) result ≡ sort_keys (op_of op.now) }
 {
     match op {

@@ -1,5 +1,5 @@
 //! Reduce tasks: one partition of a boundary node, brought together from what the tasks of a wave
-//! handed on.
+//! handed on; and rank tasks: the rows of such a partition, each behind its rank.
 //!
 //! Runs stay where they stand and are lent; rows are written as their codes. Decoded are the keys and
 //! the parts of a GROUP that folds, group by group, and a key that is a tuple where an operator asks
@@ -13,6 +13,7 @@ mod groups;
 mod keys;
 mod lending;
 mod limits;
+mod ranking;
 mod reading;
 mod reducing;
 
@@ -20,4 +21,5 @@ pub use bringing::add_brought;
 pub use folds::add_folded;
 pub use lending::entries_of;
 pub use limits::first_rows;
+pub use ranking::{partition_starts, rank_attempt};
 pub use reducing::{reduce_attempt, reduce_task};

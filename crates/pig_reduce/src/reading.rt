@@ -63,7 +63,7 @@ fn row_of(alloc: Global, entries: &Merged, at: usize) -> Result<Tuple, AllocErro
 }
 
 // The row of a code.
-fn read_row(alloc: Global, code: &[u8]) -> Result<Tuple, AllocError>
+pub(crate) fn read_row(alloc: Global, code: &[u8]) -> Result<Tuple, AllocError>
     ensures is { (row : List Tree) → IsCodeOfRow code.now row
         → IfOk result (λ found. row_tree found ≡ row) }
     ensures values { IfOk result (λ found. IsRow (row_tree found)) }

@@ -6,14 +6,14 @@ ghost use Rattle.pig_value.specs.declared.inputs.Input.{Input};
 ghost use Rattle.pig_plan.specs.Nodes.{op_at as op_of_plan};
 ghost use Rattle.pig_plan.specs.Plans.{op_of, plan_of};
 ghost use Rattle.pig_physical.specs.Combining.{groups_one};
-ghost use Rattle.pig_physical.specs.Fitting.{HasWave, run_dirs};
+ghost use Rattle.pig_physical.specs.Fitting.{Fits, HasWave, run_dirs};
 ghost use Rattle.pig_physical.specs.Handed.{out_of, outs_of};
 ghost use Rattle.pig_physical.specs.Outs.{entries_at};
 ghost use Rattle.pig_physical.specs.Seen.{IsTaskOf, staged};
 ghost use Rattle.pig_physical.specs.Stages.{t_reduce};
 ghost use Rattle.pig_physical.specs.Values.{IsValue, reduced};
 ghost use Rattle.pig_physical.specs.declared.parts.Task.TheVariants as tasks;
-ghost use Rattle.pig_reduce.specs.Made.{AreOfFirst, FitsStaged, HasDirs, IsReduced, limit_of, rows_out};
+ghost use Rattle.pig_reduce.specs.Made.{AreOfFirst, HasDirs, IsReduced, limit_of, rows_out};
 
 use crate::bringing::add_reduced;
 use crate::lending::{entries_of, outs_at};
@@ -43,8 +43,8 @@ pub fn reduce_attempt<S: Stop>(
     ensures value { IfOk result (λ o. IfSome o (λ out. (inputs : List Input)
         → IsValue (staged stages.now) inputs None (outs_of prior.now) (t_reduce task.now)
         (out_of out))) }
-    ensures fits { IfOk result (λ o. IfSome o (λ out. FitsStaged (staged stages.now) task.now
-        (out_of out))) }
+    ensures fits { IfOk result (λ o. IfSome o (λ out. Fits (staged stages.now)
+        (t_reduce task.now) (out_of out))) }
     ensures stopped { IfOk result (λ o. IfNone o (S.won stop.new)) }
     ensures kept { S.kept stop.new ≡ S.kept stop.old }
 {
@@ -71,7 +71,7 @@ pub fn reduce_task(
     ensures value { IfOk result (λ out. (inputs : List Input)
         → IsValue (staged stages.now) inputs None (outs_of prior.now) (t_reduce task.now)
         (out_of out)) }
-    ensures fits { IfOk result (λ out. FitsStaged (staged stages.now) task.now (out_of out)) }
+    ensures fits { IfOk result (λ out. Fits (staged stages.now) (t_reduce task.now) (out_of out)) }
 {
     let mut never = Never;
     match reduce_attempt(alloc, stages, task, prior, &mut never)? {
@@ -149,7 +149,7 @@ fn reduced_out(
 }
 
 // Rows as an output, of a task that reads no lines and meets no ASSERT.
-fn out_with(alloc: Global, rows: Packed) -> Out
+pub(crate) fn out_with(alloc: Global, rows: Packed) -> Out
     ensures { out_of result ≡ rows_out rows }
 {
     Out {
@@ -160,7 +160,7 @@ fn out_with(alloc: Global, rows: Packed) -> Out
 }
 
 // The operator of a node.
-fn op_at(plan: &Plan, node: u32) -> Option<&NodeOp>
+pub(crate) fn op_at(plan: &Plan, node: u32) -> Option<&NodeOp>
     ensures { option_map (λ op. op_of op.now) result ≡ op_of_plan (plan_of plan.now) node }
 {
     match plan.nodes().get(node as usize) {
