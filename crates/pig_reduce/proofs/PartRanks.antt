@@ -1,11 +1,12 @@
 -- Partitions, one behind the other, and ranks among their rows.
 use Rattle.std.proofs.Common.{◌≡◌, ◌<◌, ◌≤◌, ◌+◌, ℕ, zero, suc, Bool, true, false, List, [], ◌∷◌, ◌++◌, map, take, drop, length, refl, sym, ◌∙◌, ap, subst, arith, append_assoc, true≢false}
 use Rattle.std.specs.Prelude.{None, Some, get_or, slice_get}
-use Rattle.std.specs.Option.{option_map}
-use Rattle.std.proofs.lemmas.Option.{slice_get_read}
-use Rattle.std.specs.List.{AllByRecursion, flat_map}
+use Rattle.std.specs.Option.{option_and_then, option_map}
+use Rattle.std.proofs.lemmas.Option.{slice_get_read, slice_get_within}
+use Rattle.std.specs.List.{AllByRecursion, flat_map, range_with_len}
 use Rattle.std.proofs.lemmas.Int.{SFits-int_wrap}
-use Rattle.std.proofs.lemmas.List.{map-append}
+use Rattle.std.proofs.lemmas.List.{length-map, map-append}
+use Rattle.std.proofs.lemmas.List.FromFn.{length-range_with_len}
 use Rattle.std.proofs.lemmas.List.Folds.{flat_map-map}
 use Rattle.std.specs.Int.{w64}
 use Rattle.pig_value.specs.Trees.{Tree, row_tree, rows_tree}
@@ -18,7 +19,7 @@ use Rattle.pig_typed.specs.declared.blocks.SortKey.{SortKey}
 use Rattle.pig_plan.specs.Entries.{sort_keys}
 use Rattle.pig_plan.specs.Nodes.{op_at}
 use Rattle.pig_plan.specs.Valid.{IsPlan}
-use Rattle.pig_plan.specs.Plans.{PlanOp, p_load, p_filter, p_foreach, p_group_all, p_group, p_join, p_union, p_distinct, p_order, p_limit, p_store, p_assert, p_rank}
+use Rattle.pig_plan.specs.Plans.{Plan, PlanOp, p_load, p_filter, p_foreach, p_group_all, p_group, p_join, p_union, p_distinct, p_order, p_limit, p_store, p_assert, p_rank}
 use Rattle.pig_physical.specs.Fitting.{Fits, HasAll}
 use Rattle.pig_physical.specs.Handed.{form_of, out_of}
 use Rattle.pig_physical.specs.Outs.{Outs, TaskOut, o_rows, outs_at, rows_in}
@@ -29,14 +30,15 @@ use Rattle.pig_physical.specs.declared.outputs.Out.{Out}
 use Rattle.pig_physical.specs.declared.parts.ReduceTask.{ReduceTask}
 use Rattle.pig_physical.specs.declared.parts.Task.TheVariants as declared
 use Rattle.pig_physical.specs.declared.waves.WaveKind.TheVariants as kinds
-use Rattle.pig_rank.specs.Ranks.{AreBehindLongs, AreRanked, AreSorted, PartStart, PartSummary, joined, ranked_among, start_behind, summary_of, summary_tree}
+use Rattle.pig_rank.specs.Ranks.{AreBehindLongs, AreRanked, AreSorted, PartStart, PartSummary, joined, ranked_among, start_behind, start_tree, starts_of, summary_of, summary_tree}
 use Rattle.pig_rank.specs.declared.parts.Start.{Start}
 use Rattle.pig_rank.specs.declared.parts.Summary.{Summary}
 use Rattle.pig_rank.proofs.Ranked.{parts_sorted}
+use Rattle.pig_waves.proofs.Places.{range_at}
 use Rattle.pig_waves.specs.Laws.{ranks}
 use Rattle.pig_fitting.specs.Laws.{RankFormFits}
 use Rattle.pig_fitting.proofs.Standing.{OfPartition, ranks_alone, ranks_at}
-use Rattle.pig_reduce.specs.Made.{IsStartBy, IsStartOf, is_dense, rows_out}
+use Rattle.pig_reduce.specs.Made.{AreStartsBy, IsStartBy, IsStartIn, IsStartOf, is_dense, rows_out}
 
 abbrev Rows : Type 0
 Rows = List (List Tree)
@@ -191,3 +193,39 @@ taken_all [] zero h = refl
 taken_all [] (suc n) h = refl
 taken_all (x ∷ xs) zero h = absurd (omega (arith, h))
 taken_all (x ∷ xs) (suc n) h = ap (λ ys. x ∷ ys) (taken_all xs n (omega (arith, h)))
+
+-- ---- the start of a partition
+
+take_parts : (p : ℕ) (outs : List TaskOut) → joined (take p (parts_of outs)) ≡ all_rows (take p outs)
+take_parts zero outs = refl
+take_parts (suc p) [] = refl
+take_parts (suc p) (out ∷ outs) = ap (λ rows. rows_in out.form ++ rows) (take_parts p outs)
+
+pub start_there : (keys : List SortKey) (outs : List TaskOut) (starts : List Start) (p : ℕ) (start : Start) → map start_tree starts ≡ starts_of keys (parts_of outs)
+    → slice_get starts p ≡ Some start → start_tree start ≡ start_behind keys (all_rows (take p outs))
+start_there keys outs starts p start are at =
+    let begins : ℕ → PartStart = λ i. start_behind keys (joined (take i (parts_of outs))) in
+    let here : slice_get (map start_tree starts) p ≡ Some (start_tree start) = get_map start_tree starts p ∙ ap (option_map start_tree) at in
+    let known : slice_get (starts_of keys (parts_of outs)) p ≡ Some (start_tree start) = ap (λ xs. slice_get xs p) (sym are) ∙ here in
+    let within : p < length (starts_of keys (parts_of outs)) = slice_get_within (starts_of keys (parts_of outs)) p (start_tree start) known in
+    let count : length (starts_of keys (parts_of outs)) ≡ length (parts_of outs) =
+    length-map (range_with_len 0 (length (parts_of outs))) (λ i. start_behind keys (joined (take i (parts_of outs)))) ∙ length-range_with_len 0 (length (parts_of outs)) in
+    let zeroth : 0 + p ≡ p = omega arith in
+    some_same (start_tree start) (start_behind keys (joined (take p (parts_of outs))))
+    (sym known ∙ get_map (λ i. start_behind keys (joined (take i (parts_of outs)))) (range_with_len 0 (length (parts_of outs))) p
+    ∙ ap (option_map (λ i. start_behind keys (joined (take i (parts_of outs))))) (range_at 0 (length (parts_of outs)) p (omega (arith, within, count)) ∙ ap Some zeroth))
+    ∙ ap (start_behind keys) (take_parts p outs)
+
+pub starts_found : (plan : Plan) (outs : Outs) (t u : ReduceTask) (keys : List SortKey) (found : List TaskOut) (starts : List Start)
+    → option_and_then sort_keys (op_at plan u.node) ≡ Some keys → found ≡ outs_at outs u.wave → AreStartsBy keys found starts
+    → t.node ≡ u.node → t.wave ≡ u.wave → IsStartIn plan outs t starts
+starts_found plan outs t u keys found starts has is are node wave start at o op_is own own_keys sorted =
+    let same : own ≡ keys = some_same own keys (sym own_keys ∙ ap (option_and_then sort_keys) (sym (ap (op_at plan) (sym node) ∙ op_is)) ∙ has) in
+    let there : outs_at outs t.wave ≡ found = ap (outs_at outs) wave ∙ sym is in
+    start_there own (outs_at outs t.wave) starts t.part start
+    (subst (λ ks. map start_tree starts ≡ starts_of ks (parts_of (outs_at outs t.wave))) (sym same)
+    (subst (λ list. map start_tree starts ≡ starts_of keys (parts_of list)) (sym there)
+    (are (subst (AreSorted keys) (ap all_rows there) (subst (λ ks. AreSorted ks (all_rows (outs_at outs t.wave))) same sorted))))) at
+
+pub none_found : {X : Type 0} (i : ℕ) (x : X) {G : Type 0} → slice_get [] i ≡ Some x → G
+none_found i x h = absurd (cc)

@@ -21,7 +21,7 @@ use Rattle.pig_plan.specs.Plans.{Keyed, Plan, PlanOp, p_distinct, p_limit, p_ran
 use Rattle.pig_operators.specs.declared.by_key.Gathering.{Gathering}
 use Rattle.pig_operators.specs.Given.{made}
 use Rattle.pig_runs.specs.Entries.{InDirections}
-use Rattle.pig_physical.specs.Outs.{TaskOut, o_rows, rows_in, runs_in}
+use Rattle.pig_physical.specs.Outs.{Outs, TaskOut, o_rows, outs_at, rows_in, runs_in}
 use Rattle.pig_physical.specs.Stages.{Stages}
 use Rattle.pig_physical.specs.declared.parts.ReduceTask.{ReduceTask}
 use Rattle.pig_physical.specs.Values.{IsReduceForm, all_rows, key_row}
@@ -124,6 +124,10 @@ IsStartBy o outs p start = (keys : List SortKey) → sort_keys o ≡ Some keys
 
 abbrev pub IsStartOf : Plan → List TaskOut → ReduceTask → Start → Type 0
 IsStartOf plan outs t start = (o : PlanOp) → op_at plan t.node ≡ Some o → IsStartBy o outs t.part start
+
+-- the start of a task's partition is among these, where there is one
+abbrev pub IsStartIn : Plan → Outs → ReduceTask → List Start → Type 0
+IsStartIn plan outs t starts = (start : Start) → slice_get starts t.part ≡ Some start → IsStartOf plan (outs_at outs t.wave) t start
 
 -- the starts of all partitions
 abbrev pub AreStartsBy : List SortKey → List TaskOut → List Start → Type 0

@@ -21,5 +21,5 @@ pub use bringing::add_brought;
 pub use folds::add_folded;
 pub use lending::entries_of;
 pub use limits::first_rows;
-pub use ranking::{partition_starts, rank_attempt};
+pub use ranking::{rank_attempt, rank_starts};
 pub use reducing::{reduce_attempt, reduce_task};

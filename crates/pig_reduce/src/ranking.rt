@@ -1,9 +1,11 @@
 //! The rows of a partition, each behind its rank among the rows of all.
 ghost use Rattle.std.specs.Prelude.{◌≡◌, ◌<◌, ◌+◌, true, List, Some, length, map, slice_get, take, IfNone, IfOk, IfSome};
+ghost use Rattle.std.specs.Option.{option_and_then, option_map};
 ghost use Rattle.pig_value.specs.declared.inputs.Input.{Input};
 ghost use Rattle.pig_value.specs.Trees.{row_tree, rows_tree};
 ghost use Rattle.pig_value.specs.Valid.{AreRows, IsRow};
 ghost use Rattle.pig_plan.specs.Nodes.{op_at as op_of_plan};
+ghost use Rattle.pig_plan.specs.Entries.{sort_keys};
 ghost use Rattle.pig_plan.specs.Plans.{op_of};
 ghost use Rattle.pig_physical.specs.Fitting.{Fits, HasAll};
 ghost use Rattle.pig_physical.specs.Handed.{form_of, out_of, outs_of};
@@ -11,10 +13,11 @@ ghost use Rattle.pig_physical.specs.Outs.{o_rows, outs_at as outs_at_wave, rows_
 ghost use Rattle.pig_physical.specs.Seen.{IsTaskOf, staged};
 ghost use Rattle.pig_physical.specs.Stages.{t_rank};
 ghost use Rattle.pig_physical.specs.Values.{IsRankForm, IsValue, all_rows, rows_of_part};
+ghost use Rattle.pig_physical.specs.declared.parts.ReduceTask.{ReduceTask};
 ghost use Rattle.pig_physical.specs.declared.parts.Task.TheVariants as tasks;
 ghost use Rattle.pig_rank.specs.Ranks.{AreBehindLongs, AreSorted, ranked_among, start_behind, start_tree, summary_of, summary_tree};
 ghost use Rattle.pig_waves.specs.Laws.{ranks};
-ghost use Rattle.pig_reduce.specs.Made.{AreStartsBy, IsStartBy, IsStartOf, is_dense};
+ghost use Rattle.pig_reduce.specs.Made.{AreStartsBy, IsStartBy, IsStartIn, IsStartOf, is_dense};
 
 use crate::bringing::sort_keys;
 use crate::lending::outs_at;
@@ -175,9 +178,36 @@ fn packed(alloc: Global, rows: &Rows) -> Result<Packed, AllocError>
     Ok(built.finish())
 }
 
-/// What stands before each of the partitions that the tasks of a wave gave, in order, where their rows are sorted by the
-/// keys.
-pub fn partition_starts(alloc: Global, outs: &[Out], keys: &SortKeys) -> Result<Starts, AllocError>
+/// What stands before each partition of a node, for its rank tasks, of which `task` is one.
+pub fn rank_starts(
+    alloc: Global,
+    stages: &Stages,
+    task: &ReduceTask,
+    prior: &Outs,
+) -> Result<Starts, AllocError>
+    ensures { IfOk result (λ starts. (t : ReduceTask) → t.node ≡ task.now.node
+        → t.wave ≡ task.now.wave → IsStartIn (staged stages.now).plan (outs_of prior.now) t starts) }
+{
+    match keys_at(stages, task.node) {
+        Some(keys) => partition_starts(alloc, outs_at(prior, task.wave), keys),
+        None => Ok(Starts::new(alloc)),
+    }
+}
+
+// The keys by which a node sorts.
+fn keys_at<'s>(stages: &'s Stages<'_>, node: u32) -> Option<&'s SortKeys>
+    ensures { option_map (λ keys. keys.now) result
+        ≡ option_and_then sort_keys (op_of_plan (staged stages.now).plan node) }
+{
+    match op_at(stages.plan(), node) {
+        Some(op) => sort_keys(op),
+        None => None,
+    }
+}
+
+// What stands before each of the partitions that the tasks of a wave gave, in order, where their rows are sorted by the
+// keys.
+fn partition_starts(alloc: Global, outs: &[Out], keys: &SortKeys) -> Result<Starts, AllocError>
     ensures { IfOk result (λ starts. AreStartsBy keys.now (map out_of outs.now) starts) }
 {
     let mut parts = Summaries::with_capacity(alloc, outs.len())?;

@@ -1,8 +1,9 @@
 -- What an attempt gives is right for the task at its place.
-use Rattle.std.specs.Prelude.{◌≡◌, ◌<◌, ◌+◌, ℕ, true, All, List, [], ◌∷◌, Option, None, Some, get_or, length, map, slice_get, Result, Ok, Err, IfOk, IfSome}
-use Rattle.std.proofs.Common.{ap, sym, ◌∙◌, subst}
-use Rattle.std.specs.Option.{ForSome, option_map}
-use Rattle.std.proofs.lemmas.Option.{get_or_from_slice_get}
+use Rattle.std.specs.Prelude.{◌≡◌, ◌<◌, ◌+◌, ◌-◌, ℕ, zero, suc, not, All, List, [], ◌∷◌, Option, None, Some, get_or, length, map, slice_get, Result, Ok, Err, IfOk, IfSome, refl}
+use Rattle.std.proofs.Common.{ap, arith, sym, ◌∙◌, subst}
+use Rattle.std.specs.List.{filter, flat_map, range_with_len}
+use Rattle.std.specs.Option.{ForSome, option_map, option_map_or}
+use Rattle.std.proofs.lemmas.Option.{get_or_from_slice_get, slice_get_within}
 use Rattle.pig_value.specs.declared.inputs.Input.{Input}
 use Rattle.pig_value.proofs.list_laws.Indexing.{get_map, some_at}
 use Rattle.pig_value.proofs.list_laws.Listing.{each_at, some_same}
@@ -10,18 +11,20 @@ use Rattle.pig_plan.specs.Nodes.{op_at}
 use Rattle.pig_plan.specs.Plans.{PlanOp}
 use Rattle.pig_plan.specs.Results.{at_place}
 use Rattle.pig_plan.specs.Valid.{IsPlan}
-use Rattle.pig_physical.specs.Fitting.{Fits, HasPart, HasWave}
+use Rattle.pig_physical.specs.Fitting.{Fits, HasAll, HasPart, HasWave}
 use Rattle.pig_physical.specs.Outs.{Outs, TaskOut}
 use Rattle.pig_physical.specs.Seen.{HasSource, IsOwn, IsTaskOf, Reads, map_task_of, no_way, task_of}
-use Rattle.pig_physical.specs.Stages.{Stages, t_map, t_reduce, tasks_in, ways_in}
+use Rattle.pig_physical.specs.Stages.{MapTask, Stages, Task, enters_first, heads, map_tasks, partition_tasks, reduce_count, store_tasks, stores, t_map, t_rank, t_reduce}
+use Rattle.pig_physical.specs.Stages.{tasks_by, tasks_in, tasks_of, ways_in}
 use Rattle.pig_physical.specs.Values.{IsValue}
 use Rattle.pig_physical.specs.declared.parts.MapTask as mapping
 use Rattle.pig_physical.specs.declared.parts.ReduceTask.{ReduceTask}
 use Rattle.pig_physical.specs.declared.parts.Task.TheVariants as tasks
-use Rattle.pig_waves.specs.Laws.{HaveStages, has_stages}
+use Rattle.pig_physical.specs.declared.waves.WaveHead.{WaveHead}
+use Rattle.pig_physical.specs.declared.waves.WaveKind.{WaveKind}
+use Rattle.pig_physical.specs.declared.waves.WaveKind.TheVariants as kinds
 use Rattle.pig_fitting.specs.Laws.{ReduceFormFits}
-use Rattle.pig_fitting.proofs.Given.{node_found}
-use Rattle.pig_fitting.proofs.Standing.{reduces_at}
+use Rattle.pig_fitting.proofs.Standing.{ranks_at, reduces_at}
 use Rattle.pig_work.specs.Working.{HasSources, IsReady, IsRight, IsRightAt, Suits, TaskReads, Tellings}
 
 -- ---- what was made for one host is right among several
@@ -89,18 +92,12 @@ module _ (s : Stages) (outs : Outs) (wave place : ℕ) (ready : IsReady s outs w
 
 -- ---- reduce tasks
 
-module _ (s : Stages) (staged : HaveStages s.plan) where
-  has_at : (k : ℕ) (o : PlanOp) → op_at s.plan k ≡ Some o → has_stages o ≡ true
-  has_at k o at =
-      let found = node_found s.plan k o at in
-      ap has_stages (sym found.2) ∙ each_at (λ node. has_stages node.op ≡ true) s.plan k found.0 found.1 staged
-
+module _ (s : Stages) where
   module _ (outs : Outs) (wave place : ℕ) (ready : IsReady s outs wave) (t : ReduceTask)
       (stands : slice_get (tasks_in s wave) place ≡ Some (task_of (ways_in s.plan wave) (tasks.Reduce t))) where
     pub reduce_stands : IsTaskOf s (t.wave + 1) (tasks.Reduce t)
     reduce_stands =
-        let own = reduces_at s t wave place stands in
-        subst (λ w. IsTaskOf s w (tasks.Reduce t)) (own.behind (has_at t.node own.op own.at))
+        subst (λ w. IsTaskOf s w (tasks.Reduce t)) (reduces_at s t wave place stands).behind
         (record { wave = ready.within; at = place; stands = stands; own = tt })
 
     pub reduce_wave : HasWave s outs t
@@ -121,7 +118,7 @@ module _ (s : Stages) (staged : HaveStages s.plan) where
   value_right law valid outs t is has out value tellings =
       let own = reduces_at s t (t.wave + 1) is.at is.stands in
       record {
-        fits = law s valid (t.wave + 1) is.at t is.stands own.op own.at (has_at t.node own.op own.at) outs has out.form (value [] own.op own.at).form;
+        fits = law s valid (t.wave + 1) is.at t is.stands own.op own.at outs has out.form (value [] own.op own.at).form;
         value = λ inputs read. value inputs;
       }
 
@@ -131,3 +128,113 @@ module _ (s : Stages) (staged : HaveStages s.plan) where
       → IfSome o (λ x. (tellings : Tellings) → IsRight s tellings outs (t_reduce t) (seen x))
   values_right seen law valid outs t is has None value = tt
   values_right seen law valid outs t is has (Some x) value = value_right law valid outs t is has (seen x) value
+
+  -- ---- rank tasks
+
+  module _ (outs : Outs) (wave place : ℕ) (ready : IsReady s outs wave) (t : ReduceTask)
+      (stands : slice_get (tasks_in s wave) place ≡ Some (task_of (ways_in s.plan wave) (tasks.Rank t))) where
+    pub rank_stands : IsTaskOf s (t.wave + 1) (tasks.Rank t)
+    rank_stands =
+        subst (λ w. IsTaskOf s w (tasks.Rank t)) (ranks_at s t wave place stands).behind
+        (record { wave = ready.within; at = place; stands = stands; own = tt })
+
+    pub rank_all : HasAll s outs t.wave
+    rank_all = ready.named place (t_rank t) stands
+
+    pub rank_right : {X E : Type 0} (seen : X → TaskOut) (told : Option (List Input)) (result : Result (Option X) E)
+        → IfOk result (λ o. IfSome o (λ x. (tellings : Tellings) → IsRight s tellings outs (t_rank t) (seen x)))
+        → IfOk result (λ o. IfSome o (λ x. IsRightAt s (told ∷ []) outs wave place (seen x)))
+    rank_right seen told (Err e) h = tt
+    rank_right seen told (Ok None) h = tt
+    rank_right seen told (Ok (Some x)) h = λ task is.
+        subst (λ u. IsRight s (told ∷ []) outs u (seen x)) (some_same (t_rank t) task (sym stands ∙ is)) (h (told ∷ []))
+
+  pub rank_is_right : {X : Type 0} (seen : X → TaskOut) (outs : Outs) (t : ReduceTask) (o : Option X)
+      → IfSome o (λ x. (inputs : List Input) → IsValue s inputs None outs (t_rank t) (seen x)) → IfSome o (λ x. Fits s (t_rank t) (seen x))
+      → IfSome o (λ x. (tellings : Tellings) → IsRight s tellings outs (t_rank t) (seen x))
+  rank_is_right seen outs t None value fits = tt
+  rank_is_right seen outs t (Some x) value fits = λ tellings. record { fits = fits; value = λ inputs read. value inputs }
+
+-- ---- what stands before the partitions of a wave of ranks
+
+-- the tasks of a wave that has a rank task
+record RankWave (s : Stages) (w : ℕ) : Type 0 where
+  pub node : ℕ
+  pub op : PlanOp
+  pub tasks : tasks_in s w ≡ map t_rank (partition_tasks s (w - 1) node op)
+
+no_rank : (ts : List MapTask) (i : ℕ) (t : ReduceTask) → slice_get (map t_map ts) i ≡ Some (t_rank t) → ⊥
+no_rank [] i t h = absurd (cc)
+no_rank (m ∷ ts) zero t h = absurd (cc)
+no_rank (m ∷ ts) (suc i) t h = no_rank ts i t h
+
+no_rank_reduces : (ts : List ReduceTask) (i : ℕ) (t : ReduceTask) → slice_get (map t_reduce ts) i ≡ Some (t_rank t) → ⊥
+no_rank_reduces [] i t h = absurd (cc)
+no_rank_reduces (r ∷ ts) zero t h = absurd (cc)
+no_rank_reduces (r ∷ ts) (suc i) t h = no_rank_reduces ts i t h
+
+rank_wave : (s : Stages) (w place : ℕ) (t : ReduceTask) → slice_get (tasks_in s w) place ≡ Some (t_rank t) → RankWave s w
+rank_wave s w place t h = by_head (slice_get (heads s.plan) w) refl h
+  where
+    by_kind : (head : WaveHead) → slice_get (heads s.plan) w ≡ Some head → (o : PlanOp) → op_at s.plan head.node ≡ Some o
+        → (kind : WaveKind) → head.kind ≡ kind → slice_get (tasks_by s w kind head.node o) place ≡ Some (t_rank t) → RankWave s w
+    by_kind head stands o e kinds.Map same g = absurd (no_rank (map_tasks s head.node o) place t g)
+    by_kind head stands o e kinds.Reduce same g = absurd (no_rank_reduces (partition_tasks s (w - 1) head.node o) place t g)
+    by_kind head stands o e kinds.Copy same g = absurd (no_rank (filter (λ u. not (enters_first u)) (map_tasks s head.node o)) place t g)
+    by_kind head stands o e kinds.Probe same g = absurd (no_rank (filter enters_first (map_tasks s head.node o)) place t g)
+    by_kind head stands o e kinds.Store same g = absurd (no_rank (flat_map (store_tasks s) (stores s.plan)) place t g)
+    by_kind head stands o e kinds.Rank same g = record {
+      node = head.node;
+      op = o;
+      tasks =
+          ap (λ found. option_map_or (tasks_of s w) found []) stands ∙ ap (λ found. option_map_or (tasks_by s w head.kind head.node) found []) e
+          ∙ ap (λ kind. tasks_by s w kind head.node o) same;
+    }
+
+    by_op : (head : WaveHead) → slice_get (heads s.plan) w ≡ Some head → (found : Option PlanOp) → op_at s.plan head.node ≡ found
+        → slice_get (option_map_or (tasks_by s w head.kind head.node) found []) place ≡ Some (t_rank t) → RankWave s w
+    by_op head stands None e g = absurd (cc)
+    by_op head stands (Some o) e g = by_kind head stands o e head.kind refl g
+
+    by_head : (found : Option WaveHead) → slice_get (heads s.plan) w ≡ found → slice_get (option_map_or (tasks_of s w) found []) place ≡ Some (t_rank t) → RankWave s w
+    by_head None e g = absurd (cc)
+    by_head (Some head) e g = by_op head e (op_at s.plan head.node) refl g
+
+rank_of : (k wave : ℕ) (ps : List ℕ) (i : ℕ) (t : ReduceTask) → slice_get (map t_rank (map (λ p. record { node = k; wave = wave; part = p }) ps)) i ≡ Some (t_rank t)
+    → (t.node ≡ k) × (t.wave ≡ wave)
+rank_of k wave [] i t h = absurd (cc)
+rank_of k wave (p ∷ ps) zero t h =
+    let same = some_same (t_rank (record { node = k; wave = wave; part = p })) (t_rank t) h in (ap node_in (sym same), ap wave_in (sym same))
+  where
+    node_in : Task → ℕ
+    node_in (t_rank u) = u.node
+    node_in task = k
+
+    wave_in : Task → ℕ
+    wave_in (t_rank u) = u.wave
+    wave_in task = wave
+rank_of k wave (p ∷ ps) (suc i) t h = rank_of k wave ps i t h
+
+-- all rank tasks of a wave are of one node and read one wave
+pub alike : (s : Stages) (w i j : ℕ) (t u : ReduceTask) → slice_get (tasks_in s w) i ≡ Some (t_rank t) → slice_get (tasks_in s w) j ≡ Some (t_rank u)
+    → (t.node ≡ u.node) × (t.wave ≡ u.wave)
+alike s w i j t u at_t at_u =
+    let own = rank_wave s w i t at_t in
+    let parts = range_with_len 0 (reduce_count s.sizing.reducers own.op) in
+    let a = rank_of own.node (w - 1) parts i t (ap (λ ts. slice_get ts i) (sym own.tasks) ∙ at_t) in
+    let b = rank_of own.node (w - 1) parts j u (ap (λ ts. slice_get ts j) (sym own.tasks) ∙ at_u) in
+    (a.0 ∙ sym b.0, a.1 ∙ sym b.1)
+
+-- a wave whose first task is no rank task has none
+pub none_ranks : (s : Stages) (w place : ℕ) (task : Task) → slice_get (tasks_in s w) 0 ≡ Some task → ((t : ReduceTask) → task ≡ t_rank t → ⊥)
+    → (t : ReduceTask) → slice_get (tasks_in s w) place ≡ Some (t_rank t) → ⊥
+none_ranks s w place task first other t h =
+    let own = rank_wave s w place t h in
+    by_first (partition_tasks s (w - 1) own.node own.op) (ap (λ ts. slice_get ts 0) (sym own.tasks) ∙ first)
+  where
+    by_first : (ts : List ReduceTask) → slice_get (map t_rank ts) 0 ≡ Some task → ⊥
+    by_first [] g = absurd (cc)
+    by_first (u ∷ ts) g = other u (sym (some_same (t_rank u) task g))
+
+pub nowhere : (s : Stages) (w place : ℕ) (t : ReduceTask) → length (tasks_in s w) ≡ 0 → slice_get (tasks_in s w) place ≡ Some (t_rank t) → ⊥
+nowhere s w place t none h = let within = slice_get_within (tasks_in s w) place (t_rank t) h in absurd (omega (arith, none, within))

@@ -6,9 +6,12 @@ use Rattle.pig_value.specs.declared.inputs.Input.{Input}
 use Rattle.pig_physical.specs.Fitting.{Fits, HasNamed}
 use Rattle.pig_physical.specs.Outs.{Outs, TaskOut}
 use Rattle.pig_physical.specs.Seen.{HasSource, Reads}
-use Rattle.pig_physical.specs.Stages.{MapTask, Stages, Task, heads, t_map, t_reduce, tasks_in}
+use Rattle.pig_physical.specs.Stages.{MapTask, Stages, Task, heads, t_map, t_rank, t_reduce, tasks_in}
 use Rattle.pig_physical.specs.Values.{IsValue}
+use Rattle.pig_physical.specs.declared.parts.ReduceTask.{ReduceTask}
+use Rattle.pig_rank.specs.declared.parts.Start.{Start}
 use Rattle.pig_waves.specs.Laws.{HaveStages}
+use Rattle.pig_reduce.specs.Made.{IsStartIn}
 
 -- what each of several hosts tells of its inputs, where it tells
 abbrev pub Tellings : Type 0
@@ -18,6 +21,7 @@ Tellings = List (Option (List Input))
 abbrev pub TaskReads : Task → List Input → Option (List Input) → Type 0
 TaskReads (t_map t) inputs told = Reads told t.part inputs
 TaskReads (t_reduce t) inputs told = ⊤
+TaskReads (t_rank t) inputs told = ⊤
 
 -- A right output fits its task, and is its value over inputs that all hosts tell, whichever of them made it.
 pub record IsRight (s : Stages) (tellings : Tellings) (outs : Outs) (task : Task) (out : TaskOut) : Type 0 where
@@ -38,8 +42,12 @@ pub record Suits (s : Stages) (tellings : Tellings) (wave : ℕ) (told : Option 
   pub stands : slice_get tellings place ≡ Some told
   pub sources : ForSome told (HasSources s wave)
 
--- the wave is one of the stages', which have no RANK and no replicated JOIN, and what its tasks name stands
+-- the wave is one of the stages', which have no replicated JOIN, and what its tasks name stands
 pub record IsReady (s : Stages) (outs : Outs) (wave : ℕ) : Type 0 where
   pub within : wave < length (heads s.plan)
   pub staged : HaveStages s.plan
   pub named : (place : ℕ) (task : Task) → slice_get (tasks_in s wave) place ≡ Some task → HasNamed s outs task
+
+-- what stands before each partition that a rank task of the wave reads
+abbrev pub AreStarts : Stages → Outs → ℕ → List Start → Type 0
+AreStarts s outs wave starts = (place : ℕ) (t : ReduceTask) → slice_get (tasks_in s wave) place ≡ Some (t_rank t) → IsStartIn s.plan outs t starts

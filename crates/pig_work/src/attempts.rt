@@ -1,19 +1,20 @@
 // One attempt at a task of a wave.
 ghost use Rattle.std.specs.Prelude.{◌≡◌, ◌<◌, ◌≤◌, ◌+◌, ◌∷◌, [], Some, length, slice_get, IfErr, IfOk, IfSome, IfNone, IsErrOf};
 ghost use Rattle.std.specs.Option.{ForSome};
-ghost use Rattle.pig_physical.specs.Fitting.{HasWave};
+ghost use Rattle.pig_physical.specs.Fitting.{HasAll, HasWave};
 ghost use Rattle.pig_physical.specs.Handed.{out_of, outs_of};
 ghost use Rattle.pig_physical.specs.Seen.{IsOwn, IsTaskOf, staged, task_of};
-ghost use Rattle.pig_physical.specs.Stages.{heads, t_reduce, tasks_in, ways_in};
+ghost use Rattle.pig_physical.specs.Stages.{heads, t_rank, t_reduce, tasks_in, ways_in};
 ghost use Rattle.pig_physical.specs.declared.parts.Task.TheVariants as tasks;
-ghost use Rattle.pig_waves.specs.Laws.{HaveStages};
-ghost use Rattle.pig_work.specs.Working.{HasSources, IsReady, IsRight, IsRightAt, Tellings};
+ghost use Rattle.pig_reduce.specs.Made.{IsStartIn};
+ghost use Rattle.pig_work.specs.Working.{AreStarts, HasSources, IsReady, IsRight, IsRightAt, Tellings};
 
 use pig_fitting::reduce_forms_fit;
 use pig_map::map_attempt;
 use pig_outside::{AttemptFault, Host, Stop};
 use pig_physical::{Out, Outs, ReduceTask, Stages, Task};
-use pig_reduce::reduce_attempt;
+use pig_rank::Starts;
+use pig_reduce::{rank_attempt, reduce_attempt};
 use std::alloc::{AllocError, Global};
 
 /// How many bytes an attempt reads at most at a time.
@@ -26,11 +27,13 @@ pub(crate) fn attempt_at<H: Host, S: Stop>(
     wave: u32,
     place: u32,
     prior: &Outs,
+    starts: &Starts,
     host: &mut H,
     stop: &mut S,
 ) -> Result<Option<Out>, AttemptFault>
     requires ready { IsReady (staged stages.now) (outs_of prior.now) wave }
     requires place { place < length (tasks_in (staged stages.now) wave) }
+    requires starts { AreStarts (staged stages.now) (outs_of prior.now) wave starts.now }
     requires host { ForSome (H.inputs host.old) (HasSources (staged stages.now) wave) }
     ensures right { IfOk result (λ o. IfSome o (λ out. IsRightAt (staged stages.now)
         (H.inputs host.old ∷ []) (outs_of prior.now) wave place (out_of out))) }
@@ -44,6 +47,7 @@ pub(crate) fn attempt_at<H: Host, S: Stop>(
     match task_in(stages, wave, place) {
         Task::Map(task) => map_attempt(alloc, stages, task, prior, host, BLOCK, stop),
         Task::Reduce(task) => reduce_in(alloc, stages, task, prior, stop),
+        Task::Rank(task) => rank_in(alloc, stages, task, prior, starts, stop),
     }
 }
 
@@ -68,7 +72,6 @@ fn reduce_in<S: Stop>(
 ) -> Result<Option<Out>, AttemptFault>
     requires task { IsTaskOf (staged stages.now) (task.now.wave + 1) (tasks.Reduce task.now) }
     requires prior { HasWave (staged stages.now) (outs_of prior.now) task.now }
-    requires staged { HaveStages (staged stages.now).plan }
     ensures right { IfOk result (λ o. IfSome o (λ out. (tellings : Tellings)
         → IsRight (staged stages.now) tellings (outs_of prior.now) (t_reduce task.now)
         (out_of out))) }
@@ -79,6 +82,35 @@ fn reduce_in<S: Stop>(
     let _nodes = stages.plan().nodes();
     reduce_forms_fit();
     match reduce_attempt(alloc, stages, task, prior, stop) {
+        Ok(out) => Ok(out),
+        Err(error) => Err(fault_of(error)),
+    }
+}
+
+// Attempts a rank task, which reads nothing of its host's either.
+fn rank_in<S: Stop>(
+    alloc: Global,
+    stages: &Stages,
+    task: &ReduceTask,
+    prior: &Outs,
+    starts: &Starts,
+    stop: &mut S,
+) -> Result<Option<Out>, AttemptFault>
+    requires task { IsTaskOf (staged stages.now) (task.now.wave + 1) (tasks.Rank task.now) }
+    requires prior { HasAll (staged stages.now) (outs_of prior.now) task.now.wave }
+    requires starts { IsStartIn (staged stages.now).plan (outs_of prior.now) task.now starts.now }
+    ensures right { IfOk result (λ o. IfSome o (λ out. (tellings : Tellings)
+        → IsRight (staged stages.now) tellings (outs_of prior.now) (t_rank task.now)
+        (out_of out))) }
+    ensures stopped { IfOk result (λ o. IfNone o (S.won stop.new)) }
+    ensures kept { S.kept stop.new ≡ S.kept stop.old }
+    ensures fault { IfErr result (λ fault. fault ≡ AttemptFault.OutOfMemory) }
+{
+    // Each partition has a start, so that this arm is not reached.
+    let Some(start) = starts.get(task.part as usize) else {
+        return Err(AttemptFault::OutOfMemory);
+    };
+    match rank_attempt(alloc, stages, task, prior, start, stop) {
         Ok(out) => Ok(out),
         Err(error) => Err(fault_of(error)),
     }

@@ -3,17 +3,19 @@ ghost use Rattle.std.specs.Prelude.{◌≡◌, ◌<◌, ◌≤◌, ◌+◌, leng
 ghost use Rattle.std.specs.Option.{ForSome};
 ghost use Rattle.pig_physical.specs.Handed.{out_of, outs_of};
 ghost use Rattle.pig_physical.specs.Seen.{staged};
-ghost use Rattle.pig_physical.specs.Stages.{tasks_in};
+ghost use Rattle.pig_physical.specs.Stages.{heads, tasks_in};
 ghost use Rattle.pig_pool.specs.Begins.{crew_tells};
 ghost use Rattle.pig_pool.specs.Wave.{AreBegun, AreOutputs, FaultBegun, HasFailed, IsRounds, IsWonWave, failures_in, failures_of};
 ghost use Rattle.pig_pool.specs.declared.wave.WaveFault.TheVariants.{OutOfMemory};
-ghost use Rattle.pig_work.specs.Working.{HasSources, IsReady, IsRightAt};
+ghost use Rattle.pig_work.specs.Working.{AreStarts, HasSources, IsReady, IsRightAt};
 
 use crate::work::{Setting, StageWork};
 use pig_outside::Host;
-use pig_physical::{Out, Outs, Stages};
+use pig_physical::{Out, Outs, Stages, Task};
 use pig_pool::{WaveEnd, WaveFault, run_wave};
-use std::alloc::Global;
+use pig_rank::Starts;
+use pig_reduce::rank_starts;
+use std::alloc::{AllocError, Global};
 use std::marker::Brand;
 use std::thread::Threads;
 
@@ -56,7 +58,32 @@ pub fn run_stage<R: Threads + Sync, H: Host + Send>(
     ensures inputs { map H.inputs hosts.new ≡ map H.inputs hosts.old }
     ensures later { sum_by H.faults hosts.old ≤ sum_by H.faults hosts.new }
 {
-    run_set::<Brand, R, H>(rt, alloc, stages, wave, prior, hosts, limit)
+    match starts_before(alloc, stages, wave, prior) {
+        Ok(starts) => {
+            run_set::<Brand, R, H>(rt, alloc, stages, wave, prior, &starts, hosts, limit)
+        }
+        Err(AllocError) => Err(WaveFault::OutOfMemory),
+    }
+}
+
+// What stands before each partition that a rank task of a wave reads; another wave has no such tasks.
+fn starts_before(
+    alloc: Global,
+    stages: &Stages,
+    wave: u32,
+    prior: &Outs,
+) -> Result<Starts, AllocError>
+    requires { wave < length (heads (staged stages.now).plan) }
+    ensures { IfOk result (AreStarts (staged stages.now) (outs_of prior.now) wave) }
+{
+    if stages.tasks(wave) == 0 {
+        return Ok(Starts::new(alloc));
+    }
+    match stages.task_at(wave, 0) {
+        Task::Map(_) => Ok(Starts::new(alloc)),
+        Task::Reduce(_) => Ok(Starts::new(alloc)),
+        Task::Rank(task) => rank_starts(alloc, stages, task, prior),
+    }
 }
 
 // The same in a setting.
@@ -66,6 +93,7 @@ fn run_set<N: Setting + Send + Sync, R: Threads + Sync, H: Host + Send>(
     stages: &Stages,
     wave: u32,
     prior: &Outs,
+    starts: &Starts,
     hosts: &mut [H],
     limit: u32,
 ) -> Result<WaveEnd<Out>, WaveFault>
@@ -75,6 +103,7 @@ fn run_set<N: Setting + Send + Sync, R: Threads + Sync, H: Host + Send>(
     requires outs { outs_of prior.now ≡ N.outs }
     requires told { map H.inputs hosts.old ≡ N.told }
     requires ready { IsReady (staged stages.now) N.outs wave }
+    requires starts { AreStarts (staged stages.now) N.outs wave starts.now }
     requires sources { All (λ h. ForSome (H.inputs h) (HasSources (staged stages.now) wave))
         hosts.old }
     ensures outs { IfOk result (λ r. AreOutputs (λ place out. IsRightAt (staged stages.now)
@@ -99,6 +128,6 @@ fn run_set<N: Setting + Send + Sync, R: Threads + Sync, H: Host + Send>(
     ensures inputs { map H.inputs hosts.new ≡ map H.inputs hosts.old }
     ensures later { sum_by H.faults hosts.old ≤ sum_by H.faults hosts.new }
 {
-    let work = StageWork::<'_, N>::new(alloc, stages, wave, prior);
+    let work = StageWork::<'_, N>::new(alloc, stages, wave, prior, starts);
     run_wave(rt, alloc, &work, wave, hosts, limit)
 }

@@ -5,12 +5,13 @@ ghost use Rattle.pig_physical.specs.Handed.{out_of, outs_of};
 ghost use Rattle.pig_physical.specs.Outs.{Outs as GivenOuts};
 ghost use Rattle.pig_physical.specs.Seen.{staged};
 ghost use Rattle.pig_physical.specs.Stages.{tasks_in};
-ghost use Rattle.pig_work.specs.Working.{IsReady, IsRightAt, Suits, Tellings};
+ghost use Rattle.pig_work.specs.Working.{AreStarts, IsReady, IsRightAt, Suits, Tellings};
 
 use crate::attempts::attempt_at;
 use pig_outside::{AttemptFault, Host, Stop};
 use pig_physical::{Out, Outs, Stages};
 use pig_pool::Work;
+use pig_rank::Starts;
 use std::alloc::Global;
 use std::marker::{Brand, Model, PhantomData};
 
@@ -37,6 +38,7 @@ pub struct StageWork<'w, N: Setting> {
     stages: &'w Stages<'w>,
     prior: &'w Outs,
     wave: u32,
+    starts: &'w Starts,
     of: PhantomData<N>,
 }
 
@@ -49,7 +51,7 @@ impl<'w, N: Setting> Model for StageWork<'w, N> {
     ghost use Rattle.pig_physical.specs.declared.staged.Size.{Size};
     ghost use Rattle.pig_physical.specs.Handed.{outs_of};
     ghost use Rattle.pig_physical.specs.Seen.{staged};
-    ghost use Rattle.pig_work.specs.Working.{IsReady};
+    ghost use Rattle.pig_work.specs.Working.{AreStarts, IsReady};
 
     ghost Value = { (List Node × (List Size × (ℕ × ℕ))) × ℕ };
 
@@ -58,19 +60,23 @@ impl<'w, N: Setting> Model for StageWork<'w, N> {
     ghost view = { λ w. (w.stages.now, w.wave) };
 
     ghost invariant = { λ w. (outs_of w.prior.now ≡ N.outs)
-        × IsReady (staged w.stages.now) N.outs w.wave };
+        × IsReady (staged w.stages.now) N.outs w.wave
+        × AreStarts (staged w.stages.now) N.outs w.wave w.starts.now };
 }
 
 impl<'w, N: Setting> StageWork<'w, N> {
-    /// The tasks of a wave for which all that they name stands.
+    /// The tasks of a wave for which all that they name stands. `starts` has what stands before each partition
+    /// that a rank task reads, and none for any other wave.
     pub fn new(
         alloc: Global,
         stages: &'w Stages<'w>,
         wave: u32,
         prior: &'w Outs,
+        starts: &'w Starts,
     ) -> StageWork<'w, N>
         requires outs { outs_of prior.now ≡ N.outs }
         requires ready { IsReady (staged stages.now) N.outs wave }
+        requires starts { AreStarts (staged stages.now) N.outs wave starts.now }
         ensures { result ≡ (stages.now, wave) }
     {
         StageWork {
@@ -78,6 +84,7 @@ impl<'w, N: Setting> StageWork<'w, N> {
             stages,
             prior,
             wave,
+            starts,
             of: PhantomData,
         }
     }
@@ -110,6 +117,7 @@ impl<'w, N: Setting> Work for StageWork<'w, N> {
             self.wave,
             place,
             self.prior,
+            self.starts,
             host,
             stop,
         )
