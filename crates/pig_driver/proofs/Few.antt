@@ -16,7 +16,7 @@ use Rattle.pig_cutter.specs.Limits.{has_too_many, is_too_large}
 use Rattle.pig_waves.proofs.Places.{range_at}
 use Rattle.pig_waves.specs.Laws.{HaveStages, has_stages}
 use Rattle.pig_driver.specs.Standing.{FewTasksFit}
-use Rattle.pig_driver.proofs.Standing.{WaveAt, its_waves, maps, partitions, reduces, storing, wave_at}
+use Rattle.pig_driver.proofs.Standing.{WaveAt, its_waves, maps, partitions, ranked_partitions, ranking, reduces, storing, wave_at}
 
 any_none : {X : Type 0} (p : X → Bool) (xs : List X) → list_any p xs ≡ false → AllByRecursion (λ x. p x ≡ false) xs
 any_none p [] h = tt
@@ -91,6 +91,10 @@ module _ (s : Stages) (valid : IsPlan s.plan) (staged : HaveStages s.plan) (few 
           (each-map IsMap t_map (map_tasks s k is.node.op) (each_of_all (λ t. true ≡ true) (λ t. refl) (map_tasks s k is.node.op))))
       by_wave (reduces k is e) =
           let count = ap (λ v. length (tasks_in s v)) e ∙ partitions s valid staged k is in
+          let bound = few_partitions s.sizing.reducers is.node.op reducers in
+          omega (arith, count, bound)
+      by_wave (ranking k is ranked e) =
+          let count = ap (λ v. length (tasks_in s v)) e ∙ ranked_partitions s valid staged k is ranked in
           let bound = few_partitions s.sizing.reducers is.node.op reducers in
           omega (arith, count, bound)
       by_wave (storing e) = few_maps (last_maps e)

@@ -14,8 +14,8 @@ use Rattle.pig_plan.specs.Steps.{through}
 use Rattle.pig_physical.specs.Combining.{folds}
 use Rattle.pig_physical.specs.Fitting.{HasNamed, HasOutput, HasPart, HasWave}
 use Rattle.pig_physical.specs.Outs.{Outs, TaskOut, outs_at, rows_in, runs_in}
-use Rattle.pig_physical.specs.Stages.{Stages, Task, heads, t_map, t_reduce, tasks_in}
-use Rattle.pig_physical.specs.Values.{IsMapForm, IsReduceForm, IsValue, part_rows}
+use Rattle.pig_physical.specs.Stages.{Stages, Task, heads, t_map, t_rank, t_reduce, tasks_in}
+use Rattle.pig_physical.specs.Values.{IsMapForm, IsRankForm, IsReduceForm, IsValue, part_rows}
 use Rattle.pig_physical.specs.declared.parts.Part.{Part}
 use Rattle.pig_physical.specs.declared.parts.Part.TheVariants as parts
 use Rattle.pig_physical.specs.declared.parts.ReduceTask.{ReduceTask}
@@ -84,6 +84,9 @@ module _ (s : Stages) (whole left : Outs) where
   pub named_over : (task : Task) → Agrees (named_wave task) → HasNamed s whole task → HasNamed s left task
   named_over (t_map t) same h = part_over t.part same h
   named_over (t_reduce t) same h = wave_over t (same t.wave refl) h
+  named_over (t_rank t) same h =
+      let own = same t.wave refl in
+      record { count = ap length own ∙ h.count; each = λ at less. output_over t.wave at own (h.each at less) }
 
   -- ---- the values of tasks
 
@@ -121,6 +124,13 @@ module _ (s : Stages) (whole left : Outs) where
       λ o at. let value = h o at in
       record {
         form = subst (λ outs. IsReduceForm s t.node o outs t.part out.form) (same t.wave refl) value.form;
+        lines = value.lines;
+        unmet = value.unmet;
+      }
+  value_over inputs (t_rank t) out same h =
+      λ o at. let value = h o at in
+      record {
+        form = subst (λ outs. IsRankForm o outs t.part out.form) (same t.wave refl) value.form;
         lines = value.lines;
         unmet = value.unmet;
       }

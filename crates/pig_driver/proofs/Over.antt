@@ -15,7 +15,7 @@ use Rattle.pig_physical.specs.Stages.{Stages, first_wave, heads, last_wave, part
 use Rattle.pig_waves.specs.Laws.{HaveStages}
 use Rattle.pig_driver.specs.Left.{AreLeft, IsChosen, WhatIsLeftStands}
 use Rattle.pig_driver.proofs.Left.{left_size}
-use Rattle.pig_driver.proofs.Standing.{IsBoundaryAt, its_last, its_waves}
+use Rattle.pig_driver.proofs.Standing.{IsBoundaryAt, its_waves}
 
 module _ (s : Stages) (valid : IsPlan s.plan) (staged : HaveStages s.plan) (whole left : Outs) (size : length whole ≡ length (heads s.plan)) (are : AreLeft s whole left (length (heads s.plan))) where
   stores_left : outs_at left (store_wave s.plan) ≡ outs_at whole (store_wave s.plan)
@@ -43,8 +43,7 @@ module _ (s : Stages) (valid : IsPlan s.plan) (staged : HaveStages s.plan) (whol
       of_node (Some node) e =
           let limit : node.op ≡ p_limit input count = some_same node.op (p_limit input count) (sym (ap (option_map (λ n. n.op)) e) ∙ at) in
           let is : IsBoundaryAt s valid staged k = record { node = node; at = e; alive = alive; is = ap is_boundary limit } in
-          let last : last_wave s.plan k (p_limit input count) ≡ first_wave s.plan k + 1 = ap (last_wave s.plan k) (sym limit) ∙ its_last s valid staged k is in
-          ap (flat_map (λ out. rows_in out.form)) (ap (outs_at left) last ∙ are.chosen (first_wave s.plan k + 1) (chosen_at k input count is limit) ∙ ap (outs_at whole) (sym last))
+          ap (flat_map (λ out. rows_in out.form)) (are.chosen (first_wave s.plan k + 1) (chosen_at k input count is limit))
 
 pub what_is_left : WhatIsLeftStands
 what_is_left = λ s valid staged whole left size are. record {

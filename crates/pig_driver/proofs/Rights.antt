@@ -28,7 +28,7 @@ use Rattle.pig_physical.specs.Outs.{Form, Outs, TaskOut, o_runs, runs_in}
 use Rattle.pig_physical.specs.Running.{AreCuts}
 use Rattle.pig_physical.specs.Seen.{Reads}
 use Rattle.pig_physical.specs.Sliced.{slices_of}
-use Rattle.pig_physical.specs.Stages.{MapTask, Stages, Task, heads, map_tasks, t_map, t_reduce, tasks_in, ways_into}
+use Rattle.pig_physical.specs.Stages.{MapTask, Stages, Task, heads, map_tasks, t_map, t_rank, t_reduce, tasks_in, ways_into}
 use Rattle.pig_physical.specs.Values.{IsMapForm, IsValue, handed_on, slices, task_rows}
 use Rattle.pig_physical.specs.declared.parts.Part.{Part}
 use Rattle.pig_physical.specs.declared.parts.Part.TheVariants as parts
@@ -179,6 +179,7 @@ module _ (s : Stages) (tellings : Tellings) (outs : Outs) (w : ℕ) where
   task_read : (inputs : List Input) (task : Task) (told : Option (List Input)) → told ≡ Some inputs → TaskReads task inputs told
   task_read inputs (t_map t) told h = part_read inputs t.part told h
   task_read inputs (t_reduce t) told h = tt
+  task_read inputs (t_rank t) told h = tt
 
   its_value : (inputs : List Input) → AllTell inputs tellings → (task : Task) (out : TaskOut) → IsRight s tellings outs task out → IsValue s inputs None outs task out
   its_value inputs told task out h = h.value inputs (each_weaker (λ t. t ≡ Some inputs) (TaskReads task inputs) (task_read inputs task) tellings told)
@@ -194,6 +195,7 @@ module _ (s : Stages) (tellings : Tellings) (outs : Outs) (w : ℕ) where
       any_points inputs points (t_map t) out unsorted h = λ o at. let is = h o at in
           record { form = form_any s points t.node o t.way.input (task_rows s.plan inputs outs t) out.form (unsorted o at) is.form; lines = is.lines; unmet = is.unmet }
       any_points inputs points (t_reduce t) out unsorted h = h
+      any_points inputs points (t_rank t) out unsorted h = h
 
       none_sliced : (tasks : List Task) → tasks_in s w ≡ tasks → tasks ≡ [] → AllByRecursion (IsSliced s) found
       none_sliced tasks e none = let count = rights.count in empty found (count ∙ ap length (e ∙ none))
@@ -232,6 +234,7 @@ module _ (s : Stages) (tellings : Tellings) (outs : Outs) (w : ℕ) where
       abbrev IsMapOf : Task → Type 0
       IsMapOf (t_map t) = t.node ≡ node
       IsMapOf (t_reduce t) = ⊥
+      IsMapOf (t_rank t) = ⊥
 
       all_maps : AllByRecursion IsMapOf (tasks_in s w)
       all_maps =
@@ -245,6 +248,7 @@ module _ (s : Stages) (tellings : Tellings) (outs : Outs) (w : ℕ) where
       out_runs : (task : Task) (out : TaskOut) → IsMapOf task → Fits s task out → HasRuns s node op out.form
       out_runs (t_map t) out of fits = sorted_fits s node op sorting.keys out.form sorting.by (subst (λ n. MapFits s n op out.form) of (fits op (own_op t of)))
       out_runs (t_reduce t) out of fits = absurd of
+      out_runs (t_rank t) out of fits = absurd of
 
       runs_of_out : (at : ℕ) (out : TaskOut) → slice_get found at ≡ Some out → HasRuns s node op out.form
       runs_of_out at out by =
@@ -351,6 +355,7 @@ module _ (s : Stages) (tellings : Tellings) (outs : Outs) (w : ℕ) where
                 many : (run : InDirections) → length (slices_of run cut.points n) ≡ n
                 many run = length-map (range_with_len 0 n) _ ∙ length-range_with_len 0 n
             of_task (t_reduce t) of = absurd of
+            of_task (t_rank t) of = absurd of
 
         new_sliced : AllByRecursion (IsSliced s) news
         new_sliced = all_from (IsSliced s) news (λ at new by. (let cut_is = new_at at new by in
@@ -375,6 +380,7 @@ module _ (s : Stages) (tellings : Tellings) (outs : Outs) (w : ℕ) where
                 unmet = cut_is.is.unmet ∙ old.unmet;
               }
           new_value at (t_reduce t) new by is of = absurd of
+          new_value at (t_rank t) new by is of = absurd of
 
           pub sliced_values : Each (IsValue s inputs (Some cut.points) outs) (tasks_in s w) news
           sliced_values = each_from (IsValue s inputs (Some cut.points) outs) (tasks_in s w) news count

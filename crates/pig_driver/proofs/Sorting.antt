@@ -10,15 +10,15 @@ use Rattle.pig_plan.specs.Entries.{sort_keys}
 use Rattle.pig_plan.specs.Nodes.{is_store, live, op_at}
 use Rattle.pig_plan.specs.Plans.{PlanOp, p_load, p_filter, p_foreach, p_group_all, p_group, p_join, p_union, p_distinct, p_order, p_limit, p_store, p_assert, p_rank}
 use Rattle.pig_plan.specs.Valid.{IsPlan}
-use Rattle.pig_physical.specs.Stages.{MapTask, Stages, Task, boundaries, first_wave, head_of, heads, heads_at, map_tasks, partition_tasks, store_tasks, stores, t_map, t_reduce, tasks_by, tasks_in, tasks_of, ways_into, ways_to}
+use Rattle.pig_physical.specs.Stages.{MapTask, Stages, Task, boundaries, first_wave, head_of, heads, heads_at, map_tasks, partition_tasks, store_tasks, stores, t_map, t_rank, t_reduce, tasks_by, tasks_in, tasks_of, ways_into, ways_to}
 use Rattle.pig_physical.specs.declared.parts.ReduceTask.{ReduceTask}
 use Rattle.pig_physical.specs.declared.waves.WaveKind.{WaveKind}
 use Rattle.pig_physical.specs.declared.waves.WaveKind.TheVariants as kinds
 use Rattle.pig_waves.proofs.Places.{all_flat_where}
 use Rattle.pig_waves.proofs.Tasks.{name_node}
-use Rattle.pig_waves.specs.Laws.{HaveStages}
+use Rattle.pig_waves.specs.Laws.{HaveStages, ranks}
 use Rattle.pig_driver.specs.Sorting.{op_sorts, task_sorts, wave_sorts}
-use Rattle.pig_driver.proofs.Standing.{IsBoundaryAt, WaveAt, its_head, its_last_head, its_waves, maps, op_here, reduces, storing, wave_at}
+use Rattle.pig_driver.proofs.Standing.{IsBoundaryAt, WaveAt, its_head, its_last_head, its_rank_head, its_waves, maps, op_here, ranking, reduces, storing, wave_at}
 
 no_keys : (found : Option (List SortKey)) → is_some found ≡ false → found ≡ None
 no_keys None h = refl
@@ -52,6 +52,7 @@ module _ (s : Stages) (valid : IsPlan s.plan) (staged : HaveStages s.plan) (w : 
   abbrev pub Unsorted : Task → Type 0
   Unsorted (t_map t) = (o : PlanOp) → op_at s.plan t.node ≡ Some o → sort_keys o ≡ None
   Unsorted (t_reduce t) = ⊤
+  Unsorted (t_rank t) = ⊤
 
   -- where the wave's head is that of a node that sorts, there are no tasks
   abbrev pub SortsNothing : Type 0
@@ -154,6 +155,29 @@ module _ (s : Stages) (valid : IsPlan s.plan) (staged : HaveStages s.plan) (w : 
     reduces_sort_none : wave_sorts s w ≡ false
     reduces_sort_none = ap (λ ts. option_map_or (task_sorts s.plan) (slice_get ts 0) false) reduces_are ∙ first_reduce _
 
+  -- ---- rank tasks
+
+  module _ (k : ℕ) (is : IsBoundaryAt s valid staged k) (ranked : ranks is.node.op ≡ true) (at : w ≡ first_wave s.plan k + 2) where
+    ranks_are : tasks_in s w ≡ map t_rank (partition_tasks s (first_wave s.plan k + 1) k is.node.op)
+    ranks_are = ap (tasks_in s) at ∙ (its_waves s valid staged k is).ranks ranked
+
+    rank_head : slice_get (heads s.plan) w ≡ Some (head_of s.plan k kinds.Rank)
+    rank_head = ap (slice_get (heads s.plan)) at ∙ its_rank_head s valid staged k is ranked
+
+    plain_ranks : IsPlain
+    unfolding is_map_kind
+    plain_ranks = record {
+      tasks = subst (AllByRecursion Unsorted) (sym ranks_are) (each-map Unsorted t_rank _ (each_of_all (λ t. ⊤) (λ t. tt) _));
+      none = λ j p keys by known found. absurd (true≢false (sym (other_kind j k kinds.Rank rank_head by)));
+    }
+
+    first_rank : (ts : List ReduceTask) → option_map_or (task_sorts s.plan) (slice_get (map t_rank ts) 0) false ≡ false
+    first_rank [] = refl
+    first_rank (t ∷ ts) = refl
+
+    ranks_sort_none : wave_sorts s w ≡ false
+    ranks_sort_none = ap (λ ts. option_map_or (task_sorts s.plan) (slice_get ts 0) false) ranks_are ∙ first_rank _
+
   -- ---- the STOREs' tasks
 
   abbrev is_storing : ℕ → Bool
@@ -205,6 +229,7 @@ module _ (s : Stages) (valid : IsPlan s.plan) (staged : HaveStages s.plan) (w : 
         by_op None e = ap (λ found. option_map_or op_sorts found false) e
         by_op (Some p) e = ap (λ found. option_map_or op_sorts found false) e ∙ ap is_some (h.0 p e)
     first_unsorted (t_reduce t ∷ ts) h = refl
+    first_unsorted (t_rank t ∷ ts) h = refl
 
     stores_sort_none : wave_sorts s w ≡ false
     stores_sort_none = first_unsorted (tasks_in s w) all_unsorted
@@ -215,6 +240,7 @@ module _ (s : Stages) (valid : IsPlan s.plan) (staged : HaveStages s.plan) (w : 
       by_wave : WaveAt s valid staged w → IsPlain
       by_wave (maps k is e) = plain_maps k is e (map_tasks s k is.node.op) refl h
       by_wave (reduces k is e) = plain_reduces k is e
+      by_wave (ranking k is ranked e) = plain_ranks k is ranked e
       by_wave (storing e) = plain_stores e
 
   pub sorting_wave : wave_sorts s w ≡ true → IsSorting
@@ -223,4 +249,5 @@ module _ (s : Stages) (valid : IsPlan s.plan) (staged : HaveStages s.plan) (w : 
       by_wave : WaveAt s valid staged w → IsSorting
       by_wave (maps k is e) = sorting_maps k is e (map_tasks s k is.node.op) refl h
       by_wave (reduces k is e) = absurd (true≢false (sym h ∙ reduces_sort_none k is e))
+      by_wave (ranking k is ranked e) = absurd (true≢false (sym h ∙ ranks_sort_none k is ranked e))
       by_wave (storing e) = absurd (true≢false (sym h ∙ stores_sort_none e))

@@ -1,5 +1,5 @@
 -- The tasks of a wave name outputs of waves before it.
-use Rattle.std.specs.Prelude.{◌≡◌, ◌<◌, ◌≤◌, ◌+◌, ◌-◌, ⊤, ℕ, Bool, true, false, nat_lt, List, [], ◌∷◌, ◌++◌, length, map, take, Option, Some, None, slice_get, zero, suc, refl}
+use Rattle.std.specs.Prelude.{◌≡◌, ◌<◌, ◌≤◌, ◌+◌, ◌-◌, ⊤, ℕ, Bool, true, false, nat_lt, List, [], ◌∷◌, ◌++◌, length, map, take, Option, Some, None, slice_get, zero, suc, refl, if◌then◌else◌}
 use Rattle.std.proofs.Common.{ap, sym, ◌∙◌, arith, cond, inl, inr, subst, append_assoc, true≢false}
 use Rattle.std.specs.List.{AllByRecursion, filter, flat_map, range_with_len}
 use Rattle.std.specs.Option.{option_map, option_map_or}
@@ -25,13 +25,13 @@ use Rattle.pig_physical.specs.Fitting.{HasNamed, HasPart}
 use Rattle.pig_physical.specs.Outs.{Outs}
 use Rattle.pig_physical.specs.Running.{AreSizes}
 use Rattle.pig_physical.specs.Seen.{HasSource}
-use Rattle.pig_physical.specs.Stages.{MapTask, Stages, Task, boundaries, first_wave, head_of, heads, heads_at, last_wave, map_tasks, partition_tasks, parts_at, parts_of, path_tasks, reduce_count, store_tasks, stores, t_map, t_reduce, tasks_by, tasks_in, tasks_of, tasks_on, waves_of, ways_into, ways_to}
+use Rattle.pig_physical.specs.Stages.{MapTask, Stages, Task, boundaries, first_wave, head_of, heads, heads_at, last_wave, map_tasks, partition_tasks, parts_at, parts_of, path_tasks, reduce_count, store_tasks, stores, t_map, t_rank, t_reduce, tasks_by, tasks_in, tasks_of, tasks_on, waves_of, ways_into, ways_to}
 use Rattle.pig_physical.specs.declared.parts.Part.{Part}
 use Rattle.pig_physical.specs.declared.parts.Part.TheVariants as parts
 use Rattle.pig_physical.specs.declared.waves.WaveKind.TheVariants as kinds
-use Rattle.pig_waves.proofs.Heads.{head_at, live_at, stands_at, two_waves}
+use Rattle.pig_waves.proofs.Heads.{further, head_at, live_at, stands_at, two_waves}
 use Rattle.pig_waves.proofs.Places.{all_flat_where, filtered_at}
-use Rattle.pig_waves.specs.Laws.{HaveStages, StandsAt, has_stages}
+use Rattle.pig_waves.specs.Laws.{HaveStages, StandsAt, has_stages, ranks}
 use Rattle.pig_driver.specs.Standing.{AreStanding, WavesFindWhatTheyName, WavesReadToldInputs}
 use Rattle.pig_driver.proofs.Sources.{IsSourceOf, inputs_live, ways_from}
 
@@ -70,7 +70,7 @@ module _ (s : Stages) (valid : IsPlan s.plan) (staged : HaveStages s.plan) where
   node_staged : (k : ℕ) (node : PlanNode) → slice_get s.plan k ≡ Some node → has_stages node.op ≡ true
   node_staged k node at = each_at (λ n. has_stages n.op ≡ true) s.plan k node at staged
 
-  own_heads : (k : ℕ) (is : IsBoundaryAt k) → heads_at s.plan k ≡ head_of s.plan k kinds.Map ∷ head_of s.plan k kinds.Reduce ∷ []
+  own_heads : (k : ℕ) (is : IsBoundaryAt k) → heads_at s.plan k ≡ map (head_of s.plan k) (kinds.Map ∷ kinds.Reduce ∷ further is.node.op)
   own_heads k is =
       ap (λ found. option_map_or (λ p. map (head_of s.plan k) (waves_of p)) found []) (op_here k is.node is.at)
       ∙ ap (map (head_of s.plan k)) (two_waves is.node.op (node_staged k is.node is.at))
@@ -78,8 +78,24 @@ module _ (s : Stages) (valid : IsPlan s.plan) (staged : HaveStages s.plan) where
   pub its_waves : (k : ℕ) (is : IsBoundaryAt k) → StandsAt s k is.node.op
   its_waves k is = stands_at s k is.node.op (op_here k is.node is.at) is.alive is.is (node_staged k is.node is.at)
 
-  pub its_last : (k : ℕ) (is : IsBoundaryAt k) → last_wave s.plan k is.node.op ≡ first_wave s.plan k + 1
-  its_last k is = ap (λ ws. first_wave s.plan k + (length ws - 1)) (two_waves is.node.op (node_staged k is.node is.at))
+  -- the number of its waves
+  abbrev pub count_of : (k : ℕ) → IsBoundaryAt k → ℕ
+  count_of k is = length (waves_of is.node.op)
+
+  -- a RANK has three waves, any other node two
+  pub data Counted (k : ℕ) (is : IsBoundaryAt k) : Type 0 where
+    two : ranks is.node.op ≡ false → count_of k is ≡ 2 → Counted k is
+    three : ranks is.node.op ≡ true → count_of k is ≡ 3 → Counted k is
+
+  pub counted : (k : ℕ) (is : IsBoundaryAt k) → Counted k is
+  counted k is = by_test (ranks is.node.op) refl
+    where
+      all_of_them : count_of k is ≡ length (kinds.Map ∷ kinds.Reduce ∷ further is.node.op)
+      all_of_them = ap length (two_waves is.node.op (node_staged k is.node is.at))
+
+      by_test : (b : Bool) → ranks is.node.op ≡ b → Counted k is
+      by_test false e = two e (all_of_them ∙ ap (λ b. length (kinds.Map ∷ kinds.Reduce ∷ (if b then kinds.Rank ∷ [] else []))) e)
+      by_test true e = three e (all_of_them ∙ ap (λ b. length (kinds.Map ∷ kinds.Reduce ∷ (if b then kinds.Rank ∷ [] else []))) e)
 
   pub its_head : (k : ℕ) (is : IsBoundaryAt k) → slice_get (heads s.plan) (first_wave s.plan k) ≡ Some (head_of s.plan k kinds.Map)
   its_head k is =
@@ -89,11 +105,19 @@ module _ (s : Stages) (valid : IsPlan s.plan) (staged : HaveStages s.plan) where
   pub its_last_head : (k : ℕ) (is : IsBoundaryAt k) → slice_get (heads s.plan) (first_wave s.plan k + 1) ≡ Some (head_of s.plan k kinds.Reduce)
   its_last_head k is = head_at s.plan k 1 (head_of s.plan k kinds.Reduce) is.alive (ap (λ found. option_map_or is_boundary found false) (op_here k is.node is.at) ∙ is.is) (ap (λ hs. slice_get hs 1) (own_heads k is))
 
+  pub its_rank_head : (k : ℕ) (is : IsBoundaryAt k) → ranks is.node.op ≡ true → slice_get (heads s.plan) (first_wave s.plan k + 2) ≡ Some (head_of s.plan k kinds.Rank)
+  its_rank_head k is e =
+      head_at s.plan k 2 (head_of s.plan k kinds.Rank) is.alive (ap (λ found. option_map_or is_boundary found false) (op_here k is.node is.at) ∙ is.is)
+      (ap (λ hs. slice_get hs 2) (own_heads k is) ∙ ap (λ b. slice_get (map (head_of s.plan k) (kinds.Map ∷ kinds.Reduce ∷ (if b then kinds.Rank ∷ [] else []))) 2) e)
+
   abbrev width : List ℕ → ℕ
   width ks = length (flat_map (heads_at s.plan) ks)
 
-  width-cons : (k : ℕ) (ks : List ℕ) → IsBoundaryAt k → width (k ∷ ks) ≡ suc (suc (width ks))
-  width-cons k ks is = ap (λ hs. length (hs ++ flat_map (heads_at s.plan) ks)) (own_heads k is)
+  width-cons : (k : ℕ) (ks : List ℕ) (is : IsBoundaryAt k) → width (k ∷ ks) ≡ count_of k is + width ks
+  width-cons k ks is =
+      length-append (heads_at s.plan k) (flat_map (heads_at s.plan) ks)
+      ∙ ap (λ n. n + width ks)
+      (ap (λ found. length (option_map_or (λ p. map (head_of s.plan k) (waves_of p)) found [])) (op_here k is.node is.at) ∙ length-map (waves_of is.node.op) (head_of s.plan k))
 
   width-append : (ks ls : List ℕ) → width (ks ++ ls) ≡ width ks + width ls
   width-append ks ls = ap length (flat_map-append (heads_at s.plan) ks ls) ∙ length-append (flat_map (heads_at s.plan) ks) (flat_map (heads_at s.plan) ls)
@@ -119,6 +143,7 @@ module _ (s : Stages) (valid : IsPlan s.plan) (staged : HaveStages s.plan) where
   pub data WaveAt (w : ℕ) : Type 0 where
     maps : (k : ℕ) → IsBoundaryAt k → w ≡ first_wave s.plan k → WaveAt w
     reduces : (k : ℕ) → IsBoundaryAt k → w ≡ first_wave s.plan k + 1 → WaveAt w
+    ranking : (k : ℕ) (is : IsBoundaryAt k) → ranks is.node.op ≡ true → w ≡ first_wave s.plan k + 2 → WaveAt w
     storing : w ≡ width all → WaveAt w
 
   among_boundaries : (w n : ℕ) (front ks : List ℕ) → all ≡ front ++ ks → AllByRecursion IsBoundaryAt ks → w ≡ width front + n → n < width ks → WaveAt w
@@ -128,9 +153,24 @@ module _ (s : Stages) (valid : IsPlan s.plan) (staged : HaveStages s.plan) where
   among_boundaries w (suc zero) front (k ∷ ks) is each at less =
       reduces k each.0 (at ∙ sym (ap (λ ks. width ks + 1) (ap (filter (λ j. nat_lt j k)) is ∙ front_below front k ks (subst Rising is rise))))
   among_boundaries w (suc (suc n)) front (k ∷ ks) is each at less =
-      let size = width-cons k ks each.0 in
-      let more : width (front ++ k ∷ []) ≡ width front + 2 = width-append front (k ∷ []) ∙ ap (λ m. width front + m) (width-cons k [] each.0) in
-      among_boundaries w n (front ++ k ∷ []) ks (is ∙ sym (append_assoc front (k ∷ []) ks)) each.1 (omega (arith, at, more)) (omega (arith, size, less))
+      by_count n at less (counted k each.0) (λ m behind within. among_boundaries w m (front ++ k ∷ []) ks (is ∙ sym (append_assoc front (k ∷ []) ks)) each.1 behind within)
+    where
+      size : width (k ∷ ks) ≡ count_of k each.0 + width ks
+      size = width-cons k ks each.0
+
+      more : width (front ++ k ∷ []) ≡ width front + count_of k each.0
+      more =
+          let own : width (k ∷ []) ≡ count_of k each.0 + width [] = width-cons k [] each.0 in
+          width-append front (k ∷ []) ∙ ap (λ m. width front + m) own ∙ (let e : width front + (count_of k each.0 + 0) ≡ width front + count_of k each.0 = omega arith in e)
+
+      begins : first_wave s.plan k ≡ width front
+      begins = ap width (ap (filter (λ j. nat_lt j k)) is ∙ front_below front k ks (subst Rising is rise))
+
+      by_count : (n : ℕ) → w ≡ width front + suc (suc n) → suc (suc n) < width (k ∷ ks) → Counted k each.0
+          → ((m : ℕ) → w ≡ width (front ++ k ∷ []) + m → m < width ks → WaveAt w) → WaveAt w
+      by_count n at less (two e count) rest = rest n (omega (arith, at, more, count)) (omega (arith, size, less, count))
+      by_count zero at less (three e count) rest = ranking k each.0 e (omega (arith, at, begins))
+      by_count (suc n) at less (three e count) rest = rest n (omega (arith, at, more, count)) (omega (arith, size, less, count))
 
   pub wave_at : (w : ℕ) → w < length (heads s.plan) → WaveAt w
   wave_at w less = elim (cases_lt w (width all)) [
@@ -152,7 +192,7 @@ module _ (s : Stages) (valid : IsPlan s.plan) (staged : HaveStages s.plan) where
       let place = filtered_at is_here (live s.plan) found.0 k found.1 (ap (λ o. option_map_or is_boundary o false) (op_here k is.node is.at) ∙ is.is) in
       split_off all place.0 k rise place.1
 
-  pub inside : (k : ℕ) → IsBoundaryAt k → first_wave s.plan k + 2 ≤ width all
+  pub inside : (k : ℕ) (is : IsBoundaryAt k) → first_wave s.plan k + count_of k is ≤ width all
   inside k is =
       let before = filter (λ j. nat_lt j k) all in
       let behind = filter (λ j. nat_lt k j) all in
@@ -160,7 +200,7 @@ module _ (s : Stages) (valid : IsPlan s.plan) (staged : HaveStages s.plan) where
       let own = width-cons k behind is in
       omega (arith, size, own)
 
-  pub earlier : (i k : ℕ) → IsBoundaryAt i → i < k → first_wave s.plan i + 2 ≤ first_wave s.plan k
+  pub earlier : (i k : ℕ) (is : IsBoundaryAt i) → i < k → first_wave s.plan i + count_of i is ≤ first_wave s.plan k
   earlier i k is less =
       let before = filter (λ j. nat_lt j i) all in
       let behind = filter (λ j. nat_lt i j) all in
@@ -191,18 +231,37 @@ module _ (s : Stages) (valid : IsPlan s.plan) (staged : HaveStages s.plan) where
       ∙ length-map (range_with_len 0 count) (λ p. record { node = k; wave = first_wave s.plan k; part = p })
       ∙ length-range_with_len 0 count
 
-  outputs_stand : (w k : ℕ) (is : IsBoundaryAt k) → first_wave s.plan k + 2 ≤ w
+  pub ranked_partitions : (k : ℕ) (is : IsBoundaryAt k) → ranks is.node.op ≡ true → length (tasks_in s (first_wave s.plan k + 2)) ≡ reduce_count s.sizing.reducers is.node.op
+  ranked_partitions k is e =
+      let count = reduce_count s.sizing.reducers is.node.op in
+      ap length ((its_waves k is).ranks e)
+      ∙ length-map (partition_tasks s (first_wave s.plan k + 1) k is.node.op) t_rank
+      ∙ length-map (range_with_len 0 count) (λ p. record { node = k; wave = first_wave s.plan k + 1; part = p })
+      ∙ length-range_with_len 0 count
+
+  -- those of its last wave
+  last_partitions : (k : ℕ) (is : IsBoundaryAt k) → Counted k is
+      → (last_wave s.plan k is.node.op + 1 ≡ first_wave s.plan k + count_of k is) × (length (tasks_in s (last_wave s.plan k is.node.op)) ≡ reduce_count s.sizing.reducers is.node.op)
+  last_partitions k is (two e count) =
+      let last : last_wave s.plan k is.node.op ≡ first_wave s.plan k + 1 = ap (λ n. first_wave s.plan k + (n - 1)) count in
+      (omega (arith, last, count), ap (λ v. length (tasks_in s v)) last ∙ partitions k is)
+  last_partitions k is (three e count) =
+      let last : last_wave s.plan k is.node.op ≡ first_wave s.plan k + 2 = ap (λ n. first_wave s.plan k + (n - 1)) count in
+      (omega (arith, last, count), ap (λ v. length (tasks_in s v)) last ∙ ranked_partitions k is e)
+
+  outputs_stand : (w k : ℕ) (is : IsBoundaryAt k) → first_wave s.plan k + count_of k is ≤ w
       → AllByRecursion (PartStands w) (map (parts.Output (last_wave s.plan k is.node.op)) (range_with_len 0 (reduce_count s.sizing.reducers is.node.op)))
   outputs_stand w k is bound =
       let count = reduce_count s.sizing.reducers is.node.op in
-      let last = its_last k is in
-      let size = ap (λ v. length (tasks_in s v)) last ∙ partitions k is in
+      let found = last_partitions k is (counted k is) in
+      let last = found.0 in
+      let size = found.1 in
       each-map (PartStands w) (parts.Output (last_wave s.plan k is.node.op)) (range_with_len 0 count)
       (each_weaker (λ j. j < 0 + count) (λ j. (last_wave s.plan k is.node.op < w) × (j < length (tasks_in s (last_wave s.plan k is.node.op))))
       (λ j less. (omega (arith, last, bound), omega (arith, less, size))) (range_with_len 0 count) (range_below 0 count))
 
   abbrev Bounded : ℕ → ℕ → Type 0
-  Bounded w k = IsBoundaryAt k → first_wave s.plan k + 2 ≤ w
+  Bounded w k = (is : IsBoundaryAt k) → first_wave s.plan k + count_of k is ≤ w
 
   module _ (w b k : ℕ) (is : IsSourceOf s.plan valid b k) (bound : Bounded w k) where
     abbrev as_boundary : is_boundary is.node.op ≡ true → IsBoundaryAt k
@@ -241,6 +300,7 @@ module _ (s : Stages) (valid : IsPlan s.plan) (staged : HaveStages s.plan) where
   abbrev pub TaskStands : ℕ → Task → Type 0
   TaskStands w (t_map t) = MapStands w t
   TaskStands w (t_reduce t) = (t.wave + 1 ≡ w) × (slice_get (heads s.plan) t.wave ≡ Some (head_of s.plan t.node kinds.Map))
+  TaskStands w (t_rank t) = t.wave + 1 ≡ w
 
   tasks_on_ways : (w b k : ℕ) (ways : List Entering) → ((i : ℕ) → i < b → Bounded w i) → AllByRecursion (λ way. IsSourceOf s.plan valid b way.path.source) ways
       → AllByRecursion (MapStands w) (tasks_on s k ways)
@@ -265,6 +325,13 @@ module _ (s : Stages) (valid : IsPlan s.plan) (staged : HaveStages s.plan) where
       each-map (TaskStands w) t_reduce (partition_tasks s (first_wave s.plan k) k is.node.op)
       (each-map (λ t. TaskStands w (t_reduce t)) (λ p. record { node = k; wave = first_wave s.plan k; part = p }) (range_with_len 0 count)
       (each_of_all (λ p. (first_wave s.plan k + 1 ≡ w) × (slice_get (heads s.plan) (first_wave s.plan k) ≡ Some (head_of s.plan k kinds.Map))) (λ p. (sym e, its_head k is)) (range_with_len 0 count)))
+
+  ranks_stand : (w k : ℕ) (is : IsBoundaryAt k) → w ≡ first_wave s.plan k + 2 → AllByRecursion (TaskStands w) (map t_rank (partition_tasks s (first_wave s.plan k + 1) k is.node.op))
+  ranks_stand w k is e =
+      let count = reduce_count s.sizing.reducers is.node.op in
+      each-map (TaskStands w) t_rank (partition_tasks s (first_wave s.plan k + 1) k is.node.op)
+      (each-map (λ t. TaskStands w (t_rank t)) (λ p. record { node = k; wave = first_wave s.plan k + 1; part = p }) (range_with_len 0 count)
+      (each_of_all (λ p. first_wave s.plan k + 1 + 1 ≡ w) (λ p. omega (arith, e)) (range_with_len 0 count)))
 
   abbrev is_storing : ℕ → Bool
   is_storing k = option_map_or is_store (op_at s.plan k) false
@@ -300,6 +367,7 @@ module _ (s : Stages) (valid : IsPlan s.plan) (staged : HaveStages s.plan) where
       by_wave : WaveAt w → AllByRecursion (TaskStands w) (tasks_in s w)
       by_wave (maps k is e) = subst (AllByRecursion (TaskStands w)) (sym (ap (tasks_in s) e ∙ (its_waves k is).maps)) (maps_stand w k is e)
       by_wave (reduces k is e) = subst (AllByRecursion (TaskStands w)) (sym (ap (tasks_in s) e ∙ (its_waves k is).reduces)) (reduces_stand w k is e)
+      by_wave (ranking k is ranked e) = subst (AllByRecursion (TaskStands w)) (sym (ap (tasks_in s) e ∙ (its_waves k is).ranks ranked)) (ranks_stand w k is e)
       by_wave (storing e) = last_stand w e
 
   -- ---- what a task names
@@ -318,6 +386,10 @@ module _ (s : Stages) (valid : IsPlan s.plan) (staged : HaveStages s.plan) where
         each = λ at within. standing.each t.wave at less within;
         sliced = λ o keys op by. standing.sliced t.wave t.node o keys less is.1 op by;
       }
+
+  task_named outs w (t_rank t) standing is =
+      let less : t.wave < w = omega (arith, is) in
+      record { count = standing.counts t.wave less; each = λ at within. standing.each t.wave at less within }
 
 pub finds_named : WavesFindWhatTheyName
 finds_named s valid staged outs w at task standing less there =

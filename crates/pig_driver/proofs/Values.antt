@@ -24,8 +24,8 @@ use Rattle.pig_physical.specs.Combining.{folds}
 use Rattle.pig_physical.specs.Fitting.{Fits, HasOutput}
 use Rattle.pig_physical.specs.Outs.{Outs, TaskOut, outs_at, rows_in}
 use Rattle.pig_physical.specs.Running.{AreCuts}
-use Rattle.pig_physical.specs.Stages.{Stages, Task, first_wave, head_of, heads, t_map, t_reduce, tasks_in}
-use Rattle.pig_physical.specs.Values.{IsMapForm, IsReduceForm, IsValue, part_rows, read_rows, source_rows}
+use Rattle.pig_physical.specs.Stages.{Stages, Task, first_wave, head_of, heads, t_map, t_rank, t_reduce, tasks_in}
+use Rattle.pig_physical.specs.Values.{IsMapForm, IsRankForm, IsReduceForm, IsValue, part_rows, read_rows, source_rows}
 use Rattle.pig_physical.specs.declared.parts.Part.{Part}
 use Rattle.pig_physical.specs.declared.parts.Part.TheVariants as parts
 use Rattle.pig_physical.specs.declared.waves.WaveKind.TheVariants as kinds
@@ -93,6 +93,15 @@ module _ (s : Stages) (valid : IsPlan s.plan) (staged : HaveStages s.plan) (outs
       let same : outs_at outs t.wave ≡ outs_at longer t.wave = sym (front_at [] outs new t.wave (omega (arith, next, short))) in
       record {
         form = subst (λ found. IsReduceForm s t.node o found t.part out.form) same is.form;
+        lines = is.lines;
+        unmet = is.unmet;
+      }
+
+  value_still inputs points w (t_rank t) out stands short h = λ o at.
+      let is = h o at in
+      let same : outs_at outs t.wave ≡ outs_at longer t.wave = sym (front_at [] outs new t.wave (omega (arith, stands, short))) in
+      record {
+        form = subst (λ found. IsRankForm o found t.part out.form) same is.form;
         lines = is.lines;
         unmet = is.unmet;
       }

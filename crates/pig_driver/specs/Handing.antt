@@ -2,7 +2,7 @@
 use Rattle.std.specs.Prelude.{ℕ, List, [], ◌∷◌, ◌+◌, length}
 use Rattle.std.specs.List.{sum_by}
 use Rattle.pig_physical.specs.Outs.{Form, Outs, TaskOut, o_bytes, o_rows, o_runs}
-use Rattle.pig_physical.specs.Stages.{Stages, Task, t_map, t_reduce, tasks_in}
+use Rattle.pig_physical.specs.Stages.{Stages, Task, t_map, t_rank, t_reduce, tasks_in}
 
 -- the entries of a task's runs, or the rows of a LIMIT's task
 abbrev pub entries_in : Form → ℕ
@@ -13,6 +13,7 @@ entries_in (o_bytes bytes) = 0
 abbrev pub handed_by : Task → TaskOut → ℕ
 handed_by (t_map t) out = entries_in out.form
 handed_by (t_reduce t) out = 0
+handed_by (t_rank t) out = 0
 
 abbrev pub handed_in : List Task → List TaskOut → ℕ
 handed_in [] outs = 0

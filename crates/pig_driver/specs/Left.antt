@@ -6,7 +6,7 @@ use Rattle.pig_plan.specs.Plans.{PlanOp, p_limit}
 use Rattle.pig_plan.specs.Valid.{IsPlan}
 use Rattle.pig_physical.specs.Outs.{Outs, TaskOut, o_bytes, outs_at}
 use Rattle.pig_physical.specs.Running.{rows_given, store_wave}
-use Rattle.pig_physical.specs.Stages.{Stages, Task, heads, t_map, t_reduce, tasks_in}
+use Rattle.pig_physical.specs.Stages.{Stages, Task, heads, t_map, t_rank, t_reduce, tasks_in}
 use Rattle.pig_physical.specs.declared.parts.Part.{Part}
 use Rattle.pig_physical.specs.declared.parts.Part.TheVariants as parts
 use Rattle.pig_physical.specs.declared.parts.ReduceTask.{ReduceTask}
@@ -25,6 +25,7 @@ part_wave (parts.Output wave at) = Some wave
 abbrev pub named_wave : Task → Option ℕ
 named_wave (t_map t) = part_wave t.part
 named_wave (t_reduce t) = Some t.wave
+named_wave (t_rank t) = Some t.wave
 
 -- a task of the wave w names outputs of the wave v
 pub record IsNamedIn (s : Stages) (w v : ℕ) : Type 0 where

@@ -5,7 +5,7 @@ use Rattle.pig_plan.specs.Entries.{sort_keys}
 use Rattle.pig_plan.specs.Nodes.{op_at}
 use Rattle.pig_plan.specs.Plans.{Plan, PlanOp}
 use Rattle.pig_physical.specs.Outs.{TaskOut}
-use Rattle.pig_physical.specs.Stages.{Stages, Task, t_map, t_reduce, tasks_in}
+use Rattle.pig_physical.specs.Stages.{Stages, Task, t_map, t_rank, t_reduce, tasks_in}
 use Rattle.pig_driver.specs.Slicing.{AreSliced}
 
 abbrev pub op_sorts : PlanOp → Bool
@@ -14,6 +14,7 @@ op_sorts o = is_some (sort_keys o)
 abbrev pub task_sorts : Plan → Task → Bool
 task_sorts plan (t_map t) = option_map_or op_sorts (op_at plan t.node) false
 task_sorts plan (t_reduce t) = false
+task_sorts plan (t_rank t) = false
 
 -- as its first task tells
 abbrev pub wave_sorts : Stages → ℕ → Bool

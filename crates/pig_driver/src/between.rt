@@ -48,6 +48,7 @@ fn sorts(stages: &Stages, wave: u32) -> bool
     match stages.task_at(wave, 0) {
         Task::Map(task) => node_sorts(stages.plan().nodes().as_slice(), task.node as usize),
         Task::Reduce(_) => false,
+        Task::Rank(_) => false,
     }
 }
 

@@ -31,6 +31,7 @@ fn handed_by(task: &Task, out: &Out) -> u64
     match task {
         Task::Map(_) => entries_in(&out.form),
         Task::Reduce(_) => 0,
+        Task::Rank(_) => 0,
     }
 }
 

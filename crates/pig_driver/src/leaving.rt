@@ -81,6 +81,7 @@ fn named_wave(task: &Task) -> Option<u32>
     match task {
         Task::Map(task) => part_wave(&task.part),
         Task::Reduce(task) => Some(task.wave),
+        Task::Rank(task) => Some(task.wave),
     }
 }
 
@@ -104,6 +105,7 @@ fn is_chosen(stages: &Stages, wave: u32) -> bool
     match stages.task_at(wave, 0) {
         Task::Map(_) => false,
         Task::Reduce(task) => is_limit(stages.plan().nodes().as_slice(), task.node as usize),
+        Task::Rank(_) => false,
     }
 }
 

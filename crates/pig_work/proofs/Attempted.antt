@@ -1,9 +1,9 @@
 -- What an attempt gives is right for the task at its place.
 use Rattle.std.specs.Prelude.{◌≡◌, ◌<◌, ◌+◌, ◌-◌, ℕ, zero, suc, not, All, List, [], ◌∷◌, Option, None, Some, get_or, length, map, slice_get, Result, Ok, Err, IfOk, IfSome, refl}
-use Rattle.std.proofs.Common.{ap, arith, sym, ◌∙◌, subst}
+use Rattle.std.proofs.Common.{ap, sym, ◌∙◌, subst}
 use Rattle.std.specs.List.{filter, flat_map, range_with_len}
 use Rattle.std.specs.Option.{ForSome, option_map, option_map_or}
-use Rattle.std.proofs.lemmas.Option.{get_or_from_slice_get, slice_get_within}
+use Rattle.std.proofs.lemmas.Option.{get_or_from_slice_get}
 use Rattle.pig_value.specs.declared.inputs.Input.{Input}
 use Rattle.pig_value.proofs.list_laws.Indexing.{get_map, some_at}
 use Rattle.pig_value.proofs.list_laws.Listing.{each_at, some_same}
@@ -224,17 +224,3 @@ alike s w i j t u at_t at_u =
     let a = rank_of own.node (w - 1) parts i t (ap (λ ts. slice_get ts i) (sym own.tasks) ∙ at_t) in
     let b = rank_of own.node (w - 1) parts j u (ap (λ ts. slice_get ts j) (sym own.tasks) ∙ at_u) in
     (a.0 ∙ sym b.0, a.1 ∙ sym b.1)
-
--- a wave whose first task is no rank task has none
-pub none_ranks : (s : Stages) (w place : ℕ) (task : Task) → slice_get (tasks_in s w) 0 ≡ Some task → ((t : ReduceTask) → task ≡ t_rank t → ⊥)
-    → (t : ReduceTask) → slice_get (tasks_in s w) place ≡ Some (t_rank t) → ⊥
-none_ranks s w place task first other t h =
-    let own = rank_wave s w place t h in
-    by_first (partition_tasks s (w - 1) own.node own.op) (ap (λ ts. slice_get ts 0) (sym own.tasks) ∙ first)
-  where
-    by_first : (ts : List ReduceTask) → slice_get (map t_rank ts) 0 ≡ Some task → ⊥
-    by_first [] g = absurd (cc)
-    by_first (u ∷ ts) g = other u (sym (some_same (t_rank u) task g))
-
-pub nowhere : (s : Stages) (w place : ℕ) (t : ReduceTask) → length (tasks_in s w) ≡ 0 → slice_get (tasks_in s w) place ≡ Some (t_rank t) → ⊥
-nowhere s w place t none h = let within = slice_get_within (tasks_in s w) place (t_rank t) h in absurd (omega (arith, none, within))
