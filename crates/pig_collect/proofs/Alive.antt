@@ -11,7 +11,7 @@ use Rattle.pig_plan.specs.Valid.{IsPlan}
 use Rattle.pig_physical.specs.declared.waves.WaveHead.{WaveHead}
 use Rattle.pig_physical.specs.declared.waves.WaveKind.{WaveKind}
 use Rattle.pig_physical.specs.declared.waves.WaveKind.TheVariants as kinds
-use Rattle.pig_physical.specs.Stages.{MapTask, Stages, Task, boundaries, enters_first, head_of, heads, heads_at, map_tasks, partition_tasks, parts_at, path_tasks, store_tasks, stores, t_map, t_reduce, tasks_by, tasks_in, tasks_of, tasks_on, waves_of, ways_into, ways_to}
+use Rattle.pig_physical.specs.Stages.{MapTask, Stages, Task, boundaries, enters_first, head_of, heads, heads_at, map_tasks, partition_tasks, parts_at, path_tasks, store_tasks, stores, t_map, t_rank, t_reduce, tasks_by, tasks_in, tasks_of, tasks_on, waves_of, ways_into, ways_to}
 use Rattle.pig_reach.proofs.Enough.{inputs_live, live_node}
 use Rattle.pig_waves.proofs.Places.{all_flat_where}
 
@@ -76,6 +76,7 @@ module _ (s : Stages) (valid : IsPlan s.plan) where
   abbrev pub TaskLives : Task → Type 0
   TaskLives (t_map t) = MapLives t
   TaskLives (t_reduce t) = IsThere t.node
+  TaskLives (t_rank t) = IsThere t.node
 
   on_ways : (k : ℕ) (o : PlanOp) → op_at s.plan k ≡ Some o → (ways : List Entering) → AllByRecursion (WayLives s.plan valid) ways → AllByRecursion MapLives (tasks_on s k ways)
   on_ways k o at ways h =
@@ -98,24 +99,22 @@ module _ (s : Stages) (valid : IsPlan s.plan) where
       each-filter (λ k. option_map_or is_boundary (op_at s.plan k) false) (λ k. is_live s.plan k ≡ true) (live s.plan)
       (each_filtered (is_live s.plan) (range_with_len 0 (length s.plan)))
 
-  reduces_live : (w k : ℕ) (o : PlanOp) → op_at s.plan k ≡ Some o → AllByRecursion TaskLives (map t_reduce (partition_tasks s w k o))
-  reduces_live w k o at =
-      each-map TaskLives t_reduce (partition_tasks s w k o)
-      (each-map (λ t. IsThere t.node) (λ p. record { node = k; wave = w; part = p }) _ (each_of_all (λ p. IsThere k) (λ p. (o, at)) _))
+  partitions_live : (w k : ℕ) (o : PlanOp) → op_at s.plan k ≡ Some o → AllByRecursion (λ t. IsThere t.node) (partition_tasks s w k o)
+  partitions_live w k o at = each-map (λ t. IsThere t.node) (λ p. record { node = k; wave = w; part = p }) _ (each_of_all (λ p. IsThere k) (λ p. (o, at)) _)
 
   maps_live : (k : ℕ) (v : PlanNode) → slice_get s.plan k ≡ Some v → is_live s.plan k ≡ true → AllByRecursion MapLives (map_tasks s k v.op)
   maps_live k v at alive = on_ways k v.op (ap (option_map (λ n. n.op)) at) (ways_into s.plan v.op) (into_lives s.plan valid k v at alive)
 
   by_kind : (w : ℕ) (kind : WaveKind) (k : ℕ) (v : PlanNode) → slice_get s.plan k ≡ Some v → is_live s.plan k ≡ true → AllByRecursion TaskLives (tasks_by s w kind k v.op)
   by_kind w kinds.Map k v at alive = each-map TaskLives t_map (map_tasks s k v.op) (maps_live k v at alive)
-  by_kind w kinds.Reduce k v at alive = reduces_live (w - 1) k v.op (ap (option_map (λ n. n.op)) at)
+  by_kind w kinds.Reduce k v at alive = each-map TaskLives t_reduce (partition_tasks s (w - 1) k v.op) (partitions_live (w - 1) k v.op (ap (option_map (λ n. n.op)) at))
   by_kind w kinds.Copy k v at alive =
       each-map TaskLives t_map (filter (λ t. not (enters_first t)) (map_tasks s k v.op))
       (each-filter (λ t. not (enters_first t)) MapLives (map_tasks s k v.op) (maps_live k v at alive))
   by_kind w kinds.Probe k v at alive =
       each-map TaskLives t_map (filter enters_first (map_tasks s k v.op))
       (each-filter enters_first MapLives (map_tasks s k v.op) (maps_live k v at alive))
-  by_kind w kinds.Rank k v at alive = reduces_live (w - 1) k v.op (ap (option_map (λ n. n.op)) at)
+  by_kind w kinds.Rank k v at alive = each-map TaskLives t_rank (partition_tasks s (w - 1) k v.op) (partitions_live (w - 1) k v.op (ap (option_map (λ n. n.op)) at))
   by_kind w kinds.Store k v at alive =
       each-map TaskLives t_map (flat_map (store_tasks s) (stores s.plan))
       (all_flat_where MapLives (λ j. is_live s.plan j ≡ true) (store_tasks s) store_lives (stores s.plan) stores_live)

@@ -1,5 +1,5 @@
 -- The tasks of a run read the lines of each LOAD once for each task path that begins at it.
-use Rattle.std.specs.Prelude.{◌≡◌, ◌<◌, ◌≤◌, ◌+◌, ◌-◌, ℕ, zero, suc, Bool, true, false, not, List, [], ◌∷◌, ◌++◌, length, map, take, Option, Some, None, slice_get, refl}
+use Rattle.std.specs.Prelude.{◌≡◌, ◌<◌, ◌≤◌, ◌+◌, ◌-◌, ℕ, zero, suc, Bool, true, false, not, List, [], ◌∷◌, ◌++◌, length, map, take, Option, Some, None, slice_get, refl, if◌then◌else◌}
 use Rattle.std.proofs.Common.{ap, sym, ◌∙◌, arith, cond, true≢false}
 use Rattle.std.specs.List.{AllByRecursion, filter, flat_map, range_with_len, sum_by}
 use Rattle.std.specs.Option.{option_map, option_map_or, unwrap_or}
@@ -31,15 +31,15 @@ use Rattle.pig_physical.specs.declared.waves.WaveKind.{WaveKind}
 use Rattle.pig_physical.specs.declared.waves.WaveKind.TheVariants as kinds
 use Rattle.pig_physical.specs.Outs.{Outs, TaskOut, outs_at}
 use Rattle.pig_physical.specs.Running.{IsRun}
-use Rattle.pig_physical.specs.Stages.{MapTask, Stages, Task, boundaries, enters_first, head_of, heads, heads_at, last_wave, map_tasks, partition_tasks, parts_at, parts_of, path_tasks, reduce_count, store_tasks, stores, t_map, t_reduce, tasks_by, tasks_in, tasks_of, tasks_on, waves_of, ways_into, ways_to}
+use Rattle.pig_physical.specs.Stages.{MapTask, Stages, Task, boundaries, enters_first, head_of, heads, heads_at, last_wave, map_tasks, partition_tasks, parts_at, parts_of, path_tasks, reduce_count, store_tasks, stores, t_map, t_rank, t_reduce, tasks_by, tasks_in, tasks_of, tasks_on, waves_of, ways_into, ways_to}
 use Rattle.pig_physical.specs.Values.{IsValue, lines_of, part_lines, split_lines}
 use Rattle.pig_reach.specs.Reach as reach
 use Rattle.pig_reach.specs.Reach.{lines_at, lines_read}
 use Rattle.pig_reach.proofs.Enough.{live_node}
-use Rattle.pig_waves.proofs.Heads.{two_waves}
+use Rattle.pig_waves.proofs.Heads.{further, two_waves}
 use Rattle.pig_waves.proofs.Places.{each_known}
 use Rattle.pig_waves.proofs.Sources.{of_all}
-use Rattle.pig_waves.specs.Laws.{HaveStages, has_stages}
+use Rattle.pig_waves.specs.Laws.{HaveStages, has_stages, ranks}
 use Rattle.pig_collect.specs.Collecting.{lines_in}
 use Rattle.pig_collect.specs.Laws.{RunsReadLines}
 use Rattle.pig_collect.proofs.Alive.{TaskLives, WayLives, boundaries_live, into_lives, stores_live, tasks_live, to_lives}
@@ -138,6 +138,7 @@ module _ (s : Stages) (inputs : List Input) (points : ℕ → List Point) (outs 
   abbrev task_lines : Task → ℕ
   task_lines (t_map t) = map_lines t
   task_lines (t_reduce t) = 0
+  task_lines (t_rank t) = 0
 
   abbrev wave_lines : ℕ → ℕ
   wave_lines w = sum_by task_lines (tasks_in s w)
@@ -145,6 +146,7 @@ module _ (s : Stages) (inputs : List Input) (points : ℕ → List Point) (outs 
   told : (w : ℕ) (task : Task) (out : TaskOut) → TaskLives s valid task → IsValue s inputs (Some (points w)) outs task out → task_lines task ≡ out.lines
   told w (t_map t) out lives value = sym (value lives.o lives.at).lines
   told w (t_reduce t) out lives value = sym (value lives.0 lives.1).lines
+  told w (t_rank t) out lives value = sym (value lives.0 lives.1).lines
 
   of_wave : (w : ℕ) → sum_by (λ out. out.lines) (outs_at outs w) ≡ wave_lines w
   of_wave w =
@@ -180,12 +182,15 @@ module _ (s : Stages) (inputs : List Input) (points : ℕ → List Point) (outs 
   reduces_sum : (ts : List ReduceTask) → sum_by task_lines (map t_reduce ts) ≡ 0
   reduces_sum ts = sum_map task_lines t_reduce ts ∙ sum_none (λ t. 0) (λ t. refl) ts
 
+  ranks_sum : (ts : List ReduceTask) → sum_by task_lines (map t_rank ts) ≡ 0
+  ranks_sum ts = sum_map task_lines t_rank ts ∙ sum_none (λ t. 0) (λ t. refl) ts
+
   kind_sum : (w : ℕ) (kind : WaveKind) (k : ℕ) (o : PlanOp) → sum_by task_lines (tasks_by s w kind k o) ≡ kind_lines kind k o
   kind_sum w kinds.Map k o = maps_sum (map_tasks s k o)
   kind_sum w kinds.Reduce k o = reduces_sum (partition_tasks s (w - 1) k o)
   kind_sum w kinds.Copy k o = maps_sum (filter (λ t. not (enters_first t)) (map_tasks s k o))
   kind_sum w kinds.Probe k o = maps_sum (filter enters_first (map_tasks s k o))
-  kind_sum w kinds.Rank k o = reduces_sum (partition_tasks s (w - 1) k o)
+  kind_sum w kinds.Rank k o = ranks_sum (partition_tasks s (w - 1) k o)
   kind_sum w kinds.Store k o = maps_sum (flat_map (store_tasks s) (stores s.plan))
 
   head_sum : (w : ℕ) (head : WaveHead) → sum_by task_lines (tasks_of s w head) ≡ head_lines head
@@ -313,9 +318,12 @@ module _ (s : Stages) (inputs : List Input) (points : ℕ → List Point) (outs 
       let waves = two_waves v.op (each_at (λ n. has_stages n.op ≡ true) s.plan k v found.1 staged) in
       let map_head : head_lines (head_of s.plan k kinds.Map) ≡ lines_on (map_tasks s k v.op) = ap (λ o. option_map_or (kind_lines kinds.Map k) o 0) op in
       let reduce_head : head_lines (head_of s.plan k kinds.Reduce) ≡ 0 = ap (λ o. option_map_or (kind_lines kinds.Reduce k) o 0) op in
-      let two = sum_by-cons head_lines (head_of s.plan k kinds.Map) (head_of s.plan k kinds.Reduce ∷ []) in
-      let one = sum_by-cons head_lines (head_of s.plan k kinds.Reduce) [] in
-      let sum : sum_by head_lines (head_of s.plan k kinds.Map ∷ head_of s.plan k kinds.Reduce ∷ []) ≡ lines_on (map_tasks s k v.op) = omega (arith, map_head, reduce_head, two, one) in
+      let rank_head : head_lines (head_of s.plan k kinds.Rank) ≡ 0 = ap (λ o. option_map_or (kind_lines kinds.Rank k) o 0) op in
+      let more = map (head_of s.plan k) (further v.op) in
+      let none : sum_by head_lines (map (head_of s.plan k) (further v.op)) ≡ 0 = no_further (ranks v.op) rank_head in
+      let two = sum_by-cons head_lines (head_of s.plan k kinds.Map) (head_of s.plan k kinds.Reduce ∷ more) in
+      let one = sum_by-cons head_lines (head_of s.plan k kinds.Reduce) more in
+      let sum : sum_by head_lines (head_of s.plan k kinds.Map ∷ head_of s.plan k kinds.Reduce ∷ more) ≡ lines_on (map_tasks s k v.op) = omega (arith, map_head, reduce_head, none, two, one) in
       ap (λ o. sum_by head_lines (option_map_or (λ p. map (head_of s.plan k) (waves_of p)) o [])) op
       ∙ ap (λ ws. sum_by head_lines (map (head_of s.plan k) ws)) waves
       ∙ sum
@@ -323,6 +331,10 @@ module _ (s : Stages) (inputs : List Input) (points : ℕ → List Point) (outs 
       ∙ on_inputs 0 (inputs_of v.op)
       ∙ ap (λ b. sum_by (lines_at s.plan inputs) (cond b (flat_map (paths_of s.plan) (inputs_of v.op)) (cond (is_store v.op) (paths_of s.plan k) []))) (sym boundary)
       ∙ ap (λ o. sum_by (lines_at s.plan inputs) (option_map_or (read_paths s.plan k) o [])) (sym op)
+    where
+      no_further : (b : Bool) → head_lines (head_of s.plan k kinds.Rank) ≡ 0 → sum_by head_lines (map (head_of s.plan k) (if b then kinds.Rank ∷ [] else [])) ≡ 0
+      no_further true none = let one = sum_by-cons head_lines (head_of s.plan k kinds.Rank) [] in omega (arith, none, one)
+      no_further false none = refl
 
   boundaries_sum : sum_by head_lines (flat_map (heads_at s.plan) (boundaries s.plan)) ≡ sum_by read_at (boundaries s.plan)
   boundaries_sum =

@@ -24,7 +24,7 @@ use Rattle.pig_runs.specs.Cutting.{Point}
 use Rattle.pig_physical.specs.Combining.{folds}
 use Rattle.pig_physical.specs.Outs.{Outs, TaskOut, outs_at}
 use Rattle.pig_physical.specs.Running.{IsRun, all_unmet}
-use Rattle.pig_physical.specs.Stages.{Stages, Task, t_map, t_reduce, tasks_in}
+use Rattle.pig_physical.specs.Stages.{Stages, Task, t_map, t_rank, t_reduce, tasks_in}
 use Rattle.pig_physical.specs.Values.{IsValue, read_rows, task_unmet}
 use Rattle.pig_cutter.specs.Laws.{GiveMeaning, StagesGiveMeaning, asserts_at}
 use Rattle.pig_reach.specs.Reach.{live_nodes}
@@ -94,16 +94,19 @@ module _ (s : Stages) (inputs : List Input) (kept : List Kept) (points : ℕ →
   abbrev told_by : Task → List ℕ
   told_by (t_map t) = task_unmet s.plan inputs outs t
   told_by (t_reduce t) = []
+  told_by (t_rank t) = []
 
   telling : (w : ℕ) (task : Task) (out : TaskOut) → TaskLives s valid task → IsValue s inputs (Some (points w)) outs task out → told_by task ≡ out.unmet
   telling w (t_map t) out lives value = sym (value lives.o lives.at).unmet
   telling w (t_reduce t) out lives value = sym (value lives.0 lives.1).unmet
+  telling w (t_rank t) out lives value = sym (value lives.0 lives.1).unmet
 
   of_task : (task : Task) → TaskLives s valid task → AllByRecursion (IsTold s.plan) (told_by task)
   of_task (t_map t) lives =
       each-sort nat_cmp (IsTold s.plan) (unmet_on (folds s.plan) s.plan t.way.path.nodes (read_rows s.plan inputs outs t))
       (on_path s.plan (folds s.plan) t.way.path.nodes (read_rows s.plan inputs outs t) lives.path.nodes)
   of_task (t_reduce t) lives = tt
+  of_task (t_rank t) lives = tt
 
   abbrev told_in : List TaskOut → List ℕ
   told_in = flat_map (λ out. out.unmet)

@@ -182,6 +182,7 @@ fn is_node(task: &Task, number: usize) -> bool
     match task {
         Task::Map(task) => task.node as usize == number,
         Task::Reduce(_) => false,
+        Task::Rank(_) => false,
     }
 }
 

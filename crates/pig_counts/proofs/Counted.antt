@@ -13,7 +13,7 @@ use Rattle.pig_plan.specs.Results.{at_place}
 use Rattle.pig_runs.specs.Cutting.{Point}
 use Rattle.pig_physical.specs.Outs.{Outs, TaskOut, outs_at}
 use Rattle.pig_physical.specs.Running.{IsRun}
-use Rattle.pig_physical.specs.Stages.{Stages, Task, heads, t_map, t_reduce, tasks_in, tasks_of}
+use Rattle.pig_physical.specs.Stages.{Stages, Task, heads, t_map, t_rank, t_reduce, tasks_in, tasks_of}
 use Rattle.pig_physical.specs.Values.{IsValue, task_rows}
 use Rattle.pig_driver.specs.Handing.{entries_handed, handed_by, handed_from, handed_in}
 use Rattle.pig_counts.specs.Due.{due_by, due_of, entries_due}
@@ -54,6 +54,7 @@ module _ (s : Stages) (inputs : List Input) (points : ℕ → List Point) (outs 
       form_counts s some (points w) t.node stands.o stands.rise t.way.input (task_rows s.plan inputs outs t) out.form (value stands.o stands.at).form
       ∙ sym (ap (λ found. option_map_or (λ o. due_of s t.node o t.way.input (task_rows s.plan inputs outs t)) found 0) stands.at)
   of_task w (t_reduce t) out stands value = refl
+  of_task w (t_rank t) out stands value = refl
 
   of_tasks : (w : ℕ) (tasks : List Task) (wave : List TaskOut) → AllByRecursion (Stands w) tasks → Each (Valued w) tasks wave → handed_in tasks wave ≡ sum_by due tasks
   of_tasks w [] wave stand values = refl

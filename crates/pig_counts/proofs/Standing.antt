@@ -19,7 +19,7 @@ use Rattle.pig_physical.specs.declared.waves.WaveKind.{WaveKind}
 use Rattle.pig_physical.specs.declared.waves.WaveKind.TheVariants as kinds
 use Rattle.pig_physical.specs.Outs.{Outs}
 use Rattle.pig_physical.specs.Running.{IsRun}
-use Rattle.pig_physical.specs.Stages.{MapTask, Stages, Task, boundaries, enters_first, first_wave, head_of, heads, heads_at, map_tasks, partition_tasks, parts_at, path_tasks, store_tasks, stores, t_map, t_reduce, tasks_by, tasks_in, tasks_of, tasks_on, waves_of, ways_into, ways_to}
+use Rattle.pig_physical.specs.Stages.{MapTask, Stages, Task, boundaries, enters_first, first_wave, head_of, heads, heads_at, map_tasks, partition_tasks, parts_at, path_tasks, store_tasks, stores, t_map, t_rank, t_reduce, tasks_by, tasks_in, tasks_of, tasks_on, waves_of, ways_into, ways_to}
 use Rattle.pig_waves.proofs.Places.{all_flat, all_flat_where}
 use Rattle.pig_counts.proofs.TaskCounts.{AreAscending}
 
@@ -80,6 +80,7 @@ module _ (s : Stages) (inputs : List Input) (points : ℕ → List Point) (outs 
   abbrev pub TaskStands : ℕ → Task → Type 0
   TaskStands w (t_map t) = MapStands w t
   TaskStands w (t_reduce t) = ⊤
+  TaskStands w (t_rank t) = ⊤
 
   on_ways : (w k : ℕ) (o : PlanOp) → op_at s.plan k ≡ Some o → AreAscending o (points w) → (ways : List Entering) → AllByRecursion (MapStands w) (tasks_on s k ways)
   on_ways w k o at rise =
@@ -101,6 +102,10 @@ module _ (s : Stages) (inputs : List Input) (points : ℕ → List Point) (outs 
   reduces_stand w before k o =
       each-map (TaskStands w) t_reduce (partition_tasks s before k o) (each_of_all (λ t. TaskStands w (t_reduce t)) (λ t. tt) (partition_tasks s before k o))
 
+  ranks_stand : (w before k : ℕ) (o : PlanOp) → AllByRecursion (TaskStands w) (map t_rank (partition_tasks s before k o))
+  ranks_stand w before k o =
+      each-map (TaskStands w) t_rank (partition_tasks s before k o) (each_of_all (λ t. TaskStands w (t_rank t)) (λ t. tt) (partition_tasks s before k o))
+
   by_kind : (w : ℕ) (kind : WaveKind) (k : ℕ) (o : PlanOp) → op_at s.plan k ≡ Some o → (hands_on kind ≡ true → AreAscending o (points w))
       → AllByRecursion (TaskStands w) (tasks_by s w kind k o)
   by_kind w kinds.Map k o at rise = each-map (TaskStands w) t_map (map_tasks s k o) (on_ways w k o at (rise refl) (ways_into s.plan o))
@@ -111,7 +116,7 @@ module _ (s : Stages) (inputs : List Input) (points : ℕ → List Point) (outs 
   by_kind w kinds.Probe k o at rise =
       each-map (TaskStands w) t_map (filter enters_first (map_tasks s k o))
       (each-filter enters_first (MapStands w) (map_tasks s k o) (on_ways w k o at (rise refl) (ways_into s.plan o)))
-  by_kind w kinds.Rank k o at rise = reduces_stand w (w - 1) k o
+  by_kind w kinds.Rank k o at rise = ranks_stand w (w - 1) k o
   by_kind w kinds.Store k o at rise =
       each-map (TaskStands w) t_map (flat_map (store_tasks s) (stores s.plan))
       (all_flat_where (MapStands w) (λ j. is_storing j ≡ true) (store_tasks s) (store_stands w) (stores s.plan) (each_filtered is_storing (live s.plan)))

@@ -14,7 +14,7 @@ use Rattle.pig_plan.specs.Nodes.{op_at}
 use Rattle.pig_plan.specs.Plans.{PlanOp, p_limit, p_store}
 use Rattle.pig_physical.specs.Combining.{combining}
 use Rattle.pig_physical.specs.Outs.{Outs}
-use Rattle.pig_physical.specs.Stages.{Stages, Task, heads, t_map, t_reduce, tasks_in}
+use Rattle.pig_physical.specs.Stages.{Stages, Task, heads, t_map, t_rank, t_reduce, tasks_in}
 use Rattle.pig_physical.specs.Values.{task_rows}
 
 -- of these entries: where the node combines, one for each distinct key; else each, which are as many as its rows (`EntriesCountRows`)
@@ -33,6 +33,7 @@ abbrev pub due_by : Stages → List Input → Outs → Task → ℕ
 due_by s inputs outs (t_map t) =
     option_map_or (λ o. due_of s t.node o t.way.input (task_rows s.plan inputs outs t)) (op_at s.plan t.node) 0
 due_by s inputs outs (t_reduce t) = 0
+due_by s inputs outs (t_rank t) = 0
 
 -- the tasks of all waves
 abbrev pub all_tasks : Stages → List Task

@@ -6,7 +6,7 @@ ghost use Rattle.pig_waves.specs.Laws.{HaveStages, has_stages};
 
 use pig_plan::{NodeOp, Plan};
 
-/// Whether no node of a plan is a RANK or a replicated JOIN, whose waves are others.
+/// Whether no node of a plan is a replicated JOIN, whose waves are others.
 pub fn have_stages(plan: &Plan) -> bool
     ensures is { result ≡ list_all (λ node. has_stages node.op) (plan_of plan.now) }
     ensures have { result ≡ true → HaveStages (plan_of plan.now) }
@@ -27,7 +27,7 @@ fn has_stages(op: &NodeOp) -> bool
 {
     match op {
         NodeOp::Join { replicated, .. } => !*replicated,
-        NodeOp::Rank { .. } => false,
+        NodeOp::Rank { .. } => true,
         NodeOp::Load { .. } => true,
         NodeOp::Filter { .. } => true,
         NodeOp::Foreach { .. } => true,

@@ -45,8 +45,8 @@ fn stages_fault(fault: StagesFault) -> RunFault
     }
 }
 
-/// Runs the waves of stages on hosts. Stages with waves of another kind, as a RANK has, are answered as want of memory: no
-/// script that is checked has them.
+/// Runs the waves of stages on hosts. Stages with waves of another kind, as a replicated JOIN has, are answered as want of
+/// memory: no plan that is cut has them.
 fn run_waves<R: Threads + Sync, H: Host + Send>(
     rt: &R,
     alloc: Global,
