@@ -17,3 +17,5 @@ STORE c INTO 'grouped';
 g = GROUP b ALL;
 n = FOREACH g GENERATE COUNT(b);
 STORE n INTO 'counted';
+r = RANK b BY v DESC, k DENSE;
+STORE r INTO 'ranked';

@@ -14,7 +14,7 @@ use Rattle.pig_plan.specs.Plans.{Plan, PlanOp, p_assert, p_filter, p_store}
 use Rattle.pig_relations.specs.Operators.{TypedOp, groups, groups_all, joins}
 use Rattle.pig_relations.specs.Unions.{UnionInput}
 use Rattle.pig_cube.specs.Laws.{cube_foreach, cube_group}
-use Rattle.pig_check.specs.Operators.{OpTypes, distinct, filter, foreach, group, group_all, join, limit, load, order}
+use Rattle.pig_check.specs.Operators.{OpTypes, distinct, filter, foreach, group, group_all, join, limit, load, order, rank}
 use Rattle.pig_check.specs.Paths.{collide, is_within}
 use Rattle.pig_check.proofs.Within.{within_itself}
 use Rattle.pig_check.specs.Scripts.{IsPlanOf, TypesAll, next_types, none_left, plan_of_all}
@@ -93,6 +93,7 @@ op_stores_none (join (joins j e h g)) = refl
 op_stores_none (distinct e) = refl
 op_stores_none (order e h) = refl
 op_stores_none (limit e) = refl
+op_stores_none (rank e h w) = refl
 
 filters_store_none : (node : ℕ) (ts : List Typed) → AllByRecursion StoresNone (map (p_filter node) ts)
 filters_store_none node [] = tt

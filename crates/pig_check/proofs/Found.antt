@@ -19,12 +19,13 @@ use Rattle.pig_typing.specs.Conditions.{condition_on}
 use Rattle.pig_typing.specs.Results.{due}
 use Rattle.pig_typing.proofs.ItemsFound.{condition_found, condition_fails}
 use Rattle.pig_typing.proofs.References.{Fails, failed, fails_first, fails_next, not_both}
+use Rattle.pig_blocks.specs.SortKeys.{sorted_by}
 use Rattle.pig_blocks.proofs.Found.{foreach_found, foreach_fails, order_found, order_fails}
 use Rattle.pig_relations.specs.Aliases.{relation_of}
 use Rattle.pig_relations.specs.Operators.{TypedOp}
 use Rattle.pig_relations.proofs.OperatorsTold.{group_found, group_fails, group_all_found, group_all_fails, join_found, join_fails, union_found, union_fails}
 use Rattle.pig_check.specs.Functions.{HasDelimiter, HasNoDelimiter, none_written, of_pig_storage, other_function, odd_arguments, delimiter_by, delimiter_in, pig_storage}
-use Rattle.pig_check.specs.Operators.{OpTypes, OpNot, load, filter, foreach, group_all, group, join, distinct, order, limit, no_path, own_output, no_delimiter, float_written, past_limits, filter_of_none, no_condition, foreach_of_none, no_block, no_group_all, no_group, no_join, distinct_of_none, order_of_none, no_order, limit_of_none, no_rank, not_stored, input_of, schema_of, load_of, filter_of, block_of, distinct_of, order_of, limit_of}
+use Rattle.pig_check.specs.Operators.{OpTypes, OpNot, load, filter, foreach, group_all, group, join, distinct, order, limit, rank, no_path, own_output, no_delimiter, float_written, past_limits, filter_of_none, no_condition, foreach_of_none, no_block, no_group_all, no_group, no_join, distinct_of_none, order_of_none, no_order, limit_of_none, rank_of_none, no_rank, rank_past_limits, rank_columns, not_stored, input_of, schema_of, load_of, filter_of, block_of, distinct_of, order_of, limit_of, rank_of}
 use Rattle.pig_check.specs.Paths.{GivesPath, GivesNoPath, a_path, not_plain, compressed, is_plain, kept, path_of}
 use Rattle.pig_check.specs.Splits.{AllConditions, AllConditionsNot, no_branches, more_branches, here_not, later_not, conditions_of, split_of}
 use Rattle.pig_check.specs.States.{Added, State, is_loaded, is_stored}
@@ -74,7 +75,7 @@ unfolding input_of not_stored
 input_fails nodes h e = rw (path_found h, e) failed
 
 op_found : {s : State} {o : Op} {t : TypedOp} → OpTypes s o t → op_of s o ≡ Ok t
-unfolding op_of load_of schema_of filter_of block_of distinct_of order_of limit_of relation_of
+unfolding op_of load_of schema_of filter_of block_of distinct_of order_of limit_of rank_of relation_of
 op_found {s = s} (load h e g w v) = rw (input_found s.nodes h e, delimiter_found g, w, v) refl
 op_found (filter e h) = rw (e, condition_found h) refl
 op_found (foreach e h) = rw (e, foreach_found h) refl
@@ -84,9 +85,10 @@ op_found (join h) = join_found h
 op_found (distinct e) = rw (e) refl
 op_found (order e h) = rw (e, order_found h) refl
 op_found (limit e) = rw (e) refl
+op_found (rank e h w) = rw (e, order_found h, w) refl
 
 op_fails : {s : State} {o : Op} {f : CheckKind} → OpNot s o f → Fails (op_of s o)
-unfolding op_of load_of input_of schema_of filter_of block_of distinct_of order_of limit_of relation_of
+unfolding op_of load_of input_of schema_of filter_of block_of distinct_of order_of limit_of rank_of relation_of
 op_fails (no_path h) = fails_first _ (fails_first _ (path_fails h))
 op_fails {s = s} (own_output h e) = fails_first _ (input_fails s.nodes h e)
 op_fails {s = s} (no_delimiter {text = text} h) = fails_next _ (input_of s.nodes text) (λ path. fails_first _ (delimiter_fails h))
@@ -103,7 +105,9 @@ op_fails (distinct_of_none e) = rw (e) failed
 op_fails (order_of_none e) = rw (e) failed
 op_fails (no_order e h) = rw (e) (fails_first _ (order_fails h))
 op_fails (limit_of_none e) = rw (e) failed
-op_fails no_rank = failed
+op_fails (rank_of_none e) = rw (e) failed
+op_fails (no_rank e h) = rw (e) (fails_first _ (order_fails h))
+op_fails (rank_past_limits {keys = keys} {r = r} e w) = rw (e) (fails_next _ (sorted_by r.columns keys) (λ ks. rw (w) failed))
 
 -- ---- statements
 
@@ -128,6 +132,7 @@ node_found alias (join h) = refl
 node_found alias (distinct e) = refl
 node_found alias (order e h) = refl
 node_found alias (limit e) = refl
+node_found alias (rank e h w) = refl
 
 node_not : {s : State} (alias : List ℕ) {o : Op} {f : CheckKind} → OpNot s o f → assign_of s alias o ≡ node_of s alias o
 node_not alias (no_path h) = refl
@@ -146,7 +151,9 @@ node_not alias (distinct_of_none e) = refl
 node_not alias (order_of_none e) = refl
 node_not alias (no_order e h) = refl
 node_not alias (limit_of_none e) = refl
-node_not alias no_rank = refl
+node_not alias (rank_of_none e) = refl
+node_not alias (no_rank e h) = refl
+node_not alias (rank_past_limits e w) = refl
 
 stored_before : (nodes : Plan) {text path : List ℕ} → GivesPath text path → is_stored path nodes ≡ true → Fails (output_of nodes text)
 unfolding output_of apart_from

@@ -2,8 +2,9 @@
 use Rattle.std.specs.Prelude.{◌≡◌, true, false, [], ◌∷◌, codes, map, Some, None, refl}
 use Rattle.pig_typed.specs.Typed.{x_bool}
 use Rattle.pig_plan.specs.Nodes.{is_list, is_sorted}
-use Rattle.pig_plan.specs.Plans.{Plan, p_assert, p_limit, p_load, p_order}
+use Rattle.pig_plan.specs.Plans.{Plan, p_assert, p_limit, p_load, p_order, p_rank}
 use Rattle.pig_check.specs.Functions.{delimiter_in, tab}
+use Rattle.pig_check.specs.Operators.{rank_name}
 use Rattle.pig_check.specs.Paths.{collide, components, is_compressed, is_plain, kept}
 use Rattle.pig_check.specs.States.{node_of_statement}
 
@@ -87,3 +88,12 @@ limit_of_assert = refl
 
 limit_of_load : is_list (map (node_of_statement 1) (p_load (codes "i") tab [] ∷ p_limit 0 1 ∷ [])) 1 ≡ false
 limit_of_load = refl
+
+-- LOAD, ORDER, and a RANK of what is ordered, which is a bag
+rank_of_order : is_list (map (node_of_statement 1) (p_load (codes "i") tab [] ∷ p_order 0 [] ∷ p_rank 1 [] false ∷ [])) 2 ≡ false
+rank_of_order = refl
+
+-- ---- names
+
+rank_of_a : rank_name (codes "a") ≡ codes "rank_a"
+rank_of_a = refl

@@ -28,7 +28,7 @@ use Rattle.pig_relations.specs.Keyed.{group_form}
 use Rattle.pig_relations.specs.Operators.{TypedOp}
 use Rattle.pig_relations.proofs.Gives.{group_all_gives, group_gives, join_gives}
 use Rattle.pig_relations.proofs.LineEnds.{block_writes_none, group_all_free, group_free, join_free, writes_none}
-use Rattle.pig_check.specs.Operators.{OpTypes, columns_from, distinct, filter, foreach, group, group_all, join, kind_from, kinds_from, limit, load, order, written_columns}
+use Rattle.pig_check.specs.Operators.{OpTypes, columns_from, distinct, filter, foreach, group, group_all, join, kind_from, kinds_from, limit, load, order, rank, written_columns}
 use Rattle.pig_check.specs.States.{State, row_of}
 use Rattle.pig_check.proofs.Filters.{IsTest, filter_may}
 use Rattle.pig_check.proofs.Grown.{MayAdd}
@@ -117,3 +117,9 @@ op_made s o t table formed (order {from = from} {keys = keys} {r = r} {ks = ks} 
       columns = is.columns;
     }
 op_made s o t table formed (limit {from = from} {r = r} e) = let is = table from r e in record { may = record { gives = rw (is.rows) refl; plain = refl }; columns = is.columns }
+op_made s o t table formed (rank {from = from} {keys = keys} {r = r} {ks = ks} e h w) =
+    let is = table from r e in
+    record {
+      may = record { gives = rw (is.rows, order_keys r.columns keys ks h, lt-ltb 0 (length ks) (order_some r.columns keys ks h)) refl; plain = refl };
+      columns = (refl, is.columns);
+    }

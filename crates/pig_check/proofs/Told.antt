@@ -37,7 +37,7 @@ use Rattle.pig_relations.specs.Operators.{TypedOp, group_all_of, group_of, join_
 use Rattle.pig_relations.specs.Unions.{union_of}
 use Rattle.pig_relations.proofs.OperatorsTold.{IsGroupTold, IsGroupAllTold, IsJoinTold, IsUnionTold, group_told, group_all_told, join_told, union_told}
 use Rattle.pig_check.specs.Functions.{HasDelimiter, HasNoDelimiter, none_written, of_pig_storage, other_function, odd_arguments, delimiter_by, delimiter_in, pig_storage}
-use Rattle.pig_check.specs.Operators.{OpTypes, OpNot, load, filter, foreach, group_all, group, join, distinct, order, limit, no_path, own_output, no_delimiter, float_written, past_limits, filter_of_none, no_condition, foreach_of_none, no_block, no_group_all, no_group, no_join, distinct_of_none, order_of_none, no_order, limit_of_none, no_rank, written_columns, not_stored, input_of, schema_of, load_of, filter_of, block_of, distinct_of, order_of, limit_of}
+use Rattle.pig_check.specs.Operators.{OpTypes, OpNot, load, filter, foreach, group_all, group, join, distinct, order, limit, rank, no_path, own_output, no_delimiter, float_written, past_limits, filter_of_none, no_condition, foreach_of_none, no_block, no_group_all, no_group, no_join, distinct_of_none, order_of_none, no_order, limit_of_none, rank_of_none, no_rank, rank_past_limits, rank_columns, written_columns, not_stored, input_of, schema_of, load_of, filter_of, block_of, distinct_of, order_of, limit_of, rank_of}
 use Rattle.pig_check.specs.Paths.{GivesPath, GivesNoPath, a_path, not_plain, compressed, is_compressed, is_plain, kept, path_of}
 use Rattle.pig_check.specs.Splits.{AllConditions, AllConditionsNot, no_branches, more_branches, here_not, later_not, conditions_of, split_of}
 use Rattle.pig_check.specs.States.{Added, State, is_loaded, is_stored, row_of}
@@ -155,6 +155,15 @@ limit_told : (s : State) (from : List ℕ) (count : ℕ) → IsOpTold s (operato
 unfolding limit_of relation_of
 limit_told s from count = due_is (IsOpTold s (operator.Limit from count)) _ kind.UnknownAlias (relation_at from s.aliases) (λ r e. limit e) (λ e. limit_of_none e)
 
+ranked_told : (s : State) (from : List ℕ) (keys : OrderKeys) (dense : Bool) → IsOpTold s (operator.Rank from keys dense) (rank_of s.aliases from keys dense)
+unfolding rank_of relation_of
+ranked_told s from keys dense =
+    due_is (IsOpTold s (operator.Rank from keys dense)) _ kind.UnknownAlias (relation_at from s.aliases)
+    (λ r e. then_told (IsOrderTold r.columns keys) (IsOpTold s (operator.Rank from keys dense)) _ (sorted_by r.columns keys) (order_told r.columns keys)
+    (λ ks h. then_is (IsOpTold s (operator.Rank from keys dense)) _ (limited_row (rank_columns from r.columns)) (λ within w. rank e h w) (λ f w. rank_past_limits e w))
+    (λ f h. no_rank e h))
+    (λ e. rank_of_none e)
+
 -- ---- statements
 
 abbrev pub IsStatementTold : State → Stmt → Checked Added → Type 0
@@ -186,7 +195,7 @@ op_told s (operator.Distinct from) one = distinct_told s from
 op_told s (operator.Order from keys) one = sorted_told s from keys
 op_told s (operator.Limit from count) one = limit_told s from count
 op_told s (operator.Cube from rollup dims) one = absurd one
-op_told s (operator.Rank from keys dense) one = no_rank
+op_told s (operator.Rank from keys dense) one = ranked_told s from keys dense
 
 node_told : (s : State) (alias : List ℕ) (o : Op) → AddsOne o → IsStatementTold s (stmt.Assign alias o) (node_of s alias o)
 unfolding node_of

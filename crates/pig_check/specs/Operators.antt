@@ -1,6 +1,6 @@
 -- Operators: the node that stands for what a relation is made by, and the columns of its rows.
--- (Pig Latin Basics: "LOAD", "FILTER", "FOREACH", "DISTINCT", "ORDER BY", "LIMIT".)
-use Rattle.std.specs.Prelude.{◌≡◌, ◌+◌, ℕ, Bool, true, false, List, [], ◌∷◌, map, Option, Some, None, if◌then◌else◌}
+-- (Pig Latin Basics: "LOAD", "FILTER", "FOREACH", "DISTINCT", "ORDER BY", "LIMIT", "RANK".)
+use Rattle.std.specs.Prelude.{◌≡◌, ◌+◌, ◌++◌, ℕ, Bool, true, false, List, [], ◌∷◌, map, codes, Option, Some, None, if◌then◌else◌}
 use Rattle.std.specs.declared.result.Result.TheVariants.{Ok, Err}
 use Rattle.pig_value.specs.declared.inputs.Column.{Column}
 use Rattle.pig_value.specs.declared.operators.Side.{Side}
@@ -21,13 +21,13 @@ use Rattle.pig_syntax.specs.declared.trees.OrderKeys.{OrderKeys}
 use Rattle.pig_syntax.specs.declared.trees.Step.{Step}
 use Rattle.pig_typed.specs.declared.blocks.SortKey.{SortKey}
 use Rattle.pig_typed.specs.Typed.{Typed}
-use Rattle.pig_plan.specs.Plans.{Plan, PlanOp, p_load, p_filter, p_foreach, p_distinct, p_order, p_limit}
+use Rattle.pig_plan.specs.Plans.{Plan, PlanOp, p_load, p_filter, p_foreach, p_distinct, p_order, p_limit, p_rank}
 use Rattle.pig_typing.specs.declared.faults.CheckKind.{CheckKind}
 use Rattle.pig_typing.specs.declared.faults.CheckKind.TheVariants as kind
 use Rattle.pig_typing.specs.Conditions.{Conditions, ConditionsNot, condition_on}
 use Rattle.pig_typing.specs.Limits.{limited_row}
 use Rattle.pig_typing.specs.Results.{Checked, due, ◌>>=◌}
-use Rattle.pig_typing.specs.Written.{written_fields}
+use Rattle.pig_typing.specs.Written.{scalar_column, with_name, written_fields}
 use Rattle.pig_blocks.specs.Foreach.{Foreach, ForeachFaults, TypesForeach, block_in, columns_of, foreach_of}
 use Rattle.pig_blocks.specs.SortKeys.{SortsBy, SortsByNot, sorted_by}
 use Rattle.pig_relations.specs.Aliases.{Aliases, RelationTree, relation_at, relation_of}
@@ -63,6 +63,15 @@ columns_from at (c ∷ cs) = record { position = at; kind = kind_from (tree_kind
 abbrev pub written_columns : List written.FieldTree → Option (List FieldTree)
 written_columns fields = written_fields (field_forms (map field_form fields))
 
+-- ---- the columns of a RANK
+
+abbrev pub rank_name : List ℕ → List ℕ
+rank_name from = codes "rank_" ++ from
+
+-- the rank, a long with the input's alias in its name, and then the input's columns
+abbrev pub rank_columns : List ℕ → List FieldTree → List FieldTree
+rank_columns from columns = with_name (rank_name from) (scalar_column k_long) ∷ columns
+
 -- ---- operators
 
 abbrev pub made : PlanOp → List FieldTree → TypedOp
@@ -86,6 +95,9 @@ pub data OpTypes (s : State) : Op → TypedOp → Type 0 where
   order : {from : List ℕ} {keys : OrderKeys} {r : RelationTree} {ks : List SortKey}
       → relation_at from s.aliases ≡ Some r → SortsBy r.columns keys ks → OpTypes s (operator.Order from keys) (made (p_order r.node ks) r.columns)
   limit : {from : List ℕ} {count : ℕ} {r : RelationTree} → relation_at from s.aliases ≡ Some r → OpTypes s (operator.Limit from count) (made (p_limit r.node count) r.columns)
+  rank : {from : List ℕ} {keys : OrderKeys} {dense : Bool} {r : RelationTree} {ks : List SortKey} {within : List FieldTree}
+      → relation_at from s.aliases ≡ Some r → SortsBy r.columns keys ks → limited_row (rank_columns from r.columns) ≡ Ok within
+      → OpTypes s (operator.Rank from keys dense) (made (p_rank r.node ks dense) (rank_columns from r.columns))
 
 pub data OpNot (s : State) : Op → CheckKind → Type 0 where
   no_path : {text : List ℕ} {func : Option Func} {fields : List written.FieldTree} {f : CheckKind} → GivesNoPath text f → OpNot s (operator.Load text func fields) f
@@ -110,7 +122,11 @@ pub data OpNot (s : State) : Op → CheckKind → Type 0 where
   no_order : {from : List ℕ} {keys : OrderKeys} {r : RelationTree} {f : CheckKind}
       → relation_at from s.aliases ≡ Some r → SortsByNot r.columns keys f → OpNot s (operator.Order from keys) f
   limit_of_none : {from : List ℕ} {count : ℕ} → relation_at from s.aliases ≡ None → OpNot s (operator.Limit from count) kind.UnknownAlias
-  no_rank : {from : List ℕ} {keys : OrderKeys} {dense : Bool} → OpNot s (operator.Rank from keys dense) kind.Unsupported
+  rank_of_none : {from : List ℕ} {keys : OrderKeys} {dense : Bool} → relation_at from s.aliases ≡ None → OpNot s (operator.Rank from keys dense) kind.UnknownAlias
+  no_rank : {from : List ℕ} {keys : OrderKeys} {dense : Bool} {r : RelationTree} {f : CheckKind}
+      → relation_at from s.aliases ≡ Some r → SortsByNot r.columns keys f → OpNot s (operator.Rank from keys dense) f
+  rank_past_limits : {from : List ℕ} {keys : OrderKeys} {dense : Bool} {r : RelationTree} {f : CheckKind}
+      → relation_at from s.aliases ≡ Some r → limited_row (rank_columns from r.columns) ≡ Err f → OpNot s (operator.Rank from keys dense) f
 
 -- ---- the same as functions
 
@@ -162,3 +178,10 @@ unfoldable pub limit_of : Aliases → List ℕ → ℕ → Checked TypedOp
 limit_of aliases from count = do
   r ← relation_of aliases from
   Ok (made (p_limit r.node count) r.columns)
+
+unfoldable pub rank_of : Aliases → List ℕ → OrderKeys → Bool → Checked TypedOp
+rank_of aliases from keys dense = do
+  r ← relation_of aliases from
+  ks ← sorted_by r.columns keys
+  within ← limited_row (rank_columns from r.columns)
+  Ok (made (p_rank r.node ks dense) (rank_columns from r.columns))

@@ -22,7 +22,7 @@ use Rattle.pig_relations.specs.Keyed.{group_form, join_form}
 use Rattle.pig_relations.specs.Operators.{TypedOp, group_all_of, group_of, join_of}
 use Rattle.pig_relations.specs.Unions.{TypedUnion, Unions, UnionsNot}
 use Rattle.pig_check.specs.Functions.{HasDelimiter, HasNoDelimiter, delimiter_by}
-use Rattle.pig_check.specs.Operators.{OpNot, OpTypes, made, load_of, filter_of, block_of, distinct_of, order_of, limit_of}
+use Rattle.pig_check.specs.Operators.{OpNot, OpTypes, made, load_of, filter_of, block_of, distinct_of, order_of, limit_of, rank_of}
 use Rattle.pig_check.specs.Paths.{GivesNoPath, GivesPath, path_of}
 use Rattle.pig_check.specs.Splits.{AllConditions, AllConditionsNot, split_into, split_of}
 use Rattle.pig_check.specs.Unions.{union_at, united}
@@ -114,7 +114,7 @@ op_of s (operator.Join inputs side using) = join_of s.aliases (map join_form inp
 op_of s (operator.Distinct from) = distinct_of s.aliases from
 op_of s (operator.Order from keys) = order_of s.aliases from keys
 op_of s (operator.Limit from count) = limit_of s.aliases from count
-op_of s (operator.Rank from keys dense) = Err kind.Unsupported
+op_of s (operator.Rank from keys dense) = rank_of s.aliases from keys dense
 -- nodes may stand before that of a UNION, and one stands before that of a CUBE
 op_of s (operator.Union onschema names) = Err kind.Unsupported
 op_of s (operator.Cube from rollup dims) = Err kind.Unsupported

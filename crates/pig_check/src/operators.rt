@@ -1,14 +1,16 @@
-ghost use Rattle.std.specs.Prelude.{◌≡◌, IfOk};
+ghost use Rattle.std.specs.Prelude.{◌≡◌, ◌++◌, IfOk, codes};
 ghost use Rattle.std.specs.List.{list_any};
+ghost use Rattle.pig_value.specs.Trees.{k_long};
 ghost use Rattle.pig_schema.specs.FieldTrees.{named_tree, schema_tree, tree_kind};
 ghost use Rattle.pig_syntax.specs.ExprTrees.{expr_form};
 ghost use Rattle.pig_plan.specs.Plans.{op_of, plan_of, p_load};
 ghost use Rattle.pig_typed.specs.Typed.{typed};
 ghost use Rattle.pig_typing.specs.Conditions.{condition_on};
 ghost use Rattle.pig_typing.specs.Results.{Tells};
+ghost use Rattle.pig_typing.specs.Written.{scalar_column, with_name};
 ghost use Rattle.pig_relations.specs.Aliases.{aliases_of};
 ghost use Rattle.pig_relations.specs.Operators.{op_tree};
-ghost use Rattle.pig_check.specs.Operators.{block_of, columns_from, distinct_of, filter_of, input_of, kind_from, limit_of, load_of, made, not_stored, order_of, schema_of};
+ghost use Rattle.pig_check.specs.Operators.{block_of, columns_from, distinct_of, filter_of, input_of, kind_from, limit_of, load_of, made, not_stored, order_of, rank_columns, rank_name, rank_of, schema_of};
 ghost use Rattle.pig_check.specs.States.{is_stored, row_of, stores_beside};
 
 use crate::functions::delimiter;
@@ -23,7 +25,7 @@ use pig_typed::TExpr;
 use pig_typing::{
     CheckKind, Locals, Scope, TypeFault, row_within_limits, type_condition, written_schema,
 };
-use pig_value::{Column, Columns, Delim, Seq, Text, copy_kind};
+use pig_value::{Column, Columns, Delim, Kind, Seq, Text, copy_kind};
 use std::alloc::{AllocError, Global};
 
 /// LOAD.
@@ -231,4 +233,55 @@ pub fn limit(
     let input = relation.node;
     let op = NodeOp::Limit { input, count };
     Ok(TypedOp { op, columns })
+}
+
+/// RANK.
+#[tactic(auto, unfolding(crate::specs::Operators::rank_of))]
+pub fn rank(
+    alloc: Global,
+    relations: &Relations,
+    from: &Text,
+    keys: &OrderKeys,
+    dense: bool,
+) -> Result<TypedOp, TypeFault>
+    ensures { Tells op_tree (rank_of (aliases_of relations.now) from.now keys.now dense) result }
+{
+    let relation = relations.find(from)?;
+    let keys = sort_keys(alloc, keys, &relation.columns)?;
+    let columns = rank_columns(alloc, from, &relation.columns)?;
+    row_within_limits(alloc, &columns)?;
+    let input = relation.node;
+    let op = NodeOp::Rank { input, keys, dense };
+    Ok(TypedOp { op, columns })
+}
+
+// The rank of a row of the input with this alias, and then copies of the input's columns.
+fn rank_columns(alloc: Global, from: &Text, columns: &Schema) -> Result<Schema, AllocError>
+    ensures { IfOk result (λ s. schema_tree s
+        ≡ rank_columns from.now (schema_tree columns.now)) }
+{
+    let mut made = Seq::new(alloc);
+    made.push(rank_column(alloc, from)?)?;
+    made.extend(copy_schema(alloc, columns)?)?;
+    Ok(made)
+}
+
+fn rank_column(alloc: Global, from: &Text) -> Result<Field, AllocError>
+    ensures { IfOk result (λ f. named_tree f
+        ≡ with_name (rank_name from.now) (scalar_column k_long)) }
+{
+    let name = rank_name(alloc, from.as_str())?;
+    Ok(Field {
+        name: Some(name),
+        kind: Kind::Long,
+        inner: Seq::new(alloc),
+    })
+}
+
+fn rank_name(alloc: Global, from: &str) -> Result<Text, AllocError>
+    ensures { IfOk result (λ name. name ≡ codes "rank_" ++ from.now) }
+{
+    let mut name = String::from_str(alloc, "rank_")?;
+    name.push_str(from)?;
+    Ok(Text::from_string(name))
 }

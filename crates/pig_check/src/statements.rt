@@ -8,7 +8,7 @@ ghost use Rattle.pig_check.specs.Views.{added_tree, state_tree};
 
 use crate::asserts::assert;
 use crate::cubes::cube;
-use crate::operators::{distinct, filter, foreach, limit, load, order};
+use crate::operators::{distinct, filter, foreach, limit, load, order, rank};
 use crate::splits::split;
 use crate::state::{Addition, GivenRelations, Progress, next_number};
 use crate::stores::store;
@@ -135,7 +135,7 @@ fn operator(alloc: Global, state: &Progress, op: &Op) -> Result<TypedOp, TypeFau
         Op::Distinct { from } => distinct(alloc, relations, from),
         Op::Order { from, keys } => order(alloc, relations, from, keys),
         Op::Limit { from, count } => limit(alloc, relations, from, *count),
-        Op::Rank { .. } => Err(TypeFault::Refused(CheckKind::Unsupported)),
+        Op::Rank { from, keys, dense } => rank(alloc, relations, from, keys, *dense),
         // Nodes may stand before that of a UNION, and one stands before that of a CUBE.
         Op::Union { .. } | Op::Cube { .. } => Err(TypeFault::Refused(CheckKind::Unsupported)),
     }

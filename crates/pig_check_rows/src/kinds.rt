@@ -74,6 +74,13 @@ fn wide_load<R: Abort>(rt: &R, alloc: Global, columns: usize) -> String {
     script
 }
 
+// Such a LOAD, and its rows behind their ranks.
+fn wide_rank<R: Abort>(rt: &R, alloc: Global, columns: usize) -> String {
+    let mut script = wide_load(rt, alloc, columns);
+    add(rt, &mut script, "r = RANK a BY $0;");
+    script
+}
+
 // A tuple around the field, so many times.
 fn deep_tuple<R: Abort>(rt: &R, alloc: Global, depth: usize) -> String {
     let mut script = copied(rt, alloc, "a = LOAD 'i' AS (x:int);");
@@ -94,6 +101,8 @@ fn keeps_the_limits(rt: HostRuntime) {
     let alloc = rt.alloc();
     assert!(rt; tells(&rt, alloc, &wide_load(&rt, alloc, 512), "fine"));
     assert!(rt; tells(&rt, alloc, &wide_load(&rt, alloc, 513), "1 TooWide"));
+    assert!(rt; tells(&rt, alloc, &wide_rank(&rt, alloc, 511), "fine"));
+    assert!(rt; tells(&rt, alloc, &wide_rank(&rt, alloc, 512), "2 TooWide"));
     assert!(rt; tells(&rt, alloc, &deep_tuple(&rt, alloc, 63), "fine"));
     assert!(rt; tells(&rt, alloc, &deep_tuple(&rt, alloc, 64), "65 TooDeep"));
 }

@@ -14,4 +14,6 @@ mod kinds;
 #[cfg(test)]
 mod plans;
 #[cfg(test)]
+mod ranked;
+#[cfg(test)]
 mod shared;

@@ -160,6 +160,8 @@ CASE WHEN a THEN b END END\n\
 INT\n\
 rollup\n\
 cube(a)\n\
+rank\n\
+a::dense\n\
 a = b";
 
 // Types, each with its tree; a row with none is off the grammar.
@@ -250,6 +252,12 @@ LIMIT a 9223372036854775807L => Limit { from: 'a', count: 9223372036854775807 }\
 CUBE a BY CUBE(p) => Cube { from: 'a', rollup: false, dims: [Name('p')] }\n\
 CUBE a BY ROLLUP(p, $1, q::r) => Cube { from: 'a', rollup: true, dims: [Name('p'), Position(1), Name('q::r')] }\n\
 cuBe a By RollUp(cube, GROUP) parallel 2 => Cube { from: 'a', rollup: true, dims: [Name('cube'), Name('group')] }\n\
+RANK a BY b => Rank { from: 'a', keys: Fields([OrderField { field: Name('b'), dir: Asc }]), dense: false }\n\
+RANK a BY b DENSE => Rank { from: 'a', keys: Fields([OrderField { field: Name('b'), dir: Asc }]), dense: true }\n\
+RANK a BY b DESC DENSE => Rank { from: 'a', keys: Fields([OrderField { field: Name('b'), dir: Desc }]), dense: true }\n\
+RANK a BY * => Rank { from: 'a', keys: All(Asc), dense: false }\n\
+RANK a BY * DESC DENSE => Rank { from: 'a', keys: All(Desc), dense: true }\n\
+rAnk a By b::c dEsc, $1, GROUP asc DenSe => Rank { from: 'a', keys: Fields([OrderField { field: Name('b::c'), dir: Desc }, OrderField { field: Position(1), dir: Asc }, OrderField { field: Name('group'), dir: Asc }]), dense: true }\n\
 \x20\n\
 a\n\
 LOAD 'p'\n\
@@ -282,6 +290,7 @@ FOREACH a { p = b + 1; GENERATE c; }\n\
 FOREACH a { p = LIMIT b c; GENERATE p; }\n\
 FOREACH a { p = FILTER b; GENERATE p; }\n\
 FOREACH a { p = GROUP b ALL; GENERATE p; }\n\
+FOREACH a { p = RANK b BY c; GENERATE p; }\n\
 FOREACH a { GENERATE b; } c\n\
 GROUP a\n\
 GROUP a BY\n\
@@ -343,6 +352,26 @@ CUBE a CUBE(b)\n\
 CUBE cube BY CUBE(b)\n\
 ROLLUP a BY ROLLUP(b)\n\
 RANK a\n\
+RANK a DENSE\n\
+RANK a BY\n\
+RANK a BY DENSE\n\
+RANK a BY *, b\n\
+RANK a BY b, DENSE\n\
+RANK a BY b c\n\
+RANK a BY b DENSE DENSE\n\
+RANK a BY b DENSE DESC\n\
+RANK a BY DENSE b\n\
+RANK a BY b + 1\n\
+RANK a BY 'k'\n\
+RANK a BY (b, c)\n\
+RANK a BY b PARALLEL 2\n\
+RANK a BY b DENSE PARALLEL 2\n\
+RANK a BY b USING 'u'\n\
+RANK a b\n\
+RANK a, b BY c\n\
+RANK BY b\n\
+RANK dense BY b\n\
+DENSE RANK a BY b\n\
 ASSERT a BY b";
 
 // Scripts, each with its trees or the first statement that is off the grammar.
@@ -370,6 +399,9 @@ x DISTINCT a; => syntax at 1\n\
 x = ; => syntax at 1\n\
 group = DISTINCT a; => syntax at 1\n\
 cube = DISTINCT a; => syntax at 1\n\
+rank = DISTINCT a; => syntax at 1\n\
+dense = DISTINCT a; => syntax at 1\n\
+RANK a BY b; => syntax at 1\n\
 DISTINCT a; => syntax at 1\n\
 a, b; => syntax at 1\n\
 x = y = DUMP a; => syntax at 1\n\
@@ -418,6 +450,7 @@ a = LOAD 'in' AS (k:int, a:{(x:int)}, b:{(y:int)}); o = FOREACH a GENERATE k, FL
 a = LOAD 'in' AS (x:int); SPLIT a INTO b IF x > 2, c IF x < 2, d OTHERWISE; => 2\n\
 a = LOAD 'a' AS (x:int); b = LOAD 'b' AS (x:long); u = UNION a, b; o = ORDER u BY x; => 4\n\
 a = LOAD 'in' AS (p:chararray, y:chararray, s:int); c = CUBE a BY CUBE(p, y); r = FOREACH c GENERATE group, SUM(cube.s); => 3\n\
+a = LOAD 'in' AS (k:int, v:chararray); r = RANK a BY k DESC; d = RANK a BY k DESC DENSE; o = ORDER d BY rank_a; STORE r INTO 'r'; => 5\n\
 a = LOAD 'in' AS (s:chararray, t:chararray, n:int); o = FOREACH a GENERATE SIZE(s), SUBSTRING(s,1,3), SUBSTRING(s,3,9), INDEXOF(t,'na'), INDEXOF(t,'x'), ABS(n), STARTSWITH(t,'ba'), ENDSWITH(t,'ba'), CONCAT(s,t); => 2\n\
 a = LOAD 'in' AS (m:map[]); o = FOREACH a GENERATE (int)m#'a' + 1, m#'zz', (m#'b' == 'x' ? 'yes' : 'no'); => 2\n\
 v = LOAD 'visits' AS (user:chararray, page:chararray, time:int); g = GROUP v BY user; c = FOREACH g GENERATE group, COUNT(v) AS n, SUM(v.time) AS t; o = ORDER c BY n DESC, $0; top = LIMIT o 10; STORE top INTO 'top';  => 6";

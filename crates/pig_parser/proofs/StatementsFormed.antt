@@ -1,5 +1,5 @@
 -- Statements of tokens without an LF have trees as the grammar gives them.
-use Rattle.std.specs.Prelude.{◌≡◌, ◌≤◌, ℕ, List, [], ◌∷◌, length, map, Option, Some, None, All, IfSome}
+use Rattle.std.specs.Prelude.{◌≡◌, ◌≤◌, ℕ, Bool, List, [], ◌∷◌, length, map, Option, Some, None, All, IfSome}
 use Rattle.std.proofs.Common.{◌-◌, arith, drop}
 use Rattle.std.proofs.lemmas.List.Elements.{All-cons, All-nil, All-head, All-tail, All-take, All-drop}
 use Rattle.pig_value.specs.declared.operators.Dir.{Dir}
@@ -31,7 +31,7 @@ use Rattle.pig_exprs.specs.Grammar.{Forms, Listed, IsSchemaField}
 use Rattle.pig_exprs.specs.Reader.{forms}
 use Rattle.pig_exprs.proofs.ExprsFormed.{Free, Formed, listed_formed, field_ref_formed, selection_formed, type_formed, schema_formed, field_formed, expr_formed}
 use Rattle.pig_parser.specs.Parsing.{AreTrees, no_trees, trees}
-use Rattle.pig_parser.specs.Statements.{AreKeys, IsDir, IsOrderField, AreOrderKeys, IsTextToken, IsIdent, IsFunc, IsUsingFunc, IsUsingText, IsParallel, AreNames, IsNaming, IsItem, IsBagRef, IsNested, AreSteps, IsGroupInput, IsJoinInput, IsSide, IsOnSchema, IsOp, IsBranch, IsOtherwise, IsMessage, IsStatement}
+use Rattle.pig_parser.specs.Statements.{AreKeys, IsDir, IsOrderField, AreOrderKeys, IsTextToken, IsIdent, IsFunc, IsUsingFunc, IsUsingText, IsParallel, AreNames, IsNaming, IsItem, IsBagRef, IsNested, AreSteps, IsGroupInput, IsJoinInput, IsSide, IsOnSchema, IsDense, IsOp, IsBranch, IsOtherwise, IsMessage, IsStatement}
 
 -- ---- parts
 
@@ -81,6 +81,10 @@ using_text_formed IsUsingText.using_text free = record { tree = free.1.0; free =
 parallel_free : {ts rest : Forms} → IsParallel ts rest → Free ts → Free rest
 parallel_free IsParallel.no_par free = free
 parallel_free IsParallel.par free = free.1.1
+
+dense_free : {ts rest : Forms} {dense : Bool} → IsDense ts dense rest → Free ts → Free rest
+dense_free IsDense.not_dense free = free
+dense_free IsDense.is_dense free = free.1
 
 -- ---- items and blocks
 
@@ -190,6 +194,7 @@ op_formed (IsOp.limit is) free = record { tree = free.1.0; free = free.1.1.1 }
 op_formed (IsOp.cube is l p) free =
     let dims = listed_formed FieldRefFormed (λ ts x rest h from. field_ref_formed h from) l free.1.1.1.1.1 in
     record { tree = (free.1.0, dims.tree); free = parallel_free p dims.free.1 }
+op_formed (IsOp.rank o d) free = let keys = order_keys_formed o free.1.1.1 in record { tree = (free.1.0, keys.tree); free = dense_free d keys.free }
 
 branch_formed : {ts rest : Forms} {b : Branch} → IsBranch ts b rest → Free ts → Formed (BranchFormed b) rest
 branch_formed (IsBranch.branch h) free = let cond = expr_formed h free.1.1 in record { tree = record { alias = free.0; cond = cond.tree }; free = cond.free }

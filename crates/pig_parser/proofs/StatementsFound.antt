@@ -14,10 +14,10 @@ use Rattle.pig_syntax.specs.declared.trees.Op.TheVariants as op
 use Rattle.pig_syntax.specs.declared.trees.Stmt.{Stmt}
 use Rattle.pig_syntax.specs.declared.trees.Stmt.TheVariants as stmt
 use Rattle.pig_exprs.specs.Grammar.{Forms, Listed, last, more, IsFieldRef}
-use Rattle.pig_parser.specs.Statements.{IsIdent, ident, IsUsingText, no_text, using_text, IsParallel, no_par, par, IsItem, IsGroupInput, input_bare, input_inner, input_outer, IsJoinInput, IsSide, IsOnSchema, by_place, by_name, rollup_of, is_group_word, IsOp, load, filter, foreach, foreach_block, group_all, group, join, union, distinct, order, limit, cube, IsBranch, branch, IsOtherwise, no_otherwise, otherwise, IsMessage, no_message, with_message, is_unsupported_word, IsStatement, empty, assign, split, store, assertion, unsupported, unsupported_named}
+use Rattle.pig_parser.specs.Statements.{IsIdent, ident, IsUsingText, no_text, using_text, IsParallel, no_par, par, IsItem, IsGroupInput, input_bare, input_inner, input_outer, IsJoinInput, IsSide, IsOnSchema, by_place, by_name, rollup_of, IsDense, not_dense, is_dense, is_group_word, IsOp, load, filter, foreach, foreach_block, group_all, group, join, union, distinct, order, limit, cube, rank, IsBranch, branch, IsOtherwise, no_otherwise, otherwise, IsMessage, no_message, with_message, is_unsupported_word, IsStatement, empty, assign, split, store, assertion, unsupported, unsupported_named}
 use Rattle.pig_exprs.specs.Reader.{listed, comma_turn, close_paren, part_turn, field_ref_at}
 use Rattle.pig_exprs.specs.ExprReader.{colon}
-use Rattle.pig_parser.specs.StatementReader.{comma, as_word, generate_word, block_end, several, dir_at, ident_at, using_func_at, using_text_at, after_parallel, naming_at, item_at, step_turn, steps_at, inner_at, group_input_at, join_input_at, after_outer, side_at, on_schema_at, load_at, filter_at, block_at, foreach_at, groups_at, group_at, join_at, union_at, distinct_at, order_at, limit_at, cube_at, op_at, branch_with, branch_at, branch_turn, branches_at, otherwise_at, split_at, store_at, message_at, assert_at, is_unsupported, assign_at, front_at, ended, statement_at}
+use Rattle.pig_parser.specs.StatementReader.{comma, as_word, generate_word, block_end, several, dir_at, ident_at, using_func_at, using_text_at, after_parallel, naming_at, item_at, step_turn, steps_at, inner_at, group_input_at, join_input_at, after_outer, side_at, on_schema_at, dense_at, load_at, filter_at, block_at, foreach_at, groups_at, group_at, join_at, union_at, distinct_at, order_at, limit_at, cube_at, rank_at, op_at, branch_with, branch_at, branch_turn, branches_at, otherwise_at, split_at, store_at, message_at, assert_at, is_unsupported, assign_at, front_at, ended, statement_at}
 use Rattle.pig_exprs.proofs.Fits.{Fits}
 use Rattle.pig_exprs.proofs.Finds.{Finds, Run, stops, goes, repeat_run, finds_more, finds_listed, listed_finds}
 use Rattle.pig_exprs.proofs.NamesFound.{NameEnds, field_ref_found}
@@ -59,6 +59,21 @@ parallel_order : {ts : Forms} → IsParallel ts [] → OrderMay ts
 unfolding part_turn dir_at
 parallel_order no_par = record { name = refl; way = refl }
 parallel_order par = record { name = refl; way = refl }
+
+-- what stands behind the keys of RANK
+record RankMay (ts : Forms) : Type 0 where
+  order : OrderMay ts
+  alone : comma ts ≡ None
+
+dense_may : {ts : Forms} {dense : Bool} → IsDense ts dense [] → RankMay ts
+unfolding part_turn dir_at comma
+dense_may not_dense = record { order = record { name = refl; way = refl }; alone = refl }
+dense_may is_dense = record { order = record { name = refl; way = refl }; alone = refl }
+
+dense_found : {ts : Forms} {dense : Bool} → IsDense ts dense [] → dense_at ts ≡ Some (dense, [])
+unfolding dense_at
+dense_found not_dense = refl
+dense_found is_dense = refl
 
 -- the end of an operator
 all_of : {ts : Forms} → IsParallel ts [] → after_parallel ts ≡ []
@@ -151,7 +166,7 @@ cube_found word rollup name is list p (suc d) fits =
     rw (is, found.finds, all_of p) refl
 
 op_found : {ts : Forms} {o : Op} → IsOp ts o [] → (d most : ℕ) → Fits ts d → d < most → op_at most ts ≡ Some (o, [])
-unfolding Fits op_at load_at filter_at block_at foreach_at group_at distinct_at order_at limit_at using_func_at as_word generate_word block_end steps_at step_turn naming_at colon comma
+unfolding Fits op_at load_at filter_at block_at foreach_at group_at distinct_at order_at limit_at rank_at using_func_at as_word generate_word block_end steps_at step_turn naming_at colon comma
 op_found (load using_ h) d most fits low =
     let func = using_func_found using_ d fits refl in
     let fields = schema_found h d most func.fits (omega (arith, low)) in
@@ -177,6 +192,9 @@ op_found (order o p) d most fits low =
 op_found (limit {t = t} {n = n} is) d most fits low = rw (count_found t [] n is) refl
 op_found (cube {ts = ts} {word = word} {name = name} {rollup = rollup} is list p) d most fits low =
     cube_found word rollup name is list p d (cube_word_fits word rollup (f.Symbol s.OpenParen ∷ ts) d is fits)
+op_found (rank o h) d most fits low =
+    let may = dense_may h in
+    rw ((order_keys_found o d fits may.order may.alone).finds, dense_found h) refl
 
 -- ---- statements
 
@@ -256,6 +274,7 @@ supported (distinct p) = refl
 supported (order o p) = refl
 supported (limit is) = refl
 supported (cube is list p) = refl
+supported (rank o h) = refl
 
 unsupported_front : (most : ℕ) (word : Keyword) (ts : Forms) → is_unsupported_word word ≡ true → front_at most (f.Keyword word ∷ ts) ≡ Some (stmt.Unsupported, [])
 unfolding front_at is_unsupported

@@ -17,10 +17,10 @@ use Rattle.pig_syntax.specs.declared.trees.Op.TheVariants as op
 use Rattle.pig_syntax.specs.declared.trees.Stmt.{Stmt}
 use Rattle.pig_syntax.specs.declared.trees.Stmt.TheVariants as stmt
 use Rattle.pig_exprs.specs.Grammar.{Forms, Listed, IsFieldRef, IsSchemaField}
-use Rattle.pig_parser.specs.Statements.{IsExpr, AreKeys, IsDir, IsOrderField, AreOrderKeys, IsTextToken, IsIdent, IsFunc, IsUsingFunc, IsUsingText, IsParallel, count_of, AreNames, IsNaming, IsItem, IsBagRef, IsNested, AreSteps, IsGroupInput, IsJoinInput, side_of, IsSide, IsOnSchema, rollup_of, is_group_word, IsOp, IsBranch, IsOtherwise, IsMessage, is_unsupported_word, IsStatement}
+use Rattle.pig_parser.specs.Statements.{IsExpr, AreKeys, IsDir, IsOrderField, AreOrderKeys, IsTextToken, IsIdent, IsFunc, IsUsingFunc, IsUsingText, IsParallel, count_of, AreNames, IsNaming, IsItem, IsBagRef, IsNested, AreSteps, IsGroupInput, IsJoinInput, side_of, IsSide, IsOnSchema, rollup_of, IsDense, is_group_word, IsOp, IsBranch, IsOtherwise, IsMessage, is_unsupported_word, IsStatement}
 use Rattle.pig_exprs.specs.Reader.{field_ref_at, type_at}
 use Rattle.pig_exprs.specs.ExprReader.{expr_at}
-use Rattle.pig_parser.specs.StatementReader.{comma, semicolon, as_word, by_word, generate_word, block_end, several, key_list_at, keys_at, dir_at, order_field_at, order_keys_at, text_at, ident_at, func_at, using_func_at, using_text_at, after_parallel, count_at, names_at, naming_at, flattened_at, value_at, item_at, bag_selection_at, bag_ref_at, nested_filter_at, nested_order_at, nested_limit_at, nested_at, step_turn, steps_at, inner_at, group_input_at, join_input_at, after_outer, side_at, on_schema_at, load_at, filter_at, block_at, foreach_at, groups_at, group_at, join_at, union_at, distinct_at, order_at, limit_at, cube_at, op_at, branch_with, branch_at, branch_turn, branches_at, otherwise_at, split_at, store_at, message_at, assert_at, is_unsupported, assign_at, front_at, ended, statement_at}
+use Rattle.pig_parser.specs.StatementReader.{comma, semicolon, as_word, by_word, generate_word, block_end, several, key_list_at, keys_at, dir_at, order_field_at, order_keys_at, text_at, ident_at, func_at, using_func_at, using_text_at, after_parallel, count_at, names_at, naming_at, flattened_at, value_at, item_at, bag_selection_at, bag_ref_at, nested_filter_at, nested_order_at, nested_limit_at, nested_at, step_turn, steps_at, inner_at, group_input_at, join_input_at, after_outer, side_at, on_schema_at, dense_at, load_at, filter_at, block_at, foreach_at, groups_at, group_at, join_at, union_at, distinct_at, order_at, limit_at, cube_at, rank_at, op_at, branch_with, branch_at, branch_turn, branches_at, otherwise_at, split_at, store_at, message_at, assert_at, is_unsupported, assign_at, front_at, ended, statement_at}
 use Rattle.pig_exprs.proofs.Options.{Holds, of_known, itself, holds_then, holds_map, holds_map_or, holds_if}
 use Rattle.pig_exprs.proofs.ListSound.{Upholds, TurnsLead, GoesOn, repeat_runs, members_listed, listed_upholds, closes}
 use Rattle.pig_exprs.proofs.NamesSound.{field_ref_upholds, selection_upholds}
@@ -359,6 +359,18 @@ cube_stands (f.Ident name ∷ f.Keyword k.By ∷ f.Keyword word ∷ f.Symbol s.O
     holds_then _ (closes (Listed IsFieldRef ts dims.0) dims.1 l) (λ rest l. Holds.just (IsOp.cube is_word l (parallel_stands rest)))))
 cube_stands _ = Holds.nothing
 
+dense_upholds : Upholds dense_at IsDense
+unfolding dense_at
+dense_upholds (f.Keyword k.Dense ∷ ts) = Holds.just IsDense.is_dense
+dense_upholds ts = Holds.just IsDense.not_dense
+
+rank_stands : (ts : Forms) → Holds (λ p. IsOp (f.Keyword k.Rank ∷ ts) p.0 p.1) (rank_at ts)
+unfolding rank_at
+rank_stands (f.Ident name ∷ f.Keyword k.By ∷ ts) =
+    holds_then _ (order_keys_upholds ts) (λ by_ o.
+    holds_then _ (dense_upholds by_.1) (λ dense h. Holds.just (IsOp.rank o h)))
+rank_stands _ = Holds.nothing
+
 op_upholds : (most : ℕ) → Upholds (op_at most) IsOp
 unfolding op_at
 op_upholds most (f.Keyword k.Load ∷ ts) = load_stands most ts
@@ -372,6 +384,7 @@ op_upholds most (f.Keyword k.Distinct ∷ ts) = distinct_stands ts
 op_upholds most (f.Keyword k.Order ∷ ts) = order_stands ts
 op_upholds most (f.Keyword k.Limit ∷ ts) = limit_stands ts
 op_upholds most (f.Keyword k.Cube ∷ ts) = cube_stands ts
+op_upholds most (f.Keyword k.Rank ∷ ts) = rank_stands ts
 op_upholds most _ = Holds.nothing
 
 -- ---- statements

@@ -257,6 +257,10 @@ unfoldable pub on_schema_at : Forms → FoundPart Bool
 on_schema_at (f.Keyword k.OnSchema ∷ ts) = Some (true, ts)
 on_schema_at ts = Some (false, ts)
 
+unfoldable pub dense_at : Forms → FoundPart Bool
+dense_at (f.Keyword k.Dense ∷ ts) = Some (true, ts)
+dense_at ts = Some (false, ts)
+
 -- ---- operators, behind their first word
 
 unfoldable pub load_at : ℕ → Forms → FoundPart Op
@@ -331,6 +335,13 @@ cube_at (f.Ident name ∷ f.Keyword k.By ∷ f.Keyword word ∷ f.Symbol s.OpenP
   Some (op.Cube name rollup dims.0, after_parallel rest)
 cube_at _ = None
 
+unfoldable pub rank_at : Forms → FoundPart Op
+rank_at (f.Ident name ∷ f.Keyword k.By ∷ ts) = do
+  by_ ← order_keys_at ts
+  dense ← dense_at by_.1
+  Some (op.Rank name by_.0 dense.0, dense.1)
+rank_at _ = None
+
 unfoldable pub op_at : ℕ → Forms → FoundPart Op
 op_at most (f.Keyword k.Load ∷ ts) = load_at most ts
 op_at most (f.Keyword k.Filter ∷ ts) = filter_at most ts
@@ -343,6 +354,7 @@ op_at most (f.Keyword k.Distinct ∷ ts) = distinct_at ts
 op_at most (f.Keyword k.Order ∷ ts) = order_at ts
 op_at most (f.Keyword k.Limit ∷ ts) = limit_at ts
 op_at most (f.Keyword k.Cube ∷ ts) = cube_at ts
+op_at most (f.Keyword k.Rank ∷ ts) = rank_at ts
 op_at most _ = None
 
 -- ---- statements

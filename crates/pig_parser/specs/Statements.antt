@@ -179,6 +179,11 @@ rollup_of k.Cube = Some false
 rollup_of k.Rollup = Some true
 rollup_of _ = None
 
+-- [ DENSE ], and whether it stands there
+pub data IsDense : Forms → Bool → Forms → Type 0 where
+  not_dense : {ts : Forms} → IsDense ts false ts
+  is_dense : {ts : Forms} → IsDense (f.Keyword k.Dense ∷ ts) true ts
+
 -- ---- operators
 
 -- GROUP | COGROUP
@@ -225,6 +230,9 @@ pub data IsOp : Forms → Op → Forms → Type 0 where
   cube : {ts mid rest : Forms} {word : Keyword} {name : List ℕ} {rollup : Bool} {dims : List FieldRef} → rollup_of word ≡ Some rollup
       → Listed IsFieldRef ts dims (f.Symbol s.CloseParen ∷ mid) → IsParallel mid rest
       → IsOp (f.Keyword k.Cube ∷ f.Ident name ∷ f.Keyword k.By ∷ f.Keyword word ∷ f.Symbol s.OpenParen ∷ ts) (op.Cube name rollup dims) rest
+  -- RANK Ident BY okeys [ DENSE ]
+  rank : {ts mid rest : Forms} {name : List ℕ} {o : OrderKeys} {dense : Bool} → AreOrderKeys ts o mid → IsDense mid dense rest
+      → IsOp (f.Keyword k.Rank ∷ f.Ident name ∷ f.Keyword k.By ∷ ts) (op.Rank name o dense) rest
 
 -- ---- statements
 

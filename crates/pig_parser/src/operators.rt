@@ -3,7 +3,7 @@ ghost use Rattle.pig_syntax.specs.declared.tokens.TokenForm.TheVariants as f;
 ghost use Rattle.pig_exprs.specs.Grammar.{Forms};
 ghost use Rattle.pig_parser.specs.Statements.{side_of, rollup_of};
 ghost use Rattle.pig_exprs.specs.Reader.{forms, Gives, GivesRest};
-ghost use Rattle.pig_parser.specs.StatementReader.{GivesFound, generate_word, block_end, inner_at, group_input_at, join_input_at, after_outer, side_at, on_schema_at, load_at, filter_at, block_at, foreach_at, groups_at, group_at, join_at, union_at, distinct_at, order_at, limit_at, cube_at, op_at};
+ghost use Rattle.pig_parser.specs.StatementReader.{GivesFound, generate_word, block_end, inner_at, group_input_at, join_input_at, after_outer, side_at, on_schema_at, dense_at, load_at, filter_at, block_at, foreach_at, groups_at, group_at, join_at, union_at, distinct_at, order_at, limit_at, cube_at, rank_at, op_at};
 
 use crate::blocks::{ItemRule, steps};
 use crate::parts::{
@@ -518,6 +518,49 @@ fn cube(alloc: Global, tokens: &[Token]) -> Result<(Op, &[Token]), ParseFault>
     }
 }
 
+// Whether DENSE stands there.
+#[tactic(auto, unfolding(crate::specs::StatementReader::dense_at))]
+fn dense(tokens: &[Token]) -> (bool, &[Token])
+    ensures { dense_at (forms tokens.now) ≡ Some (result.0, forms result.1.now) }
+{
+    match tokens {
+        [
+            Token {
+                form: TokenForm::Keyword(Keyword::Dense),
+                ..
+            },
+            rest @ ..,
+        ] => (true, rest),
+        _ => (false, tokens),
+    }
+}
+
+// A RANK, behind its word.
+#[tactic(auto, unfolding(crate::specs::StatementReader::rank_at))]
+fn rank(alloc: Global, tokens: &[Token]) -> Result<(Op, &[Token]), ParseFault>
+    ensures { Gives (rank_at (forms tokens.now)) result }
+{
+    match tokens {
+        [
+            Token {
+                form: TokenForm::Ident(name),
+                ..
+            },
+            Token {
+                form: TokenForm::Keyword(Keyword::By),
+                ..
+            },
+            rest @ ..,
+        ] => {
+            let from = name.copy(alloc)?;
+            let ((from, keys), rest) = order_keys(alloc, from, rest)?;
+            let (dense, rest) = dense(rest);
+            Ok((Op::Rank { from, keys, dense }, rest))
+        }
+        _ => Err(ParseFault::Off),
+    }
+}
+
 /// What a relation is made by.
 #[tactic(auto, unfolding(crate::specs::StatementReader::op_at))]
 pub fn operator<'a>(
@@ -560,6 +603,7 @@ fn operator_of<'a>(
         Keyword::Order => order(alloc, tokens),
         Keyword::Limit => limit(alloc, tokens),
         Keyword::Cube => cube(alloc, tokens),
+        Keyword::Rank => rank(alloc, tokens),
         _ => Err(ParseFault::Off),
     }
 }

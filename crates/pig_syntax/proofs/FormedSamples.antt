@@ -5,6 +5,7 @@ use Rattle.pig_value.specs.declared.operators.ChainOp.TheVariants as op
 use Rattle.pig_syntax.specs.declared.trees.FieldRef.{FieldRef}
 use Rattle.pig_syntax.specs.declared.trees.FieldRef.TheVariants as ref
 use Rattle.pig_syntax.specs.declared.trees.Op.TheVariants as operator
+use Rattle.pig_syntax.specs.declared.trees.OrderKeys.TheVariants as keys
 use Rattle.pig_syntax.specs.declared.trees.PostStep.TheVariants as step
 use Rattle.pig_syntax.specs.ExprTrees.{e_null, e_float, e_chain, e_text, no_links, more_links, no_fields}
 use Rattle.pig_syntax.specs.Formed.{ExprFormed, FieldsFormed, SelectionFormed, PostStepFormed, OpFormed}
@@ -44,3 +45,7 @@ no_item name h = let one = h.2.many in absurd (omega (arith, one))
 -- CUBE has a dimension
 no_dimension : (name : List ℕ) → OpFormed (operator.Cube name false []) → ⊥
 no_dimension name h = let one = h.1.many in absurd (omega (arith, one))
+
+-- RANK has a key, or all of them
+no_key : (name : List ℕ) → OpFormed (operator.Rank name (keys.Fields []) true) → ⊥
+no_key name h = let one = h.1.many in absurd (omega (arith, one))

@@ -172,7 +172,7 @@ pub record BranchFormed (b : Branch) : Type 0 where
 
 -- ---- operators and statements
 
--- no rule gives RANK
+-- an operator's tree as a rule of the grammar gives it
 abbrev pub OpFormed : Op → Type 0
 OpFormed (operator.Load path func fields) = HasNoLf path × IfSome func FuncFormed × SchemaFormed fields
 OpFormed (operator.Filter name a) = HasNoLf name × IsExprFormed a
@@ -185,7 +185,7 @@ OpFormed (operator.Distinct name) = HasNoLf name
 OpFormed (operator.Order name o) = HasNoLf name × OrderKeysFormed o
 OpFormed (operator.Limit name n) = HasNoLf name
 OpFormed (operator.Cube name rollup dims) = HasNoLf name × AtLeast 1 FieldRefFormed dims
-OpFormed _ = ⊥
+OpFormed (operator.Rank name o dense) = HasNoLf name × OrderKeysFormed o
 
 -- a statement's tree as the grammar gives it
 abbrev pub StmtFormed : Stmt → Type 0
