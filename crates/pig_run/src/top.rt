@@ -5,7 +5,7 @@ ghost use Rattle.pig_outside.specs.Calls.{DepotCall};
 ghost use Rattle.pig_outside.specs.Shelf.{Shelf};
 ghost use Rattle.pig_pool.specs.Wave.{failures_in};
 ghost use Rattle.pig_words.specs.declared.words.Command.{Command};
-ghost use Rattle.pig_run.specs.Decided.{Agrees};
+ghost use Rattle.pig_run.specs.Decided.{IsDecided};
 ghost use Rattle.pig_run.specs.Demonstration.{Demoed};
 ghost use Rattle.pig_run.specs.Due.{HasWords, IsDemo, IsDue, IsNoDemo, Line};
 ghost use Rattle.pig_run.specs.Ends.{Shown, counts_shown, unshown};
@@ -205,14 +205,15 @@ pub fn pig_main<R: Threads + Sync, D: Depot, H: Host + Send, C: Console>(
     }
 }
 
-/// Something is due of words that are no demonstration's, a number of hosts and a shelf, and two of them agree: a refusal, which names its
-/// statement where one has no typing, or the run of a plan; and up to the commits the depot is asked one list of calls. Only the
-/// number of tasks rests on the plan that the checked one is rewritten to.
+/// Something is due of words that are no demonstration's, a number of hosts and a shelf, and they decide one thing: a refusal, which names
+/// its statement where one has no typing, or what the command does with a plan. A `check` has one text then. The verdict of a `run` and
+/// of an `explain` is one for each plan that the checked one is rewritten to, unless memory is wanting for such a plan. Up to the commits
+/// the depot is asked one list of calls, and none of them makes anything.
 pub fn one_verdict()
     ensures some { (line : Line) (shelf : Shelf) → IsNoDemo line
         → (calls : List DepotCall) × (verdict : Verdict) × IsDue line shelf calls verdict }
-    ensures one { (line : Line) (shelf : Shelf) (calls others : List DepotCall) (v w : Verdict)
-        → IsDue line shelf calls v → IsDue line shelf others w → Agrees calls others v w }
+    ensures one { (line : Line) (shelf : Shelf) → IsNoDemo line
+        → IsDecided line shelf (IsDue line shelf) }
 {
     a_script_has_one_plan();
 }
