@@ -1,5 +1,5 @@
 -- From how the demonstration's run ended to what is said of it.
-use Rattle.std.proofs.Common.{◌≡◌, ◌<◌, ◌≤◌, ◌^◌, ◌⊎◌, ℕ, true, List, [], ◌∷◌, map, take, get_or, Option, Some, None, Result, Ok, Err, IfErr, MatchResult, All, refl, sym, ◌∙◌, ap, subst, arith, rules, inl, inr}
+use Rattle.std.proofs.Common.{◌≡◌, ◌<◌, ◌≤◌, ◌^◌, ◌⊎◌, ℕ, Bool, true, false, true≢false, ◌&&◌, if◌then◌else◌, List, [], ◌∷◌, map, take, get_or, Option, Some, None, Result, Ok, Err, IfErr, MatchResult, All, refl, sym, ◌∙◌, ap, subst, arith, rules, inl, inr}
 use Rattle.std.specs.Char.{is_ascii_digit}
 use Rattle.std.specs.List.{AllByRecursion, list_all, sum_by}
 use Rattle.std.specs.Option.{ForSome}
@@ -7,6 +7,7 @@ use Rattle.std.specs.Str.Parse.{ParsesUnsigned, digits_value}
 use Rattle.std.proofs.lemmas.List.Sums.{sum_by-cons}
 use Rattle.std.proofs.lemmas.Str.Parse.{IsDigitsTest, IsNumeralModel, numerals_by_value, parse_gives}
 use Rattle.pig_value.specs.declared.inputs.Input.{Input}
+use Rattle.pig_value.specs.declared.outcomes.Kept.{Kept}
 use Rattle.pig_outside.specs.Calls.{Attempt, DepotCall}
 use Rattle.pig_outside.specs.Memory.{depot_shelf, host_inputs, told_calls, told_inputs, told_shelf}
 use Rattle.pig_outside.specs.Shelf.{Shelf}
@@ -27,7 +28,7 @@ use Rattle.pig_run.specs.Blame.{CrewHasWorked, HaveWorked}
 use Rattle.pig_run.specs.Demonstration.{DemoDue, Demoed, IsDemoAnswer, demo_answer, demo_text, script_run, shelf_of, visits_of}
 use Rattle.pig_run.specs.OwnRun.{DemoEnd, IsDemoFault}
 use Rattle.pig_run.specs.Due.{CommandDue, HasWords, IsDemo, Line, ScriptDue, given_by}
-use Rattle.pig_run.specs.Ends.{Console, Ends, Shown, assert_failed, counts_shown, cut_short, done, failed, lookup_failed, no_memory, no_memory_at, no_memory_behind, no_memory_in, no_text, no_text_cut, no_text_failed, printed, refused, shows, store_failed, task_failed}
+use Rattle.pig_run.specs.Ends.{Console, Ends, Shown, assert_failed, counts_shown, cut_short, done, failed, is_unmet, is_wanting, kept_shown, lookup_failed, no_memory, no_memory_at, no_memory_behind, no_memory_in, no_text, no_text_cut, no_text_failed, printed, refused, shows, store_failed, task_failed}
 use Rattle.pig_run.specs.Outputs.{Left}
 use Rattle.pig_run.specs.Reading.{Verdict}
 use Rattle.pig_run.specs.Running.{IsFresh, IsUsable, RunEnd, RunTold, counts_in, end_text, found_in, kept_in, left_in}
@@ -348,10 +349,22 @@ text_is : (command : Command) (progress : Progress) (result : Result (List ℕ) 
 text_is command progress (Ok text) end = end.text ∙ ap (demo_text end.shelf (counts_in progress)) end.answer
 text_is command progress (Err f) end = ap (λ said. fault_text said f) end.silent ∙ ap (demo_text end.shelf (counts_in progress)) end.answer
 
+all_shown : (hidden wanting : Bool) (kept : List Kept) → hidden ≡ false → (if hidden && wanting then [] else kept) ≡ kept
+all_shown false wanting kept e = refl
+all_shown true wanting kept e = absurd (true≢false e)
+
+-- no ASSERT failed
+never_unmet : (found : Option RunFault) → IsDemoAnswer found → is_unmet found ≡ false
+never_unmet None h = refl
+never_unmet (Some (fault.AssertFailed n)) h = absurd h
+never_unmet (Some f) h = refl
+
 pub demo_shown : (command : Command) (old new : Console) (outcome : Outcome) (progress : Progress) (result : Result (List ℕ) RunFault) → DemoEnd command progress result
-    → Shown (end_text progress.said.items result) old new (found_in result) outcome.fault → outcome.kept ≡ kept_in progress → outcome.waves ≡ progress.ends
+    → Shown (end_text progress.said.items result) old new (found_in result) outcome.fault → outcome.kept ≡ kept_shown (found_in result) outcome.fault (kept_in progress) → outcome.waves ≡ progress.ends
     → outcome.counts ≡ counts_shown outcome.fault (counts_in progress) → Demoed command old new outcome
-demo_shown command old new outcome progress result end shown kept waves counts =
+demo_shown command old new outcome progress result end shown stands waves counts =
+    let kept : outcome.kept ≡ kept_in progress = stands ∙ ap (λ found. kept_shown found outcome.fault (kept_in progress)) end.answer
+    ∙ all_shown (is_unmet (demo_answer end.ended)) (is_wanting outcome.fault) (kept_in progress) (never_unmet (demo_answer end.ended) (answer_is end.ended)) in
     let left_is : left_in end.outs progress (Some end.shelf) ≡ record { outs = end.outs; kept = outcome.kept; waves = outcome.waves; shelf = Some end.shelf } =
     λ i. record { outs = end.outs; kept = sym kept i; waves = sym waves i; shelf = Some end.shelf } in
     let found = subst (λ o. Shown (end_text progress.said.items result) old new o outcome.fault) end.answer shown in

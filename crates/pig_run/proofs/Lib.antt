@@ -6,6 +6,7 @@ mod Ending
 mod Given
 mod Laying
 mod LookUps
+mod OneDecision
 mod Ordering
 mod Preparing
 mod Readings

@@ -84,6 +84,11 @@ module _ (is_so : List ℕ → Bool) (refusal : List ℕ → Refusal) (m : Metho
     pub looks_broken : (f : RunFault) → IsLookFault f → StopsIn (Looks is_so refusal m paths next) old new f
     looks_broken f free = record { made = map (call m) (take (place + 1) paths); asked = asked_now; ends = inr (record { free = free; first = first_of_due }) }
 
+  -- where none is so, the next stage is due behind all of them
+  pub looks_behind : find is_so paths ≡ None → (asked : List DepotCall) (v : Verdict) → Looks is_so refusal m paths next asked v → (more : List DepotCall) × (asked ≡ map (call m) paths ++ more) × next more v
+  looks_behind none _ _ (stopped found) = not_none (sym none ∙ found)
+  looks_behind none _ v (passed {asked = more} is due) = (more, refl, due)
+
   -- none was so
   pub looks_end : (place : ℕ) (old now : Option (List DepotCall)) → LookedAt place old now → length paths ≤ place → Passes (Looks is_so refusal m paths next) next old now
   looks_end place old now so_far end =
@@ -91,9 +96,5 @@ module _ (is_so : List ℕ → Bool) (refusal : List ℕ → Refusal) (m : Metho
       record {
         made = map (call m) paths;
         asked = subst (λ xs. Asked (map (call m) xs) old now) (take_all place paths end) so_far.asked;
-        hands = record { on = λ asked v due. passed none due; back = λ asked v due. behind none asked v due };
+        hands = record { on = λ asked v due. passed none due; back = looks_behind none };
       }
-    where
-      behind : find is_so paths ≡ None → (asked : List DepotCall) (v : Verdict) → Looks is_so refusal m paths next asked v → (more : List DepotCall) × (asked ≡ map (call m) paths ++ more) × next more v
-      behind none _ _ (stopped found) = not_none (sym none ∙ found)
-      behind none _ v (passed {asked = more} is due) = (more, refl, due)

@@ -54,6 +54,18 @@ module _ (laws : PlanLaws) (given : List Named) (path : List ℕ) (s : Shelf) (n
   begins _ _ (script_refused h is) = ([], refl)
   begins _ v (script_found {asked = more} h is due) = (more, refl)
 
+  -- where the script is found to be a plan, the next stage is due behind it
+  module _ (script : List ℕ) (there : script_of path s ≡ Some script) (n : ℕ) (plan : List PlanNode) (is : IsFound given script (Typed n plan)) where
+    pub plan_behind : (all : List DepotCall) (v : Verdict) → ScriptDue given path s next all v → (more : List DepotCall) × (all ≡ (call method.Script path ∷ []) ++ more) × next n plan more v
+    plan_behind _ _ (script_missing h) = not_none (sym h ∙ there)
+    plan_behind _ _ (script_refused {script = t} {refusal = r} h js) =
+        absurd (let e = one_found laws given script (Typed n plan) (Faulty r) is (subst (λ x. IsFound given x (Faulty r)) (just (sym h ∙ there)) js) in cc)
+    plan_behind _ v (script_found {script = t} {n = m} {plan = q} {asked = more} h js due) =
+        let e = one_found laws given script (Typed m q) (Typed n plan) (subst (λ x. IsFound given x (Typed m q)) (just (sym h ∙ there)) js) is in
+        let same : q ≡ plan = cc in
+        let number : m ≡ n = cc in
+        (more, refl, subst (λ i. next i plan more v) number (subst (λ x. next m x more v) same due))
+
   module _ (old new : Option (List DepotCall)) (asked : Asked (call method.Script path ∷ []) old new) where
     pub script_broken : (f : RunFault) → IsLookFault f → StopsIn (ScriptDue given path s next) old new f
     script_broken f free = record { made = call method.Script path ∷ []; asked = asked; ends = inr (record { free = free; first = begins }) }
@@ -65,18 +77,8 @@ module _ (laws : PlanLaws) (given : List Named) (path : List ℕ) (s : Shelf) (n
     script_is script there n plan is = record {
       made = call method.Script path ∷ [];
       asked = asked;
-      hands = record { on = λ more v due. script_found there is due; back = λ all v due. behind all v due };
+      hands = record { on = λ more v due. script_found there is due; back = plan_behind script there n plan is };
     }
-      where
-        behind : (all : List DepotCall) (v : Verdict) → ScriptDue given path s next all v → (more : List DepotCall) × (all ≡ (call method.Script path ∷ []) ++ more) × next n plan more v
-        behind _ _ (script_missing h) = not_none (sym h ∙ there)
-        behind _ _ (script_refused {script = t} {refusal = r} h js) =
-            absurd (let e = one_found laws given script (Typed n plan) (Faulty r) is (subst (λ x. IsFound given x (Faulty r)) (just (sym h ∙ there)) js) in cc)
-        behind _ v (script_found {script = t} {n = m} {plan = q} {asked = more} h js due) =
-            let e = one_found laws given script (Typed m q) (Typed n plan) (subst (λ x. IsFound given x (Typed m q)) (just (sym h ∙ there)) js) is in
-            let same : q ≡ plan = cc in
-            let number : m ≡ n = cc in
-            (more, refl, subst (λ i. next i plan more v) number (subst (λ x. next m x more v) same due))
 
     -- how the reading of a script that is there ends
     pub script_step : (n : ℕ) → n ≡ 2 ^ 20 → (bytes : List ℕ) → IsRead n (script_of path s) bytes → (result : Result Checked RunFault) → TellsPlan (IsFound given bytes) result

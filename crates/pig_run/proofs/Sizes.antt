@@ -112,7 +112,7 @@ sizes_grow s old new path lengths there is h = subst (AllByRecursion (HasSize s)
 
 -- ---- the sizes of all inputs
 
-size_back : (command : Command) (plan : List PlanNode) (s : Shelf) → sum_by (size_of s) (live_paths plan) ≤ 2 ^ 26 → (asked : List DepotCall) (v : Verdict) → SizeDue command s plan asked v → OutputsDue command s plan asked v
+pub size_back : (command : Command) (plan : List PlanNode) (s : Shelf) → sum_by (size_of s) (live_paths plan) ≤ 2 ^ 26 → (asked : List DepotCall) (v : Verdict) → SizeDue command s plan asked v → OutputsDue command s plan asked v
 size_back command plan s less _ _ (too_big big) = absurd (omega (arith, less, big))
 size_back command plan s less asked v (small h due) = due
 

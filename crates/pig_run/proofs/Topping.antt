@@ -1,8 +1,9 @@
 -- From a run, and from what the console made of its text, to what the top call says.
-use Rattle.std.proofs.Common.{◌≡◌, ◌<◌, ◌≤◌, ◌+◌, ◌++◌, ℕ, zero, suc, List, [], ◌∷◌, take, Option, Some, None, Result, Ok, Err, MatchResult, IfErr, refl, sym, ◌∙◌, ap, subst, arith, inl, inr, ◌⊎◌}
+use Rattle.std.proofs.Common.{◌≡◌, ◌<◌, ◌≤◌, ◌+◌, ◌++◌, ◌&&◌, ℕ, Bool, if◌then◌else◌, zero, suc, List, [], ◌∷◌, take, Option, Some, None, Result, Ok, Err, MatchResult, IfErr, refl, sym, ◌∙◌, ap, subst, arith, inl, inr, ◌⊎◌}
 use Rattle.std.specs.List.{sum_by}
 use Rattle.std.proofs.lemmas.List.Sums.{sum_by-cons}
 use Rattle.pig_value.specs.declared.inputs.Input.{Input}
+use Rattle.pig_value.specs.declared.outcomes.Kept.{Kept}
 use Rattle.pig_outside.specs.Calls.{Attempt, DepotCall}
 use Rattle.pig_outside.specs.Shelf.{Shelf}
 use Rattle.pig_board.specs.End.{end_of}
@@ -14,7 +15,7 @@ use Rattle.pig_run.specs.declared.outcome.RunFault.TheVariants as fault
 use Rattle.pig_run.specs.declared.progress.Progress.{Progress}
 use Rattle.pig_run.specs.Blame.{BlamesTask, CommitsEach, HaveWorked, HostsHaveWorked}
 use Rattle.pig_run.specs.Due.{HasWords, IsDue, Line, Stage}
-use Rattle.pig_run.specs.Ends.{Console, Ends, Fails, Shown, assert_failed, counts_shown, cut_short, done, failed, lookup_failed, no_memory, no_memory_at, no_memory_behind, no_memory_in, no_text, no_text_cut, no_text_failed, printed, refused, shows, store_failed, task_failed, unshown}
+use Rattle.pig_run.specs.Ends.{Console, Ends, Fails, Shown, assert_failed, counts_shown, cut_short, done, failed, is_unmet, is_wanting, kept_shown, lookup_failed, no_memory, no_memory_at, no_memory_behind, no_memory_in, no_text, no_text_cut, no_text_failed, printed, refused, shows, store_failed, task_failed, unshown}
 use Rattle.pig_run.specs.Outputs.{IsLost, Left}
 use Rattle.pig_run.specs.Reading.{Run, Verdict}
 use Rattle.pig_run.specs.Refusals.{by_depot, cause_of}
@@ -107,21 +108,30 @@ text_is : (stage : Stage) (s : Shelf) (tells : Type 0) (old new : Seen) (progres
 text_is stage s tells old new progress (Ok text) r = r.text
 text_is stage s tells old new progress (Err f) r = ap (λ said. fault_text said f) r.said_is
 
+abbrev hide : List Kept → Bool → List Kept
+hide kept hidden = if hidden then [] else kept
+
+-- what was kept, as the steps of the call tell of it
+pub kept_answered : (found answer : Option RunFault) (ended hidden : Bool) (kept shown : List Kept) → ended ≡ is_unmet found → hidden ≡ (ended && is_wanting answer)
+    → shown ≡ (if hidden then [] else kept) → shown ≡ kept_shown found answer kept
+kept_answered found answer ended hidden kept shown is also stands = stands ∙ ap (hide kept) (also ∙ ap (λ b. b && is_wanting answer) is)
+
 pub told_all : (line : Line) (s : Shelf) (tells : Type 0) (old new : Seen) (outcome : Outcome) (progress : Progress) (result : Result (List ℕ) RunFault)
     → RunEnd (IsDue line s) s tells old.calls new.calls new.shelf progress result
-    → Shown (end_text progress.said.items result) old.console new.console (found_in result) outcome.fault → outcome.kept ≡ kept_in progress → outcome.waves ≡ progress.ends
+    → Shown (end_text progress.said.items result) old.console new.console (found_in result) outcome.fault → outcome.kept ≡ kept_shown (found_in result) outcome.fault (kept_in progress) → outcome.waves ≡ progress.ends
     → outcome.counts ≡ counts_shown outcome.fault (counts_in progress) → DepotCause old.depot_faults new.depot_faults result
     → old.host_faults + sum_by failures_in progress.ends ≤ new.host_faults → Told line s tells old new outcome
 told_all line s tells old new outcome progress result r shown kept waves counts depot rise =
     let cause = caused old new result depot in
-    let left_is : left_in r.outs progress new.shelf ≡ record { outs = r.outs; kept = outcome.kept; waves = outcome.waves; shelf = new.shelf } =
-    λ i. record { outs = r.outs; kept = sym kept i; waves = sym waves i; shelf = new.shelf } in
+    let left_is : left_in r.outs progress new.shelf ≡ record { outs = r.outs; kept = kept_in progress; waves = outcome.waves; shelf = new.shelf } =
+    λ i. record { outs = r.outs; kept = kept_in progress; waves = sym waves i; shelf = new.shelf } in
     record {
       verdict = r.verdict;
       calls = r.calls;
       due = r.due;
       found = found_in result;
       outs = r.outs;
+      kept = kept_in progress;
       counts = counts_in progress;
       state = subst (λ left. Ends tells s left r.verdict (found_in result)) left_is r.state;
       cause = cause;
@@ -129,6 +139,7 @@ told_all line s tells old new outcome progress result r shown kept waves counts 
       numbers = subst (λ left. CountsAre tells r.verdict s left (counts_in progress) (found_in result)) left_is r.numbers;
       text = subst (λ t. Shown t old.console new.console (found_in result) outcome.fault) (text_is (IsDue line s) s tells old new progress result r) shown;
       counted = counts;
+      stands = kept;
       complete = λ none. shown_right r.verdict (end_text progress.said.items result) (most_lost r.verdict) old new (found_in result) outcome.fault shown none
           (found_right tells s (left_in r.outs progress new.shelf) old new r.verdict (found_in result) r.state cause rise none);
     }

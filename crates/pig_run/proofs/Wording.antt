@@ -20,7 +20,7 @@ use Rattle.pig_run.proofs.Deciding.{same_command}
 use Rattle.pig_run.proofs.Stages.{passes_itself, refuses, wants}
 
 module _ (line : Line) (s : Shelf) (command : Command) (are : AreWords line command) where
-  script_behind : (asked : List DepotCall) (v : Verdict) → IsDue line s asked v → ScriptDue (given_by command) command.operand s (CommandDue command s) asked v
+  pub script_behind : (asked : List DepotCall) (v : Verdict) → IsDue line s asked v → ScriptDue (given_by command) command.operand s (CommandDue command s) asked v
   script_behind _ _ (no_words none) = absurd (none (command, are.is))
   script_behind asked v (with_words {command = c} words due) =
       subst (λ x. ScriptDue (given_by x) x.operand s (CommandDue x s) asked v) (same_command line c command words.is are.is) due
@@ -34,7 +34,7 @@ words_stop line s now f (inr h) = wants (IsDue line s) now now refl f h
 
 -- a command that runs its script
 module _ (command : Command) (s : Shelf) (n : ℕ) (plan : Plan) (is : command.verb ≡ verbs.Run) where
-  run_behind : (asked : List DepotCall) (v : Verdict) → CommandDue command s n plan asked v → InputsDue command s plan asked v
+  pub run_behind : (asked : List DepotCall) (v : Verdict) → CommandDue command s n plan asked v → InputsDue command s plan asked v
   run_behind asked v (run_due h due) = due
   run_behind _ _ (explain_due h reached) = absurd (let e = sym is ∙ h in cc)
   run_behind _ _ (explain_wants h) = absurd (let e = sym is ∙ h in cc)

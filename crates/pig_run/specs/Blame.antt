@@ -88,6 +88,14 @@ pub record HaveRested {H : Type 0} (old new : List H) (waves : List (List TaskEn
   pub none_failed : sum_by failures_in waves ≡ 0
   pub committed : CommitsEach answer waves
 
+-- the depot and the hosts that are handed in are as they were
+abbrev pub Untouched : {D H : Type 0} → Line → D → D → List H → List H → Type 0
+Untouched line old new hosts_old hosts_new = (command : Command) → IsDemo line command → (new ≡ old) × (hosts_new ≡ hosts_old)
+
+-- hosts have failed at least as often as the waves show
+abbrev pub ShowFailures : {H : Type 0} → (H → ℕ) → List (List TaskEnd) → List H → List H → Type 0
+ShowFailures faults waves old new = sum_by faults old + sum_by failures_in waves ≤ sum_by faults new
+
 -- Hosts work on a command that names a script; without a command none does, and no wave ends.
 pub record HostsHaveWorked {H : Type 0} (inputs : H → Option (List Input)) (faults : H → ℕ) (begun : H → Option (List Attempt)) (line : Line) (old new : List H)
     (waves : List (List TaskEnd)) (answer : Option RunFault) : Type 0 where

@@ -13,7 +13,7 @@ use Rattle.pig_run.specs.declared.outcome.Outcome.{Outcome}
 use Rattle.pig_run.specs.declared.outcome.RunFault.{RunFault}
 use Rattle.pig_run.specs.declared.outcome.RunFault.TheVariants as fault
 use Rattle.pig_run.specs.declared.outcome.TooLarge.TheVariants as large
-use Rattle.pig_run.specs.Due.{CommandDue, ScriptDue, Stage}
+use Rattle.pig_run.specs.Due.{CommandDue, IsDemo, Line, ScriptDue, Stage}
 use Rattle.pig_run.specs.Ends.{Console, Ends, Shown, counts_shown}
 use Rattle.pig_run.specs.Reading.{Verdict}
 use Rattle.pig_run.specs.Texts.{done_line, fault_text}
@@ -71,3 +71,7 @@ pub record Demoed (command : Command) (old new : Console) (outcome : Outcome) : 
   pub text : Shown (demo_text shelf counts (demo_answer ended)) old new (demo_answer ended) outcome.fault
   pub only : IsDemoAnswer outcome.fault
   pub counted : outcome.counts ≡ counts_shown outcome.fault counts
+
+-- so it is of each command of a demonstration that the words are
+abbrev pub DemoedOf : Line → Console → Console → Outcome → Type 0
+DemoedOf line old new outcome = (command : Command) → IsDemo line command → Demoed command old new outcome

@@ -1,6 +1,7 @@
 -- How a call may end where something is due: what is answered, and what then stands; and how the console changes the answer.
-use Rattle.std.specs.Prelude.{◌≡◌, ◌<◌, ◌++◌, ℕ, List, [], Option, Some, None}
+use Rattle.std.specs.Prelude.{◌≡◌, ◌<◌, ◌++◌, ℕ, Bool, true, false, ◌&&◌, List, [], Option, Some, None, if◌then◌else◌}
 use Rattle.std.specs.Option.{option_map}
+use Rattle.pig_value.specs.declared.outcomes.Kept.{Kept}
 use Rattle.pig_outside.specs.Shelf.{Shelf}
 use Rattle.pig_outside.specs.Text.{LeftPrefix}
 use Rattle.pig_run.specs.declared.outcome.Counts.{Counts}
@@ -40,6 +41,10 @@ pub record Console : Type 0 where
   pub text : Option (List ℕ)
   pub faults : ℕ
 
+-- what a console tells, by what is told of it
+abbrev pub console_seen : {C : Type 0} → (C → Option (List ℕ)) → (C → ℕ) → C → Console
+console_seen text faults console = record { text = text console; faults = faults console }
+
 -- the text has grown by these bytes
 abbrev pub Printed : List ℕ → Console → Console → Type 0
 Printed bytes old new = new.text ≡ option_map (λ text. text ++ bytes) old.text
@@ -71,3 +76,15 @@ abbrev pub counts_shown : Option RunFault → Counts → Counts
 counts_shown None counts = counts
 counts_shown (Some fault.ConsoleFault) counts = counts
 counts_shown (Some found) counts = no_counts
+
+abbrev pub is_unmet : Option RunFault → Bool
+is_unmet (Some (fault.AssertFailed n)) = true
+is_unmet found = false
+
+abbrev pub is_wanting : Option RunFault → Bool
+is_wanting (Some fault.OutOfMemory) = true
+is_wanting answer = false
+
+-- what was kept, as it is answered: nothing where memory was wanting for saying which ASSERT is not met
+abbrev pub kept_shown : Option RunFault → Option RunFault → List Kept → List Kept
+kept_shown found answer kept = if is_unmet found && is_wanting answer then [] else kept

@@ -3,6 +3,7 @@ use Rattle.std.specs.Prelude.{◌≡◌, ◌⊎◌, ◌<◌, ◌≤◌, ◌+◌,
 use Rattle.std.specs.List.{AllByRecursion, sum_by}
 use Rattle.std.specs.Option.{ForSome, option_map}
 use Rattle.pig_value.specs.declared.inputs.Input.{Input}
+use Rattle.pig_value.specs.declared.outcomes.Kept.{Kept}
 use Rattle.pig_outside.specs.Calls.{DepotCall}
 use Rattle.pig_outside.specs.Shelf.{Shelf}
 use Rattle.pig_plan.specs.Laws.{AreOfBytes}
@@ -12,8 +13,8 @@ use Rattle.pig_run.specs.declared.outcome.Counts.{Counts}
 use Rattle.pig_run.specs.declared.outcome.Outcome.{Outcome}
 use Rattle.pig_run.specs.declared.outcome.RunFault.{RunFault}
 use Rattle.pig_run.specs.declared.outcome.RunFault.TheVariants as fault
-use Rattle.pig_run.specs.Due.{IsDue, Line}
-use Rattle.pig_run.specs.Ends.{Console, Ends, Fails, Shown, counts_shown}
+use Rattle.pig_run.specs.Due.{IsDue, IsNoDemo, Line}
+use Rattle.pig_run.specs.Ends.{Console, Ends, Fails, Shown, console_seen, counts_shown, kept_shown}
 use Rattle.pig_commit.specs.declared.parts.StorePart.{StorePart}
 use Rattle.pig_run.specs.Outputs.{AreCounts, Left, no_counts}
 use Rattle.pig_run.specs.Reading.{Verdict, Prints, Refuses, Runs, Wants}
@@ -92,22 +93,28 @@ CountsAre tells (Prints text) shelf left counts found = found ≡ None → count
 CountsAre tells (Runs run) shelf left counts found = found ≡ None → AreCounts tells run shelf.inputs left.kept left.outs counts
 CountsAre tells Wants shelf left counts found = Unit {0}
 
--- Of these words and this shelf: what is due and what is asked for it; what was found, what was stored and counted; what stands; and what
--- was shown and answered of it.
+-- Of these words and this shelf: what is due and what is asked for it; what was found, what was stored, kept and counted; what stands; and
+-- what was shown and answered of it.
 pub record Told (line : Line) (shelf : Shelf) (tells : Type 0) (old new : Seen) (outcome : Outcome) : Type 0 where
   pub verdict : Verdict
   pub calls : List DepotCall
   pub due : IsDue line shelf calls verdict
   pub found : Option RunFault
   pub outs : List StorePart
+  pub kept : List Kept
   pub counts : Counts
-  pub state : Ends tells shelf (record { outs = outs; kept = outcome.kept; waves = outcome.waves; shelf = new.shelf }) verdict found
+  pub state : Ends tells shelf (record { outs = outs; kept = kept; waves = outcome.waves; shelf = new.shelf }) verdict found
   pub cause : IsCaused found old new
   pub asked : IsAsked calls found old.calls new.calls
-  pub numbers : CountsAre tells verdict shelf (record { outs = outs; kept = outcome.kept; waves = outcome.waves; shelf = new.shelf }) counts found
+  pub numbers : CountsAre tells verdict shelf (record { outs = outs; kept = kept; waves = outcome.waves; shelf = new.shelf }) counts found
   pub text : Shown (answer_text verdict outs counts found) old.console new.console found outcome.fault
   pub counted : outcome.counts ≡ counts_shown outcome.fault counts
+  pub stands : outcome.kept ≡ kept_shown found outcome.fault kept
   pub complete : Completes verdict old new outcome.fault
+
+-- so it is where the depot tells its shelf, and the words are none of a demonstration
+abbrev pub ToldOf : Line → Type 0 → Seen → Seen → Outcome → Type 0
+ToldOf line tells old new outcome = ForSome old.shelf (λ shelf. IsNoDemo line → Told line shelf tells old new outcome)
 
 -- a host that tells its inputs tells those of the depot's shelf
 abbrev pub TellsOf : Option Shelf → Option (List Input) → Type 0
@@ -124,7 +131,7 @@ seen shelf calls faults host_faults text console_faults depot hosts console = re
   calls = calls depot;
   depot_faults = faults depot;
   host_faults = sum_by host_faults hosts;
-  console = record { text = text console; faults = console_faults console };
+  console = console_seen text console_faults console;
 }
 
 -- the words of a program with these hosts

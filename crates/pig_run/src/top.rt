@@ -1,22 +1,17 @@
-ghost use Rattle.std.specs.Prelude.{◌≡◌, ◌≤◌, ◌<◌, ◌+◌, ◌⊎◌, [], ℕ, List, Option, Some, None, true, length, map, drop, All, codes, if◌then◌else◌};
-ghost use Rattle.std.specs.Option.{ForSome};
-ghost use Rattle.std.specs.List.{sum_by};
+ghost use Rattle.std.specs.Prelude.{◌≡◌, ◌≤◌, ◌&&◌, [], List, Some, None, length, map, All, if◌then◌else◌};
 ghost use Rattle.pig_outside.specs.Calls.{DepotCall};
 ghost use Rattle.pig_outside.specs.Shelf.{Shelf};
-ghost use Rattle.pig_pool.specs.Wave.{failures_in};
-ghost use Rattle.pig_words.specs.declared.words.Command.{Command};
-ghost use Rattle.pig_run.specs.Decided.{Agrees};
-ghost use Rattle.pig_run.specs.Demonstration.{Demoed};
-ghost use Rattle.pig_run.specs.Due.{HasWords, IsDemo, IsDue, IsNoDemo, Line};
-ghost use Rattle.pig_run.specs.Ends.{Shown, counts_shown, unshown};
+ghost use Rattle.pig_run.specs.Decided.{IsDecided};
+ghost use Rattle.pig_run.specs.Demonstration.{DemoedOf};
+ghost use Rattle.pig_run.specs.Due.{IsDue, IsNoDemo, Line};
+ghost use Rattle.pig_run.specs.Ends.{Shown, console_seen, counts_shown, is_unmet, is_wanting, unshown};
 ghost use Rattle.pig_run.specs.Reading.{Verdict};
 ghost use Rattle.pig_run.specs.Refusals.{status_of};
-ghost use Rattle.pig_run.specs.Running.{end_text, found_in, kept_in};
+ghost use Rattle.pig_run.specs.Running.{end_text, found_in};
 ghost use Rattle.pig_run.specs.Texts.{fault_text};
-ghost use Rattle.pig_run.specs.Blame.{BlamesConsole, BlamesDepot, BlamesLookUp, BlamesStore, CommitsEach, ConsoleIsTold, HostsHaveWorked, OffIsUsage, UsageIsOff};
+ghost use Rattle.pig_run.specs.Blame.{BlamesConsole, BlamesDepot, BlamesLookUp, BlamesStore, CommitsEach, ConsoleIsTold, HostsHaveWorked, OffIsUsage, ShowFailures, Untouched, UsageIsOff};
 ghost use Rattle.pig_run.specs.Orderly.{IsOrderly};
-ghost use Rattle.pig_run.specs.Told.{AllTell, TellsOf, Told, line_of, seen};
-ghost use Rattle.pig_run.specs.declared.outcome.RunFault.TheVariants as fault;
+ghost use Rattle.pig_run.specs.Told.{AllTell, TellsOf, ToldOf, line_of, seen};
 
 use crate::commands::run;
 use crate::line::CommandLine;
@@ -114,10 +109,40 @@ fn counts_shown(fault: &Option<RunFault>, counts: Counts) -> Counts
     }
 }
 
-/// What the bare LIMITs kept, where it stands.
-fn kept_shown(alloc: Global, stands: bool, kept: KeptList) -> KeptList
-    ensures { result ≡ if stands then kept else [] }
+/// Whether a run ended with an ASSERT that is not met.
+fn is_unmet(end: &Result<Blob, RunFault>) -> bool
+    ensures { result ≡ is_unmet (found_in end.now) }
 {
+    match end {
+        Err(RunFault::AssertFailed { .. }) => true,
+        _ => false,
+    }
+}
+
+/// Whether memory was wanting.
+fn is_wanting(fault: &Option<RunFault>) -> bool
+    ensures { result ≡ is_wanting fault.now }
+{
+    match fault {
+        Some(RunFault::OutOfMemory) => true,
+        _ => false,
+    }
+}
+
+/// Whether memory was wanting for saying which ASSERT is not met.
+fn is_hidden(unmet: bool, fault: &Option<RunFault>) -> bool
+    ensures { result ≡ (unmet && is_wanting fault.now) }
+{
+    unmet && is_wanting(fault)
+}
+
+/// What the bare LIMITs kept, where it stands and is not hidden.
+fn kept_shown(alloc: Global, hidden: bool, stands: bool, kept: KeptList) -> KeptList
+    ensures { result ≡ if hidden then [] else (if stands then kept else []) }
+{
+    if hidden {
+        return KeptList::new(alloc);
+    }
     if stands {
         return kept;
     }
@@ -140,41 +165,36 @@ pub fn pig_main<R: Threads + Sync, D: Depot, H: Host + Send, C: Console>(
     requires some_hosts { 1 ≤ length hosts.old.items }
     requires few_hosts { length hosts.old.items ≤ 256 }
     requires hosts_tell { All (λ h. TellsOf (D.shelf depot.old) (H.inputs h)) hosts.old.items }
-    // The answer, and what then stands.
-    ensures told { ForSome (D.shelf depot.old) (λ s. IsNoDemo (line_of hosts.old.items words.now)
-        → Told (line_of hosts.old.items words.now) s
+    // The answer, by the words and what the depot tells, and what then stands.
+    ensures told { ToldOf (line_of hosts.old.items words.now)
         (AllTell H.inputs (line_of hosts.old.items words.now) hosts.old.items)
         (seen D.shelf D.calls D.faults H.faults C.text C.faults depot.old hosts.old.items
         console.old)
         (seen D.shelf D.calls D.faults H.faults C.text C.faults depot.new hosts.new.items
-        console.new) result) }
-    // The answer to a `demo`, which touches nothing but the console.
-    ensures demo { (command : Command) → IsDemo (line_of hosts.old.items words.now) command
-        → Demoed command (record { text = C.text console.old; faults = C.faults console.old })
-        (record { text = C.text console.new; faults = C.faults console.new }) result }
-    ensures untouched { (command : Command) → IsDemo (line_of hosts.old.items words.now) command
-        → (depot.new ≡ depot.old) × (hosts.new.items ≡ hosts.old.items) }
-    // The words.
+        console.new) result }
+    ensures demo { DemoedOf (line_of hosts.old.items words.now)
+        (console_seen C.text C.faults console.old) (console_seen C.text C.faults console.new)
+        result }
     ensures usage { UsageIsOff (line_of hosts.old.items words.now) result.fault }
     ensures off_words { OffIsUsage (line_of hosts.old.items words.now) result.fault }
     ensures status { result.status ≡ status_of result.fault }
-    // What was asked, whatever the depot tells of its shelf.
+    // The shelf, whether or not the depot tells it: what was asked, and when it is blamed.
     ensures orderly { IsOrderly result.fault (D.calls depot.old) (D.calls depot.new) }
-    // The hosts and the waves, whatever they tell of their inputs.
-    ensures worked { HostsHaveWorked H.inputs H.faults H.begun
-        (line_of hosts.old.items words.now) hosts.old.items hosts.new.items
-        result.waves result.fault }
-    ensures committed { CommitsEach result.fault result.waves }
-    ensures failures { sum_by H.faults hosts.old.items + sum_by failures_in result.waves
-        ≤ sum_by H.faults hosts.new.items }
-    ensures hosts { map H.inputs hosts.new.items ≡ map H.inputs hosts.old.items }
-    // The depot.
     ensures depot_fault { BlamesDepot result.fault (D.faults depot.old) (D.faults depot.new) }
     ensures store_fault { BlamesStore result.fault (D.store_faults depot.old)
         (D.store_faults depot.new) }
     ensures lookup_fault { BlamesLookUp result.fault (D.store_faults depot.old)
         (D.store_faults depot.new) }
     ensures depot_stands { D.faults depot.old ≤ D.faults depot.new }
+    // The devices that work, and the waves, whatever they tell of their inputs.
+    ensures worked { HostsHaveWorked H.inputs H.faults H.begun
+        (line_of hosts.old.items words.now) hosts.old.items hosts.new.items
+        result.waves result.fault }
+    ensures committed { CommitsEach result.fault result.waves }
+    ensures failures { ShowFailures H.faults result.waves hosts.old.items hosts.new.items }
+    ensures hosts { map H.inputs hosts.new.items ≡ map H.inputs hosts.old.items }
+    ensures untouched { Untouched (line_of hosts.old.items words.now) depot.old depot.new
+        hosts.old.items hosts.new.items }
     // The console.
     ensures console_stands { C.faults console.old ≤ C.faults console.new }
     ensures console_fault { BlamesConsole result.fault (C.faults console.old)
@@ -188,8 +208,10 @@ pub fn pig_main<R: Threads + Sync, D: Depot, H: Host + Send, C: Console>(
     };
     let mut progress = Progress::new(alloc);
     let end = run(rt, alloc, &line, depot, hosts.as_mut_slice(), &mut progress);
+    let unmet = is_unmet(&end);
     let fault = show_end(alloc, console, end, progress.said.as_slice());
     let counts = counts_shown(&fault, counts_of(&progress));
+    let hidden = is_hidden(unmet, &fault);
     let Progress {
         kept,
         stands,
@@ -199,20 +221,21 @@ pub fn pig_main<R: Threads + Sync, D: Depot, H: Host + Send, C: Console>(
     Outcome {
         status: status(&fault),
         fault,
-        kept: kept_shown(alloc, stands, kept),
+        kept: kept_shown(alloc, hidden, stands, kept),
         waves: ends,
         counts,
     }
 }
 
-/// Something is due of words that are no demonstration's, a number of hosts and a shelf, and two of them agree: a refusal, which names its
-/// statement where one has no typing, or the run of a plan; and up to the commits the depot is asked one list of calls. Only the
-/// number of tasks rests on the plan that the checked one is rewritten to.
+/// Something is due of words that are no demonstration's, a number of hosts and a shelf, and they decide one thing: a refusal, which names
+/// its statement where one has no typing, or what the command does with a plan. A `check` has one text then. The verdict of a `run` and
+/// of an `explain` is one for each plan that the checked one is rewritten to, unless memory is wanting for such a plan. Up to the commits
+/// the depot is asked one list of calls, and none of them makes anything.
 pub fn one_verdict()
     ensures some { (line : Line) (shelf : Shelf) → IsNoDemo line
         → (calls : List DepotCall) × (verdict : Verdict) × IsDue line shelf calls verdict }
-    ensures one { (line : Line) (shelf : Shelf) (calls others : List DepotCall) (v w : Verdict)
-        → IsDue line shelf calls v → IsDue line shelf others w → Agrees calls others v w }
+    ensures one { (line : Line) (shelf : Shelf) → IsNoDemo line
+        → IsDecided line shelf (IsDue line shelf) }
 {
     a_script_has_one_plan();
 }

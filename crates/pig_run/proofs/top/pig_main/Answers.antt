@@ -1,15 +1,15 @@
-use Rattle.std.proofs.Common.{rules, ◌≡◌, ◌≤◌, ◌+◌, MatchResult, length, map, ap, subst, sym, refl, ◌∙◌}
+use Rattle.std.proofs.Common.{rules, ◌≡◌, ◌≤◌, ◌+◌, ◌&&◌, [], if◌then◌else◌, MatchResult, length, map, ap, subst, sym, refl, ◌∙◌}
 use Rattle.std.specs.List.{AllByRecursion, sum_by}
 use Rattle.pig_pool.specs.Wave.{failures_in}
 use Rattle.pig_run.specs.declared.outcome.Outcome.{Outcome}
 use Rattle.pig_run.specs.Blame.{HostsHaveWorked}
 use Rattle.pig_run.specs.Due.{HasWords, IsDemo, IsDue, IsNoDemo}
-use Rattle.pig_run.specs.Ends.{Console, Shown, counts_shown}
+use Rattle.pig_run.specs.Ends.{Console, Shown, counts_shown, is_unmet, is_wanting, kept_shown}
 use Rattle.pig_run.specs.Running.{RunEnd, counts_in, end_text, found_in, kept_in}
 use Rattle.pig_run.specs.Steps.{SaysWords}
 use Rattle.pig_run.specs.Told.{AllTell, Seen, TellsOf, Told, line_of, seen}
 use Rattle.pig_run.proofs.Crews.{all_committed, all_failures, own_hosts, tell_each}
-use Rattle.pig_run.proofs.Topping.{answers_none, committed, console_blamed, depot_blamed, hosts_shown, lookup_blamed, off_words, run_told, store_blamed, told_all, usage_blamed}
+use Rattle.pig_run.proofs.Topping.{answers_none, committed, console_blamed, depot_blamed, hosts_shown, kept_answered, lookup_blamed, off_words, run_told, store_blamed, told_all, usage_blamed}
 use Rattle.pig_run.proofs.DemoSteps.{demo_shown}
 use Rattle.pig_run.proofs.Ordering.{orderly_shown}
 use Rattle.pig_run.proofs.top.pig_main.Goals as goal
@@ -112,7 +112,11 @@ returns-clause-told g c s told other =
     let old : Seen = seen g.D.Depot.shelf g.D.Depot.calls g.D.Depot.faults g.H.Host.faults g.C.Console.text g.C.Console.faults c.args.depot.now c.args.hosts.now.items c.args.console.now in
     let new : Seen = seen g.D.Depot.shelf g.D.Depot.calls g.D.Depot.faults g.H.Host.faults g.C.Console.text g.C.Console.faults c.run-end.new.depot c.run-end.new.hosts c.show_end-fault.new.console in
     let outcome : Outcome = record { status = c.status.result; fault = c.show_end-fault.result; kept = c.kept_shown.result; waves = c.run-end.new.progress.ends; counts = c.counts_shown-counts.result } in
-    let kept : c.kept_shown.result ≡ kept_in c.run-end.new.progress = search rules in
+    let ended : c.is_unmet-unmet.result ≡ is_unmet (found_in c.run-end.result) = search rules in
+    let hidden : c.is_hidden-hidden.result ≡ (c.is_unmet-unmet.result && is_wanting c.show_end-fault.result) = search rules in
+    let stands : c.kept_shown.result ≡ (if c.is_hidden-hidden.result then [] else kept_in c.run-end.new.progress) = search rules in
+    let kept : c.kept_shown.result ≡ kept_shown (found_in c.run-end.result) c.show_end-fault.result (kept_in c.run-end.new.progress) =
+    kept_answered _ _ c.is_unmet-unmet.result c.is_hidden-hidden.result _ _ ended hidden stands in
     let said : c.as_slice.result.now ≡ c.run-end.new.progress.said.items = search rules in
     let counts : c.counts_shown-counts.result ≡ counts_shown c.show_end-fault.result (counts_in c.run-end.new.progress) = search rules in
     subst (λ hosts. Told line s (AllTell g.H.Host.inputs line c.args.hosts.now.items) old
@@ -130,7 +134,11 @@ returns-clause-demo g c command demo =
     let old : Console = record { text = g.C.Console.text c.args.console.now; faults = g.C.Console.faults c.args.console.now } in
     let new : Console = record { text = g.C.Console.text c.show_end-fault.new.console; faults = g.C.Console.faults c.show_end-fault.new.console } in
     let outcome : Outcome = record { status = c.status.result; fault = c.show_end-fault.result; kept = c.kept_shown.result; waves = c.run-end.new.progress.ends; counts = c.counts_shown-counts.result } in
-    let kept : c.kept_shown.result ≡ kept_in c.run-end.new.progress = search rules in
+    let ended : c.is_unmet-unmet.result ≡ is_unmet (found_in c.run-end.result) = search rules in
+    let hidden : c.is_hidden-hidden.result ≡ (c.is_unmet-unmet.result && is_wanting c.show_end-fault.result) = search rules in
+    let stands : c.kept_shown.result ≡ (if c.is_hidden-hidden.result then [] else kept_in c.run-end.new.progress) = search rules in
+    let kept : c.kept_shown.result ≡ kept_shown (found_in c.run-end.result) c.show_end-fault.result (kept_in c.run-end.new.progress) =
+    kept_answered _ _ c.is_unmet-unmet.result c.is_hidden-hidden.result _ _ ended hidden stands in
     let said : c.as_slice.result.now ≡ c.run-end.new.progress.said.items = search rules in
     let counts : c.counts_shown-counts.result ≡ counts_shown c.show_end-fault.result (counts_in c.run-end.new.progress) = search rules in
     demo_shown command old new outcome c.run-end.new.progress c.run-end.result (c.run-end.ensures.demo command given)
