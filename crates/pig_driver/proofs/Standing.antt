@@ -386,7 +386,6 @@ module _ (s : Stages) (valid : IsPlan s.plan) (staged : HaveStages s.plan) where
         each = λ at within. standing.each t.wave at less within;
         sliced = λ o keys op by. standing.sliced t.wave t.node o keys less is.1 op by;
       }
-
   task_named outs w (t_rank t) standing is =
       let less : t.wave < w = omega (arith, is) in
       record { count = standing.counts t.wave less; each = λ at within. standing.each t.wave at less within }

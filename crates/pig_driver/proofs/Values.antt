@@ -96,7 +96,6 @@ module _ (s : Stages) (valid : IsPlan s.plan) (staged : HaveStages s.plan) (outs
         lines = is.lines;
         unmet = is.unmet;
       }
-
   value_still inputs points w (t_rank t) out stands short h = λ o at.
       let is = h o at in
       let same : outs_at outs t.wave ≡ outs_at longer t.wave = sym (front_at [] outs new t.wave (omega (arith, stands, short))) in

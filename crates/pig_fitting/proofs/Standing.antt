@@ -339,9 +339,9 @@ module _ (s : Stages) (t : ReduceTask) where
         among = subst (λ q. Among kind (waves_of q)) same (subst (λ x. Among x (waves_of own.op)) e among);
         behind = behind.0 ∙ ap (λ n. n + 1) (sym on.1);
         reads =
-          ap (tasks_in s) on.1 ∙ ap (λ found. option_map_or (tasks_of s (w - 1)) found []) behind.1
-          ∙ ap (λ found. option_map_or (tasks_by s (w - 1) before head.node) found []) found
-          ∙ (λ i. tasks_by s (sym on.1 i) before (sym on.0 i) p);
+            ap (tasks_in s) on.1 ∙ ap (λ found. option_map_or (tasks_of s (w - 1)) found []) behind.1
+            ∙ ap (λ found. option_map_or (tasks_by s (w - 1) before head.node) found []) found
+            ∙ (λ i. tasks_by s (sym on.1 i) before (sym on.0 i) p);
       }
 
   by_reduce : (head : WaveHead) → HeadOf s.plan head → (w : ℕ) → slice_get (heads s.plan) w ≡ Some head → (p : PlanOp) → op_at s.plan head.node ≡ Some p

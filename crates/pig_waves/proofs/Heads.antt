@@ -94,6 +94,6 @@ module _ (s : Stages) (k : ℕ) (o : PlanOp) (at : op_at s.plan k ≡ Some o) (a
     maps = (let e : first ≡ first + 0 = omega arith in ap (tasks_in s) e) ∙ tasks_at 0 kinds.Map refl;
     reduces = tasks_at 1 kinds.Reduce refl ∙ (let e : first + 1 - 1 ≡ first = omega arith in ap (λ w. map t_reduce (partition_tasks s w k o)) e);
     ranks = λ is.
-      tasks_at 2 kinds.Rank (ap (λ b. slice_get (map (head_of s.plan k) (kinds.Map ∷ kinds.Reduce ∷ (if b then kinds.Rank ∷ [] else []))) 2) is)
-      ∙ (let e : first + 2 - 1 ≡ first + 1 = omega arith in ap (λ w. map t_rank (partition_tasks s w k o)) e);
+        tasks_at 2 kinds.Rank (ap (λ b. slice_get (map (head_of s.plan k) (kinds.Map ∷ kinds.Reduce ∷ (if b then kinds.Rank ∷ [] else []))) 2) is)
+        ∙ (let e : first + 2 - 1 ≡ first + 1 = omega arith in ap (λ w. map t_rank (partition_tasks s w k o)) e);
   }
