@@ -66,6 +66,14 @@ fn order<R: Abort>(rt: &R, alloc: Global, input: u32) -> NodeOp {
     NodeOp::Order { input, keys }
 }
 
+fn rank<R: Abort>(rt: &R, alloc: Global, input: u32) -> NodeOp {
+    let mut keys = SortKeys::new(alloc);
+    let (position, dir) = (0, Dir::Desc);
+    keys.push(SortKey { position, dir }).expect(rt, "memory");
+    let dense = false;
+    NodeOp::Rank { input, keys, dense }
+}
+
 /// The node of a letter and of the digits of its inputs.
 fn op<R: Abort>(rt: &R, alloc: Global, letter: u8, input: u32, other: u32) -> NodeOp {
     match letter {
@@ -74,6 +82,7 @@ fn op<R: Abort>(rt: &R, alloc: Global, letter: u8, input: u32, other: u32) -> No
         b'u' => union(rt, alloc, input, other),
         b'c' => cogroup(rt, alloc, input, other),
         b'o' => order(rt, alloc, input),
+        b'r' => rank(rt, alloc, input),
         b'd' => NodeOp::Distinct { input },
         b'g' => NodeOp::GroupAll { input },
         b'l' => NodeOp::Limit { input, count: 1 },
@@ -165,7 +174,7 @@ fn add_part<R: Abort>(rt: &R, alloc: Global, told: &mut String, part: Part) {
 }
 
 /// A wave: the letter of its kind, and its tasks; one that reads a part has its node, its way and its part, one that brings
-/// a partition together its node, the wave that it reads and its part.
+/// a partition together its node, the wave that it reads and its part, and so has one that ranks a partition.
 fn add_wave<R: Abort>(rt: &R, alloc: Global, told: &mut String, stages: &Stages, wave: u32) {
     if wave >= stages.waves() {
         return;
@@ -183,6 +192,11 @@ fn add_wave<R: Abort>(rt: &R, alloc: Global, told: &mut String, stages: &Stages,
             Task::Reduce(task) => {
                 let (node, from, part) = (task.node, task.wave, task.part);
                 let word = format!(in alloc; " {node}<{from}#{part}").expect(rt, "memory");
+                add(rt, told, word.as_str());
+            }
+            Task::Rank(task) => {
+                let (node, from, part) = (task.node, task.wave, task.part);
+                let word = format!(in alloc; " {node}^{from}#{part}").expect(rt, "memory");
                 add(rt, told, word.as_str());
             }
         }
@@ -210,7 +224,8 @@ fn cut<R: Abort>(rt: &R, alloc: Global, words: &str, sizes: &Sizes, split: u64) 
 
 // The size of a split, the lengths of the pieces of `in` and of `b`, the words of a plan, and its waves with two reducers:
 // no STORE; no piece, an empty piece, splits of one byte, one as large as all and one that is larger; two STOREs; a node
-// that no STORE reaches; UNION A, A; a diamond into a LIMIT; a COGROUP; DISTINCT, ORDER and LIMIT in turn.
+// that no STORE reaches; UNION A, A; a diamond into a LIMIT; a COGROUP; DISTINCT, ORDER and LIMIT in turn; a RANK of no
+// piece and of one; DISTINCT, RANK and LIMIT in turn.
 const WAVES: &str = "2 5 0 a0 d0:
 2 - 0 a0 s0:s;
 2 0 0 a0 s0:s 1=0/0>1:0.0-0;
@@ -223,6 +238,9 @@ const WAVES: &str = "2 5 0 a0 d0:
 9 1 0 a0 f0 f0 u12 l3 s4:m 4=0/0>1>3:0.0-1 4=0/0>2>3:0.0-1;r 4<0#0;s 5=0/4>5:1@0;
 9 1 2 a0 b0 c01 s2:m 2=0/0:0.0-1 2=1/1:0.0-2;r 2<0#0 2<0#1;s 3=0/2>3:1@0 3=0/2>3:1@1;
 9 1 0 a0 d0 o1 l2 s3:m 1=0/0:0.0-1;r 1<0#0 1<0#1;m 2=0/1:1@0 2=0/1:1@1;r 2<2#0 2<2#1;m 3=0/2:3@0 3=0/2:3@1;r 3<4#0;s 4=0/3>4:5@0;
+9 - 0 a0 r0 s1:m;r 1<0#0 1<0#1;k 1^1#0 1^1#1;s 2=0/1>2:2@0 2=0/1>2:2@1;
+9 1 0 a0 r0 s1:m 1=0/0:0.0-1;r 1<0#0 1<0#1;k 1^1#0 1^1#1;s 2=0/1>2:2@0 2=0/1>2:2@1;
+9 1 0 a0 d0 r1 l2 s3:m 1=0/0:0.0-1;r 1<0#0 1<0#1;m 2=0/1:1@0 2=0/1:1@1;r 2<2#0 2<2#1;k 2^3#0 2^3#1;m 3=0/2:4@0 3=0/2:4@1;r 3<5#0;s 4=0/3>4:6@0;
 ";
 
 fn cut_line<R: Abort>(rt: &R, alloc: Global, line: &str) -> String {

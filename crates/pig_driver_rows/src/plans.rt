@@ -202,16 +202,27 @@ fn by_key<R: Abort>(rt: &R, alloc: Global, letter: u8, numbers: &[u32]) -> NodeO
     }
 }
 
-/// ORDER, which with `o` goes down by its first field.
-fn order<R: Abort>(rt: &R, alloc: Global, letter: u8, input: u32, numbers: &[u32]) -> NodeOp {
+/// ORDER `O`, RANK `R` and RANK DENSE `P`, which with `o`, `e` and `p` go down by their first field.
+fn sorting<R: Abort>(rt: &R, alloc: Global, letter: u8, input: u32, numbers: &[u32]) -> NodeOp {
+    let keys = sort_keys(rt, alloc, letter, numbers);
+    if matches!(letter, b'o' | b'O') {
+        return NodeOp::Order { input, keys };
+    }
+    let dense = matches!(letter, b'p' | b'P');
+    NodeOp::Rank { input, keys, dense }
+}
+
+/// The fields behind an input, as keys.
+fn sort_keys<R: Abort>(rt: &R, alloc: Global, letter: u8, numbers: &[u32]) -> SortKeys {
     let mut keys = SortKeys::new(alloc);
-    let mut dir = if letter == b'o' { Dir::Desc } else { Dir::Asc };
+    let is_down = matches!(letter, b'o' | b'e' | b'p');
+    let mut dir = if is_down { Dir::Desc } else { Dir::Asc };
     for number in numbers.iter().skip(1) {
         let position = *number;
         push(rt, &mut keys, SortKey { position, dir });
         dir = Dir::Asc;
     }
-    NodeOp::Order { input, keys }
+    keys
 }
 
 /// FILTER by a first field above 1 `f` or by one that is null, and ASSERT `x` by one above 1.
@@ -242,7 +253,9 @@ fn operator<R: Abort>(rt: &R, alloc: Global, letter: u8, inputs: Numbers) -> Nod
         b'g' | b'k' | b'G' | b'j' | b'l' | b'r' | b'J' => {
             by_key(rt, alloc, letter, inputs.as_slice())
         }
-        b'o' | b'O' => order(rt, alloc, letter, input, inputs.as_slice()),
+        b'o' | b'O' | b'e' | b'R' | b'p' | b'P' => {
+            sorting(rt, alloc, letter, input, inputs.as_slice())
+        }
         b'u' => NodeOp::Union { inputs },
         b'd' => NodeOp::Distinct { input },
         b'a' => NodeOp::GroupAll { input },

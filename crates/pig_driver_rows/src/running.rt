@@ -115,6 +115,7 @@ fn is_for(task: &Task, store: u32) -> bool {
     match task {
         Task::Map(task) => task.node == store,
         Task::Reduce(_) => false,
+        Task::Rank(_) => false,
     }
 }
 

@@ -166,6 +166,7 @@ fn attempt(
     let task = match stages.task_at(0, at) {
         Task::Map(task) => task,
         Task::Reduce(_) => return None,
+        Task::Rank(_) => return None,
     };
     let Part::Split(_) = task.part else {
         return None;

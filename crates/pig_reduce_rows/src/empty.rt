@@ -95,6 +95,7 @@ fn is_reduced<R: Abort>(rt: &R, alloc: Global, stages: &Stages, wave: u32, at: u
     match stages.task_at(wave, at) {
         Task::Map(_) => false,
         Task::Reduce(task) => gives_none(rt, alloc, stages, wave, task),
+        Task::Rank(_) => false,
     }
 }
 
