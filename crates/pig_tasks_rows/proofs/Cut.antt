@@ -113,7 +113,7 @@ module _ (s : Stages) (w : ℕ) (sorting : IsSorting s w) where
     runs = slices_of run points s.sizing.reducers;
     is = is.form;
     count = subst (λ found. IsRunCount s.sizing.reducers found _) (sym sorting.order.sorts)
-        (inr (length-map (range_with_len 0 s.sizing.reducers) (λ p. record { dirs = run.dirs; entries = slice_of run.dirs points p run.entries }) ∙ length-range_with_len 0 s.sizing.reducers));
+        (inr (length-map {B = InDirections} (range_with_len 0 s.sizing.reducers) (λ p. record { dirs = run.dirs; entries = slice_of run.dirs points p run.entries }) ∙ length-range_with_len 0 s.sizing.reducers));
     each = slices_fit run points s.sizing.reducers (run_fits old.form run is.was h);
   }
 
