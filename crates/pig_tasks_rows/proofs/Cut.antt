@@ -1,20 +1,21 @@
--- The outputs of an ORDER's map tasks have one run each, in its directions; with slices in the place of these they still fit.
-use Rattle.std.specs.Prelude.{◌≡◌, ℕ, List, [], ◌∷◌, None, Some, slice_get, zero, suc, refl}
+-- The outputs of the map tasks of a node that sorts have one run each, in its directions; with slices in the place of these they still fit.
+use Rattle.std.specs.Prelude.{◌≡◌, ℕ, List, [], ◌∷◌, Option, None, Some, slice_get, zero, suc, refl}
 use Rattle.std.proofs.Common.{ap, sym, ◌∙◌, inr, subst}
 use Rattle.std.specs.List.{AllByRecursion, range_with_len}
 use Rattle.std.proofs.lemmas.List.{length-map}
 use Rattle.std.proofs.lemmas.List.FromFn.{length-range_with_len}
 use Rattle.pig_value.proofs.list_laws.Listing.{each-filter, each-map, each_of_all, each_weaker, some_same}
 use Rattle.pig_value.specs.declared.operators.Dir.{Dir}
-use Rattle.pig_plan.specs.Entries.{dirs_of}
+use Rattle.pig_plan.specs.Entries.{sort_keys}
 use Rattle.pig_plan.specs.Nodes.{op_at}
-use Rattle.pig_plan.specs.Plans.{PlanOp, p_order}
+use Rattle.pig_plan.specs.Plans.{PlanOp, p_load, p_filter, p_foreach, p_group_all, p_group, p_join, p_union, p_distinct, p_order, p_limit, p_store, p_assert, p_rank}
+use Rattle.pig_typed.specs.declared.blocks.SortKey.{SortKey}
 use Rattle.pig_runs.specs.Cutting.{Point, in_slice, slice_of}
 use Rattle.pig_runs.specs.Entries.{InDirections}
-use Rattle.pig_physical.specs.Fitting.{EntryFits, Fits, HasRuns, MapFits, RunFits}
+use Rattle.pig_physical.specs.Fitting.{EntryFits, Fits, HasRuns, IsRunCount, MapFits, RunFits, run_dirs}
 use Rattle.pig_physical.specs.Outs.{Form, TaskOut, o_runs, runs_in}
 use Rattle.pig_physical.specs.Sliced.{slices_of}
-use Rattle.pig_physical.specs.Stages.{Stages, Task, t_map, t_reduce}
+use Rattle.pig_physical.specs.Stages.{Stages, Task, t_map, t_rank, t_reduce}
 use Rattle.pig_driver.specs.Slicing.{AreDirected, AreSliced, EachSliced, IsSlicedAs}
 use Rattle.pig_tasks_rows.specs.Fits.{FitsAt, GoesTo, IsSorting, WaveFits}
 
@@ -42,19 +43,46 @@ cut_at n points (r ∷ runs) (x ∷ xs) (y ∷ ys) h (suc at) new by =
     let found = cut_at n points runs xs ys h.1 at new by in
     record { old = found.old; stands = found.stands; run = found.run; is = found.is }
 
+-- what is handed to a node that sorts are runs
+record Handed (s : Stages) (k : ℕ) (o : PlanOp) (form : Form) : Type 0 where
+  pub runs_of : MapFits s k o form → HasRuns s k o form
+  pub fits_as : HasRuns s k o form → MapFits s k o form
+
+no_keys : (keys : List SortKey) → None ≡ Some keys → ⊥
+no_keys keys e = absurd (let none : ◌≡◌ {A = Option (List SortKey)} None (Some keys) = e in cc)
+
+handed : (s : Stages) (k : ℕ) (o : PlanOp) (keys : List SortKey) → sort_keys o ≡ Some keys → (form : Form) → Handed s k o form
+handed s k (p_order input by) keys is form = record { runs_of = λ h. h; fits_as = λ h. h }
+handed s k (p_rank input by dense) keys is form = record { runs_of = λ h. h; fits_as = λ h. h }
+handed s k (p_load path delim columns) keys is form = absurd (no_keys keys is)
+handed s k (p_filter input cond) keys is form = absurd (no_keys keys is)
+handed s k (p_foreach input block) keys is form = absurd (no_keys keys is)
+handed s k (p_group_all input) keys is form = absurd (no_keys keys is)
+handed s k (p_group inputs) keys is form = absurd (no_keys keys is)
+handed s k (p_join inputs side replicated) keys is form = absurd (no_keys keys is)
+handed s k (p_union inputs) keys is form = absurd (no_keys keys is)
+handed s k (p_distinct input) keys is form = absurd (no_keys keys is)
+handed s k (p_limit input count) keys is form = absurd (no_keys keys is)
+handed s k (p_store input path delim) keys is form = absurd (no_keys keys is)
+handed s k (p_assert input cond message) keys is form = absurd (no_keys keys is)
+
 module _ (s : Stages) (w : ℕ) (sorting : IsSorting s w) where
   abbrev op : PlanOp
-  op = p_order sorting.order.input sorting.order.keys
+  op = sorting.order.op
 
   abbrev ds : List Dir
-  ds = dirs_of sorting.order.keys
+  ds = run_dirs op
+
+  to_node : (form : Form) → Handed s sorting.node op form
+  to_node = handed s sorting.node op sorting.order.keys sorting.order.sorts
 
   own_op : (k : ℕ) → k ≡ sorting.node → op_at s.plan k ≡ Some op
   own_op k is = ap (op_at s.plan) is ∙ sorting.order.at
 
   runs_by : (o : TaskOut) (task : Task) → GoesTo sorting.node task → Fits s task o → HasRuns s sorting.node op o.form
-  runs_by o (t_map t) goes fits = subst (λ k. MapFits s k op o.form) goes (fits op (own_op t.node goes))
+  runs_by o (t_map t) goes fits = (to_node o.form).runs_of (subst (λ k. MapFits s k op o.form) goes (fits op (own_op t.node goes)))
   runs_by o (t_reduce t) goes fits = absurd goes
+  runs_by o (t_rank t) goes fits = absurd goes
 
   runs_at : (at : ℕ) (o : TaskOut) → FitsAt s w at o → HasRuns s sorting.node op o.form
   runs_at at o fits = runs_by o fits.task (sorting.all at fits.task fits.is_of) fits.fits
@@ -84,14 +112,17 @@ module _ (s : Stages) (w : ℕ) (sorting : IsSorting s w) where
   cut_runs points run new old is h = record {
     runs = slices_of run points s.sizing.reducers;
     is = is.form;
-    count = inr (length-map (range_with_len 0 s.sizing.reducers) (λ p. record { dirs = run.dirs; entries = slice_of run.dirs points p run.entries }) ∙ length-range_with_len 0 s.sizing.reducers);
+    count = subst (λ found. IsRunCount s.sizing.reducers found _) (sym sorting.order.sorts)
+        (inr (length-map {B = InDirections} (range_with_len 0 s.sizing.reducers) (λ p. record { dirs = run.dirs; entries = slice_of run.dirs points p run.entries }) ∙ length-range_with_len 0 s.sizing.reducers));
     each = slices_fit run points s.sizing.reducers (run_fits old.form run is.was h);
   }
 
   fits_by : (o : TaskOut) (task : Task) → GoesTo sorting.node task → HasRuns s sorting.node op o.form → Fits s task o
   fits_by o (t_map t) goes h = λ p at.
-      subst (λ q. MapFits s t.node q o.form) (some_same op p (sym (own_op t.node goes) ∙ at)) (subst (λ k. HasRuns s k op o.form) (sym goes) h)
+      subst (λ q. MapFits s t.node q o.form) (some_same op p (sym (own_op t.node goes) ∙ at))
+      (subst (λ k. MapFits s k op o.form) (sym goes) ((to_node o.form).fits_as h))
   fits_by o (t_reduce t) goes h = absurd goes
+  fits_by o (t_rank t) goes h = absurd goes
 
   pub cut_fits : (olds news : List TaskOut) → WaveFits s w olds → AreSliced s.sizing.reducers olds news → WaveFits s w news
   cut_fits olds news fit cut = λ at new by.

@@ -6,25 +6,21 @@ use Rattle.std.specs.Option.{is_some, option_map, unwrap_or}
 use Rattle.std.proofs.lemmas.List.{length-append, length-map, map-append}
 use Rattle.std.proofs.lemmas.Option.{slice_get-map}
 use Rattle.pig_value.proofs.list_laws.Indexing.{some_at}
-use Rattle.pig_value.proofs.list_laws.Listing.{each_at, some_same}
+use Rattle.pig_value.proofs.list_laws.Listing.{some_same}
 use Rattle.pig_typed.specs.declared.blocks.SortKey.{SortKey}
 use Rattle.pig_plan.specs.Entries.{sort_keys}
 use Rattle.pig_plan.specs.Nodes.{op_at}
 use Rattle.pig_plan.specs.Plans.{PlanOp}
 use Rattle.pig_plan.specs.Results.{at_place}
-use Rattle.pig_physical.specs.Fitting.{Fits, HasOutput, HasWave}
+use Rattle.pig_physical.specs.Fitting.{Fits, HasAll, HasOutput, HasWave}
 use Rattle.pig_physical.specs.Handed.{out_of, outs_of}
 use Rattle.pig_physical.specs.Outs.{TaskOut, outs_at, runs_in}
 use Rattle.pig_physical.specs.Seen.{IsOwn, IsTaskOf, map_task_of, no_way, task_of}
-use Rattle.pig_physical.specs.Stages.{Stages, t_map, t_reduce, tasks_in, ways_in}
+use Rattle.pig_physical.specs.Stages.{Stages, t_map, t_rank, t_reduce, tasks_in, ways_in}
 use Rattle.pig_physical.specs.declared.outputs.Out as out
 use Rattle.pig_physical.specs.declared.parts.MapTask as mapping
 use Rattle.pig_physical.specs.declared.parts.ReduceTask.{ReduceTask}
 use Rattle.pig_physical.specs.declared.parts.Task.TheVariants as tasks
-use Rattle.pig_waves.specs.Laws.{HaveStages, has_stages}
-use Rattle.pig_fitting.proofs.Given.{node_found}
-use Rattle.pig_fitting.proofs.Standing.{reduces_at}
-use Rattle.pig_reduce.specs.Made.{FitsStaged}
 use Rattle.pig_tasks_rows.specs.Fits.{AllFit, FitsAt}
 
 -- ---- one more
@@ -65,15 +61,13 @@ map_fits s w at t stands own o fits = record {
   fits = subst (λ u. Fits s u o) (ap (λ v. t_map (record { node = t.node; way = at_place no_way (ways_in s.plan v) t.way; part = t.part })) own.0) fits;
 }
 
-pub reduce_fits : (s : Stages) → HaveStages s.plan → (w : ℕ) (t : ReduceTask) → IsTaskOf s w (tasks.Reduce t) → (o : TaskOut) → FitsStaged s t o → Fits s (t_reduce t) o
-reduce_fits s staged w t is o h =
-    let own = reduces_at s t w is.at is.stands in
-    let found = node_found s.plan t.node own.op own.at in
-    h own.op own.at (ap has_stages (sym found.2) ∙ each_at (λ node. has_stages node.op ≡ true) s.plan t.node found.0 found.1 staged)
-
 pub reduce_fits_at : (s : Stages) (w at : ℕ) (t : ReduceTask) → slice_get (tasks_in s w) at ≡ Some (task_of (ways_in s.plan w) (tasks.Reduce t))
     → (o : TaskOut) → Fits s (t_reduce t) o → FitsAt s w at o
 reduce_fits_at s w at t stands o fits = record { task = t_reduce t; is_of = stands; fits = fits }
+
+pub rank_fits_at : (s : Stages) (w at : ℕ) (t : ReduceTask) → slice_get (tasks_in s w) at ≡ Some (task_of (ways_in s.plan w) (tasks.Rank t))
+    → (o : TaskOut) → Fits s (t_rank t) o → FitsAt s w at o
+rank_fits_at s w at t stands o fits = record { task = t_rank t; is_of = stands; fits = fits }
 
 -- ---- what stands
 
@@ -90,7 +84,14 @@ module _ (s : Stages) (prior : List (List out.Out)) (w : ℕ) (outs : List out.O
       let fits = all w (map out_of outs) wave_seen at (out_of o) seen in
       record { out = out_of o; task = fits.task; stands = ap (λ xs. slice_get xs at) outs_seen ∙ seen; is_of = fits.is_of; fits = fits.fits }
 
--- the runs of an ORDER are sliced
+pub has_all : (s : Stages) (prior : List (List out.Out)) (w : ℕ) (outs : List out.Out) → slice_get prior w ≡ Some outs → AllFit s (outs_of prior)
+    → length outs ≡ length (tasks_in s w) → HasAll s (outs_of prior) w
+has_all s prior w outs stands all size = record {
+  count = ap length (outs_seen s prior w outs stands) ∙ length-map outs out_of ∙ size;
+  each = λ at less. let found = some_at outs at (omega (arith, less, size)) in has_output s prior w outs stands all at found.0 found.1;
+}
+
+-- the runs for a node that sorts are sliced
 abbrev pub AreSlicedFor : Stages → ℕ → List out.Out → Type 0
 AreSlicedFor s k outs = (o : PlanOp) (keys : List SortKey) → op_at s.plan k ≡ Some o → sort_keys o ≡ Some keys
     → AllByRecursion (λ x. length (runs_in x.form) ≡ s.sizing.reducers) (map out_of outs)
@@ -102,7 +103,7 @@ unsorted s k p at none outs o keys by has =
 pub has_wave : (s : Stages) (prior : List (List out.Out)) (t : ReduceTask) (outs : List out.Out) → slice_get prior t.wave ≡ Some outs → AllFit s (outs_of prior)
     → length outs ≡ length (tasks_in s t.wave) → AreSlicedFor s t.node outs → HasWave s (outs_of prior) t
 has_wave s prior t outs stands all size sliced = record {
-  count = ap length (outs_seen s prior t.wave outs stands) ∙ length-map outs out_of ∙ size;
-  each = λ at less. let found = some_at outs at (omega (arith, less, size)) in has_output s prior t.wave outs stands all at found.0 found.1;
+  count = (has_all s prior t.wave outs stands all size).count;
+  each = (has_all s prior t.wave outs stands all size).each;
   sliced = λ o keys at by. subst (AllByRecursion (λ x. length (runs_in x.form) ≡ s.sizing.reducers)) (sym (outs_seen s prior t.wave outs stands)) (sliced o keys at by);
 }

@@ -1,11 +1,12 @@
 -- Outputs that fit their tasks, wave by wave, and waves whose tasks sort.
 use Rattle.std.specs.Prelude.{◌≡◌, ℕ, List, Some, slice_get}
 use Rattle.pig_typed.specs.declared.blocks.SortKey.{SortKey}
+use Rattle.pig_plan.specs.Entries.{sort_keys}
 use Rattle.pig_plan.specs.Nodes.{op_at}
-use Rattle.pig_plan.specs.Plans.{Plan, p_order}
+use Rattle.pig_plan.specs.Plans.{Plan, PlanOp}
 use Rattle.pig_physical.specs.Fitting.{Fits}
 use Rattle.pig_physical.specs.Outs.{Outs, TaskOut}
-use Rattle.pig_physical.specs.Stages.{Stages, Task, t_map, t_reduce, tasks_in}
+use Rattle.pig_physical.specs.Stages.{Stages, Task, t_map, t_rank, t_reduce, tasks_in}
 
 -- there is a task at the place of a wave, and the output fits it
 pub record FitsAt (s : Stages) (w at : ℕ) (out : TaskOut) : Type 0 where
@@ -19,22 +20,24 @@ WaveFits s w outs = (at : ℕ) (out : TaskOut) → slice_get outs at ≡ Some ou
 abbrev pub AllFit : Stages → Outs → Type 0
 AllFit s outs = (w : ℕ) (found : List TaskOut) → slice_get outs w ≡ Some found → WaveFits s w found
 
--- the node is an ORDER
-pub record IsOrder (plan : Plan) (k : ℕ) : Type 0 where
-  pub input : ℕ
+-- the node sorts rows by keys
+pub record IsByKeys (plan : Plan) (k : ℕ) : Type 0 where
+  pub op : PlanOp
+  pub at : op_at plan k ≡ Some op
   pub keys : List SortKey
-  pub at : op_at plan k ≡ Some (p_order input keys)
+  pub sorts : sort_keys op ≡ Some keys
 
 -- the task hands rows to the node
 abbrev pub GoesTo : ℕ → Task → Type 0
 GoesTo k (t_map t) = t.node ≡ k
 GoesTo k (t_reduce t) = ⊥
+GoesTo k (t_rank t) = ⊥
 
 abbrev pub AllGoTo : Stages → ℕ → ℕ → Type 0
 AllGoTo s w k = (at : ℕ) (task : Task) → slice_get (tasks_in s w) at ≡ Some task → GoesTo k task
 
--- all tasks of the wave hand rows to one ORDER
+-- all tasks of the wave hand rows to one node that sorts
 pub record IsSorting (s : Stages) (w : ℕ) : Type 0 where
   pub node : ℕ
-  pub order : IsOrder s.plan node
+  pub order : IsByKeys s.plan node
   pub all : AllGoTo s w node

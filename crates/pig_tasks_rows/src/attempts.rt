@@ -3,16 +3,16 @@ ghost use Rattle.std.specs.Prelude.{◌≡◌, ◌<◌, length, map};
 ghost use Rattle.pig_physical.specs.Fitting.{Fits};
 ghost use Rattle.pig_physical.specs.Handed.{out_of, outs_of};
 ghost use Rattle.pig_physical.specs.Seen.{IsTaskOf, map_task_of, staged};
-ghost use Rattle.pig_physical.specs.Stages.{heads, t_map, t_reduce, tasks_in};
+ghost use Rattle.pig_physical.specs.Stages.{heads, t_map, t_rank, t_reduce, tasks_in};
 ghost use Rattle.pig_physical.specs.declared.parts.Task.TheVariants as tasks;
-ghost use Rattle.pig_waves.specs.Laws.{HaveStages};
 ghost use Rattle.pig_tasks_rows.specs.Fits.{AllFit, FitsAt, WaveFits};
 
 use crate::pieces::Pieces;
-use crate::standing::{part_stands, wave_stands};
+use crate::standing::{all_stand, part_stands, wave_stands};
 use pig_map::map_task_blocks;
+use pig_outside::Stop;
 use pig_physical::{MapTask, Out, Outs, ReduceTask, Stages, Task};
-use pig_reduce::reduce_task;
+use pig_reduce::{rank_attempt, rank_starts, reduce_task};
 use pig_value::OutList;
 use std::alloc::Global;
 use std::process::Abort;
@@ -48,7 +48,6 @@ fn reduced<R: Abort>(
 ) -> Out
     requires task { IsTaskOf (staged stages.now) wave (tasks.Reduce task.now) }
     requires fit { AllFit (staged stages.now) (outs_of prior.now) }
-    requires staged { HaveStages (staged stages.now).plan }
     ensures { Fits (staged stages.now) (t_reduce task.now) (out_of result) }
 {
     if task.wave >= wave || wave - task.wave != 1 {
@@ -58,6 +57,49 @@ fn reduced<R: Abort>(
         panic!(rt; "a wave that isn't there");
     }
     reduce_task(alloc, stages, task, prior).expect(rt, "memory")
+}
+
+// A stop that never says so.
+#[derive(Drop)]
+struct Never;
+
+impl Stop for Never {
+    ghost use Rattle.std.specs.Prelude.{⊤};
+
+    ghost Kept = { ⊤ };
+
+    ghost kept = { λ s. tt };
+
+    ghost won = { λ s. ⊥ };
+
+    fn is_won(&mut self) -> bool {
+        false
+    }
+}
+
+fn ranked<R: Abort>(
+    rt: &R,
+    alloc: Global,
+    stages: &Stages,
+    wave: u32,
+    task: &ReduceTask,
+    prior: &Outs,
+) -> Out
+    requires task { IsTaskOf (staged stages.now) wave (tasks.Rank task.now) }
+    requires fit { AllFit (staged stages.now) (outs_of prior.now) }
+    ensures { Fits (staged stages.now) (t_rank task.now) (out_of result) }
+{
+    if task.wave >= wave || wave - task.wave != 1 {
+        panic!(rt; "a wave that isn't the one before");
+    }
+    if !all_stand(stages, prior, task.wave) {
+        panic!(rt; "a wave that isn't there");
+    }
+    let starts = rank_starts(alloc, stages, task, prior).expect(rt, "memory");
+    let start = starts.get(task.part as usize).expect(rt, "a start");
+    let mut never = Never;
+    let ranked = rank_attempt(alloc, stages, task, prior, start, &mut never).expect(rt, "memory");
+    ranked.expect(rt, "an output")
 }
 
 fn attempt<R: Abort>(
@@ -73,13 +115,13 @@ fn attempt<R: Abort>(
     requires wave { wave < length (heads (staged stages.now).plan) }
     requires at { at < length (tasks_in (staged stages.now) wave) }
     requires fit { AllFit (staged stages.now) (outs_of prior.now) }
-    requires staged { HaveStages (staged stages.now).plan }
     requires block { 0 < block }
     ensures { FitsAt (staged stages.now) wave at (out_of result) }
 {
     match stages.task_at(wave, at) {
         Task::Map(task) => mapped(rt, alloc, stages, task, prior, host, block),
         Task::Reduce(task) => reduced(rt, alloc, stages, wave, task, prior),
+        Task::Rank(task) => ranked(rt, alloc, stages, wave, task, prior),
     }
 }
 
@@ -95,7 +137,6 @@ pub fn wave_of<R: Abort>(
 ) -> OutList<Out>
     requires wave { wave < length (heads (staged stages.now).plan) }
     requires fit { AllFit (staged stages.now) (outs_of prior.now) }
-    requires staged { HaveStages (staged stages.now).plan }
     requires block { 0 < block }
     ensures { WaveFits (staged stages.now) wave (map out_of result) }
 {

@@ -2,7 +2,6 @@
 ghost use Rattle.std.specs.Prelude.{◌≡◌, ◌<◌};
 ghost use Rattle.pig_physical.specs.Handed.{outs_of};
 ghost use Rattle.pig_physical.specs.Seen.{staged};
-ghost use Rattle.pig_waves.specs.Laws.{HaveStages};
 ghost use Rattle.pig_tasks_rows.specs.Fits.{AllFit};
 
 use crate::attempts::wave_of;
@@ -10,7 +9,6 @@ use crate::pieces::Pieces;
 use crate::sorting::cut;
 use crate::stored::{told, told_parts};
 use pig_cutter::cut_plan;
-use pig_driver::have_stages;
 use pig_physical::{Outs, Size, Sizes, Stages};
 use pig_script_rows::plan_of;
 use pig_value::{Lengths, Text};
@@ -49,7 +47,6 @@ fn all_waves<R: Abort>(
     host: &mut Pieces,
     block: u32,
 ) -> Outs
-    requires staged { HaveStages (staged stages.now).plan }
     requires block { 0 < block }
 {
     let mut outs = Outs::new(alloc);
@@ -75,7 +72,7 @@ pub enum Telling {
 /// What a run with three reducers stores.
 pub fn stored<R: Abort>(rt: &R, alloc: Global, run: Run, telling: Telling) -> Vec<u8> {
     let plan = plan_of(alloc, run.script).expect(rt, "a plan");
-    if run.split == 0 || run.block == 0 || !have_stages(&plan) {
+    if run.split == 0 || run.block == 0 {
         panic!(rt; "a plan that is not run");
     }
     let sizes = sizes(rt, alloc, &run);

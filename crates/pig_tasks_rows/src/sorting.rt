@@ -1,10 +1,10 @@
-//! The runs of an ORDER, cut behind its map tasks. What is refused ends the process.
+//! The runs for a node that sorts, cut behind its map tasks. What is refused ends the process.
 ghost use Rattle.std.specs.Prelude.{◌<◌, IsTrue, List, length, map};
 ghost use Rattle.pig_plan.specs.Nodes.{Entering};
 ghost use Rattle.pig_physical.specs.Handed.{out_of};
 ghost use Rattle.pig_physical.specs.Seen.{staged, task_of};
 ghost use Rattle.pig_physical.specs.Stages.{heads, tasks_in};
-ghost use Rattle.pig_tasks_rows.specs.Fits.{AllGoTo, GoesTo, IsOrder, IsSorting, WaveFits};
+ghost use Rattle.pig_tasks_rows.specs.Fits.{AllGoTo, GoesTo, IsByKeys, IsSorting, WaveFits};
 
 use crate::standing::operator;
 use pig_driver::slice_outputs;
@@ -14,14 +14,15 @@ use pig_value::OutList;
 use std::alloc::Global;
 use std::process::Abort;
 
-fn is_order(stages: &Stages, node: u32) -> bool
-    ensures { IsTrue result → IsOrder (staged stages.now).plan node }
+fn is_by_keys(stages: &Stages, node: u32) -> bool
+    ensures { IsTrue result → IsByKeys (staged stages.now).plan node }
 {
     let Some(op) = operator(stages, node) else {
         return false;
     };
     match op {
         NodeOp::Order { .. } => true,
+        NodeOp::Rank { .. } => true,
         _ => false,
     }
 }
@@ -45,10 +46,11 @@ fn goes_to(task: &Task, node: u32) -> bool
     match task {
         Task::Map(task) => task.node == node,
         Task::Reduce(_) => false,
+        Task::Rank(_) => false,
     }
 }
 
-/// Whether they hand them to one ORDER.
+/// Whether they hand them to one node that sorts.
 fn sorts(stages: &Stages, wave: u32) -> bool
     requires { wave < length (heads (staged stages.now).plan) }
     ensures { IsTrue result → IsSorting (staged stages.now) wave }
@@ -59,7 +61,7 @@ fn sorts(stages: &Stages, wave: u32) -> bool
     let Task::Map(first) = stages.task_at(wave, 0) else {
         return false;
     };
-    if !is_order(stages, first.node) {
+    if !is_by_keys(stages, first.node) {
         return false;
     }
     all_go_to(stages, wave, first.node)

@@ -5,7 +5,7 @@ ghost use Rattle.std.specs.Option.{is_some, option_map};
 ghost use Rattle.pig_plan.specs.Entries.{sort_keys};
 ghost use Rattle.pig_plan.specs.Nodes.{op_at};
 ghost use Rattle.pig_plan.specs.Plans.{op_of};
-ghost use Rattle.pig_physical.specs.Fitting.{HasOutput, HasPart, HasWave};
+ghost use Rattle.pig_physical.specs.Fitting.{HasAll, HasOutput, HasPart, HasWave};
 ghost use Rattle.pig_physical.specs.Handed.{out_of, outs_of};
 ghost use Rattle.pig_physical.specs.Outs.{runs_in};
 ghost use Rattle.pig_physical.specs.Seen.{staged};
@@ -80,6 +80,18 @@ fn sorts(op: &NodeOp) -> bool
     ensures { result ≡ is_some (sort_keys (op_of op.now)) }
 {
     matches!(op, NodeOp::Order { .. } | NodeOp::Rank { .. })
+}
+
+/// Whether all outputs of a wave stand.
+pub fn all_stand(stages: &Stages, prior: &Outs, wave: u32) -> bool
+    requires wave { wave < length (heads (staged stages.now).plan) }
+    requires fit { AllFit (staged stages.now) (outs_of prior.now) }
+    ensures { IsTrue result → HasAll (staged stages.now) (outs_of prior.now) wave }
+{
+    match prior.get(wave as usize) {
+        Some(outs) => outs.len() == stages.tasks(wave) as usize,
+        None => false,
+    }
 }
 
 /// Whether the wave stands that a reduce task reads. The runs of a node that sorts are cut.

@@ -19,6 +19,7 @@ fn is_for(task: &Task, node: u32) -> bool {
     match task {
         Task::Map(task) => task.node == node,
         Task::Reduce(_) => false,
+        Task::Rank(_) => false,
     }
 }
 
