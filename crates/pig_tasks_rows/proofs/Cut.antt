@@ -1,5 +1,5 @@
 -- The outputs of the map tasks of a node that sorts have one run each, in its directions; with slices in the place of these they still fit.
-use Rattle.std.specs.Prelude.{◌≡◌, ℕ, List, [], ◌∷◌, Option, None, Some, slice_get, zero, suc, refl}
+use Rattle.std.specs.Prelude.{◌≡◌, ℕ, List, [], ◌∷◌, length, Option, None, Some, slice_get, zero, suc, refl}
 use Rattle.std.proofs.Common.{ap, sym, ◌∙◌, inr, subst}
 use Rattle.std.specs.List.{AllByRecursion, range_with_len}
 use Rattle.std.proofs.lemmas.List.{length-map}
@@ -112,7 +112,7 @@ module _ (s : Stages) (w : ℕ) (sorting : IsSorting s w) where
   cut_runs points run new old is h = record {
     runs = slices_of run points s.sizing.reducers;
     is = is.form;
-    count = subst (λ found. IsRunCount s.sizing.reducers found _) (sym sorting.order.sorts)
+    count = subst (λ found. IsRunCount s.sizing.reducers found (length (slices_of run points s.sizing.reducers))) (sym sorting.order.sorts)
         (inr (length-map {B = InDirections} (range_with_len 0 s.sizing.reducers) (λ p. record { dirs = run.dirs; entries = slice_of run.dirs points p run.entries }) ∙ length-range_with_len 0 s.sizing.reducers));
     each = slices_fit run points s.sizing.reducers (run_fits old.form run is.was h);
   }
