@@ -103,6 +103,7 @@ fn rows_that_are_joined_on_all_sides(rt: HostRuntime) {
     let scripts = [
         "j = JOIN a BY k FULL, b BY k; STORE j INTO 'p';",
         "j = JOIN b BY k RIGHT, a BY k; STORE j INTO 'p';",
+        "j = JOIN a BY k LEFT, b BY k USING 'replicated'; STORE j INTO 'p';",
     ];
     check_bags(&rt, rt.alloc(), &scripts);
 }

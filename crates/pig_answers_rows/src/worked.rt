@@ -13,6 +13,9 @@ bag @ a = LOAD 'a' AS (line:chararray); g = GROUP a ALL; STORE g INTO 'p'; @  @ 
 bag @ a = LOAD 'a' AS (x:int, y:int); STORE a INTO 'p'; @ 1\t2\r||3\t4 @ \n\
 bag @ a = LOAD 'a' AS (k:int, v:chararray); b = LOAD 'b' AS (k:int, v:chararray); g = GROUP a BY k; c = COGROUP a BY k, b BY k; STORE g INTO 'p'; STORE c INTO 'q'; @ 1\tx|\ty|\tz| @ 1\tp|\tq|\n\
 bag @ a = LOAD 'a' AS (k:int, v:chararray); b = LOAD 'b' AS (k:int, v:chararray); j = JOIN a BY k, b BY k; f = JOIN a BY k FULL, b BY k; STORE j INTO 'p'; STORE f INTO 'q'; @ 1\tx|\ty|\tz| @ 1\tp|\tq|\n\
+bag @ a = LOAD 'a' AS (k:int, v:chararray); b = LOAD 'b' AS (k:int, v:chararray); j = JOIN a BY k, b BY k USING 'replicated'; l = JOIN a BY k LEFT, b BY k USING 'replicated'; STORE j INTO 'p'; STORE l INTO 'q'; @ 1\tx|\ty|\tz| @ 1\tp|\tq|\n\
+bag @ a = LOAD 'a' AS (k:int, v:chararray); b = LOAD 'b' AS (k:int, v:chararray); u = UNION a, b; g = GROUP b BY k; j = JOIN u BY k, b BY k, g BY group USING 'replicated'; STORE j INTO 'p'; @ 1\tx|2\ty|\tz| @ 1\tp|1\tq|2\tr|\n\
+list @ a = LOAD 'a' AS (k:int, v:chararray); r = RANK a BY k DESC, v; d = RANK a BY k DENSE; o = ORDER r BY v; STORE o INTO 'p'; p = ORDER d BY v; STORE p INTO 'q'; @ 2\ta|1\tb|2\tc|\td|1\te|2\ta| @ \n\
 bag @ a = LOAD 'a' AS (k:chararray, x:int); g = GROUP a BY k; o = FOREACH g GENERATE group, COUNT(a.x), COUNT_STAR(a.x), SUM(a.x), MIN(a.x); STORE o INTO 'p'; @ g\t|g\t| @ \n\
 bag @ a = LOAD 'a' AS (a:int, b:int); o = FOREACH a GENERATE a+1, b/2, b%2, b/0, (long)a+1; STORE o INTO 'p'; @ 2147483647\t-7| @ \n\
 bag @ a = LOAD 'a' AS (x:long); g = GROUP a ALL; o = FOREACH g GENERATE SUM(a.x); STORE o INTO 'p'; @ 9223372036854775807|1|5| @ \n\

@@ -44,8 +44,8 @@ unmet_noted (wave ∷ outs) = λ i. wave_unmet_noted wave i ++ unmet_noted outs 
 -- ----
 
 pub tell_the_same : WhatIsLeftStands → WhatIsLeftTellsTheSame
-tell_the_same stands = λ s whole left valid staged size stored are.
-    let still = stands s valid staged whole left size are in
+tell_the_same stands = λ s whole left valid size stored are.
+    let still = stands s valid whole left size are in
     let here : List TaskOut → ℕ → List (List ℕ) = λ os k. parts_for k (tasks_in s (store_wave s.plan)) os in
     record {
       size = still.size ∙ size;

@@ -1,6 +1,7 @@
 -- The tasks of a run read the lines of each LOAD once for each task path that begins at it.
 use Rattle.std.specs.Prelude.{◌≡◌, ◌<◌, ◌≤◌, ◌+◌, ◌-◌, ℕ, zero, suc, Bool, true, false, not, List, [], ◌∷◌, ◌++◌, length, map, take, Option, Some, None, slice_get, refl, if◌then◌else◌}
-use Rattle.std.proofs.Common.{ap, sym, ◌∙◌, arith, cond, true≢false}
+use Rattle.std.proofs.lemmas.Bool.{cases_Bool}
+use Rattle.std.proofs.Common.{inl, inr, ap, sym, ◌∙◌, arith, cond, true≢false}
 use Rattle.std.specs.List.{AllByRecursion, filter, flat_map, range_with_len, sum_by}
 use Rattle.std.specs.Option.{option_map, option_map_or, unwrap_or}
 use Rattle.std.proofs.lemmas.List.{length-map}
@@ -13,7 +14,7 @@ use Rattle.pig_value.specs.declared.inputs.Input.{Input}
 use Rattle.pig_value.specs.Elementwise.{Each}
 use Rattle.pig_value.specs.Lines.{lines}
 use Rattle.pig_value.specs.Trees.{Tree}
-use Rattle.pig_value.proofs.list_laws.Listing.{each_at, each_filtered, each_of_all, each_weaker}
+use Rattle.pig_value.proofs.list_laws.Listing.{each_filtered, each_of_all, each_weaker}
 use Rattle.pig_storage.specs.Splits.{splits_of}
 use Rattle.pig_plan.proofs.Marking.{range_more}
 use Rattle.pig_plan.proofs.Meanings.{each_both}
@@ -31,15 +32,15 @@ use Rattle.pig_physical.specs.declared.waves.WaveKind.{WaveKind}
 use Rattle.pig_physical.specs.declared.waves.WaveKind.TheVariants as kinds
 use Rattle.pig_physical.specs.Outs.{Outs, TaskOut, outs_at}
 use Rattle.pig_physical.specs.Running.{IsRun}
-use Rattle.pig_physical.specs.Stages.{MapTask, Stages, Task, boundaries, enters_first, head_of, heads, heads_at, last_wave, map_tasks, partition_tasks, parts_at, parts_of, path_tasks, reduce_count, store_tasks, stores, t_map, t_rank, t_reduce, tasks_by, tasks_in, tasks_of, tasks_on, waves_of, ways_into, ways_to}
+use Rattle.pig_physical.specs.Stages.{MapTask, Stages, Task, boundaries, enters_first, head_of, heads, heads_at, is_replicated, last_wave, map_tasks, output_count, partition_tasks, parts_at, parts_of, path_tasks, store_tasks, stores, t_map, t_rank, t_reduce, tasks_by, tasks_in, tasks_of, tasks_on, waves_of, ways_into, ways_to}
 use Rattle.pig_physical.specs.Values.{IsValue, lines_of, part_lines, split_lines}
 use Rattle.pig_reach.specs.Reach as reach
 use Rattle.pig_reach.specs.Reach.{lines_at, lines_read}
 use Rattle.pig_reach.proofs.Enough.{live_node}
-use Rattle.pig_waves.proofs.Heads.{further, two_waves}
+use Rattle.pig_waves.proofs.Heads.{further, probing, two_waves}
 use Rattle.pig_waves.proofs.Places.{each_known}
 use Rattle.pig_waves.proofs.Sources.{of_all}
-use Rattle.pig_waves.specs.Laws.{HaveStages, has_stages, ranks}
+use Rattle.pig_waves.specs.Laws.{copy_tasks, probe_tasks, ranks}
 use Rattle.pig_collect.specs.Collecting.{lines_in}
 use Rattle.pig_collect.specs.Laws.{RunsReadLines}
 use Rattle.pig_collect.proofs.Alive.{TaskLives, WayLives, boundaries_live, into_lives, stores_live, tasks_live, to_lives}
@@ -129,7 +130,7 @@ module _ (p q : ℕ → Bool) (f : ℕ → ℕ) where
       picked r false = omega arith
 
 module _ (s : Stages) (inputs : List Input) (points : ℕ → List Point) (outs : Outs)
-    (valid : IsPlan s.plan) (staged : HaveStages s.plan) (some : 0 < s.sizing.split) (run : IsRun s inputs points outs) where
+    (valid : IsPlan s.plan) (some : 0 < s.sizing.split) (run : IsRun s inputs points outs) where
   -- ---- tasks
 
   abbrev map_lines : MapTask → ℕ
@@ -235,12 +236,12 @@ module _ (s : Stages) (inputs : List Input) (points : ℕ → List Point) (outs 
   -- ---- ways
 
   -- the parts of another source are outputs, which have no lines
-  none_read : (k : ℕ) (o : PlanOp) → parts_of s k o ≡ map (parts.Output (last_wave s.plan k o)) (range_with_len 0 (reduce_count s.sizing.reducers o))
+  none_read : (k : ℕ) (o : PlanOp) → parts_of s k o ≡ map (parts.Output (last_wave s.plan k o)) (range_with_len 0 (output_count s o))
       → sum_by (λ part. length (part_lines inputs part o)) (parts_of s k o) ≡ 0
   none_read k o are =
       ap (sum_by (λ part. length (part_lines inputs part o))) are
-      ∙ sum_map (λ part. length (part_lines inputs part o)) (parts.Output (last_wave s.plan k o)) (range_with_len 0 (reduce_count s.sizing.reducers o))
-      ∙ sum_none (λ n. 0) (λ n. refl) (range_with_len 0 (reduce_count s.sizing.reducers o))
+      ∙ sum_map (λ part. length (part_lines inputs part o)) (parts.Output (last_wave s.plan k o)) (range_with_len 0 (output_count s o))
+      ∙ sum_none (λ n. 0) (λ n. refl) (range_with_len 0 (output_count s o))
 
   loaded : (path : List ℕ) (delim : ℕ) (columns : List Column) → map length (pieces_of inputs path) ≡ s.sizing.lengths path
       → sum_by (λ part. length (part_lines inputs part (p_load path delim columns))) (map parts.Split (splits_of s.sizing.split (s.sizing.lengths path))) ≡ length (flat_map lines (pieces_of inputs path))
@@ -309,13 +310,31 @@ module _ (s : Stages) (inputs : List Input) (points : ℕ → List Point) (outs 
   abbrev is_storing : ℕ → Bool
   is_storing k = option_map_or is_store (op_at s.plan k) false
 
+  -- the tasks of the first input, and those of the others
+  either_input : (ts : List MapTask) → lines_on (filter (λ t. not (enters_first t)) ts) + lines_on (filter enters_first ts) ≡ lines_on ts
+  either_input [] = omega arith
+  either_input (t ∷ ts) = by_test (either_input ts) (enters_first t)
+    where
+      by_test : lines_on (filter (λ u. not (enters_first u)) ts) + lines_on (filter enters_first ts) ≡ lines_on ts → (b : Bool)
+          → lines_on (cond (not b) (t ∷ filter (λ u. not (enters_first u)) ts) (filter (λ u. not (enters_first u)) ts)) + lines_on (cond b (t ∷ filter enters_first ts) (filter enters_first ts))
+          ≡ lines_on (t ∷ ts)
+      by_test rest true =
+          let whole = sum_by-cons map_lines t ts in let one = sum_by-cons map_lines t (filter enters_first ts) in omega (arith, rest, whole, one)
+      by_test rest false =
+          let whole = sum_by-cons map_lines t ts in let one = sum_by-cons map_lines t (filter (λ u. not (enters_first u)) ts) in omega (arith, rest, whole, one)
+
   boundary_sum : (k : ℕ) → is_live s.plan k ≡ true → is_here k ≡ true → sum_by head_lines (heads_at s.plan k) ≡ read_at k
   boundary_sum k alive here =
       let found = live_node s.plan k alive in
       let v = found.0 in
       let op : op_at s.plan k ≡ Some v.op = ap (option_map (λ n. n.op)) found.1 in
       let boundary : is_boundary v.op ≡ true = sym (ap (λ o. option_map_or is_boundary o false) op) ∙ here in
-      let waves = two_waves v.op (each_at (λ n. has_stages n.op ≡ true) s.plan k v found.1 staged) in
+      let copy_head : head_lines (head_of s.plan k kinds.Copy) ≡ lines_on (copy_tasks s k v.op) = ap (λ o. option_map_or (kind_lines kinds.Copy k) o 0) op in
+      let probe_head : head_lines (head_of s.plan k kinds.Probe) ≡ lines_on (probe_tasks s k v.op) = ap (λ o. option_map_or (kind_lines kinds.Probe k) o 0) op in
+      let last = sum_by-cons head_lines (head_of s.plan k kinds.Probe) [] in
+      let both = sum_by-cons head_lines (head_of s.plan k kinds.Copy) (head_of s.plan k kinds.Probe ∷ []) in
+      let all = either_input (map_tasks s k v.op) in
+      let joined : sum_by head_lines (head_of s.plan k kinds.Copy ∷ head_of s.plan k kinds.Probe ∷ []) ≡ lines_on (map_tasks s k v.op) = omega (arith, copy_head, probe_head, last, both, all) in
       let map_head : head_lines (head_of s.plan k kinds.Map) ≡ lines_on (map_tasks s k v.op) = ap (λ o. option_map_or (kind_lines kinds.Map k) o 0) op in
       let reduce_head : head_lines (head_of s.plan k kinds.Reduce) ≡ 0 = ap (λ o. option_map_or (kind_lines kinds.Reduce k) o 0) op in
       let rank_head : head_lines (head_of s.plan k kinds.Rank) ≡ 0 = ap (λ o. option_map_or (kind_lines kinds.Rank k) o 0) op in
@@ -325,8 +344,10 @@ module _ (s : Stages) (inputs : List Input) (points : ℕ → List Point) (outs 
       let one = sum_by-cons head_lines (head_of s.plan k kinds.Reduce) more in
       let sum : sum_by head_lines (head_of s.plan k kinds.Map ∷ head_of s.plan k kinds.Reduce ∷ more) ≡ lines_on (map_tasks s k v.op) = omega (arith, map_head, reduce_head, none, two, one) in
       ap (λ o. sum_by head_lines (option_map_or (λ p. map (head_of s.plan k) (waves_of p)) o [])) op
-      ∙ ap (λ ws. sum_by head_lines (map (head_of s.plan k) ws)) waves
-      ∙ sum
+      ∙ elim (cases_Bool (is_replicated v.op)) [
+        | inl replicated ↦ ap (λ ws. sum_by head_lines (map (head_of s.plan k) ws)) (probing v.op replicated).waves ∙ joined
+        | inr other ↦ ap (λ ws. sum_by head_lines (map (head_of s.plan k) ws)) (two_waves v.op other) ∙ sum
+      ]
       ∙ on_ways k (ways_into s.plan v.op) (into_lives s.plan valid k v found.1 alive)
       ∙ on_inputs 0 (inputs_of v.op)
       ∙ ap (λ b. sum_by (lines_at s.plan inputs) (cond b (flat_map (paths_of s.plan) (inputs_of v.op)) (cond (is_store v.op) (paths_of s.plan k) []))) (sym boundary)
@@ -436,4 +457,4 @@ module _ (s : Stages) (inputs : List Input) (points : ℕ → List Point) (outs 
       by_heads ∙ sum ∙ sym (sum_by-flat_map (lines_at s.plan inputs) (λ k. option_map_or (read_paths s.plan k) (op_at s.plan k) []) (live s.plan))
 
 pub read_lines : RunsReadLines
-read_lines s inputs points outs valid staged some run = all_lines s inputs points outs valid staged some run
+read_lines s inputs points outs valid some run = all_lines s inputs points outs valid some run

@@ -197,5 +197,5 @@ module _ (s : Stages) (inputs : List Input) (kept : List Kept) (points : ℕ →
     first_told = sym (least_is (all_unmet outs)) ∙ least_same (all_unmet outs) (unmet s.plan inputs kept) over back ∙ least_is (unmet s.plan inputs kept)
 
 pub told_first : StagesGiveMeaning → RunsTellTheFirstUnmet
-told_first law s inputs kept points outs valid staged some splits run given =
-    first_told s inputs kept points outs valid run (law s inputs kept points outs valid staged some splits run given)
+told_first law s inputs kept points outs valid some splits run given =
+    first_told s inputs kept points outs valid run (law s inputs kept points outs valid some splits run given)

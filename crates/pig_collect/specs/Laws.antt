@@ -9,17 +9,16 @@ use Rattle.pig_runs.specs.Cutting.{Point}
 use Rattle.pig_physical.specs.Outs.{Outs}
 use Rattle.pig_physical.specs.Running.{AreOutputs, IsRun, all_unmet}
 use Rattle.pig_physical.specs.Stages.{Stages, heads}
-use Rattle.pig_waves.specs.Laws.{HaveStages}
 use Rattle.pig_driver.specs.Left.{AreLeft}
 use Rattle.pig_collect.specs.Collecting.{HasStoreOutputs, least, lines_in, parts_given}
 
 abbrev pub RunsReadLines : Type 0
 RunsReadLines = (s : Stages) (inputs : List Input) (points : ℕ → List Point) (outs : Outs)
-    → IsPlan s.plan → HaveStages s.plan → 0 < s.sizing.split → IsRun s inputs points outs → lines_in outs ≡ lines_read s.plan inputs
+    → IsPlan s.plan → 0 < s.sizing.split → IsRun s inputs points outs → lines_in outs ≡ lines_read s.plan inputs
 
 abbrev pub RunsTellTheFirstUnmet : Type 0
 RunsTellTheFirstUnmet = (s : Stages) (inputs : List Input) (kept : List Kept) (points : ℕ → List Point) (outs : Outs)
-    → IsPlan s.plan → HaveStages s.plan → 0 < s.sizing.reducers → 0 < s.sizing.split
+    → IsPlan s.plan → 0 < s.sizing.reducers → 0 < s.sizing.split
     → IsRun s inputs points outs → AreOutputs s.plan outs kept → least (all_unmet outs) ≡ first_unmet s.plan inputs kept
 
 -- What is left of outputs tells of STOREs, bare LIMITs, lines and ASSERTs what all of them tell.
@@ -32,5 +31,5 @@ pub record TellTheSame (s : Stages) (whole left : Outs) : Type 0 where
   pub unmet : all_unmet left ≡ all_unmet whole
 
 abbrev pub WhatIsLeftTellsTheSame : Type 0
-WhatIsLeftTellsTheSame = (s : Stages) (whole left : Outs) → IsPlan s.plan → HaveStages s.plan → length whole ≡ length (heads s.plan)
+WhatIsLeftTellsTheSame = (s : Stages) (whole left : Outs) → IsPlan s.plan → length whole ≡ length (heads s.plan)
     → HasStoreOutputs s whole → AreLeft s whole left (length (heads s.plan)) → TellTheSame s whole left

@@ -15,7 +15,7 @@ use Rattle.pig_physical.specs.Outs.{Outs, TaskOut, outs_at}
 use Rattle.pig_physical.specs.Running.{IsRun}
 use Rattle.pig_physical.specs.Stages.{Stages, Task, heads, t_map, t_rank, t_reduce, tasks_in, tasks_of}
 use Rattle.pig_physical.specs.Values.{IsValue, task_rows}
-use Rattle.pig_driver.specs.Handing.{entries_handed, handed_by, handed_from, handed_in}
+use Rattle.pig_driver.specs.Handing.{entries_handed, handed_by, handed_from, handed_in, handed_of}
 use Rattle.pig_counts.specs.Due.{due_by, due_of, entries_due}
 use Rattle.pig_counts.proofs.Standing.{TaskStands, tasks_stand}
 use Rattle.pig_counts.proofs.TaskCounts.{form_counts}
@@ -49,14 +49,15 @@ module _ (s : Stages) (inputs : List Input) (points : ℕ → List Point) (outs 
   abbrev Valued : ℕ → Task → TaskOut → Type 0
   Valued w = IsValue s inputs (Some (points w)) outs
 
-  of_task : (w : ℕ) (task : Task) (out : TaskOut) → Stands w task → Valued w task out → handed_by task out ≡ due task
+  of_task : (w : ℕ) (task : Task) (out : TaskOut) → Stands w task → Valued w task out → handed_by s.plan task out ≡ due task
   of_task w (t_map t) out stands value =
-      form_counts s some (points w) t.node stands.o stands.rise t.way.input (task_rows s.plan inputs outs t) out.form (value stands.o stands.at).form
+      ap (λ found. option_map_or (λ o. handed_of o out.form) found 0) stands.at
+      ∙ form_counts s some (points w) outs t.node stands.o stands.rise t.way.input (task_rows s.plan inputs outs t) out.form (value stands.o stands.at).form
       ∙ sym (ap (λ found. option_map_or (λ o. due_of s t.node o t.way.input (task_rows s.plan inputs outs t)) found 0) stands.at)
   of_task w (t_reduce t) out stands value = refl
   of_task w (t_rank t) out stands value = refl
 
-  of_tasks : (w : ℕ) (tasks : List Task) (wave : List TaskOut) → AllByRecursion (Stands w) tasks → Each (Valued w) tasks wave → handed_in tasks wave ≡ sum_by due tasks
+  of_tasks : (w : ℕ) (tasks : List Task) (wave : List TaskOut) → AllByRecursion (Stands w) tasks → Each (Valued w) tasks wave → handed_in s.plan tasks wave ≡ sum_by due tasks
   of_tasks w [] wave stand values = refl
   of_tasks w (task ∷ tasks) [] stand values = absurd values
   of_tasks w (task ∷ tasks) (out ∷ wave) stand values =
@@ -72,7 +73,7 @@ module _ (s : Stages) (inputs : List Input) (points : ℕ → List Point) (outs 
   from_wave w (wave ∷ left) at =
       let zeroth : w ≡ w + 0 = omega arith in
       let here : outs_at outs w ≡ wave = ap (outs_at outs) zeroth ∙ at 0 in
-      let one : handed_in (tasks_in s w) wave ≡ sum_by due (tasks_in s w) =
+      let one : handed_in s.plan (tasks_in s w) wave ≡ sum_by due (tasks_in s w) =
       of_tasks w (tasks_in s w) wave (tasks_stand s inputs points outs run w) (subst (Each (Valued w) (tasks_in s w)) here (run.values w)) in
       let more = from_wave (w + 1) left (λ i. (let e : w + 1 + i ≡ w + suc i = omega arith in ap (outs_at outs) e) ∙ at (suc i)) in
       let both = sum_by-append due (tasks_in s w) (flat_map (tasks_in s) (range_with_len (w + 1) (length left))) in

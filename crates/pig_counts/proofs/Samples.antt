@@ -1,11 +1,12 @@
 -- What is due of small plans over one input, computed. The input stands in two splits of two lines each.
-use Rattle.std.specs.Prelude.{◌≡◌, ℕ, false, List, [], ◌∷◌, codes, map, None, Some, refl}
+use Rattle.std.specs.Prelude.{◌≡◌, ℕ, Bool, true, false, List, [], ◌∷◌, codes, map, None, Some, refl}
 use Rattle.pig_value.specs.declared.functions.Function.TheVariants as function
 use Rattle.pig_value.specs.declared.inputs.Input.{Input}
+use Rattle.pig_value.specs.declared.operators.Side.TheVariants as sides
 use Rattle.pig_value.specs.Gathering.{Entry}
 use Rattle.pig_value.specs.Trees.{v_chars}
 use Rattle.pig_typed.specs.Typed.{Typed, TypedBlock, TypedItem, more_args, no_args, x_call, x_field}
-use Rattle.pig_plan.specs.Plans.{Plan, PlanNode, PlanOp, p_load, p_foreach, p_group, p_union, p_distinct, p_order, p_limit, p_store}
+use Rattle.pig_plan.specs.Plans.{Keyed, Plan, PlanNode, PlanOp, p_load, p_foreach, p_group, p_join, p_union, p_distinct, p_order, p_limit, p_store}
 use Rattle.pig_counts.specs.Due.{count_due, entries_due}
 
 -- ---- entries
@@ -53,8 +54,11 @@ each_path_counts : due_in (load ∷ node (p_union (0 ∷ 0 ∷ [])) ∷ node (p_
 each_path_counts = refl
 
 -- a GROUP combines where it folds
+abbrev first_of : ℕ → Keyed
+first_of input = record { input = input; keys = x_field 0 ∷ []; inner = false }
+
 abbrev by_first : PlanNode
-by_first = node (p_group (record { input = 0; keys = x_field 0 ∷ []; inner = false } ∷ []))
+by_first = node (p_group (first_of 0 ∷ []))
 
 abbrev item : Typed → TypedItem
 item value = record { value = value; flatten = false; width = 1 }
@@ -67,6 +71,16 @@ group_counts_rows = refl
 
 folding_group_counts_keys : due_in (load ∷ by_first ∷ node (p_foreach 1 counting) ∷ stored 2 ∷ []) ≡ 2
 folding_group_counts_keys = refl
+
+-- a JOIN counts the rows of both inputs, and a replicated one none
+abbrev joined : Bool → Plan
+joined replicated = load ∷ load ∷ node (p_join (first_of 0 ∷ first_of 1 ∷ []) sides.Inner replicated) ∷ stored 2 ∷ []
+
+join_counts_rows : due_in (joined false) ≡ 8
+join_counts_rows = refl
+
+replicated_join_counts_nothing : due_in (joined true) ≡ 0
+replicated_join_counts_nothing = refl
 
 -- a LIMIT counts rows of each split, up to its count
 limit_counts_by_splits : due_in (load ∷ node (p_limit 0 1) ∷ stored 1 ∷ []) ≡ 2

@@ -27,10 +27,10 @@ use Rattle.pig_runs.specs.Parts.{pn}
 use Rattle.pig_runs.proofs.Order.{run_total}
 use Rattle.pig_runs.proofs.Parted.{slices_join}
 use Rattle.pig_physical.specs.Combining.{combining}
-use Rattle.pig_physical.specs.Outs.{Form, o_runs}
+use Rattle.pig_physical.specs.Outs.{Form, Outs, o_runs}
 use Rattle.pig_physical.specs.Stages.{Stages}
 use Rattle.pig_physical.specs.Values.{IsMapForm, Keeps, handed_on, partitions, runs_of, slices}
-use Rattle.pig_driver.specs.Handing.{entries_in}
+use Rattle.pig_driver.specs.Handing.{entries_in, handed_of}
 use Rattle.pig_counts.specs.Due.{count_due, due_of}
 
 abbrev Rows : Type 0
@@ -108,7 +108,7 @@ kept_length : (sorted : Bool) (count : ℕ) (rows : Rows) (form : Form) → Keep
 kept_length true count rows form h = ap entries_in h.is ∙ ap length (h.first refl) ∙ length-take count rows
 kept_length false count rows form h = ap entries_in h.is ∙ (h.some refl).size
 
-module _ (s : Stages) (some : 0 < s.sizing.reducers) (points : List Point) where
+module _ (s : Stages) (some : 0 < s.sizing.reducers) (points : List Point) (outs : Outs) where
   in_form : (k : ℕ) (o : PlanOp) → AreAscending o points → (i : ℕ) (rows : Rows) (form : Form)
       → form ≡ o_runs (runs_of s.sizing.reducers (Some points) o (handed_on s.plan k o (entries_of o i rows)))
       → entries_in form ≡ count_due (combining s.plan k o) (entries_of o i rows)
@@ -116,7 +116,7 @@ module _ (s : Stages) (some : 0 < s.sizing.reducers) (points : List Point) where
       ap entries_in is ∙ in_runs s.sizing.reducers some points o rise (handed_on s.plan k o (entries_of o i rows)) ∙ handed_length s k o (entries_of o i rows)
 
   pub form_counts : (k : ℕ) (o : PlanOp) → AreAscending o points → (i : ℕ) (rows : List (List Tree)) (form : Form)
-      → IsMapForm s (Some points) k o i rows form → entries_in form ≡ due_of s k o i rows
+      → IsMapForm s (Some points) outs k o i rows form → handed_of o form ≡ due_of s k o i rows
   form_counts k (p_limit input count) rise i rows form is = kept_length (is_sorted s.plan input) count rows form is
   form_counts k (p_store input path delim) rise i rows form is = ap entries_in is
   form_counts k (p_load path delim columns) rise i rows form is = in_form k (p_load path delim columns) rise i rows form is
@@ -124,7 +124,8 @@ module _ (s : Stages) (some : 0 < s.sizing.reducers) (points : List Point) where
   form_counts k (p_foreach input block) rise i rows form is = in_form k (p_foreach input block) rise i rows form is
   form_counts k (p_group_all input) rise i rows form is = in_form k (p_group_all input) rise i rows form is
   form_counts k (p_group keyed) rise i rows form is = in_form k (p_group keyed) rise i rows form is
-  form_counts k (p_join keyed side replicated) rise i rows form is = in_form k (p_join keyed side replicated) rise i rows form is
+  form_counts k (p_join keyed side true) rise i rows form is = refl
+  form_counts k (p_join keyed side false) rise i rows form is = in_form k (p_join keyed side false) rise i rows form is
   form_counts k (p_union numbers) rise i rows form is = in_form k (p_union numbers) rise i rows form is
   form_counts k (p_distinct input) rise i rows form is = in_form k (p_distinct input) rise i rows form is
   form_counts k (p_order input keys) rise i rows form is = in_form k (p_order input keys) rise i rows form is

@@ -1,14 +1,15 @@
 -- Waves that are listed feed by feed are those of the stages.
-use Rattle.std.specs.Prelude.{◌≡◌, ◌<◌, ◌≤◌, ◌+◌, ◌^◌, ℕ, true, false, List, [], ◌∷◌, ◌++◌, map, length, Option, Some, None, slice_get, refl}
+use Rattle.std.specs.Prelude.{◌≡◌, ◌<◌, ◌≤◌, ◌+◌, ◌^◌, ℕ, false, List, [], ◌∷◌, ◌++◌, map, length, min, Option, Some, None, slice_get, refl}
 use Rattle.std.proofs.Common.{ap, sym, ◌∙◌, arith, append_assoc, subst, inl, inr}
-use Rattle.std.specs.List.{AllByRecursion, filter, flat_map}
+use Rattle.std.specs.List.{AllByRecursion, filter, flat_map, sum_by}
 use Rattle.std.specs.Option.{unwrap_or}
 use Rattle.std.proofs.lemmas.List.{length-append, length-map, map-append}
 use Rattle.std.proofs.lemmas.Bool.{cases_lt}
+use Rattle.std.proofs.lemmas.List.Sums.{sum_by-cons}
 use Rattle.std.proofs.lemmas.Option.{slice_get_within}
 use Rattle.pig_value.proofs.list_laws.Listing.{each-append, each-map, each_of_all, some_same}
 use Rattle.pig_plan.proofs.Unfolds.{get-front}
-use Rattle.pig_plan.specs.Nodes.{Entering, live}
+use Rattle.pig_plan.specs.Nodes.{Entering, Path, live, paths_of}
 use Rattle.pig_plan.specs.Plans.{Plan, plan_of}
 use Rattle.pig_plan.specs.declared.nodes.Node.{Node}
 use Rattle.pig_plan.specs.Results.{at_place}
@@ -22,16 +23,18 @@ use Rattle.pig_physical.specs.declared.waves.WaveHead.{WaveHead}
 use Rattle.pig_physical.specs.declared.waves.WaveKind.{WaveKind}
 use Rattle.pig_physical.specs.declared.waves.WaveKind.TheVariants as kinds
 use Rattle.pig_physical.specs.Seen.{AreWaves, IsOwn, IsWave, cut_of, entering_of, no_way, staged, task_of}
-use Rattle.pig_physical.specs.Stages.{MapTask, Stages, heads, parts_at, stores, t_map, tasks_in, tasks_on, ways_in}
+use Rattle.pig_physical.specs.Stages.{MapTask, Stages, heads, parts_at, stores, t_map, tasks_in, tasks_on, wave_size, ways_in}
 use Rattle.pig_cutter.specs.Feeds.{IsCut, feeds_of, is_store_in, made_on, partition_task, partitions_of, tasks_along, tasks_fed, ways_on}
 use Rattle.pig_cutter.specs.Limits.{has_too_many}
-use Rattle.pig_cutter.specs.Listed.{AreAll, AreCut, AreListed, CutsInto, IsWhole}
-use Rattle.pig_cutter.specs.Tables.{parts_for, reading_of, readings}
+use Rattle.pig_cutter.specs.Listed.{AreCut, AreListed, CutsInto}
+use Rattle.pig_cutter.specs.Tables.{counts_of, parts_for, reading_of, readings, sizing_of}
 use Rattle.pig_cutter.specs.declared.feeding.Feed.{Feed}
 use Rattle.pig_cutter.specs.declared.reading.Source.{Source}
+use Rattle.pig_cutter.proofs.Counted.{counts_are}
 use Rattle.pig_cutter.proofs.Firsts.{parts_are}
-use Rattle.pig_cutter.proofs.Fed.{fed_tasks, partition_seen, tasks_are_fed, ways_are_fed}
-use Rattle.pig_cutter.proofs.Weighed.{any_over_is}
+use Rattle.pig_cutter.proofs.Sized.{feed_weight, path_weight, size_is}
+use Rattle.pig_cutter.proofs.Fed.{enter, fed_tasks, partition_seen, tasks_are_fed, ways_are_fed}
+use Rattle.pig_cutter.proofs.Weighed.{any_over_is, each_few}
 
 get-next : {X : Type 0} (xs : List X) (x : X) (ys : List X) → slice_get (xs ++ x ∷ ys) (length xs) ≡ Some x
 get-next [] x ys = refl
@@ -151,34 +154,87 @@ waves_are s waves cut = record {
   each = λ w wave at. let found = cut.each w wave at in wave_is s w found.0 found.1.0 wave found.1.1;
 }
 
--- ---- what is listed from tables
+-- ---- parts that are told where there are few
 
-module _ (s : Stages) (valid : IsPlan s.plan) where
-  by_found : (found : Option (List Wave)) → AreListed s.plan (stores s.plan) (parts_at s) s.sizing.reducers (heads s.plan) found → CutsInto s found
-  by_found None over = sym (any_over_is s valid (2 ^ 16)) ∙ over
-  by_found (Some waves) all = record {
-    waves_are = waves_are s waves all.cut;
-    few = all.few;
-    none_over = sym (any_over_is s valid (2 ^ 16)) ∙ all.none_over;
+-- A path counts one more than the parts of its source. So where no wave counts more than the most, all sources that are read
+-- have fewer parts.
+module _ (s : Stages) (most : ℕ) (parts : ℕ → List Part) (told : (k : ℕ) → length (parts_at s k) < most → parts k ≡ parts_at s k) where
+  same_along : (k w way i : ℕ) (ps : List Path) → sum_by (path_weight s) ps ≤ most → tasks_along parts k w way (map (enter i) ps) ≡ tasks_along (parts_at s) k w way (map (enter i) ps)
+  same_along k w way i [] few = refl
+  same_along k w way i (p ∷ ps) few =
+      let sum : sum_by (path_weight s) (p ∷ ps) ≡ (length (parts_at s p.source) + 1) + sum_by (path_weight s) ps = sum_by-cons (path_weight s) p ps in
+      let one : parts p.source ≡ parts_at s p.source = told p.source (omega (arith, sum, few)) in
+      let more = same_along k w (way + 1) i ps (omega (arith, sum, few)) in
+      λ j. map (made_on k w way) (one j) ++ more j
+
+  same_fed : (w way : ℕ) (feeds : List Feed) → sum_by (feed_weight s) feeds ≤ most → tasks_fed parts s.plan w way feeds ≡ tasks_fed (parts_at s) s.plan w way feeds
+  same_fed w way [] few = refl
+  same_fed w way (feed ∷ feeds) few =
+      let sum : sum_by (feed_weight s) (feed ∷ feeds) ≡ sum_by (path_weight s) (paths_of s.plan feed.from) + sum_by (feed_weight s) feeds = sum_by-cons (feed_weight s) feed feeds in
+      let one = same_along feed.node w way feed.input (paths_of s.plan feed.from) (omega (arith, sum, few)) in
+      let more = same_fed w (way + length (ways_on s.plan feed)) feeds (omega (arith, sum, few)) in
+      λ j. one j ++ more j
+
+  same_wave : (w : ℕ) (head : WaveHead) (wave : Wave) → slice_get (heads s.plan) w ≡ Some head → wave_size s w ≤ most
+      → IsCut s.plan (stores s.plan) parts s.sizing.reducers w head wave → IsCut s.plan (stores s.plan) (parts_at s) s.sizing.reducers w head wave
+  same_wave w head wave at few is =
+      let size = size_is s w head at in
+      record {
+        head_is = is.head_is;
+        ways_are = is.ways_are;
+        tasks_are = is.tasks_are ∙ ap (λ ts. ts ++ map (partition_task head.kind) (partitions_of s.plan s.sizing.reducers w head))
+            (same_fed w 0 (feeds_of s.plan (stores s.plan) head) (omega (arith, size, few)));
+        few = is.few;
+      }
+
+  same_waves : (waves : List Wave) → ((w : ℕ) (head : WaveHead) → slice_get (heads s.plan) w ≡ Some head → wave_size s w ≤ most)
+      → AreCut s.plan (stores s.plan) parts s.sizing.reducers (heads s.plan) waves → AreCut s.plan (stores s.plan) (parts_at s) s.sizing.reducers (heads s.plan) waves
+  same_waves waves few cut = record {
+    count = cut.count;
+    each = λ w wave at. let found = cut.each w wave at in (found.0, (found.1.0, same_wave w found.0 wave found.1.0 (few w found.0 found.1.0) found.1.1));
   }
 
-  pub cuts_into : (at : List ℕ) (parts : ℕ → List Part) (hs : List WaveHead) → at ≡ stores s.plan → ((k : ℕ) → parts k ≡ parts_at s k) → hs ≡ heads s.plan
-      → (found : Option (List Wave)) → AreListed s.plan at parts s.sizing.reducers hs found → CutsInto s found
-  cuts_into at parts hs of_stores of_parts of_heads found listed =
-      let all_parts : parts ≡ parts_at s = λ i k. of_parts k i in
-      by_found found (subst (λ h. AreListed s.plan (stores s.plan) (parts_at s) s.sizing.reducers h found) of_heads
-      (subst (λ p. AreListed s.plan (stores s.plan) p s.sizing.reducers hs found) all_parts
-      (subst (λ t. AreListed s.plan t parts s.sizing.reducers hs found) of_stores listed)))
+-- ---- what is listed from tables
+
+below : (a b : ℕ) → a < b → a < b + 1
+below a b h = omega (arith, h)
+
+module _ (s : Stages) (valid : IsPlan s.plan) (parts : ℕ → List Part) (told : (k : ℕ) → length (parts_at s k) < 2 ^ 16 + 1 → parts k ≡ parts_at s k) where
+  abbrev counted : ℕ → ℕ
+  counted k = min (2 ^ 16 + 1) (length (parts_at s k))
+
+  by_found : (found : Option (List Wave)) → AreListed s.plan (stores s.plan) counted parts s.sizing.reducers (heads s.plan) found → CutsInto s found
+  by_found None over = sym (any_over_is s valid (2 ^ 16)) ∙ over
+  by_found (Some waves) all =
+      let none : has_too_many s ≡ false = sym (any_over_is s valid (2 ^ 16)) ∙ all.none_over in
+      record {
+        waves_are = waves_are s waves
+            (same_waves s (2 ^ 16) parts (λ k few. told k (below (length (parts_at s k)) (2 ^ 16) few)) waves (each_few s (2 ^ 16) none) all.cut);
+        few = all.few;
+        none_over = none;
+      }
+
+  pub cuts_into : (at : List ℕ) (count : ℕ → ℕ) (hs : List WaveHead) → at ≡ stores s.plan → ((k : ℕ) → count k ≡ counted k) → hs ≡ heads s.plan
+      → (found : Option (List Wave)) → AreListed s.plan at count parts s.sizing.reducers hs found → CutsInto s found
+  cuts_into at count hs of_stores of_counts of_heads found listed =
+      let all_counts : count ≡ counted = λ i k. of_counts k i in
+      by_found found (subst (λ h. AreListed s.plan (stores s.plan) counted parts s.sizing.reducers h found) of_heads
+      (subst (λ c. AreListed s.plan (stores s.plan) c parts s.sizing.reducers hs found) all_counts
+      (subst (λ t. AreListed s.plan t count parts s.sizing.reducers hs found) of_stores listed)))
 
 -- the same of what the code has read
-pub cut_tables : (plan nodes : List Node) (sizes seen : List Size) (reducers split : ℕ) (at numbers : List ℕ) (table : List Source) (hs : List WaveHead) → IsPlan (plan_of plan) → nodes ≡ plan
-    → numbers ≡ live (plan_of plan) → at ≡ filter (is_store_in (plan_of nodes)) numbers → map reading_of table ≡ readings (plan_of nodes) seen reducers → seen ≡ sizes → hs ≡ heads (plan_of plan)
-    → (found : Option (List Wave)) → AreListed (plan_of nodes) at (parts_for split table) reducers hs found → CutsInto (staged (cut_of plan sizes reducers split)) found
-cut_tables plan nodes sizes seen reducers split at numbers table hs valid nodes_are live_are at_are table_is seen_are hs_are found listed =
+pub cut_tables : (plan nodes : List Node) (sizes seen : List Size) (reducers split : ℕ) (at numbers counts : List ℕ) (table : List Source) (hs : List WaveHead) → IsPlan (plan_of plan) → nodes ≡ plan
+    → numbers ≡ live (plan_of plan) → at ≡ filter (is_store_in (plan_of nodes)) numbers → counts ≡ counts_of (2 ^ 16 + 1) (sizing_of seen reducers split) (plan_of nodes)
+    → map reading_of table ≡ readings (plan_of nodes) seen counts → seen ≡ sizes → hs ≡ heads (plan_of plan)
+    → (found : Option (List Wave)) → AreListed (plan_of nodes) at (at_place 0 counts) (parts_for split table) reducers hs found → CutsInto (staged (cut_of plan sizes reducers split)) found
+cut_tables plan nodes sizes seen reducers split at numbers counts table hs valid nodes_are live_are at_are counts_is table_is seen_are hs_are found listed =
     let s = staged (cut_of plan sizes reducers split) in
-    cuts_into s valid at (parts_for split table) hs (at_are ∙ (λ i. filter (is_store_in (plan_of (nodes_are i))) (live_are i)))
-    (parts_are s sizes refl table (table_is ∙ (λ i. readings (plan_of (nodes_are i)) (seen_are i) reducers))) hs_are found
-    (subst (λ ns. AreListed (plan_of ns) at (parts_for split table) reducers hs found) nodes_are listed)
+    let counted_is : (k : ℕ) → at_place 0 counts k ≡ min (2 ^ 16 + 1) (length (parts_at s k)) =
+    λ k. (λ i. at_place 0 ((counts_is ∙ (λ j. counts_of (2 ^ 16 + 1) (sizing_of (seen_are j) reducers split) (plan_of (nodes_are j)))) i) k) ∙ counts_are (2 ^ 16 + 1) s valid k in
+    cuts_into s valid (parts_for split table)
+    (parts_are s sizes refl valid (2 ^ 16 + 1) counts counted_is table (table_is ∙ (λ i. readings (plan_of (nodes_are i)) (seen_are i) counts)))
+    at (at_place 0 counts) hs (at_are ∙ (λ i. filter (is_store_in (plan_of (nodes_are i))) (live_are i))) counted_is hs_are found
+    (subst (λ ns. AreListed (plan_of ns) at (at_place 0 counts) (parts_for split table) reducers hs found) nodes_are listed)
 
 -- ---- loops
 

@@ -1,7 +1,7 @@
 -- A live ASSERT is met by the meaning just where no task tells of it.
 use Rattle.std.specs.Prelude.{◌≡◌, ◌<◌, ◌+◌, ◌==◌, ℕ, zero, suc, Bool, true, false, not, List, [], ◌∷◌, ◌++◌, map, Option, None, Some, slice_get, refl}
 use Rattle.std.proofs.Common.{inl, inr, ap, sym, ◌∙◌, arith, subst, append_assoc, true≢false}
-use Rattle.std.specs.List.{AllByRecursion, flat_map, list_all, list_any}
+use Rattle.std.specs.List.{AllByRecursion, filter, flat_map, list_all, list_any}
 use Rattle.std.specs.Option.{option_map, option_map_or, unwrap_or}
 use Rattle.std.proofs.lemmas.Bool.{cases_Bool, eq-eqb, eqb-true}
 use Rattle.std.proofs.lemmas.Option.{slice_get_within}
@@ -29,13 +29,13 @@ use Rattle.pig_physical.specs.declared.waves.WaveKind.{WaveKind}
 use Rattle.pig_physical.specs.declared.waves.WaveKind.TheVariants as kinds
 use Rattle.pig_physical.specs.Outs.{Outs, TaskOut, outs_at}
 use Rattle.pig_physical.specs.Running.{IsRun, all_unmet, store_wave}
-use Rattle.pig_physical.specs.Stages.{MapTask, Stages, Task, first_wave, heads, map_tasks, partition_tasks, parts_at, path_tasks, store_tasks, stores, t_map, t_rank, t_reduce, tasks_by, tasks_in, tasks_of, tasks_on, ways_into, ways_to}
+use Rattle.pig_physical.specs.Stages.{MapTask, Stages, Task, enters_first, first_wave, heads, is_replicated, map_tasks, partition_tasks, parts_at, path_tasks, store_tasks, stores, t_map, t_rank, t_reduce, tasks_by, tasks_in, tasks_of, tasks_on, ways_into, ways_to}
 use Rattle.pig_physical.specs.Values.{IsValue, read_rows, source_rows}
-use Rattle.pig_waves.proofs.Heads.{stands_at}
-use Rattle.pig_waves.proofs.Places.{all_flat_where}
+use Rattle.pig_waves.proofs.Heads.{probes_at, stands_at}
+use Rattle.pig_waves.proofs.Places.{all_flat_where, filtered_at}
 use Rattle.pig_waves.proofs.Sources.{rows_of_parts}
 use Rattle.pig_waves.proofs.Tasks.{rows_at_node, through_parts}
-use Rattle.pig_waves.specs.Laws.{HaveStages, has_stages}
+use Rattle.pig_waves.specs.Laws.{copy_tasks, probe_tasks}
 use Rattle.pig_waves.proofs.Among.{Among, among_flat, among_map, any_holds, made_of, not_all, some_fails, some_holds}
 use Rattle.pig_cutter.proofs.Stores.{store_among, store_tasks_last}
 use Rattle.pig_cutter.proofs.Told.{all_alike, all_among, in_none, any_sorted, from_sorted, told_at, tells}
@@ -64,6 +64,10 @@ module _ {X Y : Type 0} (P : X → Y → Type 0) where
   beside_left (u ∷ xs) [] h i x at = absurd h
   beside_left (u ∷ xs) (v ∷ ys) h zero x at = record { x = u; y = v; first = refl; second = refl; both = h.0 }
   beside_left (u ∷ xs) (v ∷ ys) h (suc i) x at = let rest = beside_left xs ys h.1 i x at in record { x = rest.x; y = rest.y; first = rest.first; second = rest.second; both = rest.both }
+
+-- an element that passes a test is one of those that do
+among_filtered : {X : Type 0} (p : X → Bool) (x : X) (xs : List X) → Among x xs → p x ≡ true → Among x (filter p xs)
+among_filtered p x xs h passes = let found = filtered_at p xs h.at x h.is passes in record { at = found.0; is = found.1 }
 
 module _ (s : Stages) (inputs : List Input) (points : ℕ → List Point) (outs : Outs) (valid : IsPlan s.plan) (run : IsRun s inputs points outs) where
   -- ---- what is known of each task
@@ -152,7 +156,7 @@ module _ (s : Stages) (inputs : List Input) (points : ℕ → List Point) (outs 
 
   -- ---- an ASSERT that the meaning may not meet
 
-  module _ (kept : List Kept) (staged : HaveStages s.plan)
+  module _ (kept : List Kept)
       (k statement input : ℕ) (test : Typed) (message : Option (List ℕ)) (at : slice_get s.plan k ≡ Some (record { op = p_assert input test message; statement = statement })) (alive : is_live s.plan k ≡ true)
       (same_rows : bag_of (rows_at_node s inputs outs input) ≡ bag_of (meaning s.plan inputs kept input)) where
     abbrev v : PlanNode
@@ -271,13 +275,25 @@ module _ (s : Stages) (inputs : List Input) (points : ℕ → List Point) (outs 
             → Among statement (unmet_on (folds s.plan) s.plan way.path.nodes (source_rows s.plan inputs outs way.path.source part)) → IsRead s.plan valid m u.op way → list_any is_ours (all_unmet outs) ≡ true
         by_read m u there lives way {part = part} of_source says (into bounds among) =
             let own = ap (option_map (λ n. n.op)) there in
-            let stands = stands_at s m u.op own lives bounds (each_at (λ n. has_stages n.op ≡ true) s.plan m u there staged) in
-            told_in (first_wave s.plan m) (record { node = m; way = way; part = part }) u.op
-            (subst (Among (t_map (record { node = m; way = way; part = part }))) (sym stands.maps)
-            (among_map t_map (map_tasks s m u.op) (record { node = m; way = way; part = part })
-            (among_flat (path_tasks s m) (ways_into s.plan u.op) way (record { node = m; way = way; part = part }) among
-            (among_map (λ p. record { node = m; way = way; part = p }) (parts_at s way.path.source) part of_source))))
-            own says
+            let t : MapTask = record { node = m; way = way; part = part } in
+            let mine : Among t (map_tasks s m u.op) =
+            among_flat (path_tasks s m) (ways_into s.plan u.op) way t among (among_map (λ p. record { node = m; way = way; part = p }) (parts_at s way.path.source) part of_source) in
+            elim (cases_Bool (is_replicated u.op)) [
+              | inl replicated ↦
+                  let stands = probes_at s m u.op own lives replicated in
+                  elim (cases_Bool (enters_first t)) [
+                    | inl first ↦
+                        told_in (first_wave s.plan m + 1) t u.op
+                        (subst (Among (t_map t)) (sym stands.probes) (among_map t_map (probe_tasks s m u.op) t (among_filtered enters_first t (map_tasks s m u.op) mine first))) own says
+                    | inr later ↦
+                        told_in (first_wave s.plan m) t u.op
+                        (subst (Among (t_map t)) (sym stands.copies)
+                        (among_map t_map (copy_tasks s m u.op) t (among_filtered (λ other. not (enters_first other)) t (map_tasks s m u.op) mine (ap not later)))) own says
+                  ]
+              | inr other ↦
+                  let stands = stands_at s m u.op own lives bounds other in
+                  told_in (first_wave s.plan m) t u.op (subst (Among (t_map t)) (sym stands.maps) (among_map t_map (map_tasks s m u.op) t mine)) own says
+            ]
         by_read m u there lives way {part = part} of_source says (stored store among) =
             let own = ap (option_map (λ n. n.op)) there in
             told_in (store_wave s.plan) (record { node = m; way = way; part = part }) u.op

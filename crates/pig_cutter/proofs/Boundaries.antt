@@ -42,7 +42,7 @@ pub record AreOf (s : Stages) (inputs : List Input) (kept : List Kept) (outs : O
   pub folded : (block : TypedBlock) → folds s.plan k ≡ Some block
       → bag_of (rows_given s.plan outs k o) ≡ bag_of (foreach_all block (operator_rows (setting s.plan inputs kept) statement o (rows_at_node s inputs outs)))
 
-once : (rows : Rows) → bag_of (bag_of rows) ≡ bag_of rows
+pub once : (rows : Rows) → bag_of (bag_of rows) ≡ bag_of rows
 once rows = bag_once row_cmp row_total rows
 
 foreach_of_bag : (block : TypedBlock) (rows : Rows) → bag_of (foreach_all block rows) ≡ bag_of (foreach_all block (bag_of rows))

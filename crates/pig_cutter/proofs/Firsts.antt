@@ -1,25 +1,26 @@
 -- What the parts of each node are read from, node by node, with the number of the next wave.
-use Rattle.std.specs.Prelude.{◌≡◌, ◌<◌, ◌≤◌, ◌+◌, ◌-◌, ◌&&◌, ℕ, zero, suc, Bool, true, false, nat_lt, List, [], ◌∷◌, ◌++◌, length, map, Option, Some, None, slice_get, refl}
+use Rattle.std.specs.Prelude.{◌≡◌, ◌<◌, ◌≤◌, ◌+◌, ◌-◌, ◌&&◌, ℕ, zero, suc, Bool, true, false, nat_lt, List, [], ◌∷◌, ◌++◌, length, map, min, Option, Some, None, slice_get, refl}
 use Rattle.std.proofs.Common.{ap, sym, ◌∙◌, arith, cond, inl, inr}
-use Rattle.std.specs.List.{AllByRecursion, filter, flat_map, range_with_len}
+use Rattle.std.specs.List.{filter, flat_map, range_with_len}
 use Rattle.std.specs.Option.{option_map, option_map_or, unwrap_or}
 use Rattle.std.proofs.lemmas.Bool.{cases_lt, le-ltb, lt-ltb}
 use Rattle.std.proofs.lemmas.Grind.{flat_map-append}
 use Rattle.std.proofs.lemmas.List.{length-append, length-map}
 use Rattle.std.proofs.lemmas.List.Elements.{filter-append}
 use Rattle.std.proofs.lemmas.List.FromFn.{length-range_with_len, map-range_with_len_more}
-use Rattle.std.proofs.lemmas.Option.{slice_get-map, slice_get_past, slice_get_within}
+use Rattle.std.proofs.lemmas.Option.{slice_get-map, slice_get_past}
 use Rattle.pig_value.proofs.list_laws.Elementwise.{range_above}
 use Rattle.pig_value.proofs.list_laws.Indexing.{some_at}
 use Rattle.pig_value.proofs.list_laws.Listing.{each_weaker, filter_none}
+use Rattle.pig_waves.proofs.Counted.{count_of_node, parts_counted}
 use Rattle.pig_waves.proofs.Places.{range_at}
 use Rattle.pig_plan.specs.Nodes.{is_boundary, is_live, live, live_marks, op_at}
 use Rattle.pig_plan.specs.Plans.{Plan, PlanNode, PlanOp, p_load, p_filter, p_foreach, p_group_all, p_group, p_join, p_union, p_distinct, p_order, p_limit, p_store, p_assert, p_rank}
 use Rattle.pig_plan.specs.Results.{at_place}
-use Rattle.pig_physical.specs.declared.parts.Part.{Part}
+use Rattle.pig_plan.specs.Valid.{IsPlan}
 use Rattle.pig_physical.specs.declared.staged.Size.{Size}
 use Rattle.pig_physical.specs.Seen.{lengths_in}
-use Rattle.pig_physical.specs.Stages.{Stages, boundaries, first_wave, head_of, heads_at, parts_at, parts_of, waves_of}
+use Rattle.pig_physical.specs.Stages.{Stages, first_wave, head_of, heads_at, output_count, parts_at, parts_of, waves_of}
 use Rattle.pig_cutter.specs.Tables.{Reading, parts_for, parts_read, r_splits, reading_of, readings, reads, reads_at, waves_behind}
 use Rattle.pig_cutter.specs.declared.reading.Source.{Source}
 
@@ -160,17 +161,17 @@ module _ (plan : Plan) where
   next_first k o marks mark wave next are within at is so_far found =
       found ∙ ap (λ b. waves_behind b o wave) (is ∙ marked k marks are within) ∙ ap (waves_behind (is_live plan k) o) so_far ∙ sym (first_next k o within at)
 
-  module _ (sizes : List Size) (reducers : ℕ) where
-    pub next_reading : (k : ℕ) (o : PlanOp) (wave : ℕ) (found next : List Source) (source : Source) → op_at plan k ≡ Some o → wave ≡ first_wave plan k
-        → next ≡ found ++ source ∷ [] → reading_of source ≡ reads sizes reducers wave o
-        → map reading_of found ≡ map (reads_at plan sizes reducers) (range_with_len 0 k) → map reading_of next ≡ map (reads_at plan sizes reducers) (range_with_len 0 (k + 1))
-    next_reading k o wave found next source at first adds is so_far =
+  module _ (sizes : List Size) (counts : List ℕ) where
+    pub next_reading : (k : ℕ) (o : PlanOp) (wave n : ℕ) (found next : List Source) (source : Source) → op_at plan k ≡ Some o → wave ≡ first_wave plan k
+        → n ≡ at_place 0 counts k → next ≡ found ++ source ∷ [] → reading_of source ≡ reads sizes n wave o
+        → map reading_of found ≡ map (reads_at plan sizes counts) (range_with_len 0 k) → map reading_of next ≡ map (reads_at plan sizes counts) (range_with_len 0 (k + 1))
+    next_reading k o wave n found next source at first counted adds is so_far =
         ap (map reading_of) adds
         ∙ mapped found
         ∙ ap (λ rs. rs ++ reading_of source ∷ []) so_far
-        ∙ ap (λ r. map (reads_at plan sizes reducers) (range_with_len 0 k) ++ r ∷ [])
-        (is ∙ ap (λ w. reads sizes reducers w o) first ∙ sym (ap (λ p. option_map_or (reads sizes reducers (first_wave plan k)) p (r_splits [])) at))
-        ∙ sym (map-range_with_len_more (reads_at plan sizes reducers) 0 k k (omega arith))
+        ∙ ap (λ r. map (reads_at plan sizes counts) (range_with_len 0 k) ++ r ∷ [])
+        (is ∙ (λ i. reads sizes (counted i) (first i) o) ∙ sym (ap (λ p. option_map_or (reads sizes (at_place 0 counts k) (first_wave plan k)) p (r_splits [])) at))
+        ∙ sym (map-range_with_len_more (reads_at plan sizes counts) 0 k k (omega arith))
       where
         mapped : (xs : List Source) → map reading_of (xs ++ source ∷ []) ≡ map reading_of xs ++ reading_of source ∷ []
         mapped [] = refl
@@ -179,45 +180,54 @@ module _ (plan : Plan) where
 -- ---- parts
 
 module _ (s : Stages) (sizes : List Size) (lengths : s.sizing.lengths ≡ lengths_in sizes) where
-  parts_of_op : (k : ℕ) (o : PlanOp) → parts_read s.sizing.split (reads sizes s.sizing.reducers (first_wave s.plan k) o) ≡ parts_of s k o
-  parts_of_op k (p_load path delim columns) = λ i. parts_read s.sizing.split (r_splits (sym lengths i path))
-  parts_of_op k (p_filter input test) = refl
-  parts_of_op k (p_foreach input block) = refl
-  parts_of_op k (p_group_all input) = refl
-  parts_of_op k (p_group inputs) = refl
-  parts_of_op k (p_join inputs side replicated) = refl
-  parts_of_op k (p_union inputs) = refl
-  parts_of_op k (p_distinct input) = refl
-  parts_of_op k (p_order input keys) = refl
-  parts_of_op k (p_limit input count) = refl
-  parts_of_op k (p_store input path delim) = refl
-  parts_of_op k (p_assert input test message) = refl
-  parts_of_op k (p_rank input keys dense) = refl
+  parts_of_op : (k n : ℕ) (o : PlanOp) → n ≡ output_count s o → parts_read s.sizing.split (reads sizes n (first_wave s.plan k) o) ≡ parts_of s k o
+  parts_of_op k n (p_load path delim columns) is = λ i. parts_read s.sizing.split (r_splits (sym lengths i path))
+  parts_of_op k n (p_filter input test) is = λ i. parts_read s.sizing.split (reads sizes (is i) (first_wave s.plan k) (p_filter input test))
+  parts_of_op k n (p_foreach input block) is = λ i. parts_read s.sizing.split (reads sizes (is i) (first_wave s.plan k) (p_foreach input block))
+  parts_of_op k n (p_group_all input) is = λ i. parts_read s.sizing.split (reads sizes (is i) (first_wave s.plan k) (p_group_all input))
+  parts_of_op k n (p_group inputs) is = λ i. parts_read s.sizing.split (reads sizes (is i) (first_wave s.plan k) (p_group inputs))
+  parts_of_op k n (p_join inputs side replicated) is = λ i. parts_read s.sizing.split (reads sizes (is i) (first_wave s.plan k) (p_join inputs side replicated))
+  parts_of_op k n (p_union inputs) is = λ i. parts_read s.sizing.split (reads sizes (is i) (first_wave s.plan k) (p_union inputs))
+  parts_of_op k n (p_distinct input) is = λ i. parts_read s.sizing.split (reads sizes (is i) (first_wave s.plan k) (p_distinct input))
+  parts_of_op k n (p_order input keys) is = λ i. parts_read s.sizing.split (reads sizes (is i) (first_wave s.plan k) (p_order input keys))
+  parts_of_op k n (p_limit input count) is = λ i. parts_read s.sizing.split (reads sizes (is i) (first_wave s.plan k) (p_limit input count))
+  parts_of_op k n (p_store input path delim) is = λ i. parts_read s.sizing.split (reads sizes (is i) (first_wave s.plan k) (p_store input path delim))
+  parts_of_op k n (p_assert input test message) is = λ i. parts_read s.sizing.split (reads sizes (is i) (first_wave s.plan k) (p_assert input test message))
+  parts_of_op k n (p_rank input keys dense) is = λ i. parts_read s.sizing.split (reads sizes (is i) (first_wave s.plan k) (p_rank input keys dense))
 
   seen : (o : Option Source) → option_map_or (λ source. parts_read s.sizing.split (reading_of source)) o [] ≡ option_map_or (parts_read s.sizing.split) (option_map reading_of o) []
   seen None = refl
   seen (Some source) = refl
 
-  -- the parts of each node are told by what stands in the table
-  pub parts_are : (table : List Source) → map reading_of table ≡ readings s.plan sizes s.sizing.reducers → (k : ℕ) → parts_for s.sizing.split table k ≡ parts_at s k
-  parts_are table is k =
+  -- the parts of each node are told by what stands in the table, where they are below the limit to which they were counted
+  pub parts_are : IsPlan s.plan → (limit : ℕ) (counts : List ℕ) → ((k : ℕ) → at_place 0 counts k ≡ min limit (length (parts_at s k)))
+      → (table : List Source) → map reading_of table ≡ readings s.plan sizes counts → (k : ℕ) → length (parts_at s k) < limit → parts_for s.sizing.split table k ≡ parts_at s k
+  parts_are valid limit counts counted table is k few =
       seen (slice_get table k)
       ∙ ap (λ o. option_map_or (parts_read s.sizing.split) o []) (sym (slice_get-map reading_of table k) ∙ ap (λ rs. slice_get rs k) is)
       ∙ by_place
     where
       reader : ℕ → Reading
-      reader = reads_at s.plan sizes s.sizing.reducers
+      reader = reads_at s.plan sizes counts
 
-      by_op : (o : Option PlanOp) → op_at s.plan k ≡ o → parts_read s.sizing.split (option_map_or (reads sizes s.sizing.reducers (first_wave s.plan k)) o (r_splits [])) ≡ option_map_or (parts_of s k) o []
-      by_op None e = refl
-      by_op (Some o) e = parts_of_op k o
+      all_counted : at_place 0 counts k ≡ length (parts_at s k)
+      all_counted = let cut = counted k in omega (arith, cut, few)
+
+      by_node : (v : PlanNode) → slice_get s.plan k ≡ Some v
+          → parts_read s.sizing.split (option_map_or (reads sizes (at_place 0 counts k) (first_wave s.plan k)) (op_at s.plan k) (r_splits [])) ≡ parts_at s k
+      by_node v at =
+          let op : op_at s.plan k ≡ Some v.op = ap (option_map {T = PlanNode} (λ node. node.op)) at in
+          ap (λ o. parts_read s.sizing.split (option_map_or (reads sizes (at_place 0 counts k) (first_wave s.plan k)) o (r_splits []))) op
+          ∙ parts_of_op k (at_place 0 counts k) v.op (all_counted ∙ parts_counted s valid k ∙ count_of_node s valid k v at)
+          ∙ sym (ap (λ o. option_map_or (parts_of s k) o []) op)
 
       by_place : option_map_or (parts_read s.sizing.split) (slice_get (map reader (range_with_len 0 (length s.plan))) k) [] ≡ parts_at s k
       by_place = elim (cases_lt k (length s.plan)) [
         | inl within ↦
             let e : 0 + k ≡ k = omega arith in
+            let found = some_at s.plan k within in
             ap (λ o. option_map_or (parts_read s.sizing.split) o []) (slice_get-map reader (range_with_len 0 (length s.plan)) k ∙ ap (option_map reader) (range_at 0 (length s.plan) k within ∙ ap Some e))
-            ∙ by_op (op_at s.plan k) refl
+            ∙ by_node found.0 found.1
         | inr past ↦
             let size : length (map reader (range_with_len 0 (length s.plan))) ≡ length s.plan = length-map (range_with_len 0 (length s.plan)) reader ∙ length-range_with_len 0 (length s.plan) in
             ap (λ o. option_map_or (parts_read s.sizing.split) o []) (slice_get_past (map reader (range_with_len 0 (length s.plan))) k (omega (arith, size, past)))

@@ -1,5 +1,5 @@
 -- What the partitions of an operator by key, or of a DISTINCT, are made of.
-use Rattle.std.specs.Prelude.{◌≡◌, ◌<◌, ◌+◌, ℕ, true, List, [], ◌∷◌, ◌++◌, map, Some, slice_get, refl}
+use Rattle.std.specs.Prelude.{◌≡◌, ◌<◌, ◌+◌, ℕ, true, List, [], ◌∷◌, map, Some, slice_get, refl}
 use Rattle.std.proofs.Common.{ap, sym, ◌∙◌, arith}
 use Rattle.std.specs.List.{AllByRecursion, flat_map, range_with_len}
 use Rattle.std.specs.Option.{option_map_or}
@@ -17,7 +17,7 @@ use Rattle.pig_typed.specs.Typed.{TypedBlock}
 use Rattle.pig_algebra.specs.Combining.{SortedCombinersLaw, combined, folded, grouped, parts_of_rows}
 use Rattle.pig_algebra.specs.Cuts.{is_combinable}
 use Rattle.pig_plan.specs.ByKey.{gathered, group_of}
-use Rattle.pig_plan.specs.Entries.{entries_of, key_at, key_entries}
+use Rattle.pig_plan.specs.Entries.{entries_of, key_entries}
 use Rattle.pig_plan.specs.Nodes.{op_at}
 use Rattle.pig_plan.specs.Plans.{PlanOp}
 use Rattle.pig_runs.specs.Cutting.{Point}
@@ -29,19 +29,12 @@ use Rattle.pig_physical.specs.Stages.{MapTask, Stages, first_wave, map_tasks, re
 use Rattle.pig_physical.specs.Values.{IsMapForm, IsReduceForm, handed_on, partitions, reduced, runs_of, task_rows}
 use Rattle.pig_waves.proofs.ByKey.{parts_together}
 use Rattle.pig_waves.proofs.Given.{entries_of_part, in_partition, reduce_outs, rows_by_parts, task_entries}
+use Rattle.pig_waves.proofs.Probing.{entries_of_both}
 use Rattle.pig_waves.proofs.Tasks.{from_tasks, rows_at_node}
 use Rattle.pig_waves.specs.Laws.{StandsAt}
 
 abbrev Rows : Type 0
 Rows = List (List Tree)
-
--- the entries of rows of an input are those of each row
-entries_none : (o : PlanOp) (i : ℕ) → entries_of o i [] ≡ []
-entries_none o i = refl
-
-entries_both : (o : PlanOp) (i : ℕ) (xs ys : Rows) → entries_of o i (xs ++ ys) ≡ entries_of o i xs ++ entries_of o i ys
-entries_both o i [] ys = refl
-entries_both o i (x ∷ xs) ys = ap (λ more. record { key = key_at o i x; input = i; row = x } ∷ more) (entries_both o i xs ys)
 
 module _ (s : Stages) (inputs : List Input) (points : ℕ → List Point) (outs : Outs) (run : IsRun s inputs points outs) (some : 0 < s.sizing.reducers)
     (k : ℕ) (o : PlanOp) (at : op_at s.plan k ≡ Some o) (stands : StandsAt s k o) where
@@ -50,7 +43,7 @@ module _ (s : Stages) (inputs : List Input) (points : ℕ → List Point) (outs 
 
   -- the entries of all tasks
   pub all_entries : flat_map own_entries (map_tasks s k o) ≡ key_entries o (rows_at_node s inputs outs)
-  all_entries = from_tasks s inputs outs (entries_of o) (entries_none o) (entries_both o) k o
+  all_entries = from_tasks s inputs outs (entries_of o) (λ i. refl) (entries_of_both o) k o
 
   abbrev handed : MapTask → List Entry
   handed = task_entries s inputs points outs run k o at stands
@@ -67,7 +60,7 @@ module _ (s : Stages) (inputs : List Input) (points : ℕ → List Point) (outs 
   -- a node whose map tasks hand on runs by partitions, and that gives rows of as many
   module _ (count_is : reduce_count s.sizing.reducers o ≡ s.sizing.reducers)
       (runs_are : (es : List Entry) → runs_of s.sizing.reducers (Some (points (first_wave s.plan k))) o es ≡ partitions s.sizing.reducers es)
-      (map_form : (i : ℕ) (rows : Rows) (form : Form) → IsMapForm s (Some (points (first_wave s.plan k))) k o i rows form
+      (map_form : (i : ℕ) (rows : Rows) (form : Form) → IsMapForm s (Some (points (first_wave s.plan k))) outs k o i rows form
       → form ≡ o_runs (runs_of s.sizing.reducers (Some (points (first_wave s.plan k))) o (handed_on s.plan k o (entries_of o i rows))))
       (reduce_form : (p : ℕ) (form : Form) → IsReduceForm s k o (outs_at outs (first_wave s.plan k)) p form
       → form ≡ o_rows (reduced s.plan k o (flat_map (entries_at p) (outs_at outs (first_wave s.plan k))))) where

@@ -2,6 +2,7 @@ mod Keyed
 mod Boundaries
 mod Others
 mod Ways
+mod Replicated
 mod Told
 mod Main
 mod Stores
@@ -10,6 +11,7 @@ mod Samples
 mod Fed
 mod Sized
 mod Weighed
+mod Counted
 mod Firsts
 mod Assembled
 mod Traced

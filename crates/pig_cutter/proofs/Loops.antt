@@ -1,5 +1,5 @@
 -- What loops over parts, ways and tasks leave.
-use Rattle.std.specs.Prelude.{◌≡◌, ◌<◌, ◌≤◌, ◌+◌, ◌-◌, ℕ, zero, suc, List, [], ◌∷◌, ◌++◌, drop, get_or, length, map, min, None, Some, slice_get, refl}
+use Rattle.std.specs.Prelude.{◌≡◌, ◌<◌, ◌≤◌, ◌+◌, ◌-◌, ℕ, suc, List, [], ◌∷◌, ◌++◌, drop, get_or, length, map, min, None, Some, refl}
 use Rattle.std.proofs.Common.{ap, sym, ◌∙◌, arith, append-nil, inl, inr}
 use Rattle.std.specs.List.{flat_map, range_with_len, sum_by}
 use Rattle.std.specs.Option.{option_map, option_map_or}
@@ -48,12 +48,6 @@ splits_counted limit split sum [] lengths none h =
 splits_counted limit split sum (x ∷ left) lengths none h = absurd (omega (arith, none))
 
 -- ---- parts
-
-pub outputs_counted : (limit split wave count n m : ℕ) (source : Source) → source ≡ sources.Outputs wave count → n ≡ count → m ≡ min limit n
-    → m ≡ min limit (length (parts_read split (reading_of source)))
-outputs_counted limit split wave count n m source is same counted =
-    counted ∙ ap (min limit) (same ∙ sym (length-map-range_with_len (parts.Output wave) 0 count))
-    ∙ ap (λ s. min limit (length (parts_read split (reading_of s)))) (sym is)
 
 pub outputs_read : (split from count k w way : ℕ) (source : Source) → source ≡ sources.Outputs from count
     → map (λ at. made_on k w way (parts.Output from at)) (range_with_len 0 count) ≡ map (made_on k w way) (parts_read split (reading_of source))

@@ -11,9 +11,8 @@ use Rattle.pig_value.specs.declared.outcomes.Kept.{Kept}
 use Rattle.pig_value.specs.Orders.{bag_of, row_cmp}
 use Rattle.pig_value.specs.Trees.{Tree}
 use Rattle.pig_value.proofs.OrderLaws.{row_total, row_same}
-use Rattle.pig_value.proofs.list_laws.Bags.{bag_from_permutation, bag_once, permutation_from_bag, times_from_permutation}
+use Rattle.pig_value.proofs.list_laws.Bags.{bag_from_permutation, permutation_from_bag, times_from_permutation}
 use Rattle.pig_value.proofs.list_laws.Indexing.{some_at}
-use Rattle.pig_value.proofs.list_laws.Listing.{each_at}
 use Rattle.pig_value.proofs.list_laws.Permutations.{IsPermutation-flat_map}
 use Rattle.pig_typed.specs.Blocks.{foreach_all, foreach_rows}
 use Rattle.pig_typed.specs.Typed.{Typed, TypedBlock}
@@ -37,22 +36,21 @@ use Rattle.pig_physical.specs.Outs.{Outs}
 use Rattle.pig_physical.specs.Running.{AreOutputs, IsRun, rows_given}
 use Rattle.pig_physical.specs.Stages.{Stages}
 use Rattle.pig_waves.proofs.Given.{as_many}
+use Rattle.pig_waves.proofs.Probing.{probes_as_many}
 use Rattle.pig_waves.proofs.Ranked.{ranks_as_many}
-use Rattle.pig_waves.proofs.Heads.{stands_at}
+use Rattle.pig_waves.proofs.Heads.{probes_at, stands_at}
 use Rattle.pig_waves.proofs.Sources.{load_parts, outputs, rows_of_parts}
 use Rattle.pig_waves.proofs.Tasks.{rows_at_node}
-use Rattle.pig_waves.specs.Laws.{HaveStages, StandsAt, has_stages}
+use Rattle.pig_waves.specs.Laws.{StandsAt}
 use Rattle.pig_waves.proofs.Alone.{folds_alone}
-use Rattle.pig_cutter.proofs.Boundaries.{group_all_of, group_by, join_by}
+use Rattle.pig_cutter.proofs.Boundaries.{group_all_of, group_by, join_by, once}
 use Rattle.pig_waves.proofs.Folders.{none_folds_at}
+use Rattle.pig_cutter.proofs.Replicated.{probed_is}
 use Rattle.pig_cutter.proofs.Others.{distinct_is, limit_is, limit_keeps, order_is, rank_is}
 use Rattle.pig_cutter.specs.Laws.{Answers}
 
 abbrev Rows : Type 0
 Rows = List (List Tree)
-
-once : (rows : Rows) → bag_of (bag_of rows) ≡ bag_of rows
-once rows = bag_once row_cmp row_total rows
 
 -- rows that may be kept of some rows may be kept of the same rows in another order
 kept_alike : (count : ℕ) (xs ys kept : Rows) → bag_of xs ≡ bag_of ys → AreKept count xs kept → AreKept count ys kept
@@ -68,7 +66,7 @@ is_foreach (p_foreach input block) = true
 is_foreach o = false
 
 module _ (law : SortedCombinersLaw) (s : Stages) (inputs : List Input) (kept : List Kept) (points : ℕ → List Point) (outs : Outs)
-    (valid : IsPlan s.plan) (staged : HaveStages s.plan) (some : 0 < s.sizing.reducers) (splits : 0 < s.sizing.split)
+    (valid : IsPlan s.plan) (some : 0 < s.sizing.reducers) (splits : 0 < s.sizing.split)
     (run : IsRun s inputs points outs) (given : AreOutputs s.plan outs kept) where
   abbrev plan : Plan
   plan = s.plan
@@ -124,11 +122,11 @@ module _ (law : SortedCombinersLaw) (s : Stages) (inputs : List Input) (kept : L
   ]
 
   boundary_found : (k statement : ℕ) (o : PlanOp) → slice_get s.plan k ≡ Some (node o statement) → is_live s.plan k ≡ true → is_boundary o ≡ true → Found k statement o
-  boundary_found k statement o found alive here = by_op o found (ap (option_map (λ v. v.op)) found) here (each_at (λ v. has_stages v.op ≡ true) s.plan k (node o statement) found staged)
+  boundary_found k statement o found alive here = by_op o found (ap (option_map (λ v. v.op)) found) here
     where
-      by_op : (p : PlanOp) → slice_get s.plan k ≡ Some (node p statement) → op_at s.plan k ≡ Some p → is_boundary p ≡ true → has_stages p ≡ true → Found k statement p
-      by_op (p_group_all input) is at bounds has =
-          let stands = stands_at s k (p_group_all input) at alive bounds has in
+      by_op : (p : PlanOp) → slice_get s.plan k ≡ Some (node p statement) → op_at s.plan k ≡ Some p → is_boundary p ≡ true → Found k statement p
+      by_op (p_group_all input) is at bounds =
+          let stands = stands_at s k (p_group_all input) at alive bounds refl in
           let are = group_all_of law s inputs kept points outs run some k statement input at stands in
           record {
             rows_are = outputs s inputs outs k (p_group_all input) at refl (λ part. refl) (as_many s inputs points outs run k (p_group_all input) at stands);
@@ -136,8 +134,8 @@ module _ (law : SortedCombinersLaw) (s : Stages) (inputs : List Input) (kept : L
             list = λ e. absurd (true≢false (sym e));
             folded = are.folded;
           }
-      by_op (p_group keyed) is at bounds has =
-          let stands = stands_at s k (p_group keyed) at alive bounds has in
+      by_op (p_group keyed) is at bounds =
+          let stands = stands_at s k (p_group keyed) at alive bounds refl in
           let are = group_by law s inputs kept points outs run some k statement keyed at stands in
           record {
             rows_are = outputs s inputs outs k (p_group keyed) at refl (λ part. refl) (as_many s inputs points outs run k (p_group keyed) at stands);
@@ -145,9 +143,16 @@ module _ (law : SortedCombinersLaw) (s : Stages) (inputs : List Input) (kept : L
             list = λ e. absurd (true≢false (sym e));
             folded = are.folded;
           }
-      by_op (p_join keyed side true) is at bounds has = absurd (true≢false (sym has))
-      by_op (p_join keyed side false) is at bounds has =
-          let stands = stands_at s k (p_join keyed side false) at alive bounds has in
+      by_op (p_join keyed side true) is at bounds =
+          let stands = probes_at s k (p_join keyed side true) at alive refl in
+          record {
+            rows_are = outputs s inputs outs k (p_join keyed side true) at refl (λ part. refl) (probes_as_many s inputs points outs run k keyed side at stands valid);
+            bag = λ none. probed_is s inputs kept points outs valid run k statement keyed side is at stands;
+            list = λ e. absurd (true≢false (sym e));
+            folded = λ b is. never k (p_join keyed side true) at refl b is;
+          }
+      by_op (p_join keyed side false) is at bounds =
+          let stands = stands_at s k (p_join keyed side false) at alive bounds refl in
           let are = join_by law s inputs kept points outs run some k statement keyed side at stands in
           record {
             rows_are = outputs s inputs outs k (p_join keyed side false) at refl (λ part. refl) (as_many s inputs points outs run k (p_join keyed side false) at stands);
@@ -155,16 +160,16 @@ module _ (law : SortedCombinersLaw) (s : Stages) (inputs : List Input) (kept : L
             list = λ e. absurd (true≢false (sym e));
             folded = are.folded;
           }
-      by_op (p_distinct input) is at bounds has =
-          let stands = stands_at s k (p_distinct input) at alive bounds has in
+      by_op (p_distinct input) is at bounds =
+          let stands = stands_at s k (p_distinct input) at alive bounds refl in
           record {
             rows_are = outputs s inputs outs k (p_distinct input) at refl (λ part. refl) (as_many s inputs points outs run k (p_distinct input) at stands);
             bag = λ none. distinct_is s inputs points outs run some k input at stands;
             list = λ e. absurd (true≢false (sym e));
             folded = λ b is. never k (p_distinct input) at refl b is;
           }
-      by_op (p_order input keys) is at bounds has =
-          let stands = stands_at s k (p_order input keys) at alive bounds has in
+      by_op (p_order input keys) is at bounds =
+          let stands = stands_at s k (p_order input keys) at alive bounds refl in
           let sorted = order_is s inputs points outs run some k input keys at alive stands in
           record {
             rows_are = outputs s inputs outs k (p_order input keys) at refl (λ part. refl) (as_many s inputs points outs run k (p_order input keys) at stands);
@@ -172,9 +177,9 @@ module _ (law : SortedCombinersLaw) (s : Stages) (inputs : List Input) (kept : L
             list = λ e. sorted;
             folded = λ b is. never k (p_order input keys) at refl b is;
           }
-      by_op (p_limit input count) is at bounds has = limit_found k statement input count is alive at (stands_at s k (p_limit input count) at alive bounds has)
-      by_op (p_rank input keys dense) is at bounds has =
-          let stands = stands_at s k (p_rank input keys dense) at alive bounds has in
+      by_op (p_limit input count) is at bounds = limit_found k statement input count is alive at (stands_at s k (p_limit input count) at alive bounds refl)
+      by_op (p_rank input keys dense) is at bounds =
+          let stands = stands_at s k (p_rank input keys dense) at alive bounds refl in
           let ranked = rank_is s inputs points outs run some k input keys dense at alive stands in
           record {
             rows_are = outputs s inputs outs k (p_rank input keys dense) at refl (λ part. refl) (ranks_as_many s inputs points outs run k input keys dense at stands);
@@ -182,12 +187,12 @@ module _ (law : SortedCombinersLaw) (s : Stages) (inputs : List Input) (kept : L
             list = λ e. absurd (true≢false (sym e));
             folded = λ b is. never k (p_rank input keys dense) at refl b is;
           }
-      by_op (p_load path delim columns) is at bounds has = absurd (true≢false (sym bounds))
-      by_op (p_filter input test) is at bounds has = absurd (true≢false (sym bounds))
-      by_op (p_foreach input block) is at bounds has = absurd (true≢false (sym bounds))
-      by_op (p_union numbers) is at bounds has = absurd (true≢false (sym bounds))
-      by_op (p_store input path delim) is at bounds has = absurd (true≢false (sym bounds))
-      by_op (p_assert input test message) is at bounds has = absurd (true≢false (sym bounds))
+      by_op (p_load path delim columns) is at bounds = absurd (true≢false (sym bounds))
+      by_op (p_filter input test) is at bounds = absurd (true≢false (sym bounds))
+      by_op (p_foreach input block) is at bounds = absurd (true≢false (sym bounds))
+      by_op (p_union numbers) is at bounds = absurd (true≢false (sym bounds))
+      by_op (p_store input path delim) is at bounds = absurd (true≢false (sym bounds))
+      by_op (p_assert input test message) is at bounds = absurd (true≢false (sym bounds))
 
   -- ---- all nodes, by those before them
 

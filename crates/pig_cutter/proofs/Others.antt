@@ -28,8 +28,9 @@ use Rattle.pig_physical.specs.Combining.{folds, groups_one}
 use Rattle.pig_physical.specs.Outs.{Form, Outs, TaskOut, entries_at, o_rows, o_runs, outs_at, rows_in}
 use Rattle.pig_physical.specs.Running.{AreCuts, IsRun, rows_given}
 use Rattle.pig_physical.specs.Stages.{MapTask, Stages, first_wave, map_tasks, reduce_count}
-use Rattle.pig_physical.specs.Values.{AreInOrder, AreSortedBy, IsMapForm, IsReduceForm, IsReduceValue, Keeps, all_rows, brought_together, handed_on, key_row, reduced, runs_of, slices, task_rows}
+use Rattle.pig_physical.specs.Values.{AreInOrder, IsMapForm, IsReduceForm, IsReduceValue, Keeps, all_rows, brought_together, handed_on, key_row, reduced, runs_of, slices, task_rows}
 use Rattle.pig_waves.proofs.Distinct.{key_alone, rows_once}
+use Rattle.pig_rank.specs.Ranks.{AreSorted}
 use Rattle.pig_rank.proofs.Keys.{order_sorted}
 use Rattle.pig_rank.proofs.Ranked.{ranks_see_bags}
 use Rattle.pig_waves.proofs.Given.{as_many, entries_of_part, map_values, reduce_values, reduce_task, rows_by_parts}
@@ -84,7 +85,7 @@ module _ (s : Stages) (inputs : List Input) (points : ℕ → List Point) (outs 
     pub sorts : sort_keys o ≡ Some keys
     pub ungrouped : groups_one o ≡ false
     pub size : reduce_count s.sizing.reducers o ≡ s.sizing.reducers
-    pub map_form : (pts : List Point) (i : ℕ) (rs : Rows) (form : Form) → IsMapForm s (Some pts) k o i rs form
+    pub map_form : (pts : List Point) (i : ℕ) (rs : Rows) (form : Form) → IsMapForm s (Some pts) outs k o i rs form
         → form ≡ o_runs (runs_of s.sizing.reducers (Some pts) o (handed_on s.plan k o (entries_of o i rs)))
     pub reduce_form : (outs : List TaskOut) (p : ℕ) (form : Form) → IsReduceForm s k o outs p form → form ≡ o_rows (reduced s.plan k o (flat_map (entries_at p) outs))
     pub handed : (es : List Entry) → folds s.plan k ≡ None → handed_on s.plan k o es ≡ es
@@ -168,7 +169,7 @@ module _ (s : Stages) (inputs : List Input) (points : ℕ → List Point) (outs 
       let brought = outs_at outs (first_wave s.plan k + 1) in
       let sorted = sorted_is keys (p_rank input keys dense) (rank_sorts keys dense) at alive stands in
       let ordered : AreInOrder (p_rank input keys dense) (all_rows brought) =
-      λ found is. subst (λ ks. AreSortedBy ks (all_rows brought)) (some_same keys found is) (subst (AreSortedBy keys) (sym sorted) (order_sorted keys rows)) in
+      λ found is. subst (λ ks. AreSorted ks (all_rows brought)) (some_same keys found is) (subst (AreSorted keys) (sym sorted) (order_sorted keys rows)) in
       ap bag_of (ranks_together s inputs points outs run k input keys dense at stands (as_many s inputs points outs run k (p_rank input keys dense) at stands) ordered
       ∙ ap (rank_rows keys dense) sorted)
       ∙ sym (ranks_see_bags keys dense rows (order_rows keys rows) (sort_permutes (keys_cmp keys) rows))
@@ -196,7 +197,7 @@ module _ (s : Stages) (inputs : List Input) (points : ℕ → List Point) (outs 
     tasks_keep : Each (λ t out. Keeps (is_sorted s.plan input) count (task_rows s.plan inputs outs t) out.form) (map_tasks s k limit) (outs_at outs (first_wave s.plan k))
     tasks_keep =
         each_weaker_two _ (λ t out. Keeps (is_sorted s.plan input) count (task_rows s.plan inputs outs t) out.form)
-        (λ t out h. subst (λ n. IsMapForm s (Some (points (first_wave s.plan k))) n limit t.way.input (task_rows s.plan inputs outs t) out.form) h.0 h.1.form)
+        (λ t out h. subst (λ n. IsMapForm s (Some (points (first_wave s.plan k))) outs n limit t.way.input (task_rows s.plan inputs outs t) out.form) h.0 h.1.form)
         (map_tasks s k limit) (outs_at outs (first_wave s.plan k)) (map_values s inputs points outs run k limit at stands)
 
     pub limit_is : is_sorted s.plan input ≡ true → rows_given s.plan outs k limit ≡ take count rows

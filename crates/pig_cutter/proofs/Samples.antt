@@ -1,24 +1,27 @@
 -- A run of stages, computed: DISTINCT of two empty lines, with two reducers, stored. So what the law of stages asks for can be had.
-use Rattle.std.specs.Prelude.{◌≡◌, ℕ, zero, suc, true, List, [], ◌∷◌, codes, length, map, Option, None, Some, slice_get, refl}
+use Rattle.std.specs.Prelude.{◌≡◌, ℕ, zero, suc, false, true, List, [], ◌∷◌, codes, length, map, Option, None, Some, slice_get, refl}
 use Rattle.std.proofs.Common.{ap, sym, ◌∙◌, subst}
 use Rattle.pig_value.specs.declared.inputs.Input.{Input}
+use Rattle.pig_value.specs.declared.operators.Side.TheVariants as side
 use Rattle.pig_value.specs.Elementwise.{Each}
 use Rattle.pig_value.specs.Gathering.{Entry}
 use Rattle.pig_value.specs.Trees.{Tree, fields_of, v_tuple}
 use Rattle.pig_value.proofs.list_laws.Listing.{some_same}
 use Rattle.pig_typed.specs.declared.blocks.SortKey.{SortKey}
+use Rattle.pig_typed.specs.Typed.{x_field}
 use Rattle.pig_plan.specs.Entries.{dirs_of, sort_keys}
 use Rattle.pig_plan.specs.Meaning.{meaning}
 use Rattle.pig_plan.specs.Nodes.{Entering, is_live, op_at}
 use Rattle.pig_plan.specs.Operators.{pieces_of}
-use Rattle.pig_plan.specs.Plans.{Plan, PlanNode, PlanOp, p_distinct, p_limit, p_load, p_store}
+use Rattle.pig_plan.specs.Plans.{Keyed, Plan, PlanNode, PlanOp, p_distinct, p_join, p_limit, p_load, p_store, p_union}
 use Rattle.pig_runs.specs.Cutting.{Point}
 use Rattle.pig_physical.specs.declared.parts.Part.TheVariants as parts
 use Rattle.pig_physical.specs.declared.parts.ReduceTask.{ReduceTask}
 use Rattle.pig_physical.specs.Outs.{Outs, TaskOut, o_bytes, o_rows, o_runs, outs_at}
 use Rattle.pig_physical.specs.Running.{AreCuts, AreOutputs, AreSizes, IsRun, bytes_given, rows_given}
-use Rattle.pig_physical.specs.Stages.{MapTask, Stages, first_wave, t_map, t_reduce, tasks_in}
+use Rattle.pig_physical.specs.Stages.{MapTask, Stages, first_wave, t_map, t_reduce, tasks_in, wave_size}
 use Rattle.pig_physical.specs.Values.{IsMapValue, IsReduceValue, IsValue}
+use Rattle.pig_cutter.specs.Tables.{counts_of}
 
 abbrev plan : Plan
 plan =
@@ -144,3 +147,49 @@ given_rows = refl
 
 given_bytes : bytes_given stages outs 2 ≡ 10 ∷ []
 given_bytes = refl
+
+-- ---- a replicated JOIN, each of whose LOADs has two splits
+
+abbrev stored_part : ℕ → MapTask
+stored_part p = record { node = 3; way = record { input = 0; path = record { source = 2; nodes = 3 ∷ [] } }; part = parts.Output 1 p }
+
+abbrev by : ℕ → Keyed
+by input = record { input = input; keys = x_field 0 ∷ []; inner = false }
+
+abbrev probed : Plan
+probed =
+    record { op = p_load (codes "in") 9 []; statement = 1 }
+    ∷ record { op = p_load (codes "b") 9 []; statement = 2 }
+    ∷ record { op = p_join (by 0 ∷ by 1 ∷ []) side.Inner true; statement = 3 }
+    ∷ record { op = p_store 2 (codes "out") 9; statement = 4 }
+    ∷ []
+
+abbrev sized : Plan → ℕ → Stages
+sized plan reducers = record { plan = plan; sizing = record { lengths = λ path. 7 ∷ []; reducers = reducers; split = 4 } }
+
+-- two tasks copy and two probe, and a STORE has two parts, however many reducers there are
+two_probes : (reducers : ℕ) → map (λ w. length (tasks_in (sized probed reducers) w)) (0 ∷ 1 ∷ 2 ∷ []) ≡ 2 ∷ 2 ∷ 2 ∷ []
+two_probes reducers = refl
+
+stored_parts : (reducers : ℕ) → tasks_in (sized probed reducers) 2 ≡ t_map (stored_part 0) ∷ t_map (stored_part 1) ∷ []
+stored_parts reducers = refl
+
+-- ---- counts up to a limit
+
+-- UNIONs of a node with itself double its parts, and a replicated JOIN on them has as many: counted up to five, there are five
+abbrev doubled : Plan
+doubled =
+    record { op = p_load (codes "in") 9 []; statement = 1 }
+    ∷ record { op = p_union (0 ∷ 0 ∷ []); statement = 2 }
+    ∷ record { op = p_union (1 ∷ 1 ∷ []); statement = 3 }
+    ∷ record { op = p_union (2 ∷ 2 ∷ []); statement = 4 }
+    ∷ record { op = p_join (by 3 ∷ by 0 ∷ []) side.Inner true; statement = 5 }
+    ∷ record { op = p_store 4 (codes "out") 9; statement = 6 }
+    ∷ []
+
+counted_to_five : counts_of 5 (sized doubled 3).sizing doubled ≡ 2 ∷ 4 ∷ 5 ∷ 5 ∷ 5 ∷ 5 ∷ []
+counted_to_five = refl
+
+-- all sixteen parts, and their paths, count against the limit
+all_sixteen : map (wave_size (sized doubled 3)) (0 ∷ 1 ∷ 2 ∷ []) ≡ 3 ∷ 24 ∷ 17 ∷ []
+all_sixteen = refl

@@ -19,7 +19,6 @@ use Rattle.pig_physical.specs.Combining.{folds}
 use Rattle.pig_physical.specs.Outs.{Outs}
 use Rattle.pig_physical.specs.Running.{AreOutputs, IsRun, all_unmet, bytes_given, rows_given}
 use Rattle.pig_physical.specs.Stages.{Stages}
-use Rattle.pig_waves.specs.Laws.{HaveStages}
 
 -- Rows answer for a node: they are its meaning, as a bag and, where it is a list, in its order. For a GROUP that folds they
 -- are, as a bag, the rows of its FOREACH.
@@ -60,5 +59,5 @@ pub record GiveMeaning (s : Stages) (inputs : List Input) (kept : List Kept) (ou
 -- Outputs that are the values of all tasks, wave by wave, give the meaning of the plan that is cut.
 abbrev pub StagesGiveMeaning : Type 0
 StagesGiveMeaning = (s : Stages) (inputs : List Input) (kept : List Kept) (points : ℕ → List Point) (outs : Outs)
-    → IsPlan s.plan → HaveStages s.plan → 0 < s.sizing.reducers → 0 < s.sizing.split
+    → IsPlan s.plan → 0 < s.sizing.reducers → 0 < s.sizing.split
     → IsRun s inputs points outs → AreOutputs s.plan outs kept → GiveMeaning s inputs kept outs

@@ -27,16 +27,16 @@ pub record AreCut (plan : Plan) (stores : List ℕ) (parts : ℕ → List Part) 
   pub each : (w : ℕ) (wave : Wave) → slice_get waves w ≡ Some wave
       → (head : WaveHead) × ((slice_get heads w ≡ Some head) × IsCut plan stores parts reducers w head wave)
 
-pub record AreAll (plan : Plan) (stores : List ℕ) (parts : ℕ → List Part) (reducers : ℕ) (heads : List WaveHead)
+pub record AreAll (plan : Plan) (stores : List ℕ) (count : ℕ → ℕ) (parts : ℕ → List Part) (reducers : ℕ) (heads : List WaveHead)
     (waves : List Wave) : Type 0 where
   pub cut : AreCut plan stores parts reducers heads waves
   pub few : length waves < 2 ^ 32
-  pub none_over : is_any_over (2 ^ 16) plan stores parts heads ≡ false
+  pub none_over : is_any_over (2 ^ 16) plan stores count heads ≡ false
 
 -- all waves, or none where one of them counts more than the most
-abbrev pub AreListed : Plan → List ℕ → (ℕ → List Part) → ℕ → List WaveHead → Option (List Wave) → Type 0
-AreListed plan stores parts reducers heads found =
-    MatchOption found (is_any_over (2 ^ 16) plan stores parts heads ≡ true) (AreAll plan stores parts reducers heads)
+abbrev pub AreListed : Plan → List ℕ → (ℕ → ℕ) → (ℕ → List Part) → ℕ → List WaveHead → Option (List Wave) → Type 0
+AreListed plan stores count parts reducers heads found =
+    MatchOption found (is_any_over (2 ^ 16) plan stores count heads ≡ true) (AreAll plan stores count parts reducers heads)
 
 -- the waves of stages
 pub record IsWhole (s : Stages) (waves : List Wave) : Type 0 where

@@ -1,6 +1,7 @@
 //! A plan cut into tasks.
 ghost use Rattle.std.specs.Prelude.{◌≡◌, ◌<◌, ◌^◌, true, false, IfOk, IfErr, OnOk};
 ghost use Rattle.pig_plan.specs.Plans.{plan_of};
+ghost use Rattle.pig_plan.specs.Results.{at_place};
 ghost use Rattle.pig_plan.specs.Valid.{IsPlan};
 ghost use Rattle.pig_physical.specs.Seen.{cut_of, staged};
 ghost use Rattle.pig_cutter.specs.Limits.{has_too_many};
@@ -8,6 +9,7 @@ ghost use Rattle.pig_cutter.specs.Listed.{AreListed, CutsInto};
 ghost use Rattle.pig_cutter.specs.Tables.{parts_for};
 ghost use Rattle.pig_cutter.specs.declared.cut.CutFault.TheVariants as CutFault;
 
+use crate::counting::counts;
 use crate::feeding::stores;
 use crate::listing::{Listing, waves};
 use crate::reading::sources;
@@ -19,6 +21,9 @@ use thiserror::Error;
 
 /// The most that a wave may count: its tasks that are no reduce tasks, and its ways.
 const MOST: u32 = 65_536;
+
+/// One more than that: no source that is listed has as many parts.
+const LIMIT: u64 = 65_537;
 
 /// Why a plan is not cut.
 #[derive(Debug, Drop, Error)]
@@ -86,10 +91,14 @@ fn cut_waves(
     let live = live_numbers(alloc, plan)?;
     let nodes = plan.nodes().as_slice();
     let stores = stores(alloc, nodes, live.as_slice())?;
-    let sources = sources(alloc, nodes, marks.as_slice(), sizes.as_slice(), reducers)?;
+    let pieces = sizes.as_slice();
+    let table = counts(alloc, nodes, pieces, reducers, split, LIMIT)?;
+    let counts = table.as_slice();
+    let sources = sources(alloc, nodes, marks.as_slice(), pieces, counts)?;
     let listing = Listing {
         nodes,
         stores: stores.as_slice(),
+        counts,
         sources: sources.as_slice(),
         split,
         reducers,
@@ -106,6 +115,7 @@ fn list_waves(
     requires valid { IsPlan (plan_of listing.now.nodes.now) }
     requires split { 0 < listing.now.split }
     ensures { IfOk result (AreListed (plan_of listing.now.nodes.now) listing.now.stores.now
+        (at_place 0 listing.now.counts.now)
         (parts_for listing.now.split listing.now.sources.now) listing.now.reducers heads.now) }
 {
     if is_any_over(alloc, listing, heads, MOST)? {

@@ -84,7 +84,8 @@ fn behind_first(numbers: &[u32]) -> &[u32]
     }
 }
 
-fn first_alone(numbers: &[u32]) -> &[u32]
+/// The first of numbers, where there is one.
+pub fn first_alone(numbers: &[u32]) -> &[u32]
     ensures { result.now ≡ take 1 numbers.now }
 {
     match numbers {

@@ -1,6 +1,7 @@
 //! How a plan is cut into tasks, and that the values of its tasks give what it means.
 #![tactic(auto)]
 
+mod counting;
 mod cut;
 mod feeding;
 mod laws;

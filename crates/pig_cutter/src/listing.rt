@@ -20,12 +20,13 @@ use pig_plan::{Node, NodeOp};
 use pig_value::Lengths;
 use std::alloc::{AllocError, Global};
 
-/// What waves are listed from: the nodes, the live STOREs, what the parts of each node are read from, and the numbers of
-/// bytes of a split and of reducers.
+/// What waves are listed from: the nodes, the live STOREs, how many parts each node has, up to a limit, what these are read
+/// from, and the numbers of bytes of a split and of reducers.
 #[derive(Drop)]
 pub struct Listing<'p> {
     pub nodes: &'p [Node],
     pub stores: &'p [u32],
+    pub counts: &'p [u64],
     pub sources: &'p [Source<'p>],
     pub split: u64,
     pub reducers: u32,
@@ -251,7 +252,7 @@ fn made_on(node: u32, wave: u32, way: u32, part: Part) -> Task
 
 fn add_outputs(
     from: u32,
-    count: u32,
+    count: u64,
     node: u32,
     wave: u32,
     way: u32,
@@ -261,9 +262,20 @@ fn add_outputs(
         ++ map (λ at. made_on node wave way (parts.Output from at)) (range_with_len 0 count)) }
 {
     for at in 0..count {
-        tasks.push(made_on(node, wave, way, Part::Output { wave: from, at }))?;
+        let part = output(from, at)?;
+        tasks.push(made_on(node, wave, way, part))?;
     }
     Ok(())
+}
+
+// An output of a wave: tasks are numbered in 32 bits.
+fn output(wave: u32, at: u64) -> Result<Part, AllocError>
+    ensures { IfOk result (λ part. part ≡ parts.Output wave at) }
+{
+    match u32::try_from(at) {
+        Ok(at) => Ok(Part::Output { wave, at }),
+        Err(_) => Err(AllocError),
+    }
 }
 
 // Adds a task for each partition, in a wave that has such.

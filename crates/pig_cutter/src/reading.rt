@@ -7,6 +7,7 @@ ghost use Rattle.pig_physical.specs.Seen.{lengths_in};
 ghost use Rattle.pig_physical.specs.Stages.{reduce_count, waves_of};
 ghost use Rattle.pig_cutter.specs.Tables.{r_outputs, r_splits, reading_of, readings, reads, waves_behind};
 
+use crate::counting::count_at;
 use pig_physical::{Size, lengths_in};
 use pig_plan::{Node, NodeOp};
 use pig_value::{Lengths, Text};
@@ -20,26 +21,27 @@ pub enum Source<'p> {
     /// Pieces of these lengths, split by split.
     Splits(&'p Lengths),
     /// The outputs of a wave, so many.
-    Outputs { wave: u32, count: u32 },
+    Outputs { wave: u32, count: u64 },
 }
 
-/// Of each node, in order, what its parts are read from. `marks` tell which nodes are live: these have waves.
+/// Of each node, in order, what its parts are read from. `marks` tell which nodes are live: these have waves; `counts`, how
+/// many parts each node has.
 pub fn sources<'p>(
     alloc: Global,
     nodes: &[Node],
     marks: &[bool],
     sizes: &'p [Size],
-    reducers: u32,
+    counts: &[u64],
 ) -> Result<Vec<Source<'p>>, AllocError>
     requires { marks.now ≡ live_marks (plan_of nodes.now) }
     ensures { IfOk result (λ found. map reading_of found.items
-        ≡ readings (plan_of nodes.now) sizes.now reducers) }
+        ≡ readings (plan_of nodes.now) sizes.now counts.now) }
 {
     let mut found = Vec::with_capacity(alloc, nodes.len())?;
     let mut wave: u32 = 0;
     for number in 0..nodes.len() {
         let op = &nodes[number].op;
-        let source = source_of(op, wave, sizes, reducers)?;
+        let source = source_of(op, wave, sizes, count_at(counts, number))?;
         found.push(source)?;
         wave = behind_waves(op, is_marked(marks, number), wave)?;
     }
@@ -96,34 +98,32 @@ fn wave_count(op: &NodeOp) -> u32
     }
 }
 
-// What the parts of a node are read from, where `wave` is its first one.
+// What the parts of a node are read from, where `wave` is its first one and `count` tells how many there are.
 fn source_of<'p>(
     op: &NodeOp,
     wave: u32,
     sizes: &'p [Size],
-    reducers: u32,
+    count: u64,
 ) -> Result<Source<'p>, AllocError>
     ensures { IfOk result (λ source. reading_of source
-        ≡ reads sizes.now reducers wave (op_of op.now)) }
+        ≡ reads sizes.now count wave (op_of op.now)) }
 {
     match op {
         NodeOp::Load { path, .. } => Ok(loaded(path, sizes)),
-        _ => outputs(op, wave, reducers),
+        _ => outputs(op, wave, count),
     }
 }
 
 // The outputs of a node's last wave.
-fn outputs<'p>(op: &NodeOp, wave: u32, reducers: u32) -> Result<Source<'p>, AllocError>
+fn outputs<'p>(op: &NodeOp, wave: u32, count: u64) -> Result<Source<'p>, AllocError>
     ensures { IfOk result (λ source. reading_of source
-        ≡ r_outputs (wave + (length (waves_of (op_of op.now)) - 1))
-        (reduce_count reducers (op_of op.now))) }
+        ≡ r_outputs (wave + (length (waves_of (op_of op.now)) - 1)) count) }
 {
     let wave = sum(wave, wave_count(op) - 1)?;
-    let count = reduce_count(op, reducers);
     Ok(Source::Outputs { wave, count })
 }
 
-/// How many partitions a node has: a LIMIT one, others one for each reducer.
+/// How many partitions a node has that brings rows together: a LIMIT one, others one for each reducer.
 pub fn reduce_count(op: &NodeOp, reducers: u32) -> u32
     ensures { result ≡ reduce_count reducers (op_of op.now) }
 {

@@ -3,7 +3,7 @@ use pig_cutter::{CutFault, cut_plan};
 use pig_physical::{Part, Size, Sizes, Stages, Task, WaveKind, Way};
 use pig_plan::{KeyedInput, KeyedInputs, Node, NodeOp, Plan};
 use pig_typed::{SortKey, SortKeys, TExpr, TExprs};
-use pig_value::{Column, Columns, Delim, Dir, Kind, Lengths, Numbers, Text};
+use pig_value::{Column, Columns, Delim, Dir, Kind, Lengths, Numbers, Side, Text};
 use std::alloc::Global;
 use std::process::Abort;
 
@@ -59,6 +59,19 @@ fn cogroup<R: Abort>(rt: &R, alloc: Global, a: u32, b: u32) -> NodeOp {
     NodeOp::Group { inputs }
 }
 
+/// A replicated JOIN of both nodes.
+fn join<R: Abort>(rt: &R, alloc: Global, a: u32, b: u32) -> NodeOp {
+    let mut inputs = KeyedInputs::new(alloc);
+    inputs.push(keyed(rt, alloc, a)).expect(rt, "memory");
+    inputs.push(keyed(rt, alloc, b)).expect(rt, "memory");
+    let (side, replicated) = (Side::Inner, true);
+    NodeOp::Join {
+        inputs,
+        side,
+        replicated,
+    }
+}
+
 fn order<R: Abort>(rt: &R, alloc: Global, input: u32) -> NodeOp {
     let mut keys = SortKeys::new(alloc);
     let (position, dir) = (0, Dir::Asc);
@@ -81,6 +94,7 @@ fn op<R: Abort>(rt: &R, alloc: Global, letter: u8, input: u32, other: u32) -> No
         b'b' => load(rt, alloc, "b"),
         b'u' => union(rt, alloc, input, other),
         b'c' => cogroup(rt, alloc, input, other),
+        b'j' => join(rt, alloc, input, other),
         b'o' => order(rt, alloc, input),
         b'r' => rank(rt, alloc, input),
         b'd' => NodeOp::Distinct { input },
@@ -225,7 +239,8 @@ fn cut<R: Abort>(rt: &R, alloc: Global, words: &str, sizes: &Sizes, split: u64) 
 // The size of a split, the lengths of the pieces of `in` and of `b`, the words of a plan, and its waves with two reducers:
 // no STORE; no piece, an empty piece, splits of one byte, one as large as all and one that is larger; two STOREs; a node
 // that no STORE reaches; UNION A, A; a diamond into a LIMIT; a COGROUP; DISTINCT, ORDER and LIMIT in turn; a RANK of no
-// piece and of one; DISTINCT, RANK and LIMIT in turn.
+// piece and of one; DISTINCT, RANK and LIMIT in turn; a replicated JOIN whose first input has three splits, one whose first
+// input has no piece, and one of a UNION, with a DISTINCT behind it.
 const WAVES: &str = "2 5 0 a0 d0:
 2 - 0 a0 s0:s;
 2 0 0 a0 s0:s 1=0/0>1:0.0-0;
@@ -241,6 +256,9 @@ const WAVES: &str = "2 5 0 a0 d0:
 9 - 0 a0 r0 s1:m;r 1<0#0 1<0#1;k 1^1#0 1^1#1;s 2=0/1>2:2@0 2=0/1>2:2@1;
 9 1 0 a0 r0 s1:m 1=0/0:0.0-1;r 1<0#0 1<0#1;k 1^1#0 1^1#1;s 2=0/1>2:2@0 2=0/1>2:2@1;
 9 1 0 a0 d0 r1 l2 s3:m 1=0/0:0.0-1;r 1<0#0 1<0#1;m 2=0/1:1@0 2=0/1:1@1;r 2<2#0 2<2#1;k 2^3#0 2^3#1;m 3=0/2:4@0 3=0/2:4@1;r 3<5#0;s 4=0/3>4:6@0;
+1 3 1 a0 b0 j01 s2:c 2=1/1:0.0-1;p 2=0/0:0.0-1 2=0/0:0.1-2 2=0/0:0.2-3;s 3=0/2>3:1@0 3=0/2>3:1@1 3=0/2>3:1@2;
+9 - 1 a0 b0 j01 s2:c 2=1/1:0.0-1;p;s;
+9 11 1 a0 b0 u01 j20 d3 s4:c 3=1/0:0.0-1 3=1/0:1.0-1;p 3=0/0>2:0.0-1 3=0/0>2:1.0-1 3=0/1>2:0.0-1;m 4=0/3:1@0 4=0/3:1@1 4=0/3:1@2;r 4<2#0 4<2#1;s 5=0/4>5:3@0 5=0/4>5:3@1;
 ";
 
 fn cut_line<R: Abort>(rt: &R, alloc: Global, line: &str) -> String {
@@ -269,8 +287,8 @@ fn plans_are_cut(rt: HostRuntime) {
     }
 }
 
-/// A LOAD, so many UNIONs that each read the node before twice, and a STORE.
-fn doubled<R: Abort>(rt: &R, alloc: Global, unions: u32) -> Plan {
+/// A LOAD, and so many UNIONs that each read the node before twice.
+fn unions<R: Abort>(rt: &R, alloc: Global, unions: u32) -> Plan {
     let mut plan = Plan::empty(alloc);
     let op = load(rt, alloc, "in");
     add_fitting(rt, &mut plan, Node { op, statement: 1 });
@@ -278,14 +296,20 @@ fn doubled<R: Abort>(rt: &R, alloc: Global, unions: u32) -> Plan {
         let op = union(rt, alloc, number, number);
         add_fitting(rt, &mut plan, Node { op, statement: 2 });
     }
+    plan
+}
+
+fn add_store<R: Abort>(rt: &R, alloc: Global, plan: &mut Plan, input: u32) {
     let path = text(rt, alloc, "out");
     let delim = Delim::tab();
-    let op = NodeOp::Store {
-        input: unions,
-        path,
-        delim,
-    };
-    add_fitting(rt, &mut plan, Node { op, statement: 3 });
+    let op = NodeOp::Store { input, path, delim };
+    add_fitting(rt, plan, Node { op, statement: 3 });
+}
+
+/// A LOAD, so many UNIONs that each read the node before twice, and a STORE.
+fn doubled<R: Abort>(rt: &R, alloc: Global, count: u32) -> Plan {
+    let mut plan = unions(rt, alloc, count);
+    add_store(rt, alloc, &mut plan, count);
     plan
 }
 
@@ -333,4 +357,42 @@ fn paths_that_double_are_too_many(rt: HostRuntime) {
     assert_eq!(rt; tasks_of(&rt, alloc, 17, 0, 0), None);
     assert_eq!(rt; tasks_of(&rt, alloc, 64, 0, 0), None);
     assert_eq!(rt; tasks_of(&rt, alloc, 200, 1, 1), None);
+}
+
+/// What is answered where so many UNIONs are joined with the LOAD, which has one split, and a STORE reads the node behind
+/// so many: the number of waves, or why the plan is not cut.
+fn probed<R: Abort>(rt: &R, alloc: Global, count: u32, stored: u32) -> String {
+    let mut plan = unions(rt, alloc, count);
+    let op = join(rt, alloc, count, 0);
+    add_fitting(rt, &mut plan, Node { op, statement: 2 });
+    add_store(rt, alloc, &mut plan, stored);
+    let mut sizes = Sizes::new(alloc);
+    sizes.push(size(rt, alloc, "in", "1")).expect(rt, "memory");
+    let mut told = String::new(alloc);
+    match cut_plan(alloc, &plan, &sizes, 4, 1) {
+        Ok(stages) => {
+            for wave in 0..stages.waves() {
+                let count = stages.tasks(wave);
+                let word = format!(in alloc; " {count}").expect(rt, "memory");
+                add(rt, &mut told, word.as_str());
+            }
+            drop(stages);
+        }
+        Err(CutFault::TooManyTasks) => add(rt, &mut told, "too many"),
+        Err(CutFault::OutOfMemory) => add(rt, &mut told, "memory"),
+    }
+    drop((plan, sizes));
+    told
+}
+
+// A JOIN that no STORE reaches may have any number of parts.
+#[test]
+fn probes_that_double_are_too_many(rt: HostRuntime) {
+    let alloc = rt.alloc();
+    assert_eq!(rt; probed(&rt, alloc, 3, 4).as_str(), " 1 8 8");
+    assert_eq!(rt; probed(&rt, alloc, 15, 16).as_str(), " 1 32768 32768");
+    assert_eq!(rt; probed(&rt, alloc, 16, 17).as_str(), "too many");
+    assert_eq!(rt; probed(&rt, alloc, 33, 34).as_str(), "too many");
+    assert_eq!(rt; probed(&rt, alloc, 200, 201).as_str(), "too many");
+    assert_eq!(rt; probed(&rt, alloc, 200, 0).as_str(), " 1");
 }

@@ -6,6 +6,7 @@ use Rattle.std.specs.Option.{option_map, option_map_or}
 use Rattle.std.proofs.lemmas.Option.{slice_get_read}
 use Rattle.std.proofs.lemmas.List.Sums.{sum_by-cons}
 use Rattle.pig_value.proofs.list_laws.Indexing.{dropped, get_map}
+use Rattle.pig_plan.specs.Plans.{Plan}
 use Rattle.pig_physical.specs.Handed.{out_of}
 use Rattle.pig_physical.specs.Outs.{Outs, TaskOut}
 use Rattle.pig_physical.specs.Stages.{Stages, Task, tasks_in}
@@ -21,60 +22,56 @@ counts_on count u x rest total is so_far = omega (arith, is, so_far)
 
 -- ---- waves, one behind the others
 
-handed_push : (s : Stages) (w : ℕ) (outs : Outs) (out : List TaskOut) → handed_from s w (outs ++ out ∷ []) ≡ handed_from s w outs + handed_in (tasks_in s (w + length outs)) out
-handed_push s w [] out = let e : w + 0 ≡ w = omega arith in let same = ap (λ v. handed_in (tasks_in s v) out) e in omega (arith, same)
+handed_push : (s : Stages) (w : ℕ) (outs : Outs) (out : List TaskOut) → handed_from s w (outs ++ out ∷ []) ≡ handed_from s w outs + handed_in s.plan (tasks_in s (w + length outs)) out
+handed_push s w [] out = let e : w + 0 ≡ w = omega arith in let same = ap (λ v. handed_in s.plan (tasks_in s v) out) e in omega (arith, same)
 handed_push s w (o ∷ outs) out =
     let e : w + 1 + length outs ≡ w + suc (length outs) = omega arith in
-    let same = ap (λ v. handed_in (tasks_in s v) out) e in
+    let same = ap (λ v. handed_in s.plan (tasks_in s v) out) e in
     let rest = handed_push s (w + 1) outs out in
     omega (arith, same, rest)
 
 -- what one more wave handed on is added
-pub handed_more : (s : Stages) (outs : Outs) (out : List TaskOut) (w count u : ℕ) → length outs ≡ w → u ≡ handed_in (tasks_in s w) out % 2 ^ 64
+pub handed_more : (s : Stages) (outs : Outs) (out : List TaskOut) (w count u : ℕ) → length outs ≡ w → u ≡ handed_in s.plan (tasks_in s w) out % 2 ^ 64
     → count ≡ entries_handed s outs % 2 ^ 64 → (count + u) % 2 ^ 64 ≡ entries_handed s (outs ++ out ∷ []) % 2 ^ 64
 handed_more s outs out w count u size is so_far =
     let e : 0 + length outs ≡ w = omega (arith, size) in
-    let same = ap (λ v. handed_in (tasks_in s v) out) e in
+    let same = ap (λ v. handed_in s.plan (tasks_in s v) out) e in
     let more = handed_push s 0 outs out in
     omega (arith, more, same, is, so_far)
 
 -- ---- tasks and their outputs
 
-handed_none : (tasks : List Task) → handed_in tasks [] ≡ 0
-handed_none [] = refl
-handed_none (task ∷ tasks) = refl
-
 -- one task, and those behind it
-pub handed_next : (tasks : List Task) (outs : List TaskOut) (at : ℕ) (task : Task) (out : TaskOut) → slice_get tasks at ≡ Some task → slice_get outs at ≡ Some out
-    → handed_in (drop at tasks) (drop at outs) ≡ handed_by task out + handed_in (drop (at + 1) tasks) (drop (at + 1) outs)
-handed_next tasks outs at task out there beside = λ i. handed_in (dropped tasks at task there i) (dropped outs at out beside i)
+pub handed_next : (plan : Plan) (tasks : List Task) (outs : List TaskOut) (at : ℕ) (task : Task) (out : TaskOut) → slice_get tasks at ≡ Some task → slice_get outs at ≡ Some out
+    → handed_in plan (drop at tasks) (drop at outs) ≡ handed_by plan task out + handed_in plan (drop (at + 1) tasks) (drop (at + 1) outs)
+handed_next plan tasks outs at task out there beside = λ i. handed_in plan (dropped tasks at task there i) (dropped outs at out beside i)
 
-pub handed_on : (tasks : List Task) (outs : List TaskOut) (at count u : ℕ) (task : Task) (out : TaskOut) → slice_get tasks at ≡ Some task → slice_get outs at ≡ Some out
-    → u ≡ handed_by task out % 2 ^ 64 → (count + handed_in (drop at tasks) (drop at outs)) % 2 ^ 64 ≡ handed_in tasks outs % 2 ^ 64
-    → ((count + u) % 2 ^ 64 + handed_in (drop (at + 1) tasks) (drop (at + 1) outs)) % 2 ^ 64 ≡ handed_in tasks outs % 2 ^ 64
-handed_on tasks outs at count u task out there beside is so_far =
-    let next = handed_next tasks outs at task out there beside in
-    let whole : (count + (handed_by task out + handed_in (drop (at + 1) tasks) (drop (at + 1) outs))) % 2 ^ 64 ≡ handed_in tasks outs % 2 ^ 64 =
+pub handed_on : (plan : Plan) (tasks : List Task) (outs : List TaskOut) (at count u : ℕ) (task : Task) (out : TaskOut) → slice_get tasks at ≡ Some task → slice_get outs at ≡ Some out
+    → u ≡ handed_by plan task out % 2 ^ 64 → (count + handed_in plan (drop at tasks) (drop at outs)) % 2 ^ 64 ≡ handed_in plan tasks outs % 2 ^ 64
+    → ((count + u) % 2 ^ 64 + handed_in plan (drop (at + 1) tasks) (drop (at + 1) outs)) % 2 ^ 64 ≡ handed_in plan tasks outs % 2 ^ 64
+handed_on plan tasks outs at count u task out there beside is so_far =
+    let next = handed_next plan tasks outs at task out there beside in
+    let whole : (count + (handed_by plan task out + handed_in plan (drop (at + 1) tasks) (drop (at + 1) outs))) % 2 ^ 64 ≡ handed_in plan tasks outs % 2 ^ 64 =
     ap (λ m. (count + m) % 2 ^ 64) (sym next) ∙ so_far in
-    counts_on count u (handed_by task out) (handed_in (drop (at + 1) tasks) (drop (at + 1) outs)) (handed_in tasks outs) is whole
+    counts_on count u (handed_by plan task out) (handed_in plan (drop (at + 1) tasks) (drop (at + 1) outs)) (handed_in plan tasks outs) is whole
 
 -- the output at a place, as contracts see it
 pub out_at : (outs : List Out) (at : ℕ) (out : Out) → at < length outs → out ≡ get_or outs at out → slice_get (map out_of outs) at ≡ Some (out_of out)
 out_at outs at out less is = get_map out_of outs at ∙ ap (option_map out_of) (slice_get_read outs (length outs) at out refl less is)
 
 -- none is left where one list ends
-pub handed_end : (tasks : List Task) (outs : List TaskOut) (at : ℕ) → at ≡ min (length outs) (length tasks) → handed_in (drop at tasks) (drop at outs) ≡ 0
-handed_end tasks outs at is = by_lengths (drop at tasks) (drop at outs) (let a = length-drop at tasks in let b = length-drop at outs in omega (arith, a, b, is))
+pub handed_end : (plan : Plan) (tasks : List Task) (outs : List TaskOut) (at : ℕ) → at ≡ min (length outs) (length tasks) → handed_in plan (drop at tasks) (drop at outs) ≡ 0
+handed_end plan tasks outs at is = by_lengths (drop at tasks) (drop at outs) (let a = length-drop at tasks in let b = length-drop at outs in omega (arith, a, b, is))
   where
-    by_lengths : (ts : List Task) (os : List TaskOut) → min (length os) (length ts) ≡ 0 → handed_in ts os ≡ 0
+    by_lengths : (ts : List Task) (os : List TaskOut) → min (length os) (length ts) ≡ 0 → handed_in plan ts os ≡ 0
     by_lengths [] os h = refl
     by_lengths (t ∷ ts) [] h = refl
     by_lengths (t ∷ ts) (o ∷ os) h = absurd (omega (arith, h))
 
-pub handed_all : (tasks : List Task) (outs : List TaskOut) (at count end : ℕ) → end ≡ min (length outs) (length tasks) → at ≤ end → end ≤ at → count < 2 ^ 64
-    → (count + handed_in (drop at tasks) (drop at outs)) % 2 ^ 64 ≡ handed_in tasks outs % 2 ^ 64 → count ≡ handed_in tasks outs % 2 ^ 64
-handed_all tasks outs at count end is low high fits so_far =
-    let none = handed_end tasks outs at (omega (arith, is, low, high)) in
+pub handed_all : (plan : Plan) (tasks : List Task) (outs : List TaskOut) (at count end : ℕ) → end ≡ min (length outs) (length tasks) → at ≤ end → end ≤ at → count < 2 ^ 64
+    → (count + handed_in plan (drop at tasks) (drop at outs)) % 2 ^ 64 ≡ handed_in plan tasks outs % 2 ^ 64 → count ≡ handed_in plan tasks outs % 2 ^ 64
+handed_all plan tasks outs at count end is low high fits so_far =
+    let none = handed_end plan tasks outs at (omega (arith, is, low, high)) in
     omega (arith, none, fits, so_far)
 
 -- one more of the elements of a list by their places

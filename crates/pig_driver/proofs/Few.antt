@@ -1,22 +1,21 @@
 -- Waves that are not too large have few tasks.
-use Rattle.std.specs.Prelude.{◌≡◌, ◌<◌, ◌≤◌, ◌+◌, ◌^◌, ℕ, Bool, true, false, ◌&&◌, ◌||◌, nat_lt, List, [], ◌∷◌, length, map, take, Option, Some, None, slice_get, refl}
+use Rattle.std.specs.Prelude.{◌≡◌, ◌<◌, ◌≤◌, ◌+◌, ◌^◌, ℕ, Bool, true, false, ◌||◌, nat_lt, List, [], ◌∷◌, length, map, take, Option, Some, None, slice_get, refl}
 use Rattle.std.proofs.Common.{ap, sym, ◌∙◌, arith, subst, true≢false}
-use Rattle.std.specs.List.{AllByRecursion, flat_map, list_all, list_any, range_with_len}
+use Rattle.std.specs.List.{AllByRecursion, flat_map, list_any, range_with_len}
 use Rattle.std.specs.Option.{option_map_or}
 use Rattle.std.proofs.lemmas.Bool.Decides.{nat_tests}
 use Rattle.pig_value.proofs.list_laws.Elementwise.{get-behind}
 use Rattle.pig_value.proofs.list_laws.Listing.{each-map, each_at, each_of_all, filter_all}
 use Rattle.pig_plan.specs.Nodes.{op_at}
-use Rattle.pig_plan.specs.declared.nodes.Node.{Node}
-use Rattle.pig_plan.specs.Plans.{PlanOp, plan_of, p_load, p_filter, p_foreach, p_group_all, p_group, p_join, p_union, p_distinct, p_order, p_limit, p_store, p_assert, p_rank}
+use Rattle.pig_plan.specs.Plans.{PlanOp, p_load, p_filter, p_foreach, p_group_all, p_group, p_join, p_union, p_distinct, p_order, p_limit, p_store, p_assert, p_rank}
 use Rattle.pig_plan.specs.Valid.{IsPlan}
-use Rattle.pig_physical.specs.Stages.{Stages, Task, boundaries, head_of, heads, heads_at, is_map_task, map_tasks, reduce_count, store_tasks, stores, t_map, tasks_by, tasks_in, tasks_of, wave_size}
+use Rattle.pig_physical.specs.Stages.{MapTask, Stages, Task, boundaries, head_of, heads, heads_at, is_map_task, map_tasks, reduce_count, store_tasks, stores, t_map, tasks_by, tasks_in, tasks_of, wave_size}
 use Rattle.pig_physical.specs.declared.waves.WaveKind.TheVariants as kinds
 use Rattle.pig_cutter.specs.Limits.{has_too_many, is_too_large}
 use Rattle.pig_waves.proofs.Places.{range_at}
-use Rattle.pig_waves.specs.Laws.{HaveStages, has_stages}
+use Rattle.pig_waves.specs.Laws.{copy_tasks, probe_tasks}
 use Rattle.pig_driver.specs.Standing.{FewTasksFit}
-use Rattle.pig_driver.proofs.Standing.{WaveAt, its_waves, maps, partitions, ranked_partitions, ranking, reduces, storing, wave_at}
+use Rattle.pig_driver.proofs.Standing.{WaveAt, copying, its_probes, its_waves, maps, matching, partitions, ranked_partitions, ranking, reduces, storing, wave_at}
 
 any_none : {X : Type 0} (p : X → Bool) (xs : List X) → list_any p xs ≡ false → AllByRecursion (λ x. p x ≡ false) xs
 any_none p [] h = tt
@@ -25,18 +24,6 @@ any_none p (x ∷ xs) h = let both = neither (p x) (list_any p xs) h in (both.0,
     neither : (a b : Bool) → (a || b) ≡ false → (a ≡ false) × (b ≡ false)
     neither true b h = absurd (true≢false h)
     neither false b h = (refl, h)
-
-all_hold : {X : Type 0} (p : X → Bool) (xs : List X) → list_all p xs ≡ true → AllByRecursion (λ x. p x ≡ true) xs
-all_hold p [] h = tt
-all_hold p (x ∷ xs) h = let both = each (p x) (list_all p xs) h in (both.0, all_hold p xs both.1)
-  where
-    each : (a b : Bool) → (a && b) ≡ true → (a ≡ true) × (b ≡ true)
-    each true b h = (refl, h)
-    each false b h = absurd (true≢false (sym h))
-
-pub all_staged : (left nodes : List Node) → length left < 1 → list_all (λ node. has_stages node.op) (plan_of left) ≡ list_all (λ node. has_stages node.op) (plan_of nodes) → HaveStages (plan_of nodes)
-all_staged [] nodes less h = all_hold (λ node. has_stages node.op) (plan_of nodes) (sym h)
-all_staged (node ∷ left) nodes less h = absurd (omega (arith, less))
 
 few_partitions : (reducers : ℕ) (o : PlanOp) → reducers ≤ 65536 → reduce_count reducers o ≤ 65536
 few_partitions reducers (p_load path delim columns) h = h
@@ -53,7 +40,7 @@ few_partitions reducers (p_store input path delim) h = h
 few_partitions reducers (p_assert input test message) h = h
 few_partitions reducers (p_rank input keys dense) h = h
 
-module _ (s : Stages) (valid : IsPlan s.plan) (staged : HaveStages s.plan) (few : has_too_many s ≡ false) (reducers : s.sizing.reducers ≤ 65536) (w : ℕ) (within : w < length (heads s.plan)) where
+module _ (s : Stages) (valid : IsPlan s.plan) (few : has_too_many s ≡ false) (reducers : s.sizing.reducers ≤ 65536) (w : ℕ) (within : w < length (heads s.plan)) where
   abbrev IsMap : Task → Type 0
   IsMap task = is_map_task task ≡ true
 
@@ -66,6 +53,10 @@ module _ (s : Stages) (valid : IsPlan s.plan) (staged : HaveStages s.plan) (few 
 
   few_maps : AllByRecursion IsMap (tasks_in s w) → length (tasks_in s w) ≤ 65536
   few_maps h = let all = ap length (filter_all is_map_task (tasks_in s w) h) in let bound = small in omega (arith, all, bound)
+
+  -- where they all read ways
+  few_reads : (ts : List MapTask) → tasks_in s w ≡ map t_map ts → length (tasks_in s w) ≤ 65536
+  few_reads ts are = few_maps (subst (AllByRecursion IsMap) (sym are) (each-map IsMap t_map ts (each_of_all (λ t. true ≡ true) (λ t. refl) ts)))
 
   module _ (at : w ≡ length (flat_map (heads_at s.plan) (boundaries s.plan))) where
     of_op : (k : ℕ) (found : Option PlanOp) → AllByRecursion IsMap (option_map_or (tasks_by s w kinds.Store k) found [])
@@ -83,21 +74,21 @@ module _ (s : Stages) (valid : IsPlan s.plan) (staged : HaveStages s.plan) (few 
         (of_stores (stores s.plan))
 
   few_in : length (tasks_in s w) ≤ 65536
-  few_in = by_wave (wave_at s valid staged w within)
+  few_in = by_wave (wave_at s valid w within)
     where
-      by_wave : WaveAt s valid staged w → length (tasks_in s w) ≤ 65536
-      by_wave (maps k is e) =
-          few_maps (subst (AllByRecursion IsMap) (sym (ap (tasks_in s) e ∙ (its_waves s valid staged k is).maps))
-          (each-map IsMap t_map (map_tasks s k is.node.op) (each_of_all (λ t. true ≡ true) (λ t. refl) (map_tasks s k is.node.op))))
-      by_wave (reduces k is e) =
-          let count = ap (λ v. length (tasks_in s v)) e ∙ partitions s valid staged k is in
+      by_wave : WaveAt s valid w → length (tasks_in s w) ≤ 65536
+      by_wave (maps k is h e) = few_reads (map_tasks s k is.node.op) (ap (tasks_in s) e ∙ (its_waves s valid k is h).maps)
+      by_wave (copying k is h e) = few_reads (copy_tasks s k is.node.op) (ap (tasks_in s) e ∙ (its_probes s valid k is h).copies)
+      by_wave (matching k is h e) = few_reads (probe_tasks s k is.node.op) (ap (tasks_in s) e ∙ (its_probes s valid k is h).probes)
+      by_wave (reduces k is h e) =
+          let count = ap (λ v. length (tasks_in s v)) e ∙ partitions s valid k is h in
           let bound = few_partitions s.sizing.reducers is.node.op reducers in
           omega (arith, count, bound)
-      by_wave (ranking k is ranked e) =
-          let count = ap (λ v. length (tasks_in s v)) e ∙ ranked_partitions s valid staged k is ranked in
+      by_wave (ranking k is h ranked e) =
+          let count = ap (λ v. length (tasks_in s v)) e ∙ ranked_partitions s valid k is h ranked in
           let bound = few_partitions s.sizing.reducers is.node.op reducers in
           omega (arith, count, bound)
       by_wave (storing e) = few_maps (last_maps e)
 
 pub few_tasks : FewTasksFit
-few_tasks s valid staged few reducers w within = few_in s valid staged few reducers w within
+few_tasks s valid few reducers w within = few_in s valid few reducers w within

@@ -1,6 +1,6 @@
 -- What is left of outputs serves the next wave as all of them do.
 use Rattle.std.specs.Prelude.{◌≡◌, ◌<◌, ◌+◌, ◌++◌, ℕ, List, [], ◌∷◌, length, map, Option, Some, None, slice_get, zero, suc, refl}
-use Rattle.std.proofs.Common.{ap, sym, ◌∙◌, arith, subst}
+use Rattle.std.proofs.Common.{ap, sym, ◌∙◌, arith, inl, inr, subst}
 use Rattle.std.specs.List.{AllByRecursion}
 use Rattle.std.specs.Option.{option_map_or}
 use Rattle.std.specs.Ordering.{nat_cmp}
@@ -12,15 +12,16 @@ use Rattle.pig_plan.specs.Nodes.{op_at}
 use Rattle.pig_plan.specs.Plans.{PlanOp, p_load, p_filter, p_foreach, p_group_all, p_group, p_join, p_union, p_distinct, p_order, p_limit, p_store, p_assert, p_rank}
 use Rattle.pig_plan.specs.Steps.{through}
 use Rattle.pig_physical.specs.Combining.{folds}
-use Rattle.pig_physical.specs.Fitting.{HasNamed, HasOutput, HasPart, HasWave}
+use Rattle.pig_physical.specs.Fitting.{HasAll, HasNamed, HasOutput, HasPart, HasWave}
 use Rattle.pig_physical.specs.Outs.{Outs, TaskOut, outs_at, rows_in, runs_in}
-use Rattle.pig_physical.specs.Stages.{Stages, Task, heads, t_map, t_rank, t_reduce, tasks_in}
-use Rattle.pig_physical.specs.Values.{IsMapForm, IsRankForm, IsReduceForm, IsValue, part_rows}
+use Rattle.pig_physical.specs.Stages.{Stages, Task, first_wave, heads, t_map, t_rank, t_reduce, tasks_in}
+use Rattle.pig_physical.specs.Values.{IsMapForm, IsRankForm, IsReduceForm, IsValue, part_rows, task_rows}
 use Rattle.pig_physical.specs.declared.parts.Part.{Part}
 use Rattle.pig_physical.specs.declared.parts.Part.TheVariants as parts
 use Rattle.pig_physical.specs.declared.parts.ReduceTask.{ReduceTask}
 use Rattle.pig_work.specs.Working.{Tellings}
-use Rattle.pig_driver.specs.Left.{AreLastLooks, AreLeft, HaveGone, named_wave, note_in, part_wave}
+use Rattle.pig_driver.specs.Left.{AreLastLooks, AreLeft, HaveGone, copies_of, named_wave, note_in, part_wave}
+use Rattle.pig_driver.proofs.Copies.{form_over, probes_here}
 use Rattle.pig_driver.proofs.Rights.{AreRight}
 
 -- ---- outputs at one place
@@ -81,12 +82,22 @@ module _ (s : Stages) (whole left : Outs) where
     sliced = λ o keys at by. subst (AllByRecursion (λ out. length (runs_in out.form) ≡ s.sizing.reducers)) (sym same) (h.sliced o keys at by);
   }
 
-  pub named_over : (task : Task) → Agrees (named_wave task) → HasNamed s whole task → HasNamed s left task
-  named_over (t_map t) same h = part_over t.part same h
-  named_over (t_reduce t) same h = wave_over t (same t.wave refl) h
-  named_over (t_rank t) same h =
-      let own = same t.wave refl in
-      record { count = ap length own ∙ h.count; each = λ at less. output_over t.wave at own (h.each at less) }
+  all_over : (v : ℕ) → outs_at left v ≡ outs_at whole v → HasAll s whole v → HasAll s left v
+  all_over v same h = record { count = ap length same ∙ h.count; each = λ at less. output_over v at same (h.each at less) }
+
+  -- the outputs that a task looks at are the same
+  pub record AgreesOn (task : Task) : Type 0 where
+    pub own : Agrees (named_wave task)
+    pub copies : Agrees (copies_of s task)
+
+  pub named_over : (task : Task) → AgreesOn task → HasNamed s whole task → HasNamed s left task
+  named_over (t_map t) same h = record {
+    part = part_over t.part same.own h.part;
+    copies = λ o at replicated first.
+        all_over (first_wave s.plan t.node) (same.copies (first_wave s.plan t.node) (probes_here s t o at replicated first)) (h.copies o at replicated first);
+  }
+  named_over (t_reduce t) same h = wave_over t (same.own t.wave refl) h
+  named_over (t_rank t) same h = all_over t.wave (same.own t.wave refl) h
 
   -- ---- the values of tasks
 
@@ -111,35 +122,39 @@ module _ (s : Stages) (whole left : Outs) where
   source_over inputs part None same = refl
   source_over inputs part (Some o) same = rows_over inputs part o same
 
-  pub value_over : (inputs : List Input) (task : Task) (out : TaskOut) → Agrees (named_wave task) → IsValue s inputs None left task out → IsValue s inputs None whole task out
+  pub value_over : (inputs : List Input) (task : Task) (out : TaskOut) → AgreesOn task → IsValue s inputs None left task out → IsValue s inputs None whole task out
   value_over inputs (t_map t) out same h =
-      let read = source_over inputs t.part (op_at s.plan t.way.path.source) same in
+      let read = source_over inputs t.part (op_at s.plan t.way.path.source) same.own in
       λ o at. let value = h o at in
       record {
-        form = subst (λ rows. IsMapForm s None t.node o t.way.input (through (folds s.plan) s.plan t.way.path.nodes rows) out.form) read value.form;
+        form = subst (λ rows. IsMapForm s None whole t.node o t.way.input (through (folds s.plan) s.plan t.way.path.nodes rows) out.form) read
+            (form_over s None left whole t.node o t.way.input (task_rows s.plan inputs left t) out.form
+            (λ replicated first. same.copies (first_wave s.plan t.node) (probes_here s t o at replicated first)) value.form);
         lines = value.lines;
         unmet = value.unmet ∙ ap (λ rows. sort nat_cmp (unmet_on (folds s.plan) s.plan t.way.path.nodes rows)) read;
       }
   value_over inputs (t_reduce t) out same h =
       λ o at. let value = h o at in
       record {
-        form = subst (λ outs. IsReduceForm s t.node o outs t.part out.form) (same t.wave refl) value.form;
+        form = subst (λ outs. IsReduceForm s t.node o outs t.part out.form) (same.own t.wave refl) value.form;
         lines = value.lines;
         unmet = value.unmet;
       }
   value_over inputs (t_rank t) out same h =
       λ o at. let value = h o at in
       record {
-        form = subst (λ outs. IsRankForm o outs t.part out.form) (same t.wave refl) value.form;
+        form = subst (λ outs. IsRankForm o outs t.part out.form) (same.own t.wave refl) value.form;
         lines = value.lines;
         unmet = value.unmet;
       }
 
 -- ---- a wave over what is left
 
-agrees : (s : Stages) (whole left : Outs) (w at : ℕ) (task : Task) → AreLeft s whole left w → slice_get (tasks_in s w) at ≡ Some task → Agrees s whole left (named_wave task)
-agrees s whole left w at task are stands v names =
-    are.named v (record { wave = w; later = omega arith; named = record { at = at; task = task; stands = stands; names = names } })
+agrees : (s : Stages) (whole left : Outs) (w at : ℕ) (task : Task) → AreLeft s whole left w → slice_get (tasks_in s w) at ≡ Some task → AgreesOn s whole left task
+agrees s whole left w at task are stands = record {
+  own = λ v names. are.named v (record { wave = w; later = omega arith; named = record { at = at; task = task; stands = stands; names = inl names } });
+  copies = λ v names. are.named v (record { wave = w; later = omega arith; named = record { at = at; task = task; stands = stands; names = inr names } });
+}
 
 pub named_left : (s : Stages) (whole left : Outs) (w at : ℕ) (task : Task) → AreLeft s whole left w → slice_get (tasks_in s w) at ≡ Some task → HasNamed s whole task → HasNamed s left task
 named_left s whole left w at task are stands = named_over s whole left task (agrees s whole left w at task are stands)

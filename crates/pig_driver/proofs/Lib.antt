@@ -1,5 +1,6 @@
 mod Sources
 mod Standing
+mod Copies
 mod Cut
 mod Values
 mod Sorting

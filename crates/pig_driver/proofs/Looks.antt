@@ -1,18 +1,22 @@
 -- Which wave is the last to look at outputs, and that these go.
-use Rattle.std.specs.Prelude.{◌≡◌, ◌≢◌, ◌<◌, ◌≤◌, ◌+◌, ◌⊎◌, ℕ, ◌==◌, Bool, true, false, List, [], ◌∷◌, get_or, length, map, min, Option, Some, None, slice_get, slice_set, zero, suc, refl}
+use Rattle.std.specs.Prelude.{◌≡◌, ◌≢◌, ◌<◌, ◌≤◌, ◌+◌, ◌-◌, ◌⊎◌, ℕ, ◌==◌, Bool, true, false, List, [], ◌∷◌, get_or, length, map, min, Option, Some, None, slice_get, slice_set, zero, suc, refl}
 use Rattle.std.proofs.Common.{ap, sym, ◌∙◌, arith, inl, inr, subst, true≢false}
 use Rattle.std.specs.Option.{option_map, option_map_or}
 use Rattle.std.proofs.lemmas.Bool.{cases_lt, eq-eqb, eqb-true}
 use Rattle.std.proofs.lemmas.List.{length-set}
 use Rattle.std.proofs.lemmas.Option.{slice_get-get_or, slice_get_past, slice_get_within}
 use Rattle.pig_value.proofs.list_laws.Indexing.{get_map}
-use Rattle.pig_value.proofs.list_laws.Listing.{some_same}
+use Rattle.pig_value.proofs.list_laws.Listing.{each_at, some_same}
+use Rattle.pig_plan.specs.Valid.{IsPlan}
 use Rattle.pig_physical.specs.Handed.{out_of, outs_of}
 use Rattle.pig_physical.specs.Outs.{Outs, TaskOut, o_bytes, outs_at}
 use Rattle.pig_physical.specs.declared.outputs.Out.{Out}
 use Rattle.pig_physical.specs.declared.outputs.OutForm.TheVariants as OutForm
-use Rattle.pig_physical.specs.Stages.{Stages, Task, heads, tasks_in, tasks_of}
-use Rattle.pig_driver.specs.Left.{AreLastLooks, AtLeast, HaveAllLooked, HaveGone, HaveLooked, HaveMarked, IsChosen, IsNamedIn, bare, bared_at, bared_first, bared_where, looked, named_wave, note_in, notes_in, set_look}
+use Rattle.pig_physical.specs.Stages.{Stages, Task, first_wave, heads, t_map, t_rank, t_reduce, tasks_in, tasks_of}
+use Rattle.pig_driver.specs.Left.{AreLastLooks, AtLeast, HaveAllLooked, HaveGone, HaveLooked, HaveMarked, IsChosen, IsNamedIn, bare, bared_at, bared_first, bared_where}
+use Rattle.pig_driver.specs.Left.{copies_by, copies_in, copies_of, looked, named_wave, note_in, notes_in, set_look}
+use Rattle.pig_driver.proofs.Copies.{probe_is}
+use Rattle.pig_driver.proofs.Standing.{TaskStands, tasks_stand}
 
 -- ---- numbers at places
 
@@ -58,7 +62,7 @@ looks_name v w zero task (t ∷ tasks) lasts stands names =
     (subst (λ named. AtLeast w v (set_look named w lasts)) (sym (ap named_wave same ∙ names)) (set_here w v w lasts (omega arith)))
 looks_name v w (suc at) task (t ∷ tasks) lasts stands names = looks_name v w at task tasks (set_look (named_wave t) w lasts) stands names
 
-look_size : (w : ℕ) (named : Option ℕ) (lasts : List ℕ) → length (set_look named w lasts) ≡ length lasts
+pub look_size : (w : ℕ) (named : Option ℕ) (lasts : List ℕ) → length (set_look named w lasts) ≡ length lasts
 look_size w None lasts = refl
 look_size w (Some v) lasts = length-set lasts v w
 
@@ -66,13 +70,36 @@ pub looked_size : (tasks : List Task) (w : ℕ) (lasts : List ℕ) → length (l
 looked_size [] w lasts = refl
 looked_size (task ∷ tasks) w lasts = looked_size tasks w (set_look (named_wave task) w lasts) ∙ look_size w (named_wave task) lasts
 
-pub looked_next : (s : Stages) (n : ℕ) (olds news : List ℕ) → news ≡ looked (tasks_in s n) n olds → HaveLooked s n olds → HaveLooked s (n + 1) news
-looked_next s n olds news is h = λ w v less named. subst (AtLeast w v) (sym is) (elim (cases_lt w n) [
-  | inl before ↦ looks_keep w v n (tasks_in s n) olds (omega (arith, before)) (h w v before named)
+-- a wave with a task that probes copies looks at them
+copies_named : (s : Stages) → IsPlan s.plan → (w at v : ℕ) (task : Task) → w < length (heads s.plan) → slice_get (tasks_in s w) at ≡ Some task
+    → copies_of s task ≡ Some v → copies_in s w ≡ Some v
+copies_named s valid w at v (t_map t) within stands names =
+    let probe = probe_is s t v names in
+    let next = (each_at (TaskStands s valid w) (tasks_in s w) at (t_map t) stands (tasks_stand s valid w within)).2 probe.o probe.at probe.replicated probe.first in
+    let behind = next.0 in
+    let before : w - 1 ≡ first_wave s.plan t.node = omega (arith, behind) in
+    ap (λ found. option_map_or (λ kind. copies_by kind w) (option_map (λ head. head.kind) found) None) next.1 ∙ ap Some (before ∙ probe.wave)
+copies_named s valid w at v (t_reduce t) within stands names = absurd (let e : None ≡ Some v = names in cc)
+copies_named s valid w at v (t_rank t) within stands names = absurd (let e : None ≡ Some v = names in cc)
+
+-- the looks of one more wave
+pub looked_next : (s : Stages) → IsPlan s.plan → (n : ℕ) (olds news : List ℕ) → n < length (heads s.plan)
+    → news ≡ set_look (copies_in s n) n (looked (tasks_in s n) n olds) → HaveLooked s n olds → HaveLooked s (n + 1) news
+looked_next s valid n olds news within is h = λ w v less named. subst (AtLeast w v) (sym is) (elim (cases_lt w n) [
+  | inl before ↦ look_keeps w v n (copies_in s n) (looked (tasks_in s n) n olds) (omega (arith, before))
+      (looks_keep w v n (tasks_in s n) olds (omega (arith, before)) (h w v before named))
   | inr over ↦ (let here : w ≡ n = omega (arith, over, less) in
-      subst (λ u. AtLeast u v (looked (tasks_in s n) n olds)) (sym here)
-      (looks_name v n named.at named.task (tasks_in s n) olds (ap (λ u. slice_get (tasks_in s u) named.at) (sym here) ∙ named.stands) named.names))
+      subst (λ u. AtLeast u v (set_look (copies_in s n) n (looked (tasks_in s n) n olds))) (sym here)
+      (by_name v named.at named.task (ap (λ u. slice_get (tasks_in s u) named.at) (sym here) ∙ named.stands) named.names))
 ])
+  where
+    by_name : (v at : ℕ) (task : Task) → slice_get (tasks_in s n) at ≡ Some task → (named_wave task ≡ Some v) ⊎ (copies_of s task ≡ Some v)
+        → AtLeast n v (set_look (copies_in s n) n (looked (tasks_in s n) n olds))
+    by_name v at task stands (inl names) =
+        look_keeps n v n (copies_in s n) (looked (tasks_in s n) n olds) (omega arith) (looks_name v n at task (tasks_in s n) olds stands names)
+    by_name v at task stands (inr names) =
+        subst (λ named. AtLeast n v (set_look named n (looked (tasks_in s n) n olds))) (sym (copies_named s valid n at v task within stands names))
+        (set_here n v n (looked (tasks_in s n) n olds) (omega arith))
 
 pub past_tasks : (s : Stages) (v : ℕ) → length (heads s.plan) ≤ v → tasks_in s v ≡ []
 past_tasks s v over = ap (λ found. option_map_or (tasks_of s v) found []) (slice_get_past (heads s.plan) v over)

@@ -1,5 +1,5 @@
 -- Right outputs of a wave's tasks, cut where the wave sorts, stand for the next waves and are the values of the tasks.
-use Rattle.std.specs.Prelude.{◌≡◌, ◌<◌, ◌+◌, ◌-◌, ◌⊎◌, ℕ, List, [], ◌∷◌, length, map, Option, Some, None, slice_get, zero, suc, refl}
+use Rattle.std.specs.Prelude.{◌≡◌, ◌<◌, ◌+◌, ◌-◌, ◌⊎◌, ℕ, true, false, List, [], ◌∷◌, length, map, Option, Some, None, slice_get, zero, suc, refl}
 use Rattle.std.proofs.Common.{ap, sym, ◌∙◌, arith, inl, inr, subst}
 use Rattle.std.specs.List.{AllByRecursion, range_with_len}
 use Rattle.std.specs.Option.{option_map_or}
@@ -33,7 +33,6 @@ use Rattle.pig_physical.specs.Values.{IsMapForm, IsValue, handed_on, slices, tas
 use Rattle.pig_physical.specs.declared.parts.Part.{Part}
 use Rattle.pig_physical.specs.declared.parts.Part.TheVariants as parts
 use Rattle.pig_waves.proofs.Tasks.{name_node}
-use Rattle.pig_waves.specs.Laws.{HaveStages}
 use Rattle.pig_work.specs.Working.{IsRight, TaskReads, Tellings}
 use Rattle.pig_driver.specs.Going.{AllTell}
 use Rattle.pig_driver.specs.Slicing.{AreDirected, AreSliced, EachSliced, IsSlicedAs}
@@ -57,90 +56,91 @@ all_from P (x ∷ xs) h = (h 0 x refl, all_from P xs (λ i y at. h (suc i) y at)
 
 -- ---- forms whose node sorts nothing
 
-form_any : (s : Stages) (points : List Point) (k : ℕ) (o : PlanOp) (i : ℕ) (rows : List (List Tree)) (form : Form) → sort_keys o ≡ None
-    → IsMapForm s None k o i rows form → IsMapForm s (Some points) k o i rows form
-form_any s points k (p_load path delim columns) i rows form none h = h
-form_any s points k (p_filter input test) i rows form none h = h
-form_any s points k (p_foreach input block) i rows form none h = h
-form_any s points k (p_group_all input) i rows form none h = h
-form_any s points k (p_group inputs) i rows form none h = h
-form_any s points k (p_join inputs side replicated) i rows form none h = h
-form_any s points k (p_union inputs) i rows form none h = h
-form_any s points k (p_distinct input) i rows form none h = h
-form_any s points k (p_order input keys) i rows form none h = absurd (let e : Some keys ≡ None = none in cc)
-form_any s points k (p_limit input count) i rows form none h = h
-form_any s points k (p_store input path delim) i rows form none h = h
-form_any s points k (p_assert input test message) i rows form none h = h
-form_any s points k (p_rank input keys dense) i rows form none h = absurd (let e : Some keys ≡ None = none in cc)
+form_any : (s : Stages) (points : List Point) (outs : Outs) (k : ℕ) (o : PlanOp) (i : ℕ) (rows : List (List Tree)) (form : Form) → sort_keys o ≡ None
+    → IsMapForm s None outs k o i rows form → IsMapForm s (Some points) outs k o i rows form
+form_any s points outs k (p_load path delim columns) i rows form none h = h
+form_any s points outs k (p_filter input test) i rows form none h = h
+form_any s points outs k (p_foreach input block) i rows form none h = h
+form_any s points outs k (p_group_all input) i rows form none h = h
+form_any s points outs k (p_group inputs) i rows form none h = h
+form_any s points outs k (p_join inputs side true) i rows form none h = h
+form_any s points outs k (p_join inputs side false) i rows form none h = h
+form_any s points outs k (p_union inputs) i rows form none h = h
+form_any s points outs k (p_distinct input) i rows form none h = h
+form_any s points outs k (p_order input keys) i rows form none h = absurd (let e : Some keys ≡ None = none in cc)
+form_any s points outs k (p_limit input count) i rows form none h = h
+form_any s points outs k (p_store input path delim) i rows form none h = h
+form_any s points outs k (p_assert input test message) i rows form none h = h
+form_any s points outs k (p_rank input keys dense) i rows form none h = absurd (let e : Some keys ≡ None = none in cc)
 
 -- ---- forms of a node that sorts
 
 -- what a node that sorts hands on is runs
-sorted_fits : (s : Stages) (k : ℕ) (o : PlanOp) (keys : List SortKey) (form : Form) → sort_keys o ≡ Some keys → MapFits s k o form → HasRuns s k o form
-sorted_fits s k (p_load path delim columns) keys form by h = h
-sorted_fits s k (p_filter input test) keys form by h = h
-sorted_fits s k (p_foreach input block) keys form by h = h
-sorted_fits s k (p_group_all input) keys form by h = h
-sorted_fits s k (p_group inputs) keys form by h = h
-sorted_fits s k (p_join inputs side replicated) keys form by h = h
-sorted_fits s k (p_union inputs) keys form by h = h
-sorted_fits s k (p_distinct input) keys form by h = h
-sorted_fits s k (p_order input sorting) keys form by h = h
-sorted_fits s k (p_limit input count) keys form by h = absurd (let e : None ≡ Some keys = by in cc)
-sorted_fits s k (p_store input path delim) keys form by h = absurd (let e : None ≡ Some keys = by in cc)
-sorted_fits s k (p_assert input test message) keys form by h = h
-sorted_fits s k (p_rank input sorting dense) keys form by h = h
+sorted_fits : (s : Stages) (k : ℕ) (o : PlanOp) (i : ℕ) (keys : List SortKey) (form : Form) → sort_keys o ≡ Some keys → MapFits s k o i form → HasRuns s k o form
+sorted_fits s k (p_load path delim columns) i keys form by h = h
+sorted_fits s k (p_filter input test) i keys form by h = h
+sorted_fits s k (p_foreach input block) i keys form by h = h
+sorted_fits s k (p_group_all input) i keys form by h = h
+sorted_fits s k (p_group inputs) i keys form by h = h
+sorted_fits s k (p_join inputs side replicated) i keys form by h = absurd (let e : None ≡ Some keys = by in cc)
+sorted_fits s k (p_union inputs) i keys form by h = h
+sorted_fits s k (p_distinct input) i keys form by h = h
+sorted_fits s k (p_order input sorting) i keys form by h = h
+sorted_fits s k (p_limit input count) i keys form by h = absurd (let e : None ≡ Some keys = by in cc)
+sorted_fits s k (p_store input path delim) i keys form by h = absurd (let e : None ≡ Some keys = by in cc)
+sorted_fits s k (p_assert input test message) i keys form by h = h
+sorted_fits s k (p_rank input sorting dense) i keys form by h = h
 
-fits_sorted : (s : Stages) (k : ℕ) (o : PlanOp) (keys : List SortKey) (form : Form) → sort_keys o ≡ Some keys → HasRuns s k o form → MapFits s k o form
-fits_sorted s k (p_load path delim columns) keys form by h = h
-fits_sorted s k (p_filter input test) keys form by h = h
-fits_sorted s k (p_foreach input block) keys form by h = h
-fits_sorted s k (p_group_all input) keys form by h = h
-fits_sorted s k (p_group inputs) keys form by h = h
-fits_sorted s k (p_join inputs side replicated) keys form by h = h
-fits_sorted s k (p_union inputs) keys form by h = h
-fits_sorted s k (p_distinct input) keys form by h = h
-fits_sorted s k (p_order input sorting) keys form by h = h
-fits_sorted s k (p_limit input count) keys form by h = absurd (let e : None ≡ Some keys = by in cc)
-fits_sorted s k (p_store input path delim) keys form by h = absurd (let e : None ≡ Some keys = by in cc)
-fits_sorted s k (p_assert input test message) keys form by h = h
-fits_sorted s k (p_rank input sorting dense) keys form by h = h
+fits_sorted : (s : Stages) (k : ℕ) (o : PlanOp) (i : ℕ) (keys : List SortKey) (form : Form) → sort_keys o ≡ Some keys → HasRuns s k o form → MapFits s k o i form
+fits_sorted s k (p_load path delim columns) i keys form by h = h
+fits_sorted s k (p_filter input test) i keys form by h = h
+fits_sorted s k (p_foreach input block) i keys form by h = h
+fits_sorted s k (p_group_all input) i keys form by h = h
+fits_sorted s k (p_group inputs) i keys form by h = h
+fits_sorted s k (p_join inputs side replicated) i keys form by h = absurd (let e : None ≡ Some keys = by in cc)
+fits_sorted s k (p_union inputs) i keys form by h = h
+fits_sorted s k (p_distinct input) i keys form by h = h
+fits_sorted s k (p_order input sorting) i keys form by h = h
+fits_sorted s k (p_limit input count) i keys form by h = absurd (let e : None ≡ Some keys = by in cc)
+fits_sorted s k (p_store input path delim) i keys form by h = absurd (let e : None ≡ Some keys = by in cc)
+fits_sorted s k (p_assert input test message) i keys form by h = h
+fits_sorted s k (p_rank input sorting dense) i keys form by h = h
 
 -- the run of such a node, and its slices
-sorted_form : (s : Stages) (points : Option (List Point)) (k : ℕ) (o : PlanOp) (keys : List SortKey) (i : ℕ) (rows : List (List Tree)) (form : Form) → sort_keys o ≡ Some keys
-    → IsMapForm s points k o i rows form → form ≡ o_runs (slices points (dirs_of keys) (handed_on s.plan k o (entries_of o i rows)))
-sorted_form s points k (p_load path delim columns) keys i rows form by h = absurd (let e : None ≡ Some keys = by in cc)
-sorted_form s points k (p_filter input test) keys i rows form by h = absurd (let e : None ≡ Some keys = by in cc)
-sorted_form s points k (p_foreach input block) keys i rows form by h = absurd (let e : None ≡ Some keys = by in cc)
-sorted_form s points k (p_group_all input) keys i rows form by h = absurd (let e : None ≡ Some keys = by in cc)
-sorted_form s points k (p_group inputs) keys i rows form by h = absurd (let e : None ≡ Some keys = by in cc)
-sorted_form s points k (p_join inputs side replicated) keys i rows form by h = absurd (let e : None ≡ Some keys = by in cc)
-sorted_form s points k (p_union inputs) keys i rows form by h = absurd (let e : None ≡ Some keys = by in cc)
-sorted_form s points k (p_distinct input) keys i rows form by h = absurd (let e : None ≡ Some keys = by in cc)
-sorted_form s points k (p_order input sorting) keys i rows form by h =
+sorted_form : (s : Stages) (points : Option (List Point)) (outs : Outs) (k : ℕ) (o : PlanOp) (keys : List SortKey) (i : ℕ) (rows : List (List Tree)) (form : Form) → sort_keys o ≡ Some keys
+    → IsMapForm s points outs k o i rows form → form ≡ o_runs (slices points (dirs_of keys) (handed_on s.plan k o (entries_of o i rows)))
+sorted_form s points outs k (p_load path delim columns) keys i rows form by h = absurd (let e : None ≡ Some keys = by in cc)
+sorted_form s points outs k (p_filter input test) keys i rows form by h = absurd (let e : None ≡ Some keys = by in cc)
+sorted_form s points outs k (p_foreach input block) keys i rows form by h = absurd (let e : None ≡ Some keys = by in cc)
+sorted_form s points outs k (p_group_all input) keys i rows form by h = absurd (let e : None ≡ Some keys = by in cc)
+sorted_form s points outs k (p_group inputs) keys i rows form by h = absurd (let e : None ≡ Some keys = by in cc)
+sorted_form s points outs k (p_join inputs side replicated) keys i rows form by h = absurd (let e : None ≡ Some keys = by in cc)
+sorted_form s points outs k (p_union inputs) keys i rows form by h = absurd (let e : None ≡ Some keys = by in cc)
+sorted_form s points outs k (p_distinct input) keys i rows form by h = absurd (let e : None ≡ Some keys = by in cc)
+sorted_form s points outs k (p_order input sorting) keys i rows form by h =
     h ∙ ap (λ ks. o_runs (slices points (dirs_of ks) (handed_on s.plan k (p_order input sorting) (entries_of (p_order input sorting) i rows)))) (some_same sorting keys by)
-sorted_form s points k (p_limit input count) keys i rows form by h = absurd (let e : None ≡ Some keys = by in cc)
-sorted_form s points k (p_store input path delim) keys i rows form by h = absurd (let e : None ≡ Some keys = by in cc)
-sorted_form s points k (p_assert input test message) keys i rows form by h = absurd (let e : None ≡ Some keys = by in cc)
-sorted_form s points k (p_rank input sorting dense) keys i rows form by h =
+sorted_form s points outs k (p_limit input count) keys i rows form by h = absurd (let e : None ≡ Some keys = by in cc)
+sorted_form s points outs k (p_store input path delim) keys i rows form by h = absurd (let e : None ≡ Some keys = by in cc)
+sorted_form s points outs k (p_assert input test message) keys i rows form by h = absurd (let e : None ≡ Some keys = by in cc)
+sorted_form s points outs k (p_rank input sorting dense) keys i rows form by h =
     h ∙ ap (λ ks. o_runs (slices points (dirs_of ks) (handed_on s.plan k (p_rank input sorting dense) (entries_of (p_rank input sorting dense) i rows)))) (some_same sorting keys by)
 
-form_sorted : (s : Stages) (points : Option (List Point)) (k : ℕ) (o : PlanOp) (keys : List SortKey) (i : ℕ) (rows : List (List Tree)) (form : Form) → sort_keys o ≡ Some keys
-    → form ≡ o_runs (slices points (dirs_of keys) (handed_on s.plan k o (entries_of o i rows))) → IsMapForm s points k o i rows form
-form_sorted s points k (p_load path delim columns) keys i rows form by h = absurd (let e : None ≡ Some keys = by in cc)
-form_sorted s points k (p_filter input test) keys i rows form by h = absurd (let e : None ≡ Some keys = by in cc)
-form_sorted s points k (p_foreach input block) keys i rows form by h = absurd (let e : None ≡ Some keys = by in cc)
-form_sorted s points k (p_group_all input) keys i rows form by h = absurd (let e : None ≡ Some keys = by in cc)
-form_sorted s points k (p_group inputs) keys i rows form by h = absurd (let e : None ≡ Some keys = by in cc)
-form_sorted s points k (p_join inputs side replicated) keys i rows form by h = absurd (let e : None ≡ Some keys = by in cc)
-form_sorted s points k (p_union inputs) keys i rows form by h = absurd (let e : None ≡ Some keys = by in cc)
-form_sorted s points k (p_distinct input) keys i rows form by h = absurd (let e : None ≡ Some keys = by in cc)
-form_sorted s points k (p_order input sorting) keys i rows form by h =
+form_sorted : (s : Stages) (points : Option (List Point)) (outs : Outs) (k : ℕ) (o : PlanOp) (keys : List SortKey) (i : ℕ) (rows : List (List Tree)) (form : Form) → sort_keys o ≡ Some keys
+    → form ≡ o_runs (slices points (dirs_of keys) (handed_on s.plan k o (entries_of o i rows))) → IsMapForm s points outs k o i rows form
+form_sorted s points outs k (p_load path delim columns) keys i rows form by h = absurd (let e : None ≡ Some keys = by in cc)
+form_sorted s points outs k (p_filter input test) keys i rows form by h = absurd (let e : None ≡ Some keys = by in cc)
+form_sorted s points outs k (p_foreach input block) keys i rows form by h = absurd (let e : None ≡ Some keys = by in cc)
+form_sorted s points outs k (p_group_all input) keys i rows form by h = absurd (let e : None ≡ Some keys = by in cc)
+form_sorted s points outs k (p_group inputs) keys i rows form by h = absurd (let e : None ≡ Some keys = by in cc)
+form_sorted s points outs k (p_join inputs side replicated) keys i rows form by h = absurd (let e : None ≡ Some keys = by in cc)
+form_sorted s points outs k (p_union inputs) keys i rows form by h = absurd (let e : None ≡ Some keys = by in cc)
+form_sorted s points outs k (p_distinct input) keys i rows form by h = absurd (let e : None ≡ Some keys = by in cc)
+form_sorted s points outs k (p_order input sorting) keys i rows form by h =
     h ∙ ap (λ ks. o_runs (slices points (dirs_of ks) (handed_on s.plan k (p_order input sorting) (entries_of (p_order input sorting) i rows)))) (sym (some_same sorting keys by))
-form_sorted s points k (p_limit input count) keys i rows form by h = absurd (let e : None ≡ Some keys = by in cc)
-form_sorted s points k (p_store input path delim) keys i rows form by h = absurd (let e : None ≡ Some keys = by in cc)
-form_sorted s points k (p_assert input test message) keys i rows form by h = absurd (let e : None ≡ Some keys = by in cc)
-form_sorted s points k (p_rank input sorting dense) keys i rows form by h =
+form_sorted s points outs k (p_limit input count) keys i rows form by h = absurd (let e : None ≡ Some keys = by in cc)
+form_sorted s points outs k (p_store input path delim) keys i rows form by h = absurd (let e : None ≡ Some keys = by in cc)
+form_sorted s points outs k (p_assert input test message) keys i rows form by h = absurd (let e : None ≡ Some keys = by in cc)
+form_sorted s points outs k (p_rank input sorting dense) keys i rows form by h =
     h ∙ ap (λ ks. o_runs (slices points (dirs_of ks) (handed_on s.plan k (p_rank input sorting dense) (entries_of (p_rank input sorting dense) i rows)))) (sym (some_same sorting keys by))
 
 one_run : (xs ys : List InDirections) → o_runs xs ≡ o_runs ys → xs ≡ ys
@@ -184,16 +184,16 @@ module _ (s : Stages) (tellings : Tellings) (outs : Outs) (w : ℕ) where
   its_value : (inputs : List Input) → AllTell inputs tellings → (task : Task) (out : TaskOut) → IsRight s tellings outs task out → IsValue s inputs None outs task out
   its_value inputs told task out h = h.value inputs (each_weaker (λ t. t ≡ Some inputs) (TaskReads task inputs) (task_read inputs task) tellings told)
 
-  module _ (valid : IsPlan s.plan) (staged : HaveStages s.plan) (within : w < length (heads s.plan)) (size : length outs ≡ w) (found : List TaskOut) (rights : AreRight found) where
+  module _ (valid : IsPlan s.plan) (within : w < length (heads s.plan)) (size : length outs ≡ w) (found : List TaskOut) (rights : AreRight found) where
     task_of_out : (at : ℕ) (out : TaskOut) → slice_get found at ≡ Some out → (task : Task) × (slice_get (tasks_in s w) at ≡ Some task)
     task_of_out at out by = let less = slice_get_within found at out by in let count = rights.count in some_at (tasks_in s w) at (omega (arith, less, count))
 
     -- ---- a wave that sorts nothing
 
-    module _ (plain : IsPlain s valid staged w within) where
-      any_points : (inputs : List Input) (points : List Point) (task : Task) (out : TaskOut) → Unsorted s valid staged w within task → IsValue s inputs None outs task out → IsValue s inputs (Some points) outs task out
+    module _ (plain : IsPlain s valid w within) where
+      any_points : (inputs : List Input) (points : List Point) (task : Task) (out : TaskOut) → Unsorted s valid w within task → IsValue s inputs None outs task out → IsValue s inputs (Some points) outs task out
       any_points inputs points (t_map t) out unsorted h = λ o at. let is = h o at in
-          record { form = form_any s points t.node o t.way.input (task_rows s.plan inputs outs t) out.form (unsorted o at) is.form; lines = is.lines; unmet = is.unmet }
+          record { form = form_any s points outs t.node o t.way.input (task_rows s.plan inputs outs t) out.form (unsorted o at) is.form; lines = is.lines; unmet = is.unmet }
       any_points inputs points (t_reduce t) out unsorted h = h
       any_points inputs points (t_rank t) out unsorted h = h
 
@@ -204,7 +204,7 @@ module _ (s : Stages) (tellings : Tellings) (outs : Outs) (w : ℕ) where
           empty [] h = tt
           empty (x ∷ xs) h = absurd (omega (arith, h))
 
-      pub plain_new : AreNew s valid staged outs found w size within
+      pub plain_new : AreNew s valid outs found w size within
       plain_new = record {
         count = rights.count;
         fit = λ at task out by is. (rights.right at task out by is).fits;
@@ -214,11 +214,11 @@ module _ (s : Stages) (tellings : Tellings) (outs : Outs) (w : ℕ) where
       pub plain_values : (inputs : List Input) → AllTell inputs tellings → (points : List Point) → Each (IsValue s inputs (Some points) outs) (tasks_in s w) found
       plain_values inputs told points =
           each_from (IsValue s inputs (Some points) outs) (tasks_in s w) found rights.count
-          (λ at task out by is. any_points inputs points task out (each_at (Unsorted s valid staged w within) (tasks_in s w) at task by plain.tasks) (its_value inputs told task out (rights.right at task out by is)))
+          (λ at task out by is. any_points inputs points task out (each_at (Unsorted s valid w within) (tasks_in s w) at task by plain.tasks) (its_value inputs told task out (rights.right at task out by is)))
 
     -- ---- a wave that sorts
 
-    module _ (sorting : IsSorting s valid staged w within) where
+    module _ (sorting : IsSorting s valid w within) where
       abbrev node : ℕ
       node = sorting.k
 
@@ -229,7 +229,7 @@ module _ (s : Stages) (tellings : Tellings) (outs : Outs) (w : ℕ) where
       ds = dirs_of sorting.keys
 
       op_known : op_at s.plan node ≡ Some op
-      op_known = op_here s valid staged node sorting.is.node sorting.is.at
+      op_known = op_here s valid node sorting.is.node sorting.is.at
 
       abbrev IsMapOf : Task → Type 0
       IsMapOf (t_map t) = t.node ≡ node
@@ -238,7 +238,7 @@ module _ (s : Stages) (tellings : Tellings) (outs : Outs) (w : ℕ) where
 
       all_maps : AllByRecursion IsMapOf (tasks_in s w)
       all_maps =
-          subst (AllByRecursion IsMapOf) (sym (ap (tasks_in s) sorting.at ∙ (its_waves s valid staged node sorting.is).maps))
+          subst (AllByRecursion IsMapOf) (sym (ap (tasks_in s) sorting.at ∙ (its_waves s valid node sorting.is sorting.by_key).maps))
           (each-map IsMapOf t_map (map_tasks s node op) (name_node s node (ways_into s.plan op)))
 
       own_op : (t : MapTask) → t.node ≡ node → op_at s.plan t.node ≡ Some op
@@ -246,7 +246,7 @@ module _ (s : Stages) (tellings : Tellings) (outs : Outs) (w : ℕ) where
 
       -- an output of such a task is runs that fit
       out_runs : (task : Task) (out : TaskOut) → IsMapOf task → Fits s task out → HasRuns s node op out.form
-      out_runs (t_map t) out of fits = sorted_fits s node op sorting.keys out.form sorting.by (subst (λ n. MapFits s n op out.form) of (fits op (own_op t of)))
+      out_runs (t_map t) out of fits = sorted_fits s node op t.way.input sorting.keys out.form sorting.by (subst (λ n. MapFits s n op t.way.input out.form) of (fits op (own_op t of)))
       out_runs (t_reduce t) out of fits = absurd of
       out_runs (t_rank t) out of fits = absurd of
 
@@ -343,8 +343,8 @@ module _ (s : Stages) (tellings : Tellings) (outs : Outs) (w : ℕ) where
                 let cut_is = new_at at new is in
                 let h = runs_of_out at cut_is.old cut_is.stands in
                 let same : o ≡ op = some_same o op (sym known ∙ own_op t of) in
-                subst (λ p. MapFits s t.node p new.form) (sym same) (subst (λ k. MapFits s k op new.form) (sym of)
-                (fits_sorted s node op sorting.keys new.form sorting.by
+                subst (λ p. MapFits s t.node p t.way.input new.form) (sym same) (subst (λ k. MapFits s k op t.way.input new.form) (sym of)
+                (fits_sorted s node op t.way.input sorting.keys new.form sorting.by
                 (record {
                   runs = slices_of cut_is.run cut.points n;
                   is = cut_is.is.form;
@@ -361,7 +361,7 @@ module _ (s : Stages) (tellings : Tellings) (outs : Outs) (w : ℕ) where
         new_sliced = all_from (IsSliced s) news (λ at new by. (let cut_is = new_at at new by in
             ap (λ form. length (runs_in form)) cut_is.is.form ∙ length-map (range_with_len 0 n) _ ∙ length-range_with_len 0 n))
 
-        pub sliced_new : AreNew s valid staged outs news w size within
+        pub sliced_new : AreNew s valid outs news w size within
         sliced_new = record { count = count; fit = new_fits; sliced = λ k o keys head known by. new_sliced }
 
         module _ (inputs : List Input) (told : AllTell inputs tellings) (points_many : length cut.points + 1 ≡ n) where
@@ -372,9 +372,9 @@ module _ (s : Stages) (tellings : Tellings) (outs : Outs) (w : ℕ) where
               let same : sort_keys o ≡ Some sorting.keys = ap sort_keys (some_same o op (sym known ∙ own_op t of)) ∙ sorting.by in
               let rows = task_rows s.plan inputs outs t in
               let es = handed_on s.plan t.node o (entries_of o t.way.input rows) in
-              let one : o_runs (cut_is.run ∷ []) ≡ o_runs (slices None ds es) = sym cut_is.is.was ∙ sorted_form s None t.node o sorting.keys t.way.input rows cut_is.old.form same old.form in
+              let one : o_runs (cut_is.run ∷ []) ≡ o_runs (slices None ds es) = sym cut_is.is.was ∙ sorted_form s None outs t.node o sorting.keys t.way.input rows cut_is.old.form same old.form in
               record {
-                form = form_sorted s (Some cut.points) t.node o sorting.keys t.way.input rows new.form same
+                form = form_sorted s (Some cut.points) outs t.node o sorting.keys t.way.input rows new.form same
                     (cut_is.is.form ∙ ap o_runs (slices_are n cut.points ds es cut_is.run points_many one));
                 lines = cut_is.is.lines ∙ old.lines;
                 unmet = cut_is.is.unmet ∙ old.unmet;

@@ -1,24 +1,24 @@
--- A wave sorts where it is that of the map tasks of an ORDER, as its first task tells.
-use Rattle.std.specs.Prelude.{◌≡◌, ◌<◌, ◌+◌, ⊤, ℕ, Bool, true, false, List, [], ◌∷◌, length, map, take, Option, Some, None, slice_get, refl}
+-- A wave sorts where it is that of the map tasks of a node that sorts, as its first task tells.
+use Rattle.std.specs.Prelude.{◌≡◌, ◌<◌, ◌+◌, ⊤, ℕ, Bool, true, false, not, List, [], ◌∷◌, length, map, take, Option, Some, None, slice_get, refl}
 use Rattle.std.proofs.Common.{ap, sym, ◌∙◌, arith, subst, true≢false}
 use Rattle.std.specs.List.{AllByRecursion, flat_map}
 use Rattle.std.specs.Option.{is_some, option_map_or}
 use Rattle.pig_value.proofs.list_laws.Elementwise.{get-behind}
-use Rattle.pig_value.proofs.list_laws.Listing.{each-map, each_filtered, each_of_all, each_weaker, some_same}
+use Rattle.pig_value.proofs.list_laws.Listing.{each-filter, each-map, each_filtered, each_of_all, each_weaker, some_same}
 use Rattle.pig_typed.specs.declared.blocks.SortKey.{SortKey}
 use Rattle.pig_plan.specs.Entries.{sort_keys}
 use Rattle.pig_plan.specs.Nodes.{is_store, live, op_at}
 use Rattle.pig_plan.specs.Plans.{PlanOp, p_load, p_filter, p_foreach, p_group_all, p_group, p_join, p_union, p_distinct, p_order, p_limit, p_store, p_assert, p_rank}
 use Rattle.pig_plan.specs.Valid.{IsPlan}
-use Rattle.pig_physical.specs.Stages.{MapTask, Stages, Task, boundaries, first_wave, head_of, heads, heads_at, map_tasks, partition_tasks, store_tasks, stores, t_map, t_rank, t_reduce, tasks_by, tasks_in, tasks_of, ways_into, ways_to}
-use Rattle.pig_physical.specs.declared.parts.ReduceTask.{ReduceTask}
+use Rattle.pig_physical.specs.Stages.{MapTask, Stages, Task, boundaries, enters_first, first_wave, head_of, heads, heads_at, is_replicated, map_tasks, partition_tasks, store_tasks, stores, t_map, t_rank, t_reduce, tasks_by, tasks_in, tasks_of, ways_into, ways_to}
 use Rattle.pig_physical.specs.declared.waves.WaveKind.{WaveKind}
 use Rattle.pig_physical.specs.declared.waves.WaveKind.TheVariants as kinds
 use Rattle.pig_waves.proofs.Places.{all_flat_where}
 use Rattle.pig_waves.proofs.Tasks.{name_node}
-use Rattle.pig_waves.specs.Laws.{HaveStages, ranks}
+use Rattle.pig_waves.specs.Laws.{copy_tasks, probe_tasks, ranks}
 use Rattle.pig_driver.specs.Sorting.{op_sorts, task_sorts, wave_sorts}
-use Rattle.pig_driver.proofs.Standing.{IsBoundaryAt, WaveAt, its_head, its_last_head, its_rank_head, its_waves, maps, op_here, ranking, reduces, storing, wave_at}
+use Rattle.pig_driver.proofs.Standing.{ByKey, IsBoundaryAt, Replicated, WaveAt, copying, its_copy_head, its_head, its_last_head, its_probe_head, its_probes, its_rank_head, its_waves}
+use Rattle.pig_driver.proofs.Standing.{maps, matching, op_here, ranking, reduces, storing, wave_at}
 
 no_keys : (found : Option (List SortKey)) → is_some found ≡ false → found ≡ None
 no_keys None h = refl
@@ -43,11 +43,26 @@ store_sorts_none (p_store input path delim) h = refl
 store_sorts_none (p_assert input test message) h = absurd (true≢false (sym h))
 store_sorts_none (p_rank input keys dense) h = absurd (true≢false (sym h))
 
+probes_sort_none : (o : PlanOp) → is_replicated o ≡ true → sort_keys o ≡ None
+probes_sort_none (p_join inputs side replicated) h = refl
+probes_sort_none (p_load path delim columns) h = absurd (true≢false (sym h))
+probes_sort_none (p_filter input test) h = absurd (true≢false (sym h))
+probes_sort_none (p_foreach input block) h = absurd (true≢false (sym h))
+probes_sort_none (p_group_all input) h = absurd (true≢false (sym h))
+probes_sort_none (p_group inputs) h = absurd (true≢false (sym h))
+probes_sort_none (p_union inputs) h = absurd (true≢false (sym h))
+probes_sort_none (p_distinct input) h = absurd (true≢false (sym h))
+probes_sort_none (p_order input keys) h = absurd (true≢false (sym h))
+probes_sort_none (p_limit input count) h = absurd (true≢false (sym h))
+probes_sort_none (p_store input path delim) h = absurd (true≢false (sym h))
+probes_sort_none (p_assert input test message) h = absurd (true≢false (sym h))
+probes_sort_none (p_rank input keys dense) h = absurd (true≢false (sym h))
+
 is_map_kind : WaveKind → Bool
 is_map_kind kinds.Map = true
 is_map_kind kind = false
 
-module _ (s : Stages) (valid : IsPlan s.plan) (staged : HaveStages s.plan) (w : ℕ) (within : w < length (heads s.plan)) where
+module _ (s : Stages) (valid : IsPlan s.plan) (w : ℕ) (within : w < length (heads s.plan)) where
   -- a task whose node, where it is a map task, sorts nothing
   abbrev pub Unsorted : Task → Type 0
   Unsorted (t_map t) = (o : PlanOp) → op_at s.plan t.node ≡ Some o → sort_keys o ≡ None
@@ -64,7 +79,8 @@ module _ (s : Stages) (valid : IsPlan s.plan) (staged : HaveStages s.plan) (w : 
 
   pub record IsSorting : Type 0 where
     pub k : ℕ
-    pub is : IsBoundaryAt s valid staged k
+    pub is : IsBoundaryAt s valid k
+    pub by_key : ByKey s valid k is
     pub keys : List SortKey
     pub by : sort_keys is.node.op ≡ Some keys
     pub at : w ≡ first_wave s.plan k
@@ -76,20 +92,34 @@ module _ (s : Stages) (valid : IsPlan s.plan) (staged : HaveStages s.plan) (w : 
   none_there : (o : PlanOp) (found : Option (List SortKey)) (keys : List SortKey) → found ≡ None → found ≡ Some keys → tasks_in s w ≡ []
   none_there o found keys h g = absurd (let e : None ≡ Some keys = sym h ∙ g in cc)
 
+  -- the first of tasks whose nodes sort nothing
+  first_unsorted : (ts : List Task) → AllByRecursion Unsorted ts → option_map_or (task_sorts s.plan) (slice_get ts 0) false ≡ false
+  first_unsorted [] h = refl
+  first_unsorted (t_map t ∷ ts) h = by_op (op_at s.plan t.node) refl
+    where
+      by_op : (found : Option PlanOp) → op_at s.plan t.node ≡ found → option_map_or op_sorts (op_at s.plan t.node) false ≡ false
+      by_op None e = ap (λ found. option_map_or op_sorts found false) e
+      by_op (Some p) e = ap (λ found. option_map_or op_sorts found false) e ∙ ap is_some (h.0 p e)
+  first_unsorted (t_reduce t ∷ ts) h = refl
+  first_unsorted (t_rank t ∷ ts) h = refl
+
+  plain_sorts_none : IsPlain → wave_sorts s w ≡ false
+  plain_sorts_none plain = first_unsorted (tasks_in s w) plain.tasks
+
   -- ---- the map tasks of a node
 
-  module _ (k : ℕ) (is : IsBoundaryAt s valid staged k) (at : w ≡ first_wave s.plan k) where
+  module _ (k : ℕ) (is : IsBoundaryAt s valid k) (by_key : ByKey s valid k is) (at : w ≡ first_wave s.plan k) where
     abbrev o : PlanOp
     o = is.node.op
 
     tasks_are : tasks_in s w ≡ map t_map (map_tasks s k o)
-    tasks_are = ap (tasks_in s) at ∙ (its_waves s valid staged k is).maps
+    tasks_are = ap (tasks_in s) at ∙ (its_waves s valid k is by_key).maps
 
     named : AllByRecursion (λ t. t.node ≡ k) (map_tasks s k o)
     named = name_node s k (ways_into s.plan o)
 
     own_op : (t : MapTask) → t.node ≡ k → op_at s.plan t.node ≡ Some o
-    own_op t e = ap (op_at s.plan) e ∙ op_here s valid staged k is.node is.at
+    own_op t e = ap (op_at s.plan) e ∙ op_here s valid k is.node is.at
 
     first_tells : (ts : List MapTask) → AllByRecursion (λ t. t.node ≡ k) ts → (t : MapTask) (more : List MapTask) → ts ≡ t ∷ more
         → option_map_or (task_sorts s.plan) (slice_get (map t_map ts) 0) false ≡ op_sorts o
@@ -98,12 +128,12 @@ module _ (s : Stages) (valid : IsPlan s.plan) (staged : HaveStages s.plan) (w : 
         ∙ ap (λ found. option_map_or op_sorts found false) (own_op t (subst (AllByRecursion (λ t. t.node ≡ k)) e h).0)
 
     here_head : slice_get (heads s.plan) w ≡ Some (head_of s.plan k kinds.Map)
-    here_head = ap (slice_get (heads s.plan)) at ∙ its_head s valid staged k is
+    here_head = ap (slice_get (heads s.plan)) at ∙ its_head s valid k is by_key
 
     same_op : (j : ℕ) (p : PlanOp) → slice_get (heads s.plan) w ≡ Some (head_of s.plan j kinds.Map) → op_at s.plan j ≡ Some p → o ≡ p
     same_op j p by known =
         let same : k ≡ j = ap (λ h. h.node) (some_same (head_of s.plan k kinds.Map) (head_of s.plan j kinds.Map) (sym here_head ∙ by)) in
-        some_same o p (sym (op_here s valid staged k is.node is.at) ∙ ap (op_at s.plan) same ∙ known)
+        some_same o p (sym (op_here s valid k is.node is.at) ∙ ap (op_at s.plan) same ∙ known)
 
     sorts_here : wave_sorts s w ≡ option_map_or (task_sorts s.plan) (slice_get (map t_map (map_tasks s k o)) 0) false
     sorts_here = ap (λ ts. option_map_or (task_sorts s.plan) (slice_get ts 0) false) tasks_are
@@ -130,16 +160,50 @@ module _ (s : Stages) (valid : IsPlan s.plan) (staged : HaveStages s.plan) (w : 
     sorting_maps [] e h = absurd (true≢false (sym h ∙ sorts_here ∙ ap (λ us. option_map_or (task_sorts s.plan) (slice_get (map t_map us) 0) false) e))
     sorting_maps (t ∷ more) e h =
         let found = some_keys (sort_keys o) (sym (first_tells (map_tasks s k o) named t more e) ∙ sym sorts_here ∙ h) in
-        record { k = k; is = is; keys = found.0; by = found.1; at = at }
+        record { k = k; is = is; by_key = by_key; keys = found.0; by = found.1; at = at }
+
+  -- ---- the tasks of a replicated JOIN
+
+  module _ (k : ℕ) (is : IsBoundaryAt s valid k) (replicated : Replicated s valid k is) where
+    join_op : (t : MapTask) → t.node ≡ k → (o : PlanOp) → op_at s.plan t.node ≡ Some o → sort_keys o ≡ None
+    join_op t e o known =
+        probes_sort_none o (ap is_replicated (some_same o is.node.op (sym known ∙ ap (op_at s.plan) e ∙ op_here s valid k is.node is.at)) ∙ replicated)
+
+    -- those of one of its waves
+    plain_tasks : (kind : WaveKind) → slice_get (heads s.plan) w ≡ Some (head_of s.plan k kind) → is_map_kind kind ≡ false
+        → (ts : List MapTask) → AllByRecursion (λ t. t.node ≡ k) ts → tasks_in s w ≡ map t_map ts → IsPlain
+    plain_tasks kind head other ts own are = record {
+      tasks = subst (AllByRecursion Unsorted) (sym are)
+          (each-map Unsorted t_map ts
+          (each_weaker (λ t. t.node ≡ k) (λ t. (o : PlanOp) → op_at s.plan t.node ≡ Some o → sort_keys o ≡ None) (λ t e. join_op t e) ts own));
+      none = λ j p keys by known found. absurd (true≢false (sym (other_kind j k kind head by) ∙ other));
+    }
+
+    join_named : AllByRecursion (λ t. t.node ≡ k) (map_tasks s k is.node.op)
+    join_named = name_node s k (ways_into s.plan is.node.op)
+
+    plain_copies : w ≡ first_wave s.plan k → IsPlain
+    unfolding is_map_kind
+    plain_copies at =
+        plain_tasks kinds.Copy (ap (slice_get (heads s.plan)) at ∙ its_copy_head s valid k is replicated) refl (copy_tasks s k is.node.op)
+        (each-filter (λ t. not (enters_first t)) (λ t. t.node ≡ k) (map_tasks s k is.node.op) join_named)
+        (ap (tasks_in s) at ∙ (its_probes s valid k is replicated).copies)
+
+    plain_probes : w ≡ first_wave s.plan k + 1 → IsPlain
+    unfolding is_map_kind
+    plain_probes at =
+        plain_tasks kinds.Probe (ap (slice_get (heads s.plan)) at ∙ its_probe_head s valid k is replicated) refl (probe_tasks s k is.node.op)
+        (each-filter enters_first (λ t. t.node ≡ k) (map_tasks s k is.node.op) join_named)
+        (ap (tasks_in s) at ∙ (its_probes s valid k is replicated).probes)
 
   -- ---- reduce tasks
 
-  module _ (k : ℕ) (is : IsBoundaryAt s valid staged k) (at : w ≡ first_wave s.plan k + 1) where
+  module _ (k : ℕ) (is : IsBoundaryAt s valid k) (by_key : ByKey s valid k is) (at : w ≡ first_wave s.plan k + 1) where
     reduces_are : tasks_in s w ≡ map t_reduce (partition_tasks s (first_wave s.plan k) k is.node.op)
-    reduces_are = ap (tasks_in s) at ∙ (its_waves s valid staged k is).reduces
+    reduces_are = ap (tasks_in s) at ∙ (its_waves s valid k is by_key).reduces
 
     reduce_head : slice_get (heads s.plan) w ≡ Some (head_of s.plan k kinds.Reduce)
-    reduce_head = ap (slice_get (heads s.plan)) at ∙ its_last_head s valid staged k is
+    reduce_head = ap (slice_get (heads s.plan)) at ∙ its_last_head s valid k is by_key
 
     plain_reduces : IsPlain
     unfolding is_map_kind
@@ -148,21 +212,14 @@ module _ (s : Stages) (valid : IsPlan s.plan) (staged : HaveStages s.plan) (w : 
       none = λ j p keys by known found. absurd (true≢false (sym (other_kind j k kinds.Reduce reduce_head by)));
     }
 
-    first_reduce : (ts : List ReduceTask) → option_map_or (task_sorts s.plan) (slice_get (map t_reduce ts) 0) false ≡ false
-    first_reduce [] = refl
-    first_reduce (t ∷ ts) = refl
-
-    reduces_sort_none : wave_sorts s w ≡ false
-    reduces_sort_none = ap (λ ts. option_map_or (task_sorts s.plan) (slice_get ts 0) false) reduces_are ∙ first_reduce _
-
   -- ---- rank tasks
 
-  module _ (k : ℕ) (is : IsBoundaryAt s valid staged k) (ranked : ranks is.node.op ≡ true) (at : w ≡ first_wave s.plan k + 2) where
+  module _ (k : ℕ) (is : IsBoundaryAt s valid k) (by_key : ByKey s valid k is) (ranked : ranks is.node.op ≡ true) (at : w ≡ first_wave s.plan k + 2) where
     ranks_are : tasks_in s w ≡ map t_rank (partition_tasks s (first_wave s.plan k + 1) k is.node.op)
-    ranks_are = ap (tasks_in s) at ∙ (its_waves s valid staged k is).ranks ranked
+    ranks_are = ap (tasks_in s) at ∙ (its_waves s valid k is by_key).ranks ranked
 
     rank_head : slice_get (heads s.plan) w ≡ Some (head_of s.plan k kinds.Rank)
-    rank_head = ap (slice_get (heads s.plan)) at ∙ its_rank_head s valid staged k is ranked
+    rank_head = ap (slice_get (heads s.plan)) at ∙ its_rank_head s valid k is by_key ranked
 
     plain_ranks : IsPlain
     unfolding is_map_kind
@@ -170,13 +227,6 @@ module _ (s : Stages) (valid : IsPlan s.plan) (staged : HaveStages s.plan) (w : 
       tasks = subst (AllByRecursion Unsorted) (sym ranks_are) (each-map Unsorted t_rank _ (each_of_all (λ t. ⊤) (λ t. tt) _));
       none = λ j p keys by known found. absurd (true≢false (sym (other_kind j k kinds.Rank rank_head by)));
     }
-
-    first_rank : (ts : List ReduceTask) → option_map_or (task_sorts s.plan) (slice_get (map t_rank ts) 0) false ≡ false
-    first_rank [] = refl
-    first_rank (t ∷ ts) = refl
-
-    ranks_sort_none : wave_sorts s w ≡ false
-    ranks_sort_none = ap (λ ts. option_map_or (task_sorts s.plan) (slice_get ts 0) false) ranks_are ∙ first_rank _
 
   -- ---- the STOREs' tasks
 
@@ -221,33 +271,24 @@ module _ (s : Stages) (valid : IsPlan s.plan) (staged : HaveStages s.plan) (w : 
     plain_stores : IsPlain
     plain_stores = record { tasks = all_unsorted; none = λ j p keys by known found. no_map (stores s.plan) j last_head by }
 
-    first_unsorted : (ts : List Task) → AllByRecursion Unsorted ts → option_map_or (task_sorts s.plan) (slice_get ts 0) false ≡ false
-    first_unsorted [] h = refl
-    first_unsorted (t_map t ∷ ts) h = by_op (op_at s.plan t.node) refl
-      where
-        by_op : (found : Option PlanOp) → op_at s.plan t.node ≡ found → option_map_or op_sorts (op_at s.plan t.node) false ≡ false
-        by_op None e = ap (λ found. option_map_or op_sorts found false) e
-        by_op (Some p) e = ap (λ found. option_map_or op_sorts found false) e ∙ ap is_some (h.0 p e)
-    first_unsorted (t_reduce t ∷ ts) h = refl
-    first_unsorted (t_rank t ∷ ts) h = refl
-
-    stores_sort_none : wave_sorts s w ≡ false
-    stores_sort_none = first_unsorted (tasks_in s w) all_unsorted
-
   pub plain_wave : wave_sorts s w ≡ false → IsPlain
-  plain_wave h = by_wave (wave_at s valid staged w within)
+  plain_wave h = by_wave (wave_at s valid w within)
     where
-      by_wave : WaveAt s valid staged w → IsPlain
-      by_wave (maps k is e) = plain_maps k is e (map_tasks s k is.node.op) refl h
-      by_wave (reduces k is e) = plain_reduces k is e
-      by_wave (ranking k is ranked e) = plain_ranks k is ranked e
+      by_wave : WaveAt s valid w → IsPlain
+      by_wave (maps k is by_key e) = plain_maps k is by_key e (map_tasks s k is.node.op) refl h
+      by_wave (reduces k is by_key e) = plain_reduces k is by_key e
+      by_wave (ranking k is by_key ranked e) = plain_ranks k is by_key ranked e
+      by_wave (copying k is replicated e) = plain_copies k is replicated e
+      by_wave (matching k is replicated e) = plain_probes k is replicated e
       by_wave (storing e) = plain_stores e
 
   pub sorting_wave : wave_sorts s w ≡ true → IsSorting
-  sorting_wave h = by_wave (wave_at s valid staged w within)
+  sorting_wave h = by_wave (wave_at s valid w within)
     where
-      by_wave : WaveAt s valid staged w → IsSorting
-      by_wave (maps k is e) = sorting_maps k is e (map_tasks s k is.node.op) refl h
-      by_wave (reduces k is e) = absurd (true≢false (sym h ∙ reduces_sort_none k is e))
-      by_wave (ranking k is ranked e) = absurd (true≢false (sym h ∙ ranks_sort_none k is ranked e))
-      by_wave (storing e) = absurd (true≢false (sym h ∙ stores_sort_none e))
+      by_wave : WaveAt s valid w → IsSorting
+      by_wave (maps k is by_key e) = sorting_maps k is by_key e (map_tasks s k is.node.op) refl h
+      by_wave (reduces k is by_key e) = absurd (true≢false (sym h ∙ plain_sorts_none (plain_reduces k is by_key e)))
+      by_wave (ranking k is by_key ranked e) = absurd (true≢false (sym h ∙ plain_sorts_none (plain_ranks k is by_key ranked e)))
+      by_wave (copying k is replicated e) = absurd (true≢false (sym h ∙ plain_sorts_none (plain_copies k is replicated e)))
+      by_wave (matching k is replicated e) = absurd (true≢false (sym h ∙ plain_sorts_none (plain_probes k is replicated e)))
+      by_wave (storing e) = absurd (true≢false (sym h ∙ plain_sorts_none (plain_stores e)))

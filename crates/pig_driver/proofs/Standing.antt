@@ -1,9 +1,9 @@
 -- The tasks of a wave name outputs of waves before it.
-use Rattle.std.specs.Prelude.{◌≡◌, ◌<◌, ◌≤◌, ◌+◌, ◌-◌, ⊤, ℕ, Bool, true, false, nat_lt, List, [], ◌∷◌, ◌++◌, length, map, take, Option, Some, None, slice_get, zero, suc, refl, if◌then◌else◌}
+use Rattle.std.specs.Prelude.{◌≡◌, ◌<◌, ◌≤◌, ◌+◌, ◌-◌, ◌==◌, ⊤, ℕ, Bool, true, false, not, nat_lt, List, [], ◌∷◌, ◌++◌, length, map, take, Option, Some, None, slice_get, zero, suc, refl, if◌then◌else◌}
 use Rattle.std.proofs.Common.{ap, sym, ◌∙◌, arith, cond, inl, inr, subst, append_assoc, true≢false}
 use Rattle.std.specs.List.{AllByRecursion, filter, flat_map, range_with_len}
 use Rattle.std.specs.Option.{option_map, option_map_or}
-use Rattle.std.proofs.lemmas.Bool.{cases_lt}
+use Rattle.std.proofs.lemmas.Bool.{cases_lt, eq-eqb}
 use Rattle.std.proofs.lemmas.Bool.Decides.{nat_tests}
 use Rattle.std.proofs.lemmas.Grind.{flat_map-append}
 use Rattle.std.proofs.lemmas.List.{length-append, length-map}
@@ -25,17 +25,55 @@ use Rattle.pig_physical.specs.Fitting.{HasNamed, HasPart}
 use Rattle.pig_physical.specs.Outs.{Outs}
 use Rattle.pig_physical.specs.Running.{AreSizes}
 use Rattle.pig_physical.specs.Seen.{HasSource}
-use Rattle.pig_physical.specs.Stages.{MapTask, Stages, Task, boundaries, first_wave, head_of, heads, heads_at, last_wave, map_tasks, partition_tasks, parts_at, parts_of, path_tasks, reduce_count, store_tasks, stores, t_map, t_rank, t_reduce, tasks_by, tasks_in, tasks_of, tasks_on, waves_of, ways_into, ways_to}
+use Rattle.pig_physical.specs.Stages.{MapTask, Stages, Task, boundaries, enters_first, first_wave, head_of, heads, heads_at, is_replicated, last_wave, map_tasks, output_count, partition_tasks, parts_at, parts_of, path_tasks, reduce_count, store_tasks, stores, t_map, t_rank, t_reduce, tasks_by, tasks_in, tasks_of, tasks_on, waves_of, ways_into, ways_to}
 use Rattle.pig_physical.specs.declared.parts.Part.{Part}
 use Rattle.pig_physical.specs.declared.parts.Part.TheVariants as parts
+use Rattle.pig_physical.specs.declared.waves.WaveKind.{WaveKind}
 use Rattle.pig_physical.specs.declared.waves.WaveKind.TheVariants as kinds
-use Rattle.pig_waves.proofs.Heads.{further, head_at, live_at, stands_at, two_waves}
+use Rattle.pig_waves.proofs.Counted.{probes_counted}
+use Rattle.pig_waves.proofs.Heads.{further, head_at, live_at, probes_at, probing, stands_at, two_waves}
 use Rattle.pig_waves.proofs.Places.{all_flat_where, filtered_at}
-use Rattle.pig_waves.specs.Laws.{HaveStages, StandsAt, has_stages, ranks}
+use Rattle.pig_waves.proofs.Tasks.{name_node}
+use Rattle.pig_waves.specs.Laws.{ProbesAt, StandsAt, copy_tasks, probe_tasks, ranks}
 use Rattle.pig_driver.specs.Standing.{AreStanding, WavesFindWhatTheyName, WavesReadToldInputs}
 use Rattle.pig_driver.proofs.Sources.{IsSourceOf, inputs_live, ways_from}
 
-module _ (s : Stages) (valid : IsPlan s.plan) (staged : HaveStages s.plan) where
+-- ---- replicated JOINs
+
+-- a boundary node that is none has as many partitions as it has reduce tasks
+outputs_are : (s : Stages) (o : PlanOp) → is_boundary o ≡ true → is_replicated o ≡ false → output_count s o ≡ reduce_count s.sizing.reducers o
+outputs_are s (p_join inputs side true) h by_key = absurd (true≢false by_key)
+outputs_are s (p_join inputs side false) h by_key = refl
+outputs_are s (p_group_all input) h by_key = refl
+outputs_are s (p_group inputs) h by_key = refl
+outputs_are s (p_distinct input) h by_key = refl
+outputs_are s (p_order input keys) h by_key = refl
+outputs_are s (p_limit input count) h by_key = refl
+outputs_are s (p_rank input keys dense) h by_key = refl
+outputs_are s (p_load path delim columns) h by_key = absurd (true≢false (sym h))
+outputs_are s (p_filter input test) h by_key = absurd (true≢false (sym h))
+outputs_are s (p_foreach input block) h by_key = absurd (true≢false (sym h))
+outputs_are s (p_union inputs) h by_key = absurd (true≢false (sym h))
+outputs_are s (p_store input path delim) h by_key = absurd (true≢false (sym h))
+outputs_are s (p_assert input test message) h by_key = absurd (true≢false (sym h))
+
+-- nor is a STORE one
+store_by_key : (o : PlanOp) → is_store o ≡ true → is_replicated o ≡ false
+store_by_key (p_store input path delim) h = refl
+store_by_key (p_load path delim columns) h = refl
+store_by_key (p_filter input test) h = refl
+store_by_key (p_foreach input block) h = refl
+store_by_key (p_group_all input) h = refl
+store_by_key (p_group inputs) h = refl
+store_by_key (p_join inputs side replicated) h = absurd (true≢false (sym h))
+store_by_key (p_union inputs) h = refl
+store_by_key (p_distinct input) h = refl
+store_by_key (p_order input keys) h = refl
+store_by_key (p_limit input count) h = refl
+store_by_key (p_assert input test message) h = refl
+store_by_key (p_rank input keys dense) h = refl
+
+module _ (s : Stages) (valid : IsPlan s.plan) where
   -- ---- boundary nodes in order
 
   abbrev is_here : ℕ → Bool
@@ -67,16 +105,22 @@ module _ (s : Stages) (valid : IsPlan s.plan) (staged : HaveStages s.plan) where
   pub op_here : (k : ℕ) (node : PlanNode) → slice_get s.plan k ≡ Some node → op_at s.plan k ≡ Some node.op
   op_here k node at = ap (option_map (λ n. n.op)) at
 
-  node_staged : (k : ℕ) (node : PlanNode) → slice_get s.plan k ≡ Some node → has_stages node.op ≡ true
-  node_staged k node at = each_at (λ n. has_stages n.op ≡ true) s.plan k node at staged
+  -- a node whose rows go by key, and one that is a replicated JOIN
+  abbrev pub ByKey : (k : ℕ) → IsBoundaryAt k → Type 0
+  ByKey k is = is_replicated is.node.op ≡ false
 
-  own_heads : (k : ℕ) (is : IsBoundaryAt k) → heads_at s.plan k ≡ map (head_of s.plan k) (kinds.Map ∷ kinds.Reduce ∷ further is.node.op)
-  own_heads k is =
-      ap (λ found. option_map_or (λ p. map (head_of s.plan k) (waves_of p)) found []) (op_here k is.node is.at)
-      ∙ ap (map (head_of s.plan k)) (two_waves is.node.op (node_staged k is.node is.at))
+  abbrev pub Replicated : (k : ℕ) → IsBoundaryAt k → Type 0
+  Replicated k is = is_replicated is.node.op ≡ true
 
-  pub its_waves : (k : ℕ) (is : IsBoundaryAt k) → StandsAt s k is.node.op
-  its_waves k is = stands_at s k is.node.op (op_here k is.node is.at) is.alive is.is (node_staged k is.node is.at)
+  heads_are : (k : ℕ) (is : IsBoundaryAt k) (ks : List WaveKind) → waves_of is.node.op ≡ ks → heads_at s.plan k ≡ map (head_of s.plan k) ks
+  heads_are k is ks same =
+      ap (λ found. option_map_or (λ p. map (head_of s.plan k) (waves_of p)) found []) (op_here k is.node is.at) ∙ ap (map (head_of s.plan k)) same
+
+  pub its_waves : (k : ℕ) (is : IsBoundaryAt k) → ByKey k is → StandsAt s k is.node.op
+  its_waves k is by_key = stands_at s k is.node.op (op_here k is.node is.at) is.alive is.is by_key
+
+  pub its_probes : (k : ℕ) (is : IsBoundaryAt k) → Replicated k is → ProbesAt s k is.node.op
+  its_probes k is replicated = probes_at s k is.node.op (op_here k is.node is.at) is.alive replicated
 
   -- the number of its waves
   abbrev pub count_of : (k : ℕ) → IsBoundaryAt k → ℕ
@@ -84,31 +128,54 @@ module _ (s : Stages) (valid : IsPlan s.plan) (staged : HaveStages s.plan) where
 
   -- a RANK has three waves, any other node two
   pub data Counted (k : ℕ) (is : IsBoundaryAt k) : Type 0 where
-    two : ranks is.node.op ≡ false → count_of k is ≡ 2 → Counted k is
-    three : ranks is.node.op ≡ true → count_of k is ≡ 3 → Counted k is
+    two : ByKey k is → count_of k is ≡ 2 → Counted k is
+    three : ByKey k is → ranks is.node.op ≡ true → count_of k is ≡ 3 → Counted k is
+    probed : Replicated k is → count_of k is ≡ 2 → Counted k is
 
   pub counted : (k : ℕ) (is : IsBoundaryAt k) → Counted k is
-  counted k is = by_test (ranks is.node.op) refl
+  counted k is = by_test (is_replicated is.node.op) refl
     where
-      all_of_them : count_of k is ≡ length (kinds.Map ∷ kinds.Reduce ∷ further is.node.op)
-      all_of_them = ap length (two_waves is.node.op (node_staged k is.node is.at))
+      by_rank : ByKey k is → (b : Bool) → ranks is.node.op ≡ b → Counted k is
+      by_rank h false e = two h (ap length (two_waves is.node.op h) ∙ ap (λ b. length (kinds.Map ∷ kinds.Reduce ∷ (if b then kinds.Rank ∷ [] else []))) e)
+      by_rank h true e = three h e (ap length (two_waves is.node.op h) ∙ ap (λ b. length (kinds.Map ∷ kinds.Reduce ∷ (if b then kinds.Rank ∷ [] else []))) e)
 
-      by_test : (b : Bool) → ranks is.node.op ≡ b → Counted k is
-      by_test false e = two e (all_of_them ∙ ap (λ b. length (kinds.Map ∷ kinds.Reduce ∷ (if b then kinds.Rank ∷ [] else []))) e)
-      by_test true e = three e (all_of_them ∙ ap (λ b. length (kinds.Map ∷ kinds.Reduce ∷ (if b then kinds.Rank ∷ [] else []))) e)
+      by_test : (b : Bool) → is_replicated is.node.op ≡ b → Counted k is
+      by_test false e = by_rank e (ranks is.node.op) refl
+      by_test true e = probed e (ap length (probing is.node.op e).waves)
 
-  pub its_head : (k : ℕ) (is : IsBoundaryAt k) → slice_get (heads s.plan) (first_wave s.plan k) ≡ Some (head_of s.plan k kinds.Map)
-  its_head k is =
-      (let e : first_wave s.plan k ≡ first_wave s.plan k + 0 = omega arith in ap (slice_get (heads s.plan)) e)
-      ∙ head_at s.plan k 0 (head_of s.plan k kinds.Map) is.alive (ap (λ found. option_map_or is_boundary found false) (op_here k is.node is.at) ∙ is.is) (ap (λ hs. slice_get hs 0) (own_heads k is))
+  -- the head of the wave at a place among the node's own
+  own_head : (k : ℕ) (is : IsBoundaryAt k) (j : ℕ) (kind : WaveKind) → slice_get (heads_at s.plan k) j ≡ Some (head_of s.plan k kind)
+      → slice_get (heads s.plan) (first_wave s.plan k + j) ≡ Some (head_of s.plan k kind)
+  own_head k is j kind own =
+      head_at s.plan k j (head_of s.plan k kind) is.alive (ap (λ found. option_map_or is_boundary found false) (op_here k is.node is.at) ∙ is.is) own
 
-  pub its_last_head : (k : ℕ) (is : IsBoundaryAt k) → slice_get (heads s.plan) (first_wave s.plan k + 1) ≡ Some (head_of s.plan k kinds.Reduce)
-  its_last_head k is = head_at s.plan k 1 (head_of s.plan k kinds.Reduce) is.alive (ap (λ found. option_map_or is_boundary found false) (op_here k is.node is.at) ∙ is.is) (ap (λ hs. slice_get hs 1) (own_heads k is))
+  first_is : (k : ℕ) → first_wave s.plan k ≡ first_wave s.plan k + 0
+  first_is k = omega arith
 
-  pub its_rank_head : (k : ℕ) (is : IsBoundaryAt k) → ranks is.node.op ≡ true → slice_get (heads s.plan) (first_wave s.plan k + 2) ≡ Some (head_of s.plan k kinds.Rank)
-  its_rank_head k is e =
-      head_at s.plan k 2 (head_of s.plan k kinds.Rank) is.alive (ap (λ found. option_map_or is_boundary found false) (op_here k is.node is.at) ∙ is.is)
-      (ap (λ hs. slice_get hs 2) (own_heads k is) ∙ ap (λ b. slice_get (map (head_of s.plan k) (kinds.Map ∷ kinds.Reduce ∷ (if b then kinds.Rank ∷ [] else []))) 2) e)
+  pub its_head : (k : ℕ) (is : IsBoundaryAt k) → ByKey k is → slice_get (heads s.plan) (first_wave s.plan k) ≡ Some (head_of s.plan k kinds.Map)
+  its_head k is by_key =
+      ap (slice_get (heads s.plan)) (first_is k)
+      ∙ own_head k is 0 kinds.Map (ap (λ hs. slice_get hs 0) (heads_are k is (kinds.Map ∷ kinds.Reduce ∷ further is.node.op) (two_waves is.node.op by_key)))
+
+  pub its_last_head : (k : ℕ) (is : IsBoundaryAt k) → ByKey k is → slice_get (heads s.plan) (first_wave s.plan k + 1) ≡ Some (head_of s.plan k kinds.Reduce)
+  its_last_head k is by_key =
+      own_head k is 1 kinds.Reduce (ap (λ hs. slice_get hs 1) (heads_are k is (kinds.Map ∷ kinds.Reduce ∷ further is.node.op) (two_waves is.node.op by_key)))
+
+  pub its_rank_head : (k : ℕ) (is : IsBoundaryAt k) → ByKey k is → ranks is.node.op ≡ true
+      → slice_get (heads s.plan) (first_wave s.plan k + 2) ≡ Some (head_of s.plan k kinds.Rank)
+  its_rank_head k is by_key e =
+      own_head k is 2 kinds.Rank
+      (ap (λ hs. slice_get hs 2) (heads_are k is (kinds.Map ∷ kinds.Reduce ∷ further is.node.op) (two_waves is.node.op by_key))
+      ∙ ap (λ b. slice_get (map (head_of s.plan k) (kinds.Map ∷ kinds.Reduce ∷ (if b then kinds.Rank ∷ [] else []))) 2) e)
+
+  pub its_copy_head : (k : ℕ) (is : IsBoundaryAt k) → Replicated k is → slice_get (heads s.plan) (first_wave s.plan k) ≡ Some (head_of s.plan k kinds.Copy)
+  its_copy_head k is replicated =
+      ap (slice_get (heads s.plan)) (first_is k)
+      ∙ own_head k is 0 kinds.Copy (ap (λ hs. slice_get hs 0) (heads_are k is (kinds.Copy ∷ kinds.Probe ∷ []) (probing is.node.op replicated).waves))
+
+  pub its_probe_head : (k : ℕ) (is : IsBoundaryAt k) → Replicated k is → slice_get (heads s.plan) (first_wave s.plan k + 1) ≡ Some (head_of s.plan k kinds.Probe)
+  its_probe_head k is replicated =
+      own_head k is 1 kinds.Probe (ap (λ hs. slice_get hs 1) (heads_are k is (kinds.Copy ∷ kinds.Probe ∷ []) (probing is.node.op replicated).waves))
 
   abbrev width : List ℕ → ℕ
   width ks = length (flat_map (heads_at s.plan) ks)
@@ -140,18 +207,33 @@ module _ (s : Stages) (valid : IsPlan s.plan) (staged : HaveStages s.plan) where
 
   -- ---- where a wave stands
 
+  -- the tasks of one that is matching probe copies
   pub data WaveAt (w : ℕ) : Type 0 where
-    maps : (k : ℕ) → IsBoundaryAt k → w ≡ first_wave s.plan k → WaveAt w
-    reduces : (k : ℕ) → IsBoundaryAt k → w ≡ first_wave s.plan k + 1 → WaveAt w
-    ranking : (k : ℕ) (is : IsBoundaryAt k) → ranks is.node.op ≡ true → w ≡ first_wave s.plan k + 2 → WaveAt w
+    maps : (k : ℕ) (is : IsBoundaryAt k) → ByKey k is → w ≡ first_wave s.plan k → WaveAt w
+    reduces : (k : ℕ) (is : IsBoundaryAt k) → ByKey k is → w ≡ first_wave s.plan k + 1 → WaveAt w
+    ranking : (k : ℕ) (is : IsBoundaryAt k) → ByKey k is → ranks is.node.op ≡ true → w ≡ first_wave s.plan k + 2 → WaveAt w
+    copying : (k : ℕ) (is : IsBoundaryAt k) → Replicated k is → w ≡ first_wave s.plan k → WaveAt w
+    matching : (k : ℕ) (is : IsBoundaryAt k) → Replicated k is → w ≡ first_wave s.plan k + 1 → WaveAt w
     storing : w ≡ width all → WaveAt w
+
+  -- the first wave of a node, and its second one
+  first_of : (w k : ℕ) (is : IsBoundaryAt k) → w ≡ first_wave s.plan k → (b : Bool) → is_replicated is.node.op ≡ b → WaveAt w
+  first_of w k is at false e = maps k is e at
+  first_of w k is at true e = copying k is e at
+
+  second_of : (w k : ℕ) (is : IsBoundaryAt k) → w ≡ first_wave s.plan k + 1 → (b : Bool) → is_replicated is.node.op ≡ b → WaveAt w
+  second_of w k is at false e = reduces k is e at
+  second_of w k is at true e = matching k is e at
 
   among_boundaries : (w n : ℕ) (front ks : List ℕ) → all ≡ front ++ ks → AllByRecursion IsBoundaryAt ks → w ≡ width front + n → n < width ks → WaveAt w
   among_boundaries w n front [] is each at less = absurd (omega (arith, less))
   among_boundaries w zero front (k ∷ ks) is each at less =
-      maps k each.0 (at ∙ (let e : width front + 0 ≡ width front = omega arith in e) ∙ sym (ap width (ap (filter (λ j. nat_lt j k)) is ∙ front_below front k ks (subst Rising is rise))))
+      first_of w k each.0
+      (at ∙ (let e : width front + 0 ≡ width front = omega arith in e) ∙ sym (ap width (ap (filter (λ j. nat_lt j k)) is ∙ front_below front k ks (subst Rising is rise))))
+      (is_replicated (each.0.node).op) refl
   among_boundaries w (suc zero) front (k ∷ ks) is each at less =
-      reduces k each.0 (at ∙ sym (ap (λ ks. width ks + 1) (ap (filter (λ j. nat_lt j k)) is ∙ front_below front k ks (subst Rising is rise))))
+      second_of w k each.0 (at ∙ sym (ap (λ ks. width ks + 1) (ap (filter (λ j. nat_lt j k)) is ∙ front_below front k ks (subst Rising is rise))))
+      (is_replicated (each.0.node).op) refl
   among_boundaries w (suc (suc n)) front (k ∷ ks) is each at less =
       by_count n at less (counted k each.0) (λ m behind within. among_boundaries w m (front ++ k ∷ []) ks (is ∙ sym (append_assoc front (k ∷ []) ks)) each.1 behind within)
     where
@@ -168,9 +250,10 @@ module _ (s : Stages) (valid : IsPlan s.plan) (staged : HaveStages s.plan) where
 
       by_count : (n : ℕ) → w ≡ width front + suc (suc n) → suc (suc n) < width (k ∷ ks) → Counted k each.0
           → ((m : ℕ) → w ≡ width (front ++ k ∷ []) + m → m < width ks → WaveAt w) → WaveAt w
-      by_count n at less (two e count) rest = rest n (omega (arith, at, more, count)) (omega (arith, size, less, count))
-      by_count zero at less (three e count) rest = ranking k each.0 e (omega (arith, at, begins))
-      by_count (suc n) at less (three e count) rest = rest n (omega (arith, at, more, count)) (omega (arith, size, less, count))
+      by_count n at less (two h count) rest = rest n (omega (arith, at, more, count)) (omega (arith, size, less, count))
+      by_count n at less (probed h count) rest = rest n (omega (arith, at, more, count)) (omega (arith, size, less, count))
+      by_count zero at less (three h e count) rest = ranking k each.0 h e (omega (arith, at, begins))
+      by_count (suc n) at less (three h e count) rest = rest n (omega (arith, at, more, count)) (omega (arith, size, less, count))
 
   pub wave_at : (w : ℕ) → w < length (heads s.plan) → WaveAt w
   wave_at w less = elim (cases_lt w (width all)) [
@@ -223,36 +306,45 @@ module _ (s : Stages) (valid : IsPlan s.plan) (staged : HaveStages s.plan) where
   PartStands w (parts.Split split) = ⊤
   PartStands w (parts.Output v j) = (v < w) × (j < length (tasks_in s v))
 
-  pub partitions : (k : ℕ) (is : IsBoundaryAt k) → length (tasks_in s (first_wave s.plan k + 1)) ≡ reduce_count s.sizing.reducers is.node.op
-  partitions k is =
+  pub partitions : (k : ℕ) (is : IsBoundaryAt k) → ByKey k is → length (tasks_in s (first_wave s.plan k + 1)) ≡ reduce_count s.sizing.reducers is.node.op
+  partitions k is by_key =
       let count = reduce_count s.sizing.reducers is.node.op in
-      ap length (its_waves k is).reduces
+      ap length (its_waves k is by_key).reduces
       ∙ length-map (partition_tasks s (first_wave s.plan k) k is.node.op) t_reduce
       ∙ length-map (range_with_len 0 count) (λ p. record { node = k; wave = first_wave s.plan k; part = p })
       ∙ length-range_with_len 0 count
 
-  pub ranked_partitions : (k : ℕ) (is : IsBoundaryAt k) → ranks is.node.op ≡ true → length (tasks_in s (first_wave s.plan k + 2)) ≡ reduce_count s.sizing.reducers is.node.op
-  ranked_partitions k is e =
+  pub ranked_partitions : (k : ℕ) (is : IsBoundaryAt k) → ByKey k is → ranks is.node.op ≡ true
+      → length (tasks_in s (first_wave s.plan k + 2)) ≡ reduce_count s.sizing.reducers is.node.op
+  ranked_partitions k is by_key e =
       let count = reduce_count s.sizing.reducers is.node.op in
-      ap length ((its_waves k is).ranks e)
+      ap length ((its_waves k is by_key).ranks e)
       ∙ length-map (partition_tasks s (first_wave s.plan k + 1) k is.node.op) t_rank
       ∙ length-map (range_with_len 0 count) (λ p. record { node = k; wave = first_wave s.plan k + 1; part = p })
       ∙ length-range_with_len 0 count
 
   -- those of its last wave
   last_partitions : (k : ℕ) (is : IsBoundaryAt k) → Counted k is
-      → (last_wave s.plan k is.node.op + 1 ≡ first_wave s.plan k + count_of k is) × (length (tasks_in s (last_wave s.plan k is.node.op)) ≡ reduce_count s.sizing.reducers is.node.op)
-  last_partitions k is (two e count) =
+      → (last_wave s.plan k is.node.op + 1 ≡ first_wave s.plan k + count_of k is) × (length (tasks_in s (last_wave s.plan k is.node.op)) ≡ output_count s is.node.op)
+  last_partitions k is (two h count) =
       let last : last_wave s.plan k is.node.op ≡ first_wave s.plan k + 1 = ap (λ n. first_wave s.plan k + (n - 1)) count in
-      (omega (arith, last, count), ap (λ v. length (tasks_in s v)) last ∙ partitions k is)
-  last_partitions k is (three e count) =
+      (omega (arith, last, count), ap (λ v. length (tasks_in s v)) last ∙ partitions k is h ∙ sym (outputs_are s is.node.op is.is h))
+  last_partitions k is (three h e count) =
       let last : last_wave s.plan k is.node.op ≡ first_wave s.plan k + 2 = ap (λ n. first_wave s.plan k + (n - 1)) count in
-      (omega (arith, last, count), ap (λ v. length (tasks_in s v)) last ∙ ranked_partitions k is e)
+      (omega (arith, last, count), ap (λ v. length (tasks_in s v)) last ∙ ranked_partitions k is h e ∙ sym (outputs_are s is.node.op is.is h))
+  last_partitions k is (probed h count) =
+      let last : last_wave s.plan k is.node.op ≡ first_wave s.plan k + 1 = ap (λ n. first_wave s.plan k + (n - 1)) count in (
+        omega (arith, last, count),
+        ap (λ v. length (tasks_in s v)) last
+            ∙ ap length (its_probes k is h).probes
+            ∙ length-map (probe_tasks s k is.node.op) t_map
+            ∙ probes_counted s k valid is.node.op h,
+      )
 
   outputs_stand : (w k : ℕ) (is : IsBoundaryAt k) → first_wave s.plan k + count_of k is ≤ w
-      → AllByRecursion (PartStands w) (map (parts.Output (last_wave s.plan k is.node.op)) (range_with_len 0 (reduce_count s.sizing.reducers is.node.op)))
+      → AllByRecursion (PartStands w) (map (parts.Output (last_wave s.plan k is.node.op)) (range_with_len 0 (output_count s is.node.op)))
   outputs_stand w k is bound =
-      let count = reduce_count s.sizing.reducers is.node.op in
+      let count = output_count s is.node.op in
       let found = last_partitions k is (counted k is) in
       let last = found.0 in
       let size = found.1 in
@@ -267,11 +359,11 @@ module _ (s : Stages) (valid : IsPlan s.plan) (staged : HaveStages s.plan) where
     abbrev as_boundary : is_boundary is.node.op ≡ true → IsBoundaryAt k
     as_boundary h = record { node = is.node; at = is.at; alive = is.alive; is = h }
 
-    given : is_boundary is.node.op ≡ true → AllByRecursion (PartStands w) (map (parts.Output (last_wave s.plan k is.node.op)) (range_with_len 0 (reduce_count s.sizing.reducers is.node.op)))
+    given : is_boundary is.node.op ≡ true → AllByRecursion (PartStands w) (map (parts.Output (last_wave s.plan k is.node.op)) (range_with_len 0 (output_count s is.node.op)))
     given h = outputs_stand w k (as_boundary h) (bound (as_boundary h))
 
     by_op : (o : PlanOp) → is_source o ≡ true
-        → (is_boundary o ≡ true → AllByRecursion (PartStands w) (map (parts.Output (last_wave s.plan k o)) (range_with_len 0 (reduce_count s.sizing.reducers o))))
+        → (is_boundary o ≡ true → AllByRecursion (PartStands w) (map (parts.Output (last_wave s.plan k o)) (range_with_len 0 (output_count s o))))
         → AllByRecursion (PartStands w) (parts_of s k o)
     by_op (p_load path delim columns) h g =
         each-map (PartStands w) parts.Split (splits_of s.sizing.split (s.sizing.lengths path)) (each_of_all (λ split. ⊤) (λ split. tt) (splits_of s.sizing.split (s.sizing.lengths path)))
@@ -294,8 +386,16 @@ module _ (s : Stages) (valid : IsPlan s.plan) (staged : HaveStages s.plan) where
   -- ---- tasks
 
   -- a task's part stands, and its source is live
+  abbrev Reads : ℕ → MapTask → Type 0
+  Reads w t = PartStands w t.part × (is_live s.plan t.way.path.source ≡ true)
+
+  -- one that probes stands in a wave behind that of the copies
+  abbrev pub CopiesStand : ℕ → MapTask → Type 0
+  CopiesStand w t = (o : PlanOp) → op_at s.plan t.node ≡ Some o → is_replicated o ≡ true → t.way.input ≡ 0
+      → (first_wave s.plan t.node + 1 ≡ w) × (slice_get (heads s.plan) w ≡ Some (head_of s.plan t.node kinds.Probe))
+
   abbrev pub MapStands : ℕ → MapTask → Type 0
-  MapStands w t = PartStands w t.part × (is_live s.plan t.way.path.source ≡ true)
+  MapStands w t = PartStands w t.part × (is_live s.plan t.way.path.source ≡ true) × CopiesStand w t
 
   abbrev pub TaskStands : ℕ → Task → Type 0
   TaskStands w (t_map t) = MapStands w t
@@ -303,28 +403,66 @@ module _ (s : Stages) (valid : IsPlan s.plan) (staged : HaveStages s.plan) where
   TaskStands w (t_rank t) = t.wave + 1 ≡ w
 
   tasks_on_ways : (w b k : ℕ) (ways : List Entering) → ((i : ℕ) → i < b → Bounded w i) → AllByRecursion (λ way. IsSourceOf s.plan valid b way.path.source) ways
-      → AllByRecursion (MapStands w) (tasks_on s k ways)
+      → AllByRecursion (Reads w) (tasks_on s k ways)
   tasks_on_ways w b k ways bound h =
-      all_flat_where (MapStands w) (λ way. IsSourceOf s.plan valid b way.path.source) (path_tasks s k)
-      (λ way is. each-map (MapStands w) (λ part. record { node = k; way = way; part = part }) (parts_at s way.path.source)
+      all_flat_where (Reads w) (λ way. IsSourceOf s.plan valid b way.path.source) (path_tasks s k)
+      (λ way is. each-map (Reads w) (λ part. record { node = k; way = way; part = part }) (parts_at s way.path.source)
       (each_weaker (PartStands w) (λ part. PartStands w part × (is_live s.plan way.path.source ≡ true)) (λ part stands. (stands, is.alive)) (parts_at s way.path.source)
       (parts_stand w b way.path.source is (bound way.path.source is.below)))) ways h
 
-  maps_stand : (w k : ℕ) (is : IsBoundaryAt k) → w ≡ first_wave s.plan k → AllByRecursion (TaskStands w) (map t_map (map_tasks s k is.node.op))
-  maps_stand w k is e =
+  -- the tasks on all ways into a node, in one of its waves
+  own_reads : (w k : ℕ) (is : IsBoundaryAt k) → first_wave s.plan k ≤ w → AllByRecursion (Reads w) (map_tasks s k is.node.op)
+  own_reads w k is behind =
       let short : k < length s.plan = slice_get_within s.plan k is.node is.at in
-      each-map (TaskStands w) t_map (map_tasks s k is.node.op)
-      (tasks_on_ways w k k (ways_into s.plan is.node.op) (λ i less here. (let early = earlier i k here less in omega (arith, early, e)))
+      tasks_on_ways w k k (ways_into s.plan is.node.op) (λ i less here. (let early = earlier i k here less in omega (arith, early, behind)))
       (ways_from s.plan valid k 0 (inputs_of is.node.op)
       (each_weaker (λ i. (i < k) × (is_live s.plan i ≡ true)) (λ i. (i < k) × (is_live s.plan i ≡ true) × (i < length s.plan)) (λ i lower. (let less = lower.0 in (lower.0, lower.1, omega (arith, less, short))))
-      (inputs_of is.node.op) (inputs_live s.plan valid k is.node is.at is.alive))))
+      (inputs_of is.node.op) (inputs_live s.plan valid k is.node is.at is.alive)))
 
-  reduces_stand : (w k : ℕ) (is : IsBoundaryAt k) → w ≡ first_wave s.plan k + 1 → AllByRecursion (TaskStands w) (map t_reduce (partition_tasks s (first_wave s.plan k) k is.node.op))
-  reduces_stand w k is e =
+  own_named : (k : ℕ) (is : IsBoundaryAt k) → AllByRecursion (λ t. t.node ≡ k) (map_tasks s k is.node.op)
+  own_named k is = name_node s k (ways_into s.plan is.node.op)
+
+  maps_stand : (w k : ℕ) (is : IsBoundaryAt k) → ByKey k is → w ≡ first_wave s.plan k → AllByRecursion (TaskStands w) (map t_map (map_tasks s k is.node.op))
+  maps_stand w k is by_key e =
+      each-map (TaskStands w) t_map (map_tasks s k is.node.op)
+      (each_both (Reads w) (λ t. t.node ≡ k) (MapStands w) (λ t reads own. (reads.0, reads.1, λ o at replicated first. absurd (other t o own at replicated)))
+      (map_tasks s k is.node.op) (own_reads w k is (omega (arith, e))) (own_named k is))
+    where
+      other : (t : MapTask) (o : PlanOp) → t.node ≡ k → op_at s.plan t.node ≡ Some o → is_replicated o ≡ true → ⊥
+      other t o own at replicated =
+          let same : o ≡ is.node.op = some_same o is.node.op (sym at ∙ ap (op_at s.plan) own ∙ op_here k is.node is.at) in
+          true≢false (sym replicated ∙ ap is_replicated same ∙ by_key)
+
+  copies_stand : (w k : ℕ) (is : IsBoundaryAt k) → w ≡ first_wave s.plan k → AllByRecursion (TaskStands w) (map t_map (copy_tasks s k is.node.op))
+  copies_stand w k is e =
+      each-map (TaskStands w) t_map (copy_tasks s k is.node.op)
+      (each_both (Reads w) (λ t. not (enters_first t) ≡ true) (MapStands w)
+      (λ t reads further. (reads.0, reads.1, λ o at replicated first. absurd (other t.way.input first further))) (copy_tasks s k is.node.op)
+      (each-filter (λ t. not (enters_first t)) (Reads w) (map_tasks s k is.node.op) (own_reads w k is (omega (arith, e))))
+      (each_filtered (λ t. not (enters_first t)) (map_tasks s k is.node.op)))
+    where
+      other : (i : ℕ) → i ≡ 0 → not (i == 0) ≡ true → ⊥
+      other i first further = true≢false (sym further ∙ ap not (eq-eqb i 0 first))
+
+  probes_stand : (w k : ℕ) (is : IsBoundaryAt k) → Replicated k is → w ≡ first_wave s.plan k + 1 → AllByRecursion (TaskStands w) (map t_map (probe_tasks s k is.node.op))
+  probes_stand w k is replicated e =
+      each-map (TaskStands w) t_map (probe_tasks s k is.node.op)
+      (each_both (Reads w) (λ t. t.node ≡ k) (MapStands w) (λ t reads own. (reads.0, reads.1, λ o at same first. behind t own)) (probe_tasks s k is.node.op)
+      (each-filter enters_first (Reads w) (map_tasks s k is.node.op) (own_reads w k is (omega (arith, e))))
+      (each-filter enters_first (λ t. t.node ≡ k) (map_tasks s k is.node.op) (own_named k is)))
+    where
+      behind : (t : MapTask) → t.node ≡ k → (first_wave s.plan t.node + 1 ≡ w) × (slice_get (heads s.plan) w ≡ Some (head_of s.plan t.node kinds.Probe))
+      behind t own = (
+        ap (λ n. first_wave s.plan n + 1) own ∙ sym e,
+        ap (slice_get (heads s.plan)) e ∙ its_probe_head k is replicated ∙ ap (λ n. Some (head_of s.plan n kinds.Probe)) (sym own),
+      )
+
+  reduces_stand : (w k : ℕ) (is : IsBoundaryAt k) → ByKey k is → w ≡ first_wave s.plan k + 1 → AllByRecursion (TaskStands w) (map t_reduce (partition_tasks s (first_wave s.plan k) k is.node.op))
+  reduces_stand w k is by_key e =
       let count = reduce_count s.sizing.reducers is.node.op in
       each-map (TaskStands w) t_reduce (partition_tasks s (first_wave s.plan k) k is.node.op)
       (each-map (λ t. TaskStands w (t_reduce t)) (λ p. record { node = k; wave = first_wave s.plan k; part = p }) (range_with_len 0 count)
-      (each_of_all (λ p. (first_wave s.plan k + 1 ≡ w) × (slice_get (heads s.plan) (first_wave s.plan k) ≡ Some (head_of s.plan k kinds.Map))) (λ p. (sym e, its_head k is)) (range_with_len 0 count)))
+      (each_of_all (λ p. (first_wave s.plan k + 1 ≡ w) × (slice_get (heads s.plan) (first_wave s.plan k) ≡ Some (head_of s.plan k kinds.Map))) (λ p. (sym e, its_head k is by_key)) (range_with_len 0 count)))
 
   ranks_stand : (w k : ℕ) (is : IsBoundaryAt k) → w ≡ first_wave s.plan k + 2 → AllByRecursion (TaskStands w) (map t_rank (partition_tasks s (first_wave s.plan k + 1) k is.node.op))
   ranks_stand w k is e =
@@ -336,16 +474,31 @@ module _ (s : Stages) (valid : IsPlan s.plan) (staged : HaveStages s.plan) where
   abbrev is_storing : ℕ → Bool
   is_storing k = option_map_or is_store (op_at s.plan k) false
 
+  abbrev IsStoreAt : ℕ → Type 0
+  IsStoreAt k = (is_live s.plan k ≡ true) × (is_storing k ≡ true)
+
   stores_stand : (w : ℕ) → w ≡ width all → AllByRecursion (TaskStands w) (map t_map (flat_map (store_tasks s) (stores s.plan)))
   stores_stand w e =
       each-map (TaskStands w) t_map (flat_map (store_tasks s) (stores s.plan))
-      (all_flat_where (MapStands w) (λ k. is_live s.plan k ≡ true) (store_tasks s) of_store (stores s.plan)
-      (each-filter is_storing (λ k. is_live s.plan k ≡ true) (live s.plan) (each_filtered (is_live s.plan) (range_with_len 0 (length s.plan)))))
+      (all_flat_where (MapStands w) IsStoreAt (store_tasks s) of_store (stores s.plan)
+      (each_both (λ k. is_live s.plan k ≡ true) (λ k. is_storing k ≡ true) IsStoreAt (λ k alive here. (alive, here)) (stores s.plan)
+      (each-filter is_storing (λ k. is_live s.plan k ≡ true) (live s.plan) (each_filtered (is_live s.plan) (range_with_len 0 (length s.plan))))
+      (each_filtered is_storing (live s.plan))))
     where
-      of_store : (k : ℕ) → is_live s.plan k ≡ true → AllByRecursion (MapStands w) (store_tasks s k)
-      of_store k alive =
-          tasks_on_ways w (k + 1) k (ways_to s.plan k) (λ i less here. (let within = inside i here in omega (arith, within, e)))
-          (ways_from s.plan valid (k + 1) 0 (k ∷ []) ((omega (arith), alive, live_within s.plan k alive), tt))
+      other : (k : ℕ) (found : Option PlanOp) → op_at s.plan k ≡ found → option_map_or is_store found false ≡ true → (o : PlanOp) → op_at s.plan k ≡ Some o
+          → is_replicated o ≡ true → ⊥
+      other k None e here o at replicated = true≢false (sym here)
+      other k (Some p) e here o at replicated =
+          true≢false (sym replicated ∙ ap is_replicated (some_same o p (sym at ∙ e)) ∙ store_by_key p here)
+
+      of_store : (k : ℕ) → IsStoreAt k → AllByRecursion (MapStands w) (store_tasks s k)
+      of_store k is =
+          each_both (Reads w) (λ t. t.node ≡ k) (MapStands w)
+          (λ t reads own. (reads.0, reads.1, λ o at replicated first. absurd (other k (op_at s.plan k) refl is.1 o (ap (op_at s.plan) (sym own) ∙ at) replicated)))
+          (store_tasks s k)
+          (tasks_on_ways w (k + 1) k (ways_to s.plan k) (λ i less here. (let within = inside i here in omega (arith, within, e)))
+          (ways_from s.plan valid (k + 1) 0 (k ∷ []) ((omega (arith), is.0, live_within s.plan k is.0), tt)))
+          (name_node s k (ways_to s.plan k))
 
   last_stand : (w : ℕ) → w ≡ width all → AllByRecursion (TaskStands w) (tasks_in s w)
   last_stand w e =
@@ -365,9 +518,11 @@ module _ (s : Stages) (valid : IsPlan s.plan) (staged : HaveStages s.plan) where
   tasks_stand w less = by_wave (wave_at w less)
     where
       by_wave : WaveAt w → AllByRecursion (TaskStands w) (tasks_in s w)
-      by_wave (maps k is e) = subst (AllByRecursion (TaskStands w)) (sym (ap (tasks_in s) e ∙ (its_waves k is).maps)) (maps_stand w k is e)
-      by_wave (reduces k is e) = subst (AllByRecursion (TaskStands w)) (sym (ap (tasks_in s) e ∙ (its_waves k is).reduces)) (reduces_stand w k is e)
-      by_wave (ranking k is ranked e) = subst (AllByRecursion (TaskStands w)) (sym (ap (tasks_in s) e ∙ (its_waves k is).ranks ranked)) (ranks_stand w k is e)
+      by_wave (maps k is h e) = subst (AllByRecursion (TaskStands w)) (sym (ap (tasks_in s) e ∙ (its_waves k is h).maps)) (maps_stand w k is h e)
+      by_wave (reduces k is h e) = subst (AllByRecursion (TaskStands w)) (sym (ap (tasks_in s) e ∙ (its_waves k is h).reduces)) (reduces_stand w k is h e)
+      by_wave (ranking k is h ranked e) = subst (AllByRecursion (TaskStands w)) (sym (ap (tasks_in s) e ∙ (its_waves k is h).ranks ranked)) (ranks_stand w k is e)
+      by_wave (copying k is h e) = subst (AllByRecursion (TaskStands w)) (sym (ap (tasks_in s) e ∙ (its_probes k is h).copies)) (copies_stand w k is e)
+      by_wave (matching k is h e) = subst (AllByRecursion (TaskStands w)) (sym (ap (tasks_in s) e ∙ (its_probes k is h).probes)) (probes_stand w k is h e)
       by_wave (storing e) = last_stand w e
 
   -- ---- what a task names
@@ -377,7 +532,13 @@ module _ (s : Stages) (valid : IsPlan s.plan) (staged : HaveStages s.plan) where
   part_named outs w (parts.Output v j) standing is = standing.each v j is.0 is.1
 
   task_named : (outs : Outs) (w : ℕ) (task : Task) → AreStanding s outs w → TaskStands w task → HasNamed s outs task
-  task_named outs w (t_map t) standing is = part_named outs w t.part standing is.0
+  task_named outs w (t_map t) standing is = record {
+    part = part_named outs w t.part standing is.0;
+    copies = λ o at replicated first.
+        let next = (is.2 o at replicated first).0 in
+        let less : first_wave s.plan t.node < w = omega (arith, next) in
+        record { count = standing.counts (first_wave s.plan t.node) less; each = λ at within. standing.each (first_wave s.plan t.node) at less within };
+  }
   task_named outs w (t_reduce t) standing is =
       let next = is.0 in
       let less : t.wave < w = omega (arith, next) in
@@ -391,8 +552,8 @@ module _ (s : Stages) (valid : IsPlan s.plan) (staged : HaveStages s.plan) where
       record { count = standing.counts t.wave less; each = λ at within. standing.each t.wave at less within }
 
 pub finds_named : WavesFindWhatTheyName
-finds_named s valid staged outs w at task standing less there =
-    task_named s valid staged outs w task standing (each_at (TaskStands s valid staged w) (tasks_in s w) at task there (tasks_stand s valid staged w less))
+finds_named s valid outs w at task standing less there =
+    task_named s valid outs w task standing (each_at (TaskStands s valid w) (tasks_in s w) at task there (tasks_stand s valid w less))
 
 -- ---- what a task reads
 
@@ -407,4 +568,4 @@ source_told s inputs t alive sizes = λ path delim columns op. by_node (slice_ge
         sizes t.way.path.source node.statement delim path columns (e ∙ ap (λ o. Some (record { op = o; statement = node.statement })) same) alive
 
 pub reads_told : WavesReadToldInputs
-reads_told s valid staged inputs w less sizes = λ place t at. source_told s inputs t (each_at (TaskStands s valid staged w) (tasks_in s w) place (t_map t) at (tasks_stand s valid staged w less)).1 sizes
+reads_told s valid inputs w less sizes = λ place t at. source_told s inputs t (each_at (TaskStands s valid w) (tasks_in s w) place (t_map t) at (tasks_stand s valid w less)).1 sizes

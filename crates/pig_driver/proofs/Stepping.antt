@@ -26,12 +26,11 @@ use Rattle.pig_board.specs.declared.end.TaskEnd.{TaskEnd}
 use Rattle.pig_physical.specs.Handed.{out_of}
 use Rattle.pig_physical.specs.Outs.{Outs, TaskOut, outs_at}
 use Rattle.pig_physical.specs.Running.{AreCuts, AreSizes, IsRun}
-use Rattle.pig_physical.specs.Stages.{Stages, Task, first_wave, head_of, heads, tasks_in}
+use Rattle.pig_physical.specs.Stages.{Stages, Task, first_wave, head_of, heads, is_replicated, tasks_in}
 use Rattle.pig_physical.specs.Values.{IsValue}
 use Rattle.pig_physical.specs.declared.outputs.Out as out
 use Rattle.pig_physical.specs.declared.waves.WaveKind.TheVariants as kinds
 use Rattle.pig_pool.specs.Wave.{AreOutputs, IsWonWave}
-use Rattle.pig_waves.specs.Laws.{HaveStages}
 use Rattle.pig_work.specs.Working.{HasSources, IsRight, IsRightAt, Tellings}
 use Rattle.pig_driver.specs.Failing.{HaveWon}
 use Rattle.pig_driver.specs.Going.{AllTell, AreValues, AreWon, HasRunAll, HasRunTo, TellSizes}
@@ -50,10 +49,10 @@ all_hosts P f [] h k d less = absurd (omega (arith, less))
 all_hosts P f (x ∷ xs) h zero d less = h.0
 all_hosts P f (x ∷ xs) h (suc k) d less = all_hosts P f xs h.1 k d (omega (arith, less))
 
-pub told_sources : (s : Stages) → IsPlan s.plan → HaveStages s.plan → (w : ℕ) → w < length (heads s.plan) → (tellings : Tellings) → TellSizes s tellings
+pub told_sources : (s : Stages) → IsPlan s.plan → (w : ℕ) → w < length (heads s.plan) → (tellings : Tellings) → TellSizes s tellings
     → AllByRecursion (λ told. ForSome told (HasSources s w)) tellings
-told_sources s valid staged w less [] h = tt
-told_sources s valid staged w less (told ∷ tellings) h = (λ inputs is. reads_told s valid staged inputs w less (h.0 inputs is), told_sources s valid staged w less tellings h.1)
+told_sources s valid w less [] h = tt
+told_sources s valid w less (told ∷ tellings) h = (λ inputs is. reads_told s valid inputs w less (h.0 inputs is), told_sources s valid w less tellings h.1)
 
 -- ---- right outputs
 
@@ -69,7 +68,7 @@ are_right s tellings outs w found h = record {
     of_place at task o by None e is = absurd (let f : None ≡ Some o = is in cc)
     of_place at task o by (Some x) e is = subst (IsRight s tellings outs task) (some_same (out_of x) o is) (h.right at x e task by)
 
-module _ (s : Stages) (valid : IsPlan s.plan) (staged : HaveStages s.plan) where
+module _ (s : Stages) (valid : IsPlan s.plan) where
   boundary_of : (o : PlanOp) (keys : List SortKey) → sort_keys o ≡ Some keys → is_boundary o ≡ true
   boundary_of (p_load path delim columns) keys h = absurd (let e : None ≡ Some keys = h in cc)
   boundary_of (p_filter input test) keys h = absurd (let e : None ≡ Some keys = h in cc)
@@ -85,6 +84,21 @@ module _ (s : Stages) (valid : IsPlan s.plan) (staged : HaveStages s.plan) where
   boundary_of (p_assert input test message) keys h = absurd (let e : None ≡ Some keys = h in cc)
   boundary_of (p_rank input sorting dense) keys h = refl
 
+  sorts_by_key : (o : PlanOp) (keys : List SortKey) → sort_keys o ≡ Some keys → is_replicated o ≡ false
+  sorts_by_key (p_order input sorting) keys h = refl
+  sorts_by_key (p_rank input sorting dense) keys h = refl
+  sorts_by_key (p_load path delim columns) keys h = refl
+  sorts_by_key (p_filter input test) keys h = refl
+  sorts_by_key (p_foreach input block) keys h = refl
+  sorts_by_key (p_group_all input) keys h = refl
+  sorts_by_key (p_group inputs) keys h = refl
+  sorts_by_key (p_join inputs side replicated) keys h = absurd (let e : None ≡ Some keys = h in cc)
+  sorts_by_key (p_union inputs) keys h = refl
+  sorts_by_key (p_distinct input) keys h = refl
+  sorts_by_key (p_limit input count) keys h = refl
+  sorts_by_key (p_store input path delim) keys h = refl
+  sorts_by_key (p_assert input test message) keys h = refl
+
   -- a live node that sorts has its map wave among the waves
   sorting_head : (k : ℕ) (o : PlanOp) (keys : List SortKey) → op_at s.plan k ≡ Some o → is_live s.plan k ≡ true → sort_keys o ≡ Some keys
       → slice_get (heads s.plan) (first_wave s.plan k) ≡ Some (head_of s.plan k kinds.Map)
@@ -94,7 +108,8 @@ module _ (s : Stages) (valid : IsPlan s.plan) (staged : HaveStages s.plan) where
       of_node None e = absurd (let f : None ≡ Some o = sym (ap (option_map (λ n. n.op)) e) ∙ at in cc)
       of_node (Some node) e =
           let same : o ≡ node.op = some_same o node.op (sym at ∙ ap (option_map (λ n. n.op)) e) in
-          its_head s valid staged k (record { node = node; at = e; alive = alive; is = ap is_boundary (sym same) ∙ boundary_of o keys by })
+          its_head s valid k (record { node = node; at = e; alive = alive; is = ap is_boundary (sym same) ∙ boundary_of o keys by })
+          (ap is_replicated (sym same) ∙ sorts_by_key o keys by)
 
   abbrev PointsRise : Type 0
   PointsRise = (dirs : List Dir) (n : ℕ) (es : List Entry) → 0 < n → Ascends (run_cmp dirs) es
@@ -110,7 +125,7 @@ module _ (s : Stages) (valid : IsPlan s.plan) (staged : HaveStages s.plan) where
   module _ (tellings : Tellings) (outs : Outs) (w : ℕ) (within : w < length (heads s.plan)) (run : HasRunTo s tellings outs w) (found : List TaskOut) (rights : AreRight s tellings outs w found)
       (some : 0 < s.sizing.reducers) where
     pub may_slice : wave_sorts s w ≡ true → AreDirected found
-    may_slice h = directed s tellings outs w valid staged within run.size found rights (sorting_wave s valid staged w within h)
+    may_slice h = directed s tellings outs w valid within run.size found rights (sorting_wave s valid w within h)
 
     module _ (rise : PointsRise) (news : List TaskOut) where
       longer : length (outs ++ news ∷ []) ≡ w + 1
@@ -118,24 +133,24 @@ module _ (s : Stages) (valid : IsPlan s.plan) (staged : HaveStages s.plan) where
 
       plain_step : wave_sorts s w ≡ false → news ≡ found → HasRunTo s tellings (outs ++ news ∷ []) (w + 1)
       plain_step h same =
-          let plain = plain_wave s valid staged w within h in
+          let plain = plain_wave s valid w within h in
           subst (λ xs. HasRunTo s tellings (outs ++ xs ∷ []) (w + 1)) (sym same)
           (record {
             size = length-append outs (found ∷ []) ∙ ap (λ n. n + 1) run.size;
-            standing = standing_on s valid staged outs found w run.size within run.standing (plain_new s tellings outs w valid staged within run.size found rights plain);
+            standing = standing_on s valid outs found w run.size within run.standing (plain_new s tellings outs w valid within run.size found rights plain);
             values = λ inputs told. let old = run.values inputs told in
                 record {
                   points = old.points ++ cut_points s.sizing.reducers [] ∷ [];
-                  are = values_on s valid staged outs found w run.size within inputs old.points (cut_points s.sizing.reducers []) old.are
-                      (plain_values s tellings outs w valid staged within run.size found rights plain inputs told (cut_points s.sizing.reducers []))
+                  are = values_on s valid outs found w run.size within inputs old.points (cut_points s.sizing.reducers []) old.are
+                      (plain_values s tellings outs w valid within run.size found rights plain inputs told (cut_points s.sizing.reducers []))
                       (λ k o keys at alive by first. ends_cut rise s.sizing.reducers some (dirs_of keys));
                 };
           })
 
-      same_keys : (sorting : IsSorting s valid staged w within) (k : ℕ) (o : PlanOp) (keys : List SortKey) → op_at s.plan k ≡ Some o → is_live s.plan k ≡ true → sort_keys o ≡ Some keys
+      same_keys : (sorting : IsSorting s valid w within) (k : ℕ) (o : PlanOp) (keys : List SortKey) → op_at s.plan k ≡ Some o → is_live s.plan k ≡ true → sort_keys o ≡ Some keys
           → first_wave s.plan k ≡ w → sorting.keys ≡ keys
       same_keys sorting k o keys at alive by first =
-          let own : slice_get (heads s.plan) w ≡ Some (head_of s.plan sorting.k kinds.Map) = ap (slice_get (heads s.plan)) sorting.at ∙ its_head s valid staged sorting.k sorting.is in
+          let own : slice_get (heads s.plan) w ≡ Some (head_of s.plan sorting.k kinds.Map) = ap (slice_get (heads s.plan)) sorting.at ∙ its_head s valid sorting.k sorting.is sorting.by_key in
           let other : slice_get (heads s.plan) w ≡ Some (head_of s.plan k kinds.Map) = ap (slice_get (heads s.plan)) (sym first) ∙ sorting_head k o keys at alive by in
           let nodes : sorting.k ≡ k = ap (λ h. h.node) (some_same (head_of s.plan sorting.k kinds.Map) (head_of s.plan k kinds.Map) (sym own ∙ other)) in
           let ops : sorting.is.node.op ≡ o = some_same sorting.is.node.op o (sym (ap (option_map (λ n. n.op)) sorting.is.at) ∙ ap (op_at s.plan) nodes ∙ at) in
@@ -143,16 +158,16 @@ module _ (s : Stages) (valid : IsPlan s.plan) (staged : HaveStages s.plan) where
 
       sliced_step : wave_sorts s w ≡ true → AreSliced s.sizing.reducers found news → HasRunTo s tellings (outs ++ news ∷ []) (w + 1)
       sliced_step h cut =
-          let sorting = sorting_wave s valid staged w within h in
-          let cuts = are_cuts s tellings outs w valid staged within run.size found rights sorting some news cut rise in
+          let sorting = sorting_wave s valid w within h in
+          let cuts = are_cuts s tellings outs w valid within run.size found rights sorting some news cut rise in
           record {
             size = longer;
-            standing = standing_on s valid staged outs news w run.size within run.standing (sliced_new s tellings outs w valid staged within run.size found rights sorting some news cut);
+            standing = standing_on s valid outs news w run.size within run.standing (sliced_new s tellings outs w valid within run.size found rights sorting some news cut);
             values = λ inputs told. let old = run.values inputs told in
                 record {
                   points = old.points ++ cut.points ∷ [];
-                  are = values_on s valid staged outs news w run.size within inputs old.points cut.points old.are
-                      (sliced_values s tellings outs w valid staged within run.size found rights sorting some news cut inputs told cuts.count)
+                  are = values_on s valid outs news w run.size within inputs old.points cut.points old.are
+                      (sliced_values s tellings outs w valid within run.size found rights sorting some news cut inputs told cuts.count)
                       (λ k o keys at alive by first. subst (λ ks. AreCuts s.sizing.reducers (dirs_of ks) cut.points) (same_keys sorting k o keys at alive by first) cuts);
                 };
           }

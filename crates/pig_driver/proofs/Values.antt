@@ -25,13 +25,13 @@ use Rattle.pig_physical.specs.Fitting.{Fits, HasOutput}
 use Rattle.pig_physical.specs.Outs.{Outs, TaskOut, outs_at, rows_in}
 use Rattle.pig_physical.specs.Running.{AreCuts}
 use Rattle.pig_physical.specs.Stages.{Stages, Task, first_wave, head_of, heads, t_map, t_rank, t_reduce, tasks_in}
-use Rattle.pig_physical.specs.Values.{IsMapForm, IsRankForm, IsReduceForm, IsValue, part_rows, read_rows, source_rows}
+use Rattle.pig_physical.specs.Values.{IsMapForm, IsRankForm, IsReduceForm, IsValue, part_rows, read_rows, source_rows, task_rows}
 use Rattle.pig_physical.specs.declared.parts.Part.{Part}
 use Rattle.pig_physical.specs.declared.parts.Part.TheVariants as parts
 use Rattle.pig_physical.specs.declared.waves.WaveKind.TheVariants as kinds
-use Rattle.pig_waves.specs.Laws.{HaveStages}
 use Rattle.pig_driver.specs.Going.{AreValues}
 use Rattle.pig_driver.specs.Standing.{AreStanding, IsSliced}
+use Rattle.pig_driver.proofs.Copies.{form_over}
 use Rattle.pig_driver.proofs.Standing.{PartStands, TaskStands, tasks_stand}
 
 -- ---- one more element
@@ -45,11 +45,11 @@ pub last_at : {X : Type 0} (nothing : X) (xs : List X) (x : X) (k : ℕ) → k �
 last_at nothing xs x k is =
     ap (at_place nothing (xs ++ x ∷ [])) (let e : k ≡ length xs + 0 = omega (arith, is) in e) ∙ ap (λ o. unwrap_or o nothing) (get-behind xs (x ∷ []) 0)
 
-module _ (s : Stages) (valid : IsPlan s.plan) (staged : HaveStages s.plan) (outs : Outs) (new : List TaskOut) where
+module _ (s : Stages) (valid : IsPlan s.plan) (outs : Outs) (new : List TaskOut) where
   abbrev longer : Outs
   longer = outs ++ new ∷ []
 
-  part_still : (inputs : List Input) (w : ℕ) (o : PlanOp) (part : Part) → PartStands s valid staged w part → w ≤ length outs → part_rows inputs longer part o ≡ part_rows inputs outs part o
+  part_still : (inputs : List Input) (w : ℕ) (o : PlanOp) (part : Part) → PartStands s valid w part → w ≤ length outs → part_rows inputs longer part o ≡ part_rows inputs outs part o
   part_still inputs w o (parts.Split split) stands short = of_split o
     where
       of_split : (o : PlanOp) → part_rows inputs longer (parts.Split split) o ≡ part_rows inputs outs (parts.Split split) o
@@ -70,20 +70,23 @@ module _ (s : Stages) (valid : IsPlan s.plan) (staged : HaveStages s.plan) (outs
       let before = stands.0 in
       ap (λ found. option_map_or (λ out. rows_in out.form) (slice_get found j) []) (front_at [] outs new v (omega (arith, before, short)))
 
-  rows_still : (inputs : List Input) (w k : ℕ) (part : Part) → PartStands s valid staged w part → w ≤ length outs → source_rows s.plan inputs longer k part ≡ source_rows s.plan inputs outs k part
+  rows_still : (inputs : List Input) (w k : ℕ) (part : Part) → PartStands s valid w part → w ≤ length outs → source_rows s.plan inputs longer k part ≡ source_rows s.plan inputs outs k part
   rows_still inputs w k part stands short = by_op (op_at s.plan k)
     where
       by_op : (found : Option PlanOp) → option_map_or (part_rows inputs longer part) found [] ≡ option_map_or (part_rows inputs outs part) found []
       by_op None = refl
       by_op (Some o) = part_still inputs w o part stands short
 
-  value_still : (inputs : List Input) (points : Option (List Point)) (w : ℕ) (task : Task) (out : TaskOut) → TaskStands s valid staged w task → w ≤ length outs
+  value_still : (inputs : List Input) (points : Option (List Point)) (w : ℕ) (task : Task) (out : TaskOut) → TaskStands s valid w task → w ≤ length outs
       → IsValue s inputs points outs task out → IsValue s inputs points longer task out
   value_still inputs points w (t_map t) out stands short h = λ o at.
       let is = h o at in
       let same : read_rows s.plan inputs outs t ≡ read_rows s.plan inputs longer t = sym (rows_still inputs w t.way.path.source t.part stands.0 short) in
       record {
-        form = subst (λ rows. IsMapForm s points t.node o t.way.input (through (folds s.plan) s.plan t.way.path.nodes rows) out.form) same is.form;
+        form = subst (λ rows. IsMapForm s points longer t.node o t.way.input (through (folds s.plan) s.plan t.way.path.nodes rows) out.form) same
+            (form_over s points outs longer t.node o t.way.input (task_rows s.plan inputs outs t) out.form
+            (λ replicated first. let next = (stands.2 o at replicated first).0 in
+            sym (front_at [] outs new (first_wave s.plan t.node) (omega (arith, next, short)))) is.form);
         lines = is.lines;
         unmet = is.unmet ∙ ap (λ rows. sort nat_cmp (unmet_on (folds s.plan) s.plan t.way.path.nodes rows)) same;
       }
@@ -105,7 +108,7 @@ module _ (s : Stages) (valid : IsPlan s.plan) (staged : HaveStages s.plan) (outs
         unmet = is.unmet;
       }
 
-  values_still : (inputs : List Input) (points : Option (List Point)) (w : ℕ) (tasks : List Task) (found : List TaskOut) → AllByRecursion (TaskStands s valid staged w) tasks → w ≤ length outs
+  values_still : (inputs : List Input) (points : Option (List Point)) (w : ℕ) (tasks : List Task) (found : List TaskOut) → AllByRecursion (TaskStands s valid w) tasks → w ≤ length outs
       → Each (IsValue s inputs points outs) tasks found → Each (IsValue s inputs points longer) tasks found
   values_still inputs points w [] [] stands short h = tt
   values_still inputs points w [] (out ∷ found) stands short h = absurd h
@@ -183,11 +186,11 @@ module _ (s : Stages) (valid : IsPlan s.plan) (staged : HaveStages s.plan) (outs
             values = one_or_other (λ v. Each (IsValue s inputs (Some (at_place [] more v)) longer) (tasks_in s v) (outs_at longer v))
                 (λ v before. subst (λ found. Each (IsValue s inputs (Some (at_place [] more v)) longer) (tasks_in s v) found) (sym (front_at [] outs new v (omega (arith, before, size))))
                 (subst (λ p. Each (IsValue s inputs (Some p) longer) (tasks_in s v) (outs_at outs v)) (sym (front_at [] points cut v (omega (arith, before, many))))
-                (values_still inputs (Some (at_place [] points v)) v (tasks_in s v) (outs_at outs v) (tasks_stand s valid staged v (omega (arith, before, within))) (omega (arith, before, size)) (are.values v before))))
+                (values_still inputs (Some (at_place [] points v)) v (tasks_in s v) (outs_at outs v) (tasks_stand s valid v (omega (arith, before, within))) (omega (arith, before, size)) (are.values v before))))
                 (λ v is. subst (λ found. Each (IsValue s inputs (Some (at_place [] more v)) longer) (tasks_in s v) found) (sym (at_last v is))
                 (subst (λ p. Each (IsValue s inputs (Some p) longer) (tasks_in s v) new) (sym (last_at [] points cut v (omega (arith, is, many))))
                 (subst (λ u. Each (IsValue s inputs (Some cut) longer) (tasks_in s u) new) (sym is)
-                (values_still inputs (Some cut) w (tasks_in s w) new (tasks_stand s valid staged w within) (omega (arith, size)) h))));
+                (values_still inputs (Some cut) w (tasks_in s w) new (tasks_stand s valid w within) (omega (arith, size)) h))));
             cuts = λ k o keys at alive by less.
                 one_or_other (λ v. first_wave s.plan k ≡ v → AreCuts s.sizing.reducers (dirs_of keys) (at_place [] more v))
                 (λ v before is. subst (AreCuts s.sizing.reducers (dirs_of keys)) (sym (front_at [] points cut v (omega (arith, before, many))))

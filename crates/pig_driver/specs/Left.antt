@@ -1,16 +1,19 @@
 -- What is left of the outputs of waves that ran. What tasks hand on goes as soon as no later wave looks at it: the runs of map tasks behind
--- their reduce wave, partitions behind their last use. How many lines each task read, and which ASSERTs its rows don't meet, stays.
-use Rattle.std.specs.Prelude.{◌≡◌, ◌≢◌, ◌<◌, ◌≤◌, ◌+◌, ◌%◌, ◌^◌, ℕ, Bool, true, false, List, [], ◌∷◌, ◌++◌, length, map, take, drop, Option, Some, None, slice_get, slice_set}
+-- their reduce wave, copies behind the wave that probes them, partitions behind their last use. How many lines each task read, and which
+-- ASSERTs its rows don't meet, stays.
+use Rattle.std.specs.Prelude.{◌≡◌, ◌≢◌, ◌<◌, ◌≤◌, ◌+◌, ◌-◌, ◌%◌, ◌^◌, ◌&&◌, ◌⊎◌, ℕ, Bool, true, false, List, [], ◌∷◌, ◌++◌, length, map, take, drop, Option, Some, None, slice_get, slice_set, if◌then◌else◌}
+use Rattle.std.specs.Option.{option_map, option_map_or}
 use Rattle.pig_plan.specs.Nodes.{is_live, op_at}
 use Rattle.pig_plan.specs.Plans.{PlanOp, p_limit}
 use Rattle.pig_plan.specs.Valid.{IsPlan}
 use Rattle.pig_physical.specs.Outs.{Outs, TaskOut, o_bytes, outs_at}
 use Rattle.pig_physical.specs.Running.{rows_given, store_wave}
-use Rattle.pig_physical.specs.Stages.{Stages, Task, heads, t_map, t_rank, t_reduce, tasks_in}
+use Rattle.pig_physical.specs.Stages.{MapTask, Stages, Task, enters_first, first_wave, heads, is_replicated, t_map, t_rank, t_reduce, tasks_in}
 use Rattle.pig_physical.specs.declared.parts.Part.{Part}
 use Rattle.pig_physical.specs.declared.parts.Part.TheVariants as parts
 use Rattle.pig_physical.specs.declared.parts.ReduceTask.{ReduceTask}
-use Rattle.pig_waves.specs.Laws.{HaveStages}
+use Rattle.pig_physical.specs.declared.waves.WaveKind.{WaveKind}
+use Rattle.pig_physical.specs.declared.waves.WaveKind.TheVariants as kinds
 use Rattle.pig_work.specs.Working.{Tellings}
 use Rattle.pig_driver.specs.Going.{HasRunAll, HasRunTo}
 use Rattle.pig_driver.specs.Handing.{entries_handed}
@@ -27,12 +30,22 @@ named_wave (t_map t) = part_wave t.part
 named_wave (t_reduce t) = Some t.wave
 named_wave (t_rank t) = Some t.wave
 
--- a task of the wave w names outputs of the wave v
+-- a task that joins rows of the first input of a replicated JOIN with copies
+abbrev pub probes : Stages → MapTask → Bool
+probes s t = option_map_or is_replicated (op_at s.plan t.node) false && enters_first t
+
+-- the wave of these copies
+abbrev pub copies_of : Stages → Task → Option ℕ
+copies_of s (t_map t) = if probes s t then Some (first_wave s.plan t.node) else None
+copies_of s (t_reduce t) = None
+copies_of s (t_rank t) = None
+
+-- a task of the wave w names outputs of the wave v, or copies that these are
 pub record IsNamedIn (s : Stages) (w v : ℕ) : Type 0 where
   pub at : ℕ
   pub task : Task
   pub stands : slice_get (tasks_in s w) at ≡ Some task
-  pub names : named_wave task ≡ Some v
+  pub names : (named_wave task ≡ Some v) ⊎ (copies_of s task ≡ Some v)
 
 -- the wave w or a later one looks at outputs of the wave v
 pub record IsNamedFrom (s : Stages) (w v : ℕ) : Type 0 where
@@ -95,7 +108,7 @@ pub record StillStands (s : Stages) (whole left : Outs) : Type 0 where
       → rows_given s.plan left k (p_limit input count) ≡ rows_given s.plan whole k (p_limit input count)
 
 abbrev pub WhatIsLeftStands : Type 0
-WhatIsLeftStands = (s : Stages) → IsPlan s.plan → HaveStages s.plan → (whole left : Outs) → length whole ≡ length (heads s.plan)
+WhatIsLeftStands = (s : Stages) → IsPlan s.plan → (whole left : Outs) → length whole ≡ length (heads s.plan)
     → AreLeft s whole left (length (heads s.plan)) → StillStands s whole left
 
 -- ---- inside
@@ -119,6 +132,14 @@ set_look (Some v) w lasts = slice_set lasts v w
 abbrev pub looked : List Task → ℕ → List ℕ → List ℕ
 looked [] w lasts = lasts
 looked (task ∷ tasks) w lasts = looked tasks w (set_look (named_wave task) w lasts)
+
+-- a wave of tasks that probe looks at the copies in the wave before it
+abbrev pub copies_by : WaveKind → ℕ → Option ℕ
+copies_by kinds.Probe w = Some (w - 1)
+copies_by kind w = None
+
+abbrev pub copies_in : Stages → ℕ → Option ℕ
+copies_in s w = option_map_or (λ kind. copies_by kind w) (option_map (λ head. head.kind) (slice_get (heads s.plan) w)) None
 
 -- the looks of the first waves are noted, and of all
 abbrev pub HaveLooked : Stages → ℕ → List ℕ → Type 0

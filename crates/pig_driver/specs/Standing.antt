@@ -12,7 +12,6 @@ use Rattle.pig_physical.specs.Outs.{Outs, TaskOut, outs_at, runs_in}
 use Rattle.pig_physical.specs.Running.{AreSizes}
 use Rattle.pig_physical.specs.Stages.{Stages, Task, head_of, heads, tasks_in}
 use Rattle.pig_physical.specs.declared.waves.WaveKind.TheVariants as kinds
-use Rattle.pig_waves.specs.Laws.{HaveStages}
 use Rattle.pig_work.specs.Working.{HasSources}
 use Rattle.pig_cutter.specs.Limits.{has_too_many}
 
@@ -30,13 +29,13 @@ pub record AreStanding (s : Stages) (outs : Outs) (w : ℕ) : Type 0 where
 
 -- What a task names is an output of a wave before its own.
 abbrev pub WavesFindWhatTheyName : Type 0
-WavesFindWhatTheyName = (s : Stages) → IsPlan s.plan → HaveStages s.plan
+WavesFindWhatTheyName = (s : Stages) → IsPlan s.plan
     → (outs : Outs) (w at : ℕ) (task : Task) → AreStanding s outs w → w < length (heads s.plan)
     → slice_get (tasks_in s w) at ≡ Some task → HasNamed s outs task
 
 -- The inputs that a wave's tasks read are live, so that their pieces have the lengths by which stages are cut.
 abbrev pub WavesReadToldInputs : Type 0
-WavesReadToldInputs = (s : Stages) → IsPlan s.plan → HaveStages s.plan
+WavesReadToldInputs = (s : Stages) → IsPlan s.plan
     → (inputs : List Input) (w : ℕ) → w < length (heads s.plan) → AreSizes s inputs → HasSources s w inputs
 
 -- no wave has more tasks than a pool takes
@@ -44,4 +43,4 @@ abbrev pub HaveFewTasks : Stages → Type 0
 HaveFewTasks s = (w : ℕ) → w < length (heads s.plan) → length (tasks_in s w) ≤ 65536
 
 abbrev pub FewTasksFit : Type 0
-FewTasksFit = (s : Stages) → IsPlan s.plan → HaveStages s.plan → has_too_many s ≡ false → s.sizing.reducers ≤ 65536 → HaveFewTasks s
+FewTasksFit = (s : Stages) → IsPlan s.plan → has_too_many s ≡ false → s.sizing.reducers ≤ 65536 → HaveFewTasks s

@@ -6,9 +6,9 @@ ghost use Rattle.pig_plan.specs.Plans.{plan_of};
 ghost use Rattle.pig_physical.specs.Handed.{out_of, outs_of};
 ghost use Rattle.pig_physical.specs.Seen.{staged, task_of};
 ghost use Rattle.pig_physical.specs.Stages.{heads, tasks_in};
-ghost use Rattle.pig_driver.specs.Left.{AreLastLooks, HaveAllLooked, HaveGone, HaveMarked, IsChosen, bare, bared_at, bared_where, limits, looked, named_wave, part_wave, set_look};
+ghost use Rattle.pig_driver.specs.Left.{AreLastLooks, HaveAllLooked, HaveGone, HaveMarked, IsChosen, bare, bared_at, bared_where, copies_by, copies_in, limits, looked, named_wave, part_wave, set_look};
 
-use pig_physical::{Out, OutForm, Outs, Part, Stages, Task};
+use pig_physical::{Out, OutForm, Outs, Part, Stages, Task, WaveKind};
 use pig_plan::{Node, NodeOp};
 use pig_value::{Blob, OutList};
 use std::alloc::{AllocError, Global};
@@ -18,11 +18,13 @@ use std::alloc::{AllocError, Global};
 pub fn last_looks(alloc: Global, stages: &Stages) -> Result<Vec<u32>, AllocError>
     ensures { IfOk result (λ lasts. AreLastLooks (staged stages.now) lasts.items) }
 {
+    let _nodes = stages.plan().nodes();
     let waves = stages.waves();
     let mut lasts = Vec::new(alloc);
     lasts.resize(waves as usize, waves)?;
     for wave in 0..waves {
         note_looks(stages, wave, &mut lasts);
+        note_copies(stages, wave, &mut lasts);
     }
     for wave in 0..waves {
         mark_lasting(stages, wave, &mut lasts);
@@ -47,6 +49,31 @@ fn note_look(task: &Task, wave: u32, lasts: &mut Vec<u32>)
 {
     if let Some(named) = named_wave(task) {
         put_look(named, wave, lasts);
+    }
+}
+
+// A wave of tasks that probe looks at all copies.
+fn note_copies(stages: &Stages, wave: u32, lasts: &mut Vec<u32>)
+    requires { wave < length (heads (staged stages.now).plan) }
+    ensures { lasts.new.items
+        ≡ set_look (copies_in (staged stages.now) wave) wave lasts.old.items }
+{
+    if let Some(copies) = copies_by(stages.kind(wave), wave) {
+        put_look(copies, wave, lasts);
+    }
+}
+
+// The wave of copies before a wave.
+fn copies_by(kind: WaveKind, wave: u32) -> Option<u32>
+    ensures { result ≡ copies_by kind wave }
+{
+    match kind {
+        WaveKind::Probe => Some(wave.saturating_sub(1)),
+        WaveKind::Map => None,
+        WaveKind::Reduce => None,
+        WaveKind::Copy => None,
+        WaveKind::Rank => None,
+        WaveKind::Store => None,
     }
 }
 

@@ -7,11 +7,9 @@ mod laws;
 mod leaving;
 mod running;
 mod slicing;
-mod staging;
 
 pub use laws::{
     few_tasks_fit, waves_find_what_they_name, waves_read_told_inputs, what_is_left_stands,
 };
 pub use running::{JobEnds, Ran, StagesFault, run_stages};
 pub use slicing::slice_outputs;
-pub use staging::have_stages;

@@ -6,7 +6,6 @@ ghost use Rattle.pig_physical.specs.Seen.{staged};
 ghost use Rattle.pig_physical.specs.Stages.{heads};
 ghost use Rattle.pig_pool.specs.Begins.{crew_tells};
 ghost use Rattle.pig_pool.specs.Wave.{failures_in};
-ghost use Rattle.pig_waves.specs.Laws.{HaveStages};
 ghost use Rattle.pig_driver.specs.Begun.{FaultBegun, FaultNext, IsBegunNext, WavesBegun};
 ghost use Rattle.pig_driver.specs.Going.{AreWon, TellSizes};
 ghost use Rattle.pig_driver.specs.Left.{IsGoing, IsOver};
@@ -92,7 +91,6 @@ pub fn run_stages<R: Threads + Sync, H: Host + Send>(
     requires hosts { (0 < length hosts.old) × (length hosts.old ≤ 256) }
     requires limit { (0 < limit) × (limit ≤ 16) }
     requires some { 0 < (staged stages.now).sizing.reducers }
-    requires staged { HaveStages (staged stages.now).plan }
     requires few { HaveFewTasks (staged stages.now) }
     requires sizes { TellSizes (staged stages.now) (map H.inputs hosts.old) }
     requires none { ends.old ≡ [] }
@@ -144,7 +142,6 @@ fn run_one<R: Threads + Sync, H: Host + Send>(
     requires limit { (0 < limit) × (limit ≤ 16) }
     requires some { 0 < (staged stages.now).sizing.reducers }
     requires valid { IsPlan (staged stages.now).plan }
-    requires staged { HaveStages (staged stages.now).plan }
     requires few { HaveFewTasks (staged stages.now) }
     requires sizes { TellSizes (staged stages.now) (map H.inputs hosts.old) }
     requires run { IsGoing (staged stages.now) (map H.inputs hosts.old) (outs_of ran.old.outs)

@@ -63,6 +63,19 @@ bag @ ic=a R00 P11 s2 @ a|2_b~1_a~2_a~|_n~3_c~2_b~|1_z~2_a @ 1_1__n~2_2_1_a~2_2_
 bag @ i=a R00 L10 L19 s2 s3 @ a|2~1~|3 @ .~1_1~2_2~3_3~.~
 list @ ic=a R00 o102 L23 s3 @ a|2_b~1_a~2_a~|_n~3_c~2_b~|1_z~2_a @ 8_3_c~4_2_a~4_2_a~.~
 bag @ c=a t0 g1 c2 e31 s4 @ a|the cat~the dog, the end~|cat~ @ 1_the_3~2_cat_2~3_dog_1~3_end_1~.~
+bag @ ic=a ic=b h01 H01 s2 s3 @ a|1_x~_y~2_z~|1_t~;b|1_p~|_q~3_r~1_s~ @ 1_t_1_p~1_t_1_s~1_x_1_p~1_x_1_s~.~_y__~1_t_1_p~1_t_1_s~1_x_1_p~1_x_1_s~2_z__~.~
+bag @ ic=a h00 d1 s2 @ a|1_x~_y~1_x~|1_z~ @ 1_x_1_x~1_x_1_z~1_z_1_x~1_z_1_z~.~
+bag @ i=a i=b i=c h012 s3 @ a|1~2~2;b|2~3~2;c|~3~|2 @ 2_2_2~2_2_2~2_2_2~2_2_2~.~
+bag @ i=a i=b H01 H10 h01 s2 s3 s4 @ a|;b|1~2 @ .~1_~2_~.~.~
+bag @ i=a i=b H01 h01 s2 s3 @ a|1~;b @ 1_~.~.~
+bag @ i=a i=b d0 d1 h23 s4 @ a|1~2~1;b|1~1~|2 @ 1_1~2_2~.~
+bag @ i=a i=b u01 h20 H20 s3 s4 @ a|1~2~|3;b|2~||4~ @ 1_1~2_2~2_2~3_3~.~1_1~2_2~2_2~3_3~4_~.~
+bag @ i=a i=b u01 H02 s3 @ a|1~2~|3;b|2~||4~ @ 1_1~2_2~2_2~3_3~.~
+bag @ i=a i=b h01 H20 g3 c4 s5 s2 @ a|1~2~2;b|2~3~2 @ 2_8~.~2_2~2_2~2_2~2_2~.~
+list @ ii=a ii=b h01 g2 S3 o41 L52 s6 @ a|1_2~2_2~|3_3~1_9~;b|1_5~2_6~|3_30~1_7 @ 1_4_22~2_1_2~.~
+list @ ic=a O00 H10 o202 s3 @ a|2_b~1_a~|3_c~ @ 3_c_3_c~2_b_2_b~1_a_1_a~.~
+bag @ ic=a ic=b x1 H02 R30 s4 @ a|1_x~_y~2_z~;b|1_p~|2_q~ @ 1__y__~2_1_x_1_p~3_2_z_2_q~.~ 3
+bag @ ic=a ic=b x0 h21 s3 @ a|1_x~_y~2_z~;b|1_p~|2_q~ @ 1_x_1_p~2_z_2_q~.~ 3
 ";
 
 /// A case: whether it is a list, its words, its inputs, and what is told of it.
@@ -186,6 +199,14 @@ fn the_only_host_fails_after_its_first_read(rt: HostRuntime) {
     let line = "bag @ i=a i=b d0 d1 s2 s3 @ a|1~2~;b|3~";
     let got = told(&rt, rt.alloc(), line, failing(1, LATER));
     assert_eq!(rt; got.as_str(), "wave 2 failed at 0, 4 times; 3 ended");
+}
+
+/// Its first read is of what is copied.
+#[test]
+fn copies_come_before_probes(rt: HostRuntime) {
+    let line = "bag @ i=a i=b h01 s2 @ a|1~2~;b|2~";
+    let got = told(&rt, rt.alloc(), line, failing(1, LATER));
+    assert_eq!(rt; got.as_str(), "wave 1 failed at 0, 4 times; 2 ended");
 }
 
 /// Whether two lines are told, which are two of those that are told behind a line `.`, and again the same.

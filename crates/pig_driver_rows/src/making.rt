@@ -10,7 +10,7 @@ use std::process::Abort;
 const KINDS: &str = "ic,ii,ci,ic,i,c,iic";
 
 /// Operators; those that are to come more often stand here more often.
-const LETTERS: &str = "fnwtqggkkGjjlrJudaccSSmmFFDDooOORePpLLLx";
+const LETTERS: &str = "fnwtqggkkGjjhhlHHrJudaccSSmmFFDDooOORePpLLLx";
 
 /// Long texts differ behind their first bytes.
 const FIELDS: &str = "1,2,3,1,2,,-4,7,x,the cat,2147483647,,-2147483648,\
@@ -45,7 +45,7 @@ fn input(chance: &mut Chance, plan: &Plan) -> u32 {
 /// What stands behind an operator's input: another one, a field or a count, or nothing.
 fn further(chance: &mut Chance, plan: &Plan, letter: char) -> Option<u32> {
     match letter {
-        'j' | 'l' | 'r' | 'J' | 'G' | 'u' => Some(input(chance, plan)),
+        'j' | 'h' | 'l' | 'H' | 'r' | 'J' | 'G' | 'u' => Some(input(chance, plan)),
         'g' if chance.below(2) == 0 => Some(input(chance, plan)),
         'o' | 'O' | 'e' | 'R' | 'p' | 'P' => Some(chance.below(3)),
         'L' => Some(chance.below(6)),
@@ -59,7 +59,7 @@ fn third(chance: &mut Chance, plan: &Plan, letter: char) -> Option<u32> {
         return None;
     }
     match letter {
-        'j' | 'G' | 'u' => Some(input(chance, plan)),
+        'j' | 'h' | 'G' | 'u' => Some(input(chance, plan)),
         'o' | 'O' | 'e' | 'R' | 'p' | 'P' => Some(chance.below(3)),
         _ => None,
     }
@@ -110,7 +110,7 @@ fn add_operator<R: Abort>(
     plan: &mut Plan,
     words: &mut String,
 ) {
-    let wanted = letter(chance, LETTERS, 40);
+    let wanted = letter(chance, LETTERS, 44);
     let is_of_groups = matches!(wanted, 'c' | 'S' | 'm' | 'F' | 'D');
     if !is_of_groups || chance.below(4) == 0 {
         let word = word(rt, alloc, chance, plan, wanted);

@@ -177,7 +177,7 @@ fn foreach<R: Abort>(rt: &R, alloc: Global, letter: u8, input: u32) -> NodeOp {
 }
 
 /// GROUP `g`, with `G` of the rows whose first input has the key, and JOIN: inner `j`, LEFT `l`, RIGHT `r` and FULL, by
-/// the first fields; with `k` GROUP by the second ones.
+/// the first fields; inner `h` and LEFT `H` replicated; with `k` GROUP by the second ones.
 fn by_key<R: Abort>(rt: &R, alloc: Global, letter: u8, numbers: &[u32]) -> NodeOp {
     let mut inputs = KeyedInputs::new(alloc);
     let mut inner = letter == b'G';
@@ -189,8 +189,8 @@ fn by_key<R: Abort>(rt: &R, alloc: Global, letter: u8, numbers: &[u32]) -> NodeO
         inner = false;
     }
     let side = match letter {
-        b'j' => Side::Inner,
-        b'l' => Side::Left,
+        b'j' | b'h' => Side::Inner,
+        b'l' | b'H' => Side::Left,
         b'r' => Side::Right,
         b'J' => Side::Full,
         _ => return NodeOp::Group { inputs },
@@ -198,7 +198,7 @@ fn by_key<R: Abort>(rt: &R, alloc: Global, letter: u8, numbers: &[u32]) -> NodeO
     NodeOp::Join {
         inputs,
         side,
-        replicated: false,
+        replicated: matches!(letter, b'h' | b'H'),
     }
 }
 
@@ -250,7 +250,7 @@ fn operator<R: Abort>(rt: &R, alloc: Global, letter: u8, inputs: Numbers) -> Nod
     match letter {
         b'f' | b'n' | b'x' => tested(rt, alloc, letter, input),
         b't' | b'w' | b'q' | b'c' | b'S' | b'm' | b'F' | b'D' => foreach(rt, alloc, letter, input),
-        b'g' | b'k' | b'G' | b'j' | b'l' | b'r' | b'J' => {
+        b'g' | b'k' | b'G' | b'j' | b'h' | b'l' | b'H' | b'r' | b'J' => {
             by_key(rt, alloc, letter, inputs.as_slice())
         }
         b'o' | b'O' | b'e' | b'R' | b'p' | b'P' => {

@@ -4,7 +4,7 @@ use crate::comparing::{add, settled};
 use crate::host::hosts;
 use crate::setting::sizes;
 use pig_cutter::cut_plan;
-use pig_driver::{JobEnds, Ran, StagesFault, few_tasks_fit, have_stages, run_stages};
+use pig_driver::{JobEnds, Ran, StagesFault, few_tasks_fit, run_stages};
 use pig_physical::{Out, OutForm, Outs, Stages, Task};
 use pig_plan::Plan;
 use pig_value::{Inputs, OutList};
@@ -31,7 +31,7 @@ pub fn by_tasks<R: Threads + Sync + Abort>(
     listed: bool,
 ) -> String {
     few_tasks_fit();
-    if turn.split == 0 || turn.reducers == 0 || turn.reducers > 65536 || !have_stages(plan) {
+    if turn.split == 0 || turn.reducers == 0 || turn.reducers > 65536 {
         panic!(rt; "a plan that is not run");
     }
     let _nodes = plan.nodes();

@@ -12,7 +12,7 @@ use Rattle.pig_value.specs.Orders.{tree_cmp}
 use Rattle.pig_value.specs.Sorts.{distinct, sort}
 use Rattle.pig_value.specs.Trees.{KindTree, Tree, k_bag, k_chars, kinds_of}
 use Rattle.pig_value.specs.declared.operators.Side.{Side}
-use Rattle.pig_value.proofs.KindLaws.{rows_of_each, rows_of_from_each}
+use Rattle.pig_value.proofs.KindLaws.{rows_of_from_each}
 use Rattle.pig_value.proofs.OfRead.{OfRead}
 use Rattle.pig_value.proofs.list_laws.Bags.{each-sort}
 use Rattle.pig_value.proofs.list_laws.Distinct.{each-distinct}
@@ -39,7 +39,7 @@ use Rattle.pig_physical.specs.Combining.{folds, groups_one}
 use Rattle.pig_physical.specs.Fitting.{EntryFits, FinishesTo, Fits, GivesAlone, HasOutput, HasRows, HasRuns, HasWave, IsFoldedRow, IsInputRow, MapFits}
 use Rattle.pig_physical.specs.Fitting.{RunFits, given_kinds, keyed_kind, kinds_brought}
 use Rattle.pig_physical.specs.Outs.{Form, Outs, TaskOut, entries_at, o_rows, outs_at, rows_in, runs_in}
-use Rattle.pig_physical.specs.Stages.{Stages, map_tasks, t_map, tasks_in, ways_into}
+use Rattle.pig_physical.specs.Stages.{Stages, is_replicated, map_tasks, t_map, tasks_in, ways_into}
 use Rattle.pig_physical.specs.Values.{IsReduceForm, brought_together, key_row, reduced}
 use Rattle.pig_physical.specs.declared.parts.ReduceTask.{ReduceTask}
 use Rattle.pig_physical.specs.declared.waves.WaveKind.TheVariants as kinds
@@ -49,10 +49,10 @@ use Rattle.pig_waves.proofs.Folders.{folds_is, none_folds_at}
 use Rattle.pig_fitting.specs.Laws.{ReduceFormFits}
 use Rattle.pig_fitting.proofs.Combined.{same_given}
 use Rattle.pig_fitting.proofs.Finishing.{all_folded}
-use Rattle.pig_fitting.proofs.Formed.{keeps_fit}
-use Rattle.pig_fitting.proofs.Given.{Has, given_of, given_unfolded, kinds_by}
+use Rattle.pig_fitting.proofs.Given.{Has, given_of, given_unfolded, kinds_by, rows_have}
 use Rattle.pig_fitting.proofs.Going.{both_hold, found_of}
-use Rattle.pig_fitting.proofs.Standing.{OfPartition, on_ways, reduces_at}
+use Rattle.pig_fitting.proofs.Kept.{keeps_fit}
+use Rattle.pig_fitting.proofs.Standing.{OfPartition, on_ways, reduces_alone, reduces_at}
 
 -- ---- entries of inputs by key
 
@@ -129,10 +129,10 @@ module _ (functions : FunctionsKeepKinds) (plan : Plan) where
 -- ---- by key, sorted, each once
 
 module _ (functions : FunctionsKeepKinds) (plan : Plan) (valid : IsPlan plan) (k : ℕ) (entries : List Entry) where
-  abbrev AreFit : PlanOp → Type 0
+  abbrev pub AreFit : PlanOp → Type 0
   AreFit o = AllByRecursion (EntryFits plan k o) entries
 
-  abbrev Brings : PlanOp → Type 0
+  abbrev pub Brings : PlanOp → Type 0
   Brings o = Has (given_kinds plan k) (brought_together (width_at plan) o entries)
 
   abbrev Gives : List (List Tree) → Option RowKinds → Type 0
@@ -199,7 +199,7 @@ module _ (functions : FunctionsKeepKinds) (plan : Plan) (valid : IsPlan plan) (k
       (λ e f. entered functions plan inputs found is e f.input f.key (open_row (p_group inputs) e none f.row)) entries fit))
       (all_keyed (kinds_at plan) inputs) (all_found functions plan inputs))
 
-  join_brought : (inputs : List Keyed) (side : Side) (replicated : Bool) → op_at plan k ≡ Some (p_join inputs side replicated)
+  pub join_brought : (inputs : List Keyed) (side : Side) (replicated : Bool) → op_at plan k ≡ Some (p_join inputs side replicated)
       → AreFit (p_join inputs side replicated)
       → Brings (p_join inputs side replicated)
   join_brought inputs side replicated at fit =
@@ -289,30 +289,41 @@ module _ (functions : FunctionsKeepKinds) (plan : Plan) (valid : IsPlan plan) (k
 -- the tasks that a reduce task of a boundary node reads
 record Reduces (s : Stages) (t : ReduceTask) (o : PlanOp) : Type 0 where
   pub here : is_boundary o ≡ true
+  pub by_key : is_replicated o ≡ false
   pub maps : tasks_in s t.wave ≡ map t_map (map_tasks s t.node o)
 
 reduces_as : (s : Stages) (w : ℕ) (t : ReduceTask) (o : PlanOp) → op_at s.plan t.node ≡ Some o → OfPartition s w t kinds.Reduce kinds.Map → Reduces s t o
 reduces_as s w t o at of =
     let same : of.op ≡ o = some_same of.op o (sym of.at ∙ at) in
-    record { here = ap is_boundary (sym same) ∙ of.here; maps = of.reads ∙ ap (λ p. map t_map (map_tasks s t.node p)) same }
+    record {
+      here = ap is_boundary (sym same) ∙ of.here;
+      by_key = ap is_replicated (sym same) ∙ reduces_alone of.op of.among;
+      maps = of.reads ∙ ap (λ p. map t_map (map_tasks s t.node p)) same;
+    }
 
 each_of_places : {X : Type 0} (P : X → Type 0) (xs : List X) → ((i : ℕ) (x : X) → slice_get xs i ≡ Some x → P x) → AllByRecursion P xs
 each_of_places P [] h = tt
 each_of_places P (x ∷ xs) h = (h 0 x refl, each_of_places P xs (λ i y e. h (suc i) y e))
 
 module _ (s : Stages) (t : ReduceTask) (o : PlanOp) (at : op_at s.plan t.node ≡ Some o) (reduces : Reduces s t o) (outs : Outs) (has : HasWave s outs t) where
-  of_output : (i : ℕ) → HasOutput s outs t.wave i → (out : TaskOut) → slice_get (outs_at outs t.wave) i ≡ Some out → MapFits s t.node o out.form
+  -- of some input
+  abbrev FitsThere : TaskOut → Type 0
+  FitsThere out = (j : ℕ) × MapFits s t.node o j out.form
+
+  of_output : (i : ℕ) → HasOutput s outs t.wave i → (out : TaskOut) → slice_get (outs_at outs t.wave) i ≡ Some out → FitsThere out
   of_output i output out stands =
       let from = mapped_from t_map (map_tasks s t.node o) output.task (record { at = i; is = ap (λ ts. slice_get ts i) (sym reduces.maps) ∙ output.is_of }) in
       let on = on_ways s t.node (ways_into s.plan o) from.x from.among in
-      let fits : MapFits s (from.x).node o (output.out).form =
-      subst (λ u. Fits s u output.out) (sym from.is) output.fits o (ap (op_at s.plan) on.node ∙ at) in
-      subst (λ u. MapFits s t.node o u.form) (some_same output.out out (sym output.stands ∙ stands))
-      (subst (λ n. MapFits s n o (output.out).form) on.node fits)
+      let fits : MapFits s (from.x).node o (from.x).way.input (output.out).form =
+      subst (λ u. Fits s u output.out) (sym from.is) output.fits o (ap (op_at s.plan) on.node ∙ at) in (
+        (from.x).way.input,
+        subst (λ u. MapFits s t.node o (from.x).way.input u.form) (some_same output.out out (sym output.stands ∙ stands))
+            (subst (λ n. MapFits s n o (from.x).way.input (output.out).form) on.node fits),
+      )
 
-  maps_fit : AllByRecursion (λ out. MapFits s t.node o out.form) (outs_at outs t.wave)
+  maps_fit : AllByRecursion FitsThere (outs_at outs t.wave)
   maps_fit =
-      each_of_places (λ out. MapFits s t.node o out.form) (outs_at outs t.wave)
+      each_of_places FitsThere (outs_at outs t.wave)
       (λ i out stands. let within = slice_get_within (outs_at outs t.wave) i out stands in let count = has.count in of_output i
       (has.each i (omega (arith, within, count))) out stands)
 
@@ -327,11 +338,11 @@ module _ (s : Stages) (t : ReduceTask) (o : PlanOp) (at : op_at s.plan t.node �
       by_run None e = tt
       by_run (Some run) e = (each_at (RunFits s.plan t.node o) h.runs p run e h.each).entries
 
-  entries_fit : ((form : Form) → MapFits s t.node o form → HasRuns s t.node o form) → (p : ℕ)
+  entries_fit : ((j : ℕ) (form : Form) → MapFits s t.node o j form → HasRuns s t.node o form) → (p : ℕ)
       → AllByRecursion (EntryFits s.plan t.node o) (flat_map (entries_at p) (outs_at outs t.wave))
   entries_fit runs p =
       each-flat_map (EntryFits s.plan t.node o) (entries_at p) (outs_at outs t.wave)
-      (each_weaker (λ out. MapFits s t.node o out.form) _ (λ out h. of_runs p out (runs out.form h)) (outs_at outs t.wave) maps_fit)
+      (each_weaker FitsThere _ (λ out h. of_runs p out (runs h.0 out.form h.1)) (outs_at outs t.wave) maps_fit)
 
 -- the rows of a LIMIT's tasks
 rows_fit : (found : Option RowKinds) (outs : List TaskOut) → AllByRecursion (λ out. HasRows found out.form) outs
@@ -340,7 +351,7 @@ rows_fit found outs h =
     of_found (λ ks. Each ks (flat_map (λ out. rows_in out.form) outs)) found
     (λ ks known. each-flat_map (λ row. IsRowOf row ks) (λ out. rows_in out.form) outs
     (each_weaker (λ out. HasRows found out.form) _
-    (λ out g. subst (λ form. Each ks (rows_in form)) (sym g.is) (rows_of_each ks g.rows (g.kinds ks known))) outs h))
+    (λ out g. found_is (λ ls. Each ls (rows_in out.form)) found ks known (rows_have found out.form g)) outs h))
 
 module _ (functions : FunctionsKeepKinds) (s : Stages) (valid : IsPlan s.plan) (t : ReduceTask) (outs : Outs) (has : HasWave s outs t) (form : Form) where
   abbrev entries : List Entry
@@ -353,29 +364,32 @@ module _ (functions : FunctionsKeepKinds) (s : Stages) (valid : IsPlan s.plan) (
       same_given s.plan valid t.node input (p_limit input count) at (none_folds_at s.plan t.node (p_limit input count) at refl) refl in
       subst (λ found. HasRows found form) (sym given)
       (keeps_fit (kinds_at s.plan input) (is_sorted s.plan input) count (flat_map (λ out. rows_in out.form) (outs_at outs t.wave)) form
-      (rows_fit (kinds_at s.plan input) (outs_at outs t.wave) (maps_fit s t (p_limit input count) at reduces outs has)) is)
+      (rows_fit (kinds_at s.plan input) (outs_at outs t.wave)
+      (each_weaker (FitsThere s t (p_limit input count) at reduces outs has) (λ out. HasRows (kinds_at s.plan input) out.form) (λ out h. h.1)
+      (outs_at outs t.wave) (maps_fit s t (p_limit input count) at reduces outs has))) is)
 
   node_fits : (o : PlanOp) → op_at s.plan t.node ≡ Some o → Reduces s t o → IsReduceForm s t.node o (outs_at outs t.wave) t.part form
       → HasRows (kinds_brought s.plan t.node o) form
   node_fits (p_limit input count) at reduces is = limit_fits input count at reduces is
   node_fits (p_group_all input) at reduces is =
       reduced_fit functions s.plan valid t.node entries (p_group_all input) at reduces.here refl (λ i n e. absurd (cc))
-      (entries_fit s t (p_group_all input) at reduces outs has (λ f h. h) t.part) form is
+      (entries_fit s t (p_group_all input) at reduces outs has (λ j f h. h) t.part) form is
   node_fits (p_group inputs) at reduces is =
       reduced_fit functions s.plan valid t.node entries (p_group inputs) at reduces.here refl (λ i n e. absurd (cc))
-      (entries_fit s t (p_group inputs) at reduces outs has (λ f h. h) t.part) form is
-  node_fits (p_join inputs side replicated) at reduces is =
-      reduced_fit functions s.plan valid t.node entries (p_join inputs side replicated) at reduces.here refl (λ i n e. absurd (cc))
-      (entries_fit s t (p_join inputs side replicated) at reduces outs has (λ f h. h) t.part) form is
+      (entries_fit s t (p_group inputs) at reduces outs has (λ j f h. h) t.part) form is
+  node_fits (p_join inputs side true) at reduces is = absurd (true≢false reduces.by_key)
+  node_fits (p_join inputs side false) at reduces is =
+      reduced_fit functions s.plan valid t.node entries (p_join inputs side false) at reduces.here refl (λ i n e. absurd (cc))
+      (entries_fit s t (p_join inputs side false) at reduces outs has (λ j f h. h) t.part) form is
   node_fits (p_distinct input) at reduces is =
       reduced_fit functions s.plan valid t.node entries (p_distinct input) at reduces.here refl (λ i n e. absurd (cc))
-      (entries_fit s t (p_distinct input) at reduces outs has (λ f h. h) t.part) form is
+      (entries_fit s t (p_distinct input) at reduces outs has (λ j f h. h) t.part) form is
   node_fits (p_order input keys) at reduces is =
       reduced_fit functions s.plan valid t.node entries (p_order input keys) at reduces.here refl (λ i n e. absurd (cc))
-      (entries_fit s t (p_order input keys) at reduces outs has (λ f h. h) t.part) form is
+      (entries_fit s t (p_order input keys) at reduces outs has (λ j f h. h) t.part) form is
   node_fits (p_rank input keys dense) at reduces is =
       rank_fits functions s.plan valid t.node entries input keys dense at
-      (entries_fit s t (p_rank input keys dense) at reduces outs has (λ f h. h) t.part) form is
+      (entries_fit s t (p_rank input keys dense) at reduces outs has (λ j f h. h) t.part) form is
   node_fits (p_load path delim columns) at reduces is = absurd (true≢false (sym reduces.here))
   node_fits (p_filter input test) at reduces is = absurd (true≢false (sym reduces.here))
   node_fits (p_foreach input block) at reduces is = absurd (true≢false (sym reduces.here))

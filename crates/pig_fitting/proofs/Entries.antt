@@ -1,7 +1,7 @@
 -- The entries of rows of an input's kinds fit their node.
 use Rattle.std.specs.Prelude.{◌≡◌, ℕ, zero, suc, Bool, true, false, not, List, [], ◌∷◌, length, map, Option, Some, None, slice_get, nat_lt, refl}
 use Rattle.std.proofs.Common.{ap, sym, ◌∙◌, subst, cond, true≢false}
-use Rattle.std.specs.List.{cons_option, filter_map}
+use Rattle.std.specs.List.{AllByRecursion, cons_option, filter_map}
 use Rattle.std.specs.Option.{is_some, option_and_then, option_map, option_map_or}
 use Rattle.std.proofs.lemmas.Option.{slice_get_within}
 use Rattle.pig_value.specs.Gathering.{Entry}
@@ -9,7 +9,7 @@ use Rattle.pig_value.specs.Kinds.{IsOf, IsRowOf, has_bag_or_map}
 use Rattle.pig_value.specs.Trees.{KindTree, Tree, at, fields_of, k_tuple, kinds_of, v_tuple}
 use Rattle.pig_value.proofs.OfRead.{OfRead, of_made}
 use Rattle.pig_value.proofs.list_laws.Indexing.{get_map}
-use Rattle.pig_value.proofs.list_laws.Listing.{some_same}
+use Rattle.pig_value.proofs.list_laws.Listing.{each-map, each_weaker, some_same}
 use Rattle.pig_typed.specs.declared.blocks.SortKey.{SortKey}
 use Rattle.pig_typed.specs.BlockKinds.{are_keys, is_key}
 use Rattle.pig_typed.specs.Premises.{FunctionsKeepKinds}
@@ -18,7 +18,7 @@ use Rattle.pig_typed.proofs.KindsKept.{at_kept}
 use Rattle.pig_algebra.specs.Combining.{parts_of_rows}
 use Rattle.pig_plan.proofs.OfKinds.{Agree, Each, all_are, keyed_entries_are}
 use Rattle.pig_plan.specs.ByKey.{key_of}
-use Rattle.pig_plan.specs.Entries.{key_at, keyed_at, sort_key_of}
+use Rattle.pig_plan.specs.Entries.{entries_of, key_at, keyed_at, sort_key_of}
 use Rattle.pig_plan.specs.NodeKinds.{Before, KeyedKinds, RowKinds, group_kind, is_sorting, keyed_kinds, keys_agree, kinds_at, node_gives, only_if}
 use Rattle.pig_plan.specs.Nodes.{inputs_of}
 use Rattle.pig_plan.specs.Operators.{key_fields, keys_of}
@@ -191,3 +191,12 @@ module _ (functions : FunctionsKeepKinds) (plan : Plan) (k : ℕ) (row : List Tr
     row = entry_row o none e;
     gives = λ ks found. entry_gives o ks none;
   }
+
+-- the entries of all rows of an input
+pub entries_fit : (functions : FunctionsKeepKinds) (plan : Plan) (k i from : ℕ) (rows : List (List Tree))
+    → AllByRecursion (λ row. OfRead (IsRowOf row) (kinds_at plan from)) rows
+    → (o : PlanOp) → is_some (node_gives (kinds_at plan) o) ≡ true → combining plan k o ≡ None → slice_get (inputs_of o) i ≡ Some from
+    → AllByRecursion (EntryFits plan k o) (entries_of o i rows)
+entries_fit functions plan k i from rows each o some none e =
+    each-map (EntryFits plan k o) (λ row. record { key = key_at o i row; input = i; row = row }) rows
+    (each_weaker (λ row. OfRead (IsRowOf row) (kinds_at plan from)) _ (λ row is. entry_fits functions plan k row i from is o some none e) rows each)

@@ -1,9 +1,9 @@
 -- What a map or store task makes of rows of its source's kinds fits it.
-use Rattle.std.specs.Prelude.{◌≡◌, ◌==◌, ⊤, ℕ, zero, suc, Bool, true, false, List, [], ◌∷◌, length, Option, Some, None, slice_get, refl}
-use Rattle.std.proofs.Common.{ap, sym, ◌∙◌, inl, inr, subst, true≢false}
+use Rattle.std.specs.Prelude.{◌≡◌, ◌==◌, ℕ, zero, suc, true, false, List, [], ◌∷◌, length, Option, Some, None, slice_get, refl}
+use Rattle.std.proofs.Common.{ap, sym, ◌∙◌, inl, subst, true≢false}
 use Rattle.std.specs.List.{AllByRecursion, range_with_len}
-use Rattle.std.specs.Option.{option_map, option_map_or}
-use Rattle.std.proofs.lemmas.Bool.{cases_Bool, eq-eqb}
+use Rattle.std.specs.Option.{option_and_then, option_map, option_map_or}
+use Rattle.std.proofs.lemmas.Bool.{eq-eqb}
 use Rattle.std.proofs.lemmas.List.{length-map}
 use Rattle.std.proofs.lemmas.List.FromFn.{length-range_with_len}
 use Rattle.pig_value.specs.Gathering.{Entry, in_part}
@@ -13,37 +13,39 @@ use Rattle.pig_value.specs.Trees.{Tree}
 use Rattle.pig_value.proofs.KindLaws.{rows_of_from_each}
 use Rattle.pig_value.proofs.OfRead.{OfRead}
 use Rattle.pig_value.proofs.list_laws.Bags.{each-sort}
-use Rattle.pig_value.proofs.list_laws.Listing.{each-filter, each-map, each-take, each_of_all, each_weaker, some_same}
+use Rattle.pig_value.proofs.list_laws.Listing.{each-filter, each-map, each_of_all, some_same}
+use Rattle.pig_value.specs.declared.operators.Side.{Side}
 use Rattle.pig_typed.specs.declared.blocks.SortKey.{SortKey}
 use Rattle.pig_typed.specs.Premises.{FunctionsKeepKinds}
 use Rattle.pig_typed.specs.Typed.{TypedBlock}
 use Rattle.pig_typed.proofs.Found.{found_is}
 use Rattle.pig_algebra.specs.Combining.{PartsFinishToTheRow, combined, parts_of_rows}
-use Rattle.pig_plan.proofs.Meanings.{each_held}
 use Rattle.pig_plan.proofs.OfKinds.{Each}
-use Rattle.pig_plan.specs.Entries.{dirs_of, entries_of, key_at, sort_keys}
-use Rattle.pig_plan.specs.NodeKinds.{RowKinds, kinds_at}
+use Rattle.pig_plan.specs.Entries.{dirs_of, entries_of, sort_keys}
+use Rattle.pig_plan.specs.NodeKinds.{kinds_at}
 use Rattle.pig_plan.specs.Nodes.{inputs_of, is_boundary, is_live, is_sorted, is_store, names, op_at}
-use Rattle.pig_plan.specs.Plans.{Plan, PlanOp, p_load, p_filter, p_foreach, p_group_all, p_group, p_join, p_union, p_distinct, p_order, p_limit, p_store}
+use Rattle.pig_plan.specs.Plans.{Keyed, Plan, PlanOp, p_load, p_filter, p_foreach, p_group_all, p_group, p_join, p_union, p_distinct, p_order, p_limit, p_store}
 use Rattle.pig_plan.specs.Plans.{p_assert, p_rank}
 use Rattle.pig_plan.specs.Steps.{through}
 use Rattle.pig_plan.specs.Valid.{IsPlan}
 use Rattle.pig_runs.specs.Entries.{run_cmp, run_of}
 use Rattle.pig_runs.specs.Parts.{pn}
 use Rattle.pig_physical.specs.Combining.{combining, folds, groups_one}
-use Rattle.pig_physical.specs.Fitting.{EntryFits, HasRows, HasRuns, IsRunCount, MapFits, RunFits}
-use Rattle.pig_physical.specs.Outs.{Form, o_runs}
-use Rattle.pig_physical.specs.Stages.{Stages, ways_into}
-use Rattle.pig_physical.specs.Values.{IsMapForm, Keeps, handed_on, partitions, runs_of, slices}
+use Rattle.pig_physical.specs.Fitting.{EntryFits, HasAll, HasRows, HasRuns, IsRunCount, MapFits, RunFits, replicated_kinds}
+use Rattle.pig_physical.specs.Outs.{Form, Outs, o_runs}
+use Rattle.pig_physical.specs.Stages.{Stages, first_wave, is_replicated, ways_into}
+use Rattle.pig_physical.specs.Values.{IsMapForm, IsReplicatedForm, Keeps, handed_on, partitions, runs_of, slices}
 use Rattle.pig_waves.proofs.Alone.{folds_alone}
 use Rattle.pig_waves.proofs.Among.{Among, any_holds}
 use Rattle.pig_waves.proofs.Folders.{folds_is}
 use Rattle.pig_fitting.specs.Laws.{MapFormFits}
 use Rattle.pig_fitting.proofs.Combined.{all_fits, distinct_fits, one_fits}
-use Rattle.pig_fitting.proofs.Entries.{entry_fits}
-use Rattle.pig_fitting.proofs.Given.{Has, gives_by, given_unfolded, has_given, node_found}
+use Rattle.pig_fitting.proofs.Entries.{entries_fit}
+use Rattle.pig_fitting.proofs.Given.{Has, each_read, gives_by, given_unfolded, has_given, node_found}
 use Rattle.pig_fitting.proofs.Going.{both_hold}
+use Rattle.pig_fitting.proofs.Kept.{keeps_fit}
 use Rattle.pig_fitting.proofs.Parted.{into}
+use Rattle.pig_fitting.proofs.Probed.{probed_fit}
 use Rattle.pig_fitting.proofs.Standing.{Stands, at_node, at_store, task_stands}
 
 -- ---- runs
@@ -99,9 +101,7 @@ module _ (functions : FunctionsKeepKinds) (law : PartsFinishToTheRow) (plan : Pl
         → Fit o (handed_on plan k o (entries_of o i rows))
     open_entries o at e none =
         subst (λ parts. Fit o (option_map_or (λ f. combined f (entries_of o i rows)) parts (entries_of o i rows))) (sym none)
-        (each-map (EntryFits plan k o) (λ row. record { key = key_at o i row; input = i; row = row }) rows
-        (each_weaker (λ row. OfRead (IsRowOf row) (kinds_at plan from)) _
-        (λ row is. entry_fits functions plan k row i from is o (gives_by plan valid k o at) none e) rows each))
+        (entries_fit functions plan k i from rows each o (gives_by plan valid k o at) none e)
 
     first_input : (n j : ℕ) → slice_get (n ∷ []) j ≡ Some from → AllByRecursion (λ row. OfRead (IsRowOf row) (kinds_at plan n)) rows
     first_input n zero e = subst (λ m. AllByRecursion (λ row. OfRead (IsRowOf row) (kinds_at plan m)) rows) (sym (some_same n from e)) each
@@ -151,26 +151,7 @@ module _ (functions : FunctionsKeepKinds) (law : PartsFinishToTheRow) (plan : Pl
     handed_fit (p_assert input test message) at e = by_folds (p_assert input test message) at e refl (folds plan k) refl
     handed_fit (p_rank input keys dense) at e = by_folds (p_rank input keys dense) at e refl (folds plan k) refl
 
--- ---- what a LIMIT keeps
-
-pub keeps_fit : (found : Option RowKinds) (sorted : Bool) (count : ℕ) (rows : List (List Tree)) (form : Form) → Has found rows → Keeps sorted count rows form
-    → HasRows found form
-keeps_fit found sorted count rows form has h = record {
-  rows = h.kept;
-  is = h.is;
-  kinds = λ ks e.
-      let each : Each ks rows = found_is (λ ls. Each ls rows) found ks e has in
-      rows_of_from_each ks h.kept (elim (cases_Bool sorted) [
-        | inl first ↦ subst (Each ks) (sym (h.first first)) (each-take (λ row. IsRowOf row ks) count rows each)
-        | inr some ↦ each_held (λ row. IsRowOf row ks) h.kept rows (h.some some).held each
-      ]);
-}
-
 -- ---- tasks
-
-each_read : (found : Option RowKinds) (rows : List (List Tree)) → Has found rows → AllByRecursion (λ row. OfRead (IsRowOf row) found) rows
-each_read None rows h = each_of_all (λ row. ⊤) (λ row. tt) rows
-each_read (Some ks) rows h = h
 
 -- what a boundary node names does not fold
 pub named_open : (plan : Plan) (k from i : ℕ) (o : PlanOp) → op_at plan k ≡ Some o → is_live plan k ≡ true → is_boundary o ≡ true
@@ -187,8 +168,8 @@ named_open plan k from i o at live here e = by_found (folds plan from) refl
         let is : o ≡ p_foreach from block = sym node.2 ∙ folds_alone plan from block f k node.0 node.1 live named in
         absurd (true≢false (sym here ∙ ap is_boundary is))
 
-module _ (functions : FunctionsKeepKinds) (law : PartsFinishToTheRow) (s : Stages) (valid : IsPlan s.plan) (k : ℕ) (i from : ℕ) (rows : List (List Tree))
-    (has : Has (kinds_at s.plan from) rows) (form : Form) where
+module _ (functions : FunctionsKeepKinds) (law : PartsFinishToTheRow) (s : Stages) (valid : IsPlan s.plan) (outs : Outs) (k : ℕ) (i from : ℕ)
+    (rows : List (List Tree)) (has : Has (kinds_at s.plan from) rows) (form : Form) where
   runs_fit : (o : PlanOp) → op_at s.plan k ≡ Some o → slice_get (inputs_of o) i ≡ Some from
       → form ≡ o_runs (runs_of s.sizing.reducers None o (handed_on s.plan k o (entries_of o i rows))) → HasRuns s k o form
   runs_fit o at e is =
@@ -206,44 +187,57 @@ module _ (functions : FunctionsKeepKinds) (law : PartsFinishToTheRow) (s : Stage
           (subst (λ n. Has (kinds_at s.plan n) rows) (sym (some_same input from g)) has) h
       by_place (suc j) g = absurd (cc)
 
-  node_fits : (o : PlanOp) → op_at s.plan k ≡ Some o → is_boundary o ≡ true → slice_get (inputs_of o) i ≡ Some from → IsMapForm s None k o i rows form
-      → MapFits s k o form
-  node_fits (p_limit input count) at here e is = limit_fits input count e is
-  node_fits (p_group_all input) at here e is = runs_fit (p_group_all input) at e is
-  node_fits (p_group inputs) at here e is = runs_fit (p_group inputs) at e is
-  node_fits (p_join inputs side replicated) at here e is = runs_fit (p_join inputs side replicated) at e is
-  node_fits (p_distinct input) at here e is = runs_fit (p_distinct input) at e is
-  node_fits (p_order input keys) at here e is = runs_fit (p_order input keys) at e is
-  node_fits (p_rank input keys dense) at here e is = runs_fit (p_rank input keys dense) at e is
-  node_fits (p_load path delim columns) at here e is = absurd (true≢false (sym here))
-  node_fits (p_filter input test) at here e is = absurd (true≢false (sym here))
-  node_fits (p_foreach input block) at here e is = absurd (true≢false (sym here))
-  node_fits (p_union inputs) at here e is = absurd (true≢false (sym here))
-  node_fits (p_store input path delim) at here e is = absurd (true≢false (sym here))
-  node_fits (p_assert input test message) at here e is = absurd (true≢false (sym here))
+  -- of a replicated JOIN: joined rows, and those that are copied
+  replicated_fit : (inputs : List Keyed) (side : Side) → op_at s.plan k ≡ Some (p_join inputs side true) → is_live s.plan k ≡ true
+      → (j : ℕ) → slice_get (inputs_of (p_join inputs side true)) j ≡ Some from → (j ≡ 0 → HasAll s outs (first_wave s.plan k))
+      → IsReplicatedForm s outs k (p_join inputs side true) j rows form → HasRows (replicated_kinds s.plan k (p_join inputs side true) j) form
+  replicated_fit inputs side at live zero e copies is = probed_fit functions s valid k inputs side at live outs (copies refl) from e rows has form is
+  replicated_fit inputs side at live (suc j) e copies is = record {
+    rows = rows;
+    is = is;
+    kinds = λ ks known.
+        rows_of_from_each ks rows (found_is (λ ls. Each ls rows) (kinds_at s.plan from) ks (sym (ap (option_and_then (kinds_at s.plan)) e) ∙ known) has);
+  }
 
-store_fits : (s : Stages) (k : ℕ) (o : PlanOp) → is_store o ≡ true → (i : ℕ) (rows : List (List Tree)) (form : Form) → IsMapForm s None k o i rows form
-    → MapFits s k o form
-store_fits s k (p_store input path delim) store i rows form is = record { bytes = rows_text delim rows; is = is }
-store_fits s k (p_load path delim columns) store i rows form is = absurd (true≢false (sym store))
-store_fits s k (p_filter input test) store i rows form is = absurd (true≢false (sym store))
-store_fits s k (p_foreach input block) store i rows form is = absurd (true≢false (sym store))
-store_fits s k (p_group_all input) store i rows form is = absurd (true≢false (sym store))
-store_fits s k (p_group inputs) store i rows form is = absurd (true≢false (sym store))
-store_fits s k (p_join inputs side replicated) store i rows form is = absurd (true≢false (sym store))
-store_fits s k (p_union inputs) store i rows form is = absurd (true≢false (sym store))
-store_fits s k (p_distinct input) store i rows form is = absurd (true≢false (sym store))
-store_fits s k (p_order input keys) store i rows form is = absurd (true≢false (sym store))
-store_fits s k (p_limit input count) store i rows form is = absurd (true≢false (sym store))
-store_fits s k (p_assert input test message) store i rows form is = absurd (true≢false (sym store))
-store_fits s k (p_rank input keys dense) store i rows form is = absurd (true≢false (sym store))
+  node_fits : (o : PlanOp) → op_at s.plan k ≡ Some o → is_live s.plan k ≡ true → is_boundary o ≡ true → slice_get (inputs_of o) i ≡ Some from
+      → (is_replicated o ≡ true → i ≡ 0 → HasAll s outs (first_wave s.plan k)) → IsMapForm s None outs k o i rows form → MapFits s k o i form
+  node_fits (p_limit input count) at live here e copies is = limit_fits input count e is
+  node_fits (p_group_all input) at live here e copies is = runs_fit (p_group_all input) at e is
+  node_fits (p_group inputs) at live here e copies is = runs_fit (p_group inputs) at e is
+  node_fits (p_join inputs side true) at live here e copies is = replicated_fit inputs side at live i e (copies refl) is
+  node_fits (p_join inputs side false) at live here e copies is = runs_fit (p_join inputs side false) at e is
+  node_fits (p_distinct input) at live here e copies is = runs_fit (p_distinct input) at e is
+  node_fits (p_order input keys) at live here e copies is = runs_fit (p_order input keys) at e is
+  node_fits (p_rank input keys dense) at live here e copies is = runs_fit (p_rank input keys dense) at e is
+  node_fits (p_load path delim columns) at live here e copies is = absurd (true≢false (sym here))
+  node_fits (p_filter input test) at live here e copies is = absurd (true≢false (sym here))
+  node_fits (p_foreach input block) at live here e copies is = absurd (true≢false (sym here))
+  node_fits (p_union inputs) at live here e copies is = absurd (true≢false (sym here))
+  node_fits (p_store input path delim) at live here e copies is = absurd (true≢false (sym here))
+  node_fits (p_assert input test message) at live here e copies is = absurd (true≢false (sym here))
+
+store_fits : (s : Stages) (outs : Outs) (k : ℕ) (o : PlanOp) → is_store o ≡ true → (i : ℕ) (rows : List (List Tree)) (form : Form)
+    → IsMapForm s None outs k o i rows form → MapFits s k o i form
+store_fits s outs k (p_store input path delim) store i rows form is = record { bytes = rows_text delim rows; is = is }
+store_fits s outs k (p_load path delim columns) store i rows form is = absurd (true≢false (sym store))
+store_fits s outs k (p_filter input test) store i rows form is = absurd (true≢false (sym store))
+store_fits s outs k (p_foreach input block) store i rows form is = absurd (true≢false (sym store))
+store_fits s outs k (p_group_all input) store i rows form is = absurd (true≢false (sym store))
+store_fits s outs k (p_group inputs) store i rows form is = absurd (true≢false (sym store))
+store_fits s outs k (p_join inputs side replicated) store i rows form is = absurd (true≢false (sym store))
+store_fits s outs k (p_union inputs) store i rows form is = absurd (true≢false (sym store))
+store_fits s outs k (p_distinct input) store i rows form is = absurd (true≢false (sym store))
+store_fits s outs k (p_order input keys) store i rows form is = absurd (true≢false (sym store))
+store_fits s outs k (p_limit input count) store i rows form is = absurd (true≢false (sym store))
+store_fits s outs k (p_assert input test message) store i rows form is = absurd (true≢false (sym store))
+store_fits s outs k (p_rank input keys dense) store i rows form is = absurd (true≢false (sym store))
 
 pub map_forms_fit : FunctionsKeepKinds → PartsFinishToTheRow → MapFormFits
-map_forms_fit functions law s valid w place t stands o at rows given form is = by_stand (task_stands s t w place stands)
+map_forms_fit functions law s valid w place t stands o at outs copies rows given form is = by_stand (task_stands s t w place stands)
   where
-    by_stand : Stands s t → MapFits s t.node o form
+    by_stand : Stands s t → MapFits s t.node o t.way.input form
     by_stand (at_store p found live store way part) =
-        store_fits s t.node o (ap is_store (some_same o p (sym at ∙ found)) ∙ store) t.way.input (through (folds s.plan) s.plan t.way.path.nodes rows) form is
+        store_fits s outs t.node o (ap is_store (some_same o p (sym at ∙ found)) ∙ store) t.way.input (through (folds s.plan) s.plan t.way.path.nodes rows) form is
     by_stand (at_node p found live here way part) =
         let same : p ≡ o = some_same p o (sym found ∙ at) in
         let boundary : is_boundary o ≡ true = ap is_boundary (sym same) ∙ here in
@@ -252,4 +246,5 @@ map_forms_fit functions law s valid w place t stands o at rows given form is = b
         let goes : Has (kinds_at s.plan to.from) (through (folds s.plan) s.plan t.way.path.nodes rows) =
         subst (λ found_. Has found_ (through (folds s.plan) s.plan t.way.path.nodes rows)) (given_unfolded s.plan to.from none)
         ((to.on).goes rows (has_given s.plan t.way.path.source rows given)) in
-        node_fits functions law s valid t.node t.way.input to.from (through (folds s.plan) s.plan t.way.path.nodes rows) goes form o at boundary to.at is
+        node_fits functions law s valid outs t.node t.way.input to.from (through (folds s.plan) s.plan t.way.path.nodes rows) goes form o at live boundary
+        to.at (copies o at) is

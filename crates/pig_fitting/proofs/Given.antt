@@ -1,16 +1,17 @@
 -- The kinds that a plan gives a node are what its operator gives by those of its inputs.
 use Rattle.std.specs.Prelude.{◌≡◌, ◌<◌, ◌≤◌, ◌&&◌, ℕ, zero, suc, Bool, true, false, not, List, [], ◌∷◌, ◌++◌, length, map, take, drop, Option, Some, None}
-use Rattle.std.specs.Prelude.{slice_get, refl}
-use Rattle.std.proofs.Common.{ap, sym, ◌∙◌, arith, append-nil, append_assoc}
+use Rattle.std.specs.Prelude.{slice_get, refl, ⊤}
+use Rattle.std.proofs.Common.{ap, sym, ◌∙◌, arith, append-nil, append_assoc, subst}
 use Rattle.std.specs.List.{AllByRecursion, flat_map, list_all}
 use Rattle.std.specs.Option.{is_some, option_and_then, option_map, option_map_or, unwrap_or}
 use Rattle.std.proofs.lemmas.Option.{slice_get_within}
 use Rattle.pig_value.specs.FieldReader.{all_of}
+use Rattle.pig_value.specs.Kinds.{IsRowOf}
 use Rattle.pig_value.specs.Results.{◌>>=◌}
 use Rattle.pig_value.specs.Trees.{Tree}
 use Rattle.pig_value.proofs.KindLaws.{rows_of_each, rows_of_from_each}
 use Rattle.pig_value.proofs.OfRead.{OfRead}
-use Rattle.pig_value.proofs.list_laws.Listing.{each_weaker, some_same}
+use Rattle.pig_value.proofs.list_laws.Listing.{each_of_all, each_weaker, some_same}
 use Rattle.pig_typed.proofs.Found.{found_is, of_found}
 use Rattle.pig_typed.specs.BlockKinds.{row_kinds}
 use Rattle.pig_plan.proofs.Lower.{names_lower}
@@ -24,7 +25,8 @@ use Rattle.pig_plan.specs.Plans.{p_limit, p_store, p_assert, p_rank}
 use Rattle.pig_plan.specs.Results.{at_place, results, results_behind}
 use Rattle.pig_plan.specs.Valid.{IsPlan}
 use Rattle.pig_physical.specs.Combining.{folds}
-use Rattle.pig_physical.specs.Fitting.{given_kinds}
+use Rattle.pig_physical.specs.Fitting.{HasRows, given_kinds}
+use Rattle.pig_physical.specs.Outs.{Form, rows_in}
 use Rattle.pig_fitting.specs.Laws.{AreGiven}
 
 -- ---- rows of kinds, where these are known
@@ -37,6 +39,14 @@ has_given plan k rows h = of_found (λ ks. Each ks rows) (given_kinds plan k) (�
 
 pub given_has : (plan : Plan) (k : ℕ) (rows : List (List Tree)) → Has (given_kinds plan k) rows → AreGiven plan k rows
 given_has plan k rows h = λ ks is. rows_of_from_each ks rows (found_is (λ ls. Each ls rows) (given_kinds plan k) ks is h)
+
+pub rows_have : (found : Option RowKinds) (form : Form) → HasRows found form → Has found (rows_in form)
+rows_have found form h =
+    subst (λ f. Has found (rows_in f)) (sym h.is) (of_found (λ ks. Each ks h.rows) found (λ ks is. rows_of_each ks h.rows (h.kinds ks is)))
+
+pub each_read : (found : Option RowKinds) (rows : List (List Tree)) → Has found rows → AllByRecursion (λ row. OfRead (IsRowOf row) found) rows
+each_read None rows h = each_of_all (λ row. ⊤) (λ row. tt) rows
+each_read (Some ks) rows h = h
 
 -- what is given for sure
 pub given_of : (given : NodeGives) (rows : List (List Tree)) → OfRead (λ found. Has found rows) given → Has (unwrap_or given None) rows

@@ -5,7 +5,9 @@ pub mod Standing
 mod Parted
 mod Entries
 mod Combined
-mod Formed
+mod Kept
 mod Finishing
 mod Brought
+mod Probed
+mod Formed
 mod Ranked

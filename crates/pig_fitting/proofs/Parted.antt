@@ -3,20 +3,18 @@ use Rattle.std.specs.Prelude.{◌≡◌, ◌<◌, ◌+◌, ◌==◌, ℕ, zero, 
 use Rattle.std.proofs.Common.{ap, sym, ◌∙◌, arith, subst, true≢false}
 use Rattle.std.specs.List.{filter, range_with_len}
 use Rattle.std.specs.Option.{option_and_then, option_map, option_map_or}
-use Rattle.std.proofs.lemmas.Bool.{eq-eqb}
+use Rattle.std.proofs.lemmas.Bool.{eq-eqb, eqb-true}
 use Rattle.std.proofs.lemmas.Option.{slice_get_within}
 use Rattle.pig_storage.specs.declared.splits.Split.{Split}
 use Rattle.pig_storage.specs.Splits.{splits_of}
-use Rattle.pig_value.proofs.KindLaws.{rows_of_each}
 use Rattle.pig_value.proofs.list_laws.Indexing.{get_map, some_at}
 use Rattle.pig_value.proofs.list_laws.Listing.{each_at, some_same}
+use Rattle.pig_value.specs.declared.operators.Side.{Side}
 use Rattle.pig_typed.specs.Premises.{FunctionsKeepKinds}
-use Rattle.pig_typed.proofs.Found.{of_found}
 use Rattle.pig_plan.proofs.Lower.{names_lower}
 use Rattle.pig_plan.proofs.Meanings.{live_input}
-use Rattle.pig_plan.proofs.OfKinds.{Each}
 use Rattle.pig_plan.specs.Nodes.{Entering, entering, inputs_of, is_boundary, is_live, is_source, op_at, paths_of}
-use Rattle.pig_plan.specs.Plans.{Plan, PlanOp, p_load, p_filter, p_foreach, p_group_all, p_group, p_join, p_union, p_distinct, p_order, p_limit, p_store}
+use Rattle.pig_plan.specs.Plans.{Keyed, Plan, PlanOp, p_load, p_filter, p_foreach, p_group_all, p_group, p_join, p_union, p_distinct, p_order, p_limit, p_store}
 use Rattle.pig_plan.specs.Plans.{p_assert, p_rank}
 use Rattle.pig_plan.specs.Valid.{IsPlan}
 use Rattle.pig_physical.specs.declared.parts.Part.{Part}
@@ -24,16 +22,16 @@ use Rattle.pig_physical.specs.declared.parts.Part.TheVariants as parts
 use Rattle.pig_physical.specs.declared.parts.ReduceTask.{ReduceTask}
 use Rattle.pig_physical.specs.declared.waves.WaveKind.{WaveKind}
 use Rattle.pig_physical.specs.declared.waves.WaveKind.TheVariants as kinds
-use Rattle.pig_physical.specs.Fitting.{Fits, HasOutput, HasPart, HasRows, HasRuns, MapFits, brought_kinds, given_kinds, kinds_brought}
+use Rattle.pig_physical.specs.Fitting.{Fits, HasOutput, HasPart, HasRows, MapFits, brought_kinds, given_kinds, kinds_brought, replicated_kinds}
 use Rattle.pig_physical.specs.Outs.{Outs, TaskOut, rows_at, rows_in}
 use Rattle.pig_physical.specs.Stages.{MapTask, Stages, Task, enters_first, first_wave, head_of, last_wave, map_tasks, partition_tasks, parts_at, parts_of}
-use Rattle.pig_physical.specs.Stages.{reduce_count, t_map, t_rank, t_reduce, tasks_by, tasks_in, tasks_of, waves_of, ways_into}
+use Rattle.pig_physical.specs.Stages.{output_count, reduce_count, t_map, t_rank, t_reduce, tasks_by, tasks_in, tasks_of, waves_of, ways_into}
 use Rattle.pig_waves.proofs.Among.{Among, any_holds, mapped_from}
 use Rattle.pig_waves.proofs.Heads.{head_at}
 use Rattle.pig_fitting.specs.Laws.{PartFits}
-use Rattle.pig_fitting.proofs.Given.{Has, given_has, node_found}
+use Rattle.pig_fitting.proofs.Given.{Has, given_has, node_found, rows_have}
 use Rattle.pig_fitting.proofs.Going.{IsWay, ways_are}
-use Rattle.pig_fitting.proofs.Standing.{Stands, among_filtered, at_node, at_store, enters, on_ways, task_stands}
+use Rattle.pig_fitting.proofs.Standing.{Stands, among_filtered, at_node, at_store, enters, on_ways, passes_there, task_stands}
 
 -- ---- the way of a task
 
@@ -81,10 +79,10 @@ wave_in other (parts.Output wave at) = wave
 wave_in other (parts.Split split) = other
 
 module _ (s : Stages) (k wave part : ℕ) where
-  of_node : (o : PlanOp) → Among (parts.Output wave part) (map (parts.Output (last_wave s.plan k o)) (range_with_len 0 (reduce_count s.sizing.reducers o)))
+  of_node : (o : PlanOp) → Among (parts.Output wave part) (map (parts.Output (last_wave s.plan k o)) (range_with_len 0 (output_count s o)))
       → wave ≡ last_wave s.plan k o
   of_node o h =
-      let from = mapped_from (parts.Output (last_wave s.plan k o)) (range_with_len 0 (reduce_count s.sizing.reducers o)) (parts.Output wave part) h in
+      let from = mapped_from (parts.Output (last_wave s.plan k o)) (range_with_len 0 (output_count s o)) (parts.Output wave part) h in
       sym (ap (wave_in wave) from.is)
 
   of_load : (splits : List Split) → Among (parts.Output wave part) (map parts.Split splits) → ⊥
@@ -106,7 +104,7 @@ module _ (s : Stages) (k wave part : ℕ) where
   last_of (p_assert input test message) h among = absurd (true≢false (sym h))
 
 module _ (s : Stages) (k : ℕ) (o : PlanOp) (at : op_at s.plan k ≡ Some o) (live : is_live s.plan k ≡ true) (here : is_boundary o ≡ true) where
-  wave_tasks : (j : ℕ) (kind : WaveKind) → slice_get (waves_of o) j ≡ Some kind
+  pub wave_tasks : (j : ℕ) (kind : WaveKind) → slice_get (waves_of o) j ≡ Some kind
       → tasks_in s (first_wave s.plan k + j) ≡ tasks_by s (first_wave s.plan k + j) kind k o
   wave_tasks j kind own =
       ap (λ found. option_map_or (tasks_of s (first_wave s.plan k + j)) found [])
@@ -120,10 +118,7 @@ module _ (s : Stages) (k : ℕ) (o : PlanOp) (at : op_at s.plan k ≡ Some o) (l
     HasGiven = Has (given_kinds s.plan k) (rows_in out.form)
 
     of_rows : (n : ℕ) → n ≡ k → HasRows (given_kinds s.plan n) out.form → HasGiven
-    of_rows n is h =
-        subst (λ m. Has (given_kinds s.plan m) (rows_in out.form)) is
-        (subst (λ form. Has (given_kinds s.plan n) (rows_in form)) (sym h.is)
-        (of_found (λ ks. Each ks h.rows) (given_kinds s.plan n) (λ ks found. rows_of_each ks h.rows (h.kinds ks found))))
+    of_rows n is h = subst (λ m. Has (given_kinds s.plan m) (rows_in out.form)) is (rows_have (given_kinds s.plan n) out.form h)
 
     on_node : (w : ℕ) (t : ReduceTask) → Among t (partition_tasks s w k o) → t.node ≡ k
     on_node w t among =
@@ -145,24 +140,25 @@ module _ (s : Stages) (k : ℕ) (o : PlanOp) (at : op_at s.plan k ≡ Some o) (l
         let from = mapped_from t_rank (partition_tasks s w k o) task among in
         of_rows (from.x).node (on_node w from.x from.among) (subst (λ u. Fits s u out) (sym from.is) fits)
 
-    -- runs are no rows
-    no_rows : (n : ℕ) → HasRuns s n o out.form → HasGiven
-    no_rows n h = subst (λ form. Has (given_kinds s.plan k) (rows_in form)) (sym h.is) (of_found (λ ks. Each ks []) (given_kinds s.plan k) (λ ks found. tt))
-
   in_wave : (wave place j : ℕ) (kind : WaveKind) → wave ≡ first_wave s.plan k + j → slice_get (waves_of o) j ≡ Some kind → (task : Task)
       → slice_get (tasks_in s wave) place ≡ Some task
       → Among task (tasks_by s (first_wave s.plan k + j) kind k o)
   in_wave wave place j kind is own task stands =
       record { at = place; is = ap (λ ts. slice_get ts place) (sym (ap (tasks_in s) is ∙ wave_tasks j kind own)) ∙ stands }
 
-  -- those of tasks that read a way are runs, where the node hands on such
-  of_probes : (task : Task) (out : TaskOut) → Fits s task out
-      → ((n : ℕ) → op_at s.plan n ≡ Some o → ((p : PlanOp) → op_at s.plan n ≡ Some p → MapFits s n p out.form) → HasRuns s n o out.form)
-      → Among task (map t_map (filter enters_first (map_tasks s k o))) → Has (given_kinds s.plan k) (rows_in out.form)
-  of_probes task out fits runs among =
-      let from = mapped_from t_map (filter enters_first (map_tasks s k o)) task among in
-      let on = on_ways s k (ways_into s.plan o) from.x (among_filtered enters_first (map_tasks s k o) from.x from.among) in
-      no_rows task out fits (from.x).node (runs (from.x).node (ap (op_at s.plan) on.node ∙ at) (subst (λ u. Fits s u out) (sym from.is) fits))
+-- those of tasks that probe copies
+of_probes : (s : Stages) (k : ℕ) (inputs : List Keyed) (side : Side) → op_at s.plan k ≡ Some (p_join inputs side true) → (task : Task) (out : TaskOut)
+    → Fits s task out → Among task (map t_map (filter enters_first (map_tasks s k (p_join inputs side true)))) → Has (given_kinds s.plan k) (rows_in out.form)
+of_probes s k inputs side at task out fits among =
+    let o : PlanOp = p_join inputs side true in
+    let from = mapped_from t_map (filter enters_first (map_tasks s k o)) task among in
+    let on = on_ways s k (ways_into s.plan o) from.x (among_filtered enters_first (map_tasks s k o) from.x from.among) in
+    let first : (from.x).way.input ≡ 0 = eqb-true (from.x).way.input 0 (passes_there enters_first (map_tasks s k o) from.x from.among) in
+    let own : MapFits s (from.x).node o (from.x).way.input out.form =
+    subst (λ u. Fits s u out) (sym from.is) fits o (ap (op_at s.plan) on.node ∙ at) in
+    subst (λ n. Has (given_kinds s.plan n) (rows_in out.form)) on.node
+    (rows_have (given_kinds s.plan (from.x).node) out.form
+    (subst (λ i. HasRows (replicated_kinds s.plan (from.x).node o i) out.form) first own))
 
 last_fits : (s : Stages) (k : ℕ) (o : PlanOp) → op_at s.plan k ≡ Some o → is_live s.plan k ≡ true → is_boundary o ≡ true → (wave place : ℕ)
     → wave ≡ last_wave s.plan k o
@@ -176,7 +172,7 @@ last_fits s k (p_join inputs side false) at live here wave place is task out sta
     of_reduces s k (p_join inputs side false) at live here task out fits refl _
     (in_wave s k (p_join inputs side false) at live here wave place 1 kinds.Reduce is refl task stands)
 last_fits s k (p_join inputs side true) at live here wave place is task out stands fits =
-    of_probes s k (p_join inputs side true) at live here task out fits (λ n found h. h (p_join inputs side true) found)
+    of_probes s k inputs side at task out fits
     (in_wave s k (p_join inputs side true) at live here wave place 1 kinds.Probe is refl task stands)
 last_fits s k (p_distinct input) at live here wave place is task out stands fits =
     of_reduces s k (p_distinct input) at live here task out fits refl _ (in_wave s k (p_distinct input) at live here wave place 1 kinds.Reduce is refl task stands)

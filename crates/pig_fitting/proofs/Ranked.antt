@@ -1,12 +1,11 @@
 -- What a rank task makes of a partition that fits is rows of the kinds of its node.
-use Rattle.std.specs.Prelude.{◌≡◌, ◌<◌, ◌-◌, ℕ, Bool, true, false, List, [], ◌∷◌, map, Option, Some, None, slice_get, refl}
+use Rattle.std.specs.Prelude.{◌≡◌, ◌-◌, ℕ, Bool, true, List, [], ◌∷◌, map, Option, Some, None, slice_get, refl}
 use Rattle.std.proofs.Common.{ap, sym, ◌∙◌, arith, subst, true≢false}
 use Rattle.std.specs.Option.{option_and_then, option_map_or}
 use Rattle.std.proofs.lemmas.Option.{slice_get_within}
 use Rattle.pig_value.specs.Kinds.{IsRowOf}
 use Rattle.pig_value.specs.Trees.{Tree, k_long}
 use Rattle.pig_value.proofs.KindLaws.{rows_of_each, rows_of_from_each}
-use Rattle.pig_value.proofs.OfRead.{OfRead}
 use Rattle.pig_value.proofs.list_laws.Listing.{some_same}
 use Rattle.pig_typed.specs.declared.blocks.SortKey.{SortKey}
 use Rattle.pig_typed.proofs.Found.{found_is, of_found, tested, then_found}
@@ -18,13 +17,13 @@ use Rattle.pig_plan.specs.Plans.{p_store, p_assert, p_rank}
 use Rattle.pig_plan.specs.Valid.{IsPlan}
 use Rattle.pig_physical.specs.Fitting.{Fits, HasAll, HasOutput, HasRows, brought_kinds, given_kinds, kinds_brought}
 use Rattle.pig_physical.specs.Outs.{Outs, TaskOut, o_rows, outs_at, rows_in}
-use Rattle.pig_physical.specs.Stages.{Stages, Task, partition_tasks, reduce_count, t_reduce, tasks_in}
+use Rattle.pig_physical.specs.Stages.{Stages, partition_tasks, t_reduce, tasks_in}
 use Rattle.pig_physical.specs.Values.{rows_of_part}
 use Rattle.pig_physical.specs.declared.parts.ReduceTask.{ReduceTask}
-use Rattle.pig_waves.proofs.Among.{Among, mapped_from}
+use Rattle.pig_waves.proofs.Among.{mapped_from}
 use Rattle.pig_waves.proofs.Folders.{none_folds_at}
 use Rattle.pig_waves.specs.Laws.{ranks}
-use Rattle.pig_rank.specs.Ranks.{AreBehindLongs, IsBehindLong}
+use Rattle.pig_rank.specs.Ranks.{AreBehindLongs}
 use Rattle.pig_fitting.specs.Laws.{RankFormFits}
 use Rattle.pig_fitting.proofs.Given.{Has, given_of, given_unfolded, kinds_by}
 use Rattle.pig_fitting.proofs.Standing.{in_partition, ranks_alone, ranks_at}

@@ -12,7 +12,7 @@ use Rattle.pig_physical.specs.declared.parts.ReduceTask.{ReduceTask}
 use Rattle.pig_physical.specs.declared.waves.WaveHead.{WaveHead}
 use Rattle.pig_physical.specs.declared.waves.WaveKind.{WaveKind}
 use Rattle.pig_physical.specs.declared.waves.WaveKind.TheVariants as kinds
-use Rattle.pig_physical.specs.Stages.{MapTask, Stages, Task, boundaries, enters_first, head_of, heads, heads_at, map_tasks, partition_tasks, parts_at}
+use Rattle.pig_physical.specs.Stages.{MapTask, Stages, Task, boundaries, enters_first, head_of, heads, heads_at, is_replicated, map_tasks, partition_tasks, parts_at}
 use Rattle.pig_physical.specs.Stages.{path_tasks, reduce_count, store_tasks, stores, t_map, t_rank, t_reduce, tasks_by, tasks_in, tasks_of, tasks_on, waves_of}
 use Rattle.pig_physical.specs.Stages.{ways_into, ways_to}
 use Rattle.pig_waves.proofs.Among.{Among, Side, among_first, among_later, behind, in_front, made_of, mapped_from, side_of}
@@ -21,14 +21,14 @@ use Rattle.pig_waves.specs.Laws.{ranks}
 -- ---- elements of lists
 
 module _ {X : Type 0} where
-  all_among : (xs : List X) → AllByRecursion (λ x. Among x xs) xs
+  pub all_among : (xs : List X) → AllByRecursion (λ x. Among x xs) xs
   all_among [] = tt
   all_among (x ∷ xs) = (among_first x xs, each_weaker (λ y. Among y xs) (λ y. Among y (x ∷ xs)) (λ y h. among_later y x xs h) xs (all_among xs))
 
   pub among_filtered : (p : X → Bool) (xs : List X) (x : X) → Among x (filter p xs) → Among x xs
   among_filtered p xs x h = each_at (λ y. Among y xs) (filter p xs) h.at x h.is (each-filter p (λ y. Among y xs) xs (all_among xs))
 
-  passes_there : (p : X → Bool) (xs : List X) (x : X) → Among x (filter p xs) → p x ≡ true
+  pub passes_there : (p : X → Bool) (xs : List X) (x : X) → Among x (filter p xs) → p x ≡ true
   passes_there p xs x h = each_at (λ y. p y ≡ true) (filter p xs) h.at x h.is (each_filtered p xs)
 
   among_taken : (n : ℕ) (xs : List X) (x : X) → Among x (take n xs) → Among x xs
@@ -57,7 +57,7 @@ pub record IsLive (plan : Plan) (test : PlanOp → Bool) (k : ℕ) : Type 0 wher
   pub live : is_live plan k ≡ true
   pub is : test op ≡ true
 
-among_live : (plan : Plan) (test : PlanOp → Bool) (k : ℕ) → Among k (filter (λ j. option_map_or test (op_at plan j) false) (live plan)) → IsLive plan test k
+pub among_live : (plan : Plan) (test : PlanOp → Bool) (k : ℕ) → Among k (filter (λ j. option_map_or test (op_at plan j) false) (live plan)) → IsLive plan test k
 among_live plan test k h =
     let found = tested_op plan test k (passes_there (λ j. option_map_or test (op_at plan j) false) (live plan) k h) in
     let alive = among_filtered (λ j. option_map_or test (op_at plan j) false) (live plan) k h in
@@ -141,14 +141,14 @@ pub data Stands (s : Stages) (t : MapTask) : Type 0 where
       → Among t.way (ways_to s.plan t.node) → Among t.part (parts_at s t.way.path.source) → Stands s t
 
 -- the only head of a wave, and its node's operator
-record Headed (s : Stages) (w : ℕ) (task : Task) : Type 0 where
+pub record Headed (s : Stages) (w : ℕ) (task : Task) : Type 0 where
   pub head : WaveHead
   pub stands : slice_get (heads s.plan) w ≡ Some head
   pub op : PlanOp
   pub at : op_at s.plan head.node ≡ Some op
   pub among : Among task (tasks_by s w head.kind head.node op)
 
-headed : (s : Stages) (w place : ℕ) (task : Task) → slice_get (tasks_in s w) place ≡ Some task → Headed s w task
+pub headed : (s : Stages) (w place : ℕ) (task : Task) → slice_get (tasks_in s w) place ≡ Some task → Headed s w task
 headed s w place task h = by_head (slice_get (heads s.plan) w) refl h
   where
     by_op : (head : WaveHead) → slice_get (heads s.plan) w ≡ Some head → (found : Option PlanOp) → op_at s.plan head.node ≡ found
@@ -180,10 +180,10 @@ among_reduces ts t h = let from = mapped_from t_reduce ts (t_reduce t) h in subs
 pub among_ranks : (ts : List ReduceTask) (t : ReduceTask) → Among (t_rank t) (map t_rank ts) → Among t ts
 among_ranks ts t h = let from = mapped_from t_rank ts (t_rank t) h in subst (λ u. Among u ts) (ap (partition_in t) from.is) from.among
 
-no_map : (ts : List ReduceTask) (t : MapTask) → Among (t_map t) (map t_reduce ts) → ⊥
+pub no_map : (ts : List ReduceTask) (t : MapTask) → Among (t_map t) (map t_reduce ts) → ⊥
 no_map ts t h = let from = mapped_from t_reduce ts (t_map t) h in let wrong = from.is in absurd (cc)
 
-no_map_ranks : (ts : List ReduceTask) (t : MapTask) → Among (t_map t) (map t_rank ts) → ⊥
+pub no_map_ranks : (ts : List ReduceTask) (t : MapTask) → Among (t_map t) (map t_rank ts) → ⊥
 no_map_ranks ts t h = let from = mapped_from t_rank ts (t_map t) h in let wrong = from.is in absurd (cc)
 
 no_reduce : (ts : List MapTask) (t : ReduceTask) → Among (t_reduce t) (map t_map ts) → ⊥
@@ -410,3 +410,28 @@ ranks_alone (p_order input keys) h = absurd (not_of_two h)
 ranks_alone (p_limit input count) h = absurd (not_of_two h)
 ranks_alone (p_store input path delim) h = absurd (not_of_two h)
 ranks_alone (p_assert input test message) h = absurd (not_of_two h)
+
+none_reduces : Among kinds.Reduce (kinds.Copy ∷ kinds.Probe ∷ []) → ⊥
+none_reduces h = by_place h.at h.is
+  where
+    by_place : (i : ℕ) → slice_get (kinds.Copy ∷ kinds.Probe ∷ []) i ≡ Some kinds.Reduce → ⊥
+    by_place zero wrong = absurd (cc)
+    by_place (suc zero) wrong = absurd (cc)
+    by_place (suc (suc i)) wrong = absurd (cc)
+
+-- that of a reduce task is no replicated JOIN
+pub reduces_alone : (o : PlanOp) → Among kinds.Reduce (waves_of o) → is_replicated o ≡ false
+reduces_alone (p_join inputs side true) h = absurd (none_reduces h)
+reduces_alone (p_join inputs side false) h = refl
+reduces_alone (p_rank input keys dense) h = refl
+reduces_alone (p_load path delim columns) h = refl
+reduces_alone (p_filter input test) h = refl
+reduces_alone (p_foreach input block) h = refl
+reduces_alone (p_group_all input) h = refl
+reduces_alone (p_group inputs) h = refl
+reduces_alone (p_union inputs) h = refl
+reduces_alone (p_distinct input) h = refl
+reduces_alone (p_order input keys) h = refl
+reduces_alone (p_limit input count) h = refl
+reduces_alone (p_store input path delim) h = refl
+reduces_alone (p_assert input test message) h = refl

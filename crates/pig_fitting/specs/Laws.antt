@@ -11,7 +11,7 @@ use Rattle.pig_plan.specs.Steps.{through}
 use Rattle.pig_plan.specs.Valid.{IsPlan}
 use Rattle.pig_rank.specs.Ranks.{AreBehindLongs}
 use Rattle.pig_physical.specs.Combining.{folds}
-use Rattle.pig_physical.specs.Fitting.{HasAll, HasPart, HasRows, HasWave, MapFits, brought_kinds, given_kinds}
+use Rattle.pig_physical.specs.Fitting.{HasAll, HasCopies, HasPart, HasRows, HasWave, MapFits, brought_kinds, given_kinds}
 use Rattle.pig_physical.specs.Outs.{Form, Outs, o_rows, outs_at, rows_at}
 use Rattle.pig_physical.specs.Stages.{MapTask, Stages, t_map, t_rank, t_reduce, tasks_in}
 use Rattle.pig_physical.specs.Values.{IsMapForm, IsReduceForm, rows_of_part}
@@ -34,13 +34,14 @@ PartFits = (s : Stages) → IsPlan s.plan → (w at : ℕ) (t : MapTask) → sli
     → (outs : Outs) → HasPart s outs t.part
     → (wave part : ℕ) → t.part ≡ parts.Output wave part → AreGiven s.plan t.way.path.source (rows_at outs wave part)
 
--- what a map or store task makes of rows of its source, which go its way
+-- what a task that goes a way makes of rows of its source; one that probes joins them with copies, which fit
 abbrev pub MapFormFits : Type 0
 MapFormFits = (s : Stages) → IsPlan s.plan → (w at : ℕ) (t : MapTask) → slice_get (tasks_in s w) at ≡ Some (t_map t)
     → (o : PlanOp) → op_at s.plan t.node ≡ Some o
+    → (outs : Outs) → HasCopies s outs t
     → (rows : List (List Tree)) → AreGiven s.plan t.way.path.source rows
-    → (form : Form) → IsMapForm s None t.node o t.way.input (through (folds s.plan) s.plan t.way.path.nodes rows) form
-    → MapFits s t.node o form
+    → (form : Form) → IsMapForm s None outs t.node o t.way.input (through (folds s.plan) s.plan t.way.path.nodes rows) form
+    → MapFits s t.node o t.way.input form
 
 -- What a reduce task brings together of outputs that fit. Of a RANK it is no rows of the node yet, which the tasks of a further
 -- wave give.

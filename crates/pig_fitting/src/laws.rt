@@ -17,7 +17,7 @@ pub fn parts_fit()
 }
 
 /// What a map or store task makes of rows that are of the kinds of its source fits it, whatever
-/// these rows are.
+/// these rows are; of a task that joins them with copies, where these fit, too.
 pub fn map_forms_fit()
     ensures { MapFormFits }
 {

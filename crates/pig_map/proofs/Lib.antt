@@ -5,3 +5,6 @@ mod Fitted
 mod Shuffled
 mod Choices
 mod LentRows
+mod Copied
+mod Placed
+mod Sided

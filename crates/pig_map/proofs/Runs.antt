@@ -1,5 +1,5 @@
 -- What became of a task's rows: of its part, through its path, in the form in which it hands them on.
-use Rattle.std.specs.Prelude.{◌≡◌, ◌≤◌, ◌+◌, ℕ, Bool, List, [], length, take, drop, slice_get, unwrap_or, Option, Some, None, Result, IfOk, IfSome, refl}
+use Rattle.std.specs.Prelude.{◌≡◌, ◌≤◌, ◌+◌, ℕ, zero, suc, Bool, true, false, List, [], length, take, drop, slice_get, unwrap_or, Option, Some, None, Result, IfOk, IfSome, refl}
 use Rattle.std.specs.Option.{option_map_or}
 use Rattle.std.proofs.Common.{ap, sym, subst, ◌∙◌, arith}
 use Rattle.std.proofs.lemmas.List.{length-take, take-append-drop}
@@ -13,7 +13,7 @@ use Rattle.pig_value.proofs.list_laws.Bags.{times-append}
 use Rattle.pig_value.proofs.list_laws.Listing.{some_same}
 use Rattle.pig_storage.specs.declared.splits.Split.{Split}
 use Rattle.pig_plan.specs.Nodes.{Entering, is_sorted, op_at}
-use Rattle.pig_plan.specs.Plans.{PlanOp, p_limit, p_load, p_store}
+use Rattle.pig_plan.specs.Plans.{PlanOp, p_join, p_limit, p_load, p_store}
 use Rattle.pig_plan.specs.Results.{at_place}
 use Rattle.pig_plan.specs.Steps.{through}
 use Rattle.pig_plan.proofs.Through.{through_none}
@@ -130,25 +130,28 @@ first_are_kept sorted count rows form is = record {
   some = λ e. record { held = λ row. take_times count row rows; size = length-take count rows };
 }
 
-form_is : (s : Stages) (k : ℕ) (o : PlanOp) (i : ℕ) (rows : Rows) (form : Form) → FormBy s k o i rows form (handing_of o) → IsMapForm s None k o i rows form
-form_is s k (p_limit input count) i rows form h = first_are_kept (is_sorted s.plan input) count rows form h
-form_is s k (p_store input path delim) i rows form h = h
-form_is s k o i rows form h = h
+form_is : (s : Stages) (outs : Outs) (k : ℕ) (o : PlanOp) (i : ℕ) (rows : Rows) (form : Form) → FormBy s outs k o i rows form (handing_of o i) → IsMapForm s None outs k o i rows form
+form_is s outs k (p_limit input count) i rows form h = first_are_kept (is_sorted s.plan input) count rows form h
+form_is s outs k (p_store input path delim) i rows form h = h
+form_is s outs k (p_join inputs side true) zero rows form h = h
+form_is s outs k (p_join inputs side true) (suc i) rows form h = h
+form_is s outs k (p_join inputs side false) i rows form h = h
+form_is s outs k o i rows form h = h
 
-pub becomes : (s : Stages) (t : MapTask) (o : PlanOp) (rows : Rows) (form : Form) (handing : Handing) → op_at s.plan t.node ≡ Some o → handing ≡ handing_of o
-    → FormBy s t.node o t.way.input rows form handing → Becomes s t form rows
-becomes s t o rows form handing is by h other at =
-    subst (λ o. IsMapForm s None t.node o t.way.input rows form) (some_same o other (sym is ∙ at))
-    (form_is s t.node o t.way.input rows form (subst (FormBy s t.node o t.way.input rows form) by h))
+pub becomes : (s : Stages) (outs : Outs) (t : MapTask) (o : PlanOp) (rows : Rows) (form : Form) (handing : Handing) → op_at s.plan t.node ≡ Some o → handing ≡ handing_of o t.way.input
+    → FormBy s outs t.node o t.way.input rows form handing → Becomes s outs t form rows
+becomes s outs t o rows form handing is by h other at =
+    subst (λ o. IsMapForm s None outs t.node o t.way.input rows form) (some_same o other (sym is ∙ at))
+    (form_is s outs t.node o t.way.input rows form (subst (FormBy s outs t.node o t.way.input rows form) by h))
 
 -- what a task made for its node's operator, as a call has it
 pub made_by : {E : Type 0} (s : Stages) (told : Option (List Input)) (outs : Outs) (t : MapTask) (o : PlanOp) (handing : Handing)
-    → op_at s.plan t.node ≡ Some o → handing ≡ handing_of o → (r : Result (Option Out) E)
-    → IfOk r (λ found. IfSome found (λ out. HasRun s told outs t (λ rows. FormBy s t.node o t.way.input rows (form_of out.form) handing) out.lines out.unmet))
+    → op_at s.plan t.node ≡ Some o → handing ≡ handing_of o t.way.input → (r : Result (Option Out) E)
+    → IfOk r (λ found. IfSome found (λ out. HasRun s told outs t (λ rows. FormBy s outs t.node o t.way.input rows (form_of out.form) handing) out.lines out.unmet))
     → IfOk r (λ found. IfSome found (λ out. HasMade s told outs t (out_of out)))
 made_by s told outs t o handing is by r h =
     MatchResult-weaker r h
     (λ found some. IfSome_then found some (λ out run.
-    run_as s told outs t (λ rows. FormBy s t.node o t.way.input rows (form_of out.form) handing) (Becomes s t (form_of out.form)) out.lines out.unmet
-    (λ rows form. becomes s t o rows (form_of out.form) handing is by form) run))
+    run_as s told outs t (λ rows. FormBy s outs t.node o t.way.input rows (form_of out.form) handing) (Becomes s outs t (form_of out.form)) out.lines out.unmet
+    (λ rows form. becomes s outs t o rows (form_of out.form) handing is by form) run))
     (λ e none. none)

@@ -2,3 +2,4 @@ pub mod First
 pub mod Reading
 pub mod Making
 pub mod Choosing
+pub mod Copies

@@ -1,5 +1,5 @@
 -- What a task has made of the rows of its part, whatever its host told.
-use Rattle.std.specs.Prelude.{◌≡◌, ℕ, List, [], length, map, take, Option, Some, None}
+use Rattle.std.specs.Prelude.{◌≡◌, ℕ, zero, suc, true, List, [], length, map, take, Option, Some, None}
 use Rattle.std.specs.Ordering.{nat_cmp}
 use Rattle.pig_value.specs.declared.inputs.Column.{Column}
 use Rattle.pig_value.specs.declared.inputs.Input.{Input}
@@ -14,7 +14,7 @@ use Rattle.pig_plan.specs.Asserts.{unmet_on}
 use Rattle.pig_plan.specs.Entries.{entries_of}
 use Rattle.pig_plan.specs.Nodes.{op_at}
 use Rattle.pig_plan.specs.Operators.{pieces_of}
-use Rattle.pig_plan.specs.Plans.{PlanOp, p_limit, p_load, p_store}
+use Rattle.pig_plan.specs.Plans.{PlanOp, p_join, p_limit, p_load, p_store}
 use Rattle.pig_plan.specs.Steps.{through}
 use Rattle.pig_stream.specs.Driving.{IsAll}
 use Rattle.pig_stream.specs.Ranges.{rows_of_lines}
@@ -23,7 +23,7 @@ use Rattle.pig_physical.specs.Combining.{folds}
 use Rattle.pig_physical.specs.Outs.{Form, Outs, TaskOut, o_bytes, o_rows, o_runs, rows_at}
 use Rattle.pig_physical.specs.Seen.{Reads}
 use Rattle.pig_physical.specs.Stages.{MapTask, Stages}
-use Rattle.pig_physical.specs.Values.{IsMapForm, handed_on, lines_of, runs_of, source_lines, source_rows, task_rows, task_unmet}
+use Rattle.pig_physical.specs.Values.{AreAsBag, IsMapForm, handed_on, lines_of, probed_rows, runs_of, source_lines, source_rows, task_rows, task_unmet}
 use Rattle.pig_physical.specs.declared.parts.Part.{Part}
 use Rattle.pig_physical.specs.declared.parts.Part.TheVariants as parts
 use Rattle.pig_map.specs.declared.attempt.Handing.{Handing}
@@ -79,24 +79,31 @@ pub record HasRun (s : Stages) (told : Option (List Input)) (outs : Outs) (t : M
   pub taken : after (through (folds s.plan) s.plan t.way.path.nodes rows)
   pub unmet_are : unmet ≡ sort nat_cmp (unmet_on (folds s.plan) s.plan t.way.path.nodes rows)
 
--- what a node's task hands on, by its operator, and what it then makes of rows
-abbrev pub handing_of : PlanOp → Handing
-handing_of (p_limit input count) = handings.First count
-handing_of (p_store input path delim) = handings.Text delim
-handing_of o = handings.Runs
+-- what a task of the input at a place hands on, by the node's operator, and what it then makes of rows
+abbrev pub joined_handing : ℕ → Handing
+joined_handing zero = handings.Joined
+joined_handing (suc i) = handings.Copied
 
-abbrev pub FormBy : Stages → ℕ → PlanOp → ℕ → List (List Tree) → Form → Handing → Type 0
-FormBy s k o i rows form (handings.First count) = form ≡ o_rows (take count rows)
-FormBy s k o i rows form (handings.Text delim) = form ≡ o_bytes (rows_text delim rows)
-FormBy s k o i rows form handings.Runs = form ≡ o_runs (runs_of s.sizing.reducers None o (handed_on s.plan k o (entries_of o i rows)))
+abbrev pub handing_of : PlanOp → ℕ → Handing
+handing_of (p_limit input count) i = handings.First count
+handing_of (p_store input path delim) i = handings.Text delim
+handing_of (p_join inputs side true) i = joined_handing i
+handing_of o i = handings.Runs
+
+abbrev pub FormBy : Stages → Outs → ℕ → PlanOp → ℕ → List (List Tree) → Form → Handing → Type 0
+FormBy s outs k o i rows form (handings.First count) = form ≡ o_rows (take count rows)
+FormBy s outs k o i rows form (handings.Text delim) = form ≡ o_bytes (rows_text delim rows)
+FormBy s outs k o i rows form handings.Runs = form ≡ o_runs (runs_of s.sizing.reducers None o (handed_on s.plan k o (entries_of o i rows)))
+FormBy s outs k o i rows form handings.Copied = form ≡ o_rows rows
+FormBy s outs k o i rows form handings.Joined = AreAsBag (probed_rows s outs k o rows) form
 
 -- what rows must become in a task of a node
-abbrev pub Becomes : Stages → MapTask → Form → List (List Tree) → Type 0
-Becomes s t form rows = (o : PlanOp) → op_at s.plan t.node ≡ Some o → IsMapForm s None t.node o t.way.input rows form
+abbrev pub Becomes : Stages → Outs → MapTask → Form → List (List Tree) → Type 0
+Becomes s outs t form rows = (o : PlanOp) → op_at s.plan t.node ≡ Some o → IsMapForm s None outs t.node o t.way.input rows form
 
 -- a task has made this of rows of its part
 abbrev pub HasMade : Stages → Option (List Input) → Outs → MapTask → TaskOut → Type 0
-HasMade s told outs t out = HasRun s told outs t (Becomes s t out.form) out.lines out.unmet
+HasMade s told outs t out = HasRun s told outs t (Becomes s outs t out.form) out.lines out.unmet
 
 -- a task's rows, in order
 pub record ArePathRows (s : Stages) (inputs : List Input) (outs : Outs) (t : MapTask) (out : TaskOut) : Type 0 where

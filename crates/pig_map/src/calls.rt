@@ -2,7 +2,7 @@
 ghost use Rattle.std.specs.Prelude.{◌≡◌, ◌≤◌, ◌<◌, List, None, IfOk, IsErrOf};
 ghost use Rattle.std.specs.Option.{ForSome};
 ghost use Rattle.pig_value.specs.declared.inputs.Input.{Input};
-ghost use Rattle.pig_physical.specs.Fitting.{Fits, HasPart};
+ghost use Rattle.pig_physical.specs.Fitting.{Fits, HasPart, HasRead};
 ghost use Rattle.pig_physical.specs.Handed.{out_of, outs_of};
 ghost use Rattle.pig_physical.specs.Seen.{HasSource, IsTaskOf, Reads, map_task_of, staged};
 ghost use Rattle.pig_physical.specs.Stages.{t_map};
@@ -11,6 +11,7 @@ ghost use Rattle.pig_physical.specs.declared.parts.Task.TheVariants as tasks;
 ghost use Rattle.pig_map.specs.Making.{ArePathRows};
 
 use crate::attempt::{attempt_fault, map_attempt, rows_out};
+use crate::copies::sides_before;
 use crate::never::Never;
 use pig_outside::{AttemptFault, Host};
 use pig_physical::{MapTask, Out, Outs, Stages};
@@ -28,7 +29,8 @@ pub fn map_task<H: Host>(
     host: &mut H,
 ) -> Result<Out, AttemptFault>
     requires task { IsTaskOf (staged stages.now) task.now.wave (tasks.Map task.now) }
-    requires prior { HasPart (staged stages.now) (outs_of prior.now) task.now.part }
+    requires prior { HasRead (staged stages.now) (outs_of prior.now)
+        (map_task_of (staged stages.now) task.now) }
     requires host { ForSome (H.inputs host.old)
         (HasSource (staged stages.now) (map_task_of (staged stages.now) task.now)) }
     ensures value { (inputs : List Input) → Reads (H.inputs host.old) task.now.part inputs
@@ -54,7 +56,8 @@ pub fn map_task_blocks<H: Host>(
     block: u32,
 ) -> Result<Out, AttemptFault>
     requires task { IsTaskOf (staged stages.now) task.now.wave (tasks.Map task.now) }
-    requires prior { HasPart (staged stages.now) (outs_of prior.now) task.now.part }
+    requires prior { HasRead (staged stages.now) (outs_of prior.now)
+        (map_task_of (staged stages.now) task.now) }
     requires host { ForSome (H.inputs host.old)
         (HasSource (staged stages.now) (map_task_of (staged stages.now) task.now)) }
     requires block { 0 < block }
@@ -68,8 +71,12 @@ pub fn map_task_blocks<H: Host>(
     ensures later { H.faults host.old ≤ H.faults host.new }
     ensures lost { IsErrOf result AttemptFault.Lost → H.faults host.old < H.faults host.new }
 {
+    let sides = match sides_before(alloc, stages, task.wave, prior) {
+        Ok(sides) => sides,
+        Err(_) => return Err(AttemptFault::OutOfMemory),
+    };
     let mut never = Never;
-    match map_attempt(alloc, stages, task, prior, host, block, &mut never)? {
+    match map_attempt(alloc, stages, task, prior, &sides, host, block, &mut never)? {
         Some(out) => Ok(out),
         None => Err(AttemptFault::OutOfMemory),
     }

@@ -4,6 +4,7 @@
 mod attempt;
 mod calls;
 mod choosing;
+mod copies;
 mod first;
 mod lent;
 mod never;
@@ -13,4 +14,5 @@ mod unmet;
 
 pub use attempt::map_attempt;
 pub use calls::{map_task, map_task_blocks, path_rows};
+pub use copies::sides_before;
 pub use never::Never;

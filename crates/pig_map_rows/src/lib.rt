@@ -11,4 +11,6 @@ mod lines;
 #[cfg(test)]
 mod rows;
 #[cfg(test)]
+mod standing;
+#[cfg(test)]
 mod waves;

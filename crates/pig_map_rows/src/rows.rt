@@ -16,8 +16,9 @@ struct Row {
     splits: &'static [(u64, &'static str)],
 }
 
-/// The first split of a row whose tasks hand on something else, in some block, with that; nothing where there is none.
-fn first_wrong<R: Abort>(rt: &R, alloc: Global, row: &Row) -> String {
+/// The first split of a row whose tasks of that wave hand on something else, in some block, with that; nothing where there is
+/// none.
+fn first_wrong_in<R: Abort>(rt: &R, alloc: Global, row: &Row, second: bool) -> String {
     let world = World {
         a: row.a,
         b: row.b,
@@ -25,7 +26,10 @@ fn first_wrong<R: Abort>(rt: &R, alloc: Global, row: &Row) -> String {
     };
     for (split, want) in row.splits {
         for block in [1, 3, 64] {
-            let making = Making::new(row.script, world, *split, Call::Blocks(block));
+            let making = Making {
+                second,
+                ..Making::new(row.script, world, *split, Call::Blocks(block))
+            };
             let told = wave(rt, alloc, &making);
             if told.text.as_slice() != want.as_bytes() || told.lines != row.lines {
                 let text = String::from_utf8_lossy(alloc, told.text.as_slice()).expect(
@@ -37,6 +41,11 @@ fn first_wrong<R: Abort>(rt: &R, alloc: Global, row: &Row) -> String {
         }
     }
     String::new(alloc)
+}
+
+/// The same of the first wave.
+fn first_wrong<R: Abort>(rt: &R, alloc: Global, row: &Row) -> String {
+    first_wrong_in(rt, alloc, row, false)
 }
 
 /// Lines begin at 0, 5 and 6 of nine bytes.
@@ -114,6 +123,46 @@ const JOINED_FULL: Row = Row {
 fn rows_go_by_key(rt: HostRuntime) {
     for row in [GROUPED, COGROUPED, JOINED, JOINED_FULL] {
         let wrong = first_wrong(&rt, rt.alloc(), &row);
+        assert_eq!(rt; wrong.as_str(), "", "{}", row.script);
+    }
+}
+
+/// The tasks of a further input hand on their rows, in order, those with null keys too.
+const COPIED: Row = Row {
+    script: "a = LOAD 'a' AS (k:int, v:chararray); b = LOAD 'b' AS (k:int, v:chararray);
+        j = JOIN a BY k, b BY k USING 'replicated'; STORE j INTO 'p';",
+    lines: 2,
+    splits: &[
+        (1, "0=1\tp\n1=2=3=4=\tq\n5=6="),
+        (2, "0=1\tp\n1=2=\tq\n3="),
+        (7, "0=1\tp\n\tq\n"),
+    ],
+    ..COGROUPED
+};
+
+/// One task has all copies.
+const PROBED: Row = Row {
+    lines: 3,
+    splits: &[(7, "0=1\tx\t1\tp\n1="), (10, "0=1\tx\t1\tp\n")],
+    ..COPIED
+};
+
+const PROBED_LEFT: Row = Row {
+    script: "a = LOAD 'a' AS (k:int, v:chararray); b = LOAD 'b' AS (k:int, v:chararray);
+        j = JOIN a BY k LEFT, b BY k USING 'replicated'; STORE j INTO 'p';",
+    splits: &[
+        (7, "0=1\tx\t1\tp\n\ty\t\t\n1=\tz\t\t\n"),
+        (10, "0=1\tx\t1\tp\n\ty\t\t\n\tz\t\t\n"),
+    ],
+    ..PROBED
+};
+
+#[test]
+fn copies_are_probed(rt: HostRuntime) {
+    let wrong = first_wrong(&rt, rt.alloc(), &COPIED);
+    assert_eq!(rt; wrong.as_str(), "", "copies");
+    for row in [PROBED, PROBED_LEFT] {
+        let wrong = first_wrong_in(&rt, rt.alloc(), &row, true);
         assert_eq!(rt; wrong.as_str(), "", "{}", row.script);
     }
 }

@@ -1,19 +1,24 @@
-//! What the tasks of a script's first wave hand on, as text. Where memory is wanting the process ends.
-ghost use Rattle.std.specs.Prelude.{◌<◌, length};
-ghost use Rattle.pig_physical.specs.Seen.{staged};
-ghost use Rattle.pig_physical.specs.Stages.{heads, tasks_in};
+//! What the tasks of a script's first two waves hand on, as text. Where memory is wanting the process ends.
+ghost use Rattle.std.specs.Prelude.{◌≡◌, ◌<◌, ◌∷◌, [], length};
+ghost use Rattle.pig_physical.specs.Fitting.{Fits, HasAll, HasRead};
+ghost use Rattle.pig_physical.specs.Handed.{out_of, outs_of};
+ghost use Rattle.pig_physical.specs.Seen.{IsTaskOf, map_task_of, staged};
+ghost use Rattle.pig_physical.specs.Stages.{heads, t_map, tasks_in};
+ghost use Rattle.pig_physical.specs.declared.parts.Task.TheVariants as tasks;
+ghost use Rattle.pig_map_rows.specs.First.{FitsFirst};
 
 use crate::hosts::{Pieces, World};
+use crate::standing::{reads_copies, reads_split};
 use pig_cutter::cut_plan;
 use pig_keycode::{decode, decode_row};
 use pig_map::{map_task, map_task_blocks, path_rows};
 use pig_outside::AttemptFault;
 use pig_packed::Packed;
-use pig_physical::{Out, OutForm, OutRuns, Outs, Part, Size, Sizes, Stages, Task};
+use pig_physical::{MapTask, Out, OutForm, OutRuns, Outs, Size, Sizes, Stages, Task};
 use pig_runs::{Run, RunPart};
 use pig_script_rows::plan_of;
 use pig_text::write_row;
-use pig_value::{Delim, Lengths, Text, Tuple};
+use pig_value::{Delim, Lengths, OutList, Text, Tuple};
 use std::alloc::Global;
 use std::process::Abort;
 
@@ -35,6 +40,8 @@ pub struct Making<'b> {
     pub held: World<'b>,
     pub split: u64,
     pub call: Call,
+    /// Whether the tasks of the second wave are told, behind a first one of one task.
+    pub second: bool,
     /// What hosts fail at, and give.
     pub most: usize,
     pub fails: u64,
@@ -50,6 +57,7 @@ impl<'b> Making<'b> {
             held: world,
             split,
             call,
+            second: false,
             most: usize::MAX,
             fails: 0,
             other: None,
@@ -151,6 +159,26 @@ fn add_out<R: Abort>(rt: &R, alloc: Global, into: &mut Vec<u8>, at: u32, out: &O
     }
 }
 
+/// What a call gives of a task.
+fn made(
+    alloc: Global,
+    stages: &Stages,
+    task: &MapTask,
+    prior: &Outs,
+    host: &mut Pieces,
+    call: Call,
+) -> Result<Out, AttemptFault>
+    requires task { IsTaskOf (staged stages.now) task.now.wave (tasks.Map task.now) }
+    requires prior { HasRead (staged stages.now) (outs_of prior.now)
+        (map_task_of (staged stages.now) task.now) }
+{
+    match call {
+        Call::Blocks(block) => map_task_blocks(alloc, stages, task, prior, host, block.max(1)),
+        Call::Whole => map_task(alloc, stages, task, prior, host),
+        Call::Rows => path_rows(alloc, stages, task, prior, host),
+    }
+}
+
 /// What a map task of the first wave gives that reads a split.
 fn attempt(
     alloc: Global,
@@ -168,16 +196,99 @@ fn attempt(
         Task::Reduce(_) => return None,
         Task::Rank(_) => return None,
     };
-    let Part::Split(_) = task.part else {
+    if !reads_split(stages, task) {
         return None;
-    };
-    let given = match call {
-        Call::Blocks(block) => { map_task_blocks(alloc, stages, task, &prior, host, block.max(1)) }
-        Call::Whole => map_task(alloc, stages, task, &prior, host),
-        Call::Rows => path_rows(alloc, stages, task, &prior, host),
-    };
+    }
+    let given = made(alloc, stages, task, &prior, host, call);
     drop(prior);
     Some(given)
+}
+
+/// What a map task of the second wave gives that reads a split.
+fn second_attempt(
+    alloc: Global,
+    stages: &Stages,
+    at: u32,
+    prior: &Outs,
+    host: &mut Pieces,
+    call: Call,
+) -> Option<Result<Out, AttemptFault>>
+    requires wave { 1 < length (heads (staged stages.now).plan) }
+    requires at { at < length (tasks_in (staged stages.now) 1) }
+    requires prior { HasAll (staged stages.now) (outs_of prior.now) 0 }
+{
+    let task = match stages.task_at(1, at) {
+        Task::Map(task) => task,
+        Task::Reduce(_) => return None,
+        Task::Rank(_) => return None,
+    };
+    if !reads_copies(stages, task) {
+        return None;
+    }
+    Some(made(alloc, stages, task, prior, host, call))
+}
+
+/// The output of a task that reads a split.
+fn mapped<R: Abort>(
+    rt: &R,
+    alloc: Global,
+    stages: &Stages,
+    task: &MapTask,
+    host: &mut Pieces,
+) -> Out
+    requires task { IsTaskOf (staged stages.now) task.now.wave (tasks.Map task.now) }
+    ensures { Fits (staged stages.now) (t_map (map_task_of (staged stages.now) task.now))
+        (out_of result) }
+{
+    if !reads_split(stages, task) {
+        panic!(rt; "no split");
+    }
+    let prior = Outs::new(alloc);
+    let given = map_task(alloc, stages, task, &prior, host);
+    drop(prior);
+    given.expect(rt, "an output")
+}
+
+/// That of the first task.
+fn first_out<R: Abort>(rt: &R, alloc: Global, stages: &Stages, host: &mut Pieces) -> Out
+    requires wave { 0 < length (heads (staged stages.now).plan) }
+    requires task { 0 < length (tasks_in (staged stages.now) 0) }
+    ensures { FitsFirst (staged stages.now) (out_of result) }
+{
+    match stages.task_at(0, 0) {
+        Task::Map(task) => mapped(rt, alloc, stages, task, host),
+        Task::Reduce(_) => no_map_task(rt),
+        Task::Rank(_) => no_map_task(rt),
+    }
+}
+
+fn no_map_task<R: Abort>(rt: &R) -> Out
+    ensures { ⊥ }
+{
+    panic!(rt; "no map task");
+}
+
+/// The outputs of a first wave that has one.
+fn alone<R: Abort>(rt: &R, alloc: Global, out: Out) -> Outs
+    ensures { outs_of result ≡ (out_of out ∷ []) ∷ [] }
+{
+    let mut wave = OutList::new(alloc);
+    wave.push(out).expect(rt, "memory");
+    let mut outs = Outs::new(alloc);
+    outs.push(wave).expect(rt, "memory");
+    outs
+}
+
+/// The outputs of a first wave of one task.
+fn first_outs<R: Abort>(rt: &R, alloc: Global, stages: &Stages, host: &mut Pieces) -> Outs
+    requires wave { 0 < length (heads (staged stages.now).plan) }
+    ensures { HasAll (staged stages.now) (outs_of result) 0 }
+{
+    if stages.tasks(0) != 1 {
+        panic!(rt; "no wave of one task");
+    }
+    let out = first_out(rt, alloc, stages, host);
+    alone(rt, alloc, out)
 }
 
 /// Adds what a task gave.
@@ -205,29 +316,58 @@ fn note<R: Abort>(
     }
 }
 
+impl Told {
+    fn new(alloc: Global) -> Told {
+        Told {
+            text: Vec::new(alloc),
+            lines: 0,
+            reads: 0,
+        }
+    }
+}
+
+/// A host for one task.
+fn host_of<'b>(making: &Making<'b>) -> Pieces<'b> {
+    Pieces {
+        world: making.held,
+        most: making.most,
+        fails: making.fails,
+        other: making.other,
+        reads: 0,
+        faults: 0,
+    }
+}
+
 /// What the tasks of the first wave give.
 fn tell<R: Abort>(rt: &R, alloc: Global, stages: &Stages, making: &Making) -> Told {
-    let mut told = Told {
-        text: Vec::new(alloc),
-        lines: 0,
-        reads: 0,
-    };
+    let mut told = Told::new(alloc);
     if stages.waves() == 0 {
         return told;
     }
     for at in 0..stages.tasks(0) {
-        let mut host = Pieces {
-            world: making.held,
-            most: making.most,
-            fails: making.fails,
-            other: making.other,
-            reads: 0,
-            faults: 0,
-        };
+        let mut host = host_of(making);
         let given = attempt(alloc, stages, at, &mut host, making.call);
         told.reads = u64::saturating_add(told.reads, host.reads);
         note(rt, alloc, &mut told, at, given);
     }
+    told
+}
+
+/// What the tasks of the second wave give, behind a first one of one task.
+fn tell_second<R: Abort>(rt: &R, alloc: Global, stages: &Stages, making: &Making) -> Told {
+    let mut told = Told::new(alloc);
+    if stages.waves() < 2 {
+        return told;
+    }
+    let mut first = host_of(making);
+    let prior = first_outs(rt, alloc, stages, &mut first);
+    for at in 0..stages.tasks(1) {
+        let mut host = host_of(making);
+        let given = second_attempt(alloc, stages, at, &prior, &mut host, making.call);
+        told.reads = u64::saturating_add(told.reads, host.reads);
+        note(rt, alloc, &mut told, at, given);
+    }
+    drop(prior);
     told
 }
 
@@ -259,14 +399,18 @@ fn sizes<R: Abort>(rt: &R, alloc: Global, world: World) -> Sizes {
     sizes
 }
 
-/// What the tasks of a script's first wave give, with three reducers.
+/// What the tasks of a script's first wave give, or those of its second, with three reducers.
 pub fn wave<R: Abort>(rt: &R, alloc: Global, making: &Making) -> Told {
     let plan = plan_of(alloc, making.script).expect(rt, "a plan");
     let sizes = sizes(rt, alloc, making.told);
     let Ok(stages) = cut_plan(alloc, &plan, &sizes, 3, making.split.max(1)) else {
         panic!(rt; "stages");
     };
-    let told = tell(rt, alloc, &stages, making);
+    let told = if making.second {
+        tell_second(rt, alloc, &stages, making)
+    } else {
+        tell(rt, alloc, &stages, making)
+    };
     drop(stages);
     drop((plan, sizes));
     told

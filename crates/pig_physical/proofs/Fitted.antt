@@ -44,7 +44,7 @@ key_alone = record { input = omega arith; key = λ kind is. key_of_kind kind is;
 none_held : RunFits plan 1 (p_distinct 0) (run [])
 none_held = record { dirs = refl; entries = tt }
 
-both_runs : MapFits stages 1 (p_distinct 0) (o_runs (run (entry empty_row (empty_row ∷ []) ∷ []) ∷ run [] ∷ []))
+both_runs : MapFits stages 1 (p_distinct 0) 0 (o_runs (run (entry empty_row (empty_row ∷ []) ∷ []) ∷ run [] ∷ []))
 both_runs = record {
   runs = run (entry empty_row (empty_row ∷ []) ∷ []) ∷ run [] ∷ [];
   is = refl;
@@ -53,7 +53,7 @@ both_runs = record {
 }
 
 -- a run is missing
-one_run : MapFits stages 1 (p_distinct 0) (o_runs (run [] ∷ [])) → ⊥
+one_run : MapFits stages 1 (p_distinct 0) 0 (o_runs (run [] ∷ [])) → ⊥
 one_run h =
     let found : length (runs_in (o_runs (run [] ∷ []))) ≡ length h.runs = ap (λ form. length (runs_in form)) h.is in
     let count : length h.runs ≡ 2 = h.count in
@@ -64,7 +64,7 @@ no_input : EntryFits plan 1 (p_distinct 0) (record { key = empty_row; input = 1;
 no_input h = let below : 1 < 1 = h.input in omega (arith, below)
 
 -- a LIMIT hands on rows
-no_runs : MapFits stages 1 (p_limit 0 5) (o_bytes (7 ∷ [])) → ⊥
+no_runs : MapFits stages 1 (p_limit 0 5) 0 (o_bytes (7 ∷ [])) → ⊥
 no_runs h =
     let none : length (bytes_in (o_bytes (7 ∷ []))) ≡ 0 = ap (λ form. length (bytes_in form)) h.is in
     omega (arith, none)

@@ -1,6 +1,6 @@
 -- What a task hands on fits it, whatever the host told: it has the form that the task has, as many runs as there are partitions, in
 -- the node's directions, and keys and rows of the kinds that the plan gives. And which outputs have to stand for a task to be done.
-use Rattle.std.specs.Prelude.{◌≡◌, ◌<◌, ℕ, List, [], ◌∷◌, length, Option, Some, None, slice_get, ◌⊎◌, ⊤}
+use Rattle.std.specs.Prelude.{◌≡◌, ◌<◌, ℕ, zero, suc, true, List, [], ◌∷◌, length, Option, Some, None, slice_get, ◌⊎◌, ⊤}
 use Rattle.std.specs.List.{AllByRecursion, filter_map}
 use Rattle.std.specs.Option.{option_and_then, option_map, option_map_or}
 use Rattle.pig_value.specs.declared.operators.Dir.{Dir}
@@ -20,7 +20,7 @@ use Rattle.pig_plan.specs.Plans.{Keyed, Plan, PlanOp, p_distinct, p_group, p_gro
 use Rattle.pig_runs.specs.Entries.{InDirections}
 use Rattle.pig_physical.specs.Combining.{folds}
 use Rattle.pig_physical.specs.Outs.{Form, Outs, TaskOut, o_bytes, o_rows, o_runs, outs_at, runs_in}
-use Rattle.pig_physical.specs.Stages.{Stages, Task, t_map, t_rank, t_reduce, tasks_in}
+use Rattle.pig_physical.specs.Stages.{MapTask, Stages, Task, first_wave, is_replicated, t_map, t_rank, t_reduce, tasks_in}
 use Rattle.pig_physical.specs.Values.{key_row}
 use Rattle.pig_physical.specs.declared.parts.Part.{Part}
 use Rattle.pig_physical.specs.declared.parts.Part.TheVariants as parts
@@ -135,13 +135,20 @@ pub record HasBytes (form : Form) : Type 0 where
   pub bytes : List ℕ
   pub is : form ≡ o_bytes bytes
 
-abbrev pub MapFits : Stages → ℕ → PlanOp → Form → Type 0
-MapFits s k (p_limit input count) form = HasRows (kinds_at s.plan input) form
-MapFits s k (p_store input path delim) form = HasBytes form
-MapFits s k o form = HasRuns s k o form
+-- the kinds of the rows that tasks of a replicated JOIN hand on: joined ones are the node's, copied ones those of their input
+abbrev pub replicated_kinds : Plan → ℕ → PlanOp → ℕ → Option RowKinds
+replicated_kinds plan k o zero = given_kinds plan k
+replicated_kinds plan k o (suc i) = option_and_then (kinds_at plan) (slice_get (inputs_of o) (suc i))
+
+-- of a map task of the input at a place
+abbrev pub MapFits : Stages → ℕ → PlanOp → ℕ → Form → Type 0
+MapFits s k (p_limit input count) i form = HasRows (kinds_at s.plan input) form
+MapFits s k (p_store input path delim) i form = HasBytes form
+MapFits s k (p_join inputs side true) i form = HasRows (replicated_kinds s.plan k (p_join inputs side true) i) form
+MapFits s k o i form = HasRuns s k o form
 
 abbrev pub Fits : Stages → Task → TaskOut → Type 0
-Fits s (t_map t) out = (o : PlanOp) → op_at s.plan t.node ≡ Some o → MapFits s t.node o out.form
+Fits s (t_map t) out = (o : PlanOp) → op_at s.plan t.node ≡ Some o → MapFits s t.node o t.way.input out.form
 Fits s (t_reduce t) out = HasRows (brought_kinds s.plan t.node) out.form
 Fits s (t_rank t) out = HasRows (given_kinds s.plan t.node) out.form
 
@@ -171,8 +178,17 @@ pub record HasAll (s : Stages) (outs : Outs) (w : ℕ) : Type 0 where
   pub count : length (outs_at outs w) ≡ length (tasks_in s w)
   pub each : (at : ℕ) → at < length (tasks_in s w) → HasOutput s outs w at
 
+-- A task that reads rows of the first input of a replicated JOIN names all copies of the others.
+abbrev pub HasCopies : Stages → Outs → MapTask → Type 0
+HasCopies s outs t = (o : PlanOp) → op_at s.plan t.node ≡ Some o → is_replicated o ≡ true → t.way.input ≡ 0
+    → HasAll s outs (first_wave s.plan t.node)
+
+pub record HasRead (s : Stages) (outs : Outs) (t : MapTask) : Type 0 where
+  pub part : HasPart s outs t.part
+  pub copies : HasCopies s outs t
+
 -- Of the outputs of earlier waves those stand that a task names; others may be gone.
 abbrev pub HasNamed : Stages → Outs → Task → Type 0
-HasNamed s outs (t_map t) = HasPart s outs t.part
+HasNamed s outs (t_map t) = HasRead s outs t
 HasNamed s outs (t_reduce t) = HasWave s outs t
 HasNamed s outs (t_rank t) = HasAll s outs t.wave

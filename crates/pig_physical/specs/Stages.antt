@@ -1,12 +1,13 @@
 -- Stages: a plan, the sizes of its inputs, and the waves of tasks that it is cut into.
 -- (Building a High-Level Dataflow System on top of Map-Reduce: "Map-Reduce Plan Compilation". That a task reads one split on
 -- one path, and the order of waves and of tasks, are choices of this profile.)
-use Rattle.std.specs.Prelude.{ℕ, ◌==◌, ◌+◌, ◌-◌, Bool, true, false, ◌&&◌, not, nat_lt, List, [], ◌∷◌, ◌++◌, map, take, length, slice_get}
-use Rattle.std.specs.List.{filter, flat_map, range_with_len}
+use Rattle.std.specs.Prelude.{ℕ, ◌==◌, ◌+◌, ◌-◌, Bool, true, false, ◌&&◌, not, nat_lt, List, [], ◌∷◌, ◌++◌, map, take, length, slice_get, if◌then◌else◌}
+use Rattle.std.specs.List.{filter, flat_map, range_with_len, sum_by}
 use Rattle.std.specs.Option.{option_map_or}
 use Rattle.pig_storage.specs.Splits.{splits_of}
-use Rattle.pig_plan.specs.Nodes.{Entering, entering, inputs_of, is_boundary, is_store, live, op_at, paths_of}
+use Rattle.pig_plan.specs.Nodes.{Entering, entering, inputs_of, is_boundary, is_source, is_store, live, op_at, paths_of}
 use Rattle.pig_plan.specs.Plans.{Plan, PlanOp, p_load, p_join, p_limit, p_rank}
+use Rattle.pig_plan.specs.Results.{result_at}
 use Rattle.pig_physical.specs.Combining.{combines}
 use Rattle.pig_physical.specs.declared.parts.Part.{Part}
 use Rattle.pig_physical.specs.declared.parts.Part.TheVariants as parts
@@ -26,6 +27,11 @@ pub record Stages : Type 0 where
   pub sizing : Sizing
 
 -- ---- waves
+
+-- a JOIN that holds every input but the first in memory
+abbrev pub is_replicated : PlanOp → Bool
+is_replicated (p_join inputs side replicated) = replicated
+is_replicated o = false
 
 -- the waves of a boundary node
 abbrev pub waves_of : PlanOp → List WaveKind
@@ -79,10 +85,25 @@ abbrev pub reduce_count : ℕ → PlanOp → ℕ
 reduce_count reducers (p_limit input count) = 1
 reduce_count reducers o = reducers
 
+-- In how many parts the rows of a node come, by how many those of the nodes before it do: the splits of a LOAD, the partitions of
+-- a boundary node, of which a replicated JOIN has one for each part of its first input, and where a node works row by row all parts
+-- of its inputs.
+abbrev pub counted : Sizing → PlanOp → (ℕ → ℕ) → ℕ
+counted sizing (p_load path delim columns) count = length (splits_of sizing.split (sizing.lengths path))
+counted sizing (p_join inputs side true) count = sum_by count (take 1 (map (λ i. i.input) inputs))
+counted sizing o count = if is_source o then reduce_count sizing.reducers o else sum_by count (inputs_of o)
+
+abbrev pub part_count : Stages → ℕ → ℕ
+part_count s = result_at (λ k node. counted s.sizing node.op) 0 s.plan
+
+-- the partitions of a boundary node
+abbrev pub output_count : Stages → PlanOp → ℕ
+output_count s o = counted s.sizing o (part_count s)
+
 -- the parts of a source: the splits of a LOAD, the partitions of a boundary node
 abbrev pub parts_of : Stages → ℕ → PlanOp → List Part
 parts_of s k (p_load path delim columns) = map parts.Split (splits_of s.sizing.split (s.sizing.lengths path))
-parts_of s k o = map (parts.Output (last_wave s.plan k o)) (range_with_len 0 (reduce_count s.sizing.reducers o))
+parts_of s k o = map (parts.Output (last_wave s.plan k o)) (range_with_len 0 (output_count s o))
 
 abbrev pub parts_at : Stages → ℕ → List Part
 parts_at s k = option_map_or (parts_of s k) (op_at s.plan k) []

@@ -2,7 +2,7 @@
 -- (Building a High-Level Dataflow System on top of Map-Reduce: "Map-Reduce Plan Compilation", "Use of the combiner". That lines
 -- belong to the split in which they start, how keys go to partitions, and what a LIMIT's tasks hand on, are choices of this
 -- profile.)
-use Rattle.std.specs.Prelude.{◌≡◌, ℕ, ◌+◌, Bool, true, false, List, [], ◌∷◌, map, take, length, Option, Some, None, slice_get}
+use Rattle.std.specs.Prelude.{◌≡◌, ℕ, zero, suc, ◌+◌, Bool, true, false, List, [], ◌∷◌, ◌++◌, map, take, length, Option, Some, None, slice_get}
 use Rattle.std.specs.List.{flat_map, range_with_len}
 use Rattle.std.specs.Option.{option_map_or}
 use Rattle.std.specs.Ordering.{nat_cmp}
@@ -11,8 +11,8 @@ use Rattle.pig_value.specs.declared.operators.Dir.{Dir}
 use Rattle.pig_value.specs.FieldRows.{row_of}
 use Rattle.pig_value.specs.Gathering.{Entry, in_part}
 use Rattle.pig_value.specs.Lines.{lines_within}
-use Rattle.pig_value.specs.Orders.{tree_cmp}
-use Rattle.pig_value.specs.Sorts.{Ascends, distinct, sort}
+use Rattle.pig_value.specs.Orders.{bag_of, tree_cmp}
+use Rattle.pig_value.specs.Sorts.{distinct, sort}
 use Rattle.pig_value.specs.Texts.{rows_text}
 use Rattle.pig_value.specs.Trees.{Tree, fields_list, v_tuple}
 use Rattle.pig_storage.specs.declared.splits.Split.{Split}
@@ -23,16 +23,17 @@ use Rattle.pig_plan.specs.ByKey.{gathered}
 use Rattle.pig_plan.specs.Entries.{dirs_of, entries_of, made_by, sort_keys}
 use Rattle.pig_plan.specs.Meaning.{AreKept, width_at}
 use Rattle.pig_plan.specs.Nodes.{is_sorted, op_at}
-use Rattle.pig_plan.specs.Operators.{pieces_of, rank_of, sort_keys_cmp}
-use Rattle.pig_plan.specs.Plans.{Plan, PlanOp, p_load, p_distinct, p_limit, p_rank, p_store}
+use Rattle.pig_plan.specs.Operators.{pieces_of}
+use Rattle.pig_plan.specs.Plans.{Plan, PlanOp, p_load, p_distinct, p_join, p_limit, p_rank, p_store}
 use Rattle.pig_plan.specs.Results.{at_place}
 use Rattle.pig_plan.specs.Steps.{through}
+use Rattle.pig_rank.specs.Ranks.{AreSorted, ranked_among}
 use Rattle.pig_runs.specs.Cutting.{Point, slice_of}
 use Rattle.pig_runs.specs.Entries.{InDirections, run_cmp, run_of}
 use Rattle.pig_runs.specs.Parts.{pn}
 use Rattle.pig_physical.specs.Combining.{combining, folds}
 use Rattle.pig_physical.specs.Outs.{Form, Outs, TaskOut, entries_at, o_bytes, o_rows, o_runs, outs_at, rows_at, rows_in}
-use Rattle.pig_physical.specs.Stages.{MapTask, Stages, Task, t_map, t_rank, t_reduce}
+use Rattle.pig_physical.specs.Stages.{MapTask, Stages, Task, first_wave, t_map, t_rank, t_reduce, tasks_in}
 use Rattle.pig_physical.specs.declared.parts.Part.{Part}
 use Rattle.pig_physical.specs.declared.parts.Part.TheVariants as parts
 use Rattle.pig_physical.specs.declared.parts.ReduceTask.{ReduceTask}
@@ -124,12 +125,38 @@ pub record Keeps (sorted : Bool) (count : ℕ) (rows : List (List Tree)) (form :
   pub first : sorted ≡ true → kept ≡ take count rows
   pub some : sorted ≡ false → AreKept count rows kept
 
+-- rows that are these, in any order
+pub record AreAsBag (rows : List (List Tree)) (form : Form) : Type 0 where
+  pub made : List (List Tree)
+  pub is : form ≡ o_rows made
+  pub bag : bag_of made ≡ bag_of rows
+
+-- the rows that tasks hand on, as entries of the inputs that they come to
+abbrev pub handed_entries : PlanOp → List Task → List TaskOut → List Entry
+handed_entries o (t_map t ∷ tasks) (out ∷ outs) = entries_of o t.way.input (rows_in out.form) ++ handed_entries o tasks outs
+handed_entries o (task ∷ tasks) (out ∷ outs) = handed_entries o tasks outs
+handed_entries o tasks outs = []
+
+-- those of the wave that copies the further inputs of a replicated JOIN
+abbrev pub copied_entries : Stages → Outs → ℕ → PlanOp → List Entry
+copied_entries s outs k o = handed_entries o (tasks_in s (first_wave s.plan k)) (outs_at outs (first_wave s.plan k))
+
+-- what a replicated JOIN gives of rows of its first input
+abbrev pub probed_rows : Stages → Outs → ℕ → PlanOp → List (List Tree) → List (List Tree)
+probed_rows s outs k o rows = brought_together (width_at s.plan) o (entries_of o 0 rows ++ copied_entries s outs k o)
+
+-- of a task of a replicated JOIN: rows of its first input are joined with what was copied, those of another one copied
+abbrev pub IsReplicatedForm : Stages → Outs → ℕ → PlanOp → ℕ → List (List Tree) → Form → Type 0
+IsReplicatedForm s outs k o zero rows form = AreAsBag (probed_rows s outs k o rows) form
+IsReplicatedForm s outs k o (suc i) rows form = form ≡ o_rows rows
+
 -- of a map task of a node with these rows of the input at a place; `points` are those that cut an ORDER's runs, once they are
 -- chosen
-abbrev pub IsMapForm : Stages → Option (List Point) → ℕ → PlanOp → ℕ → List (List Tree) → Form → Type 0
-IsMapForm s points k (p_limit input count) i rows form = Keeps (is_sorted s.plan input) count rows form
-IsMapForm s points k (p_store input path delim) i rows form = form ≡ o_bytes (rows_text delim rows)
-IsMapForm s points k o i rows form =
+abbrev pub IsMapForm : Stages → Option (List Point) → Outs → ℕ → PlanOp → ℕ → List (List Tree) → Form → Type 0
+IsMapForm s points outs k (p_limit input count) i rows form = Keeps (is_sorted s.plan input) count rows form
+IsMapForm s points outs k (p_store input path delim) i rows form = form ≡ o_bytes (rows_text delim rows)
+IsMapForm s points outs k (p_join inputs side true) i rows form = IsReplicatedForm s outs k (p_join inputs side true) i rows form
+IsMapForm s points outs k o i rows form =
     form ≡ o_runs (runs_of s.sizing.reducers points o (handed_on s.plan k o (entries_of o i rows)))
 
 abbrev pub IsReduceForm : Stages → ℕ → PlanOp → List TaskOut → ℕ → Form → Type 0
@@ -139,7 +166,7 @@ IsReduceForm s k o outs p form = form ≡ o_rows (reduced s.plan k o (flat_map (
 
 pub record IsMapValue (s : Stages) (inputs : List Input) (points : Option (List Point)) (outs : Outs)
     (t : MapTask) (o : PlanOp) (out : TaskOut) : Type 0 where
-  pub form : IsMapForm s points t.node o t.way.input (task_rows s.plan inputs outs t) out.form
+  pub form : IsMapForm s points outs t.node o t.way.input (task_rows s.plan inputs outs t) out.form
   pub lines : out.lines ≡ length (lines_of s.plan inputs t)
   pub unmet : out.unmet ≡ task_unmet s.plan inputs outs t
 
@@ -151,14 +178,11 @@ pub record IsReduceValue (s : Stages) (outs : Outs) (t : ReduceTask) (o : PlanOp
 -- the rows of a partition as a RANK gives them: each behind its rank among the rows of all partitions, which stand one behind the
 -- other and are sorted by its keys
 abbrev pub ranked : PlanOp → List (List Tree) → List (List Tree) → List (List Tree)
-ranked (p_rank input keys dense) whole rows = map (λ row. rank_of keys dense whole row ∷ row) rows
+ranked (p_rank input keys dense) whole rows = ranked_among keys dense whole rows
 ranked o whole rows = rows
 
-abbrev pub AreSortedBy : List SortKey → List (List Tree) → Type 0
-AreSortedBy keys rows = Ascends (sort_keys_cmp keys) rows
-
 abbrev pub AreInOrder : PlanOp → List (List Tree) → Type 0
-AreInOrder o rows = (keys : List SortKey) → sort_keys o ≡ Some keys → AreSortedBy keys rows
+AreInOrder o rows = (keys : List SortKey) → sort_keys o ≡ Some keys → AreSorted keys rows
 
 -- the rows of all outputs, and those of one
 abbrev pub all_rows : List TaskOut → List (List Tree)

@@ -164,6 +164,15 @@ impl<'p> Stages<'p> {
         self.wave(wave).head.kind
     }
 
+    /// The number of a wave's boundary node, or of the first live STORE.
+    pub fn node(&self, wave: u32) -> u32
+        requires { wave < length (heads (staged self.now).plan) }
+        ensures { option_map (λ head. head.node) (slice_get (heads (staged self.now).plan) wave)
+            ≡ Some result }
+    {
+        self.wave(wave).head.node
+    }
+
     /// The number of tasks of a wave.
     pub fn tasks(&self, wave: u32) -> u32
         requires { wave < length (heads (staged self.now).plan) }

@@ -1,5 +1,5 @@
 -- What the outputs hold that a reduce task reads.
-use Rattle.std.proofs.Common.{◌≡◌, ◌<◌, ◌+◌, ℕ, suc, true, List, [], ◌∷◌, length, map, refl, sym, ◌∙◌, ap, subst, arith}
+use Rattle.std.proofs.Common.{◌≡◌, ◌<◌, ◌+◌, ℕ, suc, true, false, List, [], ◌∷◌, length, map, refl, sym, ◌∙◌, ap, subst, arith}
 use Rattle.std.specs.Prelude.{Option, Some, None, slice_get}
 use Rattle.std.specs.List.{AllByRecursion, flat_map}
 use Rattle.std.specs.Option.{option_map_or}
@@ -53,26 +53,27 @@ runs_fit : (s : Stages) (k : ℕ) (o : PlanOp) (p : ℕ) (form : Form) → HasRu
     → RunFits s.plan k o run
 runs_fit s k o p form h run is = each_at (RunFits s.plan k o) h.runs p run (ap (λ f. slice_get (runs_in f) p) (sym h.is) ∙ is) h.each
 
-map_fits : (s : Stages) (k : ℕ) (o : PlanOp) (p : ℕ) (form : Form) → MapFits s k o form → (run : InDirections) → slice_get (runs_in form) p ≡ Some run
+map_fits : (s : Stages) (k : ℕ) (o : PlanOp) (i p : ℕ) (form : Form) → MapFits s k o i form → (run : InDirections) → slice_get (runs_in form) p ≡ Some run
     → RunFits s.plan k o run
-map_fits s k (p_limit input count) p form h run is = no_runs form p run (ap runs_in h.is) is
-map_fits s k (p_store input path delim) p form h run is = no_runs form p run (ap runs_in h.is) is
-map_fits s k (p_load path delim columns) p form h run is = runs_fit s k (p_load path delim columns) p form h run is
-map_fits s k (p_filter input test) p form h run is = runs_fit s k (p_filter input test) p form h run is
-map_fits s k (p_foreach input block) p form h run is = runs_fit s k (p_foreach input block) p form h run is
-map_fits s k (p_group_all input) p form h run is = runs_fit s k (p_group_all input) p form h run is
-map_fits s k (p_group inputs) p form h run is = runs_fit s k (p_group inputs) p form h run is
-map_fits s k (p_join inputs side replicated) p form h run is = runs_fit s k (p_join inputs side replicated) p form h run is
-map_fits s k (p_union inputs) p form h run is = runs_fit s k (p_union inputs) p form h run is
-map_fits s k (p_distinct input) p form h run is = runs_fit s k (p_distinct input) p form h run is
-map_fits s k (p_order input keys) p form h run is = runs_fit s k (p_order input keys) p form h run is
-map_fits s k (p_assert input test message) p form h run is = runs_fit s k (p_assert input test message) p form h run is
-map_fits s k (p_rank input keys dense) p form h run is = runs_fit s k (p_rank input keys dense) p form h run is
+map_fits s k (p_limit input count) i p form h run is = no_runs form p run (ap runs_in h.is) is
+map_fits s k (p_store input path delim) i p form h run is = no_runs form p run (ap runs_in h.is) is
+map_fits s k (p_load path delim columns) i p form h run is = runs_fit s k (p_load path delim columns) p form h run is
+map_fits s k (p_filter input test) i p form h run is = runs_fit s k (p_filter input test) p form h run is
+map_fits s k (p_foreach input block) i p form h run is = runs_fit s k (p_foreach input block) p form h run is
+map_fits s k (p_group_all input) i p form h run is = runs_fit s k (p_group_all input) p form h run is
+map_fits s k (p_group inputs) i p form h run is = runs_fit s k (p_group inputs) p form h run is
+map_fits s k (p_join inputs side true) i p form h run is = no_runs form p run (ap runs_in h.is) is
+map_fits s k (p_join inputs side false) i p form h run is = runs_fit s k (p_join inputs side false) p form h run is
+map_fits s k (p_union inputs) i p form h run is = runs_fit s k (p_union inputs) p form h run is
+map_fits s k (p_distinct input) i p form h run is = runs_fit s k (p_distinct input) p form h run is
+map_fits s k (p_order input keys) i p form h run is = runs_fit s k (p_order input keys) p form h run is
+map_fits s k (p_assert input test message) i p form h run is = runs_fit s k (p_assert input test message) p form h run is
+map_fits s k (p_rank input keys dense) i p form h run is = runs_fit s k (p_rank input keys dense) p form h run is
 
 task_fits : (s : Stages) (k : ℕ) (o : PlanOp) (p : ℕ) (task : Task) (out : TaskOut) → op_at s.plan k ≡ Some o → IsMapOf k task → Fits s task out
     → HasFits s.plan k o p out
 task_fits s k o p (t_map m) out op of fits run is =
-    map_fits s k o p out.form (subst (λ n. MapFits s n o out.form) of (fits o (ap (op_at s.plan) of ∙ op))) run is
+    map_fits s k o m.way.input p out.form (subst (λ n. MapFits s n o m.way.input out.form) of (fits o (ap (op_at s.plan) of ∙ op))) run is
 task_fits s k o p (t_reduce r) out op of fits run is = absurd of
 task_fits s k o p (t_rank r) out op of fits run is = absurd of
 

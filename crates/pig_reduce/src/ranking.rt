@@ -6,7 +6,7 @@ ghost use Rattle.pig_value.specs.Trees.{row_tree, rows_tree};
 ghost use Rattle.pig_value.specs.Valid.{AreRows, IsRow};
 ghost use Rattle.pig_plan.specs.Nodes.{op_at as op_of_plan};
 ghost use Rattle.pig_plan.specs.Entries.{sort_keys};
-ghost use Rattle.pig_plan.specs.Plans.{op_of};
+ghost use Rattle.pig_plan.specs.Plans.{PlanOp, op_of};
 ghost use Rattle.pig_physical.specs.Fitting.{Fits, HasAll};
 ghost use Rattle.pig_physical.specs.Handed.{form_of, out_of, outs_of};
 ghost use Rattle.pig_physical.specs.Outs.{o_rows, outs_at as outs_at_wave, rows_in};
@@ -178,15 +178,18 @@ fn packed(alloc: Global, rows: &Rows) -> Result<Packed, AllocError>
     Ok(built.finish())
 }
 
-/// What stands before each partition of a node, for its rank tasks, of which `task` is one.
+/// What stands before each partition of a node, for its rank tasks, of which `task` is one: one start a partition.
 pub fn rank_starts(
     alloc: Global,
     stages: &Stages,
     task: &ReduceTask,
     prior: &Outs,
 ) -> Result<Starts, AllocError>
-    ensures { IfOk result (λ starts. (t : ReduceTask) → t.node ≡ task.now.node
+    ensures are { IfOk result (λ starts. (t : ReduceTask) → t.node ≡ task.now.node
         → t.wave ≡ task.now.wave → IsStartIn (staged stages.now).plan (outs_of prior.now) t starts) }
+    ensures each { IfOk result (λ starts. (o : PlanOp)
+        → op_of_plan (staged stages.now).plan task.now.node ≡ Some o → ranks o ≡ true
+        → length starts ≡ length (outs_at_wave (outs_of prior.now) task.now.wave)) }
 {
     match keys_at(stages, task.node) {
         Some(keys) => partition_starts(alloc, outs_at(prior, task.wave), keys),
@@ -208,7 +211,8 @@ fn keys_at<'s>(stages: &'s Stages<'_>, node: u32) -> Option<&'s SortKeys>
 // What stands before each of the partitions that the tasks of a wave gave, in order, where their rows are sorted by the
 // keys.
 fn partition_starts(alloc: Global, outs: &[Out], keys: &SortKeys) -> Result<Starts, AllocError>
-    ensures { IfOk result (λ starts. AreStartsBy keys.now (map out_of outs.now) starts) }
+    ensures are { IfOk result (λ starts. AreStartsBy keys.now (map out_of outs.now) starts) }
+    ensures each { IfOk result (λ starts. length starts ≡ length outs.now) }
 {
     let mut parts = Summaries::with_capacity(alloc, outs.len())?;
     for out in outs {

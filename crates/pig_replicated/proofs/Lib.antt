@@ -3,6 +3,7 @@ mod ByKeys
 mod Grouping
 pub mod Held
 mod Joined
+pub mod Pieces
 pub mod Probed
 mod Samples
 mod Searched

@@ -6,7 +6,6 @@ ghost use Rattle.pig_rewrites.specs.Alike.{RunsAlike, are_apart};
 ghost use Rattle.pig_rewrites.specs.Reached.{IsReached};
 
 use crate::comparing::show_alike;
-use pig_keyed::{by_key, keyed_plans_run_the_same};
 use pig_plan::{Node, Plan, copy_node};
 use pig_prune::prune;
 use pig_push::push;
@@ -14,8 +13,8 @@ use pig_share::share;
 use std::alloc::{AllocError, Global};
 
 /// The plan that is cut into tasks: nodes that do the same become one, conditions move towards the
-/// sources, what nothing needs goes, and each JOIN goes by key. A run of it does what a run of the
-/// plan does. A refusal is for want of memory.
+/// sources, and what nothing needs goes. A run of it does what a run of the plan does. A refusal is
+/// for want of memory.
 pub fn rewrite(alloc: Global, plan: &Plan) -> Result<Plan, AllocError>
     requires apart { are_apart (stores_of (plan_of plan.now)) ≡ true }
     ensures reached { IfOk result (λ q. IsReached (plan_of plan.now) (plan_of q)) }
@@ -31,8 +30,7 @@ pub fn rewrite(alloc: Global, plan: &Plan) -> Result<Plan, AllocError>
     }
     known_plan(plan);
     known_plan(&pruned);
-    keyed_plans_run_the_same();
-    by_key(alloc, pruned)
+    Ok(pruned)
 }
 
 fn copied(alloc: Global, plan: &Plan) -> Result<Plan, AllocError>

@@ -28,7 +28,6 @@ use Rattle.pig_runs.specs.Cutting.{Point}
 use Rattle.pig_physical.specs.Outs.{Outs, TaskOut, bytes_in, outs_at}
 use Rattle.pig_physical.specs.Running.{AreOutputs, IsRun, all_unmet, bytes_for, is_for, store_wave}
 use Rattle.pig_physical.specs.Stages.{Stages, Task, heads, stores, tasks_in, tasks_of}
-use Rattle.pig_waves.specs.Laws.{HaveStages}
 use Rattle.pig_work.specs.Working.{Tellings}
 use Rattle.pig_cutter.specs.Laws.{GiveMeaning, StagesGiveMeaning, stores_at}
 use Rattle.pig_driver.specs.Going.{HasRunAll}
@@ -153,25 +152,25 @@ stored_whole s whole size standing = elim (cases_lt 0 (length (heads s.plan))) [
       ∙ sym (ap (λ o. length (option_map_or (tasks_of s (store_wave s.plan)) o [])) (slice_get_past (heads s.plan) (store_wave s.plan) (omega (arith, none))))
 ]
 
-pub told_same : (s : Stages) → WhatIsLeftTellsTheSame → IsPlan s.plan → HaveStages s.plan → (tellings : Tellings) (left : Outs) (shuffled : ℕ) (over : IsOver s tellings left shuffled)
+pub told_same : (s : Stages) → WhatIsLeftTellsTheSame → IsPlan s.plan → (tellings : Tellings) (left : Outs) (shuffled : ℕ) (over : IsOver s tellings left shuffled)
     → TellTheSame s over.whole left
-told_same s law valid staged tellings left shuffled over =
-    law s over.whole left valid staged over.run.size (stored_whole s over.whole over.run.size over.run.standing) over.are
+told_same s law valid tellings left shuffled over =
+    law s over.whole left valid over.run.size (stored_whole s over.whole over.run.size over.run.standing) over.are
 
 -- ---- the run
 
 module _ (law : StagesGiveMeaning) (reads : RunsReadLines) (unmets : RunsTellTheFirstUnmet) (counts : EntriesAreDue) (lines : AnswersAreStoredLines)
-    (s : Stages) (valid : IsPlan s.plan) (literals : PlanLiteralsAre IsValue s.plan) (staged : HaveStages s.plan) (some : 0 < s.sizing.reducers) (splits : 0 < s.sizing.split)
+    (s : Stages) (valid : IsPlan s.plan) (literals : PlanLiteralsAre IsValue s.plan) (some : 0 < s.sizing.reducers) (splits : 0 < s.sizing.split)
     (tellings : Tellings) (outs : Outs) (run : HasRunAll s tellings outs) (kept : List Kept) (kept_are : AreOutputs s.plan outs kept) where
   module _ (plan : Plan) (alike : RunsAlike plan s.plan) (inputs : List Input) (points : ℕ → List Point) (runs : IsRun s inputs points outs) where
     means : GiveMeaning s inputs kept outs
-    means = law s inputs kept points outs valid staged some splits runs kept_are
+    means = law s inputs kept points outs valid some splits runs kept_are
 
     kept_valid : IsKept plan inputs kept
     kept_valid = alike.kept_back inputs kept means.valid
 
     first_is : (unmet : Option ℕ) → unmet ≡ least (all_unmet outs) → unmet ≡ first_unmet plan inputs kept
-    first_is unmet found = found ∙ unmets s inputs kept points outs valid staged some splits runs kept_are ∙ alike.unmet inputs kept kept_valid
+    first_is unmet found = found ∙ unmets s inputs kept points outs valid some splits runs kept_are ∙ alike.unmet inputs kept kept_valid
 
     module _ (bytes : AreOfBytes inputs) where
       -- a STORE of the script, by that of the plan that is cut
@@ -229,7 +228,7 @@ module _ (law : StagesGiveMeaning) (reads : RunsReadLines) (unmets : RunsTellThe
           kept_valid = kept_valid plan alike inputs found.points found.run;
           outs_are = outputs_are plan alike inputs found.points found.run bytes (stores s.plan) (stores_of plan) (stores_of s.plan) parts alike.stores (stores_listed s.plan)
               (subst (AllByRecursion (λ store. store.delim ≢ 10)) all_are others) parts_are;
-          read_is = read_is ∙ ap (λ n. n % 2 ^ 64) (reads s inputs found.points outs valid staged splits found.run);
+          read_is = read_is ∙ ap (λ n. n % 2 ^ 64) (reads s inputs found.points outs valid splits found.run);
           unmet_is = first_is plan alike inputs found.points found.run unmet unmet_is;
           run_of = record { points = found.points; outs = outs; run = found.run; kept_are = kept_are; parts_are = parts_are; handed = shuffled_is ∙ ap (λ n. n % 2 ^ 64) (counts s inputs found.points outs some found.run) };
         }

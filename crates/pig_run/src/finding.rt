@@ -7,7 +7,6 @@ ghost use Rattle.pig_reach.specs.Reach.{stores_of};
 ghost use Rattle.pig_physical.specs.Handed.{outs_of};
 ghost use Rattle.pig_physical.specs.Seen.{staged};
 ghost use Rattle.pig_physical.specs.Stages.{heads};
-ghost use Rattle.pig_waves.specs.Laws.{HaveStages};
 ghost use Rattle.pig_cutter.specs.Limits.{has_too_many};
 ghost use Rattle.pig_driver.specs.Going.{AreWon, TellSizes};
 ghost use Rattle.pig_driver.specs.Left.{IsOver};
@@ -24,7 +23,7 @@ use pig_collect::{
 use pig_commit::StoreParts;
 use pig_counts::entries_are_due;
 use pig_cutter::stages_give_meaning;
-use pig_driver::{Ran, StagesFault, few_tasks_fit, have_stages, run_stages};
+use pig_driver::{Ran, StagesFault, few_tasks_fit, run_stages};
 use pig_outside::Host;
 use pig_physical::Stages;
 use pig_plain::answers_are_stored_lines;
@@ -45,8 +44,7 @@ fn stages_fault(fault: StagesFault) -> RunFault
     }
 }
 
-/// Runs the waves of stages on hosts. Stages with waves of another kind, as a replicated JOIN has, are answered as want of
-/// memory: no plan that is cut has them.
+/// Runs the waves of stages on hosts.
 fn run_waves<R: Threads + Sync, H: Host + Send>(
     rt: &R,
     alloc: Global,
@@ -64,7 +62,6 @@ fn run_waves<R: Threads + Sync, H: Host + Send>(
     requires none { ends.old ≡ [] }
     ensures run { IfOk result (λ ran. IsOver (staged stages.now)
         (map H.inputs hosts.old) (outs_of ran.outs) ran.shuffled) }
-    ensures staged { IfOk result (λ _. HaveStages (staged stages.now).plan) }
     ensures ended { MatchResult result
         (λ _. AreWon (staged stages.now) ends.new (length (heads (staged stages.now).plan)))
         (WavesEnd limit (staged stages.now) ends.new) }
@@ -73,9 +70,6 @@ fn run_waves<R: Threads + Sync, H: Host + Send>(
 {
     few_tasks_fit();
     stages.plan().nodes();
-    if !have_stages(stages.plan()) {
-        return Err(RunFault::OutOfMemory);
-    }
     match run_stages(rt, alloc, stages, hosts, limit, ends) {
         Ok(ran) => Ok(ran),
         Err(fault) => Err(stages_fault(fault)),

@@ -30,7 +30,7 @@ not_false : (b : Bool) → not b ≡ true → b ≡ false
 not_false true h = absurd (true≢false (sym h))
 not_false false h = refl
 
-get_taken : {X : Type 0} (xs : List X) (k j : ℕ) → j < k → slice_get (take k xs) j ≡ slice_get xs j
+pub get_taken : {X : Type 0} (xs : List X) (k j : ℕ) → j < k → slice_get (take k xs) j ≡ slice_get xs j
 get_taken xs zero j h = absurd (omega (arith, h))
 get_taken [] (suc k) j h = refl
 get_taken (x ∷ xs) (suc k) zero h = refl
@@ -119,7 +119,7 @@ all_named p table made n whole so_far = record {
   };
 }
 
-length_plan : (nodes : List Node) → length (plan_of nodes) ≡ length nodes
+pub length_plan : (nodes : List Node) → length (plan_of nodes) ≡ length nodes
 length_plan [] = refl
 length_plan (node ∷ nodes) = ap (λ n. suc n) (length_plan nodes)
 

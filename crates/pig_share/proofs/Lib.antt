@@ -8,4 +8,5 @@ pub mod SameLaws
 pub mod Ends
 pub mod Steps
 pub mod Finding
+pub mod Listed
 mod Samples

@@ -1,3 +1,4 @@
 pub mod Shared
 pub mod Same
+pub mod Hashed
 pub mod Table

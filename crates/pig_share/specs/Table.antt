@@ -1,9 +1,10 @@
 -- Going through the nodes of a plan in order: what each is named by so far.
-use Rattle.std.specs.Prelude.{◌≡◌, ◌<◌, ℕ, Bool, false, true, List, ◌++◌, map, take, length, Some, slice_get, get_or}
+use Rattle.std.specs.Prelude.{◌≡◌, ◌<◌, ℕ, Bool, false, true, List, ◌++◌, map, take, length, Option, None, Some, slice_get, get_or}
 use Rattle.pig_plan.specs.Nodes.{is_live, is_sorted, sorts}
 use Rattle.pig_plan.specs.Results.{results}
 use Rattle.pig_plan.specs.Plans.{Plan, PlanNode}
 use Rattle.pig_plan.specs.Renumbered.{rename}
+use Rattle.pig_share.specs.Hashed.{op_hash}
 use Rattle.pig_share.specs.Shared.{IsNamedBy, IsShared, is_apart, renamed}
 
 abbrev pub at_of : List ℕ → ℕ → ℕ
@@ -54,3 +55,23 @@ sorted_list plan = results (λ k node. sorts node.op) false plan
 -- the node numbered i over mapped inputs
 abbrev pub IsRenamedAt : Plan → List ℕ → ℕ → PlanNode → Type 0
 IsRenamedAt p table i node = (v : PlanNode) → slice_get p i ≡ Some v → node ≡ renamed (at_of table) v
+
+-- ---- which nodes are listed under the hashes of their operators
+
+-- a live node that doesn't stay apart
+pub record IsOpen (p : Plan) (k : ℕ) : Type 0 where
+  pub v : PlanNode
+  pub stands : slice_get p k ≡ Some v
+  pub lives : is_live p k ≡ true
+  pub free : is_apart (is_sorted p) v.op ≡ false
+
+-- of a table as a function: it has a key, and a later one has all that an earlier one had
+abbrev pub HasKey : (ℕ → Option ℕ) → ℕ → Type 0
+HasKey f k = f k ≡ None → ⊥
+
+abbrev pub KeepsKeys : (ℕ → Option ℕ) → (ℕ → Option ℕ) → Type 0
+KeepsKeys f g = (k : ℕ) → HasKey f k → HasKey g k
+
+-- each open node that was made has its operator's hash there
+abbrev pub AreListed : Plan → Plan → (ℕ → Option ℕ) → Type 0
+AreListed p made f = (j : ℕ) (u : PlanNode) → slice_get made j ≡ Some u → IsOpen p j → HasKey f (op_hash u.op)

@@ -3,8 +3,10 @@
 
 mod blocks;
 mod exprs;
+mod hashing;
 mod kinds;
 mod laws;
+mod mixing;
 mod ops;
 mod renaming;
 mod sharing;

@@ -1,18 +1,25 @@
-ghost use Rattle.std.specs.Prelude.{◌≡◌, ◌<◌, ◌+◌, ◌&&◌, ◌++◌, ◌∷◌, [], not, IsTrue, IfOk, OnOk, Some, false, length, slice_get, get_or};
+ghost use Rattle.std.specs.Prelude.{◌≡◌, ◌<◌, ◌+◌, ◌&&◌, ◌++◌, ◌∷◌, [], not, IsTrue, IfOk, OnOk, Some, false, length, nat_eq, slice_get, get_or};
+ghost use Rattle.indexmap.specs.IndexMap.{get};
 ghost use Rattle.pig_plan.specs.Nodes.{is_live, is_sorted, live_marks as live_list};
 ghost use Rattle.pig_plan.specs.Plans.{PlanNode, node_of, plan_of};
 ghost use Rattle.pig_plan.specs.Results.{at_place};
 ghost use Rattle.pig_plan.specs.Rewrites.{SameMeaning};
 ghost use Rattle.pig_plan.specs.Valid.{IsPlan};
 ghost use Rattle.pig_share.specs.Shared.{EachIsOnce, is_apart};
+ghost use Rattle.pig_share.specs.Hashed.{op_hash};
 ghost use Rattle.pig_share.specs.Same.{columns_of, same_op};
-ghost use Rattle.pig_share.specs.Table.{DoesSame, IsFound, IsRenamedAt, IsSoFar, Shares, sorted_list};
+ghost use Rattle.pig_share.specs.Table.{AreListed, DoesSame, HasKey, IsFound, IsOpen, IsRenamedAt, IsSoFar, KeepsKeys, Shares, sorted_list};
 
+use crate::hashing::hash_op;
 use crate::ops::is_same_op;
 use crate::renaming::{number_at, renamed_node};
 use crate::sorted::{sorted_nodes, stays_apart};
+use indexmap::IndexMap;
 use pig_plan::{Node, Plan, live_marks};
 use std::alloc::{AllocError, Global};
+
+/// By the hash of an operator, the first node with that hash, of those that are live and don't stay apart.
+type Firsts = IndexMap<u64, u32>;
 
 /// A plan of the same meaning in which no two live nodes do the same to the same inputs. Bare LIMITs stay apart, since each
 /// keeps the rows of its own statement, and so do STOREs and ASSERTs. Each node stays at its number, with its statement;
@@ -37,6 +44,7 @@ fn share_nodes(alloc: Global, plan: &Plan) -> Result<Plan, AllocError>
     let sorted = sorted_nodes(alloc, nodes)?;
     let mut made = Plan::empty(alloc);
     let mut table = Vec::new(alloc);
+    let mut firsts = IndexMap::new(alloc);
     for own in 0..number_of_nodes(nodes)? {
         share_next(
             alloc,
@@ -45,6 +53,7 @@ fn share_nodes(alloc: Global, plan: &Plan) -> Result<Plan, AllocError>
             sorted.as_slice(),
             own,
             &mut table,
+            &mut firsts,
             &mut made,
         )?;
     }
@@ -67,6 +76,7 @@ fn share_next(
     sorted: &[bool],
     own: u32,
     table: &mut Vec<u32>,
+    firsts: &mut Firsts,
     made: &mut Plan,
 ) -> Result<(), AllocError>
     requires valid { IsPlan (plan_of nodes.now) }
@@ -74,12 +84,25 @@ fn share_next(
     requires sorted { sorted.now ≡ sorted_list (plan_of nodes.now) }
     requires within { own < length nodes.now }
     requires so_far { IsSoFar (plan_of nodes.now) table.old.items (plan_of made.old) own }
-    ensures { OnOk result
+    requires listed { AreListed (plan_of nodes.now) (plan_of made.old) (get nat_eq firsts.old) }
+    ensures so_far { OnOk result
         (IsSoFar (plan_of nodes.now) table.new.items (plan_of made.new) (own + 1)) }
+    ensures listed { OnOk result
+        (AreListed (plan_of nodes.now) (plan_of made.new) (get nat_eq firsts.new)) }
 {
     let node = renamed_at(alloc, nodes, own, table.as_slice())?;
     let earlier = made.nodes().as_slice();
-    let number = number_of(nodes, live, sorted, table.as_slice(), earlier, &node, own);
+    let number = number_of(
+        nodes,
+        live,
+        sorted,
+        table.as_slice(),
+        firsts,
+        earlier,
+        &node,
+        own,
+    );
+    list_open(nodes, live, sorted, own, hash_op(&node.op), firsts)?;
     table.push(number)?;
     push_node(made, node)?;
     Ok(())
@@ -95,8 +118,97 @@ fn renamed_at(alloc: Global, nodes: &[Node], own: u32, table: &[u32]) -> Result<
     }
 }
 
-/// The number by which a node is named: that of the first node before it that does the same, or its own.
+/// Lists a node under the hash of its operator where it is live, doesn't stay apart, and none is listed there.
+fn list_open(
+    nodes: &[Node],
+    live: &[bool],
+    sorted: &[bool],
+    own: u32,
+    hash: u64,
+    firsts: &mut Firsts,
+) -> Result<(), AllocError>
+    requires live { live.now ≡ live_list (plan_of nodes.now) }
+    requires sorted { sorted.now ≡ sorted_list (plan_of nodes.now) }
+    ensures keeps { OnOk result (KeepsKeys (get nat_eq firsts.old) (get nat_eq firsts.new)) }
+    ensures has { OnOk result
+        (IsOpen (plan_of nodes.now) own → HasKey (get nat_eq firsts.new) hash) }
+{
+    if !is_open(nodes, live, sorted, own) {
+        return Ok(());
+    }
+    list_first(hash, own, firsts)
+}
+
+fn list_first(hash: u64, own: u32, firsts: &mut Firsts) -> Result<(), AllocError>
+    ensures keeps { OnOk result (KeepsKeys (get nat_eq firsts.old) (get nat_eq firsts.new)) }
+    ensures has { OnOk result (HasKey (get nat_eq firsts.new) hash) }
+{
+    match firsts.get(&hash) {
+        Some(_) => Ok(()),
+        None => {
+            firsts.insert(hash, own)?;
+            Ok(())
+        }
+    }
+}
+
+/// The number by which a node is named: that of a node before it that does the same, or its own. Only where one is
+/// listed under the same hash can one do the same.
 fn number_of(
+    nodes: &[Node],
+    live: &[bool],
+    sorted: &[bool],
+    table: &[u32],
+    firsts: &Firsts,
+    made: &[Node],
+    node: &Node,
+    own: u32,
+) -> u32
+    requires live { live.now ≡ live_list (plan_of nodes.now) }
+    requires sorted { sorted.now ≡ sorted_list (plan_of nodes.now) }
+    requires within { own < length nodes.now }
+    requires so_far { IsSoFar (plan_of nodes.now) table.now (plan_of made.now) own }
+    requires listed { AreListed (plan_of nodes.now) (plan_of made.now) (get nat_eq firsts.now) }
+    requires node { IsRenamedAt (plan_of nodes.now) table.now own (node_of node.now) }
+    ensures { IsFound (plan_of nodes.now) table.now own result }
+{
+    if !is_open(nodes, live, sorted, own) {
+        return own;
+    }
+    match firsts.get(&hash_op(&node.op)) {
+        None => own,
+        Some(first) => number_from(nodes, live, sorted, table, made, node, own, *first),
+    }
+}
+
+/// That of the first one with the same hash where it does the same; hashes of operators that differ are rarely the same.
+fn number_from(
+    nodes: &[Node],
+    live: &[bool],
+    sorted: &[bool],
+    table: &[u32],
+    made: &[Node],
+    node: &Node,
+    own: u32,
+    first: u32,
+) -> u32
+    requires live { live.now ≡ live_list (plan_of nodes.now) }
+    requires sorted { sorted.now ≡ sorted_list (plan_of nodes.now) }
+    requires within { own < length nodes.now }
+    requires so_far { IsSoFar (plan_of nodes.now) table.now (plan_of made.now) own }
+    requires node { IsRenamedAt (plan_of nodes.now) table.now own (node_of node.now) }
+    ensures { IsFound (plan_of nodes.now) table.now own result }
+{
+    if first < own {
+        if does_same(nodes, live, sorted, table, made, node, own, first) {
+            return number_at(table, first);
+        }
+    }
+    number_of_any(nodes, live, sorted, table, made, node, own)
+}
+
+/// That of the first node before it that does the same, of all of them.
+fn number_of_any(
     nodes: &[Node],
     live: &[bool],
     sorted: &[bool],

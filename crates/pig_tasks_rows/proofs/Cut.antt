@@ -44,27 +44,27 @@ cut_at n points (r ∷ runs) (x ∷ xs) (y ∷ ys) h (suc at) new by =
     record { old = found.old; stands = found.stands; run = found.run; is = found.is }
 
 -- what is handed to a node that sorts are runs
-record Handed (s : Stages) (k : ℕ) (o : PlanOp) (form : Form) : Type 0 where
-  pub runs_of : MapFits s k o form → HasRuns s k o form
-  pub fits_as : HasRuns s k o form → MapFits s k o form
+record Handed (s : Stages) (k : ℕ) (o : PlanOp) (i : ℕ) (form : Form) : Type 0 where
+  pub runs_of : MapFits s k o i form → HasRuns s k o form
+  pub fits_as : HasRuns s k o form → MapFits s k o i form
 
 no_keys : (keys : List SortKey) → None ≡ Some keys → ⊥
 no_keys keys e = absurd (let none : ◌≡◌ {A = Option (List SortKey)} None (Some keys) = e in cc)
 
-handed : (s : Stages) (k : ℕ) (o : PlanOp) (keys : List SortKey) → sort_keys o ≡ Some keys → (form : Form) → Handed s k o form
-handed s k (p_order input by) keys is form = record { runs_of = λ h. h; fits_as = λ h. h }
-handed s k (p_rank input by dense) keys is form = record { runs_of = λ h. h; fits_as = λ h. h }
-handed s k (p_load path delim columns) keys is form = absurd (no_keys keys is)
-handed s k (p_filter input cond) keys is form = absurd (no_keys keys is)
-handed s k (p_foreach input block) keys is form = absurd (no_keys keys is)
-handed s k (p_group_all input) keys is form = absurd (no_keys keys is)
-handed s k (p_group inputs) keys is form = absurd (no_keys keys is)
-handed s k (p_join inputs side replicated) keys is form = absurd (no_keys keys is)
-handed s k (p_union inputs) keys is form = absurd (no_keys keys is)
-handed s k (p_distinct input) keys is form = absurd (no_keys keys is)
-handed s k (p_limit input count) keys is form = absurd (no_keys keys is)
-handed s k (p_store input path delim) keys is form = absurd (no_keys keys is)
-handed s k (p_assert input cond message) keys is form = absurd (no_keys keys is)
+handed : (s : Stages) (k : ℕ) (o : PlanOp) (keys : List SortKey) → sort_keys o ≡ Some keys → (i : ℕ) (form : Form) → Handed s k o i form
+handed s k (p_order input by) keys is i form = record { runs_of = λ h. h; fits_as = λ h. h }
+handed s k (p_rank input by dense) keys is i form = record { runs_of = λ h. h; fits_as = λ h. h }
+handed s k (p_load path delim columns) keys is i form = absurd (no_keys keys is)
+handed s k (p_filter input cond) keys is i form = absurd (no_keys keys is)
+handed s k (p_foreach input block) keys is i form = absurd (no_keys keys is)
+handed s k (p_group_all input) keys is i form = absurd (no_keys keys is)
+handed s k (p_group inputs) keys is i form = absurd (no_keys keys is)
+handed s k (p_join inputs side replicated) keys is i form = absurd (no_keys keys is)
+handed s k (p_union inputs) keys is i form = absurd (no_keys keys is)
+handed s k (p_distinct input) keys is i form = absurd (no_keys keys is)
+handed s k (p_limit input count) keys is i form = absurd (no_keys keys is)
+handed s k (p_store input path delim) keys is i form = absurd (no_keys keys is)
+handed s k (p_assert input cond message) keys is i form = absurd (no_keys keys is)
 
 module _ (s : Stages) (w : ℕ) (sorting : IsSorting s w) where
   abbrev op : PlanOp
@@ -73,14 +73,14 @@ module _ (s : Stages) (w : ℕ) (sorting : IsSorting s w) where
   abbrev ds : List Dir
   ds = run_dirs op
 
-  to_node : (form : Form) → Handed s sorting.node op form
+  to_node : (i : ℕ) (form : Form) → Handed s sorting.node op i form
   to_node = handed s sorting.node op sorting.order.keys sorting.order.sorts
 
   own_op : (k : ℕ) → k ≡ sorting.node → op_at s.plan k ≡ Some op
   own_op k is = ap (op_at s.plan) is ∙ sorting.order.at
 
   runs_by : (o : TaskOut) (task : Task) → GoesTo sorting.node task → Fits s task o → HasRuns s sorting.node op o.form
-  runs_by o (t_map t) goes fits = (to_node o.form).runs_of (subst (λ k. MapFits s k op o.form) goes (fits op (own_op t.node goes)))
+  runs_by o (t_map t) goes fits = (to_node t.way.input o.form).runs_of (subst (λ k. MapFits s k op t.way.input o.form) goes (fits op (own_op t.node goes)))
   runs_by o (t_reduce t) goes fits = absurd goes
   runs_by o (t_rank t) goes fits = absurd goes
 
@@ -119,8 +119,8 @@ module _ (s : Stages) (w : ℕ) (sorting : IsSorting s w) where
 
   fits_by : (o : TaskOut) (task : Task) → GoesTo sorting.node task → HasRuns s sorting.node op o.form → Fits s task o
   fits_by o (t_map t) goes h = λ p at.
-      subst (λ q. MapFits s t.node q o.form) (some_same op p (sym (own_op t.node goes) ∙ at))
-      (subst (λ k. MapFits s k op o.form) (sym goes) ((to_node o.form).fits_as h))
+      subst (λ q. MapFits s t.node q t.way.input o.form) (some_same op p (sym (own_op t.node goes) ∙ at))
+      (subst (λ k. MapFits s k op t.way.input o.form) (sym goes) ((to_node t.way.input o.form).fits_as h))
   fits_by o (t_reduce t) goes h = absurd goes
   fits_by o (t_rank t) goes h = absurd goes
 

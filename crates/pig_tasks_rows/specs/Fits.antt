@@ -1,12 +1,14 @@
 -- Outputs that fit their tasks, wave by wave, and waves whose tasks sort.
-use Rattle.std.specs.Prelude.{◌≡◌, ℕ, List, Some, slice_get}
+use Rattle.std.specs.Prelude.{◌≡◌, ◌<◌, ℕ, List, length, Some, slice_get}
 use Rattle.pig_typed.specs.declared.blocks.SortKey.{SortKey}
 use Rattle.pig_plan.specs.Entries.{sort_keys}
 use Rattle.pig_plan.specs.Nodes.{op_at}
 use Rattle.pig_plan.specs.Plans.{Plan, PlanOp}
-use Rattle.pig_physical.specs.Fitting.{Fits}
+use Rattle.pig_physical.specs.Fitting.{Fits, HasAll}
 use Rattle.pig_physical.specs.Outs.{Outs, TaskOut}
-use Rattle.pig_physical.specs.Stages.{Stages, Task, t_map, t_rank, t_reduce, tasks_in}
+use Rattle.pig_physical.specs.Stages.{Stages, Task, heads, t_map, t_rank, t_reduce, tasks_in}
+use Rattle.pig_physical.specs.declared.waves.WaveHead.{WaveHead}
+use Rattle.pig_physical.specs.declared.waves.WaveKind.TheVariants as kinds
 
 -- there is a task at the place of a wave, and the output fits it
 pub record FitsAt (s : Stages) (w at : ℕ) (out : TaskOut) : Type 0 where
@@ -19,6 +21,13 @@ WaveFits s w outs = (at : ℕ) (out : TaskOut) → slice_get outs at ≡ Some ou
 
 abbrev pub AllFit : Stages → Outs → Type 0
 AllFit s outs = (w : ℕ) (found : List TaskOut) → slice_get outs w ≡ Some found → WaveFits s w found
+
+-- where a wave copies for a node, all its outputs stand
+abbrev pub CopiedAt : Stages → Outs → ℕ → ℕ → Type 0
+CopiedAt s outs k w = (head : WaveHead) → slice_get (heads s.plan) w ≡ Some head → head.kind ≡ kinds.Copy → head.node ≡ k → HasAll s outs w
+
+abbrev pub AllCopied : Stages → Outs → ℕ → Type 0
+AllCopied s outs k = (w : ℕ) → w < length (heads s.plan) → CopiedAt s outs k w
 
 -- the node sorts rows by keys
 pub record IsByKeys (plan : Plan) (k : ℕ) : Type 0 where

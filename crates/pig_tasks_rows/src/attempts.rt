@@ -8,7 +8,7 @@ ghost use Rattle.pig_physical.specs.declared.parts.Task.TheVariants as tasks;
 ghost use Rattle.pig_tasks_rows.specs.Fits.{AllFit, FitsAt, WaveFits};
 
 use crate::pieces::Pieces;
-use crate::standing::{all_stand, part_stands, wave_stands};
+use crate::standing::{all_stand, read_stands, wave_stands};
 use pig_map::map_task_blocks;
 use pig_outside::Stop;
 use pig_physical::{MapTask, Out, Outs, ReduceTask, Stages, Task};
@@ -32,8 +32,8 @@ fn mapped<R: Abort>(
     ensures { Fits (staged stages.now) (t_map (map_task_of (staged stages.now) task.now))
         (out_of result) }
 {
-    if !part_stands(stages, prior, &task.part) {
-        panic!(rt; "a part that isn't there");
+    if !read_stands(stages, prior, task) {
+        panic!(rt; "a part or copies that aren't there");
     }
     map_task_blocks(alloc, stages, task, prior, host, block).expect(rt, "an output")
 }

@@ -157,6 +157,88 @@ fn null_keys_go_apart(rt: HostRuntime) {
     check_bags(&rt, alloc, JOINED_FULL);
 }
 
+/// The same rows whichever input is copied.
+const REPLICATED: &str = "\
+    a = LOAD 'a' AS (k:int, v:chararray); b = LOAD 'b' AS (k:int, v:chararray);
+    j = JOIN a BY k, b BY k USING 'replicated'; STORE j INTO 'out';\
+    @1\tx\n\ty\n\tz\n\
+    @1\tp\n\tq\n\
+    @1\tx\t1\tp\n.\n";
+
+const REPLICATED_LEFT: &str = "\
+    a = LOAD 'a' AS (k:int, v:chararray); b = LOAD 'b' AS (k:int, v:chararray);
+    j = JOIN a BY k LEFT, b BY k USING 'replicated'; STORE j INTO 'out';\
+    @1\tx\n\ty\n\tz\n\
+    @1\tp\n\tq\n\
+    @\ty\t\t\n\tz\t\t\n1\tx\t1\tp\n.\n";
+
+/// Two copied inputs, of which the second is a path from the first. The key 3 is in no row of `a`, and 4 in no row of `b`.
+const REPLICATED_THREE: &str = "\
+    a = LOAD 'a' AS (k:int, v:chararray); b = LOAD 'b' AS (k:int, v:chararray);
+    c = FILTER b BY v != 'p'; j = JOIN a BY k, b BY k, c BY k USING 'replicated';
+    STORE j INTO 'out';\
+    @1\tx\n2\ty\n1\tz\n\tw\n4\tu\n\
+    @1\tp\n3\tq\n1\tr\n\ts\n2\tt\n\
+    @1\tx\t1\tp\t1\tr\n1\tx\t1\tr\t1\tr\n1\tz\t1\tp\t1\tr\n1\tz\t1\tr\t1\tr\n\
+    2\ty\t2\tt\t2\tt\n.\n";
+
+/// Rows that come on two paths are joined with the same copies.
+const REPLICATED_UNION: &str = "\
+    a = LOAD 'a' AS (k:int, v:chararray); b = LOAD 'b' AS (k:int, v:chararray);
+    u = UNION a, b; j = JOIN u BY k, b BY k USING 'replicated';
+    l = JOIN u BY k LEFT, a BY k USING 'replicated'; STORE j INTO 'j'; STORE l INTO 'l';\
+    @1\tx\n2\ty\n\
+    @2\tp\n\tq\n1\tr\n\
+    @1\tr\t1\tr\n1\tx\t1\tr\n2\tp\t2\tp\n2\ty\t2\tp\n.\n\
+    \tq\t\t\n1\tr\t1\tx\n1\tx\t1\tx\n2\tp\t2\ty\n2\ty\t2\ty\n.\n";
+
+/// Of the copies of a UNION those of both paths are probed.
+const REPLICATED_BY_UNION: &str = "\
+    a = LOAD 'a' AS (k:int, v:chararray); b = LOAD 'b' AS (k:int, v:chararray);
+    u = UNION a, b; l = JOIN a BY k LEFT, u BY k USING 'replicated'; STORE l INTO 'l';\
+    @1\tx\n\ty\n\
+    @2\tp\n\tq\n1\tr\n\
+    @\ty\t\t\n1\tx\t1\tr\n1\tx\t1\tx\n.\n";
+
+const NONE_PROBES: &str = "\
+    a = LOAD 'a' AS (k:int, v:chararray); b = LOAD 'b' AS (k:int, v:chararray);
+    j = JOIN a BY k, b BY k USING 'replicated'; l = JOIN a BY k LEFT, b BY k USING 'replicated';
+    STORE j INTO 'j'; STORE l INTO 'l';\
+    @\
+    @1\tp\n\tq\n\
+    @.\n.\n";
+
+const NONE_COPIED: &str = "\
+    a = LOAD 'a' AS (k:int, v:chararray); b = LOAD 'b' AS (k:int, v:chararray);
+    j = JOIN a BY k, b BY k USING 'replicated'; l = JOIN a BY k LEFT, b BY k USING 'replicated';
+    STORE j INTO 'j'; STORE l INTO 'l';\
+    @1\tx\n\ty\n\
+    @\
+    @.\n\ty\t\t\n1\tx\t\t\n.\n";
+
+/// Partitions of a GROUP probe, and then those of the JOIN, which are counted.
+const REPLICATED_IN_TURN: &str = "\
+    a = LOAD 'a' AS (k:int, v:chararray); b = LOAD 'b' AS (k:int, v:chararray);
+    g = GROUP a BY k; c = FOREACH g GENERATE group AS k, COUNT(a) AS n;
+    j = JOIN c BY k, b BY k USING 'replicated'; i = JOIN j BY n, a BY k USING 'replicated';
+    h = GROUP i ALL; d = FOREACH h GENERATE COUNT(i); STORE i INTO 'i'; STORE d INTO 'd';\
+    @1\tx\n2\ty\n1\tz\n\
+    @1\tp\n2\tq\n\
+    @1\t2\t1\tp\t2\ty\n2\t1\t2\tq\t1\tx\n2\t1\t2\tq\t1\tz\n.\n3\n.\n";
+
+#[test]
+fn copies_are_probed(rt: HostRuntime) {
+    let alloc = rt.alloc();
+    check_bags(&rt, alloc, REPLICATED);
+    check_bags(&rt, alloc, REPLICATED_LEFT);
+    check_bags(&rt, alloc, REPLICATED_THREE);
+    check_bags(&rt, alloc, REPLICATED_UNION);
+    check_bags(&rt, alloc, REPLICATED_BY_UNION);
+    check_bags(&rt, alloc, NONE_PROBES);
+    check_bags(&rt, alloc, NONE_COPIED);
+    check_bags(&rt, alloc, REPLICATED_IN_TURN);
+}
+
 const NULL_AGGREGATES: &str = "\
     a = LOAD 'a' AS (k:chararray, x:int); g = GROUP a BY k;
     o = FOREACH g GENERATE group, COUNT(a.x), COUNT_STAR(a.x), SUM(a.x), MIN(a.x);
@@ -226,6 +308,25 @@ fn rows_are_ordered(rt: HostRuntime) {
     check_lists(&rt, alloc, DESCENDING);
     check_lists(&rt, alloc, WIDENED);
     check_bags(&rt, alloc, NESTED_ORDER);
+}
+
+const RANKED: &str = "\
+    a = LOAD 'a' AS (k:int, v:chararray); r = RANK a BY k DESC; STORE r INTO 'out';\
+    @2\ta\n\tb\n3\tc\n2\tA\n\
+    @\
+    @1\t3\tc\n2\t2\tA\n2\t2\ta\n4\t\tb\n.\n";
+
+const RANKED_DENSE: &str = "\
+    a = LOAD 'a' AS (k:int, v:chararray); r = RANK a BY k DESC DENSE; STORE r INTO 'out';\
+    @2\ta\n\tb\n3\tc\n2\tA\n\
+    @\
+    @1\t3\tc\n2\t2\tA\n2\t2\ta\n3\t\tb\n.\n";
+
+#[test]
+fn rows_are_ranked(rt: HostRuntime) {
+    let alloc = rt.alloc();
+    check_bags(&rt, alloc, RANKED);
+    check_bags(&rt, alloc, RANKED_DENSE);
 }
 
 const NESTED_TEXT: &str = "\

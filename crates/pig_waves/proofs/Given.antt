@@ -80,13 +80,13 @@ module _ (s : Stages) (inputs : List Input) (points : ℕ → List Point) (outs 
   abbrev pub task_entries : MapTask → List Entry
   task_entries t = handed_on s.plan k o (entries_of o t.way.input (task_rows s.plan inputs outs t))
 
-  module _ (form_is : (i : ℕ) (rows : List (List Tree)) (form : Form) → IsMapForm s (Some (points wave)) k o i rows form
+  module _ (form_is : (i : ℕ) (rows : List (List Tree)) (form : Form) → IsMapForm s (Some (points wave)) outs k o i rows form
       → form ≡ o_runs (runs_of s.sizing.reducers (Some (points wave)) o (handed_on s.plan k o (entries_of o i rows)))) where
     pub map_forms : Each (λ t out. out.form ≡ o_runs (runs_of s.sizing.reducers (Some (points wave)) o (task_entries t))) (map_tasks s k o) map_outs
     map_forms =
         each_weaker_two IsMapOut (λ t out. out.form ≡ o_runs (runs_of s.sizing.reducers (Some (points wave)) o (task_entries t)))
         (λ t out h. form_is t.way.input (task_rows s.plan inputs outs t) out.form
-        (subst (λ n. IsMapForm s (Some (points wave)) n o t.way.input (task_rows s.plan inputs outs t) out.form) h.0 h.1.form)) (map_tasks s k o) map_outs map_values
+        (subst (λ n. IsMapForm s (Some (points wave)) outs n o t.way.input (task_rows s.plan inputs outs t) out.form) h.0 h.1.form)) (map_tasks s k o) map_outs map_values
 
     -- the entries of a partition, by what a run of the partition has
     module _ (taken : ℕ → List Entry → List Entry) (p : ℕ)

@@ -4,10 +4,13 @@ pub mod Heads
 pub mod Folders
 pub mod Alone
 pub mod Sources
+pub mod Counted
 pub mod Tasks
 pub mod Given
+pub mod Probing
 pub mod ByKey
 pub mod Distinct
 pub mod Sorted
 pub mod Limits
 pub mod Ranked
+pub mod Joining

@@ -5,7 +5,6 @@ use Rattle.std.specs.List.{flat_map, range_with_len}
 use Rattle.std.proofs.lemmas.List.FromFn.{length-range_with_len}
 use Rattle.pig_value.specs.declared.inputs.Input.{Input}
 use Rattle.pig_value.specs.Elementwise.{Each}
-use Rattle.pig_value.specs.Trees.{Tree}
 use Rattle.pig_value.proofs.list_laws.Elementwise.{each_flat, each_length, each_weaker_two}
 use Rattle.pig_value.proofs.list_laws.Listing.{map-flat_map}
 use Rattle.pig_typed.specs.declared.blocks.SortKey.{SortKey}

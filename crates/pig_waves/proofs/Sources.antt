@@ -21,7 +21,7 @@ use Rattle.pig_plan.specs.Results.{at_place}
 use Rattle.pig_physical.specs.declared.parts.Part.TheVariants as parts
 use Rattle.pig_physical.specs.Outs.{Outs, outs_at, rows_at, rows_in}
 use Rattle.pig_physical.specs.Running.{rows_given}
-use Rattle.pig_physical.specs.Stages.{Stages, last_wave, parts_at, parts_of, reduce_count}
+use Rattle.pig_physical.specs.Stages.{Stages, last_wave, output_count, parts_at, parts_of}
 use Rattle.pig_physical.specs.Values.{part_rows, source_rows, split_lines}
 use Rattle.pig_waves.proofs.Places.{of_places}
 
@@ -80,12 +80,12 @@ module _ (s : Stages) (inputs : List Input) (outs : Outs) (k : ℕ) where
       ap (λ m. flat_map (λ part. rows_at outs wave part) (range_with_len 0 m)) (sym size) ∙ of_places (λ out. rows_in out.form) (outs_at outs wave)
 
   abbrev pub IsGiven : PlanOp → Type 0
-  IsGiven o = length (outs_at outs (last_wave s.plan k o)) ≡ reduce_count s.sizing.reducers o → rows_of_parts s inputs outs k ≡ rows_given s.plan outs k o
+  IsGiven o = length (outs_at outs (last_wave s.plan k o)) ≡ output_count s o → rows_of_parts s inputs outs k ≡ rows_given s.plan outs k o
 
-  pub outputs : (o : PlanOp) → op_at s.plan k ≡ Some o → parts_of s k o ≡ map (parts.Output (last_wave s.plan k o)) (range_with_len 0 (reduce_count s.sizing.reducers o))
+  pub outputs : (o : PlanOp) → op_at s.plan k ≡ Some o → parts_of s k o ≡ map (parts.Output (last_wave s.plan k o)) (range_with_len 0 (output_count s o))
       → ((part : ℕ) → part_rows inputs outs (parts.Output (last_wave s.plan k o) part) o ≡ rows_at outs (last_wave s.plan k o) part) → IsGiven o
   outputs o at are rows size =
       parts_known o at
       ∙ ap (flat_map (λ part. part_rows inputs outs part o)) are
-      ∙ flat_map-map (λ part. part_rows inputs outs part o) (parts.Output (last_wave s.plan k o)) (range_with_len 0 (reduce_count s.sizing.reducers o))
-      ∙ given_parts (last_wave s.plan k o) (reduce_count s.sizing.reducers o) size
+      ∙ flat_map-map (λ part. part_rows inputs outs part o) (parts.Output (last_wave s.plan k o)) (range_with_len 0 (output_count s o))
+      ∙ given_parts (last_wave s.plan k o) (output_count s o) size

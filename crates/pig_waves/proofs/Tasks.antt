@@ -1,7 +1,7 @@
 -- What the tasks on all ways into a node make of their rows is, joined, what is made of the rows that come to its inputs.
-use Rattle.std.specs.Prelude.{◌≡◌, ◌+◌, ℕ, List, [], ◌∷◌, ◌++◌, map, refl}
+use Rattle.std.specs.Prelude.{◌≡◌, ◌+◌, ℕ, not, List, [], ◌∷◌, ◌++◌, map, refl}
 use Rattle.std.proofs.Common.{ap, sym, ◌∙◌}
-use Rattle.std.specs.List.{AllByRecursion, flat_map}
+use Rattle.std.specs.List.{AllByRecursion, filter, flat_map}
 use Rattle.std.proofs.lemmas.Grind.{flat_map-append}
 use Rattle.std.proofs.lemmas.List.Folds.{flat_map-map}
 use Rattle.pig_value.specs.declared.inputs.Input.{Input}
@@ -15,10 +15,12 @@ use Rattle.pig_plan.specs.Steps.{rows_along, rows_to, through}
 use Rattle.pig_physical.specs.declared.parts.Part.{Part}
 use Rattle.pig_physical.specs.Combining.{folds}
 use Rattle.pig_physical.specs.Outs.{Outs}
-use Rattle.pig_physical.specs.Stages.{MapTask, Stages, map_tasks, parts_at, path_tasks, store_tasks, tasks_on}
+use Rattle.pig_physical.specs.Stages.{MapTask, Stages, enters_first, map_tasks, parts_at, path_tasks, store_tasks, tasks_on}
 use Rattle.pig_physical.specs.Values.{source_rows, task_rows}
+use Rattle.pig_waves.proofs.Counted.{tasks_of_first, tasks_of_others}
 use Rattle.pig_waves.proofs.Places.{all_flat, all_flat_where}
 use Rattle.pig_waves.proofs.Sources.{rows_of_parts}
+use Rattle.pig_waves.specs.Laws.{copy_tasks, probe_tasks}
 
 abbrev Rows : Type 0
 Rows = List (List Tree)
@@ -85,3 +87,19 @@ module _ (s : Stages) (inputs : List Input) (outs : Outs) where
 
     pub from_store_tasks : (k : ℕ) → flat_map of_task (store_tasks s k) ≡ make 0 (rows_at_node k) ++ []
     from_store_tasks k = on_ways k (entering (paths_of s.plan) 0 (k ∷ [])) ∙ by_inputs 0 (k ∷ [])
+
+    -- of a replicated JOIN, the tasks of its first input, and those of the others
+    pub from_probes : (k : ℕ) (o : PlanOp) (n : ℕ) (ns : List ℕ) → inputs_of o ≡ n ∷ ns → flat_map of_task (probe_tasks s k o) ≡ make 0 (rows_at_node n)
+    from_probes k o n ns are =
+        ap (λ nodes. flat_map of_task (filter enters_first (tasks_on s k (entering (paths_of s.plan) 0 nodes)))) are
+        ∙ ap (flat_map of_task) (tasks_of_first s k n ns)
+        ∙ on_ways k (map (λ path. record { input = 0; path = path }) (paths_of s.plan n))
+        ∙ flat_map-map (λ way. make way.input (along way.path)) (λ path. record { input = 0; path = path }) (paths_of s.plan n)
+        ∙ of_lists 0 along (paths_of s.plan n)
+
+    pub from_copies : (k : ℕ) (o : PlanOp) (n : ℕ) (ns : List ℕ) → inputs_of o ≡ n ∷ ns → flat_map of_task (copy_tasks s k o) ≡ from_inputs make 1 ns rows_at_node
+    from_copies k o n ns are =
+        ap (λ nodes. flat_map of_task (filter (λ t. not (enters_first t)) (tasks_on s k (entering (paths_of s.plan) 0 nodes)))) are
+        ∙ ap (flat_map of_task) (tasks_of_others s k n ns)
+        ∙ on_ways k (entering (paths_of s.plan) 1 ns)
+        ∙ by_inputs 1 ns

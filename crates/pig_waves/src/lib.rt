@@ -3,4 +3,4 @@
 
 mod laws;
 
-pub use laws::waves_stand_in_turn;
+pub use laws::{parts_are_counted, probes_stand_in_turn, waves_stand_in_turn};

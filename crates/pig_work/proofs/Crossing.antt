@@ -16,6 +16,11 @@ use Rattle.pig_value.proofs.texts.Blob.TheSendSync as blob
 use Rattle.pig_value.proofs.values.Value.TheLaws.TheKnot.{sync-Value}
 use Rattle.pig_value.specs.contracts.values.Value as value_type
 use Rattle.pig_rank.specs.contracts.parts.Start as start_type
+use Rattle.std.proofs.vec.Vec.TheSendSync as vec
+use Rattle.pig_replicated.specs.contracts.groups.Group as group_type
+use Rattle.pig_replicated.specs.contracts.lookup.Lookup as lookup_type
+use Rattle.pig_probe.specs.contracts.sides.Sides as sides_type
+use Rattle.pig_work.specs.contracts.work.Shared as shared_type
 use Rattle.pig_work.specs.declared.work.Setting.{Ghosts}
 use Rattle.pig_work.specs.contracts.work.StageWork as work_type
 
@@ -37,12 +42,31 @@ start_shared = declared_sync start_type.the_type (
 starts_shared : IsSync (seq_type.the_row start_type.the_row)
 starts_shared = search (sendable, seq.the_sync, start_shared)
 
+rows_shared : IsSync (seq_type.the_row (seq_type.the_row value_type.the_row))
+rows_shared = search (sendable, seq.the_sync, value_shared)
+
+group_shared : IsSync group_type.the_row
+group_shared = declared_sync group_type.the_type (value_shared, (rows_shared, tt))
+
+lookup_shared : IsSync lookup_type.the_row
+lookup_shared =
+    view_sync lookup_type.TheInside.the_row _ _ _ _
+    (declared_sync lookup_type.TheInside.the_type (search (sendable, as_row_sync, heap.the_sync, vec.the_sync, group_shared) depth 9, (rows_shared, tt)))
+
+sides_shared : IsSync sides_type.the_row
+sides_shared =
+    view_sync sides_type.TheInside.the_row _ _ _ _
+    (declared_sync sides_type.TheInside.the_type (search (sendable, seq.the_sync, lookup_shared), (search (sendable, option.the_sync), tt)))
+
+shared_shared : IsSync shared_type.the_row
+shared_shared = declared_sync shared_type.the_type (starts_shared, (sides_shared, tt))
+
 inside_shared : (κ : NamedLft) (T : RattleType) (N : Ghosts T.Denot) → IsSync T → IsSync (work_type.TheInside.the_row κ T N)
 inside_shared κ T N shared = declared_sync (work_type.TheInside.the_type κ T N) (
   search (sendable, heap.the_sync),
   (
     search (sendable, as_row_sync, stages_shared),
-    (search (sendable, as_row_sync, outs_shared), (search sendable, (search (sendable, as_row_sync, starts_shared), (search (sendable, phantom.the_sync), tt)))),
+    (search (sendable, as_row_sync, outs_shared), (search sendable, (search (sendable, as_row_sync, shared_shared), (search (sendable, phantom.the_sync), tt)))),
   ),
 )
 

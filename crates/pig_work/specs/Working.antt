@@ -10,7 +10,8 @@ use Rattle.pig_physical.specs.Stages.{MapTask, Stages, Task, heads, t_map, t_ran
 use Rattle.pig_physical.specs.Values.{IsValue}
 use Rattle.pig_physical.specs.declared.parts.ReduceTask.{ReduceTask}
 use Rattle.pig_rank.specs.declared.parts.Start.{Start}
-use Rattle.pig_waves.specs.Laws.{HaveStages}
+use Rattle.pig_probe.specs.Probing.{SidesSeen}
+use Rattle.pig_map.specs.Copies.{AreSidesIn}
 use Rattle.pig_reduce.specs.Made.{IsStartIn}
 
 -- what each of several hosts tells of its inputs, where it tells
@@ -42,12 +43,17 @@ pub record Suits (s : Stages) (tellings : Tellings) (wave : ℕ) (told : Option 
   pub stands : slice_get tellings place ≡ Some told
   pub sources : ForSome told (HasSources s wave)
 
--- the wave is one of the stages', which have no replicated JOIN, and what its tasks name stands
+-- the wave is one of the stages', and what its tasks name stands
 pub record IsReady (s : Stages) (outs : Outs) (wave : ℕ) : Type 0 where
   pub within : wave < length (heads s.plan)
-  pub staged : HaveStages s.plan
   pub named : (place : ℕ) (task : Task) → slice_get (tasks_in s wave) place ≡ Some task → HasNamed s outs task
 
--- what stands before each partition that a rank task of the wave reads
+-- what stands before each partition that a rank task of the wave reads: each has a start
 abbrev pub AreStarts : Stages → Outs → ℕ → List Start → Type 0
-AreStarts s outs wave starts = (place : ℕ) (t : ReduceTask) → slice_get (tasks_in s wave) place ≡ Some (t_rank t) → IsStartIn s.plan outs t starts
+AreStarts s outs wave starts = (place : ℕ) (t : ReduceTask) → slice_get (tasks_in s wave) place ≡ Some (t_rank t)
+    → (t.part < length starts) × IsStartIn s.plan outs t starts
+
+-- what the tasks of a wave share: starts of those that rank, and sides of those that probe
+pub record IsShared (s : Stages) (outs : Outs) (wave : ℕ) (starts : List Start) (sides : SidesSeen) : Type 0 where
+  pub starts_are : AreStarts s outs wave starts
+  pub sides_are : AreSidesIn s outs wave sides

@@ -7,8 +7,9 @@ ghost use Rattle.pig_physical.specs.Seen.{IsOwn, IsTaskOf, staged, task_of};
 ghost use Rattle.pig_physical.specs.Stages.{heads, t_rank, t_reduce, tasks_in, ways_in};
 ghost use Rattle.pig_physical.specs.declared.parts.Task.TheVariants as tasks;
 ghost use Rattle.pig_reduce.specs.Made.{IsStartIn};
-ghost use Rattle.pig_work.specs.Working.{AreStarts, HasSources, IsReady, IsRight, IsRightAt, Tellings};
+ghost use Rattle.pig_work.specs.Working.{HasSources, IsReady, IsRight, IsRightAt, IsShared, Tellings};
 
+use crate::work::Shared;
 use pig_fitting::reduce_forms_fit;
 use pig_map::map_attempt;
 use pig_outside::{AttemptFault, Host, Stop};
@@ -27,13 +28,14 @@ pub(crate) fn attempt_at<H: Host, S: Stop>(
     wave: u32,
     place: u32,
     prior: &Outs,
-    starts: &Starts,
+    shared: &Shared,
     host: &mut H,
     stop: &mut S,
 ) -> Result<Option<Out>, AttemptFault>
     requires ready { IsReady (staged stages.now) (outs_of prior.now) wave }
     requires place { place < length (tasks_in (staged stages.now) wave) }
-    requires starts { AreStarts (staged stages.now) (outs_of prior.now) wave starts.now }
+    requires shared { IsShared (staged stages.now) (outs_of prior.now) wave shared.now.starts
+        shared.now.sides }
     requires host { ForSome (H.inputs host.old) (HasSources (staged stages.now) wave) }
     ensures right { IfOk result (λ o. IfSome o (λ out. IsRightAt (staged stages.now)
         (H.inputs host.old ∷ []) (outs_of prior.now) wave place (out_of out))) }
@@ -45,9 +47,11 @@ pub(crate) fn attempt_at<H: Host, S: Stop>(
     ensures lost { IsErrOf result AttemptFault.Lost → H.faults host.old < H.faults host.new }
 {
     match task_in(stages, wave, place) {
-        Task::Map(task) => map_attempt(alloc, stages, task, prior, host, BLOCK, stop),
+        Task::Map(task) => {
+            map_attempt(alloc, stages, task, prior, &shared.sides, host, BLOCK, stop)
+        }
         Task::Reduce(task) => reduce_in(alloc, stages, task, prior, stop),
-        Task::Rank(task) => rank_in(alloc, stages, task, prior, starts, stop),
+        Task::Rank(task) => rank_in(alloc, stages, task, prior, &shared.starts, stop),
     }
 }
 
@@ -98,6 +102,7 @@ fn rank_in<S: Stop>(
 ) -> Result<Option<Out>, AttemptFault>
     requires task { IsTaskOf (staged stages.now) (task.now.wave + 1) (tasks.Rank task.now) }
     requires prior { HasAll (staged stages.now) (outs_of prior.now) task.now.wave }
+    requires part { task.now.part < length starts.now }
     requires starts { IsStartIn (staged stages.now).plan (outs_of prior.now) task.now starts.now }
     ensures right { IfOk result (λ o. IfSome o (λ out. (tellings : Tellings)
         → IsRight (staged stages.now) tellings (outs_of prior.now) (t_rank task.now)
@@ -106,10 +111,7 @@ fn rank_in<S: Stop>(
     ensures kept { S.kept stop.new ≡ S.kept stop.old }
     ensures fault { IfErr result (λ fault. fault ≡ AttemptFault.OutOfMemory) }
 {
-    // Each partition has a start, so that this arm is not reached.
-    let Some(start) = starts.get(task.part as usize) else {
-        return Err(AttemptFault::OutOfMemory);
-    };
+    let start = &starts.as_slice()[task.part as usize];
     match rank_attempt(alloc, stages, task, prior, start, stop) {
         Ok(out) => Ok(out),
         Err(error) => Err(fault_of(error)),

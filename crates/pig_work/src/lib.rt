@@ -6,4 +6,4 @@ mod running;
 mod work;
 
 pub use running::run_stage;
-pub use work::{Setting, StageWork};
+pub use work::{Setting, Shared, StageWork};

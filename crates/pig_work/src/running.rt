@@ -7,9 +7,10 @@ ghost use Rattle.pig_physical.specs.Stages.{heads, tasks_in};
 ghost use Rattle.pig_pool.specs.Begins.{crew_tells};
 ghost use Rattle.pig_pool.specs.Wave.{AreBegun, AreOutputs, FaultBegun, HasFailed, IsRounds, IsWonWave, failures_in, failures_of};
 ghost use Rattle.pig_pool.specs.declared.wave.WaveFault.TheVariants.{OutOfMemory};
-ghost use Rattle.pig_work.specs.Working.{AreStarts, HasSources, IsReady, IsRightAt};
+ghost use Rattle.pig_work.specs.Working.{AreStarts, HasSources, IsReady, IsRightAt, IsShared};
 
-use crate::work::{Setting, StageWork};
+use crate::work::{Setting, Shared, StageWork};
+use pig_map::sides_before;
 use pig_outside::Host;
 use pig_physical::{Out, Outs, Stages, Task};
 use pig_pool::{WaveEnd, WaveFault, run_wave};
@@ -58,12 +59,28 @@ pub fn run_stage<R: Threads + Sync, H: Host + Send>(
     ensures inputs { map H.inputs hosts.new ≡ map H.inputs hosts.old }
     ensures later { sum_by H.faults hosts.old ≤ sum_by H.faults hosts.new }
 {
-    match starts_before(alloc, stages, wave, prior) {
-        Ok(starts) => {
-            run_set::<Brand, R, H>(rt, alloc, stages, wave, prior, &starts, hosts, limit)
+    match shared_before(alloc, stages, wave, prior) {
+        Ok(shared) => {
+            run_set::<Brand, R, H>(rt, alloc, stages, wave, prior, &shared, hosts, limit)
         }
         Err(AllocError) => Err(WaveFault::OutOfMemory),
     }
+}
+
+// What the tasks of a wave share, made once before they are attempted.
+fn shared_before(
+    alloc: Global,
+    stages: &Stages,
+    wave: u32,
+    prior: &Outs,
+) -> Result<Shared, AllocError>
+    requires { IsReady (staged stages.now) (outs_of prior.now) wave }
+    ensures { IfOk result (λ shared. IsShared (staged stages.now) (outs_of prior.now) wave
+        shared.starts shared.sides) }
+{
+    let starts = starts_before(alloc, stages, wave, prior)?;
+    let sides = sides_before(alloc, stages, wave, prior)?;
+    Ok(Shared { starts, sides })
 }
 
 // What stands before each partition that a rank task of a wave reads; another wave has no such tasks.
@@ -73,7 +90,7 @@ fn starts_before(
     wave: u32,
     prior: &Outs,
 ) -> Result<Starts, AllocError>
-    requires { wave < length (heads (staged stages.now).plan) }
+    requires { IsReady (staged stages.now) (outs_of prior.now) wave }
     ensures { IfOk result (AreStarts (staged stages.now) (outs_of prior.now) wave) }
 {
     if stages.tasks(wave) == 0 {
@@ -93,7 +110,7 @@ fn run_set<N: Setting + Send + Sync, R: Threads + Sync, H: Host + Send>(
     stages: &Stages,
     wave: u32,
     prior: &Outs,
-    starts: &Starts,
+    shared: &Shared,
     hosts: &mut [H],
     limit: u32,
 ) -> Result<WaveEnd<Out>, WaveFault>
@@ -103,7 +120,8 @@ fn run_set<N: Setting + Send + Sync, R: Threads + Sync, H: Host + Send>(
     requires outs { outs_of prior.now ≡ N.outs }
     requires told { map H.inputs hosts.old ≡ N.told }
     requires ready { IsReady (staged stages.now) N.outs wave }
-    requires starts { AreStarts (staged stages.now) N.outs wave starts.now }
+    requires shared { IsShared (staged stages.now) N.outs wave shared.now.starts
+        shared.now.sides }
     requires sources { All (λ h. ForSome (H.inputs h) (HasSources (staged stages.now) wave))
         hosts.old }
     ensures outs { IfOk result (λ r. AreOutputs (λ place out. IsRightAt (staged stages.now)
@@ -128,6 +146,6 @@ fn run_set<N: Setting + Send + Sync, R: Threads + Sync, H: Host + Send>(
     ensures inputs { map H.inputs hosts.new ≡ map H.inputs hosts.old }
     ensures later { sum_by H.faults hosts.old ≤ sum_by H.faults hosts.new }
 {
-    let work = StageWork::<'_, N>::new(alloc, stages, wave, prior, starts);
+    let work = StageWork::<'_, N>::new(alloc, stages, wave, prior, shared);
     run_wave(rt, alloc, &work, wave, hosts, limit)
 }

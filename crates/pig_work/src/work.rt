@@ -5,12 +5,13 @@ ghost use Rattle.pig_physical.specs.Handed.{out_of, outs_of};
 ghost use Rattle.pig_physical.specs.Outs.{Outs as GivenOuts};
 ghost use Rattle.pig_physical.specs.Seen.{staged};
 ghost use Rattle.pig_physical.specs.Stages.{tasks_in};
-ghost use Rattle.pig_work.specs.Working.{AreStarts, IsReady, IsRightAt, Suits, Tellings};
+ghost use Rattle.pig_work.specs.Working.{IsReady, IsRightAt, IsShared, Suits, Tellings};
 
 use crate::attempts::attempt_at;
 use pig_outside::{AttemptFault, Host, Stop};
 use pig_physical::{Out, Outs, Stages};
 use pig_pool::Work;
+use pig_probe::Sides;
 use pig_rank::Starts;
 use std::alloc::Global;
 use std::marker::{Brand, Model, PhantomData};
@@ -29,6 +30,13 @@ impl Setting for Brand {
     ghost told = { [] };
 }
 
+/// What the tasks of a wave share: the starts of those that rank, and the sides of those that probe.
+#[derive(Drop)]
+pub struct Shared {
+    pub starts: Starts,
+    pub sides: Sides,
+}
+
 /// The tasks of a wave, as work for hosts. It lends the stages and the outputs of earlier waves.
 ///
 /// Contracts see what the stages are seen as, and the number of the wave.
@@ -38,7 +46,7 @@ pub struct StageWork<'w, N: Setting> {
     stages: &'w Stages<'w>,
     prior: &'w Outs,
     wave: u32,
-    starts: &'w Starts,
+    shared: &'w Shared,
     of: PhantomData<N>,
 }
 
@@ -51,7 +59,7 @@ impl<'w, N: Setting> Model for StageWork<'w, N> {
     ghost use Rattle.pig_physical.specs.declared.staged.Size.{Size};
     ghost use Rattle.pig_physical.specs.Handed.{outs_of};
     ghost use Rattle.pig_physical.specs.Seen.{staged};
-    ghost use Rattle.pig_work.specs.Working.{AreStarts, IsReady};
+    ghost use Rattle.pig_work.specs.Working.{IsReady, IsShared};
 
     ghost Value = { (List Node × (List Size × (ℕ × ℕ))) × ℕ };
 
@@ -61,22 +69,22 @@ impl<'w, N: Setting> Model for StageWork<'w, N> {
 
     ghost invariant = { λ w. (outs_of w.prior.now ≡ N.outs)
         × IsReady (staged w.stages.now) N.outs w.wave
-        × AreStarts (staged w.stages.now) N.outs w.wave w.starts.now };
+        × IsShared (staged w.stages.now) N.outs w.wave w.shared.now.starts w.shared.now.sides };
 }
 
 impl<'w, N: Setting> StageWork<'w, N> {
-    /// The tasks of a wave for which all that they name stands. `starts` has what stands before each partition
-    /// that a rank task reads, and none for any other wave.
+    /// The tasks of a wave for which all that they name stands, with what they share.
     pub fn new(
         alloc: Global,
         stages: &'w Stages<'w>,
         wave: u32,
         prior: &'w Outs,
-        starts: &'w Starts,
+        shared: &'w Shared,
     ) -> StageWork<'w, N>
         requires outs { outs_of prior.now ≡ N.outs }
         requires ready { IsReady (staged stages.now) N.outs wave }
-        requires starts { AreStarts (staged stages.now) N.outs wave starts.now }
+        requires shared { IsShared (staged stages.now) N.outs wave shared.now.starts
+            shared.now.sides }
         ensures { result ≡ (stages.now, wave) }
     {
         StageWork {
@@ -84,7 +92,7 @@ impl<'w, N: Setting> StageWork<'w, N> {
             stages,
             prior,
             wave,
-            starts,
+            shared,
             of: PhantomData,
         }
     }
@@ -117,7 +125,7 @@ impl<'w, N: Setting> Work for StageWork<'w, N> {
             self.wave,
             place,
             self.prior,
-            self.starts,
+            self.shared,
             host,
             stop,
         )

@@ -107,9 +107,25 @@ const KEPT_SIDES: Row = Row {
     splits: &[("100", 10), ("4", 10), ("3", 10)],
 };
 
+/// A replicated JOIN shuffles nothing: the rows of `b` are copied, and each part of `a` is joined where it is read.
+const REPLICATED: Row = Row {
+    script: "a = LOAD 'a' AS (k:int, v:chararray);
+        b = LOAD 'b' AS (k:int, v:chararray);
+        j = JOIN a BY k, b BY k USING 'replicated';
+        l = JOIN a BY k LEFT, b BY k USING 'replicated';
+        STORE j INTO 'p';
+        STORE l INTO 'q';",
+    a: "1\tx\n\ty\n\tz\n",
+    b: "1\tp\n\tq\n",
+    show: Show::Bags,
+    head: "0 kept 0\nstored p 1\nstored q 3\ndone 10",
+    tail: "4\np whole\n1\tx\t1\tp\nq whole\n\ty\t\t\n\tz\t\t\n1\tx\t1\tp\n",
+    splits: &[("100", 0), ("5", 0), ("1", 0)],
+};
+
 #[test]
 fn rows_are_joined(rt: HostRuntime) {
-    for row in [NULL_KEYS, KEPT_SIDES] {
+    for row in [NULL_KEYS, KEPT_SIDES, REPLICATED] {
         let wrong = first_wrong(&rt, rt.alloc(), &row);
         assert_eq!(rt; wrong.as_str(), "");
     }

@@ -1,4 +1,3 @@
-use Rattle.std.proofs.Common.{ap}
 use Rattle.pig_cutter.specs.Feeds.{partition_task}
 use Rattle.pig_physical.proofs.Loops.{one_more}
 use Rattle.pig_cutter.proofs.listing.add_partition_tasks.Goals as goal

@@ -7,5 +7,5 @@ use Rattle.pig_cutter.proofs.reading.sources.Given as goal
 
 abbrev pub invariant-loop-number : goal.invariant-loop-number
 invariant-loop-number l =
-    (map reading_of l.found.items ≡ map (reads_at (plan_of l.nodes) l.sizes l.reducers) (range_with_len 0 l.number))
+    (map reading_of l.found.items ≡ map (reads_at (plan_of l.nodes) l.sizes l.counts) (range_with_len 0 l.number))
     × (l.wave ≡ first_wave (plan_of l.nodes) l.number)

@@ -7,5 +7,5 @@ use Rattle.pig_driver.proofs.handing.handed_in.Given as goal
 
 abbrev pub invariant-loop-at : goal.invariant-loop-at
 invariant-loop-at l =
-    (l.count + handed_in (drop l.at (tasks_in (staged l.stages) l.wave)) (drop l.at (map out_of l.outs))) % 2 ^ 64
-    ≡ handed_in (tasks_in (staged l.stages) l.wave) (map out_of l.outs) % 2 ^ 64
+    (l.count + handed_in (staged l.stages).plan (drop l.at (tasks_in (staged l.stages) l.wave)) (drop l.at (map out_of l.outs))) % 2 ^ 64
+    ≡ handed_in (staged l.stages).plan (tasks_in (staged l.stages) l.wave) (map out_of l.outs) % 2 ^ 64

@@ -1,17 +1,24 @@
-use Rattle.std.proofs.Common.{rules, ◌≡◌, ◌∙◌, ap, length, subst}
+use Rattle.std.proofs.Common.{rules, ◌≡◌, ◌∙◌, ◌<◌, ap, length, subst}
+use Rattle.pig_plan.specs.Valid.{IsPlan}
 use Rattle.pig_physical.specs.Seen.{staged}
 use Rattle.pig_physical.specs.Stages.{heads, tasks_in}
-use Rattle.pig_driver.specs.Left.{HaveLooked, HaveMarked}
-use Rattle.pig_driver.proofs.Looks.{last_looks_are, looked_next, looked_size, marked_none}
+use Rattle.pig_driver.specs.Left.{HaveLooked, HaveMarked, copies_in, looked, set_look}
+use Rattle.pig_driver.proofs.Looks.{last_looks_are, look_size, looked_next, looked_size, marked_none}
 use Rattle.pig_driver.proofs.leaving.last_looks.Goals as goal
 
 pub loop-wave-preserved : goal.loop-wave-preserved
 loop-wave-preserved c =
     let s = staged c.args.stages.now in
     let w = c.loop-wave.wave in
-    let olds = c.loop-wave.lasts.items in (
-      ap length c.note_looks.ensures ∙ looked_size (tasks_in s w) w olds ∙ c.loop-wave.invariant.0,
-      looked_next s w olds c.note_looks.new.lasts.items c.note_looks.ensures c.loop-wave.invariant.1,
+    let olds = c.loop-wave.lasts.items in
+    let valid : IsPlan (staged c.args.stages.now).plan = search rules in
+    let within : c.loop-wave.wave < length (heads (staged c.args.stages.now).plan) = search rules in (
+      ap length (c.note_copies.ensures ∙ ap (set_look (copies_in s w) w) c.note_looks.ensures)
+          ∙ look_size w (copies_in s w) (looked (tasks_in s w) w olds)
+          ∙ looked_size (tasks_in s w) w olds
+          ∙ c.loop-wave.invariant.0,
+      looked_next s valid w olds c.note_copies.new.lasts.items within (c.note_copies.ensures ∙ ap (set_look (copies_in s w) w) c.note_looks.ensures)
+          c.loop-wave.invariant.1,
     )
 
 pub loop-wave-2-init : goal.loop-wave-2-init

@@ -21,16 +21,15 @@ run_stage-ended-requires-clause-ready g c κs within =
     let going = c.requires.run in
     record {
       within = c.requires.wave;
-      staged = c.requires.staged;
       named = λ place task at. named_left s going.whole (outs_of c.args.ran.now.outs) c.args.wave place task going.are at
-          (c.waves_find_what_they_name.ensures s c.requires.valid c.requires.staged going.whole c.args.wave place task going.run.standing c.requires.wave at);
+          (c.waves_find_what_they_name.ensures s c.requires.valid going.whole c.args.wave place task going.run.standing c.requires.wave at);
     }
 
 pub run_stage-ended-requires-clause-sources : goal.run_stage-ended-requires-clause-sources
 run_stage-ended-requires-clause-sources g c κs within =
     let s = staged c.args.stages.now in
     all_hosts (λ told. ForSome told (HasSources s c.args.wave)) g.H.Host.inputs c.args.hosts.now
-    (told_sources s c.requires.valid c.requires.staged c.args.wave c.requires.wave (map g.H.Host.inputs c.args.hosts.now) c.requires.sizes)
+    (told_sources s c.requires.valid c.args.wave c.requires.wave (map g.H.Host.inputs c.args.hosts.now) c.requires.sizes)
 
 pub between-requires-clause-directed : goal.between-requires-clause-directed
 between-requires-clause-directed g c h =
@@ -38,7 +37,7 @@ between-requires-clause-directed g c h =
     let tellings = map g.H.Host.inputs c.args.hosts.now in
     let going = c.requires.run in
     let left = outs_of c.args.ran.now.outs in
-    may_slice s c.requires.valid c.requires.staged tellings going.whole c.args.wave c.requires.wave going.run (map out_of c.in-Ok.ended.outs)
+    may_slice s c.requires.valid tellings going.whole c.args.wave c.requires.wave going.run (map out_of c.in-Ok.ended.outs)
     (right_whole s tellings going.whole left c.args.wave (map out_of c.in-Ok.ended.outs) going.are (are_right s tellings left c.args.wave c.in-Ok.ended.outs c.in-Ok.ensures.outs)) c.requires.some h
 
 pub returns-clause-run : goal.returns-clause-run
@@ -50,10 +49,10 @@ returns-clause-run g c =
     let news = map out_of c.in_ok-found.found in
     let between : AreBetween (staged c.args.stages.now) c.args.wave (map out_of c.in-Ok.ended.outs) (map out_of c.in_ok-found.found) = search rules in
     let pushed : c.push-2.new.self ≡ c.args.ran.now.outs ++ c.in_ok-found.found ∷ [] = search rules in
-    let handed : c.handed_in-handed.result ≡ handed_in (tasks_in (staged c.args.stages.now) c.args.wave) (map out_of c.in_ok-found.found) % 2 ^ 64 = search rules in
+    let handed : c.handed_in-handed.result ≡ handed_in (staged c.args.stages.now).plan (tasks_in (staged c.args.stages.now) c.args.wave) (map out_of c.in_ok-found.found) % 2 ^ 64 = search rules in
     record {
       whole = going.whole ++ news ∷ [];
-      run = goes_on s c.requires.valid c.requires.staged tellings going.whole c.args.wave c.requires.wave going.run (map out_of c.in-Ok.ended.outs)
+      run = goes_on s c.requires.valid tellings going.whole c.args.wave c.requires.wave going.run (map out_of c.in-Ok.ended.outs)
           (right_whole s tellings going.whole left c.args.wave (map out_of c.in-Ok.ended.outs) going.are (are_right s tellings left c.args.wave c.in-Ok.ended.outs c.in-Ok.ensures.outs))
           c.requires.some c.run_laws.ensures.rising news between;
       are = subst (λ found. AreLeft s (going.whole ++ news ∷ []) found c.args.wave) (sym (ap outs_of pushed ∙ map-append (map out_of) c.args.ran.now.outs (c.in_ok-found.found ∷ [])))

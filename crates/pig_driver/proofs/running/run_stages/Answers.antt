@@ -40,7 +40,7 @@ returns-clause-run g c =
     let going = c.loop-wave.invariant.3 in
     record {
       whole = going.whole;
-      run = runs_all s valid c.requires.staged tellings going.whole (omega (arith, some, many)) c.requires.sizes (subst (HasRunTo s tellings going.whole) end going.run);
+      run = runs_all s valid tellings going.whole (omega (arith, some, many)) c.requires.sizes (subst (HasRunTo s tellings going.whole) end going.run);
       are = subst (AreLeft s going.whole (outs_of c.loop-wave.ran.outs)) end going.are;
       count = going.count;
     }

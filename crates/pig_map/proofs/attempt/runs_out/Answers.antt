@@ -21,7 +21,7 @@ returns-clause-made g c =
     (λ rows. TookMore c.in_ok-sink.sink rows c.run.new.sink) _ c.in-Some.ran.lines _ c.in-Some.ran.unmet _
     c.out_with.ensures.lines c.out_with.ensures.unmet
     (λ rows took.
-    shuffled_form s c.args.task.now.node (op_of c.args.op.now) t.way.input c.way_of.result.now.input c.reducers.result
+    shuffled_form s (outs_of c.args.prior.now) c.args.task.now.node (op_of c.args.op.now) t.way.input c.way_of.result.now.input c.reducers.result
     (option_map (λ block. block_typed block.now) c.fold_of-fold.result) c.in_ok-sink.sink c.run.new.sink rows _ c.in_ok-runs.runs
     c.runs_are_of_the_node.ensures c.requires.op c.reducers.ensures c.fold_of-fold.ensures input c.in_ok-sink.ensures took
     (λ w rows has. c.in_ok-runs.ensures w rows has) (ap form_of c.out_with.ensures.form))

@@ -1,8 +1,4 @@
-use Rattle.std.proofs.Common.{◌≡◌, ◌++◌, [], ◌∷◌, List, length, map}
-use Rattle.pig_value.specs.Trees.{Tree}
-use Rattle.pig_keycode.specs.Keys.{fields_at}
-use Rattle.pig_typed.specs.Blocks.{item_lists}
-use Rattle.pig_typed.specs.Products.{product}
+use Rattle.std.proofs.Common.{length, map}
 use Rattle.pig_typed.specs.Typed.{item_typed}
 use Rattle.pig_map.proofs.Choices.{AreLeft}
 use Rattle.pig_map.proofs.choosing.item_places.Given as goal

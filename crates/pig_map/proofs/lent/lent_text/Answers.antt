@@ -1,4 +1,4 @@
-use Rattle.std.proofs.Common.{◌≡◌, List, [], subst, ◌∙◌, sym, rules}
+use Rattle.std.proofs.Common.{◌≡◌, List, subst, rules}
 use Rattle.std.specs.Prelude.{Option}
 use Rattle.pig_value.specs.declared.inputs.Input.{Input}
 use Rattle.pig_plan.specs.Plans.{plan_of}

@@ -1,11 +1,11 @@
-use Rattle.std.proofs.Common.{◌≡◌, rules, subst, sym}
-use Rattle.std.specs.Prelude.{None, Some}
+use Rattle.std.proofs.Common.{◌≡◌, rules, subst}
+use Rattle.std.specs.Prelude.{Some}
 use Rattle.pig_plan.specs.Nodes.{op_at}
 use Rattle.pig_plan.specs.Plans.{op_of}
 use Rattle.pig_plan.specs.Valid.{IsPlan}
 use Rattle.pig_physical.specs.Handed.{out_of, outs_of}
 use Rattle.pig_physical.specs.Seen.{staged}
-use Rattle.pig_reduce.proofs.PartRanks.{rank_fits, rank_there, rank_value, task_ranks}
+use Rattle.pig_reduce.proofs.PartRanks.{rank_fits, rank_value, task_ranks}
 use Rattle.std.specs.Prelude.{map}
 use Rattle.pig_reduce.proofs.ranking.rank_attempt.Goals as goal
 

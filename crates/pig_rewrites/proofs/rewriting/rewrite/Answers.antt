@@ -1,5 +1,4 @@
-use Rattle.std.proofs.Common.{rules, ◌≡◌, subst, sym}
-use Rattle.std.proofs.lemmas.Result.{IfOk-weaker}
+use Rattle.std.proofs.Common.{rules, ◌≡◌, subst}
 use Rattle.pig_plan.specs.Plans.{Plan, plan_of}
 use Rattle.pig_plan.specs.Rewrites.{SameMeaning}
 use Rattle.pig_plan.specs.Valid.{IsPlan}
@@ -9,11 +8,8 @@ use Rattle.pig_share.specs.Table.{Shares}
 use Rattle.pig_push.specs.Pushed.{IsPushed, NoneMayMove}
 use Rattle.pig_alive.specs.Alive.{EachLives}
 use Rattle.pig_prune.specs.Pruned.{IsPruned}
-use Rattle.pig_keyed.specs.Keyed.{KeyedPlansRunTheSame, by_key}
-use Rattle.pig_rewrites.specs.Alike.{RunsAlike}
 use Rattle.pig_rewrites.specs.Ends.{ends_of}
-use Rattle.pig_rewrites.specs.Reached.{IsReached}
-use Rattle.pig_rewrites.proofs.Alike.{alike_on, runs_alike, same_thrice}
+use Rattle.pig_rewrites.proofs.Alike.{runs_alike, same_thrice}
 use Rattle.pig_rewrites.proofs.rewriting.rewrite.Goals as goal
 
 pub returns-clause-reached : goal.returns-clause-reached
@@ -26,20 +22,16 @@ returns-clause-reached c =
     let normal : NoneMayMove (plan_of c.in_ok-pushed.pushed) = search rules in
     let prunes : IsPruned (plan_of c.in_ok-pushed.pushed) (plan_of c.in_ok-pruned.pruned) = search rules in
     let lives : EachLives (plan_of c.in_ok-pruned.pruned) = search rules in
-    IfOk-weaker c.by_key.result (λ q. plan_of q ≡ by_key (plan_of c.in_ok-pruned.pruned)) (λ q. IsReached checked (plan_of q))
-    (λ q keyed. record {
+    record {
       shared = plan_of c.in_ok-shared.shared;
       pushed = plan_of c.in_ok-pushed.pushed;
-      pruned = plan_of c.in_ok-pruned.pruned;
       shares = subst (λ p. Shares p (plan_of c.in_ok-shared.shared)) copy shares;
       once = once;
       pushes = pushes;
       normal = normal;
       prunes = prunes;
       lives = lives;
-      keyed = keyed;
-    })
-    c.by_key.ensures
+    }
 
 pub returns-clause-alike : goal.returns-clause-alike
 returns-clause-alike c =
@@ -53,10 +45,6 @@ returns-clause-alike c =
     let valid_pruned : IsPlan pruned = search rules in
     let ends : ends_of pruned ≡ ends_of checked = search rules in
     let paths : live_paths pruned ≡ live_paths checked = search rules in
-    let law : KeyedPlansRunTheSame = search rules in
     let same : SameMeaning checked pruned =
     subst (λ p. SameMeaning p pruned) copy (same_thrice (plan_of c.in_ok-checked.checked) (plan_of c.in_ok-shared.shared) (plan_of c.in_ok-pushed.pushed) pruned shares pushes prunes) in
-    let alike : RunsAlike checked (by_key pruned) =
-    alike_on checked pruned (by_key pruned) (runs_alike checked pruned valid valid_pruned same c.requires.apart ends paths) (law pruned valid_pruned) in
-    IfOk-weaker c.by_key.result (λ q. plan_of q ≡ by_key pruned) (λ q. RunsAlike checked (plan_of q))
-    (λ q keyed. subst (RunsAlike checked) (sym keyed) alike) c.by_key.ensures
+    runs_alike checked pruned valid valid_pruned same c.requires.apart ends paths

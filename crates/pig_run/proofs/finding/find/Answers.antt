@@ -23,14 +23,14 @@ use Rattle.pig_run.proofs.finding.find.Goals as goal
 pub collect-requires-clause-parts : goal.collect-requires-clause-parts
 collect-requires-clause-parts g c =
     let valid : IsPlan (staged c.args.stages.now).plan = search rules in
-    (told_same (staged c.args.stages.now) c.what_is_left_tells_the_same.ensures valid c.in_ok-ran.ensures.staged (map g.H.Host.inputs c.args.hosts.now)
+    (told_same (staged c.args.stages.now) c.what_is_left_tells_the_same.ensures valid (map g.H.Host.inputs c.args.hosts.now)
     (outs_of c.in_ok-ran.ran.outs) c.in_ok-ran.ran.shuffled c.in_ok-ran.ensures.run).stored
 
 pub collect-requires-clause-waves : goal.collect-requires-clause-waves
 collect-requires-clause-waves g c =
     let valid : IsPlan (staged c.args.stages.now).plan = search rules in
     sym (length-map c.in_ok-ran.ran.outs (map out_of))
-    ∙ (told_same (staged c.args.stages.now) c.what_is_left_tells_the_same.ensures valid c.in_ok-ran.ensures.staged (map g.H.Host.inputs c.args.hosts.now)
+    ∙ (told_same (staged c.args.stages.now) c.what_is_left_tells_the_same.ensures valid (map g.H.Host.inputs c.args.hosts.now)
     (outs_of c.in_ok-ran.ran.outs) c.in_ok-ran.ran.shuffled c.in_ok-ran.ensures.run).size
 
 pub returns-in_err-ran-clause-told : goal.returns-in_err-ran-clause-told
@@ -66,12 +66,12 @@ returns-in-Some-clause-told g c =
     let valid : IsPlan (staged c.args.stages.now).plan = search rules in
     let literals : PlanLiteralsAre IsValue (staged c.args.stages.now).plan = search rules in
     let over = c.in_ok-ran.ensures.run in
-    let same = told_same s c.what_is_left_tells_the_same.ensures valid c.in_ok-ran.ensures.staged tellings (outs_of c.in_ok-ran.ran.outs) c.in_ok-ran.ran.shuffled over in
+    let same = told_same s c.what_is_left_tells_the_same.ensures valid tellings (outs_of c.in_ok-ran.ran.outs) c.in_ok-ran.ran.shuffled over in
     let least_is : Some c.in-Some.statement ≡ least (all_unmet (outs_of c.in_ok-ran.ran.outs)) = search rules in
     let told : HasFailedAssert (plan_of c.args.checked.now) c.in-Some.statement (record c.args.progress.now { ends = c.run_waves.new.ends; kept = c.in_ok-collected.collected.kept; read = c.in_ok-collected.collected.read; shuffled = c.in_ok-ran.ran.shuffled }) c.fail_assert.new.progress c.fail_assert.result = search rules in
     assert_ends (plan_of c.args.checked.now) s c.in-Some.statement progress c.fail_assert.new.progress c.args.limit tellings c.fail_assert.result told c.in_ok-ran.ensures.ended
     (unmet_all c.stages_give_meaning.ensures c.runs_read_lines.ensures c.runs_tell_the_first_unmet.ensures c.entries_are_due.ensures c.answers_are_stored_lines.ensures s valid literals
-    c.in_ok-ran.ensures.staged c.requires.reducers.0 c.requires.split tellings over.whole over.run found.kept (same.kept found.kept c.in_ok-collected.ensures.kept) c.in-Some.statement
+    c.requires.reducers.0 c.requires.split tellings over.whole over.run found.kept (same.kept found.kept c.in_ok-collected.ensures.kept) c.in-Some.statement
     (least_is ∙ ap least same.unmet))
     c.requires.fresh.stands c.requires.fresh.said
 
@@ -103,7 +103,7 @@ returns-in-None-clause-told g c =
     let same : c.as_slice-2.result.now ≡ c.args.stores.now = search rules in
     let none : None ≡ least (all_unmet (outs_of c.in_ok-ran.ran.outs)) = search rules in
     let over = c.in_ok-ran.ensures.run in
-    let told = told_same s c.what_is_left_tells_the_same.ensures valid c.in_ok-ran.ensures.staged tellings (outs_of c.in_ok-ran.ran.outs) c.in_ok-ran.ran.shuffled over in
+    let told = told_same s c.what_is_left_tells_the_same.ensures valid tellings (outs_of c.in_ok-ran.ran.outs) c.in_ok-ran.ran.shuffled over in
     record {
       won = c.in_ok-ran.ensures.ended;
       laid = record {
@@ -112,7 +112,7 @@ returns-in-None-clause-told g c =
         counts = c.in_ok-collected.ensures.counts;
       };
       gives = given_all c.stages_give_meaning.ensures c.runs_read_lines.ensures c.runs_tell_the_first_unmet.ensures c.entries_are_due.ensures c.answers_are_stored_lines.ensures s valid literals
-          c.in_ok-ran.ensures.staged c.requires.reducers.0 c.requires.split tellings over.whole over.run found.kept (told.kept found.kept c.in_ok-collected.ensures.kept)
+          c.requires.reducers.0 c.requires.split tellings over.whole over.run found.kept (told.kept found.kept c.in_ok-collected.ensures.kept)
           c.args.stores.now c.requires.stores others found.parts (c.in_ok-collected.ensures.parts ∙ ap (λ given. map given (stores s.plan)) told.parts) c.args.limit found.read
           c.in_ok-ran.ran.shuffled None (c.in_ok-collected.ensures.read ∙ ap (λ n. n % 2 ^ 64) told.read) over.count (none ∙ ap least told.unmet);
       stands = c.requires.fresh.stands;

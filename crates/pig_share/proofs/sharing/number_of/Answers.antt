@@ -1,11 +1,11 @@
-use Rattle.std.proofs.Common.{rules}
-use Rattle.pig_plan.specs.Plans.{plan_of}
-use Rattle.pig_share.proofs.Finding.{found_earlier, found_none}
+use Rattle.std.proofs.Common.{rules, ◌≡◌, nat_eq, None}
+use Rattle.indexmap.specs.IndexMap.{get}
+use Rattle.pig_plan.specs.Plans.{node_of, plan_of}
+use Rattle.pig_share.proofs.Listed.{found_unlisted}
 use Rattle.pig_share.proofs.sharing.number_of.Goals as goal
 
-pub returns-then-does_same : goal.returns-then-does_same
-returns-then-does_same c =
-    found_earlier (plan_of c.args.nodes.now) c.args.table.now c.args.own c.loop-j.j c.number_at.result (search rules) (c.does_same.ensures.yes c.if-does_same.true) c.number_at.ensures
-
-pub returns : goal.returns
-returns c = found_none (plan_of c.args.nodes.now) c.args.table.now c.args.own c.loop-j.j (search rules) c.loop-j.invariant
+pub returns-in-None : goal.returns-in-None
+returns-in-None c =
+    let free : get nat_eq c.args.firsts.now c.hash_op.result ≡ None = search rules in
+    found_unlisted c.args.nodes.now c.args.table.now (plan_of c.args.made.now) c.args.own (node_of c.args.node.now) (get nat_eq c.args.firsts.now) c.hash_op.result
+    c.requires.so_far c.requires.listed c.requires.node c.hash_op.ensures free

@@ -3,7 +3,7 @@ use Rattle.std.specs.Prelude.{Some, length}
 use Rattle.pig_physical.specs.Handed.{out_of, outs_of}
 use Rattle.pig_physical.specs.Seen.{IsOwn, staged, task_of}
 use Rattle.pig_physical.specs.Stages.{ways_in}
-use Rattle.pig_work.proofs.Attempted.{map_part, map_right, map_source, map_stands, rank_all, rank_right, rank_stands, reduce_right, reduce_stands, reduce_wave}
+use Rattle.pig_work.proofs.Attempted.{map_read, map_right, map_sides, map_source, map_stands, rank_all, rank_right, rank_stands, reduce_right, reduce_stands, reduce_wave}
 use Rattle.pig_work.proofs.attempts.attempt_at.Goals as goal
 
 pub map_attempt-requires-clause-task : goal.map_attempt-requires-clause-task
@@ -14,7 +14,7 @@ map_attempt-requires-clause-task g c =
 
 pub map_attempt-requires-clause-prior : goal.map_attempt-requires-clause-prior
 map_attempt-requires-clause-prior g c =
-    map_part (staged c.args.stages.now) (outs_of c.args.prior.now) c.args.wave c.args.place c.requires.ready c.in-Map.task
+    map_read (staged c.args.stages.now) (outs_of c.args.prior.now) c.args.wave c.args.place c.requires.ready c.in-Map.task
     (c.task_in.ensures.task ∙ ap (λ t. Some (task_of (ways_in (staged c.args.stages.now).plan c.args.wave) t)) c.in-Map.is)
     (subst (IsOwn c.args.wave (length (ways_in (staged c.args.stages.now).plan c.args.wave))) c.in-Map.is c.task_in.ensures.own)
 
@@ -24,6 +24,13 @@ map_attempt-requires-clause-host g c =
     (c.task_in.ensures.task ∙ ap (λ t. Some (task_of (ways_in (staged c.args.stages.now).plan c.args.wave) t)) c.in-Map.is)
     (subst (IsOwn c.args.wave (length (ways_in (staged c.args.stages.now).plan c.args.wave))) c.in-Map.is c.task_in.ensures.own)
     (g.H.Host.inputs c.args.host.now) c.requires.host
+
+pub map_attempt-requires-clause-sides : goal.map_attempt-requires-clause-sides
+map_attempt-requires-clause-sides g c =
+    map_sides (staged c.args.stages.now) (outs_of c.args.prior.now) c.args.wave c.args.place c.requires.ready c.in-Map.task
+    (c.task_in.ensures.task ∙ ap (λ t. Some (task_of (ways_in (staged c.args.stages.now).plan c.args.wave) t)) c.in-Map.is)
+    (subst (IsOwn c.args.wave (length (ways_in (staged c.args.stages.now).plan c.args.wave))) c.in-Map.is c.task_in.ensures.own)
+    c.args.shared.now.sides (c.requires.shared).sides_are
 
 pub reduce_in-requires-clause-task : goal.reduce_in-requires-clause-task
 reduce_in-requires-clause-task g c =
@@ -60,8 +67,13 @@ rank_in-requires-clause-prior g c =
 
 pub rank_in-requires-clause-starts : goal.rank_in-requires-clause-starts
 rank_in-requires-clause-starts g c =
-    c.requires.starts c.args.place c.in-Rank.task
-    (c.task_in.ensures.task ∙ ap (λ t. Some (task_of (ways_in (staged c.args.stages.now).plan c.args.wave) t)) c.in-Rank.is)
+    ((c.requires.shared).starts_are c.args.place c.in-Rank.task
+    (c.task_in.ensures.task ∙ ap (λ t. Some (task_of (ways_in (staged c.args.stages.now).plan c.args.wave) t)) c.in-Rank.is)).1
+
+pub rank_in-requires-clause-part : goal.rank_in-requires-clause-part
+rank_in-requires-clause-part g c =
+    ((c.requires.shared).starts_are c.args.place c.in-Rank.task
+    (c.task_in.ensures.task ∙ ap (λ t. Some (task_of (ways_in (staged c.args.stages.now).plan c.args.wave) t)) c.in-Rank.is)).0
 
 pub returns-in-Rank-clause-right : goal.returns-in-Rank-clause-right
 returns-in-Rank-clause-right g c =
