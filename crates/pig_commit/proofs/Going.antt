@@ -1,8 +1,8 @@
 -- How a commit goes on: calls that were made in turn, and directories that were stored so far.
-use Rattle.std.specs.Prelude.{◌≡◌, ◌≢◌, ◌<◌, ◌+◌, ◌++◌, ℕ, List, [], ◌∷◌, length, take, drop, get_or, Option, Some, None, Result, Ok, Err, IfOk, refl}
+use Rattle.std.specs.Prelude.{◌≡◌, ◌≢◌, ◌<◌, ◌+◌, ◌++◌, ℕ, List, [], ◌∷◌, length, take, drop, get_or, Option, Some, None, Result, Ok, Err, IfErr, IfOk, refl}
 use Rattle.std.proofs.Common.{ap, sym, ◌∙◌, subst, arith, add-one}
 use Rattle.std.proofs.Math.Seq.{take-suc}
-use Rattle.std.proofs.lemmas.List.{append_assoc, append-nil, drop_more, length-take, map-append, take-append-drop, take_all}
+use Rattle.std.proofs.lemmas.List.{append_assoc, append-nil, drop_more, length-append, length-take, map-append, take-append-drop, take_all}
 use Rattle.std.proofs.lemmas.List.Concat.{flat_map-append}
 use Rattle.std.specs.List.{AllByRecursion, flat_map}
 use Rattle.std.specs.Option.{ForSome, option_map}
@@ -28,6 +28,19 @@ asked_then first more old mid new before after = after ∙ ap (option_map (λ xs
 pub none_asked : (old : Option (List DepotCall)) → Asked [] old old
 none_asked None = refl
 none_asked (Some xs) = ap (λ ys. Some ys) (sym (append-nil xs))
+
+-- a call was made, and others before it or behind it
+pub one_made : (before : List DepotCall) (one : DepotCall) (behind : List DepotCall) → 0 < length (before ++ one ∷ behind)
+one_made [] one behind = omega (arith)
+one_made (first ∷ before) one behind = omega (arith)
+
+pub some_made : (before made : List DepotCall) → 0 < length made → 0 < length (before ++ made)
+some_made before made h = let l = length-append before made in omega (arith, l, h)
+
+-- that is said where it ended in between
+pub where_stopped : {T E P : Type 0} (result : Result T E) → P → IfErr result (λ _. P)
+where_stopped (Ok x) p = tt
+where_stopped (Err e) p = p
 
 -- ---- directories
 
@@ -124,9 +137,9 @@ module _ (stores : List StorePart) (place : ℕ) (store d : StorePart) (old now 
   }
 
   -- what was asked where it ended at this one, and what was not
-  pub asked_until : (made behind : List DepotCall) → Asked made calls_now calls_new → made ++ behind ≡ store_calls store
-      → (first : List DepotCall) × (left : List DepotCall) × Asked first calls_old calls_new × (first ++ left ≡ flat_map store_calls stores)
-  asked_until made behind asked first = (
+  pub asked_until : (made behind : List DepotCall) → Asked made calls_now calls_new → made ++ behind ≡ store_calls store → 0 < length made
+      → (first : List DepotCall) × (left : List DepotCall) × Asked first calls_old calls_new × (first ++ left ≡ flat_map store_calls stores) × (0 < length first)
+  asked_until made behind asked first some = (
     flat_map store_calls here.before ++ made,
     behind ++ flat_map store_calls rest,
     asked_then (flat_map store_calls here.before) made calls_old calls_now calls_new here.asked asked,
@@ -134,6 +147,7 @@ module _ (stores : List StorePart) (place : ℕ) (store d : StorePart) (old now 
         ∙ ap (λ calls. flat_map store_calls here.before ++ calls) (sym (append_assoc made behind (flat_map store_calls rest)) ∙ ap (λ calls. calls ++ flat_map store_calls rest) first)
         ∙ sym (flat_map-append store_calls here.before (store ∷ rest))
         ∙ ap (flat_map store_calls) (sym here.are),
+    some_made (flat_map store_calls here.before) made some,
   )
 
 pub all_stored : (stores left : List StorePart) (old now : Option Shelf) (calls_old calls_now : Option (List DepotCall)) → left ≡ [] → IsSoFar stores left old now calls_old calls_now

@@ -1,5 +1,5 @@
 -- What a commit asks of the depot, in order.
-use Rattle.std.specs.Prelude.{◌≡◌, ◌++◌, ℕ, List, [], ◌∷◌, map, Option, None, Result, IfOk}
+use Rattle.std.specs.Prelude.{◌≡◌, ◌<◌, ◌++◌, ℕ, List, [], ◌∷◌, length, map, Option, None, Result, IfErr, IfOk}
 use Rattle.std.specs.Option.{option_map}
 use Rattle.pig_outside.specs.Calls.{DepotCall}
 use Rattle.pig_outside.specs.declared.failing.Method.{Method}
@@ -24,10 +24,11 @@ store_calls store = calls_of store.dir store.parts
 abbrev pub Asked : List DepotCall → Option (List DepotCall) → Option (List DepotCall) → Type 0
 Asked calls old new = new ≡ option_map (λ before. before ++ calls) old
 
--- the first of these calls were made, and all where it ended well
+-- the first of these calls were made: all where it ended well, and one at least where it did not
 pub record AskedFor {T E : Type 0} (calls : List DepotCall) (result : Result T E) (old new : Option (List DepotCall)) : Type 0 where
   pub made : List DepotCall
   pub left : List DepotCall
   pub asked : Asked made old new
   pub first : made ++ left ≡ calls
   pub all : IfOk result (λ _. left ≡ [])
+  pub some : IfErr result (λ _. 0 < length made)

@@ -1,15 +1,14 @@
 // Worked rows of the whole: their words, scripts and inputs, and by hand what each STORE is due.
 
-/// A STORE: its statement, its directory, how many parts it has, and the lines that these hold.
+/// A STORE: its statement, its directory, and the lines that each of its parts holds.
 #[derive(Clone, Copy, Drop)]
 pub struct Store {
     pub statement: u32,
     pub dir: &'static str,
-    pub parts: u64,
-    /// Whether the lines are due in their order over the parts.
+    /// Whether the lines of a part are due in their order.
     pub list: bool,
-    /// Each ends in an LF. Those of no list stand ascending.
-    pub lines: &'static str,
+    /// Each line ends in an LF. Those of no list stand ascending within their part.
+    pub parts: &'static [&'static str],
 }
 
 /// A run.
@@ -43,7 +42,7 @@ const ONE_INPUT: Row = Row {
     stores: &[],
 };
 
-/// Four words are handed on to be counted, and four counts to be ordered.
+/// Four words are handed on to be counted, and four counts to be ordered, of which the third one begins the second part.
 const WORD_COUNT: Row = Row {
     line: "run s --workers 2 --reducers 2",
     script: "a = LOAD 'a' AS (line:chararray);
@@ -58,9 +57,8 @@ STORE o INTO 'p';",
     stores: &[Store {
         statement: 6,
         dir: "p",
-        parts: 2,
         list: true,
-        lines: "the\t3\ncat\t2\ndog\t1\nend\t1\n",
+        parts: &["the\t3\ncat\t2\n", "dog\t1\nend\t1\n"],
     }],
     ..ONE_INPUT
 };
@@ -80,16 +78,14 @@ STORE z INTO 'q';",
         Store {
             statement: 6,
             dir: "p",
-            parts: 2,
             list: true,
-            lines: "",
+            parts: &["", ""],
         },
         Store {
             statement: 8,
             dir: "q",
-            parts: 2,
             list: false,
-            lines: "",
+            parts: &["", ""],
         },
     ],
     ..ONE_INPUT
@@ -109,9 +105,8 @@ STORE o INTO 'p';",
     stores: &[Store {
         statement: 6,
         dir: "p",
-        parts: 1,
         list: false,
-        lines: "news\t8\n",
+        parts: &["news\t8\n"],
     }],
     ..ONE_INPUT
 };
@@ -126,14 +121,13 @@ STORE a INTO 'p';",
     stores: &[Store {
         statement: 2,
         dir: "p",
-        parts: 5,
         list: true,
-        lines: "1\t2\n\t\n3\t4\n",
+        parts: &["1\t2\n", "", "\t\n", "3\t4\n", ""],
     }],
     ..ONE_INPUT
 };
 
-/// Bags are stored, so each row is handed on.
+/// Bags are stored, so each row is handed on. The part of a key goes by its text: that of null is empty, and 1 is 49 as a byte.
 const NULL_GROUPS: Row = Row {
     line: "run s --workers 2 --reducers 2",
     script: "a = LOAD 'a' AS (k:int, v:chararray);
@@ -145,9 +139,8 @@ STORE g INTO 'p';",
     stores: &[Store {
         statement: 3,
         dir: "p",
-        parts: 2,
         list: false,
-        lines: "\t{(,y),(,z)}\n1\t{(1,x)}\n",
+        parts: &["\t{(,y),(,z)}\n", "1\t{(1,x)}\n"],
     }],
     ..ONE_INPUT
 };
@@ -170,16 +163,14 @@ STORE j INTO 'q';",
         Store {
             statement: 5,
             dir: "p",
-            parts: 2,
             list: false,
-            lines: "\t{(,y),(,z)}\t{}\n\t{}\t{(,q)}\n1\t{(1,x)}\t{(1,p)}\n",
+            parts: &["\t{(,y),(,z)}\t{}\n\t{}\t{(,q)}\n", "1\t{(1,x)}\t{(1,p)}\n"],
         },
         Store {
             statement: 6,
             dir: "q",
-            parts: 2,
             list: false,
-            lines: "\t\t\tq\n\ty\t\t\n\tz\t\t\n1\tx\t1\tp\n",
+            parts: &["\t\t\tq\n\ty\t\t\n\tz\t\t\n", "1\tx\t1\tp\n"],
         },
     ],
     ..ONE_INPUT
@@ -197,9 +188,8 @@ STORE o INTO 'p';",
     stores: &[Store {
         statement: 4,
         dir: "p",
-        parts: 1,
         list: false,
-        lines: "g\t0\t2\t\t\n",
+        parts: &["g\t0\t2\t\t\n"],
     }],
     ..ONE_INPUT
 };
@@ -218,9 +208,8 @@ STORE o INTO 'p';",
     stores: &[Store {
         statement: 4,
         dir: "p",
-        parts: 1,
         list: false,
-        lines: "-9223372036854775803\n",
+        parts: &["-9223372036854775803\n"],
     }],
     ..ONE_INPUT
 };
@@ -236,9 +225,8 @@ STORE o INTO 'p';",
     stores: &[Store {
         statement: 3,
         dir: "p",
-        parts: 3,
         list: true,
-        lines: "3\tc\n2\tA\n2\ta\n\tb\n",
+        parts: &["3\tc\n", "2\tA\n", "2\ta\n\tb\n"],
     }],
     ..ONE_INPUT
 };
@@ -259,16 +247,14 @@ STORE l INTO 'q';",
         Store {
             statement: 3,
             dir: "p",
-            parts: 1,
             list: false,
-            lines: "1\n2\n3\n",
+            parts: &["1\n2\n3\n"],
         },
         Store {
             statement: 4,
             dir: "q",
-            parts: 1,
             list: false,
-            lines: "1\n2\n3\n",
+            parts: &["1\n2\n3\n"],
         },
     ],
     ..ONE_INPUT
@@ -285,9 +271,8 @@ STORE r INTO 'p';",
     stores: &[Store {
         statement: 4,
         dir: "p",
-        parts: 1,
         list: false,
-        lines: "k\t{(k,1,y)}\t{(1,y),(1,z),(2,b)}\n",
+        parts: &["k\t{(k,1,y)}\t{(1,y),(1,z),(2,b)}\n"],
     }],
     ..ONE_INPUT
 };
@@ -303,9 +288,8 @@ STORE o INTO 'p';",
     stores: &[Store {
         statement: 3,
         dir: "p",
-        parts: 1,
         list: false,
-        lines: "1\t1\t7\n1\t2\t7\n3\t\t9\n",
+        parts: &["1\t1\t7\n1\t2\t7\n3\t\t9\n"],
     }],
     ..ONE_INPUT
 };
@@ -324,23 +308,20 @@ STORE d INTO 'r';",
         Store {
             statement: 3,
             dir: "p",
-            parts: 1,
             list: false,
-            lines: "3\n",
+            parts: &["3\n"],
         },
         Store {
             statement: 4,
             dir: "q",
-            parts: 1,
             list: false,
-            lines: "1\n",
+            parts: &["1\n"],
         },
         Store {
             statement: 5,
             dir: "r",
-            parts: 1,
             list: false,
-            lines: "2\n",
+            parts: &["2\n"],
         },
     ],
     ..ONE_INPUT
@@ -364,16 +345,14 @@ STORE u INTO 'q';",
         Store {
             statement: 5,
             dir: "p",
-            parts: 2,
             list: true,
-            lines: "1\n2147483648\n",
+            parts: &["1\n", "2147483648\n"],
         },
         Store {
             statement: 6,
             dir: "q",
-            parts: 2,
             list: true,
-            lines: "1\n2147483648\n",
+            parts: &["1\n", "2147483648\n"],
         },
     ],
     ..ONE_INPUT
@@ -390,9 +369,8 @@ STORE o INTO 'p';",
     stores: &[Store {
         statement: 3,
         dir: "p",
-        parts: 1,
         list: false,
-        lines: "5\tél\tlo\t2\t-1\t5\ttrue\tfalse\théllobanana\n",
+        parts: &["5\tél\tlo\t2\t-1\t5\ttrue\tfalse\théllobanana\n"],
     }],
     ..ONE_INPUT
 };

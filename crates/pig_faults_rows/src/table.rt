@@ -47,7 +47,7 @@ fn look_ups(row: &Row) -> u64 {
 
 /// A directory is created, each part put into it, and it is finished.
 fn commits(store: &Store) -> u64 {
-    store.parts.saturating_add(2)
+    (store.parts.len() as u64).saturating_add(2)
 }
 
 /// How far a run comes of whose calls of the depot one fails.
@@ -91,10 +91,10 @@ fn reach_of(row: &Row, turn: Turn) -> Reach {
 fn left(store: &Store, place: usize, reach: Reach) -> Option<(u64, bool)> {
     match reach {
         Reach::LookUp => None,
-        Reach::End => Some((store.parts, true)),
+        Reach::End => Some((store.parts.len() as u64, true)),
         Reach::Commit(at, before) => {
             if place < at {
-                return Some((store.parts, true));
+                return Some((store.parts.len() as u64, true));
             }
             if place > at || before == 0 {
                 return None;
@@ -104,21 +104,42 @@ fn left(store: &Store, place: usize, reach: Reach) -> Option<(u64, bool)> {
     }
 }
 
-/// A directory as text, with its lines where it has all its parts.
-fn directory<R: Abort>(
+/// A directory as text: its mark, and the parts that stand in it.
+fn directory<R: Abort>(rt: &R, alloc: Global, dir: &str, marked: bool, parts: &str) -> String {
+    let mark = if marked { "whole" } else { "open" };
+    format!(in alloc; "{dir} {mark}\n{parts}").expect(rt, "memory")
+}
+
+fn no_directory<R: Abort>(rt: &R, alloc: Global, dir: &str) -> String {
+    format!(in alloc; "{dir} none\n").expect(rt, "memory")
+}
+
+/// The first parts of a STORE, each with its lines.
+fn parts_due<R: Abort>(rt: &R, alloc: Global, store: &Store, count: u64) -> String {
+    let mut all = String::new(alloc);
+    let mut left = count;
+    for part in store.parts {
+        if left > 0 {
+            all.push_str("part\n").expect(rt, "memory");
+            all.push_str(part).expect(rt, "memory");
+        }
+        left = left.saturating_sub(1);
+    }
+    all
+}
+
+/// The directory that is due of a STORE.
+fn directory_due<R: Abort>(
     rt: &R,
     alloc: Global,
     store: &Store,
     left: Option<(u64, bool)>,
-    lines: &str,
 ) -> String {
-    let dir = store.dir;
-    let Some((parts, marked)) = left else {
-        return format!(in alloc; "{dir} none\n").expect(rt, "memory");
+    let Some((count, marked)) = left else {
+        return no_directory(rt, alloc, store.dir);
     };
-    let mark = if marked { "whole" } else { "open" };
-    let lines = if parts == store.parts { lines } else { "" };
-    format!(in alloc; "{dir} {mark} {parts}\n{lines}").expect(rt, "memory")
+    let parts = parts_due(rt, alloc, store, count);
+    directory(rt, alloc, store.dir, marked, parts.as_str())
 }
 
 /// The directories that are due.
@@ -126,18 +147,20 @@ fn directories<R: Abort>(rt: &R, alloc: Global, row: &Row, reach: Reach) -> Stri
     let mut all = String::new(alloc);
     let mut place = 0usize;
     for store in row.stores {
-        let text = directory(rt, alloc, store, left(store, place, reach), store.lines);
+        let text = directory_due(rt, alloc, store, left(store, place, reach));
         all.push_str(text.as_str()).expect(rt, "memory");
         place = place.saturating_add(1);
     }
     all
 }
 
-/// How many lines a text has.
-fn count(text: &str) -> u64 {
+/// How many lines a STORE has.
+fn count(store: &Store) -> u64 {
     let mut count = 0u64;
-    for _ in text.lines() {
-        count = count.saturating_add(1);
+    for part in store.parts {
+        for _ in part.lines() {
+            count = count.saturating_add(1);
+        }
     }
     count
 }
@@ -147,7 +170,7 @@ fn stored<R: Abort>(rt: &R, alloc: Global, row: &Row) -> String {
     let mut stored = String::new(alloc);
     let mut all = 0u64;
     for store in row.stores {
-        let (dir, lines) = (store.dir, count(store.lines));
+        let (dir, lines) = (store.dir, count(store));
         let text = format!(in alloc; "stored {dir} {lines}\n").expect(rt, "memory");
         stored.push_str(text.as_str()).expect(rt, "memory");
         all = all.saturating_add(lines);
@@ -204,17 +227,6 @@ fn due<R: Abort>(rt: &R, alloc: Global, row: &Row, turn: Turn) -> String {
     due
 }
 
-/// The bytes of all parts.
-fn joined<R: Abort>(rt: &R, alloc: Global, state: &DirState) -> String {
-    let mut bytes = Vec::new(alloc);
-    for part in state.parts.as_slice() {
-        bytes
-            .extend_from_slice(part.as_slice())
-            .expect(rt, "memory");
-    }
-    String::from_utf8_lossy(alloc, bytes.as_slice()).expect(rt, "memory")
-}
-
 /// The lines of a text, ascending.
 fn ascending<R: Abort>(rt: &R, alloc: Global, text: &str) -> String {
     let mut lines = Vec::new(alloc);
@@ -230,57 +242,33 @@ fn ascending<R: Abort>(rt: &R, alloc: Global, text: &str) -> String {
     sorted
 }
 
-/// The lines of a STORE's directory.
-fn lines<R: Abort>(rt: &R, alloc: Global, store: &Store, state: Option<&DirState>) -> String {
-    let Some(state) = state else {
-        return String::new(alloc);
-    };
-    let text = joined(rt, alloc, state);
-    if store.list {
+/// The lines of a part, ascending where it is of no list.
+fn lines<R: Abort>(rt: &R, alloc: Global, list: bool, part: &[u8]) -> String {
+    let text = String::from_utf8_lossy(alloc, part).expect(rt, "memory");
+    if list {
         return text;
     }
     ascending(rt, alloc, text.as_str())
 }
 
-/// Whether this is a line of the text.
-fn has_line(text: &str, wanted: &str) -> bool {
-    for line in text.lines() {
-        if line == wanted {
-            return true;
-        }
+/// All parts that stand in a directory, each with its lines.
+fn parts_of<R: Abort>(rt: &R, alloc: Global, list: bool, state: &DirState) -> String {
+    let mut all = String::new(alloc);
+    for part in state.parts.as_slice() {
+        let text = lines(rt, alloc, list, part.as_slice());
+        all.push_str("part\n").expect(rt, "memory");
+        all.push_str(text.as_str()).expect(rt, "memory");
     }
-    false
-}
-
-/// Whether the first parts of a STORE may hold these lines: of a list the first ones, and else any
-/// of those that are due.
-fn may_hold(store: &Store, lines: &str) -> bool {
-    if store.list {
-        return store.lines.starts_with(lines);
-    }
-    for line in lines.lines() {
-        if !has_line(store.lines, line) {
-            return false;
-        }
-    }
-    true
+    all
 }
 
 /// What stands in a STORE's directory.
 fn standing<R: Abort>(rt: &R, alloc: Global, store: &Store, depot: &MemoryDepot) -> String {
-    let state = depot.dir(store.dir);
-    let lines = lines(rt, alloc, store, state);
-    assert!(rt;
-        may_hold(store, lines.as_str()),
-        "in {}: {}",
-        store.dir,
-        lines
-    );
-    let left = match state {
-        Some(state) => Some((state.parts.len() as u64, state.marked)),
-        None => None,
+    let Some(state) = depot.dir(store.dir) else {
+        return no_directory(rt, alloc, store.dir);
     };
-    directory(rt, alloc, store, left, lines.as_str())
+    let parts = parts_of(rt, alloc, store.list, state);
+    directory(rt, alloc, store.dir, state.marked, parts.as_str())
 }
 
 /// What stands in the directories of a row, behind the answer of what is told.

@@ -171,7 +171,8 @@ fn lookup_of(
 ) -> Result<Lookup, AllocError>
     requires { copies < length (heads (staged stages.now).plan) }
     ensures is { IfOk result (λ lookup. lookup ≡ lookup_of (keyed_of input.now).keys
-        (rows_for place (tasks_in (staged stages.now) copies) (outs_at (outs_of prior.now) copies))) }
+        (rows_for place (tasks_in (staged stages.now) copies)
+        (outs_at (outs_of prior.now) copies))) }
     ensures rows { IfOk result HoldsRows }
 {
     let rows = copied_rows(alloc, stages, place, copies, prior)?;
@@ -214,8 +215,9 @@ fn add_copied(
 ) -> Result<(), AllocError>
     requires wave { copies < length (heads (staged stages.now).plan) }
     requires at { at < length (tasks_in (staged stages.now) copies) }
-    ensures more { OnOk result ((task : StageTask) → slice_get (tasks_in (staged stages.now) copies) at
-        ≡ Some task → rows_tree rows.new ≡ rows_tree rows.old ++ rows_of_task place task (out_of out.now)) }
+    ensures more { OnOk result ((task : StageTask)
+        → slice_get (tasks_in (staged stages.now) copies) at ≡ Some task
+        → rows_tree rows.new ≡ rows_tree rows.old ++ rows_of_task place task (out_of out.now)) }
     ensures values { AreRows (rows_tree rows.old) → OnOk result (AreRows (rows_tree rows.new)) }
 {
     match stages.task_at(copies, at) {

@@ -1,17 +1,19 @@
-ghost use Rattle.std.specs.Prelude.{◌≡◌, ◌+◌, ◌++◌, [], ◌∷◌, length, map, pos, IfOk, OnOk};
-ghost use Rattle.std.specs.Int.{int_wrap, w64};
-ghost use Rattle.std.specs.Ordering.{is_lt};
-ghost use Rattle.pig_value.specs.Functions.{long_of};
-ghost use Rattle.pig_value.specs.Trees.{at, row_tree, rows_tree, tree};
-ghost use Rattle.pig_plan.specs.Operators.{key_fields, rank_of, rank_rows, sort_keys_cmp, stand_before};
+ghost use Rattle.std.specs.Prelude.{◌≡◌, ◌∷◌, Bool, List, length, slice_get, IfOk, IfSome, OnOk};
+ghost use Rattle.std.specs.Option.{ForSome, option_map};
+ghost use Rattle.std.specs.declared.cmp.Ordering.TheVariants.{Equal};
+ghost use Rattle.pig_value.specs.Trees.{Tree, at, row_tree, rows_tree, tree};
+ghost use Rattle.pig_plan.specs.Operators.{key_fields, rank_of, rank_rows, sort_keys_cmp};
 ghost use Rattle.pig_plain.specs.Coming.{coming, relation_rows, seen_rows};
+ghost use Rattle.pig_plain.specs.Known.{AreKnown};
 ghost use Rattle.pig_plain.specs.Operating.{AreValues, LaterStand, table_rows};
 
+use crate::copies::copied;
 use crate::relation::{Relation, Seen, collected};
 use crate::releasing::take_input;
 use crate::table::seen_at;
 use crate::walking::Walk;
-use pig_nested::{compare_by_keys, distinct_rows};
+use pig_nested::{compare_by_keys, sort_by_keys};
+use pig_rank::{Start, rank_rows};
 use pig_typed::SortKeys;
 use pig_value::{Rows, Tuple, Value, copy, copy_row, field_at};
 use std::alloc::{AllocError, Global};
@@ -63,7 +65,7 @@ fn ranked_coming(
     ranked_rows(alloc, rows.as_slice(), keys, dense)
 }
 
-/// For each row all are gone through.
+/// Of each row the rank is found by its keys, among all rows sorted.
 fn ranked_rows(
     alloc: Global,
     rows: &[Tuple],
@@ -73,118 +75,93 @@ fn ranked_rows(
     ensures { IfOk result (λ made. rows_tree made
         ≡ rank_rows keys.now dense (rows_tree rows.now)) }
 {
+    let known = known_ranks(alloc, rows, keys, dense)?;
     let mut made = Rows::with_capacity(alloc, rows.len())?;
     for row in rows {
-        made.push(ranked_row(alloc, rows, keys, dense, row)?)?;
+        made.push(ranked_row(alloc, &known, keys, row)?)?;
     }
     Ok(made)
+}
+
+/// Rows sorted by keys, and the same rows, each behind its rank.
+#[derive(Drop)]
+struct Known {
+    sorted: Rows,
+    ranked: Rows,
+}
+
+fn known_ranks(
+    alloc: Global,
+    rows: &[Tuple],
+    keys: &SortKeys,
+    dense: bool,
+) -> Result<Known, AllocError>
+    ensures { IfOk result (AreKnown keys.now dense (rows_tree rows.now)) }
+{
+    let sorted = sort_by_keys(copied(alloc, rows)?, keys);
+    let start = Start {
+        rank: 0,
+        dense: 0,
+        last: None,
+        tail: 0,
+    };
+    let ranked = rank_rows(alloc, &sorted, keys, &start, dense)?;
+    Ok(Known { sorted, ranked })
 }
 
 fn ranked_row(
     alloc: Global,
-    rows: &[Tuple],
+    known: &Known,
     keys: &SortKeys,
-    dense: bool,
     row: &Tuple,
 ) -> Result<Tuple, AllocError>
-    ensures { IfOk result (λ made. row_tree made
-        ≡ rank_of keys.now dense (rows_tree rows.now) (row_tree row.now) ∷ row_tree row.now) }
+    ensures { (dense : Bool) (rows : List (List Tree)) → AreKnown keys.now dense rows known.now
+        → IfOk result (λ made. row_tree made
+        ≡ rank_of keys.now dense rows (row_tree row.now) ∷ row_tree row.now) }
 {
     let mut made = Tuple::new(alloc);
-    made.push(rank(alloc, rows, keys, dense, row)?)?;
+    made.push(rank(alloc, known, keys, row)?)?;
     made.extend(copy_row(alloc, row)?)?;
     Ok(made)
 }
 
-/// One more than the number of rows that stand before one, or of their keys.
-fn rank(
-    alloc: Global,
-    rows: &[Tuple],
-    keys: &SortKeys,
-    dense: bool,
-    row: &Tuple,
-) -> Result<Value, AllocError>
-    ensures { IfOk result (λ v. tree v
-        ≡ rank_of keys.now dense (rows_tree rows.now) (row_tree row.now)) }
+/// The rank of a row, which is that of any row with its keys.
+fn rank(alloc: Global, known: &Known, keys: &SortKeys, row: &Tuple) -> Result<Value, AllocError>
+    ensures { (dense : Bool) (rows : List (List Tree)) → AreKnown keys.now dense rows known.now
+        → IfOk result (λ v. tree v ≡ rank_of keys.now dense rows (row_tree row.now)) }
 {
-    if dense {
-        let found = keys_before(alloc, rows, keys, row)?;
-        return rank_behind(distinct_rows(found).len());
+    // It is one of those that were sorted.
+    let Some(place) = place_of(known.sorted.as_slice(), keys, row) else {
+        return Err(AllocError);
+    };
+    match row_at(known.ranked.as_slice(), place) {
+        Some(found) => field(alloc, found, 0),
+        None => Err(AllocError),
     }
-    rank_behind(count_before(rows, keys, row))
 }
 
-/// The rank behind so many.
-fn rank_behind(count: usize) -> Result<Value, AllocError>
-    ensures { IfOk result (λ v. tree v ≡ long_of (pos (count + 1))) }
+fn row_at(rows: &[Tuple], place: usize) -> Option<&Tuple>
+    ensures { option_map (λ row. row_tree row.now) result ≡ slice_get (rows_tree rows.now) place }
 {
-    let rank = count.checked_add(1).ok_or(AllocError)?;
-    Ok(Value::Long(as_long(rank)))
+    rows.get(place)
 }
 
-/// The long of the same 64 bits.
-#[tactic(auto, using(crate::proofs::Ranks::long_number))]
-fn as_long(n: usize) -> i64
-    ensures { result ≡ int_wrap w64 (pos n) }
+/// The place of a row that has the keys of a row.
+fn place_of(sorted: &[Tuple], keys: &SortKeys, row: &Tuple) -> Option<usize>
+    ensures { IfSome result (λ place. ForSome (slice_get (rows_tree sorted.now) place)
+        (λ other. sort_keys_cmp keys.now other (row_tree row.now) ≡ Equal)) }
 {
-    (n as u64).cast_signed()
+    match sorted.binary_search_by(|other| order_of(keys, other, row)) {
+        Ok(place) => Some(place),
+        Err(_) => None,
+    }
 }
 
 #[tactic(auto, using(crate::proofs::Ranks::same_order))]
-fn stands_before(keys: &SortKeys, other: &Tuple, row: &Tuple) -> bool
-    ensures { result ≡ is_lt (sort_keys_cmp keys.now (row_tree other.now) (row_tree row.now)) }
+fn order_of(keys: &SortKeys, other: &Tuple, row: &Tuple) -> Ordering
+    ensures { result ≡ sort_keys_cmp keys.now (row_tree other.now) (row_tree row.now) }
 {
-    compare_by_keys(keys, other, row) == Ordering::Less
-}
-
-/// The number of rows whose keys stand before those of a row.
-fn count_before(rows: &[Tuple], keys: &SortKeys, row: &Tuple) -> usize
-    ensures { result ≡ length (stand_before keys.now (rows_tree rows.now) (row_tree row.now)) }
-{
-    let mut count = 0;
-    let mut left = rows;
-    'rows: while let [other, rest @ ..] = left {
-        if stands_before(keys, other, row) {
-            count += 1;
-        }
-        left = rest;
-    }
-    count
-}
-
-/// The fields to rank by of the rows whose keys stand before those of a row.
-fn keys_before(
-    alloc: Global,
-    rows: &[Tuple],
-    keys: &SortKeys,
-    row: &Tuple,
-) -> Result<Rows, AllocError>
-    ensures { IfOk result (λ made. rows_tree made
-        ≡ map (key_fields keys.now) (stand_before keys.now (rows_tree rows.now)
-        (row_tree row.now))) }
-{
-    let mut made = Rows::new(alloc);
-    for other in rows {
-        add_before(alloc, keys, other, row, &mut made)?;
-    }
-    Ok(made)
-}
-
-fn add_before(
-    alloc: Global,
-    keys: &SortKeys,
-    other: &Tuple,
-    row: &Tuple,
-    made: &mut Rows,
-) -> Result<(), AllocError>
-    ensures { OnOk result (rows_tree made.new
-        ≡ rows_tree made.old ++ map (key_fields keys.now)
-        (stand_before keys.now (row_tree other.now ∷ []) (row_tree row.now))) }
-{
-    if !stands_before(keys, other, row) {
-        return Ok(());
-    }
-    made.push(key_values(alloc, keys, other)?)
+    compare_by_keys(keys, other, row)
 }
 
 /// Copies of the fields that keys name; one that the row lacks is null.

@@ -43,7 +43,7 @@ use Rattle.pig_run.proofs.Stages.{asked_nothing, asked_then}
 
 -- ---- nothing was made
 
-quiet_kept : (progress : Progress) → progress.stands ≡ false → kept_in progress ≡ []
+pub quiet_kept : (progress : Progress) → progress.stands ≡ false → kept_in progress ≡ []
 quiet_kept progress h = ap (λ b. cond b progress.kept []) h
 
 pub standing_kept : (progress : Progress) → progress.stands ≡ true → kept_in progress ≡ progress.kept

@@ -1,7 +1,9 @@
 -- All that a depot is asked comes in its order.
-use Rattle.std.proofs.Common.{◌≡◌, ◌∙◌, ◌++◌, ℕ, List, [], ◌∷◌, length, map, Option, Some, None, Result, Ok, Err, IfOk, MatchResult, refl, sym, ap, subst, inl, inr}
+use Rattle.std.proofs.Common.{◌≡◌, ◌≢◌, ◌<◌, ◌∙◌, ◌++◌, ◌&&◌, ℕ, Bool, true, false, if◌then◌else◌, List, [], ◌∷◌, length, map, Option, Some, None, Result, Ok, Err, IfErr, IfOk, MatchResult, refl, sym, ap, subst, arith, inl, inr}
 use Rattle.std.specs.List.{flat_map}
 use Rattle.std.proofs.lemmas.List.{append-nil, length-map, map-append}
+use Rattle.pig_value.proofs.list_laws.Bags.{either_way}
+use Rattle.pig_value.specs.declared.outcomes.Kept.{Kept}
 use Rattle.pig_outside.specs.Calls.{DepotCall}
 use Rattle.pig_outside.specs.declared.failing.Method.{Method}
 use Rattle.pig_outside.specs.declared.failing.Method.TheVariants as method
@@ -11,12 +13,13 @@ use Rattle.pig_run.specs.declared.outcome.RunFault.TheVariants as fault
 use Rattle.pig_commit.specs.Calls.{AskedFor, store_calls as calls_for_store}
 use Rattle.pig_commit.specs.declared.parts.StorePart.{StorePart}
 use Rattle.pig_run.specs.Due.{call, making}
-use Rattle.pig_run.specs.Ends.{Console, Shown, cut_short, failed, no_text, no_text_cut, no_text_failed, printed}
+use Rattle.pig_run.specs.Ends.{Console, Shown, cut_short, failed, is_unmet, is_wanting, kept_shown, no_text, no_text_cut, no_text_failed, printed}
 use Rattle.pig_run.specs.Orderly.{AsksAll, AsksScript, AsksSome, IsOrderly, IsOrderlyBehind, LooksUp, Makes, MayMake, calls_for}
-use Rattle.pig_run.specs.Running.{found_in}
+use Rattle.pig_run.specs.Running.{EndsFinding, IsFresh, found_in, kept_in, lost, no_room, not_met}
+use Rattle.pig_run.specs.declared.progress.Progress.{Progress}
 use Rattle.pig_run.specs.Steps.{IsCommitFault}
 use Rattle.pig_run.specs.Told.{Asked}
-use Rattle.pig_run.proofs.Ending.{made_calls}
+use Rattle.pig_run.proofs.Ending.{made_calls, quiet_kept}
 use Rattle.pig_run.proofs.Stages.{asked_nothing, asked_then}
 
 -- ---- paths in turn
@@ -66,10 +69,34 @@ module _ {T : Type 0} (dirs : List (List ℕ)) (found : Result T RunFault) (old 
 
 -- ---- making
 
+-- some directories are made by some calls
+making_some : (dirs : List (List ℕ)) (parts : List ℕ) → length parts ≡ length dirs → dirs ≢ [] → making dirs parts ≡ [] → ⊥
+making_some [] parts each due none = due refl
+making_some (dir ∷ dirs) [] each due none = omega (arith, each)
+making_some (dir ∷ dirs) (n ∷ parts) each due none = absurd (cc)
+
+none_counted : (made : List DepotCall) → 0 < length made → made ≡ [] → ⊥
+none_counted made some none = let l : length made ≡ 0 = ap length none in omega (arith, some, l)
+
+-- what was kept stands where an ASSERT is not met, and not in a run that has just begun
+module _ {plan s limit tellings} (progress : Progress) where
+  unkept_by : (f : RunFault) → EndsFinding plan s limit tellings progress f → is_unmet (Some f) ≡ false → kept_in progress ≡ []
+  unkept_by _ (lost given stands silent) met = quiet_kept progress stands
+  unkept_by _ (not_met won unmet stands says) met = absurd (cc)
+  unkept_by _ (no_room won stands silent) met = quiet_kept progress stands
+
+  pub unkept_end : {T : Type 0} (result : Result T RunFault) → IfErr result (EndsFinding plan s limit tellings progress) → IfOk result (λ _. ⊥) → is_unmet (found_in result) ≡ false → kept_in progress ≡ []
+  unkept_end (Ok x) h stops met = absurd stops
+  unkept_end (Err f) h stops met = unkept_by f h met
+
+pub fresh_kept : (progress : Progress) → IsFresh progress → kept_in progress ≡ []
+fresh_kept progress fresh = quiet_kept progress fresh.stands
+
 -- nothing was made, and a fault came
-pub makes_none : {T : Type 0} (result : Result T RunFault) → IfOk result (λ _. ⊥) → (dirs : List (List ℕ)) (old new : Option (List DepotCall)) → new ≡ old → Makes dirs (found_in result) old new
-makes_none (Ok x) h dirs old new same = absurd h
-makes_none (Err f) h dirs old new same = record {
+pub makes_none : {T : Type 0} (result : Result T RunFault) → IfOk result (λ _. ⊥) → (dirs : List (List ℕ)) (kept : List Kept) → (is_unmet (found_in result) ≡ false → kept ≡ [])
+    → (old new : Option (List DepotCall)) → new ≡ old → Makes dirs (found_in result) kept old new
+makes_none (Ok x) h dirs kept quiet old new same = absurd h
+makes_none (Err f) h dirs kept quiet old new same = record {
   parts = map length dirs;
   each = length-map dirs length;
   made = [];
@@ -77,6 +104,7 @@ makes_none (Err f) h dirs old new same = record {
   first = (making dirs (map length dirs), refl);
   none = λ _. refl;
   whole = λ e. absurd (cc);
+  unkept = λ met due none. quiet met;
 }
 
 -- making ended in between
@@ -94,10 +122,10 @@ module _ (outs : List StorePart) (dirs : List (List ℕ)) (dirs_are : map (λ ou
   all_calls : flat_map calls_for_store outs ≡ making dirs counts
   all_calls = made_calls outs ∙ ap (λ ds. making ds counts) dirs_are
 
-  pub makes_broken : {T U : Type 0} (result : Result T RunFault) (n : ℕ) → MatchResult result (λ _. ⊥) (IsCommitFault n) → (found : Result U RunFault) (old new : Option (List DepotCall))
-      → AskedFor (flat_map calls_for_store outs) found old new → Makes dirs (found_in result) old new
-  makes_broken (Ok x) n h found old new asked = absurd h
-  makes_broken (Err f) n h found old new asked = record {
+  broken : {T U : Type 0} (result : Result T RunFault) (n : ℕ) → MatchResult result (λ _. ⊥) (IsCommitFault n) → (found : Result U RunFault) (kept : List Kept) (old new : Option (List DepotCall))
+      → (asked : AskedFor (flat_map calls_for_store outs) found old new) → (dirs ≢ [] → asked.made ≡ [] → ⊥) → Makes dirs (found_in result) kept old new
+  broken (Ok x) n h found kept old new asked begun = absurd h
+  broken (Err f) n h found kept old new asked begun = record {
     parts = counts;
     each = as_many;
     made = asked.made;
@@ -105,11 +133,22 @@ module _ (outs : List StorePart) (dirs : List (List ℕ)) (dirs_are : map (λ ou
     first = (asked.left, sym all_calls ∙ sym asked.first);
     none = λ never. absurd (never (may_break n f h));
     whole = λ e. absurd (cc);
+    unkept = λ met due none. absurd (begun due none);
   }
 
+  pub makes_broken : {T U : Type 0} (result : Result T RunFault) (n : ℕ) → MatchResult result (λ _. ⊥) (IsCommitFault n) → (f : RunFault) (kept : List Kept) (old new : Option (List DepotCall))
+      → AskedFor {T = U} (flat_map calls_for_store outs) (Err f) old new → Makes dirs (found_in result) kept old new
+  makes_broken result n h f kept old new asked = broken result n h (Err f) kept old new asked (λ due none. none_counted asked.made asked.some none)
+
   -- all was made
-  module _ (old new : Option (List DepotCall)) (asked : AskedFor {T = Unit {0}} {E = RunFault} (flat_map calls_for_store outs) (Ok tt) old new) where
-    pub makes_all : Makes dirs None old new
+  module _ (kept : List Kept) (old new : Option (List DepotCall)) (asked : AskedFor {T = Unit {0}} {E = RunFault} (flat_map calls_for_store outs) (Ok tt) old new) where
+    all_made : asked.made ≡ making dirs counts
+    all_made = sym (append-nil asked.made) ∙ ap (λ xs. asked.made ++ xs) (sym asked.all) ∙ asked.first ∙ all_calls
+
+    not_none : dirs ≢ [] → asked.made ≡ [] → ⊥
+    not_none due none = making_some dirs counts as_many due (sym all_made ∙ none)
+
+    pub makes_all : Makes dirs None kept old new
     makes_all = record {
       parts = counts;
       each = as_many;
@@ -117,11 +156,12 @@ module _ (outs : List StorePart) (dirs : List (List ℕ)) (dirs_are : map (λ ou
       asked = asked.asked;
       first = (asked.left, sym all_calls ∙ sym asked.first);
       none = λ never. absurd (never tt);
-      whole = λ _. sym (append-nil asked.made) ∙ ap (λ xs. asked.made ++ xs) (sym asked.all) ∙ asked.first ∙ all_calls;
+      whole = λ _. all_made;
+      unkept = λ met due none. absurd (not_none due none);
     }
 
-    pub makes_untold : {T : Type 0} (result : Result T RunFault) → MatchResult result (λ _. ⊥) (λ f. f ≡ fault.OutOfMemory) → Makes dirs (found_in result) old new
-    makes_untold result h = makes_broken {U = Unit {0}} result 0 (weaker result h) (Ok tt) old new asked
+    pub makes_untold : {T : Type 0} (result : Result T RunFault) → MatchResult result (λ _. ⊥) (λ f. f ≡ fault.OutOfMemory) → Makes dirs (found_in result) kept old new
+    makes_untold result h = broken {U = Unit {0}} result 0 (weaker result h) (Ok tt) kept old new asked not_none
       where
         weaker : {T : Type 0} (r : Result T RunFault) → MatchResult r (λ _. ⊥) (λ f. f ≡ fault.OutOfMemory) → MatchResult r (λ _. ⊥) (IsCommitFault 0)
         weaker (Ok x) h = h
@@ -130,37 +170,45 @@ module _ (outs : List StorePart) (dirs : List (List ℕ)) (dirs_are : map (λ ou
 -- ---- together
 
 -- looking ended it
-pub orderly_stopped : {T : Type 0} (found : Result Prepared RunFault) (result : Result T RunFault) → IfOk result (λ _. ⊥) → (old new : Option (List DepotCall)) → LooksUp found old new
-    → IsOrderlyBehind (found_in result) old new
-orderly_stopped found result h old new looks = record {
+pub orderly_stopped : {T : Type 0} (found : Result Prepared RunFault) (result : Result T RunFault) → IfOk result (λ _. ⊥) → (kept : List Kept) → kept ≡ [] → (old new : Option (List DepotCall))
+    → LooksUp found old new → IsOrderlyBehind (found_in result) kept old new
+orderly_stopped found result h kept quiet old new looks = record {
   inputs = looks.inputs;
   outputs = looks.outputs;
   looked = new;
   asked = looks.asked;
-  makes = makes_none result h looks.outputs new new refl;
+  makes = makes_none result h looks.outputs kept (λ _. quiet) new new refl;
 }
 
-pub orderly_made : (p : Prepared) (answer : Option RunFault) (old mid new : Option (List DepotCall)) → LooksUp (Ok p) old mid → Makes (map (λ store. store.dir) p.stores) answer mid new
-    → IsOrderlyBehind answer old new
-orderly_made p answer old mid new looks makes = record {
+pub orderly_made : (p : Prepared) (answer : Option RunFault) (kept : List Kept) (old mid new : Option (List DepotCall)) → LooksUp (Ok p) old mid
+    → Makes (map (λ store. store.dir) p.stores) answer kept mid new → IsOrderlyBehind answer kept old new
+orderly_made p answer kept old mid new looks makes = record {
   inputs = looks.inputs;
   outputs = looks.outputs;
   looked = mid;
   asked = looks.asked;
-  makes = subst (λ dirs. Makes dirs answer mid new) (sym looks.whole) makes;
+  makes = subst (λ dirs. Makes dirs answer kept mid new) (sym looks.whole) makes;
 }
 
 -- nothing was asked
-idle : {T : Type 0} (result : Result T RunFault) (old new : Option (List DepotCall)) → new ≡ old → Makes [] (found_in result) old new
-idle (Ok x) old new same = record { parts = []; each = refl; made = []; asked = asked_nothing old new same; first = ([], refl); none = λ _. refl; whole = λ _. refl }
-idle (Err f) old new same = makes_none {T = Unit {0}} (Err f) tt [] old new same
+idle : {T : Type 0} (result : Result T RunFault) (kept : List Kept) (old new : Option (List DepotCall)) → new ≡ old → Makes [] (found_in result) kept old new
+idle result kept old new same = record {
+  parts = [];
+  each = refl;
+  made = [];
+  asked = asked_nothing old new same;
+  first = ([], refl);
+  none = λ _. refl;
+  whole = λ _. refl;
+  unkept = λ met due none. absurd (due refl);
+}
 
-pub orderly_idle : {T : Type 0} (result : Result T RunFault) (old new : Option (List DepotCall)) → new ≡ old → IsOrderlyBehind (found_in result) old new
-orderly_idle result old new same = record { inputs = []; outputs = []; looked = old; asked = asked_nothing old old refl; makes = idle result old new same }
+pub orderly_idle : {T : Type 0} (result : Result T RunFault) (kept : List Kept) (old new : Option (List DepotCall)) → new ≡ old → IsOrderlyBehind (found_in result) kept old new
+orderly_idle result kept old new same = record { inputs = []; outputs = []; looked = old; asked = asked_nothing old old refl; makes = idle result kept old new same }
 
 -- the script came before
-pub orderly_behind : (answer : Option RunFault) (old mid new : Option (List DepotCall)) → AsksScript old mid → IsOrderlyBehind answer mid new → IsOrderly answer old new
-orderly_behind answer old mid new script rest = record {
+pub orderly_behind : (answer : Option RunFault) (kept : List Kept) (old mid new : Option (List DepotCall)) → AsksScript old mid → IsOrderlyBehind answer kept mid new → IsOrderly answer kept old new
+orderly_behind answer kept old mid new script rest = record {
   scripts = script.scripts;
   inputs = rest.inputs;
   outputs = rest.outputs;
@@ -172,9 +220,29 @@ orderly_behind answer old mid new script rest = record {
 
 -- ---- as it is answered
 
-makes_shown : (text : List ℕ) (old new : Console) (found final : Option RunFault) → Shown text old new found final → (dirs : List (List ℕ)) (before after : Option (List DepotCall))
-    → Makes dirs found before after → Makes dirs final before after
-makes_shown text old new found final shown dirs before after m = record {
+-- nothing else is shown of what was kept
+wanting_unmet : (text : List ℕ) (old new : Console) (found final : Option RunFault) → Shown text old new found final → is_unmet found ≡ true → is_unmet final ≡ false → is_wanting final ≡ true
+wanting_unmet text old new found _ (printed sound is) unmet met = absurd (cc)
+wanting_unmet text old new None _ (failed fails is) unmet met = absurd (cc)
+wanting_unmet text old new (Some f) _ (failed fails is) unmet met = absurd (cc)
+wanting_unmet text old new found _ (cut_short sound is) unmet met = refl
+wanting_unmet text old new found _ (no_text sound is) unmet met = refl
+wanting_unmet text old new found _ (no_text_failed fails is) unmet met = refl
+wanting_unmet text old new found _ (no_text_cut sound is) unmet met = refl
+
+either_none : (hidden : Bool) (kept : List Kept) → kept ≡ [] → (if hidden then [] else kept) ≡ []
+either_none true kept none = refl
+either_none false kept none = none
+
+unkept_shown : (text : List ℕ) (old new : Console) (found final : Option RunFault) → Shown text old new found final → (kept : List Kept) → (is_unmet found ≡ false → kept ≡ [])
+    → is_unmet final ≡ false → kept_shown found final kept ≡ []
+unkept_shown text old new found final shown kept quiet met = either_way (is_unmet found)
+    (λ unmet. ap (λ b. if b && is_wanting final then [] else kept) unmet ∙ ap (λ b. if b then [] else kept) (wanting_unmet text old new found final shown unmet met))
+    (λ other. either_none (is_unmet found && is_wanting final) kept (quiet other))
+
+makes_shown : (text : List ℕ) (old new : Console) (found final : Option RunFault) → Shown text old new found final → (dirs : List (List ℕ)) (kept : List Kept) (before after : Option (List DepotCall))
+    → Makes dirs found kept before after → Makes dirs final (kept_shown found final kept) before after
+makes_shown text old new found final shown dirs kept before after m = record {
   parts = m.parts;
   each = m.each;
   made = m.made;
@@ -182,6 +250,7 @@ makes_shown text old new found final shown dirs before after m = record {
   first = m.first;
   none = none_made found final shown m.none;
   whole = all_made found final shown m.whole;
+  unkept = λ met due none. unkept_shown text old new found final shown kept (λ other. m.unkept other due none) met;
 }
   where
     none_made : (found final : Option RunFault) → Shown text old new found final → (¬ MayMake found → m.made ≡ []) → ¬ MayMake final → m.made ≡ []
@@ -201,13 +270,14 @@ makes_shown text old new found final shown dirs before after m = record {
     all_made found _ (no_text_failed fails is) h e = absurd (cc)
     all_made found _ (no_text_cut sound is) h e = absurd (cc)
 
-pub orderly_shown : (text : List ℕ) (old new : Console) (found final : Option RunFault) → Shown text old new found final → (before after : Option (List DepotCall)) → IsOrderly found before after → IsOrderly final before after
-orderly_shown text old new found final shown before after o = record {
+pub orderly_shown : (text : List ℕ) (old new : Console) (found final : Option RunFault) → Shown text old new found final → (kept : List Kept) (before after : Option (List DepotCall))
+    → IsOrderly found kept before after → IsOrderly final (kept_shown found final kept) before after
+orderly_shown text old new found final shown kept before after o = record {
   scripts = o.scripts;
   inputs = o.inputs;
   outputs = o.outputs;
   looked = o.looked;
   one = o.one;
   asked = o.asked;
-  makes = makes_shown text old new found final shown o.outputs o.looked after o.makes;
+  makes = makes_shown text old new found final shown o.outputs kept o.looked after o.makes;
 }

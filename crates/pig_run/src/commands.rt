@@ -8,7 +8,7 @@ ghost use Rattle.pig_run.specs.OwnRun.{DemoEnd};
 ghost use Rattle.pig_run.specs.Due.{HasWords, IsDemo, IsDue, IsNoDemo};
 ghost use Rattle.pig_run.specs.Looking.{line_given};
 ghost use Rattle.pig_run.specs.Orderly.{IsOrderly};
-ghost use Rattle.pig_run.specs.Running.{IsFresh, RunTold, found_in};
+ghost use Rattle.pig_run.specs.Running.{IsFresh, RunTold, found_in, kept_in};
 ghost use Rattle.pig_run.specs.Steps.{DepotCause, SaysWords, StoreBlame};
 ghost use Rattle.pig_run.specs.Told.{AllTell, TellsOf};
 ghost use Rattle.pig_run.specs.declared.outcome.RunFault.TheVariants as fault;
@@ -53,7 +53,8 @@ pub fn run<R: Threads + Sync, D: Depot, H: Host + Send>(
     ensures stores { StoreBlame (D.store_faults depot.old) (D.store_faults depot.new) result }
     ensures worked { HostsHaveWorked H.inputs H.faults H.begun (line_given line.now)
         hosts.old hosts.new progress.new.ends (found_in result) }
-    ensures asked { IsOrderly (found_in result) (D.calls depot.old) (D.calls depot.new) }
+    ensures asked { IsOrderly (found_in result) (kept_in progress.new)
+        (D.calls depot.old) (D.calls depot.new) }
 {
     a_script_has_one_plan();
     inputs_are_of_bytes(hosts);

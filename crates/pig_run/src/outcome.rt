@@ -13,39 +13,39 @@ use thiserror::Error;
 #[derive(Debug, Drop, Error)]
 pub enum RunFault {
     /// The words are no command: `run`, `explain` or `check` and the path of one script, or `demo` and a number, and options.
-    #[error("the words are no command")]
+    #[error("usage")]
     Usage,
     /// The depot has no such script.
-    #[error("there is no such script")]
+    #[error("no script")]
     NoScript,
     /// At this offset of the script as it was read, the first such, a name has no value, or a `%declare` or `%default`
     /// begins that isn't whole.
-    #[error("a parameter is missing at byte {offset}")]
+    #[error("offset {offset}: parameter")]
     Param { offset: u64 },
     /// At this offset of the script with the values of parameters in it, the first such, no token begins.
-    #[error("no token begins at byte {offset}")]
+    #[error("offset {offset}: no token")]
     Lex { offset: u64 },
     /// The statement of this number, counted from 1, is the first that is off the grammar.
-    #[error("statement {statement} is off the grammar")]
+    #[error("statement {statement}: syntax")]
     Syntax { statement: u32 },
     /// The statement of this number is the first without a typing, and the condition of this kind holds there.
-    #[error("statement {statement} has no typing: {kind:?}")]
+    #[error("statement {statement}: {kind:?}")]
     Check { statement: u32, kind: CheckKind },
     /// The depot has no input at the path of a LOAD that a STORE reaches, the first such.
-    #[error("there is no such input")]
+    #[error("no input")]
     NoInput { path: Text },
     /// The depot has the directory of a STORE already, of the first such.
-    #[error("the output is there already")]
+    #[error("output exists")]
     OutputExists { dir: Text },
     /// The depot failed, and has counted it; `store` is the number of the STORE whose directory was being
     /// made, from 1, and none before.
-    #[error("the depot failed")]
+    #[error("storage failed")]
     DepotFault { store: Option<u32> },
     /// A wave failed: this task has failed so often, as the hosts have counted, and a task has no winner.
-    #[error("task {task} of wave {wave} failed {failed} times")]
+    #[error("wave {wave} task {task} failed {failed} times")]
     TaskFailed { wave: u32, task: u32, failed: u32 },
     /// The ASSERT of the statement of this number is the first that is not met.
-    #[error("the ASSERT of statement {statement} is not met")]
+    #[error("statement {statement}: assert failed")]
     AssertFailed { statement: u32 },
     /// Memory was wanting.
     #[error("out of memory")]

@@ -13,7 +13,7 @@ ghost use Rattle.pig_run.specs.Due.{CommandDue, InputsDue, NamesScript, ScriptDu
 ghost use Rattle.pig_run.specs.Looking.{IsAbsentIn, IsPrepared, IsReady};
 ghost use Rattle.pig_run.specs.Orderly.{IsOrderly, IsOrderlyBehind, Makes};
 ghost use Rattle.pig_run.specs.Reading.{Run};
-ghost use Rattle.pig_run.specs.Running.{IsFresh, IsUsable, RunTold, RunsTold, counts_in, found_in};
+ghost use Rattle.pig_run.specs.Running.{IsFresh, IsUsable, RunTold, RunsTold, counts_in, found_in, kept_in};
 ghost use Rattle.pig_run.specs.Steps.{DepotCause, IsLaterFault, StoreBlame};
 ghost use Rattle.pig_run.specs.Texts.{ok_text};
 ghost use Rattle.pig_run.specs.Told.{CrewTells, TellsInputs, TellsOf};
@@ -100,7 +100,7 @@ fn carry_out<R: Threads + Sync, D: Depot, H: Host + Send>(
     ensures worked { HaveWorked H.inputs H.faults H.begun limit hosts.old hosts.new
         progress.new.ends (found_in result) }
     ensures asked { Makes (map (λ store. store.dir) prepared.now.stores) (found_in result)
-        (D.calls depot.old) (D.calls depot.new) }
+        (kept_in progress.new) (D.calls depot.old) (D.calls depot.new) }
 {
     let Prepared {
         checked,
@@ -170,7 +170,7 @@ fn perform<R: Threads + Sync, D: Depot, H: Host + Send>(
     ensures worked { HaveWorked H.inputs H.faults H.begun command.now.attempts
         hosts.old hosts.new progress.new.ends (found_in result) }
     ensures asked { Makes (map (λ store. store.dir) prepared.now.stores) (found_in result)
-        (D.calls depot.old) (D.calls depot.new) }
+        (kept_in progress.new) (D.calls depot.old) (D.calls depot.new) }
 {
     let stages = cut(alloc, command, prepared)?;
     let limit = command.attempts;
@@ -201,7 +201,8 @@ fn run_plan<R: Threads + Sync, D: Depot, H: Host + Send>(
     ensures stores { StoreBlame (D.store_faults depot.old) (D.store_faults depot.new) result }
     ensures worked { HaveWorked H.inputs H.faults H.begun command.now.attempts
         hosts.old hosts.new progress.new.ends (found_in result) }
-    ensures asked { IsOrderlyBehind (found_in result) (D.calls depot.old) (D.calls depot.new) }
+    ensures asked { IsOrderlyBehind (found_in result) (kept_in progress.new)
+        (D.calls depot.old) (D.calls depot.new) }
 {
     let prepared = prepare(alloc, depot, plan)?;
     perform(rt, alloc, depot, hosts, command, &prepared, progress)
@@ -231,7 +232,8 @@ fn run_on_crew<R: Threads + Sync, D: Depot, H: Host + Send>(
     ensures stores { StoreBlame (D.store_faults depot.old) (D.store_faults depot.new) result }
     ensures worked { CrewHasWorked H.inputs H.faults H.begun command.now hosts.old hosts.new
         progress.new.ends (found_in result) }
-    ensures asked { IsOrderlyBehind (found_in result) (D.calls depot.old) (D.calls depot.new) }
+    ensures asked { IsOrderlyBehind (found_in result) (kept_in progress.new)
+        (D.calls depot.old) (D.calls depot.new) }
 {
     let (crew, _idle) = hosts.split_at_mut(command.workers as usize);
     run_plan(rt, alloc, depot, crew, command, plan, progress)
@@ -290,7 +292,8 @@ fn obey<R: Threads + Sync, D: Depot, H: Host + Send>(
     ensures stores { StoreBlame (D.store_faults depot.old) (D.store_faults depot.new) result }
     ensures worked { CrewHasWorked H.inputs H.faults H.begun request.command hosts.old hosts.new
         progress.new.ends (found_in result) }
-    ensures asked { IsOrderlyBehind (found_in result) (D.calls depot.old) (D.calls depot.new) }
+    ensures asked { IsOrderlyBehind (found_in result) (kept_in progress.new)
+        (D.calls depot.old) (D.calls depot.new) }
 {
     let Request { command, checked } = request;
     let Checked { plan, statements } = checked;
@@ -326,7 +329,8 @@ pub fn run_script<R: Threads + Sync, D: Depot, H: Host + Send>(
     ensures stores { StoreBlame (D.store_faults depot.old) (D.store_faults depot.new) result }
     ensures worked { CrewHasWorked H.inputs H.faults H.begun command hosts.old hosts.new
         progress.new.ends (found_in result) }
-    ensures asked { IsOrderly (found_in result) (D.calls depot.old) (D.calls depot.new) }
+    ensures asked { IsOrderly (found_in result) (kept_in progress.new)
+        (D.calls depot.old) (D.calls depot.new) }
 {
     a_script_has_one_plan();
     let checked = load_script(alloc, depot, &command)?;

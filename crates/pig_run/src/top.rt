@@ -179,7 +179,8 @@ pub fn pig_main<R: Threads + Sync, D: Depot, H: Host + Send, C: Console>(
     ensures off_words { OffIsUsage (line_of hosts.old.items words.now) result.fault }
     ensures status { result.status ≡ status_of result.fault }
     // The shelf, whether or not the depot tells it: what was asked, and when it is blamed.
-    ensures orderly { IsOrderly result.fault (D.calls depot.old) (D.calls depot.new) }
+    ensures orderly { IsOrderly result.fault result.kept (D.calls depot.old)
+        (D.calls depot.new) }
     ensures depot_fault { BlamesDepot result.fault (D.faults depot.old) (D.faults depot.new) }
     ensures store_fault { BlamesStore result.fault (D.store_faults depot.old)
         (D.store_faults depot.new) }

@@ -6,7 +6,7 @@ use Rattle.pig_outside.proofs.ShelfLaws.{can_finish}
 use Rattle.pig_outside.specs.Shelf.{LeftUnmarked, open_state, with_dir, with_mark, with_new}
 use Rattle.pig_outside.specs.declared.failing.Method.TheVariants as method
 use Rattle.pig_commit.specs.Calls.{call, put_calls}
-use Rattle.pig_commit.proofs.Going.{asked_then, calls_so_far, is_begun, marked_whole, none_left, opened_again, parts_put, whole_asked}
+use Rattle.pig_commit.proofs.Going.{asked_then, calls_so_far, is_begun, marked_whole, none_left, one_made, opened_again, parts_put, where_stopped, whole_asked}
 use Rattle.pig_commit.proofs.commit.make.Goals as goal
 
 pub returns-in_err-create-clause-asked : goal.returns-in_err-create-clause-asked
@@ -16,6 +16,7 @@ returns-in_err-create-clause-asked g c = record {
   asked = c.create.ensures.calls;
   first = refl;
   all = IfOk-from_err c.from_residual.result _ c.from_residual.ensures.0;
+  some = where_stopped c.from_residual.result (one_made [] (call method.Create c.args.dir.now) []);
 }
 
 pub put_parts-requires-clause-begun : goal.put_parts-requires-clause-begun
@@ -40,6 +41,7 @@ returns-in_err-put_parts-clause-asked g c =
       asked = asked_then (call method.Create c.args.dir.now ∷ []) asked.made (calls c.args.depot.now) (calls c.create.new.self) (calls c.put_parts.new.depot) c.create.ensures.calls asked.asked;
       first = calls_so_far c.args.dir.now c.args.parts.now asked.made asked.left asked.first;
       all = IfOk-from_err c.from_residual-in_err-put_parts.result _ c.from_residual-in_err-put_parts.ensures.0;
+      some = where_stopped c.from_residual-in_err-put_parts.result (one_made [] (call method.Create c.args.dir.now) asked.made);
     }
 
 pub finish-requires : goal.finish-requires
@@ -79,4 +81,5 @@ returns-clause-asked g c =
           c.create.ensures.calls asked.asked (sym (ap (λ left. asked.made ++ left) asked.all ∙ append-nil asked.made) ∙ asked.first) c.finish.ensures.calls;
       first = append-nil (call method.Create dir ∷ (put_calls dir c.args.parts.now ++ call method.Finish dir ∷ []));
       all = none_left c.finish.result;
+      some = where_stopped c.finish.result (one_made [] (call method.Create dir) (put_calls dir c.args.parts.now ++ call method.Finish dir ∷ []));
     }

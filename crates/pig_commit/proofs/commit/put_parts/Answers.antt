@@ -4,7 +4,7 @@ use Rattle.std.proofs.lemmas.Result.{on_err_weaker, IfOk-from_err}
 use Rattle.pig_outside.specs.Shelf.{LeftUnmarked, with_part}
 use Rattle.pig_outside.specs.declared.failing.Method.TheVariants as method
 use Rattle.pig_commit.specs.Calls.{call, put_calls}
-use Rattle.pig_commit.proofs.Going.{may_put, none_put, put_more, put_until, stays_open}
+use Rattle.pig_commit.proofs.Going.{may_put, none_put, one_made, put_more, put_until, stays_open, where_stopped}
 use Rattle.pig_commit.proofs.commit.put_parts.Goals as goal
 
 pub loop-number-init : goal.loop-number-init
@@ -40,6 +40,7 @@ returns-in_err-put-clause-asked g c =
       asked = until.0;
       first = until.1;
       all = IfOk-from_err c.from_residual.result _ c.from_residual.ensures.0;
+      some = where_stopped c.from_residual.result (one_made (put_calls c.args.dir.now (take c.loop-number.number c.args.parts.now)) (call method.Put c.args.dir.now) []);
     }
 
 pub loop-number-preserved : goal.loop-number-preserved

@@ -77,7 +77,7 @@ pub returns-in_err-command-clause-asked : goal.returns-in_err-command-clause-ask
 returns-in_err-command-clause-asked g c =
     let now = g.D.Depot.calls c.args.depot.now in
     let none : AsksScript (g.D.Depot.calls c.args.depot.now) (g.D.Depot.calls c.args.depot.now) = record { scripts = []; one = omega arith; asked = asked_nothing now now refl } in
-    orderly_behind (found_in c.from_residual.result) now now now none (orderly_idle c.from_residual.result now now refl)
+    orderly_behind (found_in c.from_residual.result) _ now now now none (orderly_idle c.from_residual.result _ now now refl)
 
 -- ---- a demonstration
 
@@ -118,7 +118,7 @@ pub returns-in-Demo-clause-asked : goal.returns-in-Demo-clause-asked
 returns-in-Demo-clause-asked g c =
     let now = g.D.Depot.calls c.args.depot.now in
     let none : AsksScript (g.D.Depot.calls c.args.depot.now) (g.D.Depot.calls c.args.depot.now) = record { scripts = []; one = omega arith; asked = asked_nothing now now refl } in
-    orderly_behind (found_in c.demonstrate.result) now now now none (orderly_idle c.demonstrate.result now now refl)
+    orderly_behind (found_in c.demonstrate.result) _ now now now none (orderly_idle c.demonstrate.result _ now now refl)
 
 -- ---- a script
 

@@ -16,9 +16,9 @@ use Rattle.pig_run.specs.Steps.{IsCommitFault}
 use Rattle.pig_run.specs.Texts.{done_line}
 use Rattle.pig_run.specs.Told.{TellsInputs}
 use Rattle.pig_run.proofs.Crews.{commit_fault, memory_fault, won_all, worked_on}
-use Rattle.pig_run.proofs.Ending.{all_tell, told_broken, told_bytes, told_done, told_unfound, told_untold, told_wanting}
+use Rattle.pig_run.proofs.Ending.{all_tell, quiet_kept, told_broken, told_bytes, told_done, told_unfound, told_untold, told_wanting}
 use Rattle.pig_run.proofs.Laying.{are_absent, are_apart_all}
-use Rattle.pig_run.proofs.Ordering.{makes_all, makes_broken, makes_none, makes_untold}
+use Rattle.pig_run.proofs.Ordering.{makes_all, makes_broken, makes_none, makes_untold, unkept_end}
 use Rattle.pig_run.proofs.Wording.{later_commit, later_ends}
 use Rattle.pig_run.proofs.running.carry_out.Goals as goal
 
@@ -163,12 +163,13 @@ returns-in_err-text-clause-worked g c =
 pub returns-in_err-parts-clause-asked : goal.returns-in_err-parts-clause-asked
 returns-in_err-parts-clause-asked g c =
     let stops : IfOk c.from_residual.result (λ _. ⊥) = search rules in
-    makes_none c.from_residual.result stops (map (λ store. store.dir) c.args.prepared.now.stores) (g.D.Depot.calls c.args.depot.now) (g.D.Depot.calls c.args.depot.now) refl
+    let ended : IfErr c.from_residual.result (EndsFinding (plan_of c.args.prepared.now.checked) (staged c.args.stages.now) c.args.limit (map g.H.Host.inputs c.args.hosts.now) c.find.new.progress) = search rules in
+    makes_none c.from_residual.result stops (map (λ store. store.dir) c.args.prepared.now.stores) _ (unkept_end c.find.new.progress c.from_residual.result ended stops) (g.D.Depot.calls c.args.depot.now) (g.D.Depot.calls c.args.depot.now) refl
 
 pub returns-in_err-notes-clause-asked : goal.returns-in_err-notes-clause-asked
 returns-in_err-notes-clause-asked g c =
     let stops : IfOk c.from_residual-in_err-notes.result (λ _. ⊥) = search rules in
-    makes_none c.from_residual-in_err-notes.result stops (map (λ store. store.dir) c.args.prepared.now.stores) (g.D.Depot.calls c.args.depot.now) (g.D.Depot.calls c.args.depot.now) refl
+    makes_none c.from_residual-in_err-notes.result stops (map (λ store. store.dir) c.args.prepared.now.stores) _ (λ _. quiet_kept c.find.new.progress c.in_ok-parts.ensures.told.stands) (g.D.Depot.calls c.args.depot.now) (g.D.Depot.calls c.args.depot.now) refl
 
 pub returns-in_err-store_all-clause-asked : goal.returns-in_err-store_all-clause-asked
 returns-in_err-store_all-clause-asked g c =
@@ -176,15 +177,15 @@ returns-in_err-store_all-clause-asked g c =
     let is : MatchResult c.from_residual-in_err-store_all.result (λ _. ⊥) (λ f. f ≡ c.in_err-store_all.field-0.0) = search rules in
     makes_broken c.in_ok-parts.parts (map (λ store. store.dir) c.args.prepared.now.stores) c.in_ok-parts.ensures.told.laid.dirs {U = Unit {0}} c.from_residual-in_err-store_all.result broken.store.statement
     (MatchResult-weaker c.from_residual-in_err-store_all.result is (λ x h. h) (λ f h. subst (IsCommitFault broken.store.statement) (sym h) broken.named))
-    (Err c.in_err-store_all.field-0.0) (g.D.Depot.calls c.args.depot.now) (g.D.Depot.calls c.store_all.new.depot) c.in_err-store_all.ensures.asked
+    c.in_err-store_all.field-0.0 _ (g.D.Depot.calls c.args.depot.now) (g.D.Depot.calls c.store_all.new.depot) c.in_err-store_all.ensures.asked
 
 pub returns-in_err-text-clause-asked : goal.returns-in_err-text-clause-asked
 returns-in_err-text-clause-asked g c =
     let is : MatchResult c.from_residual-in_err-text.result (λ _. ⊥) (λ f. f ≡ fault.OutOfMemory) = search rules in
-    makes_untold c.in_ok-parts.parts (map (λ store. store.dir) c.args.prepared.now.stores) c.in_ok-parts.ensures.told.laid.dirs (g.D.Depot.calls c.args.depot.now) (g.D.Depot.calls c.store_all.new.depot)
+    makes_untold c.in_ok-parts.parts (map (λ store. store.dir) c.args.prepared.now.stores) c.in_ok-parts.ensures.told.laid.dirs _ (g.D.Depot.calls c.args.depot.now) (g.D.Depot.calls c.store_all.new.depot)
     c.in_ok-store_all.ensures.asked c.from_residual-in_err-text.result is
 
 pub returns-clause-asked : goal.returns-clause-asked
 returns-clause-asked g c =
-    makes_all c.in_ok-parts.parts (map (λ store. store.dir) c.args.prepared.now.stores) c.in_ok-parts.ensures.told.laid.dirs (g.D.Depot.calls c.args.depot.now) (g.D.Depot.calls c.store_all.new.depot)
+    makes_all c.in_ok-parts.parts (map (λ store. store.dir) c.args.prepared.now.stores) c.in_ok-parts.ensures.told.laid.dirs _ (g.D.Depot.calls c.args.depot.now) (g.D.Depot.calls c.store_all.new.depot)
     c.in_ok-store_all.ensures.asked

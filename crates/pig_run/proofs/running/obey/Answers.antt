@@ -49,7 +49,7 @@ returns-in-Check-clause-worked g c =
     (memory_fault c.print_check.result (MatchResult-weaker c.print_check.result c.print_check.ensures (λ text same. tt) (λ f is. is)))
 
 pub returns-in-Check-clause-asked : goal.returns-in-Check-clause-asked
-returns-in-Check-clause-asked g c = orderly_idle c.print_check.result (g.D.Depot.calls c.args.depot.now) (g.D.Depot.calls c.args.depot.now) refl
+returns-in-Check-clause-asked g c = orderly_idle c.print_check.result _ (g.D.Depot.calls c.args.depot.now) (g.D.Depot.calls c.args.depot.now) refl
 
 pub returns-in-Explain-clause-told : goal.returns-in-Explain-clause-told
 returns-in-Explain-clause-told g c s told =
@@ -70,4 +70,4 @@ returns-in-Explain-clause-worked g c =
     (memory_fault c.print_explain.result (MatchResult-weaker c.print_explain.result c.print_explain.ensures (λ text same. tt) (λ f is. is)))
 
 pub returns-in-Explain-clause-asked : goal.returns-in-Explain-clause-asked
-returns-in-Explain-clause-asked g c = orderly_idle c.print_explain.result (g.D.Depot.calls c.args.depot.now) (g.D.Depot.calls c.args.depot.now) refl
+returns-in-Explain-clause-asked g c = orderly_idle c.print_explain.result _ (g.D.Depot.calls c.args.depot.now) (g.D.Depot.calls c.args.depot.now) refl

@@ -13,7 +13,7 @@ use Rattle.pig_run.specs.Told.{TellsInputs}
 use Rattle.pig_run.proofs.Crews.{cut_fault, idle_worked}
 use Rattle.pig_run.proofs.Ending.{told_runs, told_stopped}
 use Rattle.pig_run.proofs.Deciding.{some_tasks}
-use Rattle.pig_run.proofs.Ordering.{makes_none}
+use Rattle.pig_run.proofs.Ordering.{fresh_kept, makes_none}
 use Rattle.pig_run.proofs.Sizes.{are_fitting, stages_are, tasks_due, tasks_stop, tell_sizes}
 use Rattle.pig_run.proofs.Wording.{later_cut}
 use Rattle.pig_run.proofs.running.perform.Goals as goal
@@ -89,4 +89,4 @@ returns-in_err-stages-clause-worked g c =
 pub returns-in_err-stages-clause-asked : goal.returns-in_err-stages-clause-asked
 returns-in_err-stages-clause-asked g c =
     let stops : IfOk c.from_residual.result (λ _. ⊥) = search rules in
-    makes_none c.from_residual.result stops (map (λ store. store.dir) c.args.prepared.now.stores) (g.D.Depot.calls c.args.depot.now) (g.D.Depot.calls c.args.depot.now) refl
+    makes_none c.from_residual.result stops (map (λ store. store.dir) c.args.prepared.now.stores) _ (λ _. fresh_kept c.args.progress.now c.requires.fresh) (g.D.Depot.calls c.args.depot.now) (g.D.Depot.calls c.args.depot.now) refl

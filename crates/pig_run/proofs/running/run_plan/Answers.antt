@@ -9,7 +9,7 @@ use Rattle.pig_run.specs.Told.{TellsInputs}
 use Rattle.pig_run.proofs.Crews.{idle_worked, plan_fault}
 use Rattle.pig_run.proofs.Deciding.{some_inputs}
 use Rattle.pig_run.proofs.Ending.{end_behind, told_stopped}
-use Rattle.pig_run.proofs.Ordering.{orderly_made, orderly_stopped}
+use Rattle.pig_run.proofs.Ordering.{fresh_kept, orderly_made, orderly_stopped}
 use Rattle.pig_run.proofs.Wording.{later_plan}
 use Rattle.pig_run.proofs.running.run_plan.Goals as goal
 
@@ -63,9 +63,9 @@ returns-in_err-prepared-clause-worked g c =
 pub returns-in_err-prepared-clause-asked : goal.returns-in_err-prepared-clause-asked
 returns-in_err-prepared-clause-asked g c =
     let stops : IfOk c.from_residual.result (λ _. ⊥) = search rules in
-    orderly_stopped c.prepare.result c.from_residual.result stops (g.D.Depot.calls c.args.depot.now) (g.D.Depot.calls c.prepare.new.depot) c.prepare.ensures.asked
+    orderly_stopped c.prepare.result c.from_residual.result stops _ (fresh_kept c.args.progress.now c.requires.fresh) (g.D.Depot.calls c.args.depot.now) (g.D.Depot.calls c.prepare.new.depot) c.prepare.ensures.asked
 
 pub returns-clause-asked : goal.returns-clause-asked
 returns-clause-asked g c =
-    orderly_made c.in_ok-prepared.prepared (found_in c.perform.result) (g.D.Depot.calls c.args.depot.now) (g.D.Depot.calls c.prepare.new.depot) (g.D.Depot.calls c.perform.new.depot)
+    orderly_made c.in_ok-prepared.prepared (found_in c.perform.result) _ (g.D.Depot.calls c.args.depot.now) (g.D.Depot.calls c.prepare.new.depot) (g.D.Depot.calls c.perform.new.depot)
     c.in_ok-prepared.ensures.asked c.perform.ensures.asked

@@ -65,9 +65,9 @@ pub returns-in_err-checked-clause-asked : goal.returns-in_err-checked-clause-ask
 returns-in_err-checked-clause-asked g c =
     let new = g.D.Depot.calls c.load_script.new.depot in
     let script : AsksScript (g.D.Depot.calls c.args.depot.now) (g.D.Depot.calls c.load_script.new.depot) = record { scripts = c.args.command.operand ∷ []; one = omega arith; asked = c.load_script.ensures.asked } in
-    orderly_behind (found_in c.from_residual.result) (g.D.Depot.calls c.args.depot.now) new new script (orderly_idle c.from_residual.result new new refl)
+    orderly_behind (found_in c.from_residual.result) _ (g.D.Depot.calls c.args.depot.now) new new script (orderly_idle c.from_residual.result _ new new refl)
 
 pub returns-clause-asked : goal.returns-clause-asked
 returns-clause-asked g c =
     let script : AsksScript (g.D.Depot.calls c.args.depot.now) (g.D.Depot.calls c.load_script.new.depot) = record { scripts = c.args.command.operand ∷ []; one = omega arith; asked = c.load_script.ensures.asked } in
-    orderly_behind (found_in c.obey.result) (g.D.Depot.calls c.args.depot.now) (g.D.Depot.calls c.load_script.new.depot) (g.D.Depot.calls c.obey.new.depot) script c.obey.ensures.asked
+    orderly_behind (found_in c.obey.result) _ (g.D.Depot.calls c.args.depot.now) (g.D.Depot.calls c.load_script.new.depot) (g.D.Depot.calls c.obey.new.depot) script c.obey.ensures.asked

@@ -5,6 +5,7 @@ use Rattle.pig_run.specs.declared.outcome.Outcome.{Outcome}
 use Rattle.pig_run.specs.Blame.{HostsHaveWorked}
 use Rattle.pig_run.specs.Due.{HasWords, IsDemo, IsDue, IsNoDemo}
 use Rattle.pig_run.specs.Ends.{Console, Shown, counts_shown, is_unmet, is_wanting, kept_shown}
+use Rattle.pig_run.specs.Orderly.{IsOrderly}
 use Rattle.pig_run.specs.Running.{RunEnd, counts_in, end_text, found_in, kept_in}
 use Rattle.pig_run.specs.Steps.{SaysWords}
 use Rattle.pig_run.specs.Told.{AllTell, Seen, TellsOf, Told, line_of, seen}
@@ -49,7 +50,13 @@ returns-clause-console_failed g c = answers_none _ _ _ (found_in c.run-end.resul
 
 pub returns-clause-orderly : goal.returns-clause-orderly
 returns-clause-orderly g c =
-    orderly_shown _ _ _ (found_in c.run-end.result) c.show_end-fault.result c.show_end-fault.ensures.shown (g.D.Depot.calls c.args.depot.now) (g.D.Depot.calls c.run-end.new.depot) c.run-end.ensures.asked
+    let ended : c.is_unmet-unmet.result ≡ is_unmet (found_in c.run-end.result) = search rules in
+    let hidden : c.is_hidden-hidden.result ≡ (c.is_unmet-unmet.result && is_wanting c.show_end-fault.result) = search rules in
+    let stands : c.kept_shown.result ≡ (if c.is_hidden-hidden.result then [] else kept_in c.run-end.new.progress) = search rules in
+    let kept : c.kept_shown.result ≡ kept_shown (found_in c.run-end.result) c.show_end-fault.result (kept_in c.run-end.new.progress) =
+    kept_answered _ _ c.is_unmet-unmet.result c.is_hidden-hidden.result _ _ ended hidden stands in
+    subst (λ kept. IsOrderly c.show_end-fault.result kept (g.D.Depot.calls c.args.depot.now) (g.D.Depot.calls c.run-end.new.depot)) (sym kept)
+    (orderly_shown _ _ _ (found_in c.run-end.result) c.show_end-fault.result c.show_end-fault.ensures.shown _ (g.D.Depot.calls c.args.depot.now) (g.D.Depot.calls c.run-end.new.depot) c.run-end.ensures.asked)
 
 pub returns-clause-depot_stands : goal.returns-clause-depot_stands
 returns-clause-depot_stands g c = c.run-end.ensures.depot.later
