@@ -91,7 +91,8 @@ fn add_rewritten<R: Abort>(rt: &R, alloc: Global, into: &mut String, script: &st
 // A script on each line that doesn't begin with `- `, and behind it the nodes of its rewritten plan:
 // FILTERs that do the same and become one; so over a DISTINCT, which one node reads then, so that it
 // is passed; a condition that moves, so that columns go; one that passes a GROUP; two that become
-// one, and dead nodes; JOINs that do the same; bare LIMITs, which stay apart; nothing to do.
+// one, and dead nodes; JOINs that do the same; ASSERTs that do, and one with another message; bare
+// LIMITs, which stay apart; nothing to do.
 const REWRITTEN: &str = "\
 a = LOAD 't' AS (k:int, v:int); b = LOAD 't' AS (k:int, v:int); x = FILTER a BY k > 1; y = FILTER b BY k > 1; STORE x INTO 'o'; STORE y INTO 'p';
 - 0 LOAD 't' 09 0:int 1:int
@@ -127,6 +128,17 @@ a = LOAD 'a' AS (k:int, v:int); b = LOAD 'b' AS (l:int, w:int); i = JOIN a BY k,
 - 2 JOIN 0 BY $0; 1 BY $0
 - 3 STORE 2 'o' 09
 - 4 STORE 2 'p' 09
+a = LOAD 't' AS (k:int); ASSERT a BY k > 0, 'm'; b = LOAD 't' AS (k:int); ASSERT b BY k > 0, 'm'; STORE a INTO 'o'; STORE b INTO 'p';
+- 0 LOAD 't' 09 0:int
+- 1 ASSERT 0 ($0 > 0)
+- 2 STORE 1 'o' 09
+- 3 STORE 1 'p' 09
+a = LOAD 't' AS (k:int); ASSERT a BY k > 0, 'm'; b = LOAD 't' AS (k:int); ASSERT b BY k > 0; STORE a INTO 'o'; STORE b INTO 'p';
+- 0 LOAD 't' 09 0:int
+- 1 ASSERT 0 ($0 > 0)
+- 2 STORE 1 'o' 09
+- 3 ASSERT 0 ($0 > 0)
+- 4 STORE 3 'p' 09
 t = LOAD 't' AS (a:int, b:int); l = LIMIT t 2; m = LIMIT t 2; STORE l INTO 'o'; STORE m INTO 'p';
 - 0 LOAD 't' 09 0:int 1:int
 - 1 LIMIT 0 2

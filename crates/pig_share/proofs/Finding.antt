@@ -13,9 +13,9 @@ use Rattle.pig_plan.specs.Plans.{Plan, PlanNode, plan_of}
 use Rattle.pig_plan.specs.Renumbered.{rename}
 use Rattle.pig_plan.specs.Results.{at_place}
 use Rattle.pig_share.specs.Same.{columns_of, same_op}
-use Rattle.pig_share.specs.Shared.{EachIsOnce, is_apart, renamed}
+use Rattle.pig_share.specs.Shared.{EachIsOnce, apart_in, in_order, is_apart, renamed}
 use Rattle.pig_plan.specs.Valid.{IsPlan}
-use Rattle.pig_share.specs.Table.{DoesSame, IsFound, IsRenamedAt, IsSoFar, Shares, at_of, earlier, none, sorted_list}
+use Rattle.pig_share.specs.Table.{DoesSame, IsFound, IsRenamedAt, IsSoFar, Shares, apart_list, at_of, earlier, none, sorted_list}
 use Rattle.pig_share.proofs.Steps.{goes_on, numbered}
 use Rattle.pig_plan.specs.Rewrites.{SameMeaning}
 use Rattle.pig_share.proofs.Meaning.{shared_means}
@@ -49,25 +49,35 @@ mark_is p k v stands =
     get_or_from_slice_get (live_marks p) k (is_live p k) false
     (get_map (is_live p) (range_with_len 0 (length p)) k ∙ ap (option_map (is_live p)) (range_get 0 (length p) k (slice_get_within p k v stands)) ∙ ap (λ n. Some (is_live p n)) e)
 
-pub open_is : (p : Plan) (live sorted : List Bool) (k : ℕ) (mark apart : Bool) → live ≡ live_marks p → sorted ≡ sorted_list p → mark ≡ get_or live k false
-    → (v : PlanNode) → slice_get p k ≡ Some v → apart ≡ is_apart (at_place false sorted) v.op → (mark && not apart) ≡ (is_live p k && not (is_apart (is_sorted p) v.op))
-open_is p live sorted k mark apart is_l is_s is_mark v stands is_a =
+apart_is : (p : Plan) (k : ℕ) (v : PlanNode) → slice_get p k ≡ Some v → get_or (apart_list p) k false ≡ apart_in p v.op
+apart_is p k v stands =
+    get_or_from_slice_get (apart_list p) k (apart_in p v.op) false
+    (get_map (λ node. apart_in p node.op) p k ∙ ap (option_map (λ node. apart_in p node.op)) stands)
+
+pub open_is : (p : Plan) (live apart : List Bool) (k : ℕ) (mark own : Bool) → live ≡ live_marks p → apart ≡ apart_list p → mark ≡ get_or live k false
+    → own ≡ get_or apart k false → (v : PlanNode) → slice_get p k ≡ Some v → (mark && not own) ≡ (is_live p k && not (apart_in p v.op))
+open_is p live apart k mark own is_l is_a is_mark is_own v stands =
     let marked : mark ≡ is_live p k = is_mark ∙ ap (λ xs. get_or xs k false) is_l ∙ mark_is p k v stands in
-    let free : apart ≡ is_apart (is_sorted p) v.op = is_a ∙ ap (λ xs. is_apart (at_place false xs) v.op) is_s in
+    let free : own ≡ apart_in p v.op = is_own ∙ ap (λ xs. get_or xs k false) is_a ∙ apart_is p k v stands in
     λ j. marked j && not (free j)
+
+-- the marks of nodes that stay apart, as they are made
+pub apart_made : (p : Plan) (made sorted : List Bool) (ordered : Bool) → made ≡ map (λ node. is_apart ordered (at_place false sorted) node.op) p → ordered ≡ in_order p
+    → sorted ≡ sorted_list p → made ≡ apart_list p
+apart_made p made sorted ordered is is_o is_s = is ∙ (λ j. map (λ node. is_apart (is_o j) (at_place false (is_s j)) node.op) p)
 
 -- ---- the tests of two nodes
 
 module _ (p : Plan) (table : List ℕ) (i j : ℕ) (v w : PlanNode) (stands_i : slice_get p i ≡ Some v) (stands_j : slice_get p j ≡ Some w) (a b c : Bool)
-    (this_open : a ≡ (is_live p i && not (is_apart (is_sorted p) v.op))) (that_open : b ≡ (is_live p j && not (is_apart (is_sorted p) w.op)))
+    (this_open : a ≡ (is_live p i && not (apart_in p v.op))) (that_open : b ≡ (is_live p j && not (apart_in p w.op)))
     (same : c ≡ same_op (rename (at_of table) w.op) (rename (at_of table) v.op))
     (columns : c ≡ true → columns_of (rename (at_of table) w.op) ≡ columns_of (rename (at_of table) v.op)) where
   pub does : ((a && b) && c) ≡ true → DoesSame p table i j
   does h =
       let t = both (a && b) c h in
       let u = both a b t.0 in
-      let x = both (is_live p i) (not (is_apart (is_sorted p) v.op)) (sym this_open ∙ u.0) in
-      let y = both (is_live p j) (not (is_apart (is_sorted p) w.op)) (sym that_open ∙ u.1) in
+      let x = both (is_live p i) (not (apart_in p v.op)) (sym this_open ∙ u.0) in
+      let y = both (is_live p j) (not (apart_in p w.op)) (sym that_open ∙ u.1) in
       record {
         v = v;
         w = w;
@@ -75,8 +85,8 @@ module _ (p : Plan) (table : List ℕ) (i j : ℕ) (v w : PlanNode) (stands_i : 
         stands_j = stands_j;
         lives_i = x.0;
         lives_j = y.0;
-        free_i = not_false (is_apart (is_sorted p) v.op) x.1;
-        free_j = not_false (is_apart (is_sorted p) w.op) y.1;
+        free_i = not_false (apart_in p v.op) x.1;
+        free_j = not_false (apart_in p w.op) y.1;
         same = op_same (rename (at_of table) w.op) (rename (at_of table) v.op) (columns t.1) (sym same ∙ t.1);
       }
 
@@ -84,10 +94,10 @@ module _ (p : Plan) (table : List ℕ) (i j : ℕ) (v w : PlanNode) (stands_i : 
   passes d =
       let e : d.v ≡ v = some_same d.v v (sym d.stands_i ∙ stands_i) in
       let f : d.w ≡ w = some_same d.w w (sym d.stands_j ∙ stands_j) in
-      let one : a ≡ true = this_open ∙ (λ k. d.lives_i k && not (is_apart (is_sorted p) ((sym e k).op))) ∙ ap not d.free_i in
-      let two : b ≡ true = that_open ∙ (λ k. d.lives_j k && not (is_apart (is_sorted p) ((sym f k).op))) ∙ ap not d.free_j in
+      let one : a ≡ true = this_open ∙ (λ k. d.lives_i k && not (apart_in p ((sym e k).op))) ∙ ap not d.free_i in
+      let two : b ≡ true = that_open ∙ (λ k. d.lives_j k && not (apart_in p ((sym f k).op))) ∙ ap not d.free_j in
       let is : rename (at_of table) w.op ≡ rename (at_of table) v.op = ap (λ x. rename (at_of table) x.op) (sym f) ∙ d.same ∙ ap (λ x. rename (at_of table) x.op) e in
-      let three : c ≡ true = same ∙ ap (λ o. same_op o (rename (at_of table) v.op)) is ∙ renamed_itself (at_of table) (is_sorted p) v.op (ap (λ x. is_apart (is_sorted p) x.op) (sym e) ∙ d.free_i) in
+      let three : c ≡ true = same ∙ ap (λ o. same_op o (rename (at_of table) v.op)) is ∙ renamed_itself (at_of table) (in_order p) (is_sorted p) v.op (ap (λ x. apart_in p x.op) (sym e) ∙ d.free_i) in
       λ k. (one k && two k) && three k
 
 -- ---- the beginning, and the end
@@ -138,8 +148,8 @@ next_so_far nodes table longer made grown i n node valid within so_far is found 
 -- the tests at a place
 module _ (nodes : List Node) (table : List ℕ) (made : Plan) (i j : ℕ) (node : PlanNode) (within : i < length nodes) (before : j < i)
     (so_far : IsSoFar (plan_of nodes) table made i) (is : IsRenamedAt (plan_of nodes) table i node) (a b c : Bool)
-    (this_open : (v : PlanNode) → slice_get (plan_of nodes) i ≡ Some v → a ≡ (is_live (plan_of nodes) i && not (is_apart (is_sorted (plan_of nodes)) v.op)))
-    (that_open : (v : PlanNode) → slice_get (plan_of nodes) j ≡ Some v → b ≡ (is_live (plan_of nodes) j && not (is_apart (is_sorted (plan_of nodes)) v.op)))
+    (this_open : (v : PlanNode) → slice_get (plan_of nodes) i ≡ Some v → a ≡ (is_live (plan_of nodes) i && not (apart_in (plan_of nodes) v.op)))
+    (that_open : (v : PlanNode) → slice_get (plan_of nodes) j ≡ Some v → b ≡ (is_live (plan_of nodes) j && not (apart_in (plan_of nodes) v.op)))
     (same : (u : PlanNode) → slice_get made j ≡ Some u → c ≡ same_op u.op node.op)
     (columns : (u : PlanNode) → slice_get made j ≡ Some u → c ≡ true → columns_of u.op ≡ columns_of node.op) where
   record Ready : Type 0 where

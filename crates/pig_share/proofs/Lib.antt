@@ -1,3 +1,4 @@
+pub mod InOrder
 pub mod Moved
 pub mod Shares
 pub mod Living

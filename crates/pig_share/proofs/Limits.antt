@@ -10,7 +10,7 @@ use Rattle.pig_plan.specs.Nodes.{bare_limits, inputs_of, is_bare, is_live, is_so
 use Rattle.pig_plan.specs.Plans.{Plan, PlanNode, PlanOp, p_load, p_filter, p_foreach, p_group_all, p_group, p_join, p_union, p_distinct, p_order, p_limit, p_store, p_assert, p_rank}
 use Rattle.pig_plan.specs.Renumbered.{rename}
 use Rattle.pig_plan.specs.Valid.{IsPlan}
-use Rattle.pig_share.specs.Shared.{IsNamedBy, is_apart, renamed}
+use Rattle.pig_share.specs.Shared.{IsNamedBy, apart_in, in_order, renamed}
 use Rattle.pig_share.proofs.Living.{stays_live, was_live}
 use Rattle.pig_share.proofs.Shares.{bare_apart, same_at, there}
 
@@ -95,7 +95,7 @@ module _ (p : Plan) (at : ℕ → ℕ) (valid : IsPlan p) (valid_q : IsPlan (map
   bare_same k v stands = bare_op k v.statement v.op stands (names_lower p valid k v stands)
 
   -- what stays apart is live in both
-  pub live_same : (k : ℕ) (v : PlanNode) → slice_get p k ≡ Some v → is_apart (is_sorted p) v.op ≡ true → is_live (map (renamed at) p) k ≡ is_live p k
+  pub live_same : (k : ℕ) (v : PlanNode) → slice_get p k ≡ Some v → apart_in p v.op ≡ true → is_live (map (renamed at) p) k ≡ is_live p k
   live_same k v stands apart =
       same_truth (is_live (map (renamed at) p) k) (is_live p k) (was_live p at valid valid_q named k v stands)
       (λ alive. subst (λ n. is_live (map (renamed at) p) n ≡ true) ((named k v stands).apart apart) (stays_live p at valid valid_q named k v stands alive))
@@ -115,9 +115,9 @@ module _ (p : Plan) (at : ℕ → ℕ) (valid : IsPlan p) (valid_q : IsPlan (map
       not_bare (is_live (map (renamed at) p)) (slice_get (map (renamed at) p)) bare_q statement_of (is_live (map (renamed at) p) k) (renamed at v) (bare_same k v stands ∙ b)
       ∙ sym (not_bare (is_live p) (slice_get p) bare_p statement_of live v b)
   adds_some k v stands false e true b =
-      ap (λ l. adds (is_live (map (renamed at) p)) (slice_get (map (renamed at) p)) bare_q statement_of l (Some (renamed at v))) (live_same k v stands (bare_apart (is_sorted p) v.op b) ∙ e)
+      ap (λ l. adds (is_live (map (renamed at) p)) (slice_get (map (renamed at) p)) bare_q statement_of l (Some (renamed at v))) (live_same k v stands (bare_apart (in_order p) (is_sorted p) v.op b) ∙ e)
   adds_some k v stands true e true b =
-      ap (λ l. adds (is_live (map (renamed at) p)) (slice_get (map (renamed at) p)) bare_q statement_of l (Some (renamed at v))) (live_same k v stands (bare_apart (is_sorted p) v.op b) ∙ e)
+      ap (λ l. adds (is_live (map (renamed at) p)) (slice_get (map (renamed at) p)) bare_q statement_of l (Some (renamed at v))) (live_same k v stands (bare_apart (in_order p) (is_sorted p) v.op b) ∙ e)
       ∙ is_bare_one (is_live (map (renamed at) p)) (slice_get (map (renamed at) p)) bare_q statement_of (renamed at v) (bare_same k v stands ∙ b)
       ∙ sym (is_bare_one (is_live p) (slice_get p) bare_p statement_of v b)
 

@@ -1,5 +1,5 @@
 -- A plan that shares nodes means what the plan meant: its outputs, its first ASSERT that fails, and what its bare LIMITs may keep.
-use Rattle.std.specs.Prelude.{◌≡◌, ◌<◌, ℕ, Bool, true, false, not, List, [], ◌∷◌, map, length, Option, Some, slice_get, refl}
+use Rattle.std.specs.Prelude.{◌≡◌, ◌≤◌, ◌<◌, ℕ, Bool, true, false, not, List, [], ◌∷◌, map, length, Option, Some, slice_get, refl}
 use Rattle.std.proofs.Common.{ap, sym, ◌∙◌, subst, arith}
 use Rattle.std.specs.List.{AllByRecursion, list_all}
 use Rattle.std.proofs.lemmas.Option.{slice_get_within}
@@ -16,10 +16,11 @@ use Rattle.pig_plan.specs.Plans.{Plan, PlanNode, PlanOp, p_load, p_filter, p_for
 use Rattle.pig_plan.specs.Renumbered.{IsSame, rename}
 use Rattle.pig_plan.specs.Rewrites.{Fails, SameMeaning, Stores}
 use Rattle.pig_plan.specs.Valid.{IsPlan}
-use Rattle.pig_share.specs.Shared.{IsNamedBy, IsShared, is_apart, renamed}
+use Rattle.pig_share.specs.Shared.{IsNamedBy, IsShared, apart_in, in_order, renamed}
+use Rattle.pig_share.proofs.InOrder.{no_later_before}
 use Rattle.pig_share.proofs.Limits.{limits_same, live_same}
-use Rattle.pig_share.proofs.Living.{Back, back}
-use Rattle.pig_share.proofs.Shares.{lists_at, same_at, there}
+use Rattle.pig_share.proofs.Living.{Back, back, stays_live, was_live}
+use Rattle.pig_share.proofs.Shares.{first_there, its_own, lists_at, same_at, there}
 
 -- ---- what an operator was before its inputs were mapped
 
@@ -139,7 +140,7 @@ module _ (p : Plan) (at : ℕ → ℕ) (valid : IsPlan p) (valid_q : IsPlan (map
 
   -- ---- what is stored, and what fails
 
-  own_rows : (inputs : List Input) (kept : List Kept) (k : ℕ) (v : PlanNode) → slice_get p k ≡ Some v → is_apart (is_sorted p) v.op ≡ true
+  own_rows : (inputs : List Input) (kept : List Kept) (k : ℕ) (v : PlanNode) → slice_get p k ≡ Some v → apart_in p v.op ≡ true
       → meaning (map (renamed at) p) inputs kept k ≡ meaning p inputs kept k
   own_rows inputs kept k v stands apart =
       ap (meaning (map (renamed at) p) inputs kept) (sym ((named k v stands).apart apart)) ∙ (same_at p at valid valid_q named inputs kept k v stands).rows
@@ -171,17 +172,28 @@ module _ (p : Plan) (at : ℕ → ℕ) (valid : IsPlan p) (valid_q : IsPlan (map
         list_is = sym (input_lists s.node store.0 (node_with (p_store store.0 path delim) s.statement) own.stands own.lower.0) ∙ ap (is_list (map (renamed at) p)) store.2 ∙ s.list_is;
       }
 
-  fails_on : (inputs : List Input) (kept : List Kept) (statement : ℕ) → Fails p inputs kept statement → Fails (map (renamed at) p) inputs kept statement
+  -- the ASSERT that stands for one has no later statement
+  first_no_later : (k : ℕ) (v : PlanNode) (stands : slice_get p k ≡ Some v) → apart_in p v.op ≡ not (in_order p) → (named k v stands).first.statement ≤ v.statement
+  first_no_later k v stands is = by_order (in_order p) refl
+    where
+      by_order : (b : Bool) → in_order p ≡ b → (named k v stands).first.statement ≤ v.statement
+      by_order true e = no_later_before p e (at k) k (named k v stands).first v (named k v stands).early (named k v stands).stands stands
+      by_order false e =
+          let same : (named k v stands).first.statement ≡ v.statement = ap (λ n. n.statement) (its_own p at valid valid_q named k v stands (is ∙ ap not e)) in
+          omega (arith, same)
+
+  fails_on : (inputs : List Input) (kept : List Kept) (statement : ℕ) (f : Fails p inputs kept statement)
+      → Fails (map (renamed at) p) inputs kept (named f.node (node_with (p_assert f.input f.cond f.message) statement) f.stands).first.statement
   fails_on inputs kept statement f =
       let lower : AllByRecursion (λ i. i < f.node) (f.input ∷ []) = names_lower p valid f.node (node_with (p_assert f.input f.cond f.message) statement) f.stands in
       let same : IsSame p (map (renamed at) p) at inputs kept f.input = input_same inputs kept f.node f.input (node_with (p_assert f.input f.cond f.message) statement) f.stands lower.0 in
       record {
-        node = f.node;
+        node = at f.node;
         input = at f.input;
         cond = f.cond;
         message = f.message;
-        stands = there p at valid valid_q named f.node (node_with (p_assert f.input f.cond f.message) statement) f.stands;
-        lives = live_same p at valid valid_q named f.node (node_with (p_assert f.input f.cond f.message) statement) f.stands refl ∙ f.lives;
+        stands = first_there p at valid valid_q named f.node (node_with (p_assert f.input f.cond f.message) statement) f.stands;
+        lives = stays_live p at valid valid_q named f.node (node_with (p_assert f.input f.cond f.message) statement) f.stands f.lives;
         unmet = ap (list_all (passes f.cond)) same.rows ∙ f.unmet;
       }
 
@@ -197,7 +209,7 @@ module _ (p : Plan) (at : ℕ → ℕ) (valid : IsPlan p) (valid_q : IsPlan (map
         cond = f.cond;
         message = f.message;
         stands = own.stands;
-        lives = sym (live_same p at valid valid_q named f.node (node_with (p_assert test.0 f.cond f.message) statement) own.stands refl) ∙ f.lives;
+        lives = was_live p at valid valid_q named f.node (node_with (p_assert test.0 f.cond f.message) statement) own.stands f.lives;
         unmet = ap (list_all (passes f.cond)) (sym same.rows ∙ ap (meaning (map (renamed at) p) inputs kept) test.2) ∙ f.unmet;
       }
 
@@ -207,7 +219,11 @@ module _ (p : Plan) (at : ℕ → ℕ) (valid : IsPlan p) (valid_q : IsPlan (map
     kept_back = kept_again;
     goes = λ inputs kept h. record {
       stores = stores_on inputs kept;
-      fails = λ statement f. record { first = statement; no_later = omega arith; fails = fails_on inputs kept statement f };
+      fails = λ statement f. record {
+        first = (named f.node (node_with (p_assert f.input f.cond f.message) statement) f.stands).first.statement;
+        no_later = first_no_later f.node (node_with (p_assert f.input f.cond f.message) statement) f.stands refl;
+        fails = fails_on inputs kept statement f;
+      };
     };
     comes = λ inputs kept h. record {
       stores = stores_back inputs kept;

@@ -23,7 +23,7 @@ use Rattle.pig_typed.specs.Typed.{Typed, TypedArgs, TypedBlock, TypedItem, Typed
 use Rattle.pig_plan.specs.Plans.{Keyed, PlanOp, p_load, p_filter, p_foreach, p_group_all, p_group, p_join, p_union, p_distinct, p_order, p_limit, p_store, p_assert, p_rank}
 use Rattle.pig_plan.specs.Renumbered.{rename}
 use Rattle.pig_share.specs.Shared.{is_apart}
-use Rattle.pig_share.specs.Same.{columns_of, same_all, same_args, same_block, same_bool, same_chain, same_column, same_dir, same_expr, same_function, same_item, same_key, same_keyed, same_links, same_op, same_rel, same_side, same_step, same_width}
+use Rattle.pig_share.specs.Same.{columns_of, same_all, same_args, same_block, same_bool, same_chain, same_column, same_dir, same_expr, same_function, same_item, same_key, same_keyed, same_links, same_message, same_op, same_rel, same_side, same_step, same_width}
 
 both : (a b : Bool) → (a && b) ≡ true → (a ≡ true) × (b ≡ true)
 both true b h = (refl, h)
@@ -93,6 +93,12 @@ function_same f g h = absurd (cc)
 
 bytes_same : (xs ys : List ℕ) → bytes_eq xs ys ≡ true → xs ≡ ys
 bytes_same xs ys h = (bytes_eq-Decides xs ys).0 h
+
+message_same : (m n : Option (List ℕ)) → same_message m n ≡ true → m ≡ n
+message_same None None h = refl
+message_same (Some m) (Some n) h = ap Some (bytes_same m n h)
+message_same None (Some n) h = absurd (cc)
+message_same (Some m) None h = absurd (cc)
 
 mutual
   pub expr_same : (e f : Typed) → same_expr e f ≡ true → e ≡ f
@@ -226,6 +232,10 @@ op_same (p_order j ks) (p_order k ls) c h =
 op_same (p_limit j m) (p_limit k n) c h =
     let t = both (j == k) (m == n) h in
     λ i. p_limit (eqb-true j k t.0 i) (eqb-true m n t.1 i)
+op_same (p_assert j e m) (p_assert k f n) c h =
+    let t = both (j == k) (same_expr e f && same_message m n) h in
+    let u = both (same_expr e f) (same_message m n) t.1 in
+    λ i. p_assert (eqb-true j k t.0 i) (expr_same e f u.0 i) (message_same m n u.1 i)
 op_same (p_rank j ks a) (p_rank k ls b) c h =
     let t = both (j == k) (same_bool a b && same_all same_key ks ls) h in
     let u = both (same_bool a b) (same_all same_key ks ls) t.1 in
@@ -274,6 +284,10 @@ bytes_itself xs = (bytes_eq-Decides xs xs).1 refl
 width_itself : (o : Option ℕ) → same_width o o ≡ true
 width_itself None = refl
 width_itself (Some n) = nat_itself n
+
+message_itself : (m : Option (List ℕ)) → same_message m m ≡ true
+message_itself None = refl
+message_itself (Some m) = bytes_itself m
 
 function_itself : (f : Function) → same_function f f ≡ true
 function_itself function.Count = refl
@@ -350,33 +364,33 @@ column_itself : (c : Column) → same_column c c ≡ true
 column_itself c = λ i. nat_itself c.position i && kind_itself (kind_tree c.kind) i
 
 -- an operator that may be shared is the same as itself
-pub op_itself : (sorted : ℕ → Bool) (o : PlanOp) → is_apart sorted o ≡ false → same_op o o ≡ true
-op_itself sorted (p_load p m cs) h = λ i. bytes_itself p i && (nat_itself m i && all_itself same_column column_itself cs i)
-op_itself sorted (p_filter j e) h = λ i. nat_itself j i && expr_itself e i
-op_itself sorted (p_foreach j a) h = λ i. nat_itself j i && block_itself a i
-op_itself sorted (p_group_all j) h = nat_itself j
-op_itself sorted (p_group ks) h = inputs_itself ks
-op_itself sorted (p_join ks s m) h = λ i. side_itself s i && (bool_itself m i && inputs_itself ks i)
-op_itself sorted (p_union ks) h = bytes_itself ks
-op_itself sorted (p_distinct j) h = nat_itself j
-op_itself sorted (p_order j ks) h = λ i. nat_itself j i && keys_itself ks i
-op_itself sorted (p_limit j m) h = λ i. nat_itself j i && nat_itself m i
-op_itself sorted (p_store j path delim) h = absurd (true≢false h)
-op_itself sorted (p_assert j c message) h = absurd (true≢false h)
-op_itself sorted (p_rank j ks a) h = λ i. nat_itself j i && (bool_itself a i && keys_itself ks i)
+pub op_itself : (ordered : Bool) (sorted : ℕ → Bool) (o : PlanOp) → is_apart ordered sorted o ≡ false → same_op o o ≡ true
+op_itself ordered sorted (p_load p m cs) h = λ i. bytes_itself p i && (nat_itself m i && all_itself same_column column_itself cs i)
+op_itself ordered sorted (p_filter j e) h = λ i. nat_itself j i && expr_itself e i
+op_itself ordered sorted (p_foreach j a) h = λ i. nat_itself j i && block_itself a i
+op_itself ordered sorted (p_group_all j) h = nat_itself j
+op_itself ordered sorted (p_group ks) h = inputs_itself ks
+op_itself ordered sorted (p_join ks s m) h = λ i. side_itself s i && (bool_itself m i && inputs_itself ks i)
+op_itself ordered sorted (p_union ks) h = bytes_itself ks
+op_itself ordered sorted (p_distinct j) h = nat_itself j
+op_itself ordered sorted (p_order j ks) h = λ i. nat_itself j i && keys_itself ks i
+op_itself ordered sorted (p_limit j m) h = λ i. nat_itself j i && nat_itself m i
+op_itself ordered sorted (p_store j path delim) h = absurd (true≢false h)
+op_itself ordered sorted (p_assert j c message) h = λ i. nat_itself j i && (expr_itself c i && message_itself message i)
+op_itself ordered sorted (p_rank j ks a) h = λ i. nat_itself j i && (bool_itself a i && keys_itself ks i)
 
 -- and so it is over mapped inputs
-pub renamed_itself : (at : ℕ → ℕ) (sorted : ℕ → Bool) (o : PlanOp) → is_apart sorted o ≡ false → same_op (rename at o) (rename at o) ≡ true
-renamed_itself at sorted (p_load p m cs) h = op_itself sorted (p_load p m cs) h
-renamed_itself at sorted (p_filter j e) h = op_itself sorted (p_filter (at j) e) h
-renamed_itself at sorted (p_foreach j a) h = op_itself sorted (p_foreach (at j) a) h
-renamed_itself at sorted (p_group_all j) h = op_itself sorted (p_group_all (at j)) h
-renamed_itself at sorted (p_group ks) h = op_itself sorted (rename at (p_group ks)) h
-renamed_itself at sorted (p_join ks s m) h = op_itself sorted (rename at (p_join ks s m)) h
-renamed_itself at sorted (p_union ks) h = op_itself sorted (rename at (p_union ks)) h
-renamed_itself at sorted (p_distinct j) h = op_itself sorted (p_distinct (at j)) h
-renamed_itself at sorted (p_order j ks) h = op_itself sorted (p_order (at j) ks) h
-renamed_itself at sorted (p_limit j m) h = op_itself (λ i. true) (p_limit (at j) m) refl
-renamed_itself at sorted (p_store j path delim) h = absurd (true≢false h)
-renamed_itself at sorted (p_assert j c message) h = absurd (true≢false h)
-renamed_itself at sorted (p_rank j ks a) h = op_itself sorted (p_rank (at j) ks a) h
+pub renamed_itself : (at : ℕ → ℕ) (ordered : Bool) (sorted : ℕ → Bool) (o : PlanOp) → is_apart ordered sorted o ≡ false → same_op (rename at o) (rename at o) ≡ true
+renamed_itself at ordered sorted (p_load p m cs) h = op_itself ordered sorted (p_load p m cs) h
+renamed_itself at ordered sorted (p_filter j e) h = op_itself ordered sorted (p_filter (at j) e) h
+renamed_itself at ordered sorted (p_foreach j a) h = op_itself ordered sorted (p_foreach (at j) a) h
+renamed_itself at ordered sorted (p_group_all j) h = op_itself ordered sorted (p_group_all (at j)) h
+renamed_itself at ordered sorted (p_group ks) h = op_itself ordered sorted (rename at (p_group ks)) h
+renamed_itself at ordered sorted (p_join ks s m) h = op_itself ordered sorted (rename at (p_join ks s m)) h
+renamed_itself at ordered sorted (p_union ks) h = op_itself ordered sorted (rename at (p_union ks)) h
+renamed_itself at ordered sorted (p_distinct j) h = op_itself ordered sorted (p_distinct (at j)) h
+renamed_itself at ordered sorted (p_order j ks) h = op_itself ordered sorted (p_order (at j) ks) h
+renamed_itself at ordered sorted (p_limit j m) h = op_itself ordered (λ i. true) (p_limit (at j) m) refl
+renamed_itself at ordered sorted (p_store j path delim) h = absurd (true≢false h)
+renamed_itself at ordered sorted (p_assert j c message) h = op_itself ordered sorted (p_assert (at j) c message) h
+renamed_itself at ordered sorted (p_rank j ks a) h = op_itself ordered sorted (p_rank (at j) ks a) h

@@ -1,10 +1,10 @@
 -- Sharing computed on small plans.
-use Rattle.std.specs.Prelude.{◌≡◌, ℕ, pos, true, false, [], ◌∷◌, map, refl}
+use Rattle.std.specs.Prelude.{◌≡◌, ℕ, pos, true, false, [], ◌∷◌, map, Some, None, refl}
 use Rattle.pig_value.specs.declared.operators.Rel.TheVariants as rel
 use Rattle.pig_typed.specs.Typed.{Typed, x_int, x_field, x_compare}
-use Rattle.pig_plan.specs.Plans.{PlanNode, PlanOp, p_load, p_filter, p_union, p_limit, p_store}
+use Rattle.pig_plan.specs.Plans.{PlanNode, PlanOp, p_load, p_filter, p_union, p_limit, p_store, p_assert}
 use Rattle.pig_share.specs.Same.{same_op}
-use Rattle.pig_share.specs.Shared.{is_apart, renamed}
+use Rattle.pig_share.specs.Shared.{apart_in, is_apart, renamed}
 use Rattle.pig_share.specs.Table.{at_of}
 
 abbrev node : PlanOp → ℕ → PlanNode
@@ -31,8 +31,27 @@ other_column = refl
 other_input : same_op (p_filter 0 (above 1)) (p_filter 1 (above 1)) ≡ false
 other_input = refl
 
-a_bare_limit_stays : is_apart (λ i. false) (p_limit 0 3) ≡ true
+-- an ASSERT that asks for it, with the message `m` or none
+abbrev asserted : PlanOp
+asserted = p_assert 0 (above 1) (Some (109 ∷ []))
+
+abbrev bare : PlanOp
+bare = p_assert 0 (above 1) None
+
+same_asserts : same_op asserted asserted ≡ true
+same_asserts = refl
+
+other_message : same_op asserted bare ≡ false
+other_message = refl
+
+an_assert_goes : apart_in (node load 1 ∷ node bare 2 ∷ node bare 3 ∷ []) bare ≡ false
+an_assert_goes = refl
+
+an_assert_stays_out_of_order : apart_in (node load 1 ∷ node bare 3 ∷ node bare 2 ∷ []) bare ≡ true
+an_assert_stays_out_of_order = refl
+
+a_bare_limit_stays : is_apart true (λ i. false) (p_limit 0 3) ≡ true
 a_bare_limit_stays = refl
 
-a_limit_on_a_sorted_node_goes : is_apart (λ i. true) (p_limit 0 3) ≡ false
+a_limit_on_a_sorted_node_goes : is_apart true (λ i. true) (p_limit 0 3) ≡ false
 a_limit_on_a_sorted_node_goes = refl

@@ -1,6 +1,6 @@
 -- A plan that shares nodes: the node that stands for one is what that one was.
 use Rattle.std.specs.Prelude.{◌≡◌, ◌<◌, ℕ, zero, suc, Bool, true, List, [], ◌∷◌, map, length, take, Some, None, slice_get, refl}
-use Rattle.std.proofs.Common.{ap, sym, ◌∙◌, subst, arith}
+use Rattle.std.proofs.Common.{ap, sym, ◌∙◌, subst, arith, true≢false}
 use Rattle.std.specs.List.{AllByRecursion}
 use Rattle.std.specs.Option.{option_map, option_map_or, unwrap_or}
 use Rattle.std.proofs.lemmas.Option.{slice_get_within}
@@ -19,24 +19,24 @@ use Rattle.pig_plan.specs.Plans.{Plan, PlanNode, PlanOp, p_load, p_filter, p_for
 use Rattle.pig_plan.specs.Renumbered.{IsSame, rename}
 use Rattle.pig_plan.specs.Results.{at_place, results}
 use Rattle.pig_plan.specs.Valid.{IsPlan}
-use Rattle.pig_share.specs.Shared.{IsNamedBy, is_apart, renamed}
+use Rattle.pig_share.specs.Shared.{IsNamedBy, apart_in, in_order, is_apart, renamed}
 use Rattle.pig_share.proofs.Moved.{gives_moved, inputs_renamed, lists_moved, rows_moved, sorts_moved}
 
 -- what stays apart has its own statement
-pub bare_apart : (sorted : ℕ → Bool) (o : PlanOp) → is_bare sorted o ≡ true → is_apart sorted o ≡ true
-bare_apart sorted (p_limit input count) h = h
-bare_apart sorted (p_store input path delim) h = refl
-bare_apart sorted (p_assert input cond message) h = refl
-bare_apart sorted (p_load path delim columns) h = h
-bare_apart sorted (p_filter input cond) h = h
-bare_apart sorted (p_foreach input block) h = h
-bare_apart sorted (p_group_all input) h = h
-bare_apart sorted (p_group inputs) h = h
-bare_apart sorted (p_join inputs side replicated) h = h
-bare_apart sorted (p_union inputs) h = h
-bare_apart sorted (p_distinct input) h = h
-bare_apart sorted (p_order input keys) h = h
-bare_apart sorted (p_rank input keys dense) h = h
+pub bare_apart : (ordered : Bool) (sorted : ℕ → Bool) (o : PlanOp) → is_bare sorted o ≡ true → is_apart ordered sorted o ≡ true
+bare_apart ordered sorted (p_limit input count) h = h
+bare_apart ordered sorted (p_store input path delim) h = refl
+bare_apart ordered sorted (p_assert input cond message) h = absurd (true≢false (sym h))
+bare_apart ordered sorted (p_load path delim columns) h = h
+bare_apart ordered sorted (p_filter input cond) h = h
+bare_apart ordered sorted (p_foreach input block) h = h
+bare_apart ordered sorted (p_group_all input) h = h
+bare_apart ordered sorted (p_group inputs) h = h
+bare_apart ordered sorted (p_join inputs side replicated) h = h
+bare_apart ordered sorted (p_union inputs) h = h
+bare_apart ordered sorted (p_distinct input) h = h
+bare_apart ordered sorted (p_order input keys) h = h
+bare_apart ordered sorted (p_rank input keys dense) h = h
 
 module _ {X Y : Type 0} (P : Y → Type 0) (f : X → Y) where
   pub each_mapped : (xs : List X) → AllByRecursion P (map f xs) → AllByRecursion (λ x. P (f x)) xs
@@ -59,7 +59,7 @@ module _ (p : Plan) (at : ℕ → ℕ) (valid : IsPlan p) (valid_q : IsPlan (map
       let by : IsNamedBy p at k v = named k v stands in
       there (at k) by.first by.stands ∙ ap (λ o. Some (with_op o by.first.statement)) by.same
 
-  pub its_own : (k : ℕ) (v : PlanNode) (stands : slice_get p k ≡ Some v) → is_apart (is_sorted p) v.op ≡ true → (named k v stands).first ≡ v
+  pub its_own : (k : ℕ) (v : PlanNode) (stands : slice_get p k ≡ Some v) → apart_in p v.op ≡ true → (named k v stands).first ≡ v
   its_own k v stands apart =
       let by : IsNamedBy p at k v = named k v stands in
       some_same by.first v (sym by.stands ∙ ap (slice_get p) (by.apart apart) ∙ stands)
@@ -101,7 +101,7 @@ module _ (p : Plan) (at : ℕ → ℕ) (valid : IsPlan p) (valid_q : IsPlan (map
               ∙ sym (sorted_of_node p valid k v stands);
           rows = meaning_of_node q inputs kept valid_q (at k) w is_there
               ∙ rows_moved at inputs (kept_at kept) (width_at q) (width_at p) (is_sorted q) (is_sorted p) (meaning q inputs kept) (meaning p inputs kept) w.statement v.statement v.op
-              (λ bare. ap (λ n. n.statement) (its_own k v stands (bare_apart (is_sorted p) v.op bare)))
+              (λ bare. ap (λ n. n.statement) (its_own k v stands (bare_apart (in_order p) (is_sorted p) v.op bare)))
               (each_weaker Same _ (λ i s. record { width = ap (λ o. option_map_or length o 0) s.kinds; sorted = s.sorted; rows = s.rows }) (inputs_of v.op) all)
               ∙ sym (meaning_of_node p inputs kept valid k v stands);
         }

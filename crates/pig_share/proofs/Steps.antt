@@ -7,11 +7,11 @@ use Rattle.std.proofs.lemmas.List.{length-append, map-append}
 use Rattle.pig_value.proofs.list_laws.Indexing.{more_taken}
 use Rattle.pig_value.proofs.list_laws.Listing.{each_weaker, some_same}
 use Rattle.pig_plan.proofs.Lower.{names_lower}
-use Rattle.pig_plan.specs.Nodes.{inputs_of, is_live, is_sorted}
+use Rattle.pig_plan.specs.Nodes.{inputs_of, is_live}
 use Rattle.pig_plan.specs.Plans.{Keyed, Plan, PlanNode, PlanOp, p_load, p_filter, p_foreach, p_group_all, p_group, p_join, p_union, p_distinct, p_order, p_limit, p_store, p_assert, p_rank}
 use Rattle.pig_plan.specs.Renumbered.{rename, rename_keyed}
 use Rattle.pig_plan.specs.Valid.{IsPlan}
-use Rattle.pig_share.specs.Shared.{IsNamedBy, is_apart, renamed}
+use Rattle.pig_share.specs.Shared.{IsNamedBy, apart_in, renamed}
 use Rattle.pig_share.specs.Table.{IsFound, IsNumber, IsSoFar, at_of, earlier, none, other, own}
 
 -- ---- tables
@@ -100,7 +100,7 @@ module _ (p : Plan) (valid : IsPlan p) (table : List ℕ) (made : Plan) (i : ℕ
       }
 
   -- a node before this one that does the same has the same number
-  meets : (more : List ℕ) (j : ℕ) (w : PlanNode) → j < i → slice_get p j ≡ Some w → is_live p j ≡ true → is_live p i ≡ true → is_apart (is_sorted p) w.op ≡ false → is_apart (is_sorted p) v.op ≡ false
+  meets : (more : List ℕ) (j : ℕ) (w : PlanNode) → j < i → slice_get p j ≡ Some w → is_live p j ≡ true → is_live p i ≡ true → apart_in p w.op ≡ false → apart_in p v.op ≡ false
       → rename (later more) w.op ≡ rename (later more) v.op → IsNumber p table i v n → later more j ≡ later more i
   meets more j w lower at_j alive_j alive free_j shareable same (own is never) =
       absurd (never j w lower at_j alive_j alive free_j shareable (sym (as_before more j w (omega (arith, lower)) at_j) ∙ same ∙ as_before more i v (omega arith) stands))
@@ -118,12 +118,12 @@ module _ (p : Plan) (valid : IsPlan p) (table : List ℕ) (made : Plan) (i : ℕ
 
   abbrev Meet : List ℕ → ℕ → ℕ → Type 0
   Meet more j k = (u w : PlanNode) → slice_get p j ≡ Some u → slice_get p k ≡ Some w → is_live p j ≡ true → is_live p k ≡ true
-      → is_apart (is_sorted p) u.op ≡ false → is_apart (is_sorted p) w.op ≡ false → rename (later more) u.op ≡ rename (later more) w.op → later more j ≡ later more k
+      → apart_in p u.op ≡ false → apart_in p w.op ≡ false → rename (later more) u.op ≡ rename (later more) w.op → later more j ≡ later more k
 
   with_own : (more : List ℕ) (j : ℕ) → j < i → Meet more j i
   with_own more j lower u w at_j at_i alive_j alive free_j free same =
       let is : v ≡ w = some_same v w (sym stands ∙ at_i) in
-      meets more j u lower at_j alive_j alive free_j (ap (λ x. is_apart (is_sorted p) x.op) is ∙ free) (same ∙ ap (λ x. rename (later more) x.op) (sym is)) number
+      meets more j u lower at_j alive_j alive free_j (ap (λ x. apart_in p x.op) is ∙ free) (same ∙ ap (λ x. rename (later more) x.op) (sym is)) number
 
   own_with : (more : List ℕ) (k : ℕ) → k < i → Meet more i k
   own_with more k lower u w at_i at_k alive alive_k free free_k same = sym (with_own more k lower w u at_k at_i alive_k alive free_k free (sym same))
@@ -156,7 +156,7 @@ module _ (p : Plan) (valid : IsPlan p) (table : List ℕ) (made : Plan) (i : ℕ
         named = λ more k w below at_k. subst (λ xs. IsNamedBy p (at_of xs) k w) (sym (append_assoc table (n ∷ []) more)) (named_next more k w below at_k);
         one = λ more j k u w below_j below_k.
             subst (λ xs. slice_get p j ≡ Some u → slice_get p k ≡ Some w → is_live p j ≡ true → is_live p k ≡ true
-            → is_apart (is_sorted p) u.op ≡ false → is_apart (is_sorted p) w.op ≡ false → rename (at_of xs) u.op ≡ rename (at_of xs) w.op → at_of xs j ≡ at_of xs k)
+            → apart_in p u.op ≡ false → apart_in p w.op ≡ false → rename (at_of xs) u.op ≡ rename (at_of xs) w.op → at_of xs j ≡ at_of xs k)
             (sym (append_assoc table (n ∷ []) more)) (one_next more j k below_j below_k u w);
       }
 
@@ -175,4 +175,4 @@ numbered p table i n v stands (none is never) = own is (λ j w lower at_j alive_
 }))
 numbered p table i n v stands (earlier j lower d is) =
     let e : d.v ≡ v = some_same d.v v (sym d.stands_i ∙ stands) in
-    other j d.w lower d.stands_j d.lives_j d.free_j (ap (λ x. is_apart (is_sorted p) x.op) (sym e) ∙ d.free_i) (d.same ∙ ap (λ x. rename (at_of table) x.op) e) is
+    other j d.w lower d.stands_j d.lives_j d.free_j (ap (λ x. apart_in p x.op) (sym e) ∙ d.free_i) (d.same ∙ ap (λ x. rename (at_of table) x.op) e) is

@@ -153,7 +153,11 @@ keyed_hash h a = all_hash expr_hash (flag_hash (mixed h a.input) a.inner) a.keys
 abbrev pub column_hash : ℕ → Column → ℕ
 column_hash h c = kind_hash (mixed h c.position) (kind_tree c.kind)
 
--- one that stays apart is looked for by none
+abbrev pub message_hash : ℕ → Option (List ℕ) → ℕ
+message_hash h None = mixed h 1
+message_hash h (Some message) = all_hash mixed (mixed h 2) message
+
+-- a STORE is looked for by none
 abbrev pub op_hash : PlanOp → ℕ
 op_hash (p_load path delim columns) = all_hash column_hash (mixed (all_hash mixed (mixed 0 1) path) delim) columns
 op_hash (p_filter i c) = expr_hash (mixed (mixed 0 2) i) c
@@ -166,5 +170,5 @@ op_hash (p_distinct i) = mixed (mixed 0 8) i
 op_hash (p_order i ks) = all_hash sort_key_hash (mixed (mixed 0 9) i) ks
 op_hash (p_limit i n) = mixed (mixed (mixed 0 10) i) n
 op_hash (p_store i path delim) = 0
-op_hash (p_assert i c message) = 0
+op_hash (p_assert i c message) = message_hash (expr_hash (mixed (mixed 0 12) i) c) message
 op_hash (p_rank i ks dense) = all_hash sort_key_hash (flag_hash (mixed (mixed 0 11) i) dense) ks

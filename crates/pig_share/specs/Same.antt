@@ -16,7 +16,7 @@ use Rattle.pig_value.specs.Kinds.{kind_eq}
 use Rattle.pig_value.specs.Trees.{kind_tree}
 use Rattle.pig_typed.specs.declared.blocks.SortKey.{SortKey}
 use Rattle.pig_typed.specs.Typed.{Typed, TypedArgs, TypedBlock, TypedItem, TypedLinks, TypedStep, x_null, x_bool, x_int, x_long, x_chars, x_field, x_local, x_chain, x_compare, x_is_null, x_not, x_minus, x_choose, x_cast, x_project, x_look, x_call, no_links, more_links, no_args, more_args, s_filter, s_order, s_limit, s_distinct, s_take}
-use Rattle.pig_plan.specs.Plans.{Keyed, PlanOp, p_load, p_filter, p_foreach, p_group_all, p_group, p_join, p_union, p_distinct, p_order, p_limit, p_rank}
+use Rattle.pig_plan.specs.Plans.{Keyed, PlanOp, p_load, p_filter, p_foreach, p_group_all, p_group, p_join, p_union, p_distinct, p_order, p_limit, p_assert, p_rank}
 
 abbrev pub same_bool : Bool → Bool → Bool
 same_bool a b = if a then b else not b
@@ -139,7 +139,13 @@ same_keyed a b = (a.input == b.input) && (same_bool a.inner b.inner && same_all 
 abbrev pub same_column : Column → Column → Bool
 same_column a b = (a.position == b.position) && kind_eq (kind_tree a.kind) (kind_tree b.kind)
 
--- ---- operators, but for those that stay apart
+-- the text behind the condition of an ASSERT
+abbrev pub same_message : Option (List ℕ) → Option (List ℕ) → Bool
+same_message None None = true
+same_message (Some m) (Some n) = bytes_eq m n
+same_message _ _ = false
+
+-- ---- operators, but for STOREs
 
 abbrev pub same_op : PlanOp → PlanOp → Bool
 same_op (p_load p m cs) (p_load q n ds) = bytes_eq p q && ((m == n) && same_all same_column cs ds)
@@ -152,6 +158,7 @@ same_op (p_union is) (p_union js) = bytes_eq is js
 same_op (p_distinct i) (p_distinct j) = i == j
 same_op (p_order i ks) (p_order j ls) = (i == j) && same_all same_key ks ls
 same_op (p_limit i m) (p_limit j n) = (i == j) && (m == n)
+same_op (p_assert i c m) (p_assert j d n) = (i == j) && (same_expr c d && same_message m n)
 same_op (p_rank i ks a) (p_rank j ls b) = (i == j) && (same_bool a b && same_all same_key ks ls)
 same_op _ _ = false
 

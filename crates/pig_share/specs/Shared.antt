@@ -1,17 +1,29 @@
 -- Nodes that do the same become one: the first of them takes the place of the others, wherever these are named.
-use Rattle.std.specs.Prelude.{◌≡◌, ◌≤◌, ℕ, Bool, true, false, not, map, Some, slice_get}
+use Rattle.std.specs.Prelude.{◌≡◌, ◌≤◌, ◌&&◌, ℕ, Bool, true, false, not, [], ◌∷◌, map, nat_le, Some, slice_get}
 use Rattle.pig_plan.specs.Nodes.{is_live, is_sorted}
 use Rattle.pig_plan.specs.Plans.{Plan, PlanNode, PlanOp, p_limit, p_store, p_assert}
 use Rattle.pig_plan.specs.Renumbered.{rename}
 use Rattle.pig_plan.specs.Rewrites.{SameMeaning}
 use Rattle.pig_plan.specs.Valid.{IsPlan}
 
--- A bare LIMIT keeps the rows of its own statement, an ASSERT fails and a STORE stores as its own: each of them stays.
-abbrev pub is_apart : (ℕ → Bool) → PlanOp → Bool
-is_apart sorted (p_limit input count) = not (sorted input)
-is_apart sorted (p_store input path delim) = true
-is_apart sorted (p_assert input cond message) = true
-is_apart sorted o = false
+-- no node has an earlier statement than one before it, as it is in the plan of a script
+abbrev pub ascends_from : ℕ → Plan → Bool
+ascends_from statement [] = true
+ascends_from statement (node ∷ plan) = nat_le statement node.statement && ascends_from node.statement plan
+
+abbrev pub in_order : Plan → Bool
+in_order plan = ascends_from 0 plan
+
+-- A bare LIMIT keeps the rows of its own statement, and a STORE stores as its own: each of them stays. An ASSERT that is named by an earlier one
+-- fails where that one does, whose statement is no later where the nodes are in order; where they are not, each ASSERT stays, too.
+abbrev pub is_apart : Bool → (ℕ → Bool) → PlanOp → Bool
+is_apart ordered sorted (p_limit input count) = not (sorted input)
+is_apart ordered sorted (p_store input path delim) = true
+is_apart ordered sorted (p_assert input cond message) = not ordered
+is_apart ordered sorted o = false
+
+abbrev pub apart_in : Plan → PlanOp → Bool
+apart_in plan o = is_apart (in_order plan) (is_sorted plan) o
 
 -- the node over inputs at other numbers, with its statement
 abbrev pub renamed : (ℕ → ℕ) → PlanNode → PlanNode
@@ -25,13 +37,13 @@ pub record IsNamedBy (p : Plan) (at : ℕ → ℕ) (k : ℕ) (v : PlanNode) : Ty
   pub same : rename at first.op ≡ rename at v.op
   pub lives : is_live p k ≡ true → is_live p (at k) ≡ true
   pub early : at k ≤ k
-  pub apart : is_apart (is_sorted p) v.op ≡ true → at k ≡ k
-  pub free : is_apart (is_sorted p) v.op ≡ false → is_apart (is_sorted p) first.op ≡ false
+  pub apart : apart_in p v.op ≡ true → at k ≡ k
+  pub free : apart_in p v.op ≡ false → apart_in p first.op ≡ false
 
 -- of live nodes that do the same to the same inputs, all are named by one
 abbrev pub IsOne : Plan → (ℕ → ℕ) → Type 0
 IsOne p at = (j k : ℕ) (v w : PlanNode) → slice_get p j ≡ Some v → slice_get p k ≡ Some w → is_live p j ≡ true → is_live p k ≡ true
-    → is_apart (is_sorted p) v.op ≡ false → is_apart (is_sorted p) w.op ≡ false → rename at v.op ≡ rename at w.op → at j ≡ at k
+    → apart_in p v.op ≡ false → apart_in p w.op ≡ false → rename at v.op ≡ rename at w.op → at j ≡ at k
 
 -- The shared plan has each node at its number, with its statement, over the first nodes that do what its inputs do. What is named no more is
 -- dead.
@@ -43,7 +55,7 @@ pub record IsShared (p q : Plan) (at : ℕ → ℕ) : Type 0 where
 -- no two live nodes do the same to the same inputs, but for those that stay apart
 abbrev pub EachIsOnce : Plan → Type 0
 EachIsOnce q = (j k : ℕ) (v w : PlanNode) → slice_get q j ≡ Some v → slice_get q k ≡ Some w → is_live q j ≡ true → is_live q k ≡ true
-    → is_apart (is_sorted q) v.op ≡ false → v.op ≡ w.op → j ≡ k
+    → apart_in q v.op ≡ false → v.op ≡ w.op → j ≡ k
 
 abbrev pub SharedPlansMeanTheSame : Type 0
 SharedPlansMeanTheSame = (p q : Plan) (at : ℕ → ℕ) → IsPlan p → IsPlan q → IsShared p q at → SameMeaning p q

@@ -1,11 +1,11 @@
 -- Going through the nodes of a plan in order: what each is named by so far.
 use Rattle.std.specs.Prelude.{◌≡◌, ◌<◌, ℕ, Bool, false, true, List, ◌++◌, map, take, length, Option, None, Some, slice_get, get_or}
-use Rattle.pig_plan.specs.Nodes.{is_live, is_sorted, sorts}
+use Rattle.pig_plan.specs.Nodes.{is_live, sorts}
 use Rattle.pig_plan.specs.Results.{results}
 use Rattle.pig_plan.specs.Plans.{Plan, PlanNode}
 use Rattle.pig_plan.specs.Renumbered.{rename}
 use Rattle.pig_share.specs.Hashed.{op_hash}
-use Rattle.pig_share.specs.Shared.{IsNamedBy, IsShared, is_apart, renamed}
+use Rattle.pig_share.specs.Shared.{IsNamedBy, IsShared, apart_in, renamed}
 
 abbrev pub at_of : List ℕ → ℕ → ℕ
 at_of table i = get_or table i 0
@@ -16,7 +16,7 @@ pub record IsSoFar (p : Plan) (table : List ℕ) (made : Plan) (i : ℕ) : Type 
   pub nodes : (more : List ℕ) → made ≡ map (renamed (at_of (table ++ more))) (take i p)
   pub named : (more : List ℕ) (k : ℕ) (v : PlanNode) → k < i → slice_get p k ≡ Some v → IsNamedBy p (at_of (table ++ more)) k v
   pub one : (more : List ℕ) (j k : ℕ) (v w : PlanNode) → j < i → k < i → slice_get p j ≡ Some v → slice_get p k ≡ Some w → is_live p j ≡ true → is_live p k ≡ true
-      → is_apart (is_sorted p) v.op ≡ false → is_apart (is_sorted p) w.op ≡ false → rename (at_of (table ++ more)) v.op ≡ rename (at_of (table ++ more)) w.op → at_of (table ++ more) j ≡ at_of (table ++ more) k
+      → apart_in p v.op ≡ false → apart_in p w.op ≡ false → rename (at_of (table ++ more)) v.op ≡ rename (at_of (table ++ more)) w.op → at_of (table ++ more) j ≡ at_of (table ++ more) k
 
 -- The node numbered j, which stands before the one numbered i, is live as this one is, stays apart as little, and does the same to the same
 -- inputs.
@@ -27,17 +27,17 @@ pub record DoesSame (p : Plan) (table : List ℕ) (i j : ℕ) : Type 0 where
   pub stands_j : slice_get p j ≡ Some w
   pub lives_i : is_live p i ≡ true
   pub lives_j : is_live p j ≡ true
-  pub free_i : is_apart (is_sorted p) v.op ≡ false
-  pub free_j : is_apart (is_sorted p) w.op ≡ false
+  pub free_i : apart_in p v.op ≡ false
+  pub free_j : apart_in p w.op ≡ false
   pub same : rename (at_of table) w.op ≡ rename (at_of table) v.op
 
 -- The number by which the node numbered i is named: its own where no live one before it does the same, or where it is dead or stays apart,
 -- and else that of one that does.
 pub data IsNumber (p : Plan) (table : List ℕ) (i : ℕ) (v : PlanNode) (n : ℕ) : Type 0 where
-  own : n ≡ i → ((j : ℕ) (w : PlanNode) → j < i → slice_get p j ≡ Some w → is_live p j ≡ true → is_live p i ≡ true → is_apart (is_sorted p) w.op ≡ false
-      → is_apart (is_sorted p) v.op ≡ false → rename (at_of table) w.op ≡ rename (at_of table) v.op → ⊥) → IsNumber p table i v n
-  other : (j : ℕ) (w : PlanNode) → j < i → slice_get p j ≡ Some w → is_live p j ≡ true → is_apart (is_sorted p) w.op ≡ false
-      → is_apart (is_sorted p) v.op ≡ false → rename (at_of table) w.op ≡ rename (at_of table) v.op → n ≡ at_of table j → IsNumber p table i v n
+  own : n ≡ i → ((j : ℕ) (w : PlanNode) → j < i → slice_get p j ≡ Some w → is_live p j ≡ true → is_live p i ≡ true → apart_in p w.op ≡ false
+      → apart_in p v.op ≡ false → rename (at_of table) w.op ≡ rename (at_of table) v.op → ⊥) → IsNumber p table i v n
+  other : (j : ℕ) (w : PlanNode) → j < i → slice_get p j ≡ Some w → is_live p j ≡ true → apart_in p w.op ≡ false
+      → apart_in p v.op ≡ false → rename (at_of table) w.op ≡ rename (at_of table) v.op → n ≡ at_of table j → IsNumber p table i v n
 
 pub data IsFound (p : Plan) (table : List ℕ) (i n : ℕ) : Type 0 where
   none : n ≡ i → ((j : ℕ) → j < i → DoesSame p table i j → ⊥) → IsFound p table i n
@@ -52,6 +52,10 @@ pub record Shares (p q : Plan) : Type 0 where
 abbrev pub sorted_list : Plan → List Bool
 sorted_list plan = results (λ k node. sorts node.op) false plan
 
+-- of each node whether it stays apart
+abbrev pub apart_list : Plan → List Bool
+apart_list plan = map (λ node. apart_in plan node.op) plan
+
 -- the node numbered i over mapped inputs
 abbrev pub IsRenamedAt : Plan → List ℕ → ℕ → PlanNode → Type 0
 IsRenamedAt p table i node = (v : PlanNode) → slice_get p i ≡ Some v → node ≡ renamed (at_of table) v
@@ -63,7 +67,7 @@ pub record IsOpen (p : Plan) (k : ℕ) : Type 0 where
   pub v : PlanNode
   pub stands : slice_get p k ≡ Some v
   pub lives : is_live p k ≡ true
-  pub free : is_apart (is_sorted p) v.op ≡ false
+  pub free : apart_in p v.op ≡ false
 
 -- of a table as a function: it has a key, and a later one has all that an earlier one had
 abbrev pub HasKey : (ℕ → Option ℕ) → ℕ → Type 0

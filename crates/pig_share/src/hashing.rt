@@ -2,7 +2,7 @@ ghost use Rattle.std.specs.Prelude.{◌≡◌, map};
 ghost use Rattle.pig_value.specs.Trees.{kind_tree, kinds_of};
 ghost use Rattle.pig_typed.specs.Typed.{args_of, block_typed, item_typed, link_of, links_of, step_typed, typed};
 ghost use Rattle.pig_plan.specs.Plans.{keyed_of, op_of};
-ghost use Rattle.pig_share.specs.Hashed.{all_hash, args_hash, block_hash, column_hash, expr_hash, item_hash, keyed_hash, kind_hash, kinds_hash, links_hash, op_hash, sort_key_hash, step_hash};
+ghost use Rattle.pig_share.specs.Hashed.{all_hash, args_hash, block_hash, column_hash, expr_hash, item_hash, keyed_hash, kind_hash, kinds_hash, links_hash, message_hash, op_hash, sort_key_hash, step_hash};
 
 use crate::mixing::{
     chain_number, dir_number, mix, mix_bytes, mix_flag, mix_function, mix_numbers, rel_number,
@@ -10,7 +10,7 @@ use crate::mixing::{
 };
 use pig_plan::{KeyedInput, NodeOp};
 use pig_typed::{Block, BlockItem, BlockStep, SortKey, TExpr, TLink};
-use pig_value::{Column, Kind};
+use pig_value::{Column, Kind, Text};
 
 /// The hash of an operator: operators that are the same have the same one.
 pub fn hash_op(op: &NodeOp) -> u64
@@ -44,11 +44,27 @@ pub fn hash_op(op: &NodeOp) -> u64
         }
         NodeOp::Limit { input, count } => { mix(mix(mix(0, 10), u64::from(*input)), *count) }
         NodeOp::Store { .. } => 0,
-        NodeOp::Assert { .. } => 0,
+        NodeOp::Assert {
+            input,
+            cond,
+            message,
+        } => {
+            let asked = mix_expr(mix(mix(0, 12), u64::from(*input)), cond);
+            mix_message(asked, message)
+        }
         NodeOp::Rank { input, keys, dense } => {
             let named = mix(mix(0, 11), u64::from(*input));
             mix_sort_keys(mix_flag(named, *dense), keys.as_slice())
         }
+    }
+}
+
+fn mix_message(h: u64, message: &Option<Text>) -> u64
+    ensures { result ≡ message_hash h message.now }
+{
+    match message {
+        None => mix(h, 1),
+        Some(text) => mix_bytes(mix(h, 2), text.as_bytes()),
     }
 }
 

@@ -1,14 +1,14 @@
 ghost use Rattle.std.specs.Prelude.{◌≡◌, ◌==◌, IsTrue, map};
 ghost use Rattle.pig_plan.specs.Plans.{keyed_of, op_of};
-ghost use Rattle.pig_share.specs.Same.{columns_of, same_all, same_keyed, same_op, same_side};
+ghost use Rattle.pig_share.specs.Same.{columns_of, same_all, same_keyed, same_message, same_op, same_side};
 
 use crate::blocks::{are_same_keys, are_same_sort_keys, is_same_block};
 use crate::exprs::{are_same_numbers, is_same_bool, is_same_bytes, is_same_expr};
 use crate::kinds::are_same_columns;
 use pig_plan::{KeyedInput, NodeOp};
-use pig_value::{Delim, Side};
+use pig_value::{Delim, Side, Text};
 
-/// Whether two operators are the same; one that stays apart is the same as none.
+/// Whether two operators are the same; a STORE is the same as none.
 pub fn is_same_op(a: &NodeOp, b: &NodeOp) -> bool
     ensures test { result ≡ same_op (op_of a.now) (op_of b.now) }
     ensures columns { IsTrue result → columns_of (op_of a.now) ≡ columns_of (op_of b.now) }
@@ -65,6 +65,18 @@ pub fn is_same_op(a: &NodeOp, b: &NodeOp) -> bool
             *i == *j && *m == *n
         }
         (
+            NodeOp::Assert {
+                input: i,
+                cond: c,
+                message: m,
+            },
+            NodeOp::Assert {
+                input: j,
+                cond: d,
+                message: n,
+            },
+        ) => { *i == *j && (is_same_expr(c, d) && is_same_message(m, n)) }
+        (
             NodeOp::Rank {
                 input: i,
                 keys: k,
@@ -86,6 +98,16 @@ fn is_same_delim(a: Delim, b: Delim) -> bool
     ensures { result ≡ (a == b) }
 {
     a.byte() == b.byte()
+}
+
+fn is_same_message(a: &Option<Text>, b: &Option<Text>) -> bool
+    ensures { result ≡ same_message a.now b.now }
+{
+    match (a, b) {
+        (None, None) => true,
+        (Some(m), Some(n)) => is_same_bytes(m.as_bytes(), n.as_bytes()),
+        _ => false,
+    }
 }
 
 fn are_same_inputs(a: &[KeyedInput], b: &[KeyedInput]) -> bool

@@ -1,19 +1,18 @@
 ghost use Rattle.std.specs.Prelude.{◌≡◌, ◌<◌, ◌+◌, ◌&&◌, ◌++◌, ◌∷◌, [], not, IsTrue, IfOk, OnOk, Some, false, length, nat_eq, slice_get, get_or};
 ghost use Rattle.indexmap.specs.IndexMap.{get};
-ghost use Rattle.pig_plan.specs.Nodes.{is_live, is_sorted, live_marks as live_list};
+ghost use Rattle.pig_plan.specs.Nodes.{is_live, live_marks as live_list};
 ghost use Rattle.pig_plan.specs.Plans.{PlanNode, node_of, plan_of};
-ghost use Rattle.pig_plan.specs.Results.{at_place};
 ghost use Rattle.pig_plan.specs.Rewrites.{SameMeaning};
 ghost use Rattle.pig_plan.specs.Valid.{IsPlan};
-ghost use Rattle.pig_share.specs.Shared.{EachIsOnce, is_apart};
+ghost use Rattle.pig_share.specs.Shared.{EachIsOnce, apart_in};
 ghost use Rattle.pig_share.specs.Hashed.{op_hash};
 ghost use Rattle.pig_share.specs.Same.{columns_of, same_op};
-ghost use Rattle.pig_share.specs.Table.{AreListed, DoesSame, HasKey, IsFound, IsOpen, IsRenamedAt, IsSoFar, KeepsKeys, Shares, sorted_list};
+ghost use Rattle.pig_share.specs.Table.{AreListed, DoesSame, HasKey, IsFound, IsOpen, IsRenamedAt, IsSoFar, KeepsKeys, Shares, apart_list};
 
 use crate::hashing::hash_op;
 use crate::ops::is_same_op;
 use crate::renaming::{number_at, renamed_node};
-use crate::sorted::{sorted_nodes, stays_apart};
+use crate::sorted::apart_nodes;
 use indexmap::IndexMap;
 use pig_plan::{Node, Plan, live_marks};
 use std::alloc::{AllocError, Global};
@@ -22,8 +21,9 @@ use std::alloc::{AllocError, Global};
 type Firsts = IndexMap<u64, u32>;
 
 /// A plan of the same meaning in which no two live nodes do the same to the same inputs. Bare LIMITs stay apart, since each
-/// keeps the rows of its own statement, and so do STOREs and ASSERTs. Each node stays at its number, with its statement;
-/// the first of those that do the same is named in the place of the others, which are dead then.
+/// keeps the rows of its own statement, and so do STOREs; ASSERTs do so where the nodes don't stand in the order of their
+/// statements. Each node stays at its number, with its statement; the first of those that do the same is named in the
+/// place of the others, which are dead then.
 pub fn share(alloc: Global, plan: Plan) -> Result<Plan, AllocError>
     ensures means { IfOk result (λ q. SameMeaning (plan_of plan) (plan_of q)) }
     ensures once { IfOk result (λ q. EachIsOnce (plan_of q)) }
@@ -41,7 +41,7 @@ fn share_nodes(alloc: Global, plan: &Plan) -> Result<Plan, AllocError>
 {
     let live = live_marks(alloc, plan)?;
     let nodes = plan.nodes().as_slice();
-    let sorted = sorted_nodes(alloc, nodes)?;
+    let apart = apart_nodes(alloc, nodes)?;
     let mut made = Plan::empty(alloc);
     let mut table = Vec::new(alloc);
     let mut firsts = IndexMap::new(alloc);
@@ -50,7 +50,7 @@ fn share_nodes(alloc: Global, plan: &Plan) -> Result<Plan, AllocError>
             alloc,
             nodes,
             live.as_slice(),
-            sorted.as_slice(),
+            apart.as_slice(),
             own,
             &mut table,
             &mut firsts,
@@ -73,7 +73,7 @@ fn share_next(
     alloc: Global,
     nodes: &[Node],
     live: &[bool],
-    sorted: &[bool],
+    apart: &[bool],
     own: u32,
     table: &mut Vec<u32>,
     firsts: &mut Firsts,
@@ -81,7 +81,7 @@ fn share_next(
 ) -> Result<(), AllocError>
     requires valid { IsPlan (plan_of nodes.now) }
     requires live { live.now ≡ live_list (plan_of nodes.now) }
-    requires sorted { sorted.now ≡ sorted_list (plan_of nodes.now) }
+    requires apart { apart.now ≡ apart_list (plan_of nodes.now) }
     requires within { own < length nodes.now }
     requires so_far { IsSoFar (plan_of nodes.now) table.old.items (plan_of made.old) own }
     requires listed { AreListed (plan_of nodes.now) (plan_of made.old) (get nat_eq firsts.old) }
@@ -95,14 +95,14 @@ fn share_next(
     let number = number_of(
         nodes,
         live,
-        sorted,
+        apart,
         table.as_slice(),
         firsts,
         earlier,
         &node,
         own,
     );
-    list_open(nodes, live, sorted, own, hash_op(&node.op), firsts)?;
+    list_open(nodes, live, apart, own, hash_op(&node.op), firsts)?;
     table.push(number)?;
     push_node(made, node)?;
     Ok(())
@@ -122,18 +122,18 @@ fn renamed_at(alloc: Global, nodes: &[Node], own: u32, table: &[u32]) -> Result<
 fn list_open(
     nodes: &[Node],
     live: &[bool],
-    sorted: &[bool],
+    apart: &[bool],
     own: u32,
     hash: u64,
     firsts: &mut Firsts,
 ) -> Result<(), AllocError>
     requires live { live.now ≡ live_list (plan_of nodes.now) }
-    requires sorted { sorted.now ≡ sorted_list (plan_of nodes.now) }
+    requires apart { apart.now ≡ apart_list (plan_of nodes.now) }
     ensures keeps { OnOk result (KeepsKeys (get nat_eq firsts.old) (get nat_eq firsts.new)) }
     ensures has { OnOk result
         (IsOpen (plan_of nodes.now) own → HasKey (get nat_eq firsts.new) hash) }
 {
-    if !is_open(nodes, live, sorted, own) {
+    if !is_open(nodes, live, apart, own) {
         return Ok(());
     }
     list_first(hash, own, firsts)
@@ -157,7 +157,7 @@ fn list_first(hash: u64, own: u32, firsts: &mut Firsts) -> Result<(), AllocError
 fn number_of(
     nodes: &[Node],
     live: &[bool],
-    sorted: &[bool],
+    apart: &[bool],
     table: &[u32],
     firsts: &Firsts,
     made: &[Node],
@@ -165,19 +165,19 @@ fn number_of(
     own: u32,
 ) -> u32
     requires live { live.now ≡ live_list (plan_of nodes.now) }
-    requires sorted { sorted.now ≡ sorted_list (plan_of nodes.now) }
+    requires apart { apart.now ≡ apart_list (plan_of nodes.now) }
     requires within { own < length nodes.now }
     requires so_far { IsSoFar (plan_of nodes.now) table.now (plan_of made.now) own }
     requires listed { AreListed (plan_of nodes.now) (plan_of made.now) (get nat_eq firsts.now) }
     requires node { IsRenamedAt (plan_of nodes.now) table.now own (node_of node.now) }
     ensures { IsFound (plan_of nodes.now) table.now own result }
 {
-    if !is_open(nodes, live, sorted, own) {
+    if !is_open(nodes, live, apart, own) {
         return own;
     }
     match firsts.get(&hash_op(&node.op)) {
         None => own,
-        Some(first) => number_from(nodes, live, sorted, table, made, node, own, *first),
+        Some(first) => number_from(nodes, live, apart, table, made, node, own, *first),
     }
 }
 
@@ -185,7 +185,7 @@ fn number_of(
 fn number_from(
     nodes: &[Node],
     live: &[bool],
-    sorted: &[bool],
+    apart: &[bool],
     table: &[u32],
     made: &[Node],
     node: &Node,
@@ -193,39 +193,39 @@ fn number_from(
     first: u32,
 ) -> u32
     requires live { live.now ≡ live_list (plan_of nodes.now) }
-    requires sorted { sorted.now ≡ sorted_list (plan_of nodes.now) }
+    requires apart { apart.now ≡ apart_list (plan_of nodes.now) }
     requires within { own < length nodes.now }
     requires so_far { IsSoFar (plan_of nodes.now) table.now (plan_of made.now) own }
     requires node { IsRenamedAt (plan_of nodes.now) table.now own (node_of node.now) }
     ensures { IsFound (plan_of nodes.now) table.now own result }
 {
     if first < own {
-        if does_same(nodes, live, sorted, table, made, node, own, first) {
+        if does_same(nodes, live, apart, table, made, node, own, first) {
             return number_at(table, first);
         }
     }
-    number_of_any(nodes, live, sorted, table, made, node, own)
+    number_of_any(nodes, live, apart, table, made, node, own)
 }
 
 /// That of the first node before it that does the same, of all of them.
 fn number_of_any(
     nodes: &[Node],
     live: &[bool],
-    sorted: &[bool],
+    apart: &[bool],
     table: &[u32],
     made: &[Node],
     node: &Node,
     own: u32,
 ) -> u32
     requires live { live.now ≡ live_list (plan_of nodes.now) }
-    requires sorted { sorted.now ≡ sorted_list (plan_of nodes.now) }
+    requires apart { apart.now ≡ apart_list (plan_of nodes.now) }
     requires within { own < length nodes.now }
     requires so_far { IsSoFar (plan_of nodes.now) table.now (plan_of made.now) own }
     requires node { IsRenamedAt (plan_of nodes.now) table.now own (node_of node.now) }
     ensures { IsFound (plan_of nodes.now) table.now own result }
 {
     for j in 0..own {
-        if does_same(nodes, live, sorted, table, made, node, own, j) {
+        if does_same(nodes, live, apart, table, made, node, own, j) {
             return number_at(table, j);
         }
     }
@@ -236,7 +236,7 @@ fn number_of_any(
 fn does_same(
     nodes: &[Node],
     live: &[bool],
-    sorted: &[bool],
+    apart: &[bool],
     table: &[u32],
     made: &[Node],
     node: &Node,
@@ -244,7 +244,7 @@ fn does_same(
     place: u32,
 ) -> bool
     requires live { live.now ≡ live_list (plan_of nodes.now) }
-    requires sorted { sorted.now ≡ sorted_list (plan_of nodes.now) }
+    requires apart { apart.now ≡ apart_list (plan_of nodes.now) }
     requires within { own < length nodes.now }
     requires before { place < own }
     requires so_far { IsSoFar (plan_of nodes.now) table.now (plan_of made.now) own }
@@ -252,31 +252,23 @@ fn does_same(
     ensures yes { IsTrue result → DoesSame (plan_of nodes.now) table.now own place }
     ensures no { DoesSame (plan_of nodes.now) table.now own place → IsTrue result }
 {
-    let this_open = is_open(nodes, live, sorted, own);
-    let open = is_open(nodes, live, sorted, place);
+    let this_open = is_open(nodes, live, apart, own);
+    let open = is_open(nodes, live, apart, place);
     let same = is_same_at(made, place, node);
     are_all(this_open, open, same)
 }
 
 /// Whether a node is live and does not stay apart.
-fn is_open(nodes: &[Node], live: &[bool], sorted: &[bool], place: u32) -> bool
+fn is_open(nodes: &[Node], live: &[bool], apart: &[bool], place: u32) -> bool
     requires live { live.now ≡ live_list (plan_of nodes.now) }
-    requires sorted { sorted.now ≡ sorted_list (plan_of nodes.now) }
+    requires apart { apart.now ≡ apart_list (plan_of nodes.now) }
     ensures { (v : PlanNode) → slice_get (plan_of nodes.now) place ≡ Some v
         → result ≡ (is_live (plan_of nodes.now) place
-        && not (is_apart (is_sorted (plan_of nodes.now)) v.op)) }
+        && not (apart_in (plan_of nodes.now) v.op)) }
 {
-    is_live_and_free(mark_at(live, place), is_apart_at(nodes, sorted, place))
-}
-
-fn is_apart_at(nodes: &[Node], sorted: &[bool], place: u32) -> bool
-    ensures { (v : PlanNode) → slice_get (plan_of nodes.now) place ≡ Some v
-        → result ≡ is_apart (at_place false sorted.now) v.op }
-{
-    match nodes.get(place as usize) {
-        Some(node) => stays_apart(&node.op, sorted),
-        None => false,
-    }
+    let alive = mark_at(live, place);
+    let stays = mark_at(apart, place);
+    is_live_and_free(alive, stays)
 }
 
 fn is_live_and_free(live: bool, apart: bool) -> bool

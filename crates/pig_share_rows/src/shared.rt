@@ -59,6 +59,25 @@ fn by_first<R: Abort>(rt: &R, alloc: Global) -> SortKeys {
     keys
 }
 
+/// An ASSERT of a letter: `a` and `b` ask for other things, `m` and `n` ask as `a` does and have a message each.
+fn assert_that<R: Abort>(rt: &R, alloc: Global, letter: u8, input: u32) -> NodeOp {
+    let text = match letter {
+        b'm' => "m",
+        b'n' => "n",
+        _ => "",
+    };
+    let message = if text.is_empty() {
+        None
+    } else {
+        Some(Text::from_str(alloc, text).expect(rt, "memory"))
+    };
+    NodeOp::Assert {
+        input,
+        cond: TExpr::Bool(letter != b'b'),
+        message,
+    }
+}
+
 /// The node of a word: a letter, and the path, the digits of the inputs, or both: `La`, `f0`, `u001`, `d3`, `l0`, `a1`, `o2`,
 /// `s4p`.
 fn op<R: Abort>(rt: &R, alloc: Global, word: &str) -> NodeOp {
@@ -79,11 +98,7 @@ fn op<R: Abort>(rt: &R, alloc: Global, word: &str) -> NodeOp {
             inputs: digits(rt, alloc, rest),
         },
         b'd' => NodeOp::Distinct { input },
-        b'a' => NodeOp::Assert {
-            input,
-            cond: TExpr::Bool(true),
-            message: None,
-        },
+        b'a' | b'b' | b'm' | b'n' => assert_that(rt, alloc, letter, input),
         b'o' => NodeOp::Order {
             input,
             keys: by_first(rt, alloc),
@@ -99,14 +114,18 @@ fn op<R: Abort>(rt: &R, alloc: Global, word: &str) -> NodeOp {
     }
 }
 
-/// The plan of words, each a node.
-fn plan<R: Abort>(rt: &R, alloc: Global, words: &str) -> Plan {
+/// The plan of words, each a node, whose statements ascend or descend.
+fn plan<R: Abort>(rt: &R, alloc: Global, words: &str, ascends: bool) -> Plan {
     let mut plan = Plan::empty(alloc);
-    let mut statement = 1;
+    let mut statement: u32 = 50;
     for word in words.split(' ') {
         let op = op(rt, alloc, word);
         add_fitting(rt, &mut plan, Node { op, statement });
-        statement = if statement < 99 { statement + 1 } else { 99 };
+        statement = if ascends {
+            statement.saturating_add(1)
+        } else {
+            statement.saturating_sub(1)
+        };
     }
     plan
 }
@@ -136,8 +155,8 @@ fn node_told<R: Abort>(rt: &R, alloc: Global, into: &mut String, plan: &Plan, nu
 }
 
 /// The live nodes of the shared plan.
-fn told<R: Abort>(rt: &R, alloc: Global, words: &str) -> String {
-    let shared = share(alloc, plan(rt, alloc, words)).expect(rt, "memory");
+fn told<R: Abort>(rt: &R, alloc: Global, words: &str, ascends: bool) -> String {
+    let shared = share(alloc, plan(rt, alloc, words, ascends)).expect(rt, "memory");
     let live = live_numbers(alloc, &shared).expect(rt, "memory");
     let mut told = String::new(alloc);
     for number in live.as_slice() {
@@ -155,7 +174,6 @@ La La f0 f1 u23 s4p: 0 2.0 4.2.2 5.4
 La f0 d0 f0 u123 s4p: 0 1.0 2.0 4.1.2.1 5.4
 La l0 l0 u12 s3p: 0 1.0 2.0 3.1.2 4.3
 La o0 o0 l1 l2 u34 s5p: 0 1.0 3.1 5.3.3 6.5
-La a0 a0 u12 s3p: 0 1.0 2.0 3.1.2 4.3
 La La s0p s1q: 0 2.0 3.0
 La f0 s0p: 0 2.0
 La La s1p: 1 2.1
@@ -164,11 +182,49 @@ La Lb f0 f1 d0 d1 u2345 s6p: 0 1 2.0 3.1 4.0 5.1 6.2.3.4.5 7.6
 La Lb La Lb d2 d3 d0 d1 u4567 s8p: 0 1 4.0 5.1 8.4.5.4.5 9.8
 ";
 
-#[test]
-fn what_is_shared(rt: HostRuntime) {
-    for line in TOLD.lines() {
+// The same of ASSERTs: the node that stays is the first, so its statement is the lower one.
+const ASSERTS: &str = "La a0 a0 u12 s3p: 0 1.0 3.1.1 4.3
+La La a0 a1 u23 s4p: 0 2.0 4.2.2 5.4
+La m0 m0 u12 s3p: 0 1.0 3.1.1 4.3
+La m0 n0 u12 s3p: 0 1.0 2.0 3.1.2 4.3
+La a0 m0 u12 s3p: 0 1.0 2.0 3.1.2 4.3
+La a0 b0 u12 s3p: 0 1.0 2.0 3.1.2 4.3
+La Lb a0 a1 u23 s4p: 0 1 2.0 3.1 4.2.3 5.4
+La a0 a0 s2p: 0 2.0 3.2
+La a0 a0 a0 u23 s4p: 0 2.0 4.2.2 5.4
+La a0 a1 s2p: 0 1.0 2.1 3.2
+La a0 a1 La a3 a4 u25 s6p: 0 1.0 2.1 6.2.2 7.6
+La o0 o0 a1 a2 u34 s5p: 0 1.0 3.1 5.3.3 6.5
+La o0 a1 a1 l2 l3 u45 s6p: 0 1.0 2.1 4.2 6.4.4 7.6
+La a0 a0 l1 l2 u34 s5p: 0 1.0 3.1 4.1 5.3.4 6.5
+La a0 a0 f1 f2 u34 s5p: 0 1.0 3.1 5.3.3 6.5
+";
+
+// The same where an earlier node has a later statement: each ASSERT stays, and other nodes are shared.
+const DESCENDING: &str = "La a0 a0 u12 s3p: 0 1.0 2.0 3.1.2 4.3
+La La a0 a1 f2 f2 u345 s6p: 0 2.0 3.0 4.2 6.3.4.4 7.6
+La La f0 f1 u23 s4p: 0 2.0 4.2.2 5.4
+";
+
+fn all_are_shared<R: Abort>(rt: &R, alloc: Global, rows: &str, ascends: bool) {
+    for line in rows.lines() {
         let (words, want) = line.split_once(':').unwrap_or((line, ""));
-        let got = told(&rt, rt.alloc(), words);
+        let got = told(rt, alloc, words, ascends);
         assert_eq!(rt; got.as_str(), want, "at {words}");
     }
+}
+
+#[test]
+fn what_is_shared(rt: HostRuntime) {
+    all_are_shared(&rt, rt.alloc(), TOLD, true);
+}
+
+#[test]
+fn which_asserts_are_shared(rt: HostRuntime) {
+    all_are_shared(&rt, rt.alloc(), ASSERTS, true);
+}
+
+#[test]
+fn what_is_shared_out_of_order(rt: HostRuntime) {
+    all_are_shared(&rt, rt.alloc(), DESCENDING, false);
 }
