@@ -42,9 +42,12 @@ told tally.Key = t_key
 told tally.Row = t_row
 told (tally.Count n) = t_found f.Count (Some (v_long n))
 told (tally.CountStar n) = t_found f.CountStar (Some (v_long n))
-told (tally.Sum total) = t_found f.Sum (option_map v_long total)
-told (tally.Min best) = t_found f.Min (option_map tree best)
-told (tally.Max best) = t_found f.Max (option_map tree best)
+told tally.NoSum = t_found f.Sum None
+told (tally.Sum total) = t_found f.Sum (Some (v_long total))
+told tally.NoMin = t_found f.Min None
+told (tally.Min best) = t_found f.Min (Some (tree best))
+told tally.NoMax = t_found f.Max None
+told (tally.Max best) = t_found f.Max (Some (tree best))
 told tally.Other = t_other
 
 -- what is told with one more value
@@ -52,14 +55,17 @@ abbrev pub told_more : Told → Tree → Told
 told_more (t_found function found) v = t_found function (merge_found function found (column_found function (v ∷ [])))
 told_more t v = t
 
--- what a tally tells after a change, if there is one
+-- what is told after a change, if there is one
+abbrev pub told_after : Told → Option Tally → Told
+told_after before next = unwrap_or (option_map told next) before
+
 abbrev pub told_next : Tally → Option Tally → Told
-told_next before next = unwrap_or (option_map told next) (told before)
+told_next before next = told_after (told before) next
 
 -- what a tally holds is of values
 abbrev pub IsHeld : Tally → Type 0
-IsHeld (tally.Min (Some best)) = IsValue (tree best)
-IsHeld (tally.Max (Some best)) = IsValue (tree best)
+IsHeld (tally.Min best) = IsValue (tree best)
+IsHeld (tally.Max best) = IsValue (tree best)
 IsHeld t = ⊤
 
 abbrev pub IsHeldNext : Option Tally → Type 0

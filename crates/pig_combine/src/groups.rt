@@ -1,12 +1,12 @@
 ghost use Rattle.std.specs.Prelude.{◌≡◌, ◌++◌, [], ◌∷◌, List, length, map, IfOk, OnOk, OnErr};
-ghost use Rattle.std.specs.List.{AllByRecursion};
+ghost use Rattle.std.specs.List.{AllByRecursion, flat_map};
 ghost use Rattle.pig_value.specs.Trees.{Tree, row_tree, tree};
 ghost use Rattle.pig_value.specs.Valid.{IsRow, IsValue};
 ghost use Rattle.pig_algebra.specs.Cuts.{cut_typed};
 ghost use Rattle.pig_combine.specs.Holdings.{IsHeldGroup, entry_of, entry_told, group_told};
-ghost use Rattle.pig_combine.specs.Tallies.{IsHeld, found_by, told};
+ghost use Rattle.pig_combine.specs.Tallies.{IsHeld, found_by, part_told, told};
 
-use crate::tally::{Group, Tally};
+use crate::tally::{Group, Tallies, Tally};
 use pig_algebra::Cut;
 use pig_value::{Seq, Tuple, Value, copy};
 use std::alloc::{AllocError, Global};
@@ -30,12 +30,12 @@ pub fn group_with(
     Ok(Group { key, tallies })
 }
 
-fn start_all(alloc: Global, cuts: &[Cut]) -> Result<Vec<Tally>, AllocError>
+fn start_all(alloc: Global, cuts: &[Cut]) -> Result<Tallies, AllocError>
     ensures told { IfOk result (λ ts. map told ts.items
         ≡ map (found_by []) (map cut_typed cuts.now)) }
     ensures held { IfOk result (λ ts. AllByRecursion IsHeld ts.items) }
 {
-    let mut tallies = Vec::with_capacity(alloc, cuts.len())?;
+    let mut tallies = Tallies::new(alloc);
     for cut in cuts {
         tallies.push(Tally::start(cut))?;
     }
@@ -85,17 +85,33 @@ pub fn add_to(alloc: Global, cuts: &[Cut], group: &mut Group, row: &Tuple) -> Re
     add_row(alloc, cuts, group.tallies.as_mut_slice(), row)
 }
 
-// The key of a group and the row of its parts.
-pub fn parts_of(alloc: Global, group: Group) -> Result<(Value, Tuple), AllocError>
-    ensures entry { IfOk result (λ parts. entry_of (tree parts.0) (row_tree parts.1)
-        ≡ entry_told (group_told group)) }
-    ensures key { IsHeldGroup group → IfOk result (λ parts. IsValue (tree parts.0)) }
-    ensures row { IsHeldGroup group → IfOk result (λ parts. IsRow (row_tree parts.1)) }
+// The row of a group's parts.
+pub fn parts_of(alloc: Global, group: &Group) -> Result<Tuple, AllocError>
+    ensures entry { IfOk result (λ row. entry_of (tree group.now.key) (row_tree row)
+        ≡ entry_told (group_told group.now)) }
+    ensures row { IsHeldGroup group.now → IfOk result (λ row. IsRow (row_tree row)) }
 {
-    let Group { key, tallies } = group;
+    let tallies = group.tallies.as_slice();
     let mut row = Seq::with_capacity(alloc, tallies.len())?;
-    for tally in tallies {
-        tally.push_part(alloc, &key, &mut row)?;
-    }
-    Ok((key, row))
+    push_parts(alloc, &group.key, tallies, &mut row)?;
+    Ok(row)
+}
+
+// Adds the parts of tallies to a row.
+fn push_parts(
+    alloc: Global,
+    key: &Value,
+    tallies: &[Tally],
+    row: &mut Tuple,
+) -> Result<(), AllocError>
+    ensures parts { OnOk result (row_tree row.new
+        ≡ row_tree row.old ++ flat_map (part_told (tree key.now)) (map told tallies.now)) }
+    ensures values { IsValue (tree key.now) → AllByRecursion IsHeld tallies.now
+        → IsRow (row_tree row.old) → OnOk result (IsRow (row_tree row.new)) }
+{
+    let Some((tally, more)) = tallies.split_first() else {
+        return Ok(());
+    };
+    tally.push_part(alloc, key, row)?;
+    push_parts(alloc, key, more, row)
 }

@@ -2,6 +2,7 @@
 #![tactic(auto)]
 
 mod groups;
+mod keys;
 mod table;
 mod tallies;
 mod tally;

@@ -11,6 +11,7 @@ ghost use Rattle.pig_combine.specs.Holdings.{AreGroups, AreHeld, HasAdded, IsHel
 ghost use Rattle.pig_combine.specs.Tallies.{found_by, told};
 
 use crate::groups::{add_to, group_with, parts_of};
+use crate::keys::{KeyCode, Sought};
 use crate::tally::Group;
 use indexmap::IndexSet;
 use pig_algebra::{Cut, Cuts};
@@ -29,7 +30,7 @@ pub struct Table {
     alloc: Global,
     cuts: Cuts,
     // The code of each group's key, at the place of the group.
-    places: IndexSet<Vec<u8>>,
+    places: IndexSet<KeyCode>,
     groups: Vec<Group>,
     // Where the code of the next key is written.
     code: Vec<u8>,
@@ -49,7 +50,7 @@ impl Model for Table {
 
     ghost view = { λ t. (t.cuts, t.groups.items) };
 
-    ghost invariant = { λ t. AreHeld (map (λ k. k.items) t.places.keys) t.groups.items };
+    ghost invariant = { λ t. AreHeld (map (λ k. k.bytes.items) t.places.keys) t.groups.items };
 }
 
 impl Table {
@@ -112,7 +113,7 @@ impl Table {
 fn add_under(
     alloc: Global,
     cuts: &[Cut],
-    codes: &mut IndexSet<Vec<u8>>,
+    codes: &mut IndexSet<KeyCode>,
     groups: &mut Vec<Group>,
     bytes: &[u8],
     key: &Value,
@@ -121,8 +122,8 @@ fn add_under(
     requires bytes { bytes.now ≡ code (tree key.now) }
     requires key { IsValue (tree key.now) }
     requires row { IsRow (row_tree row.now) }
-    requires held { AreHeld (map (λ k. k.items) codes.old.keys) groups.old.items }
-    ensures held { AreHeld (map (λ k. k.items) codes.new.keys) groups.new.items }
+    requires held { AreHeld (map (λ k. k.bytes.items) codes.old.keys) groups.old.items }
+    ensures held { AreHeld (map (λ k. k.bytes.items) codes.new.keys) groups.new.items }
     ensures added { (added : List Entry)
         → AreGroups (map cut_typed cuts.now) added (map group_told groups.old.items)
         → OnOk result (AreGroups (map cut_typed cuts.now)
@@ -134,19 +135,19 @@ fn add_under(
         Some(at) => add_at(alloc, cuts, groups, at, row),
         None => {
             let group = group_with(alloc, cuts, key, row)?;
-            let copied = copy_bytes(alloc, bytes)?;
+            let copied = KeyCode::copy(alloc, bytes)?;
             put(codes, groups, copied, group)
         }
     }
 }
 
 // The place of a code.
-fn place_of(codes: &IndexSet<Vec<u8>>, bytes: &[u8]) -> Option<usize>
-    ensures found { IfSome result (λ at. slice_get (map (λ k. k.items) codes.now.keys) at
+fn place_of(codes: &IndexSet<KeyCode>, bytes: &[u8]) -> Option<usize>
+    ensures found { IfSome result (λ at. slice_get (map (λ k. k.bytes.items) codes.now.keys) at
         ≡ Some bytes.now) }
-    ensures none { result ≡ None → IsNew bytes.now (map (λ k. k.items) codes.now.keys) }
+    ensures none { result ≡ None → IsNew bytes.now (map (λ k. k.bytes.items) codes.now.keys) }
 {
-    codes.get_index_of(bytes)
+    codes.get_index_of(Sought { bytes })
 }
 
 // Adds a row to the group at a place.
@@ -174,31 +175,23 @@ fn add_at(
     add_to(alloc, cuts, &mut groups[at], row)
 }
 
-fn copy_bytes(alloc: Global, bytes: &[u8]) -> Result<Vec<u8>, AllocError>
-    ensures { IfOk result (λ copied. copied.items ≡ bytes.now) }
-{
-    let mut copied = Vec::with_capacity(alloc, bytes.len())?;
-    copied.extend_from_slice(bytes)?;
-    Ok(copied)
-}
-
 // Adds a group under the code of its key, which has none yet.
 fn put(
-    codes: &mut IndexSet<Vec<u8>>,
+    codes: &mut IndexSet<KeyCode>,
     groups: &mut Vec<Group>,
-    bytes: Vec<u8>,
+    copied: KeyCode,
     group: Group,
 ) -> Result<(), AllocError>
-    requires { IsNew bytes.items (map (λ k. k.items) codes.old.keys) }
-    ensures codes { OnOk result (map (λ k. k.items) codes.new.keys
-        ≡ map (λ k. k.items) codes.old.keys ++ bytes.items ∷ []) }
+    requires { IsNew copied.bytes.items (map (λ k. k.bytes.items) codes.old.keys) }
+    ensures codes { OnOk result (map (λ k. k.bytes.items) codes.new.keys
+        ≡ map (λ k. k.bytes.items) codes.old.keys ++ copied.bytes.items ∷ []) }
     ensures groups { OnOk result (groups.new.items ≡ groups.old.items ++ group ∷ []) }
-    ensures kept { OnErr result (map (λ k. k.items) codes.new.keys
-        ≡ map (λ k. k.items) codes.old.keys) }
+    ensures kept { OnErr result (map (λ k. k.bytes.items) codes.new.keys
+        ≡ map (λ k. k.bytes.items) codes.old.keys) }
     ensures err { OnErr result (groups.new.items ≡ groups.old.items) }
 {
     groups.push(group)?;
-    match add_code(codes, bytes) {
+    match add_code(codes, copied) {
         Ok(()) => Ok(()),
         Err(refused) => {
             groups.pop();
@@ -207,14 +200,14 @@ fn put(
     }
 }
 
-fn add_code(codes: &mut IndexSet<Vec<u8>>, bytes: Vec<u8>) -> Result<(), AllocError>
-    requires { IsNew bytes.items (map (λ k. k.items) codes.old.keys) }
-    ensures ok { OnOk result (map (λ k. k.items) codes.new.keys
-        ≡ map (λ k. k.items) codes.old.keys ++ bytes.items ∷ []) }
-    ensures err { OnErr result (map (λ k. k.items) codes.new.keys
-        ≡ map (λ k. k.items) codes.old.keys) }
+fn add_code(codes: &mut IndexSet<KeyCode>, copied: KeyCode) -> Result<(), AllocError>
+    requires { IsNew copied.bytes.items (map (λ k. k.bytes.items) codes.old.keys) }
+    ensures ok { OnOk result (map (λ k. k.bytes.items) codes.new.keys
+        ≡ map (λ k. k.bytes.items) codes.old.keys ++ copied.bytes.items ∷ []) }
+    ensures err { OnErr result (map (λ k. k.bytes.items) codes.new.keys
+        ≡ map (λ k. k.bytes.items) codes.old.keys) }
 {
-    codes.insert(bytes)?;
+    codes.insert(copied)?;
     Ok(())
 }
 
@@ -225,8 +218,8 @@ fn run_of_groups(alloc: Global, groups: Vec<Group>) -> Result<Run, AllocError>
 {
     let mut builder = RunBuilder::new(alloc, Seq::new(alloc));
     for group in groups {
-        let (key, row) = parts_of(alloc, group)?;
-        builder.add(&key, 0, &row)?;
+        let row = parts_of(alloc, &group)?;
+        builder.add(&group.key, 0, &row)?;
     }
     Ok(builder.finish())
 }

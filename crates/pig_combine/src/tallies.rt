@@ -5,17 +5,18 @@ ghost use Rattle.std.specs.Option.{option_map, option_or};
 ghost use Rattle.std.specs.Ordering.{is_gt};
 ghost use Rattle.pig_value.specs.Functions.{column_found, first_found, is_present, length_of, looked_at as looked_at_of, one_field, sum_found, whole_of};
 ghost use Rattle.pig_value.specs.Orders.{dir_cmp};
-ghost use Rattle.pig_value.specs.Trees.{Tree, at, field_tree, or_null, row_tree, tree, v_long};
+ghost use Rattle.pig_value.specs.Trees.{Tree, at, field_tree, row_tree, tree, v_long};
 ghost use Rattle.pig_value.specs.Valid.{IsRow, IsValue};
-ghost use Rattle.pig_value.specs.declared.functions.Function.TheVariants.{Sum};
+ghost use Rattle.pig_value.specs.declared.functions.Function.TheVariants.{Max, Min, Sum};
+ghost use Rattle.pig_value.specs.declared.operators.Dir.TheVariants.{Asc, Desc};
 ghost use Rattle.pig_builtins.specs.Folds.{first_of, is_algebraic, lent_tree, merge_found};
 ghost use Rattle.pig_typed.specs.Operators.{pick};
 ghost use Rattle.pig_algebra.specs.Cuts.{cut_typed};
-ghost use Rattle.pig_combine.specs.Tallies.{IsHeld, IsHeldNext, found_by, part_told, seen_row, t_found, t_other, told, told_more, told_next};
+ghost use Rattle.pig_combine.specs.Tallies.{IsHeld, IsHeldNext, found_by, part_told, seen_row, t_found, t_other, told, told_after, told_more, told_next};
 
 use crate::tally::Tally;
 use pig_algebra::Cut;
-use pig_value::{Dir, Function, Positions, Tuple, Value, copy, field_at, order};
+use pig_value::{Boxed, Dir, Function, Positions, Tuple, Value, copy, field_at, order};
 use std::alloc::{AllocError, Global};
 use std::cmp::Ordering;
 
@@ -41,9 +42,9 @@ impl Tally {
         match function {
             Function::Count => Tally::Count(0),
             Function::CountStar => Tally::CountStar(0),
-            Function::Sum => Tally::Sum(None),
-            Function::Min => Tally::Min(None),
-            Function::Max => Tally::Max(None),
+            Function::Sum => Tally::NoSum,
+            Function::Min => Tally::NoMin,
+            Function::Max => Tally::NoMax,
             _ => Tally::Other,
         }
     }
@@ -71,15 +72,12 @@ impl Tally {
         match self {
             Tally::Count(n) => Ok(Some(Tally::Count(plus(*n, count(value))))),
             Tally::CountStar(n) => Ok(Some(Tally::CountStar(plus(*n, 1)))),
-            Tally::Sum(total) => Ok(Some(Tally::Sum(plus_some(*total, number(value))))),
-            Tally::Min(best) => match before(Dir::Asc, best, value) {
-                Some(first) => Ok(Some(Tally::Min(Some(copy(alloc, first)?)))),
-                None => Ok(None),
-            },
-            Tally::Max(best) => match before(Dir::Desc, best, value) {
-                Some(first) => Ok(Some(Tally::Max(Some(copy(alloc, first)?)))),
-                None => Ok(None),
-            },
+            Tally::NoSum => Ok(Some(sum_of(plus_some(None, number(value))))),
+            Tally::Sum(total) => Ok(Some(sum_of(plus_some(Some(*total), number(value))))),
+            Tally::NoMin => least(alloc, None, value),
+            Tally::Min(best) => least(alloc, Some(best.get()), value),
+            Tally::NoMax => greatest(alloc, None, value),
+            Tally::Max(best) => greatest(alloc, Some(best.get()), value),
             Tally::Key | Tally::Row | Tally::Other => Ok(None),
         }
     }
@@ -104,24 +102,56 @@ pub fn push_value(row: &mut Tuple, value: Value) -> Result<(), AllocError>
     row.push(value)
 }
 
-pub fn long_or_null(total: Option<i64>) -> Value
-    ensures is { tree result ≡ or_null (option_map v_long total) }
-    ensures value { IsValue (tree result) }
+// The tally of a sum, of which there may be none.
+fn sum_of(total: Option<i64>) -> Tally
+    ensures told { told result ≡ t_found Sum (option_map v_long total) }
+    ensures held { IsHeld result }
 {
     match total {
-        Some(n) => Value::Long(n),
-        None => Value::Null,
+        Some(n) => Tally::Sum(n),
+        None => Tally::NoSum,
     }
 }
 
-pub fn value_or_null(best: Option<Value>) -> Value
-    ensures is { tree result ≡ or_null (option_map tree best) }
-    ensures value { IfSome best (λ v. IsValue (tree v)) → IsValue (tree result) }
+// The tally of MIN with one more value, where it stands before the best so far.
+fn least(
+    alloc: Global,
+    best: Option<&Value>,
+    value: Option<&Value>,
+) -> Result<Option<Tally>, AllocError>
+    ensures told { IfOk result (λ next. told_after (t_found Min (lent_tree best.entry)) next
+        ≡ t_found Min (first_of Asc (lent_tree best.entry)
+        (first_found Asc (field_tree value.entry ∷ [])))) }
+    ensures held { IsValue (field_tree value.entry) → IfOk result IsHeldNext }
 {
-    match best {
-        Some(value) => value,
-        None => Value::Null,
+    match before(Dir::Asc, best, value) {
+        Some(first) => Ok(Some(Tally::Min(boxed(alloc, first)?))),
+        None => Ok(None),
     }
+}
+
+// The same of MAX.
+fn greatest(
+    alloc: Global,
+    best: Option<&Value>,
+    value: Option<&Value>,
+) -> Result<Option<Tally>, AllocError>
+    ensures told { IfOk result (λ next. told_after (t_found Max (lent_tree best.entry)) next
+        ≡ t_found Max (first_of Desc (lent_tree best.entry)
+        (first_found Desc (field_tree value.entry ∷ [])))) }
+    ensures held { IsValue (field_tree value.entry) → IfOk result IsHeldNext }
+{
+    match before(Dir::Desc, best, value) {
+        Some(first) => Ok(Some(Tally::Max(boxed(alloc, first)?))),
+        None => Ok(None),
+    }
+}
+
+// A copy of a value in a box.
+fn boxed(alloc: Global, value: &Value) -> Result<Boxed<Value>, AllocError>
+    ensures { IfOk result (λ copied. tree copied ≡ tree value.now) }
+{
+    Boxed::new(alloc, copy(alloc, value)?)
 }
 
 // The field that a function looks at in a row, or in these columns of it.
@@ -238,9 +268,9 @@ fn alone(n: i64) -> i64
 }
 
 // The value, where MIN and MAX choose among such and it stands before the best so far in the direction.
-fn before<'v>(dir: Dir, best: &Option<Value>, value: Option<&'v Value>) -> Option<&'v Value>
-    ensures first { option_or (lent_tree result) (option_map tree best.now)
-        ≡ first_of dir (option_map tree best.now) (first_found dir (field_tree value.entry ∷ [])) }
+fn before<'v>(dir: Dir, best: Option<&Value>, value: Option<&'v Value>) -> Option<&'v Value>
+    ensures first { option_or (lent_tree result) (lent_tree best.entry)
+        ≡ first_of dir (lent_tree best.entry) (first_found dir (field_tree value.entry ∷ [])) }
     ensures value { IfSome result (λ v. tree v.now ≡ field_tree value.entry) }
 {
     let value = ranked(dir, value?)?;

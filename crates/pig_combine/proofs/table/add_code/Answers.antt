@@ -5,7 +5,7 @@ use Rattle.pig_combine.proofs.table.add_code.Goals as goal
 
 pub returns-clause-ok : goal.returns-clause-ok
 returns-clause-ok c =
-    ap (map (λ k. k.items))
+    ap (map (λ k. k.bytes.items))
     (c.in_ok-insert.ensures.keys
-    ∙ ap (λ b. if b then c.args.codes.now.keys else c.args.codes.now.keys ++ c.args.bytes ∷ []) (new_place (λ k. k.items) c.args.bytes.items c.args.codes.now.keys c.requires))
-    ∙ map-append (λ k. k.items) c.args.codes.now.keys (c.args.bytes ∷ [])
+    ∙ ap (λ b. if b then c.args.codes.now.keys else c.args.codes.now.keys ++ c.args.copied ∷ []) (new_place (λ k. k.bytes.items) c.args.copied.bytes.items c.args.codes.now.keys c.requires))
+    ∙ map-append (λ k. k.bytes.items) c.args.codes.now.keys (c.args.copied ∷ [])
