@@ -8,6 +8,7 @@ ghost use Rattle.pig_typed.specs.Typed.{block_typed, typed};
 ghost use Rattle.pig_plan.specs.Operators.{filter_rows};
 
 use crate::buffer::Buffer;
+use crate::words::words_field;
 use pig_nested::foreach;
 use pig_typed::{Block, TExpr};
 use pig_value::{Columns, Delim, Rows, Tuple};
@@ -116,8 +117,15 @@ impl Batch {
     pub fn generate(&mut self, alloc: Global, block: &Block) -> Result<(), AllocError>
         ensures rows { OnOk result (self.new ≡ foreach_all (block_typed block.now) self.old) }
     {
-        let made = generated(alloc, block, self.as_slice())?;
-        self.made = Buffer::of(made);
+        match words_field(block) {
+            Some(field) if !self.is_made => {
+                self.made.put_words(alloc, self.filled.as_slice(), field)?;
+            }
+            _ => {
+                let made = generated(alloc, block, self.as_slice())?;
+                self.made = Buffer::of(made);
+            }
+        }
         self.is_made = true;
         Ok(())
     }
