@@ -4,4 +4,4 @@ pub mod Seeking
 pub mod Stepping
 pub mod Taking
 pub mod Unmet
-pub mod Words
+pub mod WordRows

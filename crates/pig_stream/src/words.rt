@@ -1,16 +1,17 @@
 //! What FLATTEN(TOKENIZE(field)) makes of rows: the words of a text, cut and put in the order of their bag as slices, before any of
 //! them is copied.
-ghost use Rattle.std.specs.Prelude.{◌≡◌, ◌++◌, ◌<◌, ◌≤◌, [], ◌∷◌, length, map, IfSome, IsTrue, List, MatchOption, OnOk};
-ghost use Rattle.std.specs.List.{position_or_len, slice_split};
+ghost use Rattle.std.specs.Prelude.{◌≡◌, ◌++◌, ◌<◌, ◌≤◌, [], ◌∷◌, length, map, IfSome, List, MatchOption, OnOk};
+ghost use Rattle.std.specs.List.{position_or_len};
 ghost use Rattle.std.specs.Option.{option_copied};
 ghost use Rattle.std.specs.Str.{IsUtf8};
-ghost use Rattle.pig_value.specs.Functions.{is_separator, text_in, tokens};
+ghost use Rattle.pig_value.specs.Functions.{is_separator, text_in};
 ghost use Rattle.pig_value.specs.declared.functions.Function.TheVariants as f;
 ghost use Rattle.pig_value.specs.Orders.{bag_of, row_cmp};
-ghost use Rattle.pig_value.specs.Trees.{at, row_tree, Tree};
+ghost use Rattle.pig_value.specs.Trees.{at, row_tree, tree, Tree};
 ghost use Rattle.pig_typed.specs.Blocks.{item_lists};
-ghost use Rattle.pig_typed.specs.Typed.{block_typed, item_typed, more_args, no_args, typed, x_call, x_field};
-ghost use Rattle.pig_stream.specs.Words.{MakesWords, non_empty, word_row, word_rows};
+ghost use Rattle.pig_typed.specs.Typed.{args_of, block_typed, item_typed, more_args, no_args, typed, x_call, x_field};
+ghost use Rattle.pig_builtins.specs.Parts.{piece_rows};
+ghost use Rattle.pig_stream.specs.WordRows.{MakesWords, pieces, text_words, texts_rows, word_row, word_rows};
 
 use pig_typed::{Block, BlockItem, TExpr};
 use pig_value::{Function, Text, Tuple, Value};
@@ -25,7 +26,10 @@ pub fn words_field(block: &Block) -> Option<u32>
         return None;
     }
     match block.items.as_slice() {
-        [item] => flattened_words(item),
+        [item] => {
+            let field = flattened_words(item)?;
+            Some(field)
+        }
         _ => None,
     }
 }
@@ -37,7 +41,8 @@ fn flattened_words(item: &BlockItem) -> Option<u32>
     if !item.flatten || item.width != 1 {
         return None;
     }
-    tokenized_field(&item.value)
+    let field = tokenized_field(&item.value)?;
+    Some(field)
 }
 
 fn tokenized_field(e: &TExpr) -> Option<u32>
@@ -45,26 +50,22 @@ fn tokenized_field(e: &TExpr) -> Option<u32>
 {
     match e {
         TExpr::Call { function, args } => {
-            if !is_tokenize(function) {
-                return None;
-            }
-            only_field(args.as_slice())
+            let field = field_of_call(function, args.as_slice())?;
+            Some(field)
         }
         _ => None,
     }
 }
 
-fn is_tokenize(function: &Function) -> bool
-    ensures { IsTrue result → function.now ≡ f.Tokenize }
+fn field_of_call(function: &Function, args: &[TExpr]) -> Option<u32>
+    ensures { IfSome result (λ n. x_call function.now (args_of (map typed args.now))
+        ≡ x_call f.Tokenize (more_args (x_field n) no_args)) }
 {
-    matches!(function, Function::Tokenize)
-}
-
-fn only_field(args: &[TExpr]) -> Option<u32>
-    ensures { IfSome result (λ n. map typed args.now ≡ x_field n ∷ []) }
-{
-    match args {
-        [arg] => field_of(arg),
+    match (function, args) {
+        (Function::Tokenize, [arg]) => {
+            let field = field_of(arg)?;
+            Some(field)
+        }
         _ => None,
     }
 }
@@ -80,25 +81,40 @@ fn field_of(e: &TExpr) -> Option<u32>
 
 /// The text in a field of a row, where there is one.
 pub fn text_at(row: &Tuple, field: u32) -> Option<&Text>
-    ensures { option_copied result ≡ text_in (at field (row_tree row.now)) }
+    ensures { text_words (option_copied result) ≡ word_rows (at field (row_tree row.now)) }
 {
     match row.get(field as usize) {
-        Some(Value::Chars(text)) => Some(text),
+        Some(value) => text_of(value),
+        None => None,
+    }
+}
+
+fn text_of(value: &Value) -> Option<&Text>
+    ensures { option_copied result ≡ text_in (tree value.now) }
+{
+    match value {
+        Value::Chars(text) => Some(text),
         _ => None,
     }
 }
 
 /// Puts the words of a text in the place of others, in the order of their bag.
 pub fn put_words<'r>(text: &'r Text, words: &mut Vec<&'r str>) -> Result<(), AllocError>
-    ensures { OnOk result (map (λ word. word_row word.now) words.new.items
-        ≡ bag_of (map word_row (tokens text.now))) }
+    ensures { OnOk result (texts_rows words.new.items ≡ bag_of (piece_rows (pieces text.now))) }
 {
     words.clear();
     cut_words(text.as_str(), words)?;
-    words.sort_unstable_by(|a, b| order_words(a, b));
+    sort_words(words);
     Ok(())
 }
 
+fn sort_words(words: &mut Vec<&str>)
+    ensures { texts_rows words.new.items ≡ bag_of (texts_rows words.old.items) }
+{
+    words.sort_unstable_by(|a, b| order_words(a, b));
+}
+
+#[tactic(auto, using(crate::proofs::WordLaws::order_of_words))]
 fn order_words(a: &str, b: &str) -> Ordering
     ensures { result ≡ row_cmp (word_row a.now) (word_row b.now) }
 {
@@ -107,8 +123,8 @@ fn order_words(a: &str, b: &str) -> Ordering
 
 /// Adds the words of a text as they stand in it.
 fn cut_words<'r>(text: &'r str, words: &mut Vec<&'r str>) -> Result<(), AllocError>
-    ensures { OnOk result (map (λ word. word.now) words.new.items
-        ≡ map (λ word. word.now) words.old.items ++ tokens text.now) }
+    ensures { OnOk result (texts_rows words.new.items
+        ≡ texts_rows words.old.items ++ piece_rows (pieces text.now)) }
 {
     let mut rest = text;
     while let Some((word, behind)) = cut(rest) {
@@ -120,12 +136,12 @@ fn cut_words<'r>(text: &'r str, words: &mut Vec<&'r str>) -> Result<(), AllocErr
 
 /// The piece before the first separator, and what stands behind that.
 fn cut(text: &str) -> Option<(&str, &str)>
-    ensures split { MatchOption result (slice_split is_separator text.now ≡ text.now ∷ [])
-        (λ p. slice_split is_separator text.now ≡ p.0.now ∷ slice_split is_separator p.1.now) }
+    ensures split { MatchOption result (pieces text.now ≡ text.now ∷ [])
+        (λ p. pieces text.now ≡ p.0.now ∷ pieces p.1.now) }
     ensures shorter { IfSome result (λ p. length p.1.now < length text.now) }
     ensures utf8 { IfSome result (λ p. IsUtf8 p.1.now) }
 {
-    let end = word_end(text.as_bytes());
+    let end = piece_end(text.as_bytes());
     if end == text.len() {
         return None;
     }
@@ -133,29 +149,22 @@ fn cut(text: &str) -> Option<(&str, &str)>
 }
 
 /// The place of the first separator, or the end where there is none.
-fn word_end(bytes: &[u8]) -> usize
+fn piece_end(bytes: &[u8]) -> usize
     ensures is { result ≡ position_or_len is_separator bytes.now }
     ensures within { result ≤ length bytes.now }
 {
-    let mut end = 0;
-    'bytes: while end < bytes.len() {
-        if is_separator(bytes[end]) {
-            return end;
-        }
-        end += 1;
-    }
-    end
+    bytes.iter().take_while(|b| !is_separator(**b)).count()
 }
 
 fn is_separator(byte: u8) -> bool
     ensures { result ≡ is_separator byte }
 {
-    byte == b' ' || byte == b'"' || byte == b',' || byte == b'(' || byte == b')' || byte == b'*'
+    matches!(byte, b' ' | b'"' | b',' | b'(' | b')' | b'*')
 }
 
 fn add_word<'r>(piece: &'r str, words: &mut Vec<&'r str>) -> Result<(), AllocError>
-    ensures { OnOk result (map (λ word. word.now) words.new.items
-        ≡ map (λ word. word.now) words.old.items ++ non_empty (piece.now ∷ [])) }
+    ensures { OnOk result (texts_rows words.new.items
+        ≡ texts_rows words.old.items ++ piece_rows (piece.now ∷ [])) }
 {
     if piece.is_empty() {
         return Ok(());
