@@ -18,7 +18,7 @@ behind_both front row [] = refl
 behind_both front row (more ∷ rows) = λ i. sym (append_assoc front row more) i ∷ behind_both front row rows i
 
 -- those of one match, and then those of the matches behind it
-behind_first : (front row : List Tree) (matches rest : List (List Tree)) → behind front (joined (row ∷ matches) rest) ≡ behind (front ++ row) rest ++ behind front (joined matches rest)
+pub behind_first : (front row : List Tree) (matches rest : List (List Tree)) → behind front (joined (row ∷ matches) rest) ≡ behind (front ++ row) rest ++ behind front (joined matches rest)
 behind_first front row matches rest =
     map-append (λ more. front ++ more) (behind row rest) (joined matches rest) ∙ ap (λ rows. rows ++ behind front (joined matches rest)) (behind_both front row rest)
 
@@ -34,7 +34,7 @@ added_one front row made matches rest old new all is so_far grown =
     ap (λ rows. rows ++ later) grown ∙ append_assoc old (behind (row_tree made) rest) later ∙ ap (λ rows. old ++ rows) here ∙ so_far
 
 -- a part without rows leaves nothing to join
-joined_none : {X : Type 0} (xs : List (List X)) → joined xs [] ≡ []
+pub joined_none : {X : Type 0} (xs : List (List X)) → joined xs [] ≡ []
 joined_none [] = refl
 joined_none (x ∷ xs) = joined_none xs
 

@@ -1,5 +1,7 @@
-mod Adding
+pub mod Adding
 mod ByKeys
+mod Coded
+pub mod Crossing
 mod Grouping
 pub mod Held
 mod Joined

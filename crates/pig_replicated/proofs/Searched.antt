@@ -51,7 +51,7 @@ module _ (k : Tree) where
   under rows = with_key tree_cmp key_of_row k rows
 
   -- the rows of a group that has the key
-  found_at : (groups : List Group) (i : ℕ) (d : Group) → AreGrouped groups → i < length groups → tree (slice_index_or groups i d).key ≡ k
+  pub found_at : (groups : List Group) (i : ℕ) (d : Group) → AreGrouped groups → i < length groups → tree (slice_index_or groups i d).key ≡ k
       → rows_under k (held_in groups) ≡ rows_tree (slice_index_or groups i d).rows
   found_at [] i d h low e = absurd (omega (arith, low))
   found_at (g ∷ groups) zero d h low e =
@@ -67,7 +67,7 @@ module _ (k : Tree) where
       ∙ found_at groups i d h.2 (omega (arith, low)) e
 
   -- no group has the key
-  none_found : (groups : List Group) → AllByRecursion (λ g. is_eq (tree_cmp (tree g.key) k) ≡ false) groups → rows_under k (held_in groups) ≡ []
+  pub none_found : (groups : List Group) → AllByRecursion (λ g. is_eq (tree_cmp (tree g.key) k) ≡ false) groups → rows_under k (held_in groups) ≡ []
   none_found groups h =
       ap (λ rows. bag_of (map (λ r. r.row) rows)) (filter_none (λ r. is_eq (tree_cmp r.key k)) (held_in groups) (each_held (λ l. is_eq (tree_cmp l k) ≡ false) groups h))
 

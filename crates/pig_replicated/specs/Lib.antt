@@ -1,3 +1,4 @@
+pub mod Codes
 pub mod Grouped
 pub mod Held
 pub mod Holding

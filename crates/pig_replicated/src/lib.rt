@@ -5,6 +5,7 @@
 #![tactic(auto)]
 
 mod building;
+mod coding;
 mod finding;
 mod groups;
 mod keys;
@@ -12,8 +13,10 @@ mod laws;
 mod lookup;
 mod nulls;
 mod probing;
+mod threads;
 
 pub use keys::key_value;
 pub use laws::{lookups_find_rows, probes_are_joins};
 pub use lookup::{Lookup, Lookups};
 pub use probing::probe;
+pub use threads::lookups_cross_threads;

@@ -1,10 +1,13 @@
 // Relations as texts: rows between semicolons, fields between commas, and an empty field is a null. Where memory is wanting the
 // process ends: that drops nothing, so its proof is short. Trees end by `drop`, which is one call.
 ghost use Rattle.std.specs.Prelude.{◌≡◌, IsSome, length};
+ghost use Rattle.pig_value.specs.Trees.{tree};
+ghost use Rattle.pig_keycode.specs.Codes.{code};
 
+use pig_keycode::encode;
 use pig_replicated::{Lookup, Lookups, key_value, probe};
 use pig_typed::{TExpr, TExprs};
-use pig_value::{Rows, Seq, Text, Tuple, Value};
+use pig_value::{Dir, Rows, Seq, Text, Tuple, Value};
 use std::alloc::Global;
 use std::process::Abort;
 
@@ -190,4 +193,73 @@ fn a_thousand_rows_have_one_key(rt: HostRuntime) {
     assert!(rt; lookup.matches(&Value::Null).is_empty());
     drop((key, lookup));
     drop((held, keys));
+}
+
+/// The code of a key.
+fn code_of<R: Abort>(rt: &R, alloc: Global, key: &Value) -> Vec<u8>
+    ensures { result.items ≡ code (tree key.now) }
+{
+    let mut bytes = Vec::new(alloc);
+    encode(key, Dir::Asc, &mut bytes).expect(rt, "memory");
+    bytes
+}
+
+/// Adds bytes to a text, each as two digits.
+fn add_bytes<R: Abort>(rt: &R, told: &mut String, bytes: &[u8]) {
+    for byte in bytes {
+        for digit in [*byte / 16, *byte % 16] {
+            let digit = char::from_digit(u32::from(digit), 16).unwrap_or('?');
+            told.push(digit).expect(rt, "memory");
+        }
+    }
+}
+
+/// The key that fields are: the one field, or the tuple of several.
+fn key_of<R: Abort>(rt: &R, alloc: Global, text: &str) -> Value {
+    if text.contains(',') {
+        return Value::Tuple(row(rt, alloc, text));
+    }
+    field(rt, alloc, text)
+}
+
+/// The codes of the rows of a relation that a key has, each before a semicolon.
+fn coded<R: Abort>(rt: &R, alloc: Global, keys: u32, held: &str, key: &str) -> String {
+    let keys = first_fields(rt, alloc, keys);
+    let held = rows(rt, alloc, held);
+    let lookup = Lookup::build(alloc, &keys, &held).expect(rt, "memory");
+    drop((held, keys));
+    let key = key_of(rt, alloc, key);
+    let bytes = code_of(rt, alloc, &key);
+    let mut told = String::new(alloc);
+    for row in lookup.coded_matches(&key, bytes.as_slice()) {
+        add_bytes(rt, &mut told, row.as_slice());
+        add(rt, &mut told, ";");
+    }
+    drop((key, lookup));
+    told
+}
+
+// The number of keys; the relation; a key; the codes of the fields of the rows with it. A text is 04, its bytes and 0000, a null 00,
+// and 01 stands before each field.
+const CODES: &str = "\
+1|2,r;1,p;,q;1,o|1|010431000001046f0000;01043100000104700000;
+1|2,r;1,p;,q;1,|1|01043100000100;01043100000104700000;
+1|1,p;,q|3|
+1|1,p;,q||
+1||1|
+2|1,2,p;1,,q;2,1,r|1,2|010431000001043200000104700000;
+2|1,2,p;1,,q;2,1,r|2,2|
+2|1,2,p;1,,q;2,1,r|1,|
+";
+
+#[test]
+fn matches_are_found_by_code(rt: HostRuntime) {
+    for line in CODES.lines() {
+        let (keys, rest) = cut(line);
+        let (held, rest) = cut(rest);
+        let (key, wanted) = cut(rest);
+        let keys = number(keys).unwrap_or(0);
+        let told = coded(&rt, rt.alloc(), keys, held, key);
+        assert_eq!(rt; told.as_str(), wanted, "at {line}");
+    }
 }

@@ -1,16 +1,6 @@
-use Rattle.std.proofs.Common.{rules}
-use Rattle.std.proofs.lemmas.Fn.{always_returns_same}
-use Rattle.pig_value.specs.Orders.{tree_cmp}
 use Rattle.pig_value.specs.Trees.{tree}
-use Rattle.pig_replicated.proofs.Searched.{absent_is, found_is}
+use Rattle.pig_replicated.proofs.Coded.{group_rows}
 use Rattle.pig_replicated.proofs.finding.found.Goals as goal
 
-pub returns-in-Ok : goal.returns-in-Ok
-returns-in-Ok c =
-    found_is c.args.groups.now (tree c.args.key.now) c.requires c.in-Ok.at c.index-groups-at.result c.in-Ok.ensures.bound
-    (c.in-Ok.ensures.position (λ group. tree_cmp (tree group.key) (tree c.args.key.now)) (always_returns_same _ _ _ (λ a r f called. search rules))) c.index-groups-at.is
-
-pub returns-in-Err : goal.returns-in-Err
-returns-in-Err c =
-    absent_is c.args.groups.now (tree c.args.key.now) c.requires c.in-Err.field-0
-    (c.in-Err.ensures.position (λ group. tree_cmp (tree group.key) (tree c.args.key.now)) (always_returns_same _ _ _ (λ a r f called. search rules)))
+pub returns-in-Some : goal.returns-in-Some
+returns-in-Some c = group_rows (tree c.args.key.now) c.args.groups.now c.in-Some.at c.in-Some.ensures c.index-groups-at.result c.index-groups-at.is
