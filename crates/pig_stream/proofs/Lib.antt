@@ -3,3 +3,4 @@ pub mod Handed
 pub mod Joining
 pub mod Kept
 pub mod Ranged
+pub mod WordLaws

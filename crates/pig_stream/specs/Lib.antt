@@ -4,3 +4,4 @@ pub mod Seeking
 pub mod Stepping
 pub mod Taking
 pub mod Unmet
+pub mod WordRows

@@ -8,6 +8,7 @@ ghost use Rattle.pig_typed.specs.Typed.{block_typed, typed};
 ghost use Rattle.pig_plan.specs.Operators.{filter_rows};
 
 use crate::buffer::Buffer;
+use crate::words::words_field;
 use pig_nested::foreach;
 use pig_typed::{Block, TExpr};
 use pig_value::{Columns, Delim, Rows, Tuple};
@@ -116,10 +117,31 @@ impl Batch {
     pub fn generate(&mut self, alloc: Global, block: &Block) -> Result<(), AllocError>
         ensures rows { OnOk result (self.new ≡ foreach_all (block_typed block.now) self.old) }
     {
-        let made = generated(alloc, block, self.as_slice())?;
-        self.made = Buffer::of(made);
+        if self.is_made {
+            self.made = Buffer::of(generated(alloc, block, self.made.as_slice())?);
+            return Ok(());
+        }
+        put_generated(alloc, block, self.filled.as_slice(), &mut self.made)?;
         self.is_made = true;
         Ok(())
+    }
+}
+
+/// What the block generates of the rows, in the place of other rows; words in their memory.
+fn put_generated(
+    alloc: Global,
+    block: &Block,
+    rows: &[Tuple],
+    made: &mut Buffer,
+) -> Result<(), AllocError>
+    ensures { OnOk result (made.new ≡ foreach_all (block_typed block.now) (rows_tree rows.now)) }
+{
+    match words_field(block) {
+        Some(field) => made.put_words(alloc, rows, field),
+        None => {
+            *made = Buffer::of(generated(alloc, block, rows)?);
+            Ok(())
+        }
     }
 }
 

@@ -1,15 +1,18 @@
 ghost use Rattle.std.specs.Prelude.{◌≡◌, ◌≤◌, ◌<◌, ◌+◌, ◌++◌, [], ◌∷◌, drop, length, map, take, IfOk, OnOk};
 ghost use Rattle.std.specs.List.{list_all};
+ghost use Rattle.std.specs.Option.{option_copied};
 ghost use Rattle.pig_value.specs.FieldRows.{row_of};
-ghost use Rattle.pig_value.specs.Trees.{row_tree, rows_tree};
+ghost use Rattle.pig_value.specs.Trees.{row_tree, rows_tree, tree, v_chars, v_null};
 ghost use Rattle.pig_typed.specs.Evaluation.{passes};
 ghost use Rattle.pig_typed.specs.Typed.{typed};
 ghost use Rattle.pig_plan.specs.Operators.{filter_rows};
+ghost use Rattle.pig_stream.specs.WordRows.{rows_words, text_words, texts_rows, word_row};
 
+use crate::words::{put_words, text_at};
 use pig_eval::holds;
 use pig_storage::line_row_over;
 use pig_typed::TExpr;
-use pig_value::{Columns, Delim, Rows, Seq, Tuple};
+use pig_value::{Columns, Delim, Rows, Seq, Text, Tuple, Value};
 use std::alloc::{AllocError, Global};
 use std::marker::Model;
 
@@ -102,6 +105,56 @@ impl Buffer {
         Ok(())
     }
 
+    /// A row for each word of a field of other rows, in the memory of the rows that stood here before.
+    pub fn put_words(&mut self, alloc: Global, rows: &[Tuple], field: u32) -> Result<(), AllocError>
+        ensures { OnOk result (self.new ≡ rows_words field (rows_tree rows.now)) }
+    {
+        self.clear();
+        let mut words = Vec::new(alloc);
+        for row in rows {
+            self.push_words(alloc, text_at(row, field), &mut words)?;
+        }
+        Ok(())
+    }
+
+    fn push_words<'r>(
+        &mut self,
+        alloc: Global,
+        text: Option<&'r Text>,
+        words: &mut Vec<&'r str>,
+    ) -> Result<(), AllocError>
+        ensures { OnOk result (self.new ≡ self.old ++ text_words (option_copied text.entry)) }
+    {
+        match text {
+            Some(text) => {
+                put_words(text, words)?;
+                self.push_texts(alloc, words.as_slice())
+            }
+            None => self.push(null_row(alloc)?),
+        }
+    }
+
+    fn push_texts(&mut self, alloc: Global, texts: &[&str]) -> Result<(), AllocError>
+        ensures { OnOk result (self.new ≡ self.old ++ texts_rows texts.now) }
+    {
+        for text in texts {
+            self.push_text(alloc, text)?;
+        }
+        Ok(())
+    }
+
+    /// Adds a row of one text, in the memory of a row that stood there before.
+    fn push_text(&mut self, alloc: Global, text: &str) -> Result<(), AllocError>
+        ensures { OnOk result (self.new ≡ self.old ++ word_row text.now ∷ []) }
+    {
+        if self.count == self.rows.len() {
+            self.rows.push(Seq::new(alloc))?;
+        }
+        text_row_over(alloc, text, &mut self.rows[self.count])?;
+        self.count += 1;
+        Ok(())
+    }
+
     /// FILTER: the rows of which the condition is true, in their order. The others stay behind them.
     pub fn keep(&mut self, alloc: Global, cond: &TExpr) -> Result<(), AllocError>
         ensures { OnOk result (self.new ≡ filter_rows (typed cond.now) self.old) }
@@ -109,6 +162,56 @@ impl Buffer {
         self.count = kept(alloc, cond, &mut self.rows, self.count)?;
         Ok(())
     }
+}
+
+fn null_row(alloc: Global) -> Result<Tuple, AllocError>
+    ensures { IfOk result (λ row. row_tree row ≡ v_null ∷ []) }
+{
+    let mut row = Seq::with_capacity(alloc, 1)?;
+    row.push(Value::Null)?;
+    Ok(row)
+}
+
+/// The row of one text in the place of another row.
+fn text_row_over(alloc: Global, text: &str, row: &mut Tuple) -> Result<(), AllocError>
+    ensures { OnOk result (row_tree row.new ≡ word_row text.now) }
+{
+    if row.len() != 1 {
+        *row = text_row(alloc, text)?;
+        return Ok(());
+    }
+    let old = row.replace(0, Value::Null);
+    let value = text_over(alloc, text, old)?;
+    drop(row.replace(0, value));
+    Ok(())
+}
+
+fn text_row(alloc: Global, text: &str) -> Result<Tuple, AllocError>
+    ensures { IfOk result (λ row. row_tree row ≡ word_row text.now) }
+{
+    let mut row = Seq::with_capacity(alloc, 1)?;
+    row.push(Value::Chars(Text::from_str(alloc, text)?))?;
+    Ok(row)
+}
+
+/// A text in the memory of another one, where there is one.
+fn text_over(alloc: Global, text: &str, old: Value) -> Result<Value, AllocError>
+    ensures { IfOk result (λ v. tree v ≡ v_chars text.now) }
+{
+    let text = match old.into_text() {
+        Some(old) => refilled(old, text)?,
+        None => Text::from_str(alloc, text)?,
+    };
+    Ok(Value::Chars(text))
+}
+
+fn refilled(old: Text, text: &str) -> Result<Text, AllocError>
+    ensures { IfOk result (λ t. t ≡ text.now) }
+{
+    let mut string = old.into_string();
+    string.clear();
+    string.push_str(text)?;
+    Ok(Text::from_string(string))
 }
 
 /// Brings those of the first rows of which the condition is true to the front, and counts them.

@@ -21,6 +21,7 @@ mod steps;
 mod text;
 mod unpacking;
 mod window;
+mod words;
 
 pub use batch::Batch;
 pub use driving::{drive, drive_batch};

@@ -7,3 +7,5 @@ mod paths;
 mod plans;
 #[cfg(test)]
 mod ranges;
+#[cfg(test)]
+mod words;

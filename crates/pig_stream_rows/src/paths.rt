@@ -38,6 +38,9 @@ fn rows_go_through_nodes(rt: HostRuntime) {
             "u\t1\nv\t1\nc\t3\nn\t\nd\t2\ne\t2\n#4\n"
         )
     );
+    assert!(rt; stores(&rt, alloc, &[6], "u\nv\nc\nn\nd\ne\n#4\n"));
+    assert!(rt; stores(&rt, alloc, &[6, 7], "u\nv\nc\nn\nd\ne\n#4\n"));
+    assert!(rt; stores(&rt, alloc, &[1, 6], "c\nd\ne\n#4\n"));
     assert!(rt; stores(&rt, alloc, &[9], "1\tu v\n3\tc\n\tn\n2\td e\n#4\n"));
 }
 

@@ -65,13 +65,29 @@ fn item(value: TExpr, flatten: bool) -> BlockItem {
     }
 }
 
+/// The words of a field, flattened.
+fn flat_words<R: Abort>(rt: &R, alloc: Global, field: u32) -> BlockItem {
+    let mut args = Seq::new(alloc);
+    push(rt, &mut args, TExpr::Field(field));
+    let function = Function::Tokenize;
+    item(TExpr::Call { function, args }, true)
+}
+
+/// FOREACH: the words of a field and nothing else.
+fn only_words<R: Abort>(rt: &R, alloc: Global, input: u32, field: u32) -> NodeOp {
+    let mut items = Seq::new(alloc);
+    push(rt, &mut items, flat_words(rt, alloc, field));
+    let steps = Seq::new(alloc);
+    NodeOp::Foreach {
+        input,
+        block: Block { steps, items },
+    }
+}
+
 /// FOREACH: the words of the chararray, each with the int.
 fn words<R: Abort>(rt: &R, alloc: Global, input: u32) -> NodeOp {
-    let mut args = Seq::new(alloc);
-    push(rt, &mut args, TExpr::Field(1));
-    let function = Function::Tokenize;
     let mut items = Seq::new(alloc);
-    push(rt, &mut items, item(TExpr::Call { function, args }, true));
+    push(rt, &mut items, flat_words(rt, alloc, 1));
     push(rt, &mut items, item(TExpr::Field(0), false));
     let steps = Seq::new(alloc);
     NodeOp::Foreach {
@@ -88,7 +104,7 @@ fn add<R: Abort>(rt: &R, plan: &mut Plan, op: NodeOp, statement: u32) {
 }
 
 /// LOAD 0; FILTER 1 and FOREACH 2 on it in turn; ASSERT 3 on the LOAD; ASSERT 4 on the FOREACH, of its second field; UNION 5
-/// of the ASSERTs' inputs; each with a statement above its number by 1.
+/// of the ASSERTs' inputs; FOREACH 6 on the LOAD and 7 on that, of words alone; each with a statement above its number by 1.
 pub fn plan<R: Abort>(rt: &R, alloc: Global) -> Plan {
     let mut plan = Plan::empty(alloc);
     add(rt, &mut plan, load(rt, alloc), 1);
@@ -100,6 +116,8 @@ pub fn plan<R: Abort>(rt: &R, alloc: Global) -> Plan {
     push(rt, &mut inputs, 2);
     push(rt, &mut inputs, 4);
     add(rt, &mut plan, NodeOp::Union { inputs }, 6);
+    add(rt, &mut plan, only_words(rt, alloc, 0, 1), 7);
+    add(rt, &mut plan, only_words(rt, alloc, 6, 0), 8);
     plan
 }
 
