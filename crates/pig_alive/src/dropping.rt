@@ -8,8 +8,8 @@ ghost use Rattle.pig_share.specs.Shared.{renamed};
 ghost use Rattle.pig_share.specs.Table.{at_of};
 ghost use Rattle.pig_alive.specs.Alive.{EachLives, alive, ranks};
 
-use crate::renaming::renamed_node;
 use pig_plan::{Node, Plan, live_marks};
+use pig_share::renamed_node;
 use std::alloc::{AllocError, Global};
 
 /// The plan without the nodes that no STORE reaches. The others keep their order and their

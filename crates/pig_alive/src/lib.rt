@@ -3,7 +3,6 @@
 
 mod dropping;
 mod laws;
-mod renaming;
 
 pub use dropping::without_dead;
 pub use laws::live_plans_mean_the_same;

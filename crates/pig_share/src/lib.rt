@@ -13,4 +13,5 @@ mod sharing;
 mod sorted;
 
 pub use laws::{shared_nodes_are_once, shared_plans_mean_the_same};
+pub use renaming::renamed_node;
 pub use sharing::share;
