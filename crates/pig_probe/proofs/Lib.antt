@@ -1,2 +1,2 @@
-mod Joined
+mod ByCodes
 pub mod Values

@@ -6,7 +6,7 @@ use Rattle.pig_value.specs.Trees.{tree}
 use Rattle.pig_plan.specs.ByKey.{holds_null}
 use Rattle.pig_replicated.specs.Holding.{matches_in}
 use Rattle.pig_probe.specs.Probing.{HoldsRows}
-use Rattle.pig_probe.proofs.Joined.{all_matched, begun_with, none_joined, one_match}
+use Rattle.pig_probe.proofs.ByCodes.{all_matched, begun_with, none_joined, one_match}
 use Rattle.pig_probe.proofs.Values.{matched}
 use Rattle.pig_probe.proofs.joining.+add_partners.Goals as goal
 

@@ -1,5 +1,5 @@
 use Rattle.std.proofs.lemmas.Result.{on_ok_weaker}
-use Rattle.pig_probe.proofs.Joined.{begins_nulls, begun_nulls}
+use Rattle.pig_probe.proofs.ByCodes.{begins_nulls, begun_nulls}
 use Rattle.pig_probe.proofs.joining.add_alone.Goals as goal
 
 pub add_row-requires : goal.add_row-requires

@@ -1,6 +1,6 @@
 use Rattle.pig_value.specs.Trees.{tree}
 use Rattle.pig_replicated.specs.Holding.{matches_in}
-use Rattle.pig_probe.proofs.Joined.{none_are}
+use Rattle.pig_probe.proofs.ByCodes.{none_are}
 use Rattle.pig_probe.proofs.joining.lacks.Goals as goal
 
 pub returns : goal.returns

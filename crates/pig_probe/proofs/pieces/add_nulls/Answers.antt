@@ -1,4 +1,4 @@
-use Rattle.pig_probe.proofs.Joined.{null_more}
+use Rattle.pig_probe.proofs.ByCodes.{null_more}
 use Rattle.pig_probe.proofs.pieces.add_nulls.Goals as goal
 
 pub loop-i-preserved : goal.loop-i-preserved
