@@ -1,1 +1,2 @@
+mod ByCodes
 pub mod Values

@@ -1,5 +1,5 @@
 -- What is made of rows of values by a probe is rows of values.
-use Rattle.std.specs.Prelude.{◌≡◌, ◌<◌, ◌+◌, ℕ, zero, suc, Bool, true, false, List, [], ◌∷◌, ◌++◌, drop, get_or, length, map, Option, None, Some, refl, if◌then◌else◌}
+use Rattle.std.specs.Prelude.{◌≡◌, ◌<◌, ◌+◌, ℕ, zero, suc, Bool, true, false, List, [], ◌∷◌, ◌++◌, drop, get_or, length, map, refl, if◌then◌else◌}
 use Rattle.std.proofs.Common.{ap, sym, ◌∙◌, arith, append_assoc, subst}
 use Rattle.std.specs.List.{AllByRecursion, filter}
 use Rattle.std.specs.Ordering.{is_eq}
@@ -8,37 +8,24 @@ use Rattle.pig_value.specs.Orders.{bag_of, row_cmp, tree_cmp}
 use Rattle.pig_value.specs.declared.values.Value.{Value}
 use Rattle.pig_value.specs.Trees.{Tree, row_tree, rows_tree}
 use Rattle.pig_value.specs.Valid.{AreRows, IsRow, IsValue}
-use Rattle.pig_value.proofs.ValidLaws.{row_each, row_from_each, rows_from_each}
+use Rattle.pig_value.proofs.ValidLaws.{row_each, row_from_each}
 use Rattle.pig_value.proofs.list_laws.Bags.{each-sort}
-use Rattle.pig_value.proofs.list_laws.Listing.{each-append, each-filter, each-map, each_weaker}
-use Rattle.pig_typed.specs.Products.{product}
+use Rattle.pig_value.proofs.list_laws.Listing.{each-append, each-filter, each-map}
 use Rattle.pig_typed.specs.Typed.{typed}
 use Rattle.pig_typed.specs.declared.exprs.TExpr.{TExpr}
-use Rattle.pig_plan.proofs.Carries.{each-flat_map}
 use Rattle.pig_plan.specs.ByKey.{holds_null, nulls}
-use Rattle.pig_replicated.specs.Holding.{KeyedRow, matches_in, rows_under}
-use Rattle.pig_replicated.specs.Joining.{or_alone, partners, probe_rows}
+use Rattle.pig_replicated.specs.Holding.{KeyedRow, rows_under}
 use Rattle.pig_probe.specs.Probing.{HoldsRows, SidesSeen, probed_by, probed_row}
 
 abbrev Row : Type 0
 Row = List Tree
 
-both_rows : (x y : Row) → IsRow x → IsRow y → IsRow (x ++ y)
+pub both_rows : (x y : Row) → IsRow x → IsRow y → IsRow (x ++ y)
 both_rows x y h g = row_from_each (x ++ y) (each-append IsValue x y (row_each x h) (row_each y g))
 
-nulls_row : (n : ℕ) → IsRow (nulls n)
+pub nulls_row : (n : ℕ) → IsRow (nulls n)
 nulls_row zero = tt
 nulls_row (suc n) = (tt, nulls_row n)
-
-behind_rows : (x : Row) → IsRow x → (ys : List Row) → AllByRecursion IsRow ys → AllByRecursion IsRow (map (λ y. x ++ y) ys)
-behind_rows x h ys g = each-map IsRow (λ y. x ++ y) ys (each_weaker IsRow (λ y. IsRow (x ++ y)) (λ y k. both_rows x y h k) ys g)
-
-product_rows : (parts : List (List Row)) → AllByRecursion (AllByRecursion IsRow) parts → AllByRecursion IsRow (product parts)
-product_rows [] h = (tt, tt)
-product_rows (xs ∷ parts) h =
-    let rest = product_rows parts h.1 in
-    each-flat_map IsRow (λ x. map (λ y. x ++ y) (product parts)) xs
-    (each_weaker IsRow (λ x. AllByRecursion IsRow (map (λ y. x ++ y) (product parts))) (λ x k. behind_rows x k (product parts) rest) xs h.0)
 
 module _ (key : Tree) where
   under_rows : (held : List KeyedRow) → HoldsRows held → AllByRecursion IsRow (rows_under key held)
@@ -47,25 +34,9 @@ module _ (key : Tree) where
       each-sort row_cmp IsRow (map (λ r. r.row) found)
       (each-map IsRow (λ r. r.row) found (each-filter (λ r. is_eq (tree_cmp r.key key)) (λ r. IsRow r.row) held h))
 
-  matched : (b : Bool) → holds_null key ≡ b → (held : List KeyedRow) → HoldsRows held → AllByRecursion IsRow (if b then [] else rows_under key held)
+  pub matched : (b : Bool) → holds_null key ≡ b → (held : List KeyedRow) → HoldsRows held → AllByRecursion IsRow (if b then [] else rows_under key held)
   matched true e held h = tt
   matched false e held h = under_rows held h
-
-  match_rows : (sides : List (List KeyedRow)) → AllByRecursion HoldsRows sides → AllByRecursion (AllByRecursion IsRow) (map (λ side. matches_in side key) sides)
-  match_rows sides h =
-      each-map (AllByRecursion IsRow) (λ side. matches_in side key) sides
-      (each_weaker HoldsRows (λ side. AllByRecursion IsRow (matches_in side key)) (λ side k. matched (holds_null key) refl side k) sides h)
-
-  kept_rows : (fill : Option ℕ) (row : Row) → IsRow row → (made : List Row) → AllByRecursion IsRow made → AllByRecursion IsRow (or_alone fill row made)
-  kept_rows None row h made g = g
-  kept_rows (Some n) row h [] g = (both_rows row (nulls n) h (nulls_row n), tt)
-  kept_rows (Some n) row h (x ∷ made) g = g
-
-  pub probed_values : (sides : List (List KeyedRow)) (fill : Option ℕ) (row : Row) → AllByRecursion HoldsRows sides → IsRow row → AreRows (probe_rows sides fill key row)
-  probed_values sides fill row h g =
-      rows_from_each (probe_rows sides fill key row)
-      (kept_rows fill row g (partners sides key row)
-      (behind_rows row g (product (map (λ side. matches_in side key) sides)) (product_rows (map (λ side. matches_in side key) sides) (match_rows sides h))))
 
 -- ---- row by row
 

@@ -4,9 +4,10 @@ ghost use Rattle.pig_value.specs.Valid.{IsRow};
 ghost use Rattle.pig_typed.specs.Typed.{typed};
 ghost use Rattle.pig_probe.specs.Probing.{HasProbed, probed_nothing, probed_onwards, probed_row};
 
+use crate::joined::JoinedRows;
 use crate::sides::Sides;
 use pig_packed::Packed;
-use pig_stream::{PackedRows, Sink};
+use pig_stream::Sink;
 use pig_typed::TExprs;
 use pig_value::Tuple;
 use std::alloc::{AllocError, Global};
@@ -16,7 +17,7 @@ use std::alloc::{AllocError, Global};
 pub struct ProbedRows<'s> {
     pub keys: &'s TExprs,
     pub sides: &'s Sides,
-    pub rows: PackedRows,
+    pub rows: JoinedRows,
 }
 
 impl<'s> ProbedRows<'s> {
@@ -29,7 +30,7 @@ impl<'s> ProbedRows<'s> {
         ProbedRows {
             keys,
             sides,
-            rows: PackedRows::new(alloc),
+            rows: JoinedRows::new(alloc),
         }
     }
 
@@ -49,8 +50,7 @@ impl<'s> ProbedRows<'s> {
         ensures rows { OnOk result (self.new.rows ≡ self.old.rows
             ++ probed_row self.old.sides.now (map typed self.old.keys.now) (row_tree row.now)) }
     {
-        let joined = self.sides.probe(alloc, self.keys, row)?;
-        self.rows.take(alloc, joined.as_slice())
+        self.rows.add(alloc, self.keys, self.sides, row)
     }
 }
 

@@ -16,9 +16,7 @@ use Rattle.pig_value.proofs.texts.Blob.TheSendSync as blob
 use Rattle.pig_value.proofs.values.Value.TheLaws.TheKnot.{sync-Value}
 use Rattle.pig_value.specs.contracts.values.Value as value_type
 use Rattle.pig_rank.specs.contracts.parts.Start as start_type
-use Rattle.std.proofs.vec.Vec.TheSendSync as vec
-use Rattle.pig_replicated.specs.contracts.groups.Group as group_type
-use Rattle.pig_replicated.specs.contracts.lookup.Lookup as lookup_type
+use Rattle.pig_replicated.proofs.Crossing.{lookup_shared}
 use Rattle.pig_probe.specs.contracts.sides.Sides as sides_type
 use Rattle.pig_work.specs.contracts.work.Shared as shared_type
 use Rattle.pig_work.specs.declared.work.Setting.{Ghosts}
@@ -41,17 +39,6 @@ start_shared = declared_sync start_type.the_type (
 
 starts_shared : IsSync (seq_type.the_row start_type.the_row)
 starts_shared = search (sendable, seq.the_sync, start_shared)
-
-rows_shared : IsSync (seq_type.the_row (seq_type.the_row value_type.the_row))
-rows_shared = search (sendable, seq.the_sync, value_shared)
-
-group_shared : IsSync group_type.the_row
-group_shared = declared_sync group_type.the_type (value_shared, (rows_shared, tt))
-
-lookup_shared : IsSync lookup_type.the_row
-lookup_shared =
-    view_sync lookup_type.TheInside.the_row _ _ _ _
-    (declared_sync lookup_type.TheInside.the_type (search (sendable, as_row_sync, heap.the_sync, vec.the_sync, group_shared) depth 9, (rows_shared, tt)))
 
 sides_shared : IsSync sides_type.the_row
 sides_shared =
