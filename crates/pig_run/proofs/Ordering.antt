@@ -1,5 +1,5 @@
 -- All that a depot is asked comes in its order.
-use Rattle.std.proofs.Common.{◌≡◌, ◌≢◌, ◌<◌, ◌∙◌, ◌++◌, ◌&&◌, ℕ, Bool, true, false, if◌then◌else◌, List, [], ◌∷◌, length, map, Option, Some, None, Result, Ok, Err, IfErr, IfOk, MatchResult, refl, sym, ap, subst, arith, inl, inr}
+use Rattle.std.proofs.Common.{◌≡◌, ◌≢◌, ◌<◌, ◌∙◌, ◌++◌, ◌&&◌, ℕ, Bool, true, false, if◌then◌else◌, List, [], ◌∷◌, length, map, Option, Some, None, Result, Ok, Err, IfErr, IfOk, MatchResult, refl, sym, ap, subst, arith, inl, inr, true≢false}
 use Rattle.std.specs.List.{flat_map}
 use Rattle.std.proofs.lemmas.List.{append-nil, length-map, map-append}
 use Rattle.pig_value.proofs.list_laws.Bags.{either_way}
@@ -7,6 +7,9 @@ use Rattle.pig_value.specs.declared.outcomes.Kept.{Kept}
 use Rattle.pig_outside.specs.Calls.{DepotCall}
 use Rattle.pig_outside.specs.declared.failing.Method.{Method}
 use Rattle.pig_outside.specs.declared.failing.Method.TheVariants as method
+use Rattle.pig_plan.specs.Plans.{Plan}
+use Rattle.pig_physical.specs.Stages.{Stages}
+use Rattle.pig_work.specs.Working.{Tellings}
 use Rattle.pig_run.specs.declared.looking.Prepared.{Prepared}
 use Rattle.pig_run.specs.declared.outcome.RunFault.{RunFault}
 use Rattle.pig_run.specs.declared.outcome.RunFault.TheVariants as fault
@@ -79,10 +82,10 @@ none_counted : (made : List DepotCall) → 0 < length made → made ≡ [] → �
 none_counted made some none = let l : length made ≡ 0 = ap length none in omega (arith, some, l)
 
 -- what was kept stands where an ASSERT is not met, and not in a run that has just begun
-module _ {plan s limit tellings} (progress : Progress) where
+module _ {plan : Plan} {s : Stages} {limit : ℕ} {tellings : Tellings} (progress : Progress) where
   unkept_by : (f : RunFault) → EndsFinding plan s limit tellings progress f → is_unmet (Some f) ≡ false → kept_in progress ≡ []
   unkept_by _ (lost given stands silent) met = quiet_kept progress stands
-  unkept_by _ (not_met won unmet stands says) met = absurd (cc)
+  unkept_by _ (not_met won unmet stands says) met = absurd (true≢false met)
   unkept_by _ (no_room won stands silent) met = quiet_kept progress stands
 
   pub unkept_end : {T : Type 0} (result : Result T RunFault) → IfErr result (EndsFinding plan s limit tellings progress) → IfOk result (λ _. ⊥) → is_unmet (found_in result) ≡ false → kept_in progress ≡ []
@@ -142,11 +145,11 @@ module _ (outs : List StorePart) (dirs : List (List ℕ)) (dirs_are : map (λ ou
 
   -- all was made
   module _ (kept : List Kept) (old new : Option (List DepotCall)) (asked : AskedFor {T = Unit {0}} {E = RunFault} (flat_map calls_for_store outs) (Ok tt) old new) where
-    all_made : asked.made ≡ making dirs counts
-    all_made = sym (append-nil asked.made) ∙ ap (λ xs. asked.made ++ xs) (sym asked.all) ∙ asked.first ∙ all_calls
+    made_all : asked.made ≡ making dirs counts
+    made_all = sym (append-nil asked.made) ∙ ap (λ xs. asked.made ++ xs) (sym asked.all) ∙ asked.first ∙ all_calls
 
     not_none : dirs ≢ [] → asked.made ≡ [] → ⊥
-    not_none due none = making_some dirs counts as_many due (sym all_made ∙ none)
+    not_none due none = making_some dirs counts as_many due (sym made_all ∙ none)
 
     pub makes_all : Makes dirs None kept old new
     makes_all = record {
@@ -156,7 +159,7 @@ module _ (outs : List StorePart) (dirs : List (List ℕ)) (dirs_are : map (λ ou
       asked = asked.asked;
       first = (asked.left, sym all_calls ∙ sym asked.first);
       none = λ never. absurd (never tt);
-      whole = λ _. all_made;
+      whole = λ _. made_all;
       unkept = λ met due none. absurd (not_none due none);
     }
 
@@ -222,9 +225,9 @@ orderly_behind answer kept old mid new script rest = record {
 
 -- nothing else is shown of what was kept
 wanting_unmet : (text : List ℕ) (old new : Console) (found final : Option RunFault) → Shown text old new found final → is_unmet found ≡ true → is_unmet final ≡ false → is_wanting final ≡ true
-wanting_unmet text old new found _ (printed sound is) unmet met = absurd (cc)
-wanting_unmet text old new None _ (failed fails is) unmet met = absurd (cc)
-wanting_unmet text old new (Some f) _ (failed fails is) unmet met = absurd (cc)
+wanting_unmet text old new found _ (printed sound is) unmet met = absurd (true≢false (sym unmet ∙ met))
+wanting_unmet text old new None _ (failed fails is) unmet met = absurd (true≢false (sym unmet))
+wanting_unmet text old new (Some f) _ (failed fails is) unmet met = absurd (true≢false (sym unmet ∙ met))
 wanting_unmet text old new found _ (cut_short sound is) unmet met = refl
 wanting_unmet text old new found _ (no_text sound is) unmet met = refl
 wanting_unmet text old new found _ (no_text_failed fails is) unmet met = refl
