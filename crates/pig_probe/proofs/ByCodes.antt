@@ -1,12 +1,13 @@
 -- Rows that are joined by the codes of their fields.
-use Rattle.std.proofs.Common.{◌≡◌, ◌≤◌, ◌+◌, ◌↔◌, ℕ, zero, suc, Bool, true, false, List, [], ◌∷◌, ◌++◌, drop, length, map, refl, sym, ◌∙◌, ap, arith, true≢false}
-use Rattle.std.specs.Prelude.{Option, None, Some, slice_get}
+use Rattle.std.proofs.Common.{◌≡◌, ◌≤◌, ◌+◌, ℕ, zero, suc, Bool, true, false, List, [], ◌∷◌, ◌++◌, drop, length, map, refl, sym, ◌∙◌, ap, arith}
+use Rattle.std.specs.Prelude.{◌==◌, Option, None, Some, slice_get}
 use Rattle.std.specs.Coded.{Coded-set, coded_list, coded_ℕ}
 use Rattle.std.specs.List.{AllByRecursion, list_any}
 use Rattle.std.specs.Option.{option_map}
 use Rattle.std.proofs.Math.Logic.{∥∥₁_elim, ∥∥₁_map}
 use Rattle.std.proofs.lemmas.List.{append-nil, append_assoc, length-append, length-map}
 use Rattle.std.proofs.lemmas.List.Concat.{flat_map-append}
+use Rattle.std.proofs.lemmas.Bool.{ne_eqb}
 use Rattle.pig_value.specs.Trees.{Tree, fields_of, v_null}
 use Rattle.pig_value.specs.Valid.{IsRow}
 use Rattle.pig_value.proofs.list_laws.Indexing.{dropped, get_map}
@@ -155,12 +156,19 @@ joined_stay start b (Some width) row (x ∷ made) were some = were
 joined_stay start b (Some width) row [] were some = absurd (some width refl (ap (λ c. length c.rows) were ∙ ap length (append-nil start.rows)))
 
 -- what a test of lent codes for being none tells
-pub none_are : {R : Type 0} (items : R → List ℕ) (b : Bool) (all : List R) (ms : List Row) → (b ≡ true) ↔ (all ≡ []) → map items all ≡ map inner_code ms → b ≡ is_empty ms
-none_are items true all [] tells are = refl
-none_are items true all (m ∷ ms) tells are = absurd (let wrong : [] ≡ inner_code m ∷ map inner_code ms = ap (map items) (sym (tells.0 refl)) ∙ are in cc)
-none_are items false [] ms tells are = absurd (true≢false (sym (tells.1 refl)))
-none_are items false (x ∷ all) [] tells are = absurd (let wrong : items x ∷ map items all ≡ [] = are in cc)
-none_are items false (x ∷ all) (m ∷ ms) tells are = refl
+pub none_are : {R : Type 0} (items : R → List ℕ) (b : Bool) (all : List R) (ms : List Row) → b ≡ (length all == 0) → map items all ≡ map inner_code ms → b ≡ is_empty ms
+none_are items b [] [] is are = is
+none_are items b [] (m ∷ ms) is are = absurd (let wrong : [] ≡ inner_code m ∷ map inner_code ms = are in cc)
+none_are items b (x ∷ all) [] is are = absurd (let wrong : items x ∷ map items all ≡ [] = are in cc)
+none_are items b (x ∷ all) (m ∷ ms) is are = is ∙ ne_eqb (length (x ∷ all)) 0 (λ e. omega (arith, e))
+
+-- the side that stands first
+pub same_side : (sides : List (List KeyedRow)) (a b : List KeyedRow) (rest : List (List KeyedRow)) → sides ≡ a ∷ rest → sides ≡ b ∷ rest → a ≡ b
+same_side sides a b rest one other = ap first (sym one ∙ other)
+  where
+    first : List (List KeyedRow) → List KeyedRow
+    first [] = a
+    first (s ∷ ss) = s
 
 -- nothing is begun behind a row that was added
 pub none_begun : (bytes whole : List ℕ) → whole ≡ bytes ++ 0 ∷ [] → (start new : Begun) → IsBegun bytes → ((row : Row) → IsCodeOfRow whole row → new ≡ and_row row start) → new.begun ≡ []

@@ -2,7 +2,7 @@
 use Rattle.std.proofs.Common.{◌≡◌, ◌++◌, [], ◌∷◌, List, drop, length, map}
 use Rattle.pig_value.specs.Trees.{Tree, tree}
 use Rattle.pig_typed.specs.Products.{joined, product}
-use Rattle.pig_replicated.specs.Holding.{matches_in}
+use Rattle.pig_replicated.specs.Holding.{KeyedRow, matches_in}
 use Rattle.pig_replicated.specs.Joining.{partners}
 use Rattle.pig_replicated.proofs.Adding.{behind}
 use Rattle.pig_probe.specs.Begun.{Begins}
@@ -15,6 +15,6 @@ abbrev pub invariant-loop-part : goal.invariant-loop-part
 invariant-loop-part l =
     (l.front.items ≡ l.fn.front.items)
     × (l.built.begun ≡ [])
-    × ((row : List Tree) → Begins l.fn.front.items row
-    → l.built.rows ++ behind row (joined (drop l.part-index (matches_in l.side (tree l.key))) (product (map (λ s. matches_in s (tree l.key)) l.rest)))
-    ≡ l.fn.built.rows ++ partners (l.side ∷ l.rest) (tree l.key) row)
+    × ((side : List KeyedRow) (row : List Tree) → l.sides ≡ side ∷ l.rest → Begins l.fn.front.items row
+    → l.built.rows ++ behind row (joined (drop l.part-index (matches_in side (tree l.key))) (product (map (λ s. matches_in s (tree l.key)) l.rest)))
+    ≡ l.fn.built.rows ++ partners l.sides (tree l.key) row)
