@@ -1,5 +1,5 @@
 -- Rows that are joined by the codes of their fields.
-use Rattle.std.proofs.Common.{◌≡◌, ◌≤◌, ◌+◌, ℕ, zero, suc, Bool, true, false, List, [], ◌∷◌, ◌++◌, drop, length, map, refl, sym, ◌∙◌, ap, arith}
+use Rattle.std.proofs.Common.{◌≡◌, ◌≤◌, ◌+◌, ℕ, zero, suc, Bool, true, List, [], ◌∷◌, ◌++◌, drop, length, map, refl, sym, ◌∙◌, ap, arith}
 use Rattle.std.specs.Prelude.{◌==◌, Option, None, Some, slice_get}
 use Rattle.std.specs.Coded.{Coded-set, coded_list, coded_ℕ}
 use Rattle.std.specs.List.{AllByRecursion, list_any}
@@ -16,7 +16,7 @@ use Rattle.pig_keycode.specs.Codable.{IsCodeOfRow}
 use Rattle.pig_keycode.specs.Codes.{code, fields_code}
 use Rattle.pig_keycode.specs.Reading.{row_code}
 use Rattle.pig_packed.specs.Growth.{Begun, IsWhole, and_row, and_rows, whole_rows}
-use Rattle.pig_typed.specs.Products.{joined, product}
+use Rattle.pig_typed.specs.Products.{joined}
 use Rattle.pig_plan.specs.ByKey.{is_empty, nulls}
 use Rattle.pig_replicated.specs.Codes.{inner_code}
 use Rattle.pig_replicated.specs.Holding.{KeyedRow, matches_in}

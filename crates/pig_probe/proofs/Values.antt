@@ -1,10 +1,10 @@
 -- What is made of rows of values by a probe is rows of values.
 use Rattle.std.specs.Prelude.{◌≡◌, ◌<◌, ◌+◌, ℕ, zero, suc, Bool, true, false, List, [], ◌∷◌, ◌++◌, drop, get_or, length, map, refl, if◌then◌else◌}
 use Rattle.std.proofs.Common.{ap, sym, ◌∙◌, arith, append_assoc, subst}
-use Rattle.std.specs.List.{AllByRecursion, filter}
+use Rattle.std.specs.List.{AllByRecursion}
 use Rattle.std.specs.Ordering.{is_eq}
 use Rattle.pig_value.specs.Gathering.{with_key}
-use Rattle.pig_value.specs.Orders.{bag_of, row_cmp, tree_cmp}
+use Rattle.pig_value.specs.Orders.{row_cmp, tree_cmp}
 use Rattle.pig_value.specs.declared.values.Value.{Value}
 use Rattle.pig_value.specs.Trees.{Tree, row_tree, rows_tree}
 use Rattle.pig_value.specs.Valid.{AreRows, IsRow, IsValue}

@@ -1,4 +1,3 @@
-use Rattle.std.proofs.lemmas.Result.{on_ok_weaker}
 use Rattle.pig_probe.proofs.ByCodes.{begins_nulls, begun_nulls}
 use Rattle.pig_probe.proofs.joining.add_alone.Goals as goal
 

@@ -1,9 +1,5 @@
-use Rattle.std.proofs.Common.{sym, ◌∙◌, subst}
-use Rattle.std.proofs.lemmas.Result.{on_ok_weaker}
-use Rattle.pig_value.specs.Trees.{tree}
-use Rattle.pig_replicated.specs.Joining.{partners}
-use Rattle.pig_probe.specs.Begun.{Begins, IsBegun}
-use Rattle.pig_probe.proofs.ByCodes.{alone_added, joined_stay}
+use Rattle.std.proofs.Common.{sym, subst}
+use Rattle.pig_probe.specs.Begun.{IsBegun}
 use Rattle.pig_probe.proofs.joining.add_probed.Goals as goal
 
 pub add_alone-requires : goal.add_alone-requires

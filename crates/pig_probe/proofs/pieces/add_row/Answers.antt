@@ -1,4 +1,4 @@
-use Rattle.std.proofs.Common.{◌≡◌, ◌++◌, ◌∷◌, [], length, take, sym, ◌∙◌, ap}
+use Rattle.std.proofs.Common.{◌≡◌, ◌∷◌, [], length, take, ◌∙◌, ap}
 use Rattle.std.proofs.Math.Seq.{take-append_seam}
 use Rattle.pig_probe.proofs.ByCodes.{code_with_end, none_begun, whole_with_end}
 use Rattle.pig_probe.proofs.pieces.add_row.Goals as goal
