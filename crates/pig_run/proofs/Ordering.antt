@@ -82,7 +82,7 @@ none_counted : (made : List DepotCall) → 0 < length made → made ≡ [] → �
 none_counted made some none = let l : length made ≡ 0 = ap length none in omega (arith, some, l)
 
 -- what was kept stands where an ASSERT is not met, and not in a run that has just begun
-module _ {plan : Plan} {s : Stages} {limit : ℕ} {tellings : Tellings} (progress : Progress) where
+module _ (plan : Plan) (s : Stages) (limit : ℕ) (tellings : Tellings) (progress : Progress) where
   unkept_by : (f : RunFault) → EndsFinding plan s limit tellings progress f → is_unmet (Some f) ≡ false → kept_in progress ≡ []
   unkept_by _ (lost given stands silent) met = quiet_kept progress stands
   unkept_by _ (not_met won unmet stands says) met = absurd (true≢false met)

@@ -164,7 +164,8 @@ pub returns-in_err-parts-clause-asked : goal.returns-in_err-parts-clause-asked
 returns-in_err-parts-clause-asked g c =
     let stops : IfOk c.from_residual.result (λ _. ⊥) = search rules in
     let ended : IfErr c.from_residual.result (EndsFinding (plan_of c.args.prepared.now.checked) (staged c.args.stages.now) c.args.limit (map g.H.Host.inputs c.args.hosts.now) c.find.new.progress) = search rules in
-    makes_none c.from_residual.result stops (map (λ store. store.dir) c.args.prepared.now.stores) _ (unkept_end c.find.new.progress c.from_residual.result ended stops) (g.D.Depot.calls c.args.depot.now) (g.D.Depot.calls c.args.depot.now) refl
+    makes_none c.from_residual.result stops (map (λ store. store.dir) c.args.prepared.now.stores) _
+    (unkept_end (plan_of c.args.prepared.now.checked) (staged c.args.stages.now) c.args.limit (map g.H.Host.inputs c.args.hosts.now) c.find.new.progress c.from_residual.result ended stops) (g.D.Depot.calls c.args.depot.now) (g.D.Depot.calls c.args.depot.now) refl
 
 pub returns-in_err-notes-clause-asked : goal.returns-in_err-notes-clause-asked
 returns-in_err-notes-clause-asked g c =
