@@ -1,5 +1,6 @@
 //! The words of a text under FLATTEN, batch behind batch, in one memory.
-use pig_stream::{Batch, Sink, StoredText};
+use pig_stream::Batch;
+use pig_text::write_row;
 use pig_typed::{Block, BlockItem, TExpr};
 use pig_value::{Delim, Function, Seq, Text, Tuple, Value};
 use std::alloc::Global;
@@ -40,9 +41,10 @@ fn only<R: Abort>(rt: &R, alloc: Global, item: BlockItem) -> Block {
 
 /// The rows of a batch as text.
 fn told<R: Abort>(rt: &R, alloc: Global, batch: &Batch) -> Vec<u8> {
-    let mut text = StoredText::new(alloc, Delim::tab());
-    text.take(alloc, batch.as_slice()).expect(rt, "memory");
-    let StoredText { bytes, .. } = text;
+    let mut bytes = Vec::new(alloc);
+    for row in batch.as_slice() {
+        write_row(row, Delim::tab(), &mut bytes).expect(rt, "memory");
+    }
     bytes
 }
 
