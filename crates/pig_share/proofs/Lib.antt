@@ -5,6 +5,7 @@ pub mod Living
 pub mod Limits
 pub mod Meaning
 pub mod Once
+pub mod NoneAlike
 pub mod SameLaws
 pub mod Ends
 pub mod Steps

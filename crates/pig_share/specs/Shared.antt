@@ -1,18 +1,10 @@
 -- Nodes that do the same become one: the first of them takes the place of the others, wherever these are named.
-use Rattle.std.specs.Prelude.{◌≡◌, ◌≤◌, ◌&&◌, ℕ, Bool, true, false, not, [], ◌∷◌, map, nat_le, Some, slice_get}
-use Rattle.pig_plan.specs.Nodes.{is_live, is_sorted}
+use Rattle.std.specs.Prelude.{◌≡◌, ◌≤◌, ℕ, Bool, true, false, not, List, map, Some, slice_get, bytes_eq}
+use Rattle.pig_plan.specs.Nodes.{is_bare, is_live, is_sorted}
 use Rattle.pig_plan.specs.Plans.{Plan, PlanNode, PlanOp, p_limit, p_store, p_assert}
 use Rattle.pig_plan.specs.Renumbered.{rename}
 use Rattle.pig_plan.specs.Rewrites.{SameMeaning}
-use Rattle.pig_plan.specs.Valid.{IsPlan}
-
--- no node has an earlier statement than one before it, as it is in the plan of a script
-abbrev pub ascends_from : ℕ → Plan → Bool
-ascends_from statement [] = true
-ascends_from statement (node ∷ plan) = nat_le statement node.statement && ascends_from node.statement plan
-
-abbrev pub in_order : Plan → Bool
-in_order plan = ascends_from 0 plan
+use Rattle.pig_plan.specs.Valid.{IsPlan, in_order}
 
 -- A bare LIMIT keeps the rows of its own statement, and a STORE stores as its own: each of them stays. An ASSERT that is named by an earlier one
 -- fails where that one does, whose statement is no later where the nodes are in order; where they are not, each ASSERT stays, too.
@@ -62,3 +54,28 @@ SharedPlansMeanTheSame = (p q : Plan) (at : ℕ → ℕ) → IsPlan p → IsPlan
 
 abbrev pub SharedNodesAreOnce : Type 0
 SharedNodesAreOnce = (p q : Plan) (at : ℕ → ℕ) → IsPlan p → IsPlan q → IsShared p q at → EachIsOnce q
+
+-- ---- plans in the order of their statements, as scripts have them
+
+-- a STORE of this path
+abbrev pub stores_in : List ℕ → PlanOp → Bool
+stores_in path (p_store input other delim) = bytes_eq other path
+stores_in path o = false
+
+-- no two STOREs have one path
+abbrev pub HaveOwnPaths : Plan → Type 0
+HaveOwnPaths plan = (j k : ℕ) (v w : PlanNode) (path : List ℕ) → slice_get plan j ≡ Some v → slice_get plan k ≡ Some w
+    → stores_in path v.op ≡ true → stores_in path w.op ≡ true → j ≡ k
+
+-- no two live nodes other than bare LIMITs have the same operator and inputs
+abbrev pub NoTwoAlike : Plan → Type 0
+NoTwoAlike plan = (j k : ℕ) (v w : PlanNode) → slice_get plan j ≡ Some v → slice_get plan k ≡ Some w → is_live plan j ≡ true → is_live plan k ≡ true
+    → is_bare (is_sorted plan) v.op ≡ false → v.op ≡ w.op → j ≡ k
+
+abbrev pub OrderedPlansShareAll : Type 0
+OrderedPlansShareAll = (p q : Plan) (at : ℕ → ℕ) → in_order p ≡ true → HaveOwnPaths p → IsShared p q at → EachIsOnce q → NoTwoAlike q
+
+-- what a node is named by has no later statement
+abbrev pub LowerStatementsStay : Type 0
+LowerStatementsStay = (p q : Plan) (at : ℕ → ℕ) → in_order p ≡ true → IsShared p q at
+    → (k : ℕ) (v first : PlanNode) → slice_get p k ≡ Some v → slice_get p (at k) ≡ Some first → first.statement ≤ v.statement

@@ -12,6 +12,6 @@ mod renaming;
 mod sharing;
 mod sorted;
 
-pub use laws::{shared_nodes_are_once, shared_plans_mean_the_same};
+pub use laws::{ordered_plans_share_all, shared_nodes_are_once, shared_plans_mean_the_same};
 pub use renaming::renamed_node;
 pub use sharing::share;
