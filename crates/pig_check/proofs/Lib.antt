@@ -15,3 +15,4 @@ mod Sound
 mod Steps
 mod Within
 mod Apart
+mod InOrder

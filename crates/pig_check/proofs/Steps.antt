@@ -34,7 +34,7 @@ new_earlier : (statement : ℕ) (os : List PlanOp) → AllByRecursion (IsEarlier
 new_earlier statement [] = tt
 new_earlier statement (o ∷ os) = (omega (arith), new_earlier statement os)
 
-all_earlier : (statement : ℕ) (p : Plan) (os : List PlanOp) → AllByRecursion (IsEarlier statement) p → AllByRecursion (IsEarlier (statement + 1)) (p ++ map (node_of_statement statement) os)
+pub all_earlier : (statement : ℕ) (p : Plan) (os : List PlanOp) → AllByRecursion (IsEarlier statement) p → AllByRecursion (IsEarlier (statement + 1)) (p ++ map (node_of_statement statement) os)
 all_earlier statement p os h =
     each-append (IsEarlier (statement + 1)) p (map (node_of_statement statement) os)
     (each_weaker (IsEarlier statement) (IsEarlier (statement + 1)) (λ node below. omega (arith, below)) p h) (new_earlier statement os)

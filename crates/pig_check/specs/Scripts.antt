@@ -1,10 +1,11 @@
 -- Scripts: the plan of a script is the nodes that its statements add in turn; and the first statement without a typing.
 -- (Pig Latin Basics: "Pig Latin Statements".)
-use Rattle.std.specs.Prelude.{◌+◌, ℕ, List, [], ◌∷◌}
+use Rattle.std.specs.Prelude.{◌≡◌, ◌+◌, ℕ, true, List, [], ◌∷◌}
 use Rattle.std.specs.declared.result.Result.{Result}
 use Rattle.std.specs.declared.result.Result.TheVariants.{Ok, Err}
 use Rattle.pig_syntax.specs.declared.trees.Stmt.{Stmt}
 use Rattle.pig_plan.specs.Plans.{Plan}
+use Rattle.pig_plan.specs.Valid.{in_order}
 use Rattle.pig_typing.specs.declared.faults.CheckKind.{CheckKind}
 use Rattle.pig_typing.specs.Results.{Checked}
 use Rattle.pig_check.specs.declared.faults.CheckFault.{CheckFault}
@@ -27,6 +28,10 @@ pub data FirstUntyped : ℕ → State → List Stmt → ℕ → CheckKind → Ty
 -- the nodes of the statements of a script, which are numbered from 1, empty ones too
 pub data IsPlanOf (ss : List Stmt) : Plan → Type 0 where
   plan_of_all : {s : State} → TypesAll 1 nothing_yet ss s → IsPlanOf ss s.nodes
+
+-- the nodes of a plan stand in the order of the script's statements
+abbrev pub PlansStandInOrder : Type 0
+PlansStandInOrder = (ss : List Stmt) (plan : Plan) → IsPlanOf ss plan → in_order plan ≡ true
 
 abbrev pub IsFirstUntyped : List Stmt → ℕ → CheckKind → Type 0
 IsFirstUntyped = FirstUntyped 1 nothing_yet

@@ -2,7 +2,7 @@ ghost use Rattle.std.specs.Prelude.{◌≡◌, ◌⊎◌, ℕ, List};
 ghost use Rattle.pig_syntax.specs.declared.trees.Stmt.{Stmt};
 ghost use Rattle.pig_plan.specs.Plans.{Plan};
 ghost use Rattle.pig_typing.specs.declared.faults.CheckKind.{CheckKind};
-ghost use Rattle.pig_check.specs.Scripts.{IsFirstUntyped, IsPlanOf};
+ghost use Rattle.pig_check.specs.Scripts.{IsFirstUntyped, IsPlanOf, PlansStandInOrder};
 ghost use Rattle.pig_check.specs.States.{NoStoresCollide, StoresAreApart};
 
 /// A script has one plan, or one first statement without a typing, of which the condition of some kind of refusal
@@ -21,4 +21,9 @@ pub fn a_script_has_one_plan()
 pub fn stores_are_apart()
     ensures apart { (ss : List Stmt) (p : Plan) → IsPlanOf ss p → StoresAreApart p }
     ensures none_collide { (ss : List Stmt) (p : Plan) → IsPlanOf ss p → NoStoresCollide p }
+{}
+
+/// The nodes of a script's plan stand in the order of its statements.
+pub fn plans_stand_in_order()
+    ensures { PlansStandInOrder }
 {}

@@ -6,7 +6,7 @@
 //! `specs/Statements` has the typing of statements as a relation, one case for each form, beside the condition of each kind of refusal;
 //! `specs/Operators`, `specs/Splits`, `specs/Unions`, `specs/Cubes` and `specs/Paths` its parts, and `specs/Scripts` what the plan of a script is.
 //! [`a_script_has_one_plan`] says that a script has one plan or a first refusal, and never both; [`stores_are_apart`] that no two
-//! STOREs of a plan have one path.
+//! STOREs of a plan have one path, and [`plans_stand_in_order`] that its nodes stand in the order of the statements.
 #![tactic(auto)]
 
 mod asserts;
@@ -25,4 +25,4 @@ mod unions;
 
 pub use checking::check;
 pub use faults::CheckFault;
-pub use laws::{a_script_has_one_plan, stores_are_apart};
+pub use laws::{a_script_has_one_plan, plans_stand_in_order, stores_are_apart};
