@@ -1,5 +1,5 @@
 -- Which lists of nodes are plans: each node is valid behind those before it.
-use Rattle.std.specs.Prelude.{◌≡◌, ◌≤◌, ℕ, ◌==◌, Bool, true, false, not, ◌&&◌, List, take, Some, slice_get}
+use Rattle.std.specs.Prelude.{◌≡◌, ◌≤◌, ℕ, ◌==◌, Bool, true, false, not, ◌&&◌, List, [], ◌∷◌, nat_le, take, Some, slice_get}
 use Rattle.std.specs.List.{AllByRecursion, list_any}
 use Rattle.std.specs.Option.{is_some}
 use Rattle.pig_plan.specs.Written.{block_writes_lf, writes_lf}
@@ -38,3 +38,11 @@ fits plan node = is_some (node_gives (kinds_at plan) node.op) && not (op_writes_
 -- each node fits the nodes before it
 abbrev pub IsPlan : Plan → Type 0
 IsPlan plan = (k : ℕ) (node : PlanNode) → slice_get plan k ≡ Some node → fits (take k plan) node ≡ true
+
+-- no node has an earlier statement than one before it, as it is in the plan of a script
+abbrev pub ascends_from : ℕ → Plan → Bool
+ascends_from statement [] = true
+ascends_from statement (node ∷ plan) = nat_le statement node.statement && ascends_from node.statement plan
+
+abbrev pub in_order : Plan → Bool
+in_order plan = ascends_from 0 plan

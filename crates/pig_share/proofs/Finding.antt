@@ -13,8 +13,8 @@ use Rattle.pig_plan.specs.Plans.{Plan, PlanNode, plan_of}
 use Rattle.pig_plan.specs.Renumbered.{rename}
 use Rattle.pig_plan.specs.Results.{at_place}
 use Rattle.pig_share.specs.Same.{columns_of, same_op}
-use Rattle.pig_share.specs.Shared.{EachIsOnce, apart_in, in_order, is_apart, renamed}
-use Rattle.pig_plan.specs.Valid.{IsPlan}
+use Rattle.pig_share.specs.Shared.{EachIsOnce, apart_in, is_apart, renamed}
+use Rattle.pig_plan.specs.Valid.{IsPlan, in_order}
 use Rattle.pig_share.specs.Table.{DoesSame, IsFound, IsRenamedAt, IsSoFar, Shares, apart_list, at_of, earlier, none, sorted_list}
 use Rattle.pig_share.proofs.Steps.{goes_on, numbered}
 use Rattle.pig_plan.specs.Rewrites.{SameMeaning}

@@ -1,18 +1,10 @@
 -- Nodes that do the same become one: the first of them takes the place of the others, wherever these are named.
-use Rattle.std.specs.Prelude.{◌≡◌, ◌≤◌, ◌&&◌, ℕ, Bool, true, false, not, [], ◌∷◌, map, nat_le, Some, slice_get}
+use Rattle.std.specs.Prelude.{◌≡◌, ◌≤◌, ℕ, Bool, true, false, not, map, Some, slice_get}
 use Rattle.pig_plan.specs.Nodes.{is_live, is_sorted}
 use Rattle.pig_plan.specs.Plans.{Plan, PlanNode, PlanOp, p_limit, p_store, p_assert}
 use Rattle.pig_plan.specs.Renumbered.{rename}
 use Rattle.pig_plan.specs.Rewrites.{SameMeaning}
-use Rattle.pig_plan.specs.Valid.{IsPlan}
-
--- no node has an earlier statement than one before it, as it is in the plan of a script
-abbrev pub ascends_from : ℕ → Plan → Bool
-ascends_from statement [] = true
-ascends_from statement (node ∷ plan) = nat_le statement node.statement && ascends_from node.statement plan
-
-abbrev pub in_order : Plan → Bool
-in_order plan = ascends_from 0 plan
+use Rattle.pig_plan.specs.Valid.{IsPlan, in_order}
 
 -- A bare LIMIT keeps the rows of its own statement, and a STORE stores as its own: each of them stays. An ASSERT that is named by an earlier one
 -- fails where that one does, whose statement is no later where the nodes are in order; where they are not, each ASSERT stays, too.

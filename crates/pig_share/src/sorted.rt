@@ -2,7 +2,8 @@ ghost use Rattle.std.specs.Prelude.{◌≡◌, false, IfOk, map};
 ghost use Rattle.pig_plan.specs.Nodes.{sorts as sorts_op};
 ghost use Rattle.pig_plan.specs.Plans.{op_of, plan_of};
 ghost use Rattle.pig_plan.specs.Results.{at_place};
-ghost use Rattle.pig_share.specs.Shared.{in_order, is_apart};
+ghost use Rattle.pig_plan.specs.Valid.{in_order};
+ghost use Rattle.pig_share.specs.Shared.{is_apart};
 ghost use Rattle.pig_share.specs.Table.{apart_list, sorted_list};
 
 use pig_plan::{Node, NodeOp};

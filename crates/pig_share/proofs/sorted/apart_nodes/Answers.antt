@@ -1,7 +1,8 @@
 use Rattle.std.proofs.Common.{rules, ◌≡◌, false, map}
 use Rattle.pig_plan.specs.Plans.{plan_of}
 use Rattle.pig_plan.specs.Results.{at_place}
-use Rattle.pig_share.specs.Shared.{in_order, is_apart}
+use Rattle.pig_plan.specs.Valid.{in_order}
+use Rattle.pig_share.specs.Shared.{is_apart}
 use Rattle.pig_share.specs.Table.{sorted_list}
 use Rattle.pig_share.proofs.Finding.{apart_made}
 use Rattle.pig_share.proofs.sorted.apart_nodes.Goals as goal

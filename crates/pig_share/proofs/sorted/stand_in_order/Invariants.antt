@@ -1,6 +1,6 @@
 use Rattle.std.proofs.Common.{◌≡◌, drop}
 use Rattle.pig_plan.specs.Plans.{plan_of}
-use Rattle.pig_share.specs.Shared.{ascends_from, in_order}
+use Rattle.pig_plan.specs.Valid.{ascends_from, in_order}
 use Rattle.pig_share.proofs.sorted.stand_in_order.Given as goal
 
 abbrev pub invariant-loop-node : goal.invariant-loop-node
