@@ -29,3 +29,4 @@ mod MoveSamples
 pub mod Rewrites
 pub mod LineFree
 pub mod OfKinds
+pub mod Exchanged

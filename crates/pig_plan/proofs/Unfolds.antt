@@ -17,7 +17,7 @@ module _ {R : Type 0} where
   get-next [] x ys = refl
   get-next (w ∷ xs) x ys = get-next xs x ys
 
-  take-front : (xs ys : List R) → take (length xs) (xs ++ ys) ≡ xs
+  pub take-front : (xs ys : List R) → take (length xs) (xs ++ ys) ≡ xs
   take-front [] [] = refl
   take-front [] (y ∷ ys) = refl
   take-front (x ∷ xs) ys = ap (λ zs. x ∷ zs) (take-front xs ys)
@@ -33,7 +33,7 @@ some_inj {A} {a} {b} h = ap (λ o. unwrap_or o a) h
 
 module _ {N R : Type 0} (step : ℕ → N → (ℕ → R) → R) (nothing : R) where
   -- the results that are found stand first
-  behind_is : (found : List R) (nodes : List N) → (more : List R) × (results_behind step nothing found nodes ≡ found ++ more)
+  pub behind_is : (found : List R) (nodes : List N) → (more : List R) × (results_behind step nothing found nodes ≡ found ++ more)
   behind_is found [] = ([], sym (append-nil found))
   behind_is found (node ∷ nodes) =
       let next = step (length found) node (at_place nothing found) in

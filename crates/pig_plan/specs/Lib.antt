@@ -8,6 +8,7 @@ pub mod NodeKinds
 pub mod Given
 pub mod Written
 pub mod Valid
+pub mod Exchanged
 pub mod Operators
 pub mod Entries
 pub mod Steps

@@ -1,8 +1,8 @@
 -- The shape of a plan: which nodes name which, which are live, which are lists, and the ways that rows go through them.
-use Rattle.std.specs.Prelude.{ℕ, ◌==◌, ◌+◌, Bool, true, false, ◌&&◌, ◌||◌, not, List, [], ◌∷◌, ◌++◌, map, drop, length, slice_get, Option, if◌then◌else◌}
+use Rattle.std.specs.Prelude.{◌≡◌, ℕ, ◌==◌, ◌+◌, Bool, true, false, ◌&&◌, ◌||◌, not, List, [], ◌∷◌, ◌++◌, map, drop, length, slice_get, Option, Some, if◌then◌else◌}
 use Rattle.std.specs.List.{filter, filter_map, flat_map, list_any, range_with_len}
 use Rattle.std.specs.Option.{option_map, option_map_or}
-use Rattle.pig_plan.specs.Plans.{Plan, PlanOp, p_load, p_filter, p_foreach, p_group_all, p_group, p_join, p_union, p_distinct, p_order, p_limit, p_store, p_assert, p_rank}
+use Rattle.pig_plan.specs.Plans.{Plan, PlanNode, PlanOp, p_load, p_filter, p_foreach, p_group_all, p_group, p_join, p_union, p_distinct, p_order, p_limit, p_store, p_assert, p_rank}
 use Rattle.pig_plan.specs.Results.{result_at}
 
 -- the operator of the node numbered k
@@ -27,6 +27,10 @@ inputs_of (p_rank input keys dense) = input ∷ []
 
 abbrev pub names : PlanOp → ℕ → Bool
 names o k = list_any (λ i. i == k) (inputs_of o)
+
+-- no node but the one numbered k reads the node numbered i
+abbrev pub IsOnlyUse : Plan → ℕ → ℕ → Type 0
+IsOnlyUse p i k = (n : ℕ) (v : PlanNode) → slice_get p n ≡ Some v → names v.op i ≡ true → n ≡ k
 
 abbrev pub is_store : PlanOp → Bool
 is_store (p_store input path delim) = true

@@ -4,6 +4,7 @@
 mod checking;
 mod copying;
 mod counting;
+mod exchanging;
 mod given;
 mod keyed;
 mod laws;

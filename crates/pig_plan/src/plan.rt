@@ -1,16 +1,18 @@
-ghost use Rattle.std.specs.Prelude.{◌≡◌, [], ◌∷◌, ◌++◌, List, None, map, length, true, IfOk, OnOk, OnErr};
+ghost use Rattle.std.specs.Prelude.{◌≡◌, [], ◌∷◌, ◌++◌, List, None, map, length, true, false, slice_set, IfOk, OnOk, OnErr};
 ghost use Rattle.std.specs.List.{list_any};
 ghost use Rattle.std.specs.Option.{option_copied, option_map, unwrap_or};
 ghost use Rattle.pig_value.specs.Trees.{kind_tree};
 ghost use Rattle.pig_plan.specs.Given.{before_of, kinds_of_given};
 ghost use Rattle.pig_plan.specs.NodeKinds.{kinds_at, node_gives};
 ghost use Rattle.pig_plan.specs.declared.given.Given.{Given};
+ghost use Rattle.pig_plan.specs.Nodes.{IsOnlyUse};
 ghost use Rattle.pig_plan.specs.Plans.{node_of, op_of, plan_of};
 ghost use Rattle.pig_plan.specs.Laws.{PlanLiteralsAre};
 ghost use Rattle.pig_plan.specs.Valid.{AreUpTo, IsPlan, are_twins, fits, is_twin};
 ghost use Rattle.pig_value.specs.Valid.{IsValue};
 
 use crate::checking::given;
+use crate::exchanging::{exchange_given, may_stand, put_two};
 use crate::given::{Given, rows_before};
 use crate::literals::op_writes_line_end;
 use crate::valued::know_literals;
@@ -121,6 +123,36 @@ impl Plan {
         push_or_take_back(&mut self.nodes, &mut self.given, node)?;
         self.latest = latest;
         Ok(number)
+    }
+
+    /// Puts two nodes in the place of two others, of which the first is read by the second alone, where the second then
+    /// gives what was given at its number: so the other nodes see what they saw, and what these two give is all that is
+    /// looked at. It answers whether they stand there. It puts no LIMIT and no ASSERT, no line end, and no statement
+    /// later than the others'. Where it puts none, or memory is wanting, the plan stays as it was.
+    pub fn exchange(
+        &mut self,
+        low: u32,
+        lower: Node,
+        high: u32,
+        upper: Node,
+    ) -> Result<bool, AllocError>
+        requires only { IsOnlyUse (plan_of self.old) low high }
+        ensures exchanged { IfOk result (λ done. done ≡ true
+            → self.new ≡ slice_set (slice_set self.old low lower) high upper) }
+        ensures kept { IfOk result (λ done. done ≡ false → self.new ≡ self.old) }
+        ensures err { OnErr result (self.new ≡ self.old) }
+    {
+        know_literals(&lower.op);
+        know_literals(&upper.op);
+        if !may_stand(&lower, self.latest) || !may_stand(&upper, self.latest) {
+            return Ok(false);
+        }
+        let fit = exchange_given(self.alloc, &mut self.given, low, &lower.op, high, &upper.op)?;
+        if !fit {
+            return Ok(false);
+        }
+        put_two(&mut self.nodes, low, lower, high, upper);
+        Ok(true)
     }
 }
 

@@ -12,7 +12,7 @@ use Rattle.pig_typed.specs.Typed.{Typed, TypedArgs, TypedBlock, TypedItem, Typed
 use Rattle.pig_plan.specs.Conjuncts.{conjuncts}
 use Rattle.pig_plan.specs.Meaning.{width_at}
 use Rattle.pig_plan.specs.Moves.{Move, field_of, fields_in, holds_all, moves, names_some, put}
-use Rattle.pig_plan.specs.Nodes.{inputs_of, is_live, names}
+use Rattle.pig_plan.specs.Nodes.{IsOnlyUse, inputs_of, is_live, names}
 use Rattle.pig_plan.specs.Plans.{Keyed, Plan, PlanNode, PlanOp, p_load, p_filter, p_foreach, p_group, p_join, p_union, p_distinct}
 use Rattle.pig_plan.specs.Rewrites.{SameMeaning}
 use Rattle.pig_share.specs.Shared.{renamed}
@@ -212,10 +212,6 @@ high_of width i (p_foreach x block) cond = p_foreach i block
 high_of width i (p_group (input ∷ [])) cond = p_group (on_input i input ∷ [])
 high_of width i (p_join inputs s replicated) cond = p_join (over_spot i (spot_for width inputs cond) inputs) s replicated
 high_of width i o cond = o
-
--- no node but the one numbered k reads the node numbered i
-abbrev pub IsOnlyUse : Plan → ℕ → ℕ → Type 0
-IsOnlyUse p i k = (n : ℕ) (v : PlanNode) → slice_get p n ≡ Some v → names v.op i ≡ true → n ≡ k
 
 -- The FILTER numbered k stands on the node numbered i, which no other node reads, and its condition passes a test on that node's operator.
 pub record StandsOn (test : (ℕ → ℕ) → PlanOp → Typed → Bool) (p : Plan) (i k : ℕ) : Type 0 where

@@ -1,8 +1,7 @@
 ghost use Rattle.std.specs.Prelude.{◌≡◌, ◌==◌, ◌∷◌, ◌&&◌, [], map, not, IsTrue};
 ghost use Rattle.std.specs.List.{list_any};
-ghost use Rattle.pig_plan.specs.Nodes.{names};
+ghost use Rattle.pig_plan.specs.Nodes.{IsOnlyUse, names};
 ghost use Rattle.pig_plan.specs.Plans.{keyed_of, node_of, op_of, plan_of};
-ghost use Rattle.pig_push.specs.Pushed.{IsOnlyUse};
 
 use pig_plan::{KeyedInput, Node, NodeOp};
 

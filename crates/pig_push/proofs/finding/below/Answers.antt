@@ -3,8 +3,9 @@ use Rattle.std.specs.Prelude.{Some, slice_get, refl, length}
 use Rattle.std.proofs.lemmas.Option.{slice_get_read}
 use Rattle.pig_typed.specs.Typed.{typed}
 use Rattle.pig_plan.specs.Meaning.{width_at}
+use Rattle.pig_plan.specs.Nodes.{IsOnlyUse}
 use Rattle.pig_plan.specs.Plans.{node_of, op_of, p_filter, plan_of}
-use Rattle.pig_push.specs.Pushed.{IsOnlyUse, all_pass}
+use Rattle.pig_push.specs.Pushed.{all_pass}
 use Rattle.pig_push.proofs.Steps.{can_move}
 use Rattle.pig_push.proofs.finding.below.Goals as goal
 

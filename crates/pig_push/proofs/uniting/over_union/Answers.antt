@@ -3,8 +3,9 @@ use Rattle.std.specs.Prelude.{Some, slice_get, refl}
 use Rattle.std.specs.List.{AllByRecursion, list_any}
 use Rattle.std.proofs.lemmas.Option.{slice_get_read}
 use Rattle.pig_typed.specs.Typed.{typed}
+use Rattle.pig_plan.specs.Nodes.{IsOnlyUse}
 use Rattle.pig_plan.specs.Plans.{op_of, p_filter, plan_of}
-use Rattle.pig_push.specs.Pushed.{IsFree, IsOnlyUse, filtered, place_in}
+use Rattle.pig_push.specs.Pushed.{IsFree, filtered, place_in}
 use Rattle.pig_push.proofs.Keeps.{node_with}
 use Rattle.pig_push.proofs.Steps.{node_there}
 use Rattle.pig_push.proofs.uniting.over_union.Goals as goal
