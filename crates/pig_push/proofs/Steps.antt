@@ -259,11 +259,6 @@ is_move nodes made i k low high can new is = record {
 }
 
 -- the result as it comes: nothing is known of a refusal
-pub planned_move : (r : Result (List Node) AllocError) (nodes made : List Node) (i k : ℕ) (low high : Node) → CanMove (plan_of nodes) i k → AreNew (plan_of nodes) i k (node_of low) (node_of high)
-    → made ≡ slice_set (slice_set nodes i low) k high → IfOk r (λ q. plan_of q ≡ plan_of made) → IfOk r (λ q. IsMove (plan_of nodes) (plan_of q) i k)
-planned_move (Ok q) nodes made i k low high can new is same = subst (λ ps. IsMove (plan_of nodes) ps i k) (sym same) (is_move nodes made i k low high can new is)
-planned_move (Err e) nodes made i k low high can new is same = tt
-
 pub all_pushed : (r : Result (List Node) AllocError) (p q : Plan) → IsPlan q → IsCleared p q → IfOk r (λ m. AreMoves q (plan_of m)) → IfOk r (λ m. IsPushed p (plan_of m))
 all_pushed (Ok m) p q valid_q is moves = record { cleared = q; valid = valid_q; clears = is; moves = moves }
 all_pushed (Err e) p q valid_q is moves = tt

@@ -20,13 +20,12 @@ pub fn moved(alloc: Global, plan: Plan, low: u32, high: u32) -> Result<Plan, All
     ensures { IfOk result (λ q. IsMove (plan_of plan) (plan_of q) low high) }
 {
     let (lower, upper) = new_nodes(alloc, &plan, low, high)?;
-    let mut nodes = plan.into_nodes();
-    if nodes.len() <= low as usize || nodes.len() <= high as usize {
+    let mut next = plan;
+    let stands = next.exchange(low, lower, high, upper)?;
+    if !stands {
         return Err(AllocError);
     }
-    nodes.replace(low as usize, lower);
-    nodes.replace(high as usize, upper);
-    planned(alloc, nodes)
+    Ok(next)
 }
 
 /// The nodes as a plan.

@@ -1,5 +1,5 @@
 //! The one plan that is cut into tasks: the checked plan, in which nodes that do the same become
-//! one, conditions move towards the sources, what nothing needs goes, and each JOIN goes by key.
+//! one, conditions move towards the sources, and what nothing needs goes.
 //!
 //! [`rewrite`] makes it. `specs/Reached` says what it is, `specs/Alike` that its runs do the same.
 //! [`rewritten_nodes_are_once`] says that of a script's plan all that is alike is shared.
