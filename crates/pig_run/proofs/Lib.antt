@@ -16,4 +16,5 @@ mod Sizes
 mod Stages
 mod Telling
 mod Topping
+mod Unstored
 mod Wording

@@ -1,5 +1,5 @@
 -- All that a depot is asked comes in its order.
-use Rattle.std.proofs.Common.{◌≡◌, ◌≢◌, ◌<◌, ◌∙◌, ◌++◌, ◌&&◌, ℕ, Bool, true, false, if◌then◌else◌, List, [], ◌∷◌, length, map, Option, Some, None, Result, Ok, Err, IfErr, IfOk, MatchResult, refl, sym, ap, subst, arith, inl, inr, true≢false}
+use Rattle.std.proofs.Common.{◌≡◌, ◌<◌, ◌∙◌, ◌++◌, ◌&&◌, ℕ, Bool, true, false, if◌then◌else◌, List, [], ◌∷◌, length, map, Option, Some, None, Result, Ok, Err, IfErr, IfOk, MatchResult, refl, sym, ap, subst, arith, inl, inr, true≢false}
 use Rattle.std.specs.List.{flat_map}
 use Rattle.std.proofs.lemmas.List.{append-nil, length-map, map-append}
 use Rattle.pig_value.proofs.list_laws.Bags.{either_way}
@@ -9,6 +9,7 @@ use Rattle.pig_outside.specs.declared.failing.Method.{Method}
 use Rattle.pig_outside.specs.declared.failing.Method.TheVariants as method
 use Rattle.pig_plan.specs.Plans.{Plan}
 use Rattle.pig_physical.specs.Stages.{Stages}
+use Rattle.pig_reach.specs.declared.storing.Store.{Store}
 use Rattle.pig_work.specs.Working.{Tellings}
 use Rattle.pig_run.specs.declared.looking.Prepared.{Prepared}
 use Rattle.pig_run.specs.declared.outcome.RunFault.{RunFault}
@@ -72,11 +73,16 @@ module _ {T : Type 0} (dirs : List (List ℕ)) (found : Result T RunFault) (old 
 
 -- ---- making
 
--- some directories are made by some calls
-making_some : (dirs : List (List ℕ)) (parts : List ℕ) → length parts ≡ length dirs → dirs ≢ [] → making dirs parts ≡ [] → ⊥
-making_some [] parts each due none = due refl
-making_some (dir ∷ dirs) [] each due none = omega (arith, each)
-making_some (dir ∷ dirs) (n ∷ parts) each due none = absurd (cc)
+-- where no call makes directories, there are none
+making_none : (dirs : List (List ℕ)) (parts : List ℕ) → length parts ≡ length dirs → making dirs parts ≡ [] → dirs ≡ []
+making_none [] parts each none = refl
+making_none (dir ∷ dirs) [] each none = absurd (omega (arith, each))
+making_none (dir ∷ dirs) (n ∷ parts) each none = absurd (cc)
+
+-- nor are there STOREs where there are no directories
+pub no_stores : (stores : List Store) → map (λ store. store.dir) stores ≡ [] → stores ≡ []
+no_stores [] none = refl
+no_stores (store ∷ stores) none = absurd (cc)
 
 none_counted : (made : List DepotCall) → 0 < length made → made ≡ [] → ⊥
 none_counted made some none = let l : length made ≡ 0 = ap length none in omega (arith, some, l)
@@ -107,7 +113,7 @@ makes_none (Err f) h dirs kept quiet old new same = record {
   first = (making dirs (map length dirs), refl);
   none = λ _. refl;
   whole = λ e. absurd (cc);
-  unkept = λ met due none. quiet met;
+  unkept = λ met none. quiet met;
 }
 
 -- making ended in between
@@ -126,9 +132,9 @@ module _ (outs : List StorePart) (dirs : List (List ℕ)) (dirs_are : map (λ ou
   all_calls = made_calls outs ∙ ap (λ ds. making ds counts) dirs_are
 
   broken : {T U : Type 0} (result : Result T RunFault) (n : ℕ) → MatchResult result (λ _. ⊥) (IsCommitFault n) → (found : Result U RunFault) (kept : List Kept) (old new : Option (List DepotCall))
-      → (asked : AskedFor (flat_map calls_for_store outs) found old new) → (dirs ≢ [] → asked.made ≡ [] → ⊥) → Makes dirs (found_in result) kept old new
-  broken (Ok x) n h found kept old new asked begun = absurd h
-  broken (Err f) n h found kept old new asked begun = record {
+      → (asked : AskedFor (flat_map calls_for_store outs) found old new) → (asked.made ≡ [] → kept ≡ []) → Makes dirs (found_in result) kept old new
+  broken (Ok x) n h found kept old new asked quiet = absurd h
+  broken (Err f) n h found kept old new asked quiet = record {
     parts = counts;
     each = as_many;
     made = asked.made;
@@ -136,20 +142,20 @@ module _ (outs : List StorePart) (dirs : List (List ℕ)) (dirs_are : map (λ ou
     first = (asked.left, sym all_calls ∙ sym asked.first);
     none = λ never. absurd (never (may_break n f h));
     whole = λ e. absurd (cc);
-    unkept = λ met due none. absurd (begun due none);
+    unkept = λ met none. quiet none;
   }
 
   pub makes_broken : {T U : Type 0} (result : Result T RunFault) (n : ℕ) → MatchResult result (λ _. ⊥) (IsCommitFault n) → (f : RunFault) (kept : List Kept) (old new : Option (List DepotCall))
       → AskedFor {T = U} (flat_map calls_for_store outs) (Err f) old new → Makes dirs (found_in result) kept old new
-  makes_broken result n h f kept old new asked = broken result n h (Err f) kept old new asked (λ due none. none_counted asked.made asked.some none)
+  makes_broken result n h f kept old new asked = broken result n h (Err f) kept old new asked (λ none. absurd (none_counted asked.made asked.some none))
 
-  -- all was made
-  module _ (kept : List Kept) (old new : Option (List DepotCall)) (asked : AskedFor {T = Unit {0}} {E = RunFault} (flat_map calls_for_store outs) (Ok tt) old new) where
+  -- all was made; where that is nothing, nothing was kept
+  module _ (kept : List Kept) (unkept_as : dirs ≡ [] → kept ≡ []) (old new : Option (List DepotCall)) (asked : AskedFor {T = Unit {0}} {E = RunFault} (flat_map calls_for_store outs) (Ok tt) old new) where
     made_all : asked.made ≡ making dirs counts
     made_all = sym (append-nil asked.made) ∙ ap (λ xs. asked.made ++ xs) (sym asked.all) ∙ asked.first ∙ all_calls
 
-    not_none : dirs ≢ [] → asked.made ≡ [] → ⊥
-    not_none due none = making_some dirs counts as_many due (sym made_all ∙ none)
+    none_kept : asked.made ≡ [] → kept ≡ []
+    none_kept none = unkept_as (making_none dirs counts as_many (sym made_all ∙ none))
 
     pub makes_all : Makes dirs None kept old new
     makes_all = record {
@@ -160,11 +166,11 @@ module _ (outs : List StorePart) (dirs : List (List ℕ)) (dirs_are : map (λ ou
       first = (asked.left, sym all_calls ∙ sym asked.first);
       none = λ never. absurd (never tt);
       whole = λ _. made_all;
-      unkept = λ met due none. absurd (not_none due none);
+      unkept = λ met none. none_kept none;
     }
 
     pub makes_untold : {T : Type 0} (result : Result T RunFault) → MatchResult result (λ _. ⊥) (λ f. f ≡ fault.OutOfMemory) → Makes dirs (found_in result) kept old new
-    makes_untold result h = broken {U = Unit {0}} result 0 (weaker result h) (Ok tt) kept old new asked not_none
+    makes_untold result h = broken {U = Unit {0}} result 0 (weaker result h) (Ok tt) kept old new asked none_kept
       where
         weaker : {T : Type 0} (r : Result T RunFault) → MatchResult r (λ _. ⊥) (λ f. f ≡ fault.OutOfMemory) → MatchResult r (λ _. ⊥) (IsCommitFault 0)
         weaker (Ok x) h = h
@@ -194,8 +200,8 @@ orderly_made p answer kept old mid new looks makes = record {
 }
 
 -- nothing was asked
-idle : {T : Type 0} (result : Result T RunFault) (kept : List Kept) (old new : Option (List DepotCall)) → new ≡ old → Makes [] (found_in result) kept old new
-idle result kept old new same = record {
+idle : {T : Type 0} (result : Result T RunFault) (kept : List Kept) → kept ≡ [] → (old new : Option (List DepotCall)) → new ≡ old → Makes [] (found_in result) kept old new
+idle result kept quiet old new same = record {
   parts = [];
   each = refl;
   made = [];
@@ -203,11 +209,11 @@ idle result kept old new same = record {
   first = ([], refl);
   none = λ _. refl;
   whole = λ _. refl;
-  unkept = λ met due none. absurd (due refl);
+  unkept = λ met none. quiet;
 }
 
-pub orderly_idle : {T : Type 0} (result : Result T RunFault) (kept : List Kept) (old new : Option (List DepotCall)) → new ≡ old → IsOrderlyBehind (found_in result) kept old new
-orderly_idle result kept old new same = record { inputs = []; outputs = []; looked = old; asked = asked_nothing old old refl; makes = idle result kept old new same }
+pub orderly_idle : {T : Type 0} (result : Result T RunFault) (kept : List Kept) → kept ≡ [] → (old new : Option (List DepotCall)) → new ≡ old → IsOrderlyBehind (found_in result) kept old new
+orderly_idle result kept quiet old new same = record { inputs = []; outputs = []; looked = old; asked = asked_nothing old old refl; makes = idle result kept quiet old new same }
 
 -- the script came before
 pub orderly_behind : (answer : Option RunFault) (kept : List Kept) (old mid new : Option (List DepotCall)) → AsksScript old mid → IsOrderlyBehind answer kept mid new → IsOrderly answer kept old new
@@ -253,7 +259,7 @@ makes_shown text old new found final shown dirs kept before after m = record {
   first = m.first;
   none = none_made found final shown m.none;
   whole = all_made found final shown m.whole;
-  unkept = λ met due none. unkept_shown text old new found final shown kept (λ other. m.unkept other due none) met;
+  unkept = λ met none. unkept_shown text old new found final shown kept (λ other. m.unkept other none) met;
 }
   where
     none_made : (found final : Option RunFault) → Shown text old new found final → (¬ MayMake found → m.made ≡ []) → ¬ MayMake final → m.made ≡ []

@@ -1,6 +1,6 @@
 -- The order of all that a depot was asked, whether or not it tells what is on its shelf: the script, inputs, outputs, and then the making
 -- of directories that were looked for.
-use Rattle.std.specs.Prelude.{◌≡◌, ◌≢◌, ◌≤◌, ◌++◌, ℕ, false, List, [], length, map, Option, Some, None, Result, IfOk}
+use Rattle.std.specs.Prelude.{◌≡◌, ◌≤◌, ◌++◌, ℕ, false, List, [], length, map, Option, Some, None, Result, IfOk}
 use Rattle.pig_value.specs.declared.outcomes.Kept.{Kept}
 use Rattle.pig_outside.specs.Calls.{DepotCall}
 use Rattle.pig_outside.specs.declared.failing.Method.{Method}
@@ -32,8 +32,8 @@ MayMake None = Unit {0}
 MayMake (Some found) = IsBehindMaking (cause_of found)
 
 -- The calls that make these directories, each with some number of parts, whole and in their order, or the first of these calls; none with
--- an answer with which nothing is made, and all of them where the answer is that all was done. Where some were due and none was asked for,
--- nothing that was kept is answered, but with an ASSERT that is not met.
+-- an answer with which nothing is made, and all of them where the answer is that all was done. Where none was asked for, nothing that was
+-- kept is answered, but with an ASSERT that is not met.
 pub record Makes (dirs : List (List ℕ)) (answer : Option RunFault) (kept : List Kept) (old new : Option (List DepotCall)) : Type 0 where
   pub parts : List ℕ
   pub each : length parts ≡ length dirs
@@ -42,7 +42,7 @@ pub record Makes (dirs : List (List ℕ)) (answer : Option RunFault) (kept : Lis
   pub first : IsPrefix made (making dirs parts)
   pub none : ¬ MayMake answer → made ≡ []
   pub whole : answer ≡ None → made ≡ making dirs parts
-  pub unkept : is_unmet answer ≡ false → dirs ≢ [] → made ≡ [] → kept ≡ []
+  pub unkept : is_unmet answer ≡ false → made ≡ [] → kept ≡ []
 
 -- A depot is asked for one script at most, then for inputs, then for outputs, and only then are directories made, of the outputs that were
 -- looked for. `looked` are its calls when all was looked for.

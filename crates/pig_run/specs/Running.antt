@@ -74,11 +74,12 @@ WavesEnd limit s ends (fault.TaskFailed wave task failed) = IsGivenUp limit s en
 WavesEnd limit s ends fault.OutOfMemory = HaveWon s ends
 WavesEnd limit s ends found = ⊥
 
--- all waves were won, and this is what they give to store
+-- all waves were won, and this is what they give to store; where there is nothing to store, nothing was kept
 pub record HasFound (s : Stages) (limit : ℕ) (tellings : Tellings) (stores_are : List Store) (outs : List StorePart) (progress : Progress) : Type 0 where
   pub won : AreWon s progress.ends (length (heads s.plan))
   pub laid : AreLaid s stores_are outs
   pub gives : GivesAll s limit tellings progress.kept outs progress.read progress.shuffled None
+  pub unkept : stores_are ≡ [] → progress.kept ≡ []
   pub stands : progress.stands ≡ false
   pub silent : progress.said.items ≡ []
 

@@ -10,7 +10,7 @@ ghost use Rattle.pig_words.specs.CommandWords.{IsCount};
 ghost use Rattle.pig_run.specs.Blame.{CommitsEach};
 ghost use Rattle.pig_run.specs.Demonstration.{demo_answer, demo_text, script_run, visits_of};
 ghost use Rattle.pig_run.specs.OwnRun.{DemoEnd, IsDemoFault};
-ghost use Rattle.pig_run.specs.Running.{IsFresh, IsUsable, counts_in, found_in};
+ghost use Rattle.pig_run.specs.Running.{IsFresh, IsUsable, counts_in, found_in, kept_in};
 ghost use Rattle.pig_run.specs.declared.outcome.RunFault.TheVariants as fault;
 
 use crate::progress::Progress;
@@ -91,6 +91,7 @@ pub fn demonstrate<R: Threads + Sync>(
     ensures fault { IfErr result IsDemoFault }
     ensures none_failed { sum_by failures_in progress.new.ends ≡ 0 }
     ensures committed { CommitsEach (found_in result) progress.new.ends }
+    ensures kept { kept_in progress.new ≡ [] }
 {
     a_script_has_one_plan();
     let visits = visits_of(command);
@@ -98,6 +99,11 @@ pub fn demonstrate<R: Threads + Sync>(
     let mut hosts = own_hosts(alloc, visits, command.workers)?;
     let run = script_run(alloc, command)?;
     let end = run_script(rt, alloc, &mut depot, hosts.as_mut_slice(), run, progress);
+    if !progress.kept.is_empty() {
+        // The script has no bare LIMIT, so this is never so.
+        *progress = Progress::new(alloc);
+        return Err(RunFault::OutOfMemory);
+    }
     progress.said = Vec::new(alloc);
     match end {
         Ok(_) => print_top(alloc, &depot, progress),

@@ -14,7 +14,7 @@ use Rattle.pig_run.proofs.Crews.{hosts_idle, hosts_rested, hosts_worked, told_ar
 use Rattle.pig_run.proofs.Deciding.{names_script, no_demo, same_command, some_due}
 use Rattle.pig_run.proofs.DemoSteps.{demo_blame, demo_cause, demo_unread, fewer_hosts, later_fault}
 use Rattle.pig_run.proofs.Ending.{end_behind, told_stopped}
-use Rattle.pig_run.proofs.Ordering.{orderly_behind, orderly_idle}
+use Rattle.pig_run.proofs.Ordering.{fresh_kept, orderly_behind, orderly_idle}
 use Rattle.pig_run.proofs.Readings.{PlanLaws}
 use Rattle.pig_run.proofs.Stages.{asked_nothing}
 use Rattle.pig_run.proofs.Telling.{end_told}
@@ -77,7 +77,7 @@ pub returns-in_err-command-clause-asked : goal.returns-in_err-command-clause-ask
 returns-in_err-command-clause-asked g c =
     let now = g.D.Depot.calls c.args.depot.now in
     let none : AsksScript (g.D.Depot.calls c.args.depot.now) (g.D.Depot.calls c.args.depot.now) = record { scripts = []; one = omega arith; asked = asked_nothing now now refl } in
-    orderly_behind (found_in c.from_residual.result) _ now now now none (orderly_idle c.from_residual.result _ now now refl)
+    orderly_behind (found_in c.from_residual.result) _ now now now none (orderly_idle c.from_residual.result _ (fresh_kept c.args.progress.now c.requires.fresh) now now refl)
 
 -- ---- a demonstration
 
@@ -118,7 +118,7 @@ pub returns-in-Demo-clause-asked : goal.returns-in-Demo-clause-asked
 returns-in-Demo-clause-asked g c =
     let now = g.D.Depot.calls c.args.depot.now in
     let none : AsksScript (g.D.Depot.calls c.args.depot.now) (g.D.Depot.calls c.args.depot.now) = record { scripts = []; one = omega arith; asked = asked_nothing now now refl } in
-    orderly_behind (found_in c.demonstrate.result) _ now now now none (orderly_idle c.demonstrate.result _ now now refl)
+    orderly_behind (found_in c.demonstrate.result) _ now now now none (orderly_idle c.demonstrate.result _ c.demonstrate.ensures.kept now now refl)
 
 -- ---- a script
 

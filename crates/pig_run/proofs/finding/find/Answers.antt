@@ -18,6 +18,7 @@ use Rattle.pig_run.specs.Running.{EndsFinding, HasFailedAssert, WavesEnd, found_
 use Rattle.pig_run.proofs.Crews.{assert_no_task, memory_fault, won_all, worked_on}
 use Rattle.pig_run.proofs.Ending.{assert_ends, assert_keeps, waves_ends}
 use Rattle.pig_run.proofs.Given.{given_all, told_same, unmet_all}
+use Rattle.pig_run.proofs.Unstored.{unstored_keeps_none}
 use Rattle.pig_run.proofs.finding.find.Goals as goal
 
 pub collect-requires-clause-parts : goal.collect-requires-clause-parts
@@ -115,6 +116,7 @@ returns-in-None-clause-told g c =
           c.requires.reducers.0 c.requires.split tellings over.whole over.run found.kept (told.kept found.kept c.in_ok-collected.ensures.kept)
           c.args.stores.now c.requires.stores others found.parts (c.in_ok-collected.ensures.parts ∙ ap (λ given. map given (stores s.plan)) told.parts) c.args.limit found.read
           c.in_ok-ran.ran.shuffled None (c.in_ok-collected.ensures.read ∙ ap (λ n. n % 2 ^ 64) told.read) over.count (none ∙ ap least told.unmet);
+      unkept = λ nothing. unstored_keeps_none (staged c.args.stages.now).plan (outs_of c.in_ok-ran.ran.outs) found.kept c.in_ok-collected.ensures.kept (sym c.requires.stores ∙ nothing);
       stands = c.requires.fresh.stands;
       silent = c.requires.fresh.said;
     }

@@ -18,7 +18,7 @@ use Rattle.pig_run.specs.Told.{TellsInputs}
 use Rattle.pig_run.proofs.Crews.{commit_fault, memory_fault, won_all, worked_on}
 use Rattle.pig_run.proofs.Ending.{all_tell, quiet_kept, told_broken, told_bytes, told_done, told_unfound, told_untold, told_wanting}
 use Rattle.pig_run.proofs.Laying.{are_absent, are_apart_all}
-use Rattle.pig_run.proofs.Ordering.{makes_all, makes_broken, makes_none, makes_untold, unkept_end}
+use Rattle.pig_run.proofs.Ordering.{makes_all, makes_broken, makes_none, makes_untold, no_stores, unkept_end}
 use Rattle.pig_run.proofs.Wording.{later_commit, later_ends}
 use Rattle.pig_run.proofs.running.carry_out.Goals as goal
 
@@ -183,10 +183,12 @@ returns-in_err-store_all-clause-asked g c =
 pub returns-in_err-text-clause-asked : goal.returns-in_err-text-clause-asked
 returns-in_err-text-clause-asked g c =
     let is : MatchResult c.from_residual-in_err-text.result (λ _. ⊥) (λ f. f ≡ fault.OutOfMemory) = search rules in
-    makes_untold c.in_ok-parts.parts (map (λ store. store.dir) c.args.prepared.now.stores) c.in_ok-parts.ensures.told.laid.dirs _ (g.D.Depot.calls c.args.depot.now) (g.D.Depot.calls c.store_all.new.depot)
+    makes_untold c.in_ok-parts.parts (map (λ store. store.dir) c.args.prepared.now.stores) c.in_ok-parts.ensures.told.laid.dirs _
+    (λ none. c.in_ok-parts.ensures.told.unkept (no_stores c.args.prepared.now.stores none)) (g.D.Depot.calls c.args.depot.now) (g.D.Depot.calls c.store_all.new.depot)
     c.in_ok-store_all.ensures.asked c.from_residual-in_err-text.result is
 
 pub returns-clause-asked : goal.returns-clause-asked
 returns-clause-asked g c =
-    makes_all c.in_ok-parts.parts (map (λ store. store.dir) c.args.prepared.now.stores) c.in_ok-parts.ensures.told.laid.dirs _ (g.D.Depot.calls c.args.depot.now) (g.D.Depot.calls c.store_all.new.depot)
+    makes_all c.in_ok-parts.parts (map (λ store. store.dir) c.args.prepared.now.stores) c.in_ok-parts.ensures.told.laid.dirs _
+    (λ none. c.in_ok-parts.ensures.told.unkept (no_stores c.args.prepared.now.stores none)) (g.D.Depot.calls c.args.depot.now) (g.D.Depot.calls c.store_all.new.depot)
     c.in_ok-store_all.ensures.asked

@@ -10,7 +10,7 @@ use Rattle.pig_run.specs.Told.{CrewTells}
 use Rattle.pig_run.proofs.Crews.{crew_idle, memory_fault}
 use Rattle.pig_run.proofs.Deciding.{some_command_due}
 use Rattle.pig_run.proofs.Ending.{end_behind, told_shown, told_stopped}
-use Rattle.pig_run.proofs.Ordering.{orderly_idle}
+use Rattle.pig_run.proofs.Ordering.{fresh_kept, orderly_idle}
 use Rattle.pig_run.proofs.Stages.{wants}
 use Rattle.pig_run.proofs.Wording.{run_passes}
 use Rattle.pig_run.proofs.running.obey.Goals as goal
@@ -49,7 +49,7 @@ returns-in-Check-clause-worked g c =
     (memory_fault c.print_check.result (MatchResult-weaker c.print_check.result c.print_check.ensures (λ text same. tt) (λ f is. is)))
 
 pub returns-in-Check-clause-asked : goal.returns-in-Check-clause-asked
-returns-in-Check-clause-asked g c = orderly_idle c.print_check.result _ (g.D.Depot.calls c.args.depot.now) (g.D.Depot.calls c.args.depot.now) refl
+returns-in-Check-clause-asked g c = orderly_idle c.print_check.result _ (fresh_kept c.args.progress.now c.requires.fresh) (g.D.Depot.calls c.args.depot.now) (g.D.Depot.calls c.args.depot.now) refl
 
 pub returns-in-Explain-clause-told : goal.returns-in-Explain-clause-told
 returns-in-Explain-clause-told g c s told =
@@ -70,4 +70,4 @@ returns-in-Explain-clause-worked g c =
     (memory_fault c.print_explain.result (MatchResult-weaker c.print_explain.result c.print_explain.ensures (λ text same. tt) (λ f is. is)))
 
 pub returns-in-Explain-clause-asked : goal.returns-in-Explain-clause-asked
-returns-in-Explain-clause-asked g c = orderly_idle c.print_explain.result _ (g.D.Depot.calls c.args.depot.now) (g.D.Depot.calls c.args.depot.now) refl
+returns-in-Explain-clause-asked g c = orderly_idle c.print_explain.result _ (fresh_kept c.args.progress.now c.requires.fresh) (g.D.Depot.calls c.args.depot.now) (g.D.Depot.calls c.args.depot.now) refl

@@ -9,7 +9,7 @@ use Rattle.pig_run.specs.Told.{CrewTells}
 use Rattle.pig_run.proofs.Crews.{crew_idle, plan_fault}
 use Rattle.pig_run.proofs.Deciding.{some_command_due, some_script}
 use Rattle.pig_run.proofs.Ending.{end_behind, told_stopped}
-use Rattle.pig_run.proofs.Ordering.{orderly_behind, orderly_idle}
+use Rattle.pig_run.proofs.Ordering.{fresh_kept, orderly_behind, orderly_idle}
 use Rattle.pig_run.proofs.Readings.{PlanLaws}
 use Rattle.pig_run.proofs.Wording.{later_plan}
 use Rattle.pig_run.proofs.running.run_script.Goals as goal
@@ -65,7 +65,7 @@ pub returns-in_err-checked-clause-asked : goal.returns-in_err-checked-clause-ask
 returns-in_err-checked-clause-asked g c =
     let new = g.D.Depot.calls c.load_script.new.depot in
     let script : AsksScript (g.D.Depot.calls c.args.depot.now) (g.D.Depot.calls c.load_script.new.depot) = record { scripts = c.args.command.operand ∷ []; one = omega arith; asked = c.load_script.ensures.asked } in
-    orderly_behind (found_in c.from_residual.result) _ (g.D.Depot.calls c.args.depot.now) new new script (orderly_idle c.from_residual.result _ new new refl)
+    orderly_behind (found_in c.from_residual.result) _ (g.D.Depot.calls c.args.depot.now) new new script (orderly_idle c.from_residual.result _ (fresh_kept c.args.progress.now c.requires.fresh) new new refl)
 
 pub returns-clause-asked : goal.returns-clause-asked
 returns-clause-asked g c =
