@@ -1,13 +1,13 @@
 -- Where a script stores nothing, no node of its plan is live, so nothing was kept.
 use Rattle.std.specs.Prelude.{◌≡◌, ◌+◌, ◌&&◌, ◌||◌, ℕ, Bool, true, false, List, [], ◌∷◌, drop, length, map, Option, Some, None, slice_get, refl}
 use Rattle.std.proofs.Common.{ap, ◌∙◌, sym}
-use Rattle.std.specs.List.{AllByRecursion, filter, filter_map, range_with_len}
-use Rattle.std.specs.Option.{cons_option, option_map_or}
+use Rattle.std.specs.List.{AllByRecursion, cons_option, filter, filter_map, range_with_len}
+use Rattle.std.specs.Option.{option_map_or}
 use Rattle.pig_value.proofs.list_laws.Listing.{each-drop, each_at, each_of_all, filter_none}
 use Rattle.pig_value.specs.declared.outcomes.Kept.{Kept}
 use Rattle.pig_plan.specs.Nodes.{bare_limits, is_bare, is_live, is_sorted, is_store, is_used, live, names}
 use Rattle.pig_plan.specs.Plans.{Plan, PlanNode, PlanOp, p_load, p_filter, p_foreach, p_group_all, p_group, p_join, p_union, p_distinct, p_order, p_limit, p_store, p_assert, p_rank}
-use Rattle.pig_physical.specs.Handed.{Outs}
+use Rattle.pig_physical.specs.Outs.{Outs}
 use Rattle.pig_physical.specs.Running.{AreOutputs}
 use Rattle.pig_reach.specs.Reach.{store_of, stores_of}
 use Rattle.pig_reach.specs.declared.storing.Store.{Store}
@@ -32,11 +32,12 @@ store_told (p_rank input keys dense) statement none = refl
 
 none_store : (plan : Plan) → stores_of plan ≡ [] → AllByRecursion StoresNothing plan
 none_store [] none = tt
-none_store (node ∷ plan) none = by_first (store_of node) refl none
+none_store (node ∷ plan) none = by_first (store_of node) refl none (none_store plan)
   where
-    by_first : (found : Option Store) → store_of node ≡ found → cons_option found (stores_of plan) ≡ [] → AllByRecursion StoresNothing (node ∷ plan)
-    by_first None is rest = (store_told node.op node.statement is, none_store plan rest)
-    by_first (Some store) is rest = absurd (cc)
+    by_first : (found : Option Store) → store_of node ≡ found → cons_option found (stores_of plan) ≡ [] → (stores_of plan ≡ [] → AllByRecursion StoresNothing plan)
+        → AllByRecursion StoresNothing (node ∷ plan)
+    by_first None is rest more = (store_told node.op node.statement is, more rest)
+    by_first (Some store) is rest more = absurd (cc)
 
 never : (b : Bool) → ((b && false) || false) ≡ false
 never true = refl

@@ -6,7 +6,7 @@ use Rattle.pig_run.specs.Running.{counts_in}
 use Rattle.pig_run.specs.Told.{TellsOf}
 use Rattle.pig_run.specs.declared.outcome.RunFault.TheVariants as fault
 use Rattle.pig_run.specs.declared.progress.Progress.{Progress}
-use Rattle.pig_run.proofs.DemoSteps.{demo_unmade, hosts_tell_of, made_done, made_ended, made_none_failed}
+use Rattle.pig_run.proofs.DemoSteps.{demo_unbegun, demo_unmade, hosts_tell_of, made_done, made_ended, made_none_failed}
 use Rattle.pig_run.proofs.Readings.{PlanLaws}
 use Rattle.pig_run.proofs.demonstrating.demonstrate.Goals as goal
 
@@ -36,6 +36,12 @@ run_script-end-requires-clause-tells g c κs within =
     let slice : c.as_mut_slice.result.now ≡ c.in_ok-hosts.hosts.items = search rules in
     subst (λ hosts. AllByRecursion (TellsOf (told_shelf c.in_ok-depot.depot)) (map told_inputs hosts)) (sym slice)
     (hosts_tell_of (depot_shelf c.in_ok-depot.depot) c.visits_of-visits.result c.in_ok-depot.ensures.shelf c.in_ok-hosts.hosts.items c.in_ok-hosts.ensures.inputs)
+
+pub returns-then-not-is_empty-clause-told : goal.returns-then-not-is_empty-clause-told
+returns-then-not-is_empty-clause-told g c =
+    let law = c.a_script_has_one_plan.ensures in
+    let laws : PlanLaws = record { one = law.one; some = law.some; never_both = law.never_both; one_statement = law.one_statement } in
+    demo_unbegun laws c.args.command.now c.new-then-not-is_empty.result c.new-then-not-is_empty.ensures fault.OutOfMemory refl
 
 pub returns-in-Ok-clause-told : goal.returns-in-Ok-clause-told
 returns-in-Ok-clause-told g c =
