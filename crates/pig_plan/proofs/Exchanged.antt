@@ -6,7 +6,7 @@ use Rattle.std.specs.List.{AllByRecursion, flat_map, list_all, list_any}
 use Rattle.std.specs.Option.{is_some, option_and_then, option_map, unwrap_or}
 use Rattle.std.proofs.lemmas.Bool.{eq-eqb, eqb-true}
 use Rattle.std.proofs.lemmas.List.{length-append, length-map, map-set, take-map}
-use Rattle.std.proofs.lemmas.Option.{slice_get_within}
+use Rattle.std.proofs.lemmas.Option.{none-some, slice_get_within}
 use Rattle.pig_value.proofs.list_laws.Bags.{either_way}
 use Rattle.pig_value.proofs.list_laws.Indexing.{some_at}
 use Rattle.pig_value.proofs.list_laws.Listing.{each_weaker, some_same}
@@ -14,12 +14,12 @@ use Rattle.pig_value.specs.declared.values.Kind.{Kind}
 use Rattle.pig_value.specs.FieldReader.{all_of}
 use Rattle.pig_value.specs.Kinds.{kinds_eq}
 use Rattle.pig_value.specs.Trees.{kind_tree, kinds_list, kinds_of}
-use Rattle.pig_value.proofs.KindLaws.{kinds_same}
+use Rattle.pig_value.proofs.KindLaws.{kinds_itself, kinds_same}
 use Rattle.pig_value.proofs.TreeLaws.{kinds_back}
 use Rattle.std.specs.declared.alloc.AllocError.{AllocError}
 use Rattle.pig_value.specs.Valid.{IsValue}
 use Rattle.pig_value.specs.declared.operators.Side.{Side}
-use Rattle.pig_plan.specs.Exchanged.{GivesThere, IsGivenFor, MayStand, may_be_twin}
+use Rattle.pig_plan.specs.Exchanged.{GivesThere, IsGivenFor, MayBeGiven, MayExchange, MayStand, StillGives, may_be_twin}
 use Rattle.pig_plan.specs.Given.{before_of, kinds_of_given}
 use Rattle.pig_plan.specs.Laws.{OpLiteralsAre, PlanLiteralsAre}
 use Rattle.pig_plan.specs.NodeKinds.{Before, KeyedKinds, NodeGives, RowKinds, all_keyed, foreach_gives, group_all_gives, group_kinds, is_join, keyed_kinds, keys_agree, kinds_at, kinds_step, kinds_table, node_gives, only_if, order_gives, rank_gives, same_gives, store_gives, tested_gives, union_kinds}
@@ -334,6 +334,35 @@ rows_same b g kinds found is told same =
     ∙ ap kinds_list (sym (kinds_same (kinds_of (map kind_tree kinds)) (kinds_of (map kind_tree found)) (sym told ∙ same)))
     ∙ kinds_back (map kind_tree kinds))
 
+pub rows_differ : (b : Bool) (g : Given) (kinds found : List Kind) → g ≡ given.Rows found → b ≡ kinds_eq (kinds_of (map kind_tree kinds)) (kinds_of (map kind_tree found)) → b ≡ false
+    → kinds_of_given g ≡ Some (map kind_tree kinds) → ⊥
+rows_differ b g kinds found is told differ same =
+    let rows : map kind_tree found ≡ map kind_tree kinds = some_same (map kind_tree found) (map kind_tree kinds) (sym (ap kinds_of_given is) ∙ same) in
+    true≢false (sym (kinds_itself (kinds_of (map kind_tree kinds))) ∙ ap (λ ks. kinds_eq (kinds_of (map kind_tree kinds)) (kinds_of ks)) (sym rows) ∙ sym told ∙ differ)
+
+-- What may be given there is given: the lower one gives, and over what it gives so does the upper one.
+module _ (old : List Given) (low high : ℕ) (lower upper : PlanOp) (may : MayBeGiven old low lower high upper) where
+  pub no_lower : None ≡ node_gives (before_of (take low old)) lower → ⊥
+  no_lower e = none-some may.row (e ∙ may.lower_gives)
+
+  abbrev kinds : List (Option RowKinds)
+  kinds = map kinds_of_given old
+
+  pub gives_upper : (first : Given) → Some (kinds_of_given first) ≡ node_gives (before_of (take low old)) lower → GivesThere (slice_set old low first) high upper
+  gives_upper first told =
+      let row : kinds_of_given first ≡ may.row = some_same (kinds_of_given first) may.row (told ∙ may.lower_gives) in
+      let set : map kinds_of_given (slice_set old low first) ≡ slice_set kinds low may.row = map-set kinds_of_given old low first ∙ ap (slice_set kinds low) row in
+      let below = may.below in
+      ap (λ t. node_gives (at_place None t) upper) (sym (take-map kinds_of_given high (slice_set old low first)) ∙ ap (take high) set)
+      ∙ may.upper_gives
+      ∙ ap (λ o. Some (unwrap_or o None)) (sym (set_other kinds low high may.row (λ e. omega (arith, below, e))) ∙ ap (λ t. slice_get t high) (sym set))
+
+pub none_given : (old : List Given) (low high : ℕ) (lower upper : PlanOp) (first : Given) (r : Result Bool AllocError)
+    → Some (kinds_of_given first) ≡ node_gives (before_of (take low old)) lower → IfOk r (λ done. done ≡ false → GivesThere (slice_set old low first) high upper → ⊥)
+    → IfOk r (λ done. done ≡ false → MayBeGiven old low lower high upper → ⊥)
+none_given old low high lower upper first (Ok b) told refused = λ no may. refused no (gives_upper old low high lower upper may first told)
+none_given old low high lower upper first (Err e) told refused = tt
+
 module _ (old new : List Given) (low high : ℕ) (lower upper : PlanOp) (first : Given) (below : low < high) (within : high < length old)
     (told : Some (kinds_of_given first) ≡ node_gives (before_of (take low old)) lower) where
   gives_first : new ≡ slice_set old low first → GivesThere new low lower
@@ -426,3 +455,22 @@ module _ (nodes made : List Node) (old new : List Given) (latest low high : ℕ)
         (each_set (λ node. node.statement ≤ latest) (slice_set plan low (node_of lower)) high (node_of upper) upper_may.no_later
         (each_set (λ node. node.statement ≤ latest) plan low (node_of lower) lower_may.no_later holds.3)),
   )
+
+-- what may stand in a plan may be given for what is kept beside its nodes
+pub may_be_given : (nodes : List Node) (old : List Given) (low high : ℕ) (lower upper : PlanNode) → map kinds_of_given old ≡ kinds_table (plan_of nodes)
+    → MayExchange (plan_of nodes) low lower high upper → MayBeGiven old low lower.op high upper.op
+may_be_given nodes old low high lower upper table_is may = record {
+  below = may.below;
+  within =
+      (let size : length (map kinds_of_given old) ≡ length (kinds_table (plan_of nodes)) = ap (λ t. length t) table_is in
+      let mapped = length-map old kinds_of_given in
+      let whole = length-results kinds_step None (plan_of nodes) in
+      let inside = may.within in
+      omega (arith, size, mapped, whole, inside));
+  row = may.row;
+  lower_gives =
+      ap (λ t. node_gives (at_place None t) lower.op)
+      (sym (take-map kinds_of_given low old) ∙ ap (take low) table_is ∙ sym (results_take kinds_step None (plan_of nodes) low))
+      ∙ may.lower_gives;
+  upper_gives = subst (λ t. StillGives t low may.row high upper.op) (sym table_is) may.upper_gives;
+}

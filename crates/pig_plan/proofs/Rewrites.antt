@@ -1,6 +1,6 @@
 -- A plan means the same as itself, both ways and onwards; and that live nodes stay the same is shown node by node.
 use Rattle.std.specs.Prelude.{◌≡◌, ◌<◌, ◌≤◌, ℕ, zero, suc, Bool, true, false, List, Some, slice_get}
-use Rattle.std.proofs.Common.{arith, subst}
+use Rattle.std.proofs.Common.{arith}
 use Rattle.pig_value.specs.declared.inputs.Input.{Input}
 use Rattle.pig_value.specs.declared.outcomes.Kept.{Kept}
 use Rattle.pig_value.proofs.list_laws.Indexing.{some_at}
@@ -9,7 +9,7 @@ use Rattle.pig_plan.specs.Meaning.{IsKept}
 use Rattle.pig_plan.specs.Nodes.{is_live}
 use Rattle.pig_plan.specs.Plans.{Plan, PlanNode}
 use Rattle.pig_plan.specs.Renumbered.{IsSame}
-use Rattle.pig_plan.specs.Rewrites.{Fails, FailsBy, Goes, IsReached, SameMeaning, Stores}
+use Rattle.pig_plan.specs.Rewrites.{Fails, FailsBy, Goes, SameMeaning, Stores}
 
 pub same_itself : (p : Plan) → SameMeaning p p
 same_itself p = record {
@@ -46,9 +46,6 @@ same_on p q r a b = record {
   goes = λ inputs kept h. goes_on p q r inputs kept (a.goes inputs kept h) (b.goes inputs kept (a.kept_on inputs kept h));
   comes = λ inputs kept h. goes_on r q p inputs kept (b.comes inputs kept h) (a.comes inputs kept (b.kept_back inputs kept h));
 }
-
-pub reached_same : (checked cut : Plan) → IsReached checked cut → SameMeaning checked cut
-reached_same checked cut e = subst (SameMeaning checked) e (same_itself checked)
 
 -- Each live node that is not gone stays the same, where a node does whose earlier ones do.
 module _ (p q : Plan) (at : ℕ → ℕ) (inputs : List Input) (kept : List Kept) (gone : ℕ → Bool) where

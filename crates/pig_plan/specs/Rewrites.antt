@@ -45,10 +45,3 @@ pub record SameMeaning (p q : Plan) : Type 0 where
   pub kept_back : (inputs : List Input) (kept : List Kept) → IsKept q inputs kept → IsKept p inputs kept
   pub goes : (inputs : List Input) (kept : List Kept) → IsKept p inputs kept → Goes p q inputs kept
   pub comes : (inputs : List Input) (kept : List Kept) → IsKept q inputs kept → Goes q p inputs kept
-
--- The plan that is cut into stages is reached from the checked one by rewrites; as yet there are none.
-abbrev pub IsReached : Plan → Plan → Type 0
-IsReached checked cut = checked ≡ cut
-
-abbrev pub ReachedPlansMeanTheSame : Type 0
-ReachedPlansMeanTheSame = (checked cut : Plan) → IsReached checked cut → SameMeaning checked cut

@@ -1,7 +1,7 @@
 ghost use Rattle.std.specs.Prelude.{◌≡◌, ◌<◌, IfOk, OnErr, Some, true, false, length, map, slice_set, take};
 ghost use Rattle.std.specs.Option.{option_map};
 ghost use Rattle.pig_value.specs.Trees.{kind_tree};
-ghost use Rattle.pig_plan.specs.Exchanged.{GivesThere, IsGivenFor, MayStand, may_be_twin};
+ghost use Rattle.pig_plan.specs.Exchanged.{GivesThere, IsGivenFor, MayBeGiven, MayStand, may_be_twin};
 ghost use Rattle.pig_plan.specs.Given.{before_of, kinds_of_given};
 ghost use Rattle.pig_plan.specs.NodeKinds.{node_gives};
 ghost use Rattle.pig_plan.specs.Plans.{node_of, op_of};
@@ -16,7 +16,8 @@ use std::mem;
 /// Whether the node may stand at any place among nodes of which none has a later statement than
 /// `latest`, where it does as to its inputs and kinds: so it is where it can be no twin.
 pub fn may_stand(node: &Node, latest: u32) -> bool
-    ensures { result ≡ true → MayStand latest (node_of node.now) }
+    ensures yes { result ≡ true → MayStand latest (node_of node.now) }
+    ensures no { result ≡ false → MayStand latest (node_of node.now) → ⊥ }
 {
     !op_writes_line_end(&node.op) && !may_be_twin(&node.op) && node.statement <= latest
 }
@@ -40,6 +41,8 @@ pub fn exchange_given(
     ensures yes { IfOk result (λ done. done ≡ true
         → IsGivenFor given.old.items given.new.items low (op_of lower.now) high (op_of upper.now)) }
     ensures no { IfOk result (λ done. done ≡ false → given.new.items ≡ given.old.items) }
+    ensures refused { IfOk result (λ done. done ≡ false
+        → MayBeGiven given.old.items low (op_of lower.now) high (op_of upper.now) → ⊥) }
     ensures err { OnErr result (given.new.items ≡ given.old.items) }
 {
     if high <= low || given.len() <= high as usize {
@@ -81,6 +84,8 @@ fn put_where(
     ensures gives { IfOk result (λ done. done ≡ true
         → GivesThere given.new.items number (op_of op.now)) }
     ensures no { IfOk result (λ done. done ≡ false → given.new.items ≡ given.old.items) }
+    ensures refused { IfOk result (λ done. done ≡ false
+        → GivesThere (slice_set given.old.items place first) number (op_of op.now) → ⊥) }
     ensures err { OnErr result (given.new.items ≡ given.old.items) }
 {
     let before = mem::replace(&mut given[place as usize], first);
@@ -100,7 +105,8 @@ fn put_where(
 /// Whether an operator gives at a number what is given there.
 fn gives_there(alloc: Global, given: &[Given], number: u32, op: &NodeOp) -> Result<bool, AllocError>
     requires { number < length given.now }
-    ensures { IfOk result (λ b. b ≡ true → GivesThere given.now number (op_of op.now)) }
+    ensures yes { IfOk result (λ b. b ≡ true → GivesThere given.now number (op_of op.now)) }
+    ensures no { IfOk result (λ b. b ≡ false → GivesThere given.now number (op_of op.now) → ⊥) }
 {
     let Some(found) = given_at(alloc, given, number, op)? else {
         return Ok(false);
@@ -109,7 +115,8 @@ fn gives_there(alloc: Global, given: &[Given], number: u32, op: &NodeOp) -> Resu
 }
 
 fn are_same(a: &Given, b: &Given) -> bool
-    ensures { result ≡ true → kinds_of_given a.now ≡ kinds_of_given b.now }
+    ensures yes { result ≡ true → kinds_of_given a.now ≡ kinds_of_given b.now }
+    ensures no { result ≡ false → kinds_of_given a.now ≡ kinds_of_given b.now → ⊥ }
 {
     match a {
         Given::Rows(kinds) => are_rows_of(b, kinds),
@@ -119,7 +126,8 @@ fn are_same(a: &Given, b: &Given) -> bool
 
 /// Whether rows of these kinds are given.
 fn are_rows_of(given: &Given, kinds: &Kinds) -> bool
-    ensures { result ≡ true → kinds_of_given given.now ≡ Some (map kind_tree kinds.now) }
+    ensures yes { result ≡ true → kinds_of_given given.now ≡ Some (map kind_tree kinds.now) }
+    ensures no { result ≡ false → kinds_of_given given.now ≡ Some (map kind_tree kinds.now) → ⊥ }
 {
     match given {
         Given::Rows(found) => same_kinds(kinds.as_slice(), found.as_slice()),

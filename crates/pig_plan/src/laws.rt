@@ -2,7 +2,6 @@ ghost use Rattle.pig_plan.specs.Laws.{FurtherNodesChangeNone, MeaningGoesByNodes
 ghost use Rattle.pig_plan.specs.Laws.{FilterGoesByPieces, ForeachGoesByPieces, JoinGivesPairs, OrderGoesByCutPoints, UnionGoesByPieces};
 ghost use Rattle.pig_plan.specs.Laws.{OthersSeeBags, PartsGiveTheWhole, SortedNodesAreLists};
 ghost use Rattle.pig_plan.specs.Laws.{ConditionsGoByConjuncts, DistinctGoesByParts, KeptGoesByTasks, OperatorsGoByKey, PathsGiveTheNode, TakeGoesByTasks};
-ghost use Rattle.pig_plan.specs.Rewrites.{ReachedPlansMeanTheSame};
 
 /// The meaning of each node of a plan is its operator on the meanings of its inputs.
 pub fn meaning_goes_by_nodes()
@@ -87,9 +86,4 @@ pub fn meanings_are_of_kinds()
 /// A row passes a condition just where it passes each of its conjuncts.
 pub fn conditions_go_by_conjuncts()
     ensures { ConditionsGoByConjuncts }
-{}
-
-/// A plan that is reached from the checked one means what that one means.
-pub fn reached_plans_mean_the_same()
-    ensures { ReachedPlansMeanTheSame }
 {}

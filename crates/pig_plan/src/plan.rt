@@ -2,6 +2,7 @@ ghost use Rattle.std.specs.Prelude.{◌≡◌, [], ◌∷◌, ◌++◌, List, No
 ghost use Rattle.std.specs.List.{list_any};
 ghost use Rattle.std.specs.Option.{option_copied, option_map, unwrap_or};
 ghost use Rattle.pig_value.specs.Trees.{kind_tree};
+ghost use Rattle.pig_plan.specs.Exchanged.{MayExchange};
 ghost use Rattle.pig_plan.specs.Given.{before_of, kinds_of_given};
 ghost use Rattle.pig_plan.specs.NodeKinds.{kinds_at, node_gives};
 ghost use Rattle.pig_plan.specs.declared.given.Given.{Given};
@@ -127,8 +128,8 @@ impl Plan {
 
     /// Puts two nodes in the place of two others, of which the first is read by the second alone, where the second then
     /// gives what was given at its number: so the other nodes see what they saw, and what these two give is all that is
-    /// looked at. It answers whether they stand there. It puts no LIMIT and no ASSERT, no line end, and no statement
-    /// later than the others'. Where it puts none, or memory is wanting, the plan stays as it was.
+    /// looked at. It puts no LIMIT and no ASSERT, no line end, and no statement later than the others'. It answers true
+    /// where these hold, and else false: then, and where memory is wanting, the plan stays as it was.
     pub fn exchange(
         &mut self,
         low: u32,
@@ -140,11 +141,16 @@ impl Plan {
         ensures exchanged { IfOk result (λ done. done ≡ true
             → self.new ≡ slice_set (slice_set self.old low lower) high upper) }
         ensures kept { IfOk result (λ done. done ≡ false → self.new ≡ self.old) }
+        ensures refused { IfOk result (λ done. done ≡ false
+            → MayExchange (plan_of self.old) low (node_of lower) high (node_of upper) → ⊥) }
         ensures err { OnErr result (self.new ≡ self.old) }
     {
         know_literals(&lower.op);
         know_literals(&upper.op);
-        if !may_stand(&lower, self.latest) || !may_stand(&upper, self.latest) {
+        if !may_stand(&lower, self.latest) {
+            return Ok(false);
+        }
+        if !may_stand(&upper, self.latest) {
             return Ok(false);
         }
         let fit = exchange_given(self.alloc, &mut self.given, low, &lower.op, high, &upper.op)?;
