@@ -4,14 +4,17 @@ use Rattle.std.specs.Prelude.{OnOk, OnErr, Result, Ok, Err}
 use Rattle.std.specs.List.{AllByRecursion}
 use Rattle.std.proofs.Math.Logic.{∥∥₁_map₂}
 use Rattle.std.proofs.Math.Seq.{drop-append_seam, drop-append-add, take-append_seam}
-use Rattle.std.proofs.lemmas.List.{append-nil, length-append, length-drop, drop-append-le, take-append-le, map-append}
+use Rattle.std.proofs.lemmas.List.{append-nil, length-append, length-drop, length-take-le, drop-append-le, take-append-le, map-append}
 use Rattle.pig_value.specs.Gathering.{Entry}
 use Rattle.pig_value.specs.declared.operators.Dir.{Dir}
 use Rattle.pig_value.proofs.list_laws.Listing.{each-append, each_weaker}
 use Rattle.pig_runs.specs.declared.slots.Slot.{Slot}
 use Rattle.pig_runs.specs.Entries.{IsEntry, AreKeyed, InDirections, and_entries}
-use Rattle.pig_runs.specs.Fronts.{front}
+use Rattle.pig_runs.specs.Fronts.{front, side_of, untold}
 use Rattle.pig_runs.specs.Packed.{Packed, packed, part, found_at, row_at, slot_of, moved, IsPlaced, Held, held_prop}
+
+pub part_len : (bytes : List ℕ) (at len : ℕ) → at + len ≤ length bytes → length (part bytes at len) ≡ len
+part_len bytes at len within = length-take-le len (drop at bytes) (let left = length-drop at bytes in omega (arith, within, left))
 
 pub part_kept : (bytes more : List ℕ) (at len : ℕ) → at + len ≤ length bytes → part (bytes ++ more) at len ≡ part bytes at len
 part_kept bytes more at len h =
@@ -75,7 +78,8 @@ one_moved bytes more s h =
       within = record { key = omega (arith, h.within.key, longer); row = omega (arith, h.within.row, longer) };
       fronts = record {
         key = h.fronts.key ∙ ap front (sym (moved_part bytes more s.at s.key_len));
-        row = h.fronts.row ∙ ap front (sym (moved_row bytes more s));
+        side = h.fronts.side ∙ (λ i. side_of (sym (moved_part bytes more s.at s.key_len) i) (sym (moved_row bytes more s) i));
+        row = h.fronts.row ∙ ap (λ row. front (untold s.side s.key_len row)) (sym (moved_row bytes more s));
       };
     }
 
@@ -86,11 +90,14 @@ moved_placed bytes more (s ∷ slots) h = (one_moved bytes more s h.0, moved_pla
 one_kept : (bytes more : List ℕ) (s : Slot) → IsPlaced bytes s → IsPlaced (bytes ++ more) s
 one_kept bytes more s h =
     let longer = length-append bytes more in
+    let key = part_kept bytes more s.at s.key_len h.within.key in
+    let row = part_kept bytes more (row_at s) s.row_len h.within.row in
     record {
       within = record { key = omega (arith, h.within.key, longer); row = omega (arith, h.within.row, longer) };
       fronts = record {
-        key = h.fronts.key ∙ ap front (sym (part_kept bytes more s.at s.key_len h.within.key));
-        row = h.fronts.row ∙ ap front (sym (part_kept bytes more (row_at s) s.row_len h.within.row));
+        key = h.fronts.key ∙ ap front (sym key);
+        side = h.fronts.side ∙ (λ i. side_of (sym key i) (sym row i));
+        row = h.fronts.row ∙ ap (λ row. front (untold s.side s.key_len row)) (sym row);
       };
     }
 
@@ -103,7 +110,11 @@ new_placed bytes key row input =
     let inner = length-append key row in (
       record {
         within = record { key = omega (arith, outer, inner); row = omega (arith, outer, inner) };
-        fronts = record { key = ap front (sym (first_part bytes key row)); row = ap front (sym (second_part bytes key row)) };
+        fronts = record {
+          key = ap front (sym (first_part bytes key row));
+          side = λ i. side_of (sym (first_part bytes key row) i) (sym (second_part bytes key row) i);
+          row = ap (λ r. front (untold (side_of key row) (length key) r)) (sym (second_part bytes key row));
+        };
       },
       tt,
     )

@@ -11,11 +11,11 @@ use Rattle.pig_value.specs.Sorts.{sort, Ascends}
 use Rattle.pig_value.proofs.list_laws.Bags.{ascends_from_sorted, sort_is, sorted_by_key}
 use Rattle.pig_value.proofs.list_laws.Permutations.{Shuffled, same, under, swapped, after, shuffled_from_permutation}
 use Rattle.pig_runs.specs.Packed.{FrontedEntry, Packed, fronted_entry_cmp, packed_cmp}
-use Rattle.pig_runs.proofs.FrontOrder.{fronted_total}
+use Rattle.pig_runs.proofs.FrontOrder.{fronted_total, sided_total}
 use Rattle.pig_runs.proofs.Order.{packed_total, packed_same}
 
 pub fronted_entry_total : IsTotalOrder fronted_entry_cmp
-fronted_entry_total = then_total (on_total (λ p. p.key) fronted_total) (then_total (on_total (λ p. p.input) nat_cmp_total) (on_total (λ p. p.row) fronted_total))
+fronted_entry_total = then_total (on_total (λ p. p.key) fronted_total) (then_total (on_total (λ p. p.input) nat_cmp_total) (on_total (λ p. p.row) sided_total))
 
 -- what holds of each element holds of each in another order
 along : {X : Type 0} (P : X → Type 0) {xs ys : List X} → Shuffled xs ys → AllByRecursion P xs → AllByRecursion P ys

@@ -12,7 +12,7 @@ use Rattle.pig_value.specs.Orders.{text_cmp}
 use Rattle.pig_value.proofs.list_laws.Listing.{each-drop}
 use Rattle.pig_keycode.proofs.NumberOrder.{digits_cmp}
 use Rattle.pig_keycode.proofs.TextOrder.{then_assoc}
-use Rattle.pig_runs.specs.Fronts.{first_bytes, front, front_cmp, front_len, behind_cmp, fronted_cmp}
+use Rattle.pig_runs.specs.Fronts.{first_bytes, front, front_cmp, front_len, behind_cmp, fronted_cmp, sided_cmp}
 
 unit_above : (k : ℕ) → 0 < 256 ^ k
 unit_above k = pow-le-pow_right {n = 256} (omega arith) {i = 0} {j = k} (omega arith)
@@ -96,7 +96,7 @@ front_order s t h l =
     low_below : (u : List ℕ) → AreBytes u → first_bytes 8 (drop 8 u) < 256 ^ 8
     low_below u g = first_below 8 (drop 8 u) (each-drop (λ b. b < 256) 8 u g)
 
-texts_total : IsTotalOrder text_cmp
+pub texts_total : IsTotalOrder text_cmp
 texts_total = lists_total nat_cmp_total
 
 fronts_total : IsTotalOrder front_cmp
@@ -104,3 +104,6 @@ fronts_total = then_total (on_total (λ p. p.high) nat_cmp_total) (on_total (λ 
 
 pub fronted_total : IsTotalOrder fronted_cmp
 fronted_total = then_total (on_total (λ p. p.front) fronts_total) (then_total (on_total (λ p. length (take front_len p.text)) nat_cmp_total) (on_total (λ p. drop front_len p.text) texts_total))
+
+pub sided_total : IsTotalOrder sided_cmp
+sided_total = then_total (on_total (λ p. p.side) nat_cmp_total) (on_total (λ p. p.rest) fronted_total)

@@ -1,19 +1,24 @@
 -- Slots whose fronts are right stand as what they find, also slots in different bytes.
-use Rattle.std.proofs.Common.{◌≡◌, ◌<◌, ℕ, List, map, ◌∙◌}
+use Rattle.std.proofs.Common.{◌≡◌, ◌<◌, ℕ, List, map, length, refl, sym, ◌∙◌, ap}
 use Rattle.std.specs.Prelude.{IsPermutation}
 use Rattle.std.specs.List.{AllByRecursion}
 use Rattle.std.specs.List.Sorted.{IsSortedBy}
 use Rattle.std.specs.Ordering.{ordering_then, nat_cmp, is_lt}
+use Rattle.std.specs.declared.cmp.Ordering.{Ordering}
+use Rattle.std.specs.declared.cmp.Ordering.TheVariants.{Less, Equal, Greater}
+use Rattle.pig_keycode.proofs.Unique.{same_bytes}
 use Rattle.pig_value.specs.Leaves.{AreBytes}
 use Rattle.pig_value.specs.Orders.{text_cmp}
 use Rattle.pig_value.specs.Sorts.{sort}
 use Rattle.pig_value.proofs.list_laws.Listing.{each-take, each-drop}
 use Rattle.pig_runs.specs.declared.slots.Front.{Front}
 use Rattle.pig_runs.specs.declared.slots.Slot.{Slot}
-use Rattle.pig_runs.specs.Fronts.{front, front_cmp, front_len, fronted_cmp, behind_cmp}
-use Rattle.pig_runs.specs.Packed.{found_at, fronted_at, fronted_entry_cmp, packed_cmp, part, row_at, IsPlaced}
+use Rattle.pig_runs.specs.Fronts.{front, front_cmp, front_len, fronted_cmp, behind_cmp, side_of, sided_cmp, told_len, untold}
+use Rattle.pig_runs.specs.Packed.{found_at, fronted_at, fronted_entry_cmp, packed_cmp, part, row_at, row_untold, sided_at, IsPlaced}
+use Rattle.pig_runs.proofs.Adding.{part_len}
 use Rattle.pig_runs.proofs.ByFronts.{items_sorted}
 use Rattle.pig_runs.proofs.FrontOrder.{front_order}
+use Rattle.pig_runs.proofs.Sides.{row_order}
 
 text_fronted : (f g : Front) (s t : List ℕ) → f ≡ front s → g ≡ front t → AreBytes s → AreBytes t → fronted_cmp (record { front = f; text = s }) (record { front = g; text = t }) ≡ text_cmp s t
 text_fronted f g s t is same h k = (λ i. ordering_then (front_cmp (is i) (same i)) (behind_cmp front_len s t)) ∙ front_order s t h k
@@ -21,12 +26,39 @@ text_fronted f g s t is same h k = (λ i. ordering_then (front_cmp (is i) (same 
 part_bytes : (bytes : List ℕ) → AreBytes bytes → (at len : ℕ) → AreBytes (part bytes at len)
 part_bytes bytes small at len = each-take (λ b. b < 256) len _ (each-drop (λ b. b < 256) at bytes small)
 
+untold_bytes : (side len : ℕ) (row : List ℕ) → AreBytes row → AreBytes (untold side len row)
+untold_bytes side len row h = each-drop (λ b. b < 256) (told_len side len) row h
+
+-- rows under one key
+rows_sided : (bytes with : List ℕ) (s t : Slot) → AreBytes bytes → AreBytes with → IsPlaced bytes s → IsPlaced with t → part bytes s.at s.key_len ≡ part with t.at t.key_len
+    → sided_cmp (sided_at bytes s) (sided_at with t) ≡ text_cmp (part bytes (row_at s) s.row_len) (part with (row_at t) t.row_len)
+rows_sided bytes with s t small little h k same =
+    let key : List ℕ = part bytes s.at s.key_len in
+    let row : List ℕ = part bytes (row_at s) s.row_len in
+    let other : List ℕ = part with (row_at t) t.row_len in
+    let len : s.key_len ≡ length key = sym (part_len bytes s.at s.key_len h.within.key) in
+    let other_len : t.key_len ≡ length key = sym (part_len with t.at t.key_len k.within.key) ∙ ap length (sym same) in
+    let side : s.side ≡ side_of key row = h.fronts.side in
+    let other_side : t.side ≡ side_of key other = k.fronts.side ∙ ap (λ key. side_of key other) (sym same) in
+    ap (ordering_then (nat_cmp s.side t.side))
+    (text_fronted s.row_front t.row_front (row_untold bytes s) (row_untold with t) h.fronts.row k.fronts.row
+    (untold_bytes s.side s.key_len row (part_bytes bytes small (row_at s) s.row_len)) (untold_bytes t.side t.key_len other (part_bytes with little (row_at t) t.row_len)))
+    ∙ ((λ i. ordering_then (nat_cmp (side i) (other_side i)) (text_cmp (untold (side i) (len i) row) (untold (other_side i) (other_len i) other)))
+    ∙ row_order key row other)
+
+where_equal : (q r u : Ordering) → (q ≡ Equal → r ≡ u) → ordering_then q r ≡ ordering_then q u
+where_equal Less r u f = refl
+where_equal Equal r u f = f refl
+where_equal Greater r u f = refl
+
 pub apart_order : (bytes with : List ℕ) (s t : Slot) → AreBytes bytes → AreBytes with → IsPlaced bytes s → IsPlaced with t
     → fronted_entry_cmp (fronted_at bytes s) (fronted_at with t) ≡ packed_cmp (found_at bytes s) (found_at with t)
 apart_order bytes with s t small little h k =
     let key = text_fronted s.key_front t.key_front (part bytes s.at s.key_len) (part with t.at t.key_len) h.fronts.key k.fronts.key (part_bytes bytes small s.at s.key_len) (part_bytes with little t.at t.key_len) in
-    let row = text_fronted s.row_front t.row_front (part bytes (row_at s) s.row_len) (part with (row_at t) t.row_len) h.fronts.row k.fronts.row (part_bytes bytes small (row_at s) s.row_len) (part_bytes with little (row_at t) t.row_len) in
-    λ i. ordering_then (key i) (ordering_then (nat_cmp s.input t.input) (row i))
+    ap (λ o. ordering_then o (ordering_then (nat_cmp s.input t.input) (sided_cmp (sided_at bytes s) (sided_at with t)))) key
+    ∙ where_equal (text_cmp (part bytes s.at s.key_len) (part with t.at t.key_len)) (ordering_then (nat_cmp s.input t.input) (sided_cmp (sided_at bytes s) (sided_at with t)))
+    (ordering_then (nat_cmp s.input t.input) (text_cmp (part bytes (row_at s) s.row_len) (part with (row_at t) t.row_len)))
+    (λ same. ap (ordering_then (nat_cmp s.input t.input)) (rows_sided bytes with s t small little h k (same_bytes (part bytes s.at s.key_len) (part with t.at t.key_len) same)))
 
 module _ (bytes : List ℕ) (small : AreBytes bytes) where
   pub one_order : (s t : Slot) → IsPlaced bytes s → IsPlaced bytes t → fronted_entry_cmp (fronted_at bytes s) (fronted_at bytes t) ≡ packed_cmp (found_at bytes s) (found_at bytes t)

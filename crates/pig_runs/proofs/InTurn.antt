@@ -8,13 +8,10 @@ use Rattle.std.proofs.lemmas.Bool.{leb-true, or_cases}
 use Rattle.pig_value.proofs.list_laws.Indexing.{drop-add, dropped, get-drop, more_taken}
 use Rattle.pig_runs.specs.declared.blocks.Block.{Block}
 use Rattle.pig_runs.specs.declared.slots.Slot.{Slot}
-use Rattle.pig_runs.specs.Fronts.{front}
+use Rattle.pig_runs.specs.Fronts.{front, side_of, untold}
 use Rattle.pig_runs.specs.InTurn.{AreLaid, codes_len, codes_at, is_within, is_apart, spares, codes_within, put_at, put_within, behind, all_put, behind_all}
 use Rattle.pig_runs.specs.Packed.{Packed, found_at, part, row_at, slot_of, IsPlaced}
-use Rattle.pig_runs.proofs.Adding.{all_kept, found_new, new_placed, part_kept, placed_more}
-
-part_len : (bytes : List ℕ) (at len : ℕ) → at + len ≤ length bytes → length (part bytes at len) ≡ len
-part_len bytes at len within = length-take-le len (drop at bytes) (let left = length-drop at bytes in omega (arith, within, left))
+use Rattle.pig_runs.proofs.Adding.{all_kept, found_new, new_placed, part_kept, part_len, placed_more}
 
 -- ---- the codes of slots
 
@@ -29,9 +26,13 @@ put_is : (bytes before : List ℕ) (s : Slot) → IsPlaced bytes s → put_at (l
 put_is bytes before s h =
     let key = part_len bytes s.at s.key_len h.within.key in
     let row = part_len bytes (row_at s) s.row_len h.within.row in
+    let whole : s.row_front ≡ (slot_of (length before) (part bytes s.at s.key_len) (part bytes (row_at s) s.row_len) s.input).row_front =
+    h.fronts.row ∙ (λ i. front (untold (h.fronts.side i) (sym key i) (part bytes (row_at s) s.row_len)))
+    in
     λ i. record {
       key_front = h.fronts.key i;
-      row_front = h.fronts.row i;
+      row_front = whole i;
+      side = h.fronts.side i;
       at = length before;
       key_len = sym key i;
       row_len = sym row i;
@@ -74,7 +75,11 @@ stays old new s size key row h = record {
   found = λ i. record { key = key i; input = s.input; row = row i };
   placed = record {
     within = record { key = (let in_old = h.within.key in omega (arith, in_old, size)); row = (let in_old = h.within.row in omega (arith, in_old, size)) };
-    fronts = record { key = h.fronts.key ∙ ap front (sym key); row = h.fronts.row ∙ ap front (sym row) };
+    fronts = record {
+      key = h.fronts.key ∙ ap front (sym key);
+      side = h.fronts.side ∙ (λ i. side_of (sym key i) (sym row i));
+      row = h.fronts.row ∙ ap (λ r. front (untold s.side s.key_len r)) (sym row);
+    };
   };
 }
 

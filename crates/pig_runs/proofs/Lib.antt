@@ -10,6 +10,7 @@ mod KWay
 pub mod Merging
 pub mod Lending
 mod Halving
+mod Sides
 mod Sliced
 pub mod Parted
 mod InTurn

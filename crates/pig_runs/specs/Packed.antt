@@ -18,7 +18,7 @@ use Rattle.pig_keycode.proofs.Wholes.{one_row}
 use Rattle.pig_runs.specs.declared.lent.Lent.{Lent}
 use Rattle.pig_runs.specs.declared.slots.Slot.{Slot}
 use Rattle.pig_runs.specs.Entries.{IsEntry, AreKeyed, coded_entry}
-use Rattle.pig_runs.specs.Fronts.{Fronted, front, fronted_cmp}
+use Rattle.pig_runs.specs.Fronts.{Fronted, Sided, front, fronted_cmp, side_of, sided_cmp, untold}
 
 -- an entry as bytes: the code of its key, the number of its input, the code of its row
 pub record Packed : Type 0 where
@@ -53,7 +53,8 @@ found_at bytes s = record { key = part bytes s.at s.key_len; input = s.input; ro
 abbrev pub slot_of : ℕ → List ℕ → List ℕ → ℕ → Slot
 slot_of size key row input = record {
   key_front = front key;
-  row_front = front row;
+  row_front = front (untold (side_of key row) (length key) row);
+  side = side_of key row;
   at = size;
   key_len = length key;
   row_len = length row;
@@ -65,6 +66,7 @@ abbrev pub moved : ℕ → Slot → Slot
 moved base s = record {
   key_front = s.key_front;
   row_front = s.row_front;
+  side = s.side;
   at = base + s.at;
   key_len = s.key_len;
   row_len = s.row_len;
@@ -76,10 +78,15 @@ pub record IsWithin (size : ℕ) (s : Slot) : Type 0 where
   pub key : s.at + s.key_len ≤ size
   pub row : row_at s + s.row_len ≤ size
 
+-- the bytes of a slot's row that its side doesn't tell
+abbrev pub row_untold : List ℕ → Slot → List ℕ
+row_untold bytes s = untold s.side s.key_len (part bytes (row_at s) s.row_len)
+
 -- the fronts of a slot are those of what it finds
 pub record HasFronts (bytes : List ℕ) (s : Slot) : Type 0 where
   pub key : s.key_front ≡ front (part bytes s.at s.key_len)
-  pub row : s.row_front ≡ front (part bytes (row_at s) s.row_len)
+  pub side : s.side ≡ side_of (part bytes s.at s.key_len) (part bytes (row_at s) s.row_len)
+  pub row : s.row_front ≡ front (row_untold bytes s)
 
 -- a slot of the bytes
 pub record IsPlaced (bytes : List ℕ) (s : Slot) : Type 0 where
@@ -99,16 +106,19 @@ joined lists = flat_map (λ slots. slots) lists
 pub record FrontedEntry : Type 0 where
   pub key : Fronted
   pub input : ℕ
-  pub row : Fronted
+  pub row : Sided
 
 abbrev pub fronted_entry_cmp : FrontedEntry → FrontedEntry → Ordering
-fronted_entry_cmp p q = ordering_then (fronted_cmp p.key q.key) (ordering_then (nat_cmp p.input q.input) (fronted_cmp p.row q.row))
+fronted_entry_cmp p q = ordering_then (fronted_cmp p.key q.key) (ordering_then (nat_cmp p.input q.input) (sided_cmp p.row q.row))
+
+abbrev pub sided_at : List ℕ → Slot → Sided
+sided_at bytes s = record { side = s.side; rest = record { front = s.row_front; text = row_untold bytes s } }
 
 abbrev pub fronted_at : List ℕ → Slot → FrontedEntry
 fronted_at bytes s = record {
   key = record { front = s.key_front; text = part bytes s.at s.key_len };
   input = s.input;
-  row = record { front = s.row_front; text = part bytes (row_at s) s.row_len };
+  row = sided_at bytes s;
 }
 
 -- ---- the bytes tell the entries

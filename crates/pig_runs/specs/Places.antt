@@ -21,6 +21,7 @@ abbrev pub no_slot : Slot
 no_slot = record {
   key_front = record { high = 0; low = 0 };
   row_front = record { high = 0; low = 0 };
+  side = 0;
   at = 0;
   key_len = 0;
   row_len = 0;

@@ -7,8 +7,8 @@ ghost use Rattle.pig_value.specs.Trees.{Tree, tree, row_tree};
 ghost use Rattle.pig_keycode.specs.Codable.{IsCodeOf, IsCodeOfRow};
 ghost use Rattle.pig_keycode.specs.Keys.{key_code};
 ghost use Rattle.pig_keycode.specs.Reading.{row_code};
-ghost use Rattle.pig_runs.specs.Fronts.{fronted_cmp};
-ghost use Rattle.pig_runs.specs.Packed.{part, found_at, fronted_at, fronted_entry_cmp, packed_cmp, packed_lent, row_at, slot_of, moved, IsPlaced};
+ghost use Rattle.pig_runs.specs.Fronts.{against, sided_cmp, side_of, told_len, untold};
+ghost use Rattle.pig_runs.specs.Packed.{part, found_at, fronted_at, fronted_entry_cmp, packed_cmp, packed_lent, row_at, row_untold, sided_at, slot_of, moved, IsPlaced};
 
 use crate::fronts::{compare_fronted, front};
 use crate::lent::{Lent, compare_lent};
@@ -17,6 +17,12 @@ use pig_keycode::{decode, decode_row, encode_key, encode_row};
 use pig_value::{Dirs, Seq, Tuple, Value};
 use std::alloc::{AllocError, Global};
 use std::cmp::Ordering;
+
+// What stands in the code of a row before its first field.
+const BEFORE_FIELD: [u8; 2] = [6, 1];
+
+// The side of the rows whose first field is the key.
+const AMONG: u32 = 1;
 
 // So many bytes from a place on.
 pub(crate) fn part(bytes: &[u8], at: usize, len: usize) -> &[u8]
@@ -56,6 +62,31 @@ fn row_of<'r>(bytes: &'r [u8], slot: &Slot) -> &'r [u8]
     part(behind, slot.key_len as usize, slot.row_len as usize)
 }
 
+// What its side doesn't tell of a slot's row.
+fn row_untold<'r>(bytes: &'r [u8], slot: &Slot) -> &'r [u8]
+    ensures { result.now ≡ row_untold bytes.now slot.now }
+{
+    untold(slot.side, slot.key_len, row_of(bytes, slot))
+}
+
+// What a side doesn't tell of a row, under a key of so many bytes.
+fn untold(side: u32, len: u32, row: &[u8]) -> &[u8]
+    ensures { result.now ≡ untold side len row.now }
+{
+    from_place(row, told_len(side, len))
+}
+
+// How many bytes of a row are told by its side and a key of so many.
+fn told_len(side: u32, len: u32) -> usize
+    ensures { result ≡ told_len side len }
+{
+    if side == AMONG {
+        len as usize + BEFORE_FIELD.len()
+    } else {
+        0
+    }
+}
+
 // How two entries in the same bytes stand.
 pub(crate) fn compare(bytes: &[u8], a: &Slot, b: &Slot) -> Ordering
     ensures { result ≡ fronted_entry_cmp (fronted_at bytes.now a.now) (fronted_at bytes.now b.now) }
@@ -76,15 +107,44 @@ pub(crate) fn compare_apart(bytes: &[u8], a: &Slot, with: &[u8], b: &Slot) -> Or
 }
 
 fn compare_rows(bytes: &[u8], a: &Slot, with: &[u8], b: &Slot) -> Ordering
-    ensures { result ≡ ordering_then (nat_cmp a.now.input b.now.input) (fronted_cmp
-        (fronted_at bytes.now a.now).row (fronted_at with.now b.now).row) }
+    ensures { result ≡ ordering_then (nat_cmp a.now.input b.now.input)
+        (sided_cmp (sided_at bytes.now a.now) (sided_at with.now b.now)) }
 {
     match a.input.cmp(&b.input) {
+        Ordering::Equal => compare_sided(bytes, a, with, b),
+        found => found,
+    }
+}
+
+fn compare_sided(bytes: &[u8], a: &Slot, with: &[u8], b: &Slot) -> Ordering
+    ensures { result ≡ sided_cmp (sided_at bytes.now a.now) (sided_at with.now b.now) }
+{
+    match a.side.cmp(&b.side) {
         Ordering::Equal => {
-            let row = row_of(bytes, a);
-            let other = row_of(with, b);
-            compare_fronted(a.row_front, row, b.row_front, other)
+            let rest = row_untold(bytes, a);
+            let other = row_untold(with, b);
+            compare_fronted(a.row_front, rest, b.row_front, other)
         }
+        found => found,
+    }
+}
+
+// On which side a row stands of those whose first field is the key.
+fn side_of(key: &[u8], row: &[u8]) -> u32
+    ensures { result ≡ side_of key.now row.now }
+{
+    match against(key, row) {
+        Ordering::Less => 0,
+        Ordering::Equal => AMONG,
+        Ordering::Greater => 2,
+    }
+}
+
+fn against(key: &[u8], row: &[u8]) -> Ordering
+    ensures { result ≡ against key.now row.now }
+{
+    match part(row, 0, 2).cmp(BEFORE_FIELD.as_slice()) {
+        Ordering::Equal => part(row, 2, key.len()).cmp(key),
         found => found,
     }
 }
@@ -114,9 +174,11 @@ fn push_slot(
 {
     let key_len = narrow(key.len())?;
     let row_len = narrow(row.len())?;
+    let side = side_of(key, row);
     slots.push(Slot {
         key_front: front(key),
-        row_front: front(row),
+        row_front: front(untold(side, key_len, row)),
+        side,
         at,
         key_len,
         row_len,

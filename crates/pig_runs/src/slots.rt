@@ -12,9 +12,11 @@ pub(crate) struct Front {
 // its row.
 #[derive(Debug, Clone, Copy, Drop)]
 pub(crate) struct Slot {
-    // The fronts of the codes of its key and of its row.
+    // The front of the code of its key, and of its row that of what its side doesn't tell.
     pub(crate) key_front: Front,
     pub(crate) row_front: Front,
+    // On which side its row stands of those whose first field is the key.
+    pub(crate) side: u32,
     // The place of the code of its key.
     pub(crate) at: usize,
     // The lengths of both codes.

@@ -26,6 +26,7 @@ pub(crate) struct Place {
 static NO_SLOT: Slot = Slot {
     key_front: Front { high: 0, low: 0 },
     row_front: Front { high: 0, low: 0 },
+    side: 0,
     at: 0,
     key_len: 0,
     row_len: 0,

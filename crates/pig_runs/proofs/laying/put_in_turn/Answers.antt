@@ -7,7 +7,7 @@ use Rattle.pig_runs.proofs.InTurn.{IsUpTo, put_one, put_fits}
 use Rattle.pig_runs.proofs.laying.put_in_turn.Goals as goal
 
 abbrev nowhere : Slot
-nowhere = record { key_front = record { high = 0; low = 0 }; row_front = record { high = 0; low = 0 }; at = 0; key_len = 0; row_len = 0; input = 0 }
+nowhere = record { key_front = record { high = 0; low = 0 }; row_front = record { high = 0; low = 0 }; side = 0; at = 0; key_len = 0; row_len = 0; input = 0 }
 
 pub put_within-at-requires : goal.put_within-at-requires
 put_within-at-requires c =
