@@ -1,8 +1,9 @@
 -- Places of entries in several stretches of runs, and what they find.
-use Rattle.std.specs.Prelude.{ℕ, List, [], map, length, Option, Some, None, get_or, slice_get}
+use Rattle.std.specs.Prelude.{ℕ, ◌+◌, List, [], ◌∷◌, map, length, Option, Some, None, get_or, slice_get}
 use Rattle.std.specs.List.{AllByRecursion, flat_map, range_with_len}
 use Rattle.pig_value.specs.Leaves.{AreBytes}
 use Rattle.pig_runs.specs.declared.slots.Slot.{Slot}
+use Rattle.pig_runs.specs.declared.stretches.Head.{Head}
 use Rattle.pig_runs.specs.declared.stretches.Place.{Place}
 use Rattle.pig_runs.specs.declared.stretches.Stretch.{Stretch}
 use Rattle.pig_runs.specs.Packed.{FrontedEntry, IsPart, Packed, found_at, fronted_at}
@@ -35,20 +36,24 @@ bytes_of stretches p = bytes_in (slice_get stretches p.stretch)
 abbrev pub slot_of : List Stretch → Place → Slot
 slot_of stretches p = get_or (slots_in (slice_get stretches p.stretch)) p.slot no_slot
 
--- what a place finds, and the same with its fronts
+-- what a place finds, and a slot with its place, the same with fronts
 abbrev pub found_place : List Stretch → Place → Packed
 found_place stretches p = found_at (bytes_of stretches p) (slot_of stretches p)
 
-abbrev pub fronted_place : List Stretch → Place → FrontedEntry
-fronted_place stretches p = fronted_at (bytes_of stretches p) (slot_of stretches p)
+abbrev pub found_head : List Stretch → Head → Packed
+found_head stretches h = found_at (bytes_of stretches h.place) h.slot
 
--- the places of so many slots of a stretch
-abbrev pub places_of : ℕ → ℕ → List Place
-places_of stretch count = map (λ slot. record { stretch = stretch; slot = slot }) (range_with_len 0 count)
+abbrev pub fronted_head : List Stretch → Head → FrontedEntry
+fronted_head stretches h = fronted_at (bytes_of stretches h.place) h.slot
 
--- the places of each stretch's slots
-abbrev pub lists_of_places : List Stretch → List (List Place)
-lists_of_places stretches = map (λ i. places_of i (length (slots_in (slice_get stretches i)))) (range_with_len 0 (length stretches))
+-- the slots of a stretch, which are numbered from one on, with their places
+abbrev pub heads_from : ℕ → ℕ → List Slot → List Head
+heads_from stretch slot [] = []
+heads_from stretch slot (s ∷ slots) = record { slot = s; place = record { stretch = stretch; slot = slot } } ∷ heads_from stretch (slot + 1) slots
+
+-- those of each stretch
+abbrev pub lists_of_heads : List Stretch → List (List Head)
+lists_of_heads stretches = map (λ i. heads_from i 0 (slots_in (slice_get stretches i))) (range_with_len 0 (length stretches))
 
 -- ---- stretches of sorted runs
 

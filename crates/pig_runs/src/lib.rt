@@ -6,6 +6,7 @@ mod builder;
 mod cutting;
 mod entries;
 mod fronts;
+mod heads;
 mod joining;
 mod keys;
 mod laws;

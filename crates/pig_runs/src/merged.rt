@@ -6,12 +6,13 @@ ghost use Rattle.pig_value.specs.Sorts.{Ascends, sort};
 ghost use Rattle.pig_value.specs.declared.operators.Dir.{Dir};
 ghost use Rattle.pig_runs.specs.Entries.{AreKeyed, key_at, run_cmp, run_of};
 ghost use Rattle.pig_runs.specs.Packed.{Held, Stand, held_prop, packed, packed_cmp, packed_lent};
-ghost use Rattle.pig_runs.specs.Places.{AreStretches, found_in_all, found_place, lists_of_places};
+ghost use Rattle.pig_runs.specs.Places.{AreStretches, found_in_all, found_place, lists_of_heads};
 ghost use Rattle.pig_runs.specs.RunParts.{part_entries};
 
+use crate::heads::Heads;
 use crate::lent::Lent;
 use crate::run_parts::RunPart;
-use crate::stretches::{Place, Stretch, compare_places, lend_place, lists_of_places};
+use crate::stretches::{Head, Place, Stretch, compare_heads, lend_place, lists_of_heads};
 use itertools::Itertools;
 use pig_value::Dirs;
 use std::alloc::{AllocError, Global};
@@ -53,7 +54,7 @@ pub fn merge_lent<'r>(
     ensures { IfOk result (λ all. all ≡ run_of dirs (flat_map part_entries parts.now)) }
 {
     let stretches = stretches_of(alloc, parts)?;
-    let lists = lists_of_places(alloc, stretches.as_slice())?;
+    let lists = lists_of_heads(alloc, stretches.as_slice())?;
     let places = merge_places(alloc, stretches.as_slice(), lists)?;
     Ok(Merged::from_places(dirs, stretches, places))
 }
@@ -72,21 +73,27 @@ fn stretches_of<'r>(alloc: Global, parts: &[RunPart<'r>]) -> Result<Vec<Stretch<
     Ok(found)
 }
 
-// The places of sorted lists in one sorted list.
+// The places of the heads of sorted lists, in one sorted list.
 fn merge_places(
     alloc: Global,
     stretches: &[Stretch],
-    lists: Vec<Vec<Place>>,
+    lists: Vec<Heads>,
 ) -> Result<Vec<Place>, AllocError>
     requires stretches { AreStretches stretches.now }
-    requires lists { map (λ list. list.items) lists.items ≡ lists_of_places stretches.now }
+    requires lists { lists.items ≡ lists_of_heads stretches.now }
     ensures { IfOk result (λ all. map (found_place stretches.now) all.items
         ≡ sort packed_cmp (found_in_all stretches.now)) }
 {
-    let merged = lists.into_iter().kmerge_by(alloc, |a: &Place, b: &Place| {
-        compare_places(stretches, *a, *b).is_lt()
+    let merged = lists.into_iter().kmerge_by(alloc, |a: &Head, b: &Head| {
+        compare_heads(stretches, a, b).is_lt()
     })?;
-    merged.collect_vec(alloc)
+    merged.map(place_of).collect_vec(alloc)
+}
+
+fn place_of(head: Head) -> Place
+    ensures { result ≡ head.place }
+{
+    head.place
 }
 
 impl<'r> Merged<'r> {

@@ -1,7 +1,8 @@
-ghost use Rattle.std.specs.Prelude.{◌≡◌, drop, length, map, take, slice_get, IfOk};
+ghost use Rattle.std.specs.Prelude.{◌≡◌, drop, take, slice_get, IfOk};
 ghost use Rattle.pig_runs.specs.Packed.{fronted_entry_cmp, packed_lent};
-ghost use Rattle.pig_runs.specs.Places.{bytes_of, found_place, fronted_place, lists_of_places, places_of, slot_of, slots_in};
+ghost use Rattle.pig_runs.specs.Places.{bytes_of, found_place, fronted_head, lists_of_heads, slot_of, slots_in};
 
+use crate::heads::Heads;
 use crate::lent::Lent;
 use crate::packing::{compare_apart, lend, narrow};
 use crate::slots::{Front, Slot};
@@ -20,6 +21,13 @@ pub(crate) struct Stretch<'r> {
 pub(crate) struct Place {
     pub(crate) stretch: u32,
     pub(crate) slot: u32,
+}
+
+// A slot with its place, as a merge compares it: a copy, so that fronts are looked at nowhere else.
+#[derive(Debug, Clone, Copy, Drop)]
+pub(crate) struct Head {
+    pub(crate) slot: Slot,
+    pub(crate) place: Place,
 }
 
 // What a place shows that is none.
@@ -76,53 +84,40 @@ pub(crate) fn lend_place<'r>(stretches: &[Stretch<'r>], place: Place) -> Lent<'r
     lend(bytes_of(stretches, place), *slot_of(stretches, place))
 }
 
-// How the entries of two places stand.
-pub(crate) fn compare_places(stretches: &[Stretch], a: Place, b: Place) -> Ordering
-    ensures { result ≡ fronted_entry_cmp (fronted_place stretches.now a)
-        (fronted_place stretches.now b) }
+// How the entries of two heads stand.
+pub(crate) fn compare_heads(stretches: &[Stretch], a: &Head, b: &Head) -> Ordering
+    ensures { result ≡ fronted_entry_cmp (fronted_head stretches.now a.now)
+        (fronted_head stretches.now b.now) }
 {
     compare_apart(
-        bytes_of(stretches, a),
-        slot_of(stretches, a),
-        bytes_of(stretches, b),
-        slot_of(stretches, b),
+        bytes_of(stretches, a.place),
+        &a.slot,
+        bytes_of(stretches, b.place),
+        &b.slot,
     )
 }
 
-// The number of slots of a stretch.
-fn count_of(stretches: &[Stretch], stretch: u32) -> usize
-    ensures { result ≡ length (slots_in (slice_get stretches.now stretch)) }
+// The slots of a stretch.
+fn slots_in<'r>(stretches: &[Stretch<'r>], stretch: u32) -> &'r [Slot]
+    ensures { result.now ≡ slots_in (slice_get stretches.now stretch) }
 {
     match stretches.get(stretch as usize) {
-        Some(stretch) => stretch.slots.len(),
-        None => 0,
+        Some(stretch) => stretch.slots,
+        None => &[],
     }
 }
 
-// The places of so many slots of a stretch. For more than fit a place there is no memory.
-fn places_of(alloc: Global, stretch: u32, count: usize) -> Result<Vec<Place>, AllocError>
-    ensures { IfOk result (λ places. places.items ≡ places_of stretch count) }
-{
-    let count = narrow(count)?;
-    let mut places = Vec::with_capacity(alloc, count as usize)?;
-    for slot in 0..count {
-        places.push(Place { stretch, slot })?;
-    }
-    Ok(places)
-}
-
-// The places of each stretch's slots.
-pub(crate) fn lists_of_places(
+// The heads of each stretch.
+pub(crate) fn lists_of_heads<'r>(
     alloc: Global,
-    stretches: &[Stretch],
-) -> Result<Vec<Vec<Place>>, AllocError>
-    ensures { IfOk result (λ lists. map (λ list. list.items) lists.items
-        ≡ lists_of_places stretches.now) }
+    stretches: &[Stretch<'r>],
+) -> Result<Vec<Heads<'r>>, AllocError>
+    ensures { IfOk result (λ lists. lists.items ≡ lists_of_heads stretches.now) }
 {
     let count = narrow(stretches.len())?;
     let mut lists = Vec::new(alloc);
     for stretch in 0..count {
-        lists.push(places_of(alloc, stretch, count_of(stretches, stretch))?)?;
+        lists.push(Heads::new(stretch, slots_in(stretches, stretch))?)?;
     }
     Ok(lists)
 }
