@@ -7,9 +7,9 @@ use Rattle.pig_value.specs.Orders.{tree_cmp}
 use Rattle.pig_value.specs.Sorts.{distinct}
 use Rattle.pig_value.specs.Trees.{Tree, tree}
 use Rattle.pig_value.specs.Valid.{IsValue}
-use Rattle.pig_keycode.specs.Codes.{code}
 use Rattle.pig_algebra.specs.Cuts.{TypedCut, cut_typed}
 use Rattle.pig_algebra.specs.declared.cuts.Cut.{Cut}
+use Rattle.pig_combine.specs.Names.{name}
 use Rattle.pig_combine.specs.Tallies.{IsHeld, Told, found_by, part_told, told}
 use Rattle.pig_combine.specs.declared.tally.Group as declared
 
@@ -55,13 +55,13 @@ entry_told g = record { key = g.key; input = 0; row = flat_map (part_told g.key)
 abbrev pub IsHeldGroup : declared.Group → Type 0
 IsHeldGroup g = IsValue (tree g.key) × AllByRecursion IsHeld g.tallies.items
 
--- the codes are those of the groups' keys, place by place, and what the groups hold is of values
+-- the names are those of the groups' keys, place by place, and what the groups hold is of values
 abbrev pub AreHeld : List (List ℕ) → List declared.Group → Type 0
-AreHeld codes groups = (codes ≡ map (λ g. code (tree g.key)) groups) × AllByRecursion IsHeldGroup groups
+AreHeld names groups = (names ≡ map (λ g. name (tree g.key)) groups) × AllByRecursion IsHeldGroup groups
 
--- a code is none of these
+-- a name is none of these
 abbrev pub IsNew : List ℕ → List (List ℕ) → Type 0
-IsNew bytes codes = AllByRecursion (λ c. c ≢ bytes) codes
+IsNew bytes names = AllByRecursion (λ n. n ≢ bytes) names
 
 -- the entry of a row under a key
 abbrev pub entry_of : Tree → List Tree → Entry

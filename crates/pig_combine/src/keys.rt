@@ -9,31 +9,31 @@ use smallvec::SmallVec;
 use std::alloc::{AllocError, Global};
 use std::hash::{Hash, Hasher};
 
-/// So many bytes of a code stand in the table itself.
+/// So many bytes of a name stand in the table itself.
 const INLINE: usize = 24;
 
-/// The code of a key, as a table keeps it.
+/// What a key is found by, as a table keeps it: its text or its code.
 #[derive(Debug, Drop)]
-pub struct KeyCode {
+pub struct KeyName {
     pub bytes: SmallVec<u8, INLINE>,
 }
 
-/// A code that is looked for among those.
+/// A name that is looked for among those.
 #[derive(Clone, Copy, Drop)]
 pub struct Sought<'c> {
     pub bytes: &'c [u8],
 }
 
-impl KeyCode {
-    pub fn copy(alloc: Global, bytes: &[u8]) -> Result<KeyCode, AllocError>
+impl KeyName {
+    pub fn copy(alloc: Global, bytes: &[u8]) -> Result<KeyName, AllocError>
         ensures { IfOk result (λ copied. copied.bytes.items ≡ bytes.now) }
     {
         let bytes = SmallVec::from_slice(alloc, bytes)?;
-        Ok(KeyCode { bytes })
+        Ok(KeyName { bytes })
     }
 }
 
-impl PartialEq for KeyCode {
+impl PartialEq for KeyName {
     ghost eq = { λ a b. bytes_eq a.bytes.items b.bytes.items };
 
     ghost laws = { on_per (λ c. c.bytes.items) (partial_equiv_from_equiv nat_list_eq_equiv) };
@@ -43,12 +43,12 @@ impl PartialEq for KeyCode {
     }
 }
 
-impl Eq for KeyCode {
+impl Eq for KeyName {
     ghost laws = { on_equiv (λ c. c.bytes.items) nat_list_eq_equiv };
 }
 
 // All bytes are written at once, so that they are hashed many at a time.
-impl Hash for KeyCode {
+impl Hash for KeyName {
     ghost hash_input = { λ c. c.bytes.items ∷ [] };
 
     ghost respects_eq = { λ a b same. ap (λ bytes. bytes ∷ [])
@@ -84,7 +84,7 @@ impl<'c> Hash for Sought<'c> {
     }
 }
 
-impl<'c> Equivalent<KeyCode> for Sought<'c> {
+impl<'c> Equivalent<KeyName> for Sought<'c> {
     ghost equivalent = { λ s c. bytes_eq s.bytes.now c.bytes.items };
 
     ghost respects_hash = { λ s c same. ap (λ bytes. bytes ∷ [])
@@ -92,7 +92,7 @@ impl<'c> Equivalent<KeyCode> for Sought<'c> {
 
     ghost respects_eq = { λ s a b. nat_list_eq_equiv.congr s.bytes.now a.bytes.items b.bytes.items };
 
-    fn equivalent(&self, key: &KeyCode) -> bool {
+    fn equivalent(&self, key: &KeyName) -> bool {
         self.bytes == key.bytes.as_slice()
     }
 }

@@ -3,6 +3,7 @@
 
 mod groups;
 mod keys;
+mod names;
 mod table;
 mod tallies;
 mod tally;

@@ -3,15 +3,16 @@ ghost use Rattle.std.specs.List.{AllByRecursion};
 ghost use Rattle.pig_value.specs.Gathering.{Entry};
 ghost use Rattle.pig_value.specs.Trees.{Tree, row_tree, tree};
 ghost use Rattle.pig_value.specs.Valid.{IsRow, IsValue};
-ghost use Rattle.pig_keycode.specs.Codes.{code};
 ghost use Rattle.pig_algebra.specs.Combining.{combined, parts_by};
 ghost use Rattle.pig_algebra.specs.Cuts.{cut_typed};
 ghost use Rattle.pig_runs.specs.Entries.{run_of};
 ghost use Rattle.pig_combine.specs.Holdings.{AreGroups, AreHeld, HasAdded, IsHeldGroup, IsNew, cuts_held, entry_of, entry_told, group_told, groups_held};
+ghost use Rattle.pig_combine.specs.Names.{name};
 ghost use Rattle.pig_combine.specs.Tallies.{found_by, told};
 
 use crate::groups::{add_to, group_with, parts_of};
-use crate::keys::{KeyCode, Sought};
+use crate::keys::{KeyName, Sought};
+use crate::names::plain_text;
 use crate::tally::Group;
 use indexmap::IndexSet;
 use pig_algebra::{Cut, Cuts};
@@ -24,13 +25,13 @@ use std::marker::Model;
 /// Rows that come under keys, folded into the parts of each key as they come.
 ///
 /// Contracts say what was added to a table (`HasAdded`): there is one group for each key, and of each cut it tells
-/// what is found in all rows under the key. A key is found by its code in constant time.
+/// what is found in all rows under the key. A key is found by its text or its code in constant time.
 #[derive(Drop)]
 pub struct Table {
     alloc: Global,
     cuts: Cuts,
-    // The code of each group's key, at the place of the group.
-    places: IndexSet<KeyCode>,
+    // What each group's key is found by, at the place of the group.
+    places: IndexSet<KeyName>,
     groups: Vec<Group>,
     // Where the code of the next key is written.
     code: Vec<u8>,
@@ -78,17 +79,30 @@ impl Table {
         ensures cuts { cuts_held self.new ≡ cuts_held self.old }
         ensures err { OnErr result (groups_held self.new ≡ groups_held self.old) }
     {
-        self.code.clear();
-        encode(key, Dir::Asc, &mut self.code)?;
-        add_under(
-            self.alloc,
-            self.cuts.as_slice(),
-            &mut self.places,
-            &mut self.groups,
-            self.code.as_slice(),
-            key,
-            row,
-        )
+        match plain_text(key) {
+            Some(text) => add_under(
+                self.alloc,
+                self.cuts.as_slice(),
+                &mut self.places,
+                &mut self.groups,
+                text,
+                key,
+                row,
+            ),
+            None => {
+                self.code.clear();
+                encode(key, Dir::Asc, &mut self.code)?;
+                add_under(
+                    self.alloc,
+                    self.cuts.as_slice(),
+                    &mut self.places,
+                    &mut self.groups,
+                    self.code.as_slice(),
+                    key,
+                    row,
+                )
+            }
+        }
     }
 
     /// The run of the parts: one entry for each key that was added, ascending, whose row is the parts of all rows
@@ -109,21 +123,21 @@ impl Table {
     }
 }
 
-// Adds a row under the key of this code.
+// Adds a row under the key of this name.
 fn add_under(
     alloc: Global,
     cuts: &[Cut],
-    codes: &mut IndexSet<KeyCode>,
+    names: &mut IndexSet<KeyName>,
     groups: &mut Vec<Group>,
     bytes: &[u8],
     key: &Value,
     row: &Tuple,
 ) -> Result<(), AllocError>
-    requires bytes { bytes.now ≡ code (tree key.now) }
+    requires bytes { bytes.now ≡ name (tree key.now) }
     requires key { IsValue (tree key.now) }
     requires row { IsRow (row_tree row.now) }
-    requires held { AreHeld (map (λ k. k.bytes.items) codes.old.keys) groups.old.items }
-    ensures held { AreHeld (map (λ k. k.bytes.items) codes.new.keys) groups.new.items }
+    requires held { AreHeld (map (λ k. k.bytes.items) names.old.keys) groups.old.items }
+    ensures held { AreHeld (map (λ k. k.bytes.items) names.new.keys) groups.new.items }
     ensures added { (added : List Entry)
         → AreGroups (map cut_typed cuts.now) added (map group_told groups.old.items)
         → OnOk result (AreGroups (map cut_typed cuts.now)
@@ -131,23 +145,23 @@ fn add_under(
         (map group_told groups.new.items)) }
     ensures err { OnErr result (map group_told groups.new.items ≡ map group_told groups.old.items) }
 {
-    match place_of(codes, bytes) {
+    match place_of(names, bytes) {
         Some(at) => add_at(alloc, cuts, groups, at, row),
         None => {
             let group = group_with(alloc, cuts, key, row)?;
-            let copied = KeyCode::copy(alloc, bytes)?;
-            put(codes, groups, copied, group)
+            let copied = KeyName::copy(alloc, bytes)?;
+            put(names, groups, copied, group)
         }
     }
 }
 
-// The place of a code.
-fn place_of(codes: &IndexSet<KeyCode>, bytes: &[u8]) -> Option<usize>
-    ensures found { IfSome result (λ at. slice_get (map (λ k. k.bytes.items) codes.now.keys) at
+// The place of a name.
+fn place_of(names: &IndexSet<KeyName>, bytes: &[u8]) -> Option<usize>
+    ensures found { IfSome result (λ at. slice_get (map (λ k. k.bytes.items) names.now.keys) at
         ≡ Some bytes.now) }
-    ensures none { result ≡ None → IsNew bytes.now (map (λ k. k.bytes.items) codes.now.keys) }
+    ensures none { result ≡ None → IsNew bytes.now (map (λ k. k.bytes.items) names.now.keys) }
 {
-    codes.get_index_of(Sought { bytes })
+    names.get_index_of(Sought { bytes })
 }
 
 // Adds a row to the group at a place.
@@ -159,8 +173,8 @@ fn add_at(
     row: &Tuple,
 ) -> Result<(), AllocError>
     requires { at < length groups.old.items }
-    ensures codes { map (λ g. code (tree g.key)) groups.new.items
-        ≡ map (λ g. code (tree g.key)) groups.old.items }
+    ensures names { map (λ g. name (tree g.key)) groups.new.items
+        ≡ map (λ g. name (tree g.key)) groups.old.items }
     ensures told { (g : Group) (rows : List (List Tree)) → slice_get groups.old.items at ≡ Some g
         → map told g.tallies.items ≡ map (found_by rows) (map cut_typed cuts.now)
         → OnOk result (map group_told groups.new.items
@@ -175,23 +189,23 @@ fn add_at(
     add_to(alloc, cuts, &mut groups[at], row)
 }
 
-// Adds a group under the code of its key, which has none yet.
+// Adds a group under the name of its key, which has none yet.
 fn put(
-    codes: &mut IndexSet<KeyCode>,
+    names: &mut IndexSet<KeyName>,
     groups: &mut Vec<Group>,
-    copied: KeyCode,
+    copied: KeyName,
     group: Group,
 ) -> Result<(), AllocError>
-    requires { IsNew copied.bytes.items (map (λ k. k.bytes.items) codes.old.keys) }
-    ensures codes { OnOk result (map (λ k. k.bytes.items) codes.new.keys
-        ≡ map (λ k. k.bytes.items) codes.old.keys ++ copied.bytes.items ∷ []) }
+    requires { IsNew copied.bytes.items (map (λ k. k.bytes.items) names.old.keys) }
+    ensures names { OnOk result (map (λ k. k.bytes.items) names.new.keys
+        ≡ map (λ k. k.bytes.items) names.old.keys ++ copied.bytes.items ∷ []) }
     ensures groups { OnOk result (groups.new.items ≡ groups.old.items ++ group ∷ []) }
-    ensures kept { OnErr result (map (λ k. k.bytes.items) codes.new.keys
-        ≡ map (λ k. k.bytes.items) codes.old.keys) }
+    ensures kept { OnErr result (map (λ k. k.bytes.items) names.new.keys
+        ≡ map (λ k. k.bytes.items) names.old.keys) }
     ensures err { OnErr result (groups.new.items ≡ groups.old.items) }
 {
     groups.push(group)?;
-    match add_code(codes, copied) {
+    match add_name(names, copied) {
         Ok(()) => Ok(()),
         Err(refused) => {
             groups.pop();
@@ -200,14 +214,14 @@ fn put(
     }
 }
 
-fn add_code(codes: &mut IndexSet<KeyCode>, copied: KeyCode) -> Result<(), AllocError>
-    requires { IsNew copied.bytes.items (map (λ k. k.bytes.items) codes.old.keys) }
-    ensures ok { OnOk result (map (λ k. k.bytes.items) codes.new.keys
-        ≡ map (λ k. k.bytes.items) codes.old.keys ++ copied.bytes.items ∷ []) }
-    ensures err { OnErr result (map (λ k. k.bytes.items) codes.new.keys
-        ≡ map (λ k. k.bytes.items) codes.old.keys) }
+fn add_name(names: &mut IndexSet<KeyName>, copied: KeyName) -> Result<(), AllocError>
+    requires { IsNew copied.bytes.items (map (λ k. k.bytes.items) names.old.keys) }
+    ensures ok { OnOk result (map (λ k. k.bytes.items) names.new.keys
+        ≡ map (λ k. k.bytes.items) names.old.keys ++ copied.bytes.items ∷ []) }
+    ensures err { OnErr result (map (λ k. k.bytes.items) names.new.keys
+        ≡ map (λ k. k.bytes.items) names.old.keys) }
 {
-    codes.insert(copied)?;
+    names.insert(copied)?;
     Ok(())
 }
 

@@ -4,16 +4,16 @@ use Rattle.std.proofs.lemmas.List.{map-set}
 use Rattle.std.proofs.lemmas.Result.{on_err_weaker, on_ok_weaker}
 use Rattle.pig_value.specs.Trees.{tree}
 use Rattle.pig_value.proofs.list_laws.Listing.{some_same}
-use Rattle.pig_keycode.specs.Codes.{code}
 use Rattle.pig_combine.specs.Holdings.{group_told}
+use Rattle.pig_combine.specs.Names.{name}
 use Rattle.pig_combine.specs.Tallies.{told}
 use Rattle.pig_combine.proofs.Placed.{map_kept}
 use Rattle.pig_combine.proofs.table.add_at.Goals as goal
 
-pub returns-clause-codes : goal.returns-clause-codes
-returns-clause-codes c =
-    map_kept (λ g. code (tree g.key)) c.args.groups.now.items c.args.at c.index_mut.result.now c.add_to.new.group (slice_get_read c.args.groups.now.items (length c.args.groups.now.items) c.args.at c.index_mut.result.now refl c.requires c.index_mut.ensures.value)
-    (ap (λ k. code (tree k)) c.add_to.ensures.key)
+pub returns-clause-names : goal.returns-clause-names
+returns-clause-names c =
+    map_kept (λ g. name (tree g.key)) c.args.groups.now.items c.args.at c.index_mut.result.now c.add_to.new.group (slice_get_read c.args.groups.now.items (length c.args.groups.now.items) c.args.at c.index_mut.result.now refl c.requires c.index_mut.ensures.value)
+    (ap (λ k. name (tree k)) c.add_to.ensures.key)
 
 pub returns-clause-told : goal.returns-clause-told
 returns-clause-told c g rows at h =
