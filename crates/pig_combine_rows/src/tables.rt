@@ -31,6 +31,7 @@ MAX.0 MIN.0 COUNT.1 key ; k:3,- k:-2,x k:7,y ; k:7,-2,2
 MIN SUM MAX ; k:5 k:4,4 k:6 ; k:5,11,6
 row ; (b:b (a:a (b:b (b:b ; (a:(a (b:(b
 SIZE COUNT_STAR ; k:1 ; k:-,1
+COUNT_STAR ; \u{2}:1 a:1 \u{2}:1 :1 ; :1 \u{2}:2 a:1
 COUNT_STAR ; 3:- 1:- 2:- 10:- 2:- ; 1:1 2:2 3:1 10:1";
 
 fn push<R: Abort, T: Drop>(rt: &R, list: &mut Seq<T>, item: T) {

@@ -19,6 +19,7 @@ use Rattle.pig_typed.specs.Typed.{Typed, TypedBlock, x_field}
 use Rattle.pig_plan.proofs.Lower.{inputs_found, meaning_of_node, names_lower}
 use Rattle.pig_plan.proofs.Meanings.{each_both, live_input}
 use Rattle.pig_plan.proofs.Rewrites.{Earlier}
+use Rattle.pig_plan.specs.Conjuncts.{conjuncts}
 use Rattle.pig_plan.specs.Meaning.{meaning, width_at}
 use Rattle.pig_plan.specs.Moves.{fields_in, holds_all, names_some, put}
 use Rattle.pig_plan.specs.NodeKinds.{Before, KeyedKinds, NodeGives, RowKinds, is_join, keyed_kinds, keys_agree, kinds_at, node_gives, only_if}
@@ -31,7 +32,7 @@ use Rattle.pig_plan.specs.Valid.{IsPlan}
 use Rattle.pig_share.proofs.Living.{member as member_of}
 use Rattle.pig_share.proofs.Shares.{each_mapped}
 use Rattle.pig_push.specs.declared.joining.Spot.{Spot}
-use Rattle.pig_push.specs.Pushed.{IsMove, IsTidy, at_spot, conjoined, filter_as, from_key, handed_on, hands_all, hands_key, high_of, is_open, low_of, may_pass, on_input, opens, over_at, over_spot, spot_for, spot_of}
+use Rattle.pig_push.specs.Pushed.{IsMove, IsTidy, all_pass, at_spot, conjoined, filter_as, from_key, handed_on, hands_all, hands_key, high_of, is_open, low_of, may_pass, on_input, opens, over_at, over_spot, spot_for, spot_of}
 use Rattle.pig_push.proofs.InPlace.{Gives, InPlace, Reads, by_above, by_inner, in_place_means, in_place_tidy, wide}
 use Rattle.pig_push.proofs.Joins.{Place, Spans, filter_below_join, here, later, place_behind}
 use Rattle.pig_push.proofs.Keeps.{Allowed, IsInput, inputs_live, is_end, node_with}
@@ -300,6 +301,10 @@ shape_of width i c below low high (passes_join ks ls sd replicated x first j e p
       high_sorts = λ sorted. refl;
       high_lists = λ sorted listed. refl;
     })
+
+pub shape_at : (width : ℕ → ℕ) (i : ℕ) (c : Typed) (o : PlanOp) → all_pass width o c ≡ true → Shape i o (low_of width o c) (high_of width i o c)
+shape_at width i c o passes =
+    shape_of width i c o (low_of width o c) (high_of width i o c) (exchanged width i c o (both (may_pass width o c) (list_all (may_pass width o) (conjuncts c)) passes).0)
 
 -- ---- one move
 

@@ -17,3 +17,7 @@ pub mod Depths
 pub mod Unions
 pub mod Unites
 pub mod Ways
+pub mod Merges
+pub mod LoneReaders
+pub mod LoneMoves
+pub mod MergePass

@@ -65,11 +65,11 @@ cleared_none p = record {
 }
 
 -- what stands in a list with one element more
-data Stands {X : Type 0} (xs : List X) (x : X) (n : ℕ) (y : X) : Type 0 where
+pub data Stands {X : Type 0} (xs : List X) (x : X) (n : ℕ) (y : X) : Type 0 where
   before : slice_get xs n ≡ Some y → Stands xs x n y
   last : n ≡ length xs → x ≡ y → Stands xs x n y
 
-stands : {X : Type 0} (xs : List X) (x y : X) (n : ℕ) → slice_get (xs ++ x ∷ []) n ≡ Some y → Stands xs x n y
+pub stands : {X : Type 0} (xs : List X) (x y : X) (n : ℕ) → slice_get (xs ++ x ∷ []) n ≡ Some y → Stands xs x n y
 stands [] x y zero h = last refl (some_same x y h)
 stands [] x y (suc n) h = absurd (none-some y (sym (slice_get_past [] n (omega arith)) ∙ h))
 stands (w ∷ xs) x y zero h = before h
@@ -79,7 +79,7 @@ stands (w ∷ xs) x y (suc n) h = behind (stands xs x y n h)
     behind (before e) = before e
     behind (last e f) = last (ap (λ m. suc m) e) f
 
-there_last : {X : Type 0} (xs : List X) (x : X) (n : ℕ) → n ≡ length xs → slice_get (xs ++ x ∷ []) n ≡ Some x
+pub there_last : {X : Type 0} (xs : List X) (x : X) (n : ℕ) → n ≡ length xs → slice_get (xs ++ x ∷ []) n ≡ Some x
 there_last xs x n h =
     let e : n ≡ length xs + 0 = omega (arith, h) in
     ap (slice_get (xs ++ x ∷ [])) e ∙ get-behind xs (x ∷ []) 0

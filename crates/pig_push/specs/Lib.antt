@@ -1,1 +1,3 @@
+pub mod Lone
+pub mod Merged
 pub mod Pushed

@@ -55,7 +55,7 @@ fn linked(alloc: Global, first: TExpr, rest: TLinks) -> Result<TExpr, AllocError
 
 /// Adds copies of the conjuncts of a condition to a list.
 #[cycle(add_conjuncts)]
-fn add_conjuncts(alloc: Global, e: &TExpr, into: &mut TExprs) -> Result<(), AllocError>
+pub fn add_conjuncts(alloc: Global, e: &TExpr, into: &mut TExprs) -> Result<(), AllocError>
     ensures { OnOk result (map typed into.new ≡ map typed into.old ++ conjuncts (typed e.now)) }
 {
     match e {

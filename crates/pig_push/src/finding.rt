@@ -3,13 +3,14 @@ ghost use Rattle.std.specs.List.{list_all, list_any};
 ghost use Rattle.pig_plan.specs.Meaning.{width_at};
 ghost use Rattle.pig_plan.specs.Plans.{keyed_of, op_of, p_group, p_join, plan_of};
 ghost use Rattle.pig_typed.specs.Typed.{Typed, typed};
+ghost use Rattle.pig_push.specs.Lone.{AreExact, AreSound};
 ghost use Rattle.pig_push.specs.Pushed.{CanMove, CanPart, all_pass, is_union, may_pass, some_pass};
 
 use crate::chaining::conjuncts;
 use crate::fields::fields;
 use crate::handing::{hands_all, hands_key};
 use crate::joining::{find_spot, is_open};
-use crate::reading::is_only_use;
+use crate::readers::{ReadCount, is_lone};
 use pig_plan::{KeyedInput, NodeOp, Plan};
 use pig_typed::TExpr;
 use pig_value::Side;
@@ -17,14 +18,19 @@ use std::alloc::{AllocError, Global};
 
 /// The number of the last FILTER of which a conjunct may pass below the operator that it alone reads,
 /// where there is one. So FILTERs become one before they pass what they stand on.
-pub fn find_part(alloc: Global, plan: &Plan) -> Result<Option<u32>, AllocError>
+pub fn find_part(
+    alloc: Global,
+    plan: &Plan,
+    counts: &[ReadCount],
+) -> Result<Option<u32>, AllocError>
+    requires { AreExact (plan_of plan.now) counts.now }
     ensures { IfOk result (λ found. MatchOption found
         ((i k : ℕ) → CanPart (plan_of plan.now) i k → ⊥) (λ high. ⊤)) }
 {
     let count = number_of_nodes(plan)?;
     for behind in 0..count {
         let high = count - 1 - behind;
-        let parts = may_part(alloc, plan, high)?;
+        let parts = may_part(alloc, plan, counts, high)?;
         if parts {
             return Ok(Some(high));
         }
@@ -41,8 +47,14 @@ fn number_of_nodes(plan: &Plan) -> Result<u32, AllocError>
 
 /// Whether a FILTER stands at a number of which a conjunct may pass below the operator that it alone
 /// reads.
-fn may_part(alloc: Global, plan: &Plan, high: u32) -> Result<bool, AllocError>
-    ensures { IfOk result (λ b. b ≡ false → (i : ℕ) → CanPart (plan_of plan.now) i high → ⊥) }
+pub fn may_part(
+    alloc: Global,
+    plan: &Plan,
+    counts: &[ReadCount],
+    high: u32,
+) -> Result<bool, AllocError>
+    ensures { IfOk result (λ b. b ≡ false → AreExact (plan_of plan.now) counts.now
+        → (i : ℕ) → CanPart (plan_of plan.now) i high → ⊥) }
 {
     let nodes = plan.nodes().as_slice();
     let Some(node) = nodes.get(high as usize) else {
@@ -58,12 +70,18 @@ fn may_part(alloc: Global, plan: &Plan, high: u32) -> Result<bool, AllocError>
     if !passes {
         return Ok(false);
     }
-    Ok(is_only_use(nodes, *input, high))
+    Ok(is_lone(counts, *input))
 }
 
 /// The number of the operator below which the FILTER at a number may pass as a whole, where there is
 /// one.
-pub fn below(alloc: Global, plan: &Plan, high: u32) -> Result<Option<u32>, AllocError>
+pub fn below(
+    alloc: Global,
+    plan: &Plan,
+    counts: &[ReadCount],
+    high: u32,
+) -> Result<Option<u32>, AllocError>
+    requires { AreSound (plan_of plan.now) counts.now }
     ensures { IfOk result (λ found. MatchOption found ⊤
         (λ low. CanMove (plan_of plan.now) low high)) }
 {
@@ -77,7 +95,7 @@ pub fn below(alloc: Global, plan: &Plan, high: u32) -> Result<Option<u32>, Alloc
     let Some(under) = nodes.get(*input as usize) else {
         return Ok(None);
     };
-    if !is_only_use(nodes, *input, high) {
+    if !is_lone(counts, *input) {
         return Ok(None);
     }
     let passes = all_pass(alloc, plan, &under.op, cond)?;

@@ -8,11 +8,14 @@ mod finding;
 mod handing;
 mod joining;
 mod laws;
+mod merging;
 mod moving;
 mod pushing;
+mod readers;
 mod reading;
 mod rooming;
 mod splitting;
+mod sweeping;
 mod uniting;
 
 pub use laws::{

@@ -6,11 +6,8 @@ use Rattle.pig_value.proofs.list_laws.Listing.{some_same}
 use Rattle.pig_plan.specs.Plans.{Plan, PlanNode, PlanOp, p_store}
 use Rattle.pig_plan.specs.Valid.{in_order}
 use Rattle.pig_reach.specs.Reach.{stores_of}
-use Rattle.pig_share.specs.Shared.{HaveOwnPaths, NoTwoAlike, stores_in}
-use Rattle.pig_share.specs.Table.{at_of}
-use Rattle.pig_share.proofs.NoneAlike.{ordered_share_all}
+use Rattle.pig_share.specs.Shared.{HaveOwnPaths, IsSharable, stores_in}
 use Rattle.pig_rewrites.specs.Alike.{are_apart, is_stored_in}
-use Rattle.pig_rewrites.specs.Reached.{IsReached}
 
 -- ---- one node in front of others
 
@@ -54,7 +51,7 @@ front_alone path statement o p apart stores there = true≢false (sym stores)
 
 -- ---- all nodes
 
-pub own_paths : (p : Plan) → are_apart (stores_of p) ≡ true → HaveOwnPaths p
+own_paths : (p : Plan) → are_apart (stores_of p) ≡ true → HaveOwnPaths p
 own_paths [] apart j k v w path at_j at_k stores_v stores_w = absurd (cc)
 own_paths (node ∷ p) apart zero zero v w path at_j at_k stores_v stores_w = refl
 own_paths (node ∷ p) apart zero (suc k) v w path at_j at_k stores_v stores_w =
@@ -64,6 +61,5 @@ own_paths (node ∷ p) apart (suc j) zero v w path at_j at_k stores_v stores_w =
 own_paths (node ∷ p) apart (suc j) (suc k) v w path at_j at_k stores_v stores_w =
     ap suc (own_paths p (others_apart node.statement node.op p apart) j k v w path at_j at_k stores_v stores_w)
 
-pub all_once : (checked cut : Plan) → in_order checked ≡ true → are_apart (stores_of checked) ≡ true → (reached : IsReached checked cut) → NoTwoAlike reached.shared
-all_once checked cut order apart reached =
-    ordered_share_all checked reached.shared (at_of reached.shares.table) order (own_paths checked apart) reached.shares.is reached.once
+pub sharable : (p : Plan) → in_order p ≡ true → are_apart (stores_of p) ≡ true → IsSharable p
+sharable p order apart = record { ordered = order; own = own_paths p apart }

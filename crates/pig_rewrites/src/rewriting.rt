@@ -1,6 +1,6 @@
 ghost use Rattle.std.specs.Prelude.{◌≡◌, ◌++◌, ◌∷◌, [], true, IfOk, OnOk};
 ghost use Rattle.pig_plan.specs.Plans.{node_of, plan_of};
-ghost use Rattle.pig_plan.specs.Valid.{IsPlan};
+ghost use Rattle.pig_plan.specs.Valid.{IsPlan, in_order};
 ghost use Rattle.pig_reach.specs.Reach.{stores_of};
 ghost use Rattle.pig_rewrites.specs.Alike.{RunsAlike, are_apart};
 ghost use Rattle.pig_rewrites.specs.Reached.{IsReached};
@@ -13,10 +13,12 @@ use pig_share::share;
 use std::alloc::{AllocError, Global};
 
 /// The plan that is cut into tasks: nodes that do the same become one, conditions move towards the
-/// sources, and what nothing needs goes. A run of it does what a run of the plan does. A refusal is
-/// for want of memory.
+/// sources, and what nothing needs goes. A run of it does what a run of the plan does. The plan is one
+/// of a script: no two STOREs have one directory, and nodes stand in the order of the statements. A
+/// refusal is for want of memory.
 pub fn rewrite(alloc: Global, plan: &Plan) -> Result<Plan, AllocError>
     requires apart { are_apart (stores_of (plan_of plan.now)) ≡ true }
+    requires ordered { in_order (plan_of plan.now) ≡ true }
     ensures reached { IfOk result (λ q. IsReached (plan_of plan.now) (plan_of q)) }
     ensures alike { IfOk result (λ q. RunsAlike (plan_of plan.now) (plan_of q)) }
 {

@@ -1,6 +1,6 @@
 -- What a script is found to be, stage by stage: its size, the values of its parameters, its tokens, its statements, their trees, and the plan of
 -- these.
-use Rattle.std.specs.Prelude.{◌≡◌, ◌<◌, ◌≤◌, ◌^◌, ℕ, List, length}
+use Rattle.std.specs.Prelude.{◌≡◌, ◌<◌, ◌≤◌, ◌^◌, ℕ, true, List, length}
 use Rattle.std.specs.List.{All}
 use Rattle.std.specs.declared.result.Result.TheVariants.{Ok, Err}
 use Rattle.pig_params.specs.Substitution.{Named, substituted}
@@ -13,7 +13,9 @@ use Rattle.pig_parser.specs.Parsing.{AreTrees, IsFirstOff, IsShallow}
 use Rattle.pig_typing.specs.declared.faults.CheckKind.{CheckKind}
 use Rattle.pig_plan.specs.Plans.{Plan}
 use Rattle.pig_physical.specs.Stages.{Stages}
+use Rattle.pig_plan.specs.Valid.{in_order}
 use Rattle.pig_check.specs.Scripts.{IsPlanOf, IsFirstUntyped}
+use Rattle.pig_check.specs.States.{StoresAreApart}
 use Rattle.pig_run.specs.declared.outcome.TooLarge.TheVariants as large
 use Rattle.pig_run.specs.Refusals.{Refusal, no_token, no_value, off_grammar, too_large, untyped}
 
@@ -67,3 +69,8 @@ pub data IsFilled (given : List Named) (script : List ℕ) : Finding → Type 0 
 pub data IsFound (given : List Named) (script : List ℕ) : Finding → Type 0 where
   too_long : 2 ^ 20 < length script → IsFound given script (Faulty (too_large large.Script))
   short : {found : Finding} → length script ≤ 2 ^ 20 → IsFilled given script found → IsFound given script found
+
+-- What is known of a plan of a script: no two STOREs have one path, and the nodes stand in the order of the statements.
+pub record IsOfScript (plan : Plan) : Type 0 where
+  pub apart : StoresAreApart plan
+  pub ordered : in_order plan ≡ true

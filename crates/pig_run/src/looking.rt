@@ -6,10 +6,10 @@ ghost use Rattle.pig_plan.specs.Plans.{PlanNode, plan_of};
 ghost use Rattle.pig_reach.specs.Reach.{live_paths, stores_of};
 ghost use Rattle.pig_words.specs.CommandWords.{IsCommand};
 ghost use Rattle.pig_words.specs.declared.words.Command.{Command};
-ghost use Rattle.pig_check.specs.States.{StoresAreApart};
 ghost use Rattle.pig_run.specs.Due.{CommandDue, HasWords, InputsDue, OutputsDue, ScriptDue, SizeDue, TasksDue, call, given_by};
 ghost use Rattle.pig_run.specs.Looking.{HasSize, IsAbsentIn, IsPrepared, IsReady, LooksForInput, LooksForOutput, LooksForScript, LooksForSize, line_given, total_of};
 ghost use Rattle.pig_run.specs.Orderly.{AsksAll, AsksSome, LooksUp};
+ghost use Rattle.pig_run.specs.Reading.{IsOfScript};
 ghost use Rattle.pig_run.specs.Steps.{DepotCause, IsPlanFault, Step, depot_fault_of};
 ghost use Rattle.pig_run.specs.Told.{Asked};
 ghost use Rattle.pig_run.specs.declared.outcome.RunFault.TheVariants as fault;
@@ -83,7 +83,7 @@ pub fn load_script<D: Depot>(
         (ScriptDue (given_by command.now) command.now.operand s (CommandDue command.now s))
         (λ c. CommandDue command.now s c.statements (plan_of c.plan))
         (D.calls depot.old) (D.calls depot.new) result) }
-    ensures apart { IfOk result (λ c. StoresAreApart (plan_of c.plan)) }
+    ensures of_script { IfOk result (λ c. IsOfScript (plan_of c.plan)) }
     ensures fault { IfErr result IsPlanFault }
     ensures shelf { D.shelf depot.new ≡ D.shelf depot.old }
     ensures cause { DepotCause (D.faults depot.old) (D.faults depot.new) result }
@@ -255,7 +255,7 @@ pub struct Prepared {
 
 /// A checked plan as what it is rewritten to.
 fn rewritten(alloc: Global, checked: Plan, sizes: Sizes) -> Result<Prepared, RunFault>
-    requires apart { StoresAreApart (plan_of checked) }
+    requires of_script { IsOfScript (plan_of checked) }
     requires paths { map (λ size. size.path) sizes ≡ live_paths (plan_of checked) }
     ensures prepared { IfOk result IsPrepared }
     ensures checked { IfOk result (λ p. plan_of p.checked ≡ plan_of checked) }
@@ -276,7 +276,7 @@ fn rewritten(alloc: Global, checked: Plan, sizes: Sizes) -> Result<Prepared, Run
 
 /// What is to be cut of a plan, where nothing stands in its way.
 pub fn prepare<D: Depot>(alloc: Global, depot: &mut D, plan: Plan) -> Result<Prepared, RunFault>
-    requires apart { StoresAreApart (plan_of plan) }
+    requires of_script { IsOfScript (plan_of plan) }
     ensures told { ForSome (D.shelf depot.old) (λ s. (command : Command)
         → Step (InputsDue command s (plan_of plan)) (λ p. TasksDue command s (plan_of plan))
         (D.calls depot.old) (D.calls depot.new) result) }

@@ -4,13 +4,12 @@ ghost use Rattle.pig_parser.specs.Parsing.{IsShallow};
 ghost use Rattle.pig_syntax.specs.Formed.{StmtFormed};
 ghost use Rattle.pig_syntax.specs.Tokens.{HoldsNoLf};
 ghost use Rattle.pig_plan.specs.Plans.{plan_of};
-ghost use Rattle.pig_check.specs.States.{StoresAreApart};
-ghost use Rattle.pig_run.specs.Reading.{IsChecked, IsParsed, IsMeasured, IsLexed, IsFilled, IsFound};
+ghost use Rattle.pig_run.specs.Reading.{IsChecked, IsParsed, IsMeasured, IsLexed, IsFilled, IsFound, IsOfScript};
 ghost use Rattle.pig_params.specs.Given.{named_of};
 ghost use Rattle.pig_run.specs.Steps.{IsReadFault, TellsPlan};
 
 use crate::{RunFault, TooLarge};
-use pig_check::{CheckFault, check, stores_are_apart};
+use pig_check::{CheckFault, check, plans_stand_in_order, stores_are_apart};
 use pig_params::{ParamFault, Params, substitute};
 use pig_parser::{SyntaxFault, parse};
 use pig_plan::Plan;
@@ -40,10 +39,11 @@ pub struct Checked {
 fn plan_of_trees(alloc: Global, statements: &Stmts) -> Result<Checked, RunFault>
     requires { All StmtFormed statements.now }
     ensures told { TellsPlan (IsChecked statements.now) result }
-    ensures apart { IfOk result (λ c. StoresAreApart (plan_of c.plan)) }
+    ensures of_script { IfOk result (λ c. IsOfScript (plan_of c.plan)) }
     ensures fault { IfErr result IsReadFault }
 {
     stores_are_apart();
+    plans_stand_in_order();
     match check(alloc, statements) {
         Ok(plan) => Ok(Checked {
             plan,
@@ -62,7 +62,7 @@ fn plan_of_statements(alloc: Global, tokens: &Tokens, pieces: &Pieces) -> Result
     requires texts { All (λ token. HoldsNoLf token.form) tokens.now }
     requires shallow { All (IsShallow tokens.now) pieces.now }
     ensures told { TellsPlan (IsParsed tokens.now pieces.now) result }
-    ensures apart { IfOk result (λ c. StoresAreApart (plan_of c.plan)) }
+    ensures of_script { IfOk result (λ c. IsOfScript (plan_of c.plan)) }
     ensures fault { IfErr result IsReadFault }
 {
     match parse(alloc, tokens, pieces) {
@@ -104,7 +104,7 @@ fn plan_of_pieces(alloc: Global, tokens: &Tokens, pieces: &Pieces) -> Result<Che
     requires few { length tokens.now < 2 ^ 32 }
     requires texts { All (λ token. HoldsNoLf token.form) tokens.now }
     ensures told { TellsPlan (IsMeasured tokens.now pieces.now) result }
-    ensures apart { IfOk result (λ c. StoresAreApart (plan_of c.plan)) }
+    ensures of_script { IfOk result (λ c. IsOfScript (plan_of c.plan)) }
     ensures fault { IfErr result IsReadFault }
 {
     if pieces.len() > MOST_STATEMENTS {
@@ -124,7 +124,7 @@ fn plan_of_pieces(alloc: Global, tokens: &Tokens, pieces: &Pieces) -> Result<Che
 fn plan_of_script(alloc: Global, script: &[u8]) -> Result<Checked, RunFault>
     requires { length script.now ≤ 2 ^ 20 }
     ensures told { TellsPlan (IsLexed script.now) result }
-    ensures apart { IfOk result (λ c. StoresAreApart (plan_of c.plan)) }
+    ensures of_script { IfOk result (λ c. IsOfScript (plan_of c.plan)) }
     ensures fault { IfErr result IsReadFault }
 {
     a_script_has_one_reading();
@@ -141,7 +141,7 @@ fn plan_of_script(alloc: Global, script: &[u8]) -> Result<Checked, RunFault>
 /// The plan of a script with the values of parameters in it.
 fn plan_of_filled(alloc: Global, script: &[u8], params: &Params) -> Result<Checked, RunFault>
     ensures told { TellsPlan (IsFilled (map named_of params.now) script.now) result }
-    ensures apart { IfOk result (λ c. StoresAreApart (plan_of c.plan)) }
+    ensures of_script { IfOk result (λ c. IsOfScript (plan_of c.plan)) }
     ensures fault { IfErr result IsReadFault }
 {
     match substitute(alloc, script, params, MOST_SCRIPT) {
@@ -157,7 +157,7 @@ fn plan_of_filled(alloc: Global, script: &[u8], params: &Params) -> Result<Check
 /// The plan of a script with these parameters, or the first refusal that it meets.
 pub fn read_script(alloc: Global, script: &[u8], params: &Params) -> Result<Checked, RunFault>
     ensures told { TellsPlan (IsFound (map named_of params.now) script.now) result }
-    ensures apart { IfOk result (λ c. StoresAreApart (plan_of c.plan)) }
+    ensures of_script { IfOk result (λ c. IsOfScript (plan_of c.plan)) }
     ensures fault { IfErr result IsReadFault }
 {
     if script.len() as u64 > MOST_SCRIPT {

@@ -2,7 +2,6 @@ ghost use Rattle.std.specs.Prelude.{◌≡◌, ◌<◌, ◌≤◌, ◌⊎◌, �
 ghost use Rattle.std.specs.Option.{ForSome};
 ghost use Rattle.std.specs.List.{AllByRecursion, sum_by};
 ghost use Rattle.pig_plan.specs.Plans.{PlanNode, plan_of};
-ghost use Rattle.pig_check.specs.States.{StoresAreApart};
 ghost use Rattle.pig_physical.specs.Seen.{cut_of, staged};
 ghost use Rattle.pig_cutter.specs.Limits.{has_too_many};
 ghost use Rattle.pig_driver.specs.Going.{TellSizes};
@@ -12,7 +11,7 @@ ghost use Rattle.pig_run.specs.Blame.{CrewHasWorked, HaveWorked};
 ghost use Rattle.pig_run.specs.Due.{CommandDue, InputsDue, NamesScript, ScriptDue, TasksDue, given_by};
 ghost use Rattle.pig_run.specs.Looking.{IsAbsentIn, IsPrepared, IsReady};
 ghost use Rattle.pig_run.specs.Orderly.{IsOrderly, IsOrderlyBehind, Makes};
-ghost use Rattle.pig_run.specs.Reading.{Run};
+ghost use Rattle.pig_run.specs.Reading.{IsOfScript, Run};
 ghost use Rattle.pig_run.specs.Running.{IsFresh, IsUsable, RunTold, RunsTold, counts_in, found_in, kept_in};
 ghost use Rattle.pig_run.specs.Steps.{DepotCause, IsLaterFault, StoreBlame};
 ghost use Rattle.pig_run.specs.Texts.{ok_text};
@@ -189,7 +188,7 @@ fn run_plan<R: Threads + Sync, D: Depot, H: Host + Send>(
 ) -> Result<Blob, RunFault>
     requires hosts { (0 < length hosts.old) × (length hosts.old ≤ 256) }
     requires usable { IsUsable (length hosts.old) command.now }
-    requires apart { StoresAreApart (plan_of plan) }
+    requires of_script { IsOfScript (plan_of plan) }
     requires tells { AllByRecursion (TellsOf (D.shelf depot.old)) (map H.inputs hosts.old) }
     requires fresh { IsFresh progress.old }
     ensures told { ForSome (D.shelf depot.old) (λ s.
@@ -220,7 +219,7 @@ fn run_on_crew<R: Threads + Sync, D: Depot, H: Host + Send>(
 ) -> Result<Blob, RunFault>
     requires few { length hosts.old ≤ 256 }
     requires usable { IsUsable (length hosts.old) command.now }
-    requires apart { StoresAreApart (plan_of plan) }
+    requires of_script { IsOfScript (plan_of plan) }
     requires tells { AllByRecursion (TellsOf (D.shelf depot.old)) (map H.inputs hosts.old) }
     requires fresh { IsFresh progress.old }
     ensures told { ForSome (D.shelf depot.old) (λ s.
@@ -249,7 +248,7 @@ fn print_check(alloc: Global, statements: u64) -> Result<Blob, RunFault>
 
 /// The text of a plan as it was checked and as it was rewritten, and of its waves.
 fn print_explain(alloc: Global, plan: &Plan) -> Result<Blob, RunFault>
-    requires apart { StoresAreApart (plan_of plan.now) }
+    requires of_script { IsOfScript (plan_of plan.now) }
     ensures { MatchResult result
         (λ text. ((cut : List PlanNode) × IsReached (plan_of plan.now) cut
         × (text ≡ explain_text (plan_of plan.now) cut)))
@@ -280,7 +279,7 @@ fn obey<R: Threads + Sync, D: Depot, H: Host + Send>(
     requires few { length hosts.old ≤ 256 }
     requires usable { IsUsable (length hosts.old) request.command }
     requires scripted { NamesScript request.command.verb }
-    requires apart { StoresAreApart (plan_of request.checked.plan) }
+    requires of_script { IsOfScript (plan_of request.checked.plan) }
     requires tells { AllByRecursion (TellsOf (D.shelf depot.old)) (map H.inputs hosts.old) }
     requires fresh { IsFresh progress.old }
     ensures told { ForSome (D.shelf depot.old) (λ s. RunTold (CommandDue request.command s

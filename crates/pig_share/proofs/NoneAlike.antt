@@ -11,7 +11,8 @@ use Rattle.pig_plan.specs.Nodes.{is_bare, is_sorted, is_store}
 use Rattle.pig_plan.specs.Plans.{Plan, PlanNode, PlanOp, p_limit, p_store, p_assert}
 use Rattle.pig_plan.specs.Renumbered.{rename}
 use Rattle.pig_plan.specs.Valid.{in_order}
-use Rattle.pig_share.specs.Shared.{EachIsOnce, HaveOwnPaths, IsShared, NoTwoAlike, is_apart, renamed, stores_in}
+use Rattle.pig_share.specs.Shared.{EachIsOnce, HaveOwnPaths, IsSharable, IsShared, NoTwoAlike, SharesAll, is_apart, renamed, stores_in}
+use Rattle.pig_share.specs.Table.{Shares, at_of}
 use Rattle.pig_share.proofs.InOrder.{no_later_before, order_kept}
 
 -- ---- operators
@@ -72,3 +73,11 @@ ordered_share_all p q at order own is once =
 pub lower_stays : (p q : Plan) (at : ℕ → ℕ) → in_order p ≡ true → IsShared p q at → (k : ℕ) (v first : PlanNode) → slice_get p k ≡ Some v → slice_get p (at k) ≡ Some first
     → first.statement ≤ v.statement
 lower_stays p q at order is k v first stands stands_first = no_later_before p order (at k) k first v (is.named k v stands).early stands_first stands
+
+pub shares_all : (p q : Plan) → Shares p q → EachIsOnce q → IsSharable p → SharesAll p q
+shares_all p q s once may = record {
+  at = at_of s.table;
+  is = s.is;
+  once = ordered_share_all p q (at_of s.table) may.ordered may.own s.is once;
+  lower = lower_stays p q (at_of s.table) may.ordered s.is;
+}

@@ -79,3 +79,16 @@ OrderedPlansShareAll = (p q : Plan) (at : ℕ → ℕ) → in_order p ≡ true �
 abbrev pub LowerStatementsStay : Type 0
 LowerStatementsStay = (p q : Plan) (at : ℕ → ℕ) → in_order p ≡ true → IsShared p q at
     → (k : ℕ) (v first : PlanNode) → slice_get p k ≡ Some v → slice_get p (at k) ≡ Some first → first.statement ≤ v.statement
+
+-- Of a plan all that is alike is shared: no two live nodes but bare LIMITs have the same operator and inputs, and of nodes that do the same the
+-- one of the lower statement stays.
+pub record SharesAll (p q : Plan) : Type 0 where
+  pub at : ℕ → ℕ
+  pub is : IsShared p q at
+  pub once : NoTwoAlike q
+  pub lower : (k : ℕ) (v first : PlanNode) → slice_get p k ≡ Some v → slice_get p (at k) ≡ Some first → first.statement ≤ v.statement
+
+-- A plan that may be so shared: its nodes stand in the order of their statements, and no two STOREs have one path.
+pub record IsSharable (p : Plan) : Type 0 where
+  pub ordered : in_order p ≡ true
+  pub own : HaveOwnPaths p

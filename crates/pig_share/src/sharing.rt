@@ -4,7 +4,7 @@ ghost use Rattle.pig_plan.specs.Nodes.{is_live, live_marks as live_list};
 ghost use Rattle.pig_plan.specs.Plans.{PlanNode, node_of, plan_of};
 ghost use Rattle.pig_plan.specs.Rewrites.{SameMeaning};
 ghost use Rattle.pig_plan.specs.Valid.{IsPlan};
-ghost use Rattle.pig_share.specs.Shared.{EachIsOnce, apart_in};
+ghost use Rattle.pig_share.specs.Shared.{EachIsOnce, IsSharable, SharesAll, apart_in};
 ghost use Rattle.pig_share.specs.Hashed.{op_hash};
 ghost use Rattle.pig_share.specs.Same.{columns_of, same_op};
 ghost use Rattle.pig_share.specs.Table.{AreListed, DoesSame, HasKey, IsFound, IsOpen, IsRenamedAt, IsSoFar, KeepsKeys, Shares, apart_list};
@@ -23,10 +23,13 @@ type Firsts = IndexMap<u64, u32>;
 /// A plan of the same meaning in which no two live nodes do the same to the same inputs. Bare LIMITs stay apart, since each
 /// keeps the rows of its own statement, and so do STOREs; ASSERTs do so where the nodes don't stand in the order of their
 /// statements. Each node stays at its number, with its statement; the first of those that do the same is named in the
-/// place of the others, which are dead then.
+/// place of the others, which are dead then. In the order of statements, as in a script's plan, that is the one of the lowest
+/// statement, and where no two STOREs have one path bare LIMITs alone stay apart.
 pub fn share(alloc: Global, plan: Plan) -> Result<Plan, AllocError>
     ensures means { IfOk result (λ q. SameMeaning (plan_of plan) (plan_of q)) }
     ensures once { IfOk result (λ q. EachIsOnce (plan_of q)) }
+    ensures all { IfOk result (λ q. IsSharable (plan_of plan)
+        → SharesAll (plan_of plan) (plan_of q)) }
     ensures shares { IfOk result (λ q. Shares (plan_of plan) (plan_of q)) }
 {
     let shared = share_nodes(alloc, &plan);
@@ -37,6 +40,8 @@ pub fn share(alloc: Global, plan: Plan) -> Result<Plan, AllocError>
 fn share_nodes(alloc: Global, plan: &Plan) -> Result<Plan, AllocError>
     ensures means { IfOk result (λ q. SameMeaning (plan_of plan.now) (plan_of q)) }
     ensures once { IfOk result (λ q. EachIsOnce (plan_of q)) }
+    ensures all { IfOk result (λ q. IsSharable (plan_of plan.now)
+        → SharesAll (plan_of plan.now) (plan_of q)) }
     ensures shares { IfOk result (λ q. Shares (plan_of plan.now) (plan_of q)) }
 {
     let live = live_marks(alloc, plan)?;

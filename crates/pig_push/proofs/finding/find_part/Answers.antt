@@ -4,7 +4,7 @@ use Rattle.pig_push.proofs.finding.find_part.Goals as goal
 
 pub loop-behind-preserved : goal.loop-behind-preserved
 loop-behind-preserved c =
-    let here : NoMove c.args.plan.now (c.in_ok-count.count - 1 - c.loop-behind.behind) = c.in_ok-parts.ensures c.if-parts.false in
+    let here : NoMove c.args.plan.now (c.in_ok-count.count - 1 - c.loop-behind.behind) = c.in_ok-parts.ensures c.if-parts.false c.requires in
     let within : c.loop-behind.behind < c.in_ok-count.count = search rules in
     one_before c.args.plan.now c.in_ok-count.count c.loop-behind.behind within c.loop-behind.invariant here
 

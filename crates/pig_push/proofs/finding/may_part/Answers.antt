@@ -1,16 +1,18 @@
-use Rattle.std.proofs.Common.{rules, ◌≡◌, ◌∙◌, ap, false, subst, sym, true≢false}
+use Rattle.std.proofs.Common.{rules, ◌≡◌, ◌∙◌, ap, false, sym, true}
 use Rattle.std.specs.Prelude.{Some, slice_get, refl, length}
 use Rattle.std.proofs.lemmas.Option.{slice_get_read}
 use Rattle.pig_typed.specs.Typed.{typed}
 use Rattle.pig_plan.specs.Nodes.{IsOnlyUse}
 use Rattle.pig_plan.specs.Plans.{node_of, op_of, p_filter, plan_of}
+use Rattle.pig_push.specs.Lone.{is_shared}
+use Rattle.pig_push.proofs.LoneReaders.{lone_of_only, shared_is}
 use Rattle.pig_push.proofs.Steps.{not_only, not_passing}
 use Rattle.pig_plan.specs.Meaning.{width_at}
 use Rattle.pig_push.specs.Pushed.{some_pass}
 use Rattle.pig_push.proofs.finding.may_part.Goals as goal
 
 pub returns-then-not-passes : goal.returns-then-not-passes
-returns-then-not-passes c = λ e.
+returns-then-not-passes c = λ e exact.
     let same : c.as_slice-nodes.result.now ≡ c.args.plan.now = search rules in
     let at : slice_get c.args.plan.now c.args.high ≡ Some c.in-Some.node.now =
     ap (λ ns. slice_get ns c.args.high) (sym same)
@@ -23,7 +25,7 @@ returns-then-not-passes c = λ e.
     not_passing c.args.plan.now c.args.high c.in-Some.node.now at c.in-Filter.input (typed c.in-Filter.cond) is c.in-Some-get.under.now under passes
 
 pub returns : goal.returns
-returns c = λ used.
+returns c = λ used exact.
     let same : c.as_slice-nodes.result.now ≡ c.args.plan.now = search rules in
     let at : slice_get c.args.plan.now c.args.high ≡ Some c.in-Some.node.now =
     ap (λ ns. slice_get ns c.args.high) (sym same)
@@ -32,5 +34,7 @@ returns c = λ used.
     let under : slice_get c.args.plan.now c.in-Filter.input ≡ Some c.in-Some-get.under.now =
     ap (λ ns. slice_get ns c.in-Filter.input) (sym same)
     ∙ slice_get_read c.as_slice-nodes.result.now (length c.as_slice-nodes.result.now) c.in-Filter.input c.in-Some-get.under.now refl c.in-Some-get.ensures.lookup.3.0 c.in-Some-get.ensures.lookup.1 in
-    let other : IsOnlyUse (plan_of c.args.plan.now) c.in-Filter.input c.args.high → ⊥ = λ only. true≢false (sym (c.is_only_use.ensures.no (subst (λ ns. IsOnlyUse (plan_of ns) c.in-Filter.input c.args.high) (sym same) only)) ∙ used) in
+    let shared : is_shared c.args.counts.now c.in-Filter.input ≡ true = shared_is (is_shared c.args.counts.now c.in-Filter.input) c.is_lone.result c.is_lone.ensures used in
+    let other : IsOnlyUse (plan_of c.args.plan.now) c.in-Filter.input c.args.high → ⊥ =
+    λ only. exact c.in-Filter.input shared (lone_of_only (plan_of c.args.plan.now) c.in-Filter.input c.args.high only) in
     not_only c.args.plan.now c.args.high c.in-Some.node.now at c.in-Filter.input (typed c.in-Filter.cond) is c.in-Some-get.under.now under other

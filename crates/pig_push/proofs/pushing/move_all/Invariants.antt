@@ -2,5 +2,5 @@ use Rattle.pig_plan.specs.Plans.{plan_of}
 use Rattle.pig_push.specs.Pushed.{AreMoves}
 use Rattle.pig_push.proofs.pushing.move_all.Given as goal
 
-abbrev pub invariant-moves : goal.invariant-moves
-invariant-moves l = AreMoves (plan_of l.fn.plan) (plan_of l.made)
+abbrev pub invariant-sweeps : goal.invariant-sweeps
+invariant-sweeps l = AreMoves (plan_of l.fn.plan) (plan_of l.made)

@@ -8,7 +8,7 @@ use Rattle.pig_run.proofs.Laying.{apart_same, same_dirs}
 use Rattle.pig_run.proofs.looking.rewritten.Goals as goal
 
 pub rewrite-requires : goal.rewrite-requires
-rewrite-requires c = record { apart = stores_apart (plan_of c.args.checked) c.requires.apart }
+rewrite-requires c = record { apart = stores_apart (plan_of c.args.checked) c.requires.of_script.apart; ordered = c.requires.of_script.ordered }
 
 pub returns-clause-prepared : goal.returns-clause-prepared
 returns-clause-prepared c =
@@ -21,7 +21,7 @@ returns-clause-prepared c =
       alike = alike;
       paths = c.requires.paths ∙ sym alike.paths;
       stores = stores;
-      apart = ap are_apart stores ∙ apart_same (stores_of (plan_of c.args.checked)) (stores_of (plan_of c.in_ok-plan.plan)) dirs ∙ stores_apart (plan_of c.args.checked) c.requires.apart;
+      apart = ap are_apart stores ∙ apart_same (stores_of (plan_of c.args.checked)) (stores_of (plan_of c.in_ok-plan.plan)) dirs ∙ stores_apart (plan_of c.args.checked) c.requires.of_script.apart;
     }
 
 pub returns-clause-dirs : goal.returns-clause-dirs

@@ -16,5 +16,10 @@ returns-in-Err-Check-clause-told c =
     let none : IsFirstUntyped c.args.statements.now c.in-Err-Check.statement c.in-Err-Check.kind = search rules in
     inl (untyped c.args.statements.now c.in-Err-Check.statement, no_typing none, (c.in-Err-Check.kind, none, refl))
 
-pub returns-in-Ok-clause-apart : goal.returns-in-Ok-clause-apart
-returns-in-Ok-clause-apart c = c.stores_are_apart.ensures.apart c.args.statements.now (plan_of c.in-Ok.plan) (search rules)
+pub returns-in-Ok-clause-of_script : goal.returns-in-Ok-clause-of_script
+returns-in-Ok-clause-of_script c =
+    let is : IsPlanOf c.args.statements.now (plan_of c.in-Ok.plan) = search rules in
+    record {
+      apart = c.stores_are_apart.ensures.apart c.args.statements.now (plan_of c.in-Ok.plan) is;
+      ordered = c.plans_stand_in_order.ensures c.args.statements.now (plan_of c.in-Ok.plan) is;
+    }

@@ -2,7 +2,7 @@ use Rattle.std.proofs.Common.{rules}
 use Rattle.pig_plan.specs.Plans.{plan_of}
 use Rattle.pig_plan.specs.Valid.{IsPlan}
 use Rattle.pig_push.specs.Pushed.{IsParted, one_split}
-use Rattle.pig_push.proofs.pushing.parted.Goals as goal
+use Rattle.pig_push.proofs.sweeping.parted.Goals as goal
 
 pub returns : goal.returns
 returns c = λ before moves.
