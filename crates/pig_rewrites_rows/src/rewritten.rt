@@ -1,10 +1,12 @@
 // Scripts, and the nodes of their plans once these are rewritten. Where memory is wanting the
 // process ends: that drops nothing, so its proof is short.
 ghost use Rattle.std.specs.Prelude.{◌≡◌, IsTrue, true};
+ghost use Rattle.pig_plan.specs.Plans.{plan_of};
+ghost use Rattle.pig_plan.specs.Valid.{in_order};
 ghost use Rattle.pig_rewrites.specs.Alike.{are_apart, is_stored_in};
 
 use pig_explain::explain;
-use pig_plan::Plan;
+use pig_plan::{Node, Plan};
 use pig_reach::{Store, stores};
 use pig_rewrites::rewrite;
 use pig_script_rows::plan_of;
@@ -44,11 +46,27 @@ fn are_apart(stores: &[Store]) -> bool
     true
 }
 
+/// Whether no node has an earlier statement than one before it.
+fn stand_in_order(nodes: &[Node]) -> bool
+    ensures { IsTrue result → in_order (plan_of nodes.now) ≡ true }
+{
+    let mut left = nodes;
+    let mut latest: u32 = 0;
+    while let [node, rest @ ..] = left {
+        if !(latest <= node.statement) {
+            return false;
+        }
+        latest = node.statement;
+        left = rest;
+    }
+    true
+}
+
 /// The rewritten plan of a script, where it has one.
 fn rewritten(alloc: Global, script: &str) -> Option<Plan> {
     let plan = plan_of(alloc, script)?;
     let stores = stores(alloc, &plan).ok()?;
-    if !are_apart(stores.as_slice()) {
+    if !are_apart(stores.as_slice()) || !stand_in_order(plan.nodes().as_slice()) {
         return None;
     }
     let made = rewrite(alloc, &plan);
