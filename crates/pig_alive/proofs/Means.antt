@@ -13,10 +13,9 @@ use Rattle.pig_typed.specs.Typed.{Typed}
 use Rattle.pig_plan.specs.Meaning.{AreKept, EachIsKept, IsKept, kept_at, meaning}
 use Rattle.pig_plan.specs.Nodes.{bare_limits, inputs_of, is_bare, is_list, is_live, is_sorted, live}
 use Rattle.pig_plan.specs.Plans.{Plan, PlanNode, PlanOp, p_load, p_filter, p_foreach, p_group_all, p_group, p_join, p_union, p_distinct, p_order, p_limit, p_store, p_assert, p_rank}
-use Rattle.pig_plan.specs.Renumbered.{IsSame, rename}
+use Rattle.pig_plan.specs.Renumbered.{IsSame, rename, renamed}
 use Rattle.pig_plan.specs.Rewrites.{Fails, SameMeaning, Stores}
 use Rattle.pig_plan.specs.Valid.{IsPlan}
-use Rattle.pig_share.specs.Shared.{renamed}
 use Rattle.pig_share.proofs.Living.{store_lives}
 use Rattle.pig_push.proofs.Keeps.{IsInput, inputs_live}
 use Rattle.pig_alive.specs.Alive.{LivePlansMeanTheSame, alive, new_number}

@@ -14,7 +14,7 @@ use Rattle.pig_plan.proofs.Meanings.{live_within}
 use Rattle.pig_plan.specs.Nodes.{is_live, live, live_marks}
 use Rattle.pig_plan.specs.declared.nodes.Node.{Node}
 use Rattle.pig_plan.specs.Plans.{Plan, PlanNode, node_of, plan_of}
-use Rattle.pig_share.specs.Shared.{renamed}
+use Rattle.pig_plan.specs.Renumbered.{renamed}
 use Rattle.pig_alive.specs.Alive.{alive, new_number, rank}
 
 -- ---- numbers that pass a test

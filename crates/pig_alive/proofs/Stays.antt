@@ -15,12 +15,11 @@ use Rattle.pig_plan.specs.Meaning.{kept_at, meaning, width_at}
 use Rattle.pig_plan.specs.NodeKinds.{kinds_at, kinds_step}
 use Rattle.pig_plan.specs.Nodes.{inputs_of, is_list, is_live, is_sorted, is_store, names}
 use Rattle.pig_plan.specs.Plans.{Plan, PlanNode}
-use Rattle.pig_plan.specs.Renumbered.{IsSame, rename}
+use Rattle.pig_plan.specs.Renumbered.{IsSame, rename, renamed}
 use Rattle.pig_plan.specs.Results.{at_place, results}
 use Rattle.pig_plan.specs.Valid.{IsPlan}
-use Rattle.pig_share.specs.Shared.{renamed}
 use Rattle.pig_share.proofs.Living.{User, goes, member, store_lives, store_renamed, user_of}
-use Rattle.pig_share.proofs.Moved.{gives_moved, inputs_renamed, lists_moved, rows_moved, sorts_moved}
+use Rattle.pig_plan.proofs.Renumbering.{gives_moved, inputs_renamed, lists_moved, rows_moved, sorts_moved}
 use Rattle.pig_share.proofs.Shares.{each_mapped}
 use Rattle.pig_push.proofs.Keeps.{IsInput, inputs_live}
 use Rattle.pig_alive.specs.Alive.{EachLives, alive, new_number}

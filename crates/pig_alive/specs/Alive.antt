@@ -3,9 +3,9 @@ use Rattle.std.specs.Prelude.{◌≡◌, ℕ, true, List, map, length, Some, sli
 use Rattle.std.specs.List.{filter, filter_map, range_with_len}
 use Rattle.pig_plan.specs.Nodes.{is_live, live}
 use Rattle.pig_plan.specs.Plans.{Plan, PlanNode}
+use Rattle.pig_plan.specs.Renumbered.{renamed}
 use Rattle.pig_plan.specs.Rewrites.{SameMeaning}
 use Rattle.pig_plan.specs.Valid.{IsPlan}
-use Rattle.pig_share.specs.Shared.{renamed}
 use Rattle.pig_share.specs.Table.{at_of}
 
 -- how many live nodes stand before the one numbered k

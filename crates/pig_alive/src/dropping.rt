@@ -2,9 +2,9 @@ ghost use Rattle.std.specs.Prelude.{◌≡◌, ◌+◌, ◌++◌, ◌∷◌, [],
 ghost use Rattle.std.specs.List.{filter, filter_map};
 ghost use Rattle.pig_plan.specs.Nodes.{is_live, live_marks as live_list};
 ghost use Rattle.pig_plan.specs.Plans.{node_of, plan_of};
+ghost use Rattle.pig_plan.specs.Renumbered.{renamed};
 ghost use Rattle.pig_plan.specs.Rewrites.{SameMeaning};
 ghost use Rattle.pig_plan.specs.Valid.{IsPlan};
-ghost use Rattle.pig_share.specs.Shared.{renamed};
 ghost use Rattle.pig_share.specs.Table.{at_of};
 ghost use Rattle.pig_alive.specs.Alive.{EachLives, alive, ranks};
 

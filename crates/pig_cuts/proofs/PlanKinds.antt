@@ -10,6 +10,7 @@ use Rattle.pig_value.proofs.list_laws.Indexing.{some_at}
 use Rattle.pig_value.proofs.list_laws.Listing.{each_weaker, some_same}
 use Rattle.pig_plan.proofs.Lower.{inputs_found, names_lower}
 use Rattle.pig_plan.proofs.Meanings.{each_both}
+use Rattle.pig_plan.proofs.Renumbering.{gives_agree}
 use Rattle.pig_plan.proofs.Unfolds.{before_is, result-append, result_before}
 use Rattle.pig_plan.specs.Meaning.{width_at}
 use Rattle.pig_plan.specs.NodeKinds.{RowKinds, kinds_at, kinds_step, kinds_table, node_gives}
@@ -22,7 +23,6 @@ use Rattle.pig_cuts.specs.Plans.{IsNodeCut, fit_op, own_cut}
 use Rattle.pig_cuts.proofs.LeftKeyed.{IsInputLeft}
 use Rattle.pig_cuts.proofs.LeftKinds.{AreLeft}
 use Rattle.pig_cuts.proofs.LeftNodes.{GivesLeft, node_fitted}
-use Rattle.pig_cuts.proofs.Structure.{gives_goes}
 
 -- ---- one plan
 
@@ -59,7 +59,7 @@ module _ (p : Plan) (valid : IsPlan p) where
       let found = some_of (node_gives (kinds_at (take k p)) v.op) there in
       let lower = names_lower p valid k v stands in
       let is : node_gives (kinds_at p) v.op ≡ Some found.0 =
-      gives_goes (kinds_at p) (kinds_at (take k p)) v.op
+      gives_agree (kinds_at p) (kinds_at (take k p)) v.op
       (each_weaker (λ i. i < k) (λ i. kinds_at p i ≡ kinds_at (take k p) i) (λ i below. sym (first_nodes kinds_step None p k i (omega (arith, within)) below)) (inputs_of v.op) lower)
       ∙ found.1 in
       record {
@@ -67,7 +67,7 @@ module _ (p : Plan) (valid : IsPlan p) where
         is = is;
         kinds = result_before kinds_step None p k v stands
             ∙ ap (λ o. unwrap_or o None)
-            (gives_goes (at_place None (take k (kinds_table p))) (kinds_at p) v.op
+            (gives_agree (at_place None (take k (kinds_table p))) (kinds_at p) v.op
             (each_weaker (λ i. i < k) (λ i. at_place None (take k (kinds_table p)) i ≡ kinds_at p i) (λ i below. before_is kinds_step None p k i below) (inputs_of v.op) lower)
             ∙ is);
       }

@@ -1,12 +1,9 @@
 -- What a fitted operator has of the operator: its inputs, whether it stores, sorts, gives a list or is a bare LIMIT.
-use Rattle.std.specs.Prelude.{◌≡◌, ◌&&◌, ℕ, Bool, not, List, [], ◌∷◌, map, length, Some, refl}
-use Rattle.std.specs.List.{AllByRecursion, flat_map, list_all}
-use Rattle.std.specs.Option.{option_and_then, option_map}
+use Rattle.std.specs.Prelude.{◌≡◌, ℕ, Bool, not, List, refl}
+use Rattle.std.specs.List.{AllByRecursion}
 use Rattle.std.proofs.Common.{ap}
-use Rattle.pig_value.specs.FieldReader.{all_of}
-use Rattle.pig_plan.specs.NodeKinds.{Before, all_keyed, group_kinds, is_join, key_kinds, keyed_kinds, keys_agree, node_gives, only_if}
 use Rattle.pig_plan.specs.Nodes.{inputs_of, is_bare, is_store, lists, sorts}
-use Rattle.pig_plan.specs.Plans.{Keyed, PlanOp, p_load, p_filter, p_foreach, p_group_all, p_group, p_join, p_union, p_distinct, p_order, p_limit, p_store, p_assert, p_rank}
+use Rattle.pig_plan.specs.Plans.{PlanOp, p_load, p_filter, p_foreach, p_group_all, p_group, p_join, p_union, p_distinct, p_order, p_limit, p_store, p_assert, p_rank}
 use Rattle.pig_cuts.specs.Cuts.{NodeCut}
 use Rattle.pig_cuts.specs.Plans.{fit_op}
 use Rattle.pig_cuts.proofs.Keyed.{same_numbers}
@@ -90,34 +87,3 @@ module _ (cuts : ℕ → NodeCut) (marks : List Bool) where
     fit_lists listed was (p_store i path delim) h k = refl
     fit_lists listed was (p_assert i c message) h k = k.0
     fit_lists listed was (p_rank i keys dense) h k = refl
-
--- ---- what a node gives goes by the kinds of its inputs
-
-module _ (f g : Before) where
-  keyed_goes : (inputs : List Keyed) → AllByRecursion (λ i. f i ≡ g i) (map (λ i. i.input) inputs) → all_of (keyed_kinds f) inputs ≡ all_of (keyed_kinds g) inputs
-  keyed_goes [] h = refl
-  keyed_goes (i ∷ inputs) h =
-      λ d. option_and_then (λ k. option_map (λ more. k ∷ more) (keyed_goes inputs h.1 d)) (option_and_then (λ row. option_and_then (λ keys. Some (record { row = row; keys = keys })) (key_kinds row i.keys)) (h.0 d))
-
-  all_go : (ns : List ℕ) → AllByRecursion (λ i. f i ≡ g i) ns → all_of f ns ≡ all_of g ns
-  all_go [] h = refl
-  all_go (i ∷ ns) h = λ d. option_and_then (λ row. option_map (λ more. row ∷ more) (all_go ns h.1 d)) (h.0 d)
-
-  by_key_goes : (inputs : List Keyed) → AllByRecursion (λ i. f i ≡ g i) (map (λ i. i.input) inputs) → all_keyed f inputs ≡ all_keyed g inputs
-  by_key_goes inputs h = ap (option_and_then (λ found. only_if (keys_agree found) (Some found))) (keyed_goes inputs h)
-
-  pub gives_goes : (o : PlanOp) → AllByRecursion (λ i. f i ≡ g i) (inputs_of o) → node_gives f o ≡ node_gives g o
-  gives_goes (p_load path delim columns) h = refl
-  gives_goes (p_filter i c) h = ap (option_and_then _) h.0
-  gives_goes (p_foreach i block) h = ap (option_and_then _) h.0
-  gives_goes (p_group_all i) h = ap (option_and_then _) h.0
-  gives_goes (p_group inputs) h = ap (option_and_then (λ found. Some (Some (group_kinds found)))) (by_key_goes inputs h)
-  gives_goes (p_join inputs s replicated) h =
-      ap (option_and_then (λ found. only_if (is_join s replicated (length found) && list_all (λ input. not input.inner) inputs) (Some (Some (flat_map (λ input. input.row) found))))) (by_key_goes inputs h)
-  gives_goes (p_union ns) h = ap (option_and_then _) (all_go ns h)
-  gives_goes (p_distinct i) h = ap (option_and_then _) h.0
-  gives_goes (p_order i keys) h = ap (option_and_then _) h.0
-  gives_goes (p_limit i count) h = ap (option_and_then _) h.0
-  gives_goes (p_store i path delim) h = ap (option_and_then _) h.0
-  gives_goes (p_assert i c message) h = ap (option_and_then _) h.0
-  gives_goes (p_rank i keys dense) h = ap (option_and_then _) h.0

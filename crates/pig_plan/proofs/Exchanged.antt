@@ -2,8 +2,8 @@
 -- are a plan, and each other node gives what it gave.
 use Rattle.std.specs.Prelude.{◌≡◌, ◌<◌, ◌≤◌, ◌+◌, ◌==◌, ◌||◌, ℕ, zero, suc, Bool, true, false, not, ◌&&◌, List, [], ◌∷◌, ◌++◌, length, map, take, Err, IfOk, Ok, Option, Result, Some, None, slice_get, slice_set, refl}
 use Rattle.std.proofs.Common.{ap, sym, ◌∙◌, subst, arith, append_assoc, append-nil, true≢false}
-use Rattle.std.specs.List.{AllByRecursion, flat_map, list_all, list_any}
-use Rattle.std.specs.Option.{is_some, option_and_then, option_map, unwrap_or}
+use Rattle.std.specs.List.{AllByRecursion, list_any}
+use Rattle.std.specs.Option.{is_some, unwrap_or}
 use Rattle.std.proofs.lemmas.Bool.{eq-eqb, eqb-true}
 use Rattle.std.proofs.lemmas.List.{length-append, length-map, map-set, take-map}
 use Rattle.std.proofs.lemmas.Option.{none-some, slice_get_within}
@@ -11,50 +11,55 @@ use Rattle.pig_value.proofs.list_laws.Bags.{either_way}
 use Rattle.pig_value.proofs.list_laws.Indexing.{some_at}
 use Rattle.pig_value.proofs.list_laws.Listing.{each_weaker, some_same}
 use Rattle.pig_value.specs.declared.values.Kind.{Kind}
-use Rattle.pig_value.specs.FieldReader.{all_of}
 use Rattle.pig_value.specs.Kinds.{kinds_eq}
 use Rattle.pig_value.specs.Trees.{kind_tree, kinds_list, kinds_of}
 use Rattle.pig_value.proofs.KindLaws.{kinds_itself, kinds_same}
 use Rattle.pig_value.proofs.TreeLaws.{kinds_back}
 use Rattle.std.specs.declared.alloc.AllocError.{AllocError}
 use Rattle.pig_value.specs.Valid.{IsValue}
-use Rattle.pig_value.specs.declared.operators.Side.{Side}
 use Rattle.pig_plan.specs.Exchanged.{GivesThere, IsGivenFor, MayBeGiven, MayExchange, MayStand, StillGives, may_be_twin}
 use Rattle.pig_plan.specs.Given.{before_of, kinds_of_given}
 use Rattle.pig_plan.specs.Laws.{OpLiteralsAre, PlanLiteralsAre}
-use Rattle.pig_plan.specs.NodeKinds.{Before, KeyedKinds, NodeGives, RowKinds, all_keyed, foreach_gives, group_all_gives, group_kinds, is_join, keyed_kinds, keys_agree, kinds_at, kinds_step, kinds_table, node_gives, only_if, order_gives, rank_gives, same_gives, store_gives, tested_gives, union_kinds}
+use Rattle.pig_plan.specs.NodeKinds.{NodeGives, RowKinds, kinds_at, kinds_step, kinds_table, node_gives}
 use Rattle.pig_plan.specs.Nodes.{IsOnlyUse, inputs_of, names}
-use Rattle.pig_plan.specs.Plans.{Keyed, Plan, PlanNode, PlanOp, node_of, op_of, p_load, p_filter, p_foreach, p_group_all, p_group, p_join, p_union, p_distinct, p_order, p_limit, p_store, p_assert, p_rank, plan_of}
+use Rattle.pig_plan.specs.Plans.{Plan, PlanNode, PlanOp, node_of, op_of, p_limit, p_assert, plan_of}
 use Rattle.pig_plan.specs.Results.{at_place, results, results_behind}
 use Rattle.pig_plan.specs.Valid.{AreUpTo, IsPlan, are_twins, is_twin, op_writes_lf}
 use Rattle.pig_plan.specs.declared.given.Given.{Given}
 use Rattle.pig_plan.specs.declared.given.Given.TheVariants as given
 use Rattle.pig_plan.specs.declared.nodes.Node.{Node}
+use Rattle.pig_plan.proofs.Renumbering.{gives_agree}
 use Rattle.pig_plan.proofs.Unfolds.{behind_is, length-results, result_before, take-front}
 
 -- ---- lists with one element changed
 
-either_false : (a b : Bool) → (a || b) ≡ false → (a ≡ false) × (b ≡ false)
+pub either_false : (a b : Bool) → (a || b) ≡ false → (a ≡ false) × (b ≡ false)
 either_false true b h = absurd (true≢false h)
 either_false false b h = (refl, h)
 
 module _ {X : Type 0} where
-  set_there : (xs : List X) (j : ℕ) (y : X) → j < length xs → slice_get (slice_set xs j y) j ≡ Some y
+  pub set_there : (xs : List X) (j : ℕ) (y : X) → j < length xs → slice_get (slice_set xs j y) j ≡ Some y
   set_there [] j y h = absurd (omega (arith, h))
   set_there (x ∷ xs) zero y h = refl
   set_there (x ∷ xs) (suc j) y h = set_there xs j y (omega (arith, h))
 
-  set_other : (xs : List X) (j n : ℕ) (y : X) → (n ≡ j → ⊥) → slice_get (slice_set xs j y) n ≡ slice_get xs n
+  pub set_other : (xs : List X) (j n : ℕ) (y : X) → (n ≡ j → ⊥) → slice_get (slice_set xs j y) n ≡ slice_get xs n
   set_other [] j n y h = refl
   set_other (x ∷ xs) zero zero y h = absurd (h refl)
   set_other (x ∷ xs) zero (suc n) y h = refl
   set_other (x ∷ xs) (suc j) zero y h = refl
   set_other (x ∷ xs) (suc j) (suc n) y h = set_other xs j n y (λ e. h (ap (λ m. suc m) e))
 
-  set_length : (xs : List X) (j : ℕ) (y : X) → length (slice_set xs j y) ≡ length xs
+  pub set_length : (xs : List X) (j : ℕ) (y : X) → length (slice_set xs j y) ≡ length xs
   set_length [] j y = refl
   set_length (x ∷ xs) zero y = refl
   set_length (x ∷ xs) (suc j) y = ap (λ m. suc m) (set_length xs j y)
+
+  -- what stands there in its own place
+  pub set_same : (xs : List X) (j : ℕ) (x : X) → slice_get xs j ≡ Some x → slice_set xs j x ≡ xs
+  set_same [] j x h = refl
+  set_same (w ∷ xs) zero x h = ap (λ z. z ∷ xs) (sym (some_same w x h))
+  set_same (w ∷ xs) (suc j) x h = ap (λ zs. w ∷ zs) (set_same xs j x h)
 
   -- put back what stood there
   pub put_back : (xs : List X) (j : ℕ) (y x back : X) → slice_get xs j ≡ Some x → back ≡ x → slice_set (slice_set xs j y) j back ≡ xs
@@ -111,7 +116,7 @@ module _ {N R : Type 0} (step : ℕ → N → (ℕ → R) → R) (nothing : R) w
       let one = length-append found (next ∷ []) in
       behind_take (found ++ next ∷ []) nodes k at (omega (arith, e, one))
 
-  results_take : (nodes : List N) (k : ℕ) → results step nothing (take k nodes) ≡ take k (results step nothing nodes)
+  pub results_take : (nodes : List N) (k : ℕ) → results step nothing (take k nodes) ≡ take k (results step nothing nodes)
   results_take nodes k = behind_take [] nodes k k (omega arith)
 
   -- each of these is the step of its node on those before it
@@ -131,65 +136,24 @@ module _ {N R : Type 0} (step : ℕ → N → (ℕ → R) → R) (nothing : R) w
       ∙ behind_are (found ++ r ∷ []) nodes rest (omega (arith, long)) (λ k at other stands e. are (suc k) at other stands (omega (arith, e, one)) ∙ ap (λ all. Some (step at other (at_place nothing all))) (sym (append_assoc found (r ∷ []) (take k rest))))
       ∙ append_assoc found (r ∷ []) rest
 
-  results_are : (nodes : List N) (all : List R) → length all ≡ length nodes → ((k : ℕ) (node : N) → slice_get nodes k ≡ Some node → slice_get all k ≡ Some (step k node (at_place nothing (take k all)))) → results step nothing nodes ≡ all
+  pub results_are : (nodes : List N) (all : List R) → length all ≡ length nodes → ((k : ℕ) (node : N) → slice_get nodes k ≡ Some node → slice_get all k ≡ Some (step k node (at_place nothing (take k all)))) → results step nothing nodes ≡ all
   results_are nodes all long are = behind_are [] nodes all long (λ k at node stands e. are k node stands ∙ (let same : k ≡ at = omega (arith, e) in ap (λ n. Some (step n node (at_place nothing (take k all)))) same))
-
--- ---- what an operator gives goes by its inputs alone
-
-module _ (f g : Before) where
-  abbrev Agree : List ℕ → Type 0
-  Agree inputs = AllByRecursion (λ i. f i ≡ g i) inputs
-
-  keyed_agree : (inputs : List Keyed) → Agree (map (λ k. k.input) inputs) → all_of (keyed_kinds f) inputs ≡ all_of (keyed_kinds g) inputs
-  keyed_agree [] h = refl
-  keyed_agree (k ∷ inputs) h = λ j. option_and_then (λ y. option_map (λ ys. y ∷ ys) (keyed_agree inputs h.1 j)) (ap (λ o. keyed_kinds (λ i. o) k) h.0 j)
-
-  rows_agree : (inputs : List ℕ) → Agree inputs → all_of f inputs ≡ all_of g inputs
-  rows_agree [] h = refl
-  rows_agree (i ∷ inputs) h = λ j. option_and_then (λ y. option_map (λ ys. y ∷ ys) (rows_agree inputs h.1 j)) (h.0 j)
-
-  all_agree : (inputs : List Keyed) → Agree (map (λ k. k.input) inputs) → all_keyed f inputs ≡ all_keyed g inputs
-  all_agree inputs h = ap (λ r. option_and_then (λ found. only_if (keys_agree found) (Some found)) r) (keyed_agree inputs h)
-
-  abbrev grouped_of : Option (List KeyedKinds) → NodeGives
-  grouped_of r = option_and_then (λ found. Some (Some (group_kinds found))) r
-
-  abbrev united : Option (List RowKinds) → NodeGives
-  united r = option_and_then (λ found. option_and_then (λ row. Some (Some row)) (union_kinds found)) r
-
-  abbrev joined : Side → Bool → Bool → Option (List KeyedKinds) → NodeGives
-  joined s replicated none r = option_and_then (λ found. only_if (is_join s replicated (length found) && none) (Some (Some (flat_map (λ input. input.row) found)))) r
-
-  pub gives_agree : (o : PlanOp) → Agree (inputs_of o) → node_gives f o ≡ node_gives g o
-  gives_agree (p_load path delim columns) h = refl
-  gives_agree (p_filter input c) h = ap (λ o. tested_gives (λ i. o) input c) h.0
-  gives_agree (p_foreach input block) h = ap (λ o. foreach_gives (λ i. o) input block) h.0
-  gives_agree (p_group_all input) h = ap (λ o. group_all_gives (λ i. o) input) h.0
-  gives_agree (p_group inputs) h = ap grouped_of (all_agree inputs h)
-  gives_agree (p_join inputs s replicated) h = ap (joined s replicated (list_all (λ k. not k.inner) inputs)) (all_agree inputs h)
-  gives_agree (p_union inputs) h = ap united (rows_agree inputs h)
-  gives_agree (p_distinct input) h = ap (λ o. same_gives (λ i. o) input) h.0
-  gives_agree (p_order input keys) h = ap (λ o. order_gives (λ i. o) input keys) h.0
-  gives_agree (p_limit input count) h = ap (λ o. same_gives (λ i. o) input) h.0
-  gives_agree (p_store input path delim) h = ap (λ o. store_gives (λ i. o) input) h.0
-  gives_agree (p_assert input c message) h = ap (λ o. tested_gives (λ i. o) input c) h.0
-  gives_agree (p_rank input keys dense) h = ap (λ o. rank_gives (λ i. o) input keys) h.0
 
 -- ---- what is asked of a node in three parts
 
-parts_of : (a b c : Bool) → (a && not b && not c) ≡ true → (a ≡ true) × (b ≡ false) × (c ≡ false)
+pub parts_of : (a b c : Bool) → (a && not b && not c) ≡ true → (a ≡ true) × (b ≡ false) × (c ≡ false)
 parts_of true false false h = (refl, refl, refl)
 parts_of true false true h = absurd (true≢false (sym h))
 parts_of true true c h = absurd (true≢false (sym h))
 parts_of false b c h = absurd (true≢false (sym h))
 
-from_parts : (a b c : Bool) → a ≡ true → b ≡ false → c ≡ false → (a && not b && not c) ≡ true
+pub from_parts : (a b c : Bool) → a ≡ true → b ≡ false → c ≡ false → (a && not b && not c) ≡ true
 from_parts a b c h g e = λ i. h i && not (g i) && not (e i)
 
-abbrev Kinds : Type 0
+abbrev pub Kinds : Type 0
 Kinds = List (Option RowKinds)
 
-abbrev GivesIn : Kinds → ℕ → PlanOp → Type 0
+abbrev pub GivesIn : Kinds → ℕ → PlanOp → Type 0
 GivesIn table k o = node_gives (at_place None (take k table)) o ≡ Some (at_place None table k)
 
 some_back : (o : NodeGives) (x : Option RowKinds) → is_some o ≡ true → x ≡ unwrap_or o None → o ≡ Some x
@@ -197,14 +161,14 @@ some_back None x h e = absurd (true≢false (sym h))
 some_back (Some y) x h e = ap Some (sym e)
 
 -- each node of a plan gives what the table of kinds has
-gives_its : (p : Plan) → IsPlan p → (k : ℕ) (v : PlanNode) → slice_get p k ≡ Some v → GivesIn (kinds_table p) k v.op
+pub gives_its : (p : Plan) → IsPlan p → (k : ℕ) (v : PlanNode) → slice_get p k ≡ Some v → GivesIn (kinds_table p) k v.op
 gives_its p valid k v stands =
     let parts = parts_of (is_some (node_gives (kinds_at (take k p)) v.op)) (op_writes_lf v.op) (list_any (is_twin v) (take k p)) (valid k v stands) in
     some_back (node_gives (at_place None (take k (kinds_table p))) v.op) (at_place None (kinds_table p) k)
     (ap (λ t. is_some (node_gives (at_place None t) v.op)) (sym (results_take kinds_step None p k)) ∙ parts.0)
     (result_before kinds_step None p k v stands)
 
-placed : (table : Kinds) (k : ℕ) → k < length table → slice_get table k ≡ Some (at_place None table k)
+pub placed : (table : Kinds) (k : ℕ) → k < length table → slice_get table k ≡ Some (at_place None table k)
 placed table k within = let found = some_at table k within in found.1 ∙ ap Some (sym (ap (λ o. unwrap_or o None) found.1))
 
 not_named : (k : ℕ) (inputs : List ℕ) → list_any (λ i. i == k) inputs ≡ false → AllByRecursion (λ i. i ≡ k → ⊥) inputs
@@ -230,12 +194,12 @@ never_first v w h =
     ap (λ b. b && w.statement == v.statement)
     (either_way (are_twins v.op w.op) (λ e. absurd (true≢false (sym (twins_first v.op w.op e) ∙ h))) (λ e. e))
 
-never_second : (v w : PlanNode) → may_be_twin w.op ≡ false → is_twin v w ≡ false
+pub never_second : (v w : PlanNode) → may_be_twin w.op ≡ false → is_twin v w ≡ false
 never_second v w h =
     ap (λ b. b && w.statement == v.statement)
     (either_way (are_twins v.op w.op) (λ e. absurd (true≢false (sym (twins_second v.op w.op e) ∙ h))) (λ e. e))
 
-none_first : (v : PlanNode) (p : Plan) → may_be_twin v.op ≡ false → list_any (is_twin v) p ≡ false
+pub none_first : (v : PlanNode) (p : Plan) → may_be_twin v.op ≡ false → list_any (is_twin v) p ≡ false
 none_first v [] h = refl
 none_first v (w ∷ p) h = ap (λ b. b || list_any (is_twin v) p) (never_first v w h) ∙ none_first v p h
 

@@ -27,6 +27,8 @@ pub mod Conjoined
 pub mod Moved
 mod MoveSamples
 pub mod Rewrites
+pub mod Renumbering
 pub mod LineFree
 pub mod OfKinds
 pub mod Exchanged
+pub mod Room

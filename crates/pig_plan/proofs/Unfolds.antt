@@ -22,7 +22,7 @@ module _ {R : Type 0} where
   take-front [] (y ∷ ys) = refl
   take-front (x ∷ xs) ys = ap (λ zs. x ∷ zs) (take-front xs ys)
 
-  get-take : (xs : List R) (k j : ℕ) → j < k → slice_get (take k xs) j ≡ slice_get xs j
+  pub get-take : (xs : List R) (k j : ℕ) → j < k → slice_get (take k xs) j ≡ slice_get xs j
   get-take xs zero j h = absurd (omega (arith, h))
   get-take [] (suc k) j h = refl
   get-take (x ∷ xs) (suc k) zero h = refl

@@ -19,4 +19,5 @@ pub mod Conjuncts
 pub mod Moves
 pub mod Rewrites
 pub mod Renumbered
+pub mod Room
 pub mod Laws

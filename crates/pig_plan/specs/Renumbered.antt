@@ -27,6 +27,10 @@ rename at (p_store input path delim) = p_store (at input) path delim
 rename at (p_assert input cond message) = p_assert (at input) cond message
 rename at (p_rank input keys dense) = p_rank (at input) keys dense
 
+-- the node over inputs at other numbers, with its statement
+abbrev pub renamed : (ℕ → ℕ) → PlanNode → PlanNode
+renamed at node = record { op = rename at node.op; statement = node.statement }
+
 -- The node of q that stands for v, the live node of p numbered k. Its statement may be an earlier one, but for a bare LIMIT, whose rows
 -- are kept by it.
 pub record StandsFor (p q : Plan) (at : ℕ → ℕ) (k : ℕ) (v : PlanNode) : Type 0 where

@@ -13,6 +13,7 @@ mod live;
 mod naming;
 mod nodes;
 mod plan;
+mod rooming;
 mod valued;
 mod written;
 
@@ -27,3 +28,4 @@ pub use laws::{
 pub use live::{live_marks, live_numbers};
 pub use nodes::{KeyedInput, KeyedInputs, Node, NodeOp, Nodes};
 pub use plan::Plan;
+pub use rooming::no_rows;

@@ -1,4 +1,4 @@
-ghost use Rattle.std.specs.Prelude.{◌≡◌, [], ◌∷◌, ◌++◌, List, None, map, length, true, false, slice_set, IfOk, OnOk, OnErr};
+ghost use Rattle.std.specs.Prelude.{◌≡◌, ◌<◌, [], ◌∷◌, ◌++◌, List, None, map, length, true, false, slice_set, IfOk, OnOk, OnErr};
 ghost use Rattle.std.specs.List.{list_any};
 ghost use Rattle.std.specs.Option.{option_copied, option_map, unwrap_or};
 ghost use Rattle.pig_value.specs.Trees.{kind_tree};
@@ -8,6 +8,7 @@ ghost use Rattle.pig_plan.specs.NodeKinds.{kinds_at, node_gives};
 ghost use Rattle.pig_plan.specs.declared.given.Given.{Given};
 ghost use Rattle.pig_plan.specs.Nodes.{IsOnlyUse};
 ghost use Rattle.pig_plan.specs.Plans.{node_of, op_of, plan_of};
+ghost use Rattle.pig_plan.specs.Room.{roomy};
 ghost use Rattle.pig_plan.specs.Laws.{PlanLiteralsAre};
 ghost use Rattle.pig_plan.specs.Valid.{AreUpTo, IsPlan, are_twins, fits, is_twin};
 ghost use Rattle.pig_value.specs.Valid.{IsValue};
@@ -16,6 +17,7 @@ use crate::checking::given;
 use crate::exchanging::{exchange_given, may_stand, put_two};
 use crate::given::{Given, rows_before};
 use crate::literals::op_writes_line_end;
+use crate::rooming::roomy;
 use crate::valued::know_literals;
 use crate::{Node, NodeOp, Nodes};
 use pig_value::Kinds;
@@ -124,6 +126,29 @@ impl Plan {
         push_or_take_back(&mut self.nodes, &mut self.given, node)?;
         self.latest = latest;
         Ok(number)
+    }
+
+    /// The plan with room for one node before the one numbered `at`: a node that reads nothing stands there, and those
+    /// from there on have the next numbers. What the others give is not looked at again. Where memory is wanting, the
+    /// plan is gone.
+    pub fn with_room(self, at: u32) -> Result<Plan, AllocError>
+        requires { at < length self }
+        ensures { IfOk result (λ made. plan_of made ≡ roomy at (plan_of self)) }
+    {
+        let Plan {
+            alloc,
+            nodes,
+            mut given,
+            latest,
+        } = self;
+        let nodes = roomy(alloc, nodes, at)?;
+        given.insert(at as usize, Given::Rows(Kinds::new(alloc)))?;
+        Ok(Plan {
+            alloc,
+            nodes,
+            given,
+            latest,
+        })
     }
 
     /// Puts two nodes in the place of two others, of which the first is read by the second alone, where the second then

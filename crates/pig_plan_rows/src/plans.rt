@@ -346,3 +346,50 @@ fn nodes_fit_or_not(rt: HostRuntime) {
     assert_eq!(rt; widths, [None, Some(3), Some(6), Some(2), Some(4)]);
     assert_eq!(rt; nodes, 20);
 }
+
+/// A plan of the nodes on these lines, which all fit.
+fn planned<R: Abort>(rt: &R, alloc: Global, lines: &[&str]) -> Plan {
+    let mut plan = Plan::empty(alloc);
+    for line in lines {
+        let fits = tried(rt, alloc, &mut plan, line.as_bytes());
+        assert!(rt; fits, "{line}");
+    }
+    plan
+}
+
+/// Whether a node reads these.
+fn reads<R: Abort>(rt: &R, alloc: Global, plan: &Plan, node: usize, wanted: &[u32]) -> bool {
+    let Some(found) = plan.nodes().get(node) else {
+        return false;
+    };
+    let inputs = found.op.inputs(alloc).expect(rt, "memory");
+    inputs.as_slice() == wanted
+}
+
+#[test]
+fn room_is_made_before_a_node(rt: HostRuntime) {
+    let alloc = rt.alloc();
+    let lines = ["L", "L", "f1", "j00,20", "u01", "s3"];
+    let plan = planned(&rt, alloc, &lines);
+    let Ok(plan) = plan.with_room(1) else {
+        panic!(&rt; "memory");
+    };
+    let nodes = plan.nodes().len();
+    let unmoved = reads(&rt, alloc, &plan, 0, &[]);
+    let room = reads(&rt, alloc, &plan, 1, &[]);
+    let filter = reads(&rt, alloc, &plan, 3, &[2]);
+    let join = reads(&rt, alloc, &plan, 4, &[0, 3]);
+    let union = reads(&rt, alloc, &plan, 5, &[0, 2]);
+    let store = reads(&rt, alloc, &plan, 6, &[4]);
+    let widths = [
+        width(&plan, 0),
+        width(&plan, 1),
+        width(&plan, 3),
+        width(&plan, 4),
+        width(&plan, 6),
+    ];
+    drop(plan);
+    assert_eq!(rt; nodes, 7);
+    assert!(rt; unmoved && room && filter && join && union && store);
+    assert_eq!(rt; widths, [Some(3), Some(0), Some(3), Some(6), None]);
+}

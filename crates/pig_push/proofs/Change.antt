@@ -1,5 +1,5 @@
 -- A move of a whole condition keeps what a plan means.
-use Rattle.std.specs.Prelude.{◌≡◌, ◌<◌, ◌≤◌, ◌+◌, ◌-◌, ◌==◌, ◌&&◌, ◌||◌, ◌⊎◌, not, ℕ, zero, suc, Bool, true, false, List, [], ◌∷◌, map, length, nat_le, nat_lt, Option, Some, None, slice_get, slice_set, refl, if◌then◌else◌}
+use Rattle.std.specs.Prelude.{◌≡◌, ◌<◌, ◌≤◌, ◌+◌, ◌-◌, ◌==◌, ◌&&◌, ◌||◌, ◌⊎◌, not, ℕ, Bool, true, false, List, [], ◌∷◌, map, length, nat_le, nat_lt, Option, Some, None, slice_get, slice_set, refl, if◌then◌else◌}
 use Rattle.std.proofs.Common.{ap, sym, ◌∙◌, subst, arith, true≢false, inl, inr}
 use Rattle.std.specs.List.{AllByRecursion, flat_map, list_all, list_any}
 use Rattle.std.specs.Option.{is_some, option_and_then, option_map, option_map_or, unwrap_or}
@@ -16,6 +16,7 @@ use Rattle.pig_value.specs.Sorts.{distinct}
 use Rattle.pig_typed.specs.Blocks.{foreach_all}
 use Rattle.pig_typed.specs.Premises.{FunctionsKeepKinds}
 use Rattle.pig_typed.specs.Typed.{Typed, TypedBlock, x_field}
+use Rattle.pig_plan.proofs.Exchanged.{set_length, set_other, set_there}
 use Rattle.pig_plan.proofs.Lower.{inputs_found, meaning_of_node, names_lower}
 use Rattle.pig_plan.proofs.Meanings.{each_both, live_input}
 use Rattle.pig_plan.proofs.Rewrites.{Earlier}
@@ -29,9 +30,9 @@ use Rattle.pig_plan.specs.Plans.{Keyed, Plan, PlanNode, PlanOp, p_load, p_filter
 use Rattle.pig_plan.specs.Renumbered.{IsSame}
 use Rattle.pig_plan.specs.Rewrites.{SameMeaning}
 use Rattle.pig_plan.specs.Valid.{IsPlan}
-use Rattle.pig_share.proofs.Living.{member as member_of}
 use Rattle.pig_share.proofs.Shares.{each_mapped}
 use Rattle.pig_push.specs.declared.joining.Spot.{Spot}
+use Rattle.pig_share.proofs.Living.{member as member_of}
 use Rattle.pig_push.specs.Pushed.{IsMove, IsTidy, all_pass, at_spot, conjoined, filter_as, from_key, handed_on, hands_all, hands_key, high_of, is_open, low_of, may_pass, on_input, opens, over_at, over_spot, spot_for, spot_of}
 use Rattle.pig_push.proofs.InPlace.{Gives, InPlace, Reads, by_above, by_inner, in_place_means, in_place_tidy, wide}
 use Rattle.pig_push.proofs.Joins.{Place, Spans, filter_below_join, here, later, place_behind}
@@ -39,26 +40,6 @@ use Rattle.pig_push.proofs.Keeps.{Allowed, IsInput, inputs_live, is_end, node_wi
 use Rattle.pig_push.proofs.Kept.{distinct_kinds, filter_kinds, foreach_kinds, gives_some, group_kinds_of, grouped_kinds, join_kinds_of, joined_kinds, made_kinds}
 use Rattle.pig_push.proofs.Keyed.{filter_below_group}
 use Rattle.pig_push.proofs.Passing.{filter_below_distinct, filter_below_foreach, filter_joins}
-
--- ---- lists with one element changed
-
-module _ {X : Type 0} where
-  pub set_there : (xs : List X) (j : ℕ) (y : X) → j < length xs → slice_get (slice_set xs j y) j ≡ Some y
-  set_there [] j y h = absurd (omega (arith, h))
-  set_there (x ∷ xs) zero y h = refl
-  set_there (x ∷ xs) (suc j) y h = set_there xs j y (omega (arith, h))
-
-  pub set_other : (xs : List X) (j n : ℕ) (y : X) → (n ≡ j → ⊥) → slice_get (slice_set xs j y) n ≡ slice_get xs n
-  set_other [] j n y h = refl
-  set_other (x ∷ xs) zero zero y h = absurd (h refl)
-  set_other (x ∷ xs) zero (suc n) y h = refl
-  set_other (x ∷ xs) (suc j) zero y h = refl
-  set_other (x ∷ xs) (suc j) (suc n) y h = set_other xs j n y (λ e. h (ap (λ m. suc m) e))
-
-  pub set_length : (xs : List X) (j : ℕ) (y : X) → length (slice_set xs j y) ≡ length xs
-  set_length [] j y = refl
-  set_length (x ∷ xs) zero y = refl
-  set_length (x ∷ xs) (suc j) y = ap (λ m. suc m) (set_length xs j y)
 
 -- ---- the kinds of joined rows
 

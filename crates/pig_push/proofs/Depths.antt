@@ -11,18 +11,18 @@ use Rattle.std.proofs.lemmas.Option.{slice_get_within}
 use Rattle.pig_value.proofs.list_laws.Listing.{each-append, each-filter, some_same}
 use Rattle.pig_value.specs.declared.operators.ChainOp.TheVariants as op
 use Rattle.pig_typed.specs.Typed.{Typed, TypedArgs, TypedLinks, x_null, x_bool, x_int, x_long, x_chars, x_field, x_local, x_chain, x_compare, x_is_null, x_not, x_minus, x_choose, x_cast, x_project, x_look, x_call, no_links, more_links, no_args, more_args}
+use Rattle.pig_plan.proofs.Room.{From, insert_from, new, old}
 use Rattle.pig_plan.specs.declared.nodes.Node.{Node}
 use Rattle.pig_plan.specs.Conjuncts.{all_and, conjuncts, link_conjuncts}
 use Rattle.pig_plan.specs.Moves.{put, put_args, put_links}
 use Rattle.pig_plan.specs.Nodes.{is_live}
 use Rattle.pig_plan.specs.Plans.{Plan, PlanNode, PlanOp, p_load, p_filter, p_foreach, p_group_all, p_group, p_join, p_union, p_distinct, p_order, p_limit, p_store, p_assert, p_rank, plan_of}
-use Rattle.pig_plan.specs.Renumbered.{rename}
-use Rattle.pig_share.specs.Shared.{renamed}
+use Rattle.pig_plan.specs.Renumbered.{rename, renamed}
+use Rattle.pig_plan.specs.Room.{idle, past, roomy}
 use Rattle.pig_push.specs.declared.joining.Spot.{Spot}
-use Rattle.pig_push.specs.Pushed.{AreMoves, IsCleared, IsMove, IsPushed, IsSplit, IsUnited, NestUpTo, and_links, arg_depth, at_spot, chained, chained_where, conjoined, depth, filter_as, filter_depth, filter_on, filtered, high_of, idle, link_depth, low_of, none, one_more, one_room, one_split, one_union, past, put_from, roomy, spot_for}
+use Rattle.pig_push.specs.Pushed.{AreMoves, IsCleared, IsMove, IsPushed, IsSplit, IsUnited, NestUpTo, and_links, arg_depth, at_spot, chained, chained_where, conjoined, depth, filter_as, filter_depth, filter_on, filtered, high_of, link_depth, low_of, none, one_more, one_room, one_split, one_union, put_from, spot_for}
 use Rattle.pig_push.proofs.Chains.{IsConjunct, chained_back, conjuncts_kept, each_conjunct}
 use Rattle.pig_push.proofs.Keeps.{node_with}
-use Rattle.pig_push.proofs.Room.{From, insert_from, new, old}
 
 front_each : {X : Type 0} (P : X → Type 0) (xs ys : List X) → AllByRecursion P (xs ++ ys) → AllByRecursion P xs
 front_each P [] ys h = tt
@@ -276,7 +276,7 @@ shallow_room most k p h j w at = by_from (insert_from idle k j (map (renamed (pa
     by_node n (Some v) g e = subst (λ u. ShallowOp most u.op) (some_same (renamed (past k) v) w e) (shallow_renamed most (past k) v.op (h n v g))
 
     by_from : From idle k (map (renamed (past k)) p) j w → ShallowOp most w.op
-    by_from (new e) = subst (λ u. ShallowOp most u.op) e tt
+    by_from (new e here) = subst (λ u. ShallowOp most u.op) e tt
     by_from (old n e g) = by_node n (slice_get p n) refl (sym (get_map (renamed (past k)) p n) ∙ g)
 
 -- ---- moves

@@ -1,5 +1,5 @@
 -- A node that stands in two plans, over inputs that are the same in both, is the same in both; and what a node gives as to its kinds.
-use Rattle.std.specs.Prelude.{◌≡◌, ◌<◌, ℕ, Bool, true, false, not, ◌&&◌, List, [], ◌∷◌, ◌++◌, map, length, take, drop, Option, Some, None, slice_get, refl}
+use Rattle.std.specs.Prelude.{◌≡◌, ◌<◌, ℕ, Bool, true, false, not, ◌&&◌, List, [], ◌∷◌, ◌++◌, length, take, drop, Option, Some, None, slice_get, refl}
 use Rattle.std.proofs.Common.{ap, sym, ◌∙◌, arith, true≢false, append_assoc, append-nil}
 use Rattle.std.specs.List.{AllByRecursion, list_any}
 use Rattle.std.specs.Option.{is_some, option_map_or, unwrap_or}
@@ -17,40 +17,12 @@ use Rattle.pig_plan.specs.Meaning.{kept_at, meaning, setting, width_at}
 use Rattle.pig_plan.specs.NodeKinds.{Before, RowKinds, foreach_gives, group_gives, is_test, join_gives, kinds_at, kinds_step, node_gives, only_if, same_gives, tested_gives}
 use Rattle.pig_plan.specs.Nodes.{inputs_of, is_list, is_sorted, lists, sorts}
 use Rattle.pig_plan.specs.Operators.{operator_rows}
-use Rattle.pig_plan.specs.Plans.{Keyed, Plan, PlanNode, PlanOp, p_load, p_filter, p_foreach, p_group_all, p_group, p_join, p_union, p_distinct, p_order, p_limit, p_store, p_assert, p_rank}
-use Rattle.pig_plan.specs.Renumbered.{IsSame, rename, rename_keyed}
+use Rattle.pig_plan.specs.Plans.{Keyed, Plan, PlanNode, p_filter, p_foreach, p_group, p_join, p_distinct}
+use Rattle.pig_plan.specs.Renumbered.{IsSame}
 use Rattle.pig_plan.specs.Results.{at_place, result_at, results}
 use Rattle.pig_plan.specs.Valid.{IsPlan, fits, is_twin, op_writes_lf}
-use Rattle.pig_share.proofs.Moved.{gives_moved, lists_moved, rows_moved, sorts_moved}
+use Rattle.pig_plan.proofs.Renumbering.{lists_moved, rows_moved, sorts_moved}
 use Rattle.pig_push.proofs.Keeps.{node_with}
-
--- ---- inputs at their own numbers
-
-keyed_itself : (inputs : List Keyed) → map (rename_keyed (λ n. n)) inputs ≡ inputs
-keyed_itself [] = refl
-keyed_itself (k ∷ inputs) = ap (λ ks. k ∷ ks) (keyed_itself inputs)
-
-numbers_itself : (ns : List ℕ) → map (λ n. n) ns ≡ ns
-numbers_itself [] = refl
-numbers_itself (n ∷ ns) = ap (λ ms. n ∷ ms) (numbers_itself ns)
-
-renamed_itself : (o : PlanOp) → rename (λ n. n) o ≡ o
-renamed_itself (p_load path delim columns) = refl
-renamed_itself (p_filter input c) = refl
-renamed_itself (p_foreach input block) = refl
-renamed_itself (p_group_all input) = refl
-renamed_itself (p_group inputs) = ap p_group (keyed_itself inputs)
-renamed_itself (p_join inputs side replicated) = ap (λ ks. p_join ks side replicated) (keyed_itself inputs)
-renamed_itself (p_union inputs) = ap p_union (numbers_itself inputs)
-renamed_itself (p_distinct input) = refl
-renamed_itself (p_order input keys) = refl
-renamed_itself (p_limit input count) = refl
-renamed_itself (p_store input path delim) = refl
-renamed_itself (p_assert input c message) = refl
-renamed_itself (p_rank input keys dense) = refl
-
-gives_goes : (f g : Before) (o : PlanOp) → AllByRecursion (λ i. f i ≡ g i) (inputs_of o) → node_gives f o ≡ node_gives g o
-gives_goes f g o h = ap (node_gives f) (sym (renamed_itself o)) ∙ gives_moved (λ n. n) f g o h
 
 -- ---- kinds
 
@@ -58,7 +30,7 @@ pub kinds_of_node : (p : Plan) → IsPlan p → (n : ℕ) (v : PlanNode) → sli
 kinds_of_node p valid n v stands =
     result_before kinds_step None p n v stands
     ∙ ap (λ o. unwrap_or o None)
-    (gives_goes (at_place None (take n (results kinds_step None p))) (kinds_at p) v.op
+    (gives_agree (at_place None (take n (results kinds_step None p))) (kinds_at p) v.op
     (each_weaker (λ i. i < n) (λ i. at_place None (take n (results kinds_step None p)) i ≡ kinds_at p i) (λ i lower. before_is kinds_step None p n i lower)
     (inputs_of v.op) (names_lower p valid n v stands)))
 
@@ -86,7 +58,7 @@ gives_some p valid n v stands =
     let within : n < length p = slice_get_within p n v stands in
     let fitting : fits (take n p) v ≡ true = valid n v stands in
     ap is_some
-    (sym (gives_goes (kinds_at (take n p)) (kinds_at p) v.op
+    (sym (gives_agree (kinds_at (take n p)) (kinds_at p) v.op
     (each_weaker (λ i. i < n) (λ i. kinds_at (take n p) i ≡ kinds_at p i) (λ i lower. all_there p n i within lower) (inputs_of v.op) (names_lower p valid n v stands))))
     ∙ both_first (is_some (node_gives (kinds_at (take n p)) v.op)) (not (op_writes_lf v.op))
     (both_first (is_some (node_gives (kinds_at (take n p)) v.op) && not (op_writes_lf v.op)) (not (list_any (is_twin v) (take n p))) fitting)
@@ -140,7 +112,7 @@ module _ (p q : Plan) (valid : IsPlan p) (valid_q : IsPlan q) where
       → AllByRecursion (IsSame p q (λ k. k) inputs kept) (inputs_of v.op) → IsSame p q (λ k. k) inputs kept n
   node_kept inputs kept n v stands there all = record {
     kinds = kinds_of_node q valid_q n v there
-        ∙ ap (λ o. unwrap_or o None) (gives_goes (kinds_at q) (kinds_at p) v.op (each_weaker (IsSame p q (λ k. k) inputs kept) (λ i. kinds_at q i ≡ kinds_at p i) (λ i s. s.kinds) (inputs_of v.op) all))
+        ∙ ap (λ o. unwrap_or o None) (gives_agree (kinds_at q) (kinds_at p) v.op (each_weaker (IsSame p q (λ k. k) inputs kept) (λ i. kinds_at q i ≡ kinds_at p i) (λ i s. s.kinds) (inputs_of v.op) all))
         ∙ sym (kinds_of_node p valid n v stands);
     sorted = sorted_of_node q valid_q n v there
         ∙ ap (λ o. sorts o (is_sorted q)) (sym (renamed_itself v.op))

@@ -3,7 +3,6 @@ pub mod InPlace
 pub mod Joins
 pub mod Spots
 pub mod Room
-pub mod Rooms
 pub mod Splits
 pub mod Keeps
 pub mod Kept

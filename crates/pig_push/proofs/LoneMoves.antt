@@ -5,17 +5,18 @@ use Rattle.std.proofs.lemmas.Bool.{eq-eqb, eqb-true}
 use Rattle.std.proofs.lemmas.Option.{none-some, slice_get_within}
 use Rattle.pig_value.proofs.list_laws.Bags.{either_way}
 use Rattle.pig_value.proofs.list_laws.Listing.{some_same}
+use Rattle.pig_plan.proofs.Exchanged.{set_length, set_other, set_there}
 use Rattle.pig_plan.proofs.Lower.{names_lower}
 use Rattle.pig_typed.specs.Typed.{Typed}
 use Rattle.pig_plan.specs.Meaning.{width_at}
 use Rattle.pig_plan.specs.Nodes.{names}
-use Rattle.pig_plan.specs.Plans.{Plan, PlanNode, PlanOp, p_filter, p_load}
+use Rattle.pig_plan.specs.Plans.{Plan, PlanNode, PlanOp, p_filter}
 use Rattle.pig_plan.specs.Valid.{IsPlan}
 use Rattle.pig_push.specs.Lone.{AreSound, CountedOn, IsCountedOn, IsLone, NotBoth, NotBothBut, StepsOn, is_often, is_shared, where_read}
 use Rattle.pig_push.specs.Pushed.{AreMoves, GoesOn, IsMove, high_of, low_of, one_more}
 use Rattle.pig_push.specs.declared.readers.ReadCount.{ReadCount}
 use Rattle.pig_push.specs.declared.readers.ReadCount.TheVariants as readers
-use Rattle.pig_push.proofs.Change.{Shape, set_length, set_other, set_there, shape_at}
+use Rattle.pig_push.proofs.Change.{Shape, shape_at}
 use Rattle.pig_push.proofs.Keeps.{node_with}
 
 module _ (p q : Plan) (valid : IsPlan p) (i k : ℕ) (m : IsMove p q i k) where

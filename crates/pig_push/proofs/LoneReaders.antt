@@ -1,22 +1,17 @@
 -- The table of a pass tells exactly which nodes no two others read; moves in place keep what it tells.
-use Rattle.std.specs.Prelude.{◌≡◌, ◌<◌, ◌+◌, ◌==◌, ◌&&◌, ◌||◌, ◌⊎◌, not, ℕ, zero, suc, Bool, true, false, List, [], ◌∷◌, ◌++◌, length, Some, get_or, slice_get, slice_set, refl, if◌then◌else◌}
-use Rattle.std.proofs.Common.{ap, sym, ◌∙◌, subst, arith, cond, true≢false, inl, inr, append_assoc, append-nil}
+use Rattle.std.specs.Prelude.{◌≡◌, ◌<◌, ◌+◌, ◌==◌, ◌||◌, not, ℕ, Bool, true, false, List, [], ◌∷◌, ◌++◌, length, Some, slice_get, refl, if◌then◌else◌}
+use Rattle.std.proofs.Common.{ap, sym, ◌∙◌, subst, arith, cond, true≢false, append_assoc, append-nil}
 use Rattle.std.specs.List.{list_any}
 use Rattle.std.proofs.lemmas.Bool.{eq-eqb, eqb-true}
 use Rattle.std.proofs.lemmas.List.{length-append}
 use Rattle.std.proofs.lemmas.Option.{none-some, slice_get_past, slice_get_within}
 use Rattle.pig_value.proofs.list_laws.Bags.{either_way}
-use Rattle.pig_value.proofs.list_laws.Listing.{some_same}
 use Rattle.pig_plan.proofs.Unfolds.{get-front}
-use Rattle.pig_plan.specs.Meaning.{width_at}
 use Rattle.pig_plan.specs.Nodes.{IsOnlyUse, inputs_of, names}
-use Rattle.pig_plan.specs.Plans.{Plan, PlanNode, p_filter}
-use Rattle.pig_plan.specs.Valid.{IsPlan}
-use Rattle.pig_push.specs.Lone.{AreExact, AreReaders, AreSound, IsLone, is_often, is_shared, noted, noted_by, noted_in}
-use Rattle.pig_push.specs.Pushed.{IsMove}
+use Rattle.pig_plan.specs.Plans.{Plan, PlanNode}
+use Rattle.pig_push.specs.Lone.{AreExact, AreReaders, AreSound, IsLone, is_often, noted, noted_by, noted_in}
 use Rattle.pig_push.specs.declared.readers.ReadCount.{ReadCount}
 use Rattle.pig_push.specs.declared.readers.ReadCount.TheVariants as readers
-use Rattle.pig_push.proofs.Keeps.{node_with}
 use Rattle.pig_push.proofs.Steps.{Stands, before, last, stands, there_last}
 
 -- ---- one node's inputs

@@ -1,19 +1,19 @@
 -- What the pass over FILTERs that stand on FILTERs does at each of them.
-use Rattle.std.specs.Prelude.{◌≡◌, ◌<◌, ◌&&◌, ℕ, zero, suc, Bool, true, false, List, [], ◌∷◌, ◌++◌, map, Err, IfOk, Ok, OnOk, Result, Some, slice_get, slice_set, refl}
+use Rattle.std.specs.Prelude.{◌≡◌, ◌<◌, ◌&&◌, ℕ, zero, suc, false, List, [], ◌∷◌, ◌++◌, map, Err, IfOk, Ok, OnOk, Result, Some, slice_get, slice_set, refl}
 use Rattle.std.proofs.Common.{ap, sym, ◌∙◌, subst, arith, append_assoc, append-nil}
 use Rattle.std.specs.List.{flat_map}
 use Rattle.std.specs.Option.{option_map}
 use Rattle.std.proofs.lemmas.List.{map-append, map-set}
 use Rattle.std.specs.declared.alloc.AllocError.{AllocError}
-use Rattle.pig_value.proofs.list_laws.Bags.{either_way}
 use Rattle.pig_value.proofs.list_laws.Indexing.{get_map}
 use Rattle.pig_value.proofs.list_laws.Listing.{some_same}
 use Rattle.pig_typed.specs.Typed.{Typed, typed, x_null}
 use Rattle.pig_typed.specs.declared.exprs.TExpr.{TExpr}
+use Rattle.pig_plan.proofs.Exchanged.{set_other}
 use Rattle.pig_plan.specs.Conjuncts.{conjuncts}
 use Rattle.pig_plan.specs.Meaning.{width_at}
 use Rattle.pig_plan.specs.Nodes.{names}
-use Rattle.pig_plan.specs.Plans.{Plan, PlanNode, PlanOp, op_of, p_filter, p_load, plan_of}
+use Rattle.pig_plan.specs.Plans.{Plan, PlanOp, op_of, p_filter, p_load, plan_of}
 use Rattle.pig_plan.specs.Valid.{IsPlan}
 use Rattle.pig_plan.specs.declared.nodes.Node.{Node}
 use Rattle.pig_plan.specs.declared.nodes.NodeOp.{NodeOp}
@@ -23,11 +23,11 @@ use Rattle.pig_push.specs.Pushed.{AreMoves, GoesOn, IsMove, chained, conjoined, 
 use Rattle.pig_push.specs.declared.merging.Held.{Held}
 use Rattle.pig_push.specs.declared.readers.ReadCount.{ReadCount}
 use Rattle.pig_push.proofs.Chains.{conjuncts_kept}
-use Rattle.pig_push.proofs.Change.{itself, set_other}
+use Rattle.pig_push.proofs.Change.{itself}
 use Rattle.pig_push.proofs.Keeps.{node_with}
 use Rattle.pig_push.proofs.LoneMoves.{high, still_lone}
 use Rattle.pig_push.proofs.LoneReaders.{only_of_lone}
-use Rattle.pig_push.proofs.Merges.{joined, joined_plan}
+use Rattle.pig_push.proofs.Merges.{joined_plan}
 use Rattle.pig_push.proofs.Steps.{filter_passes}
 
 -- ---- conditions joined in turn

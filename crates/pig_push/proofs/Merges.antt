@@ -1,29 +1,29 @@
 -- A FILTER becomes one with the FILTER that it alone reads: the nodes are a plan still, and no two nodes read what no two did.
-use Rattle.std.specs.Prelude.{◌≡◌, ◌<◌, ◌≤◌, ◌+◌, ◌==◌, ◌&&◌, ◌||◌, ◌⊎◌, not, ℕ, zero, suc, Bool, true, false, List, [], ◌∷◌, ◌++◌, map, length, take, Option, Some, None, slice_get, slice_set, refl}
-use Rattle.std.proofs.Common.{ap, sym, ◌∙◌, subst, arith, cond, true≢false, inl, inr, append_assoc, append-nil}
-use Rattle.std.specs.List.{AllByRecursion, flat_map, list_any}
+use Rattle.std.specs.Prelude.{◌≡◌, ◌<◌, ◌+◌, ◌&&◌, ◌||◌, not, ℕ, zero, suc, Bool, true, false, List, [], ◌∷◌, ◌++◌, length, take, Option, Some, None, slice_get, slice_set, refl}
+use Rattle.std.proofs.Common.{ap, sym, ◌∙◌, subst, arith, cond, true≢false}
+use Rattle.std.specs.List.{AllByRecursion, list_any}
 use Rattle.std.specs.Option.{is_some, option_and_then, option_map_or, unwrap_or}
 use Rattle.std.proofs.lemmas.Option.{none-some, slice_get_within}
 use Rattle.pig_value.proofs.KindLaws.{kind_same}
 use Rattle.pig_value.proofs.list_laws.Listing.{each-append, some_same}
 use Rattle.pig_value.specs.declared.operators.ChainOp.TheVariants as op
 use Rattle.pig_value.specs.Kinds.{kind_eq}
-use Rattle.pig_value.specs.Trees.{KindTree, k_boolean, k_int, k_long, k_chars, k_bytes, k_tuple, k_bag, k_map}
+use Rattle.pig_value.specs.Trees.{KindTree, k_boolean}
 use Rattle.pig_typed.specs.ExprKinds.{chain_kind, expr_kind, links_kind, truth_kind}
-use Rattle.pig_typed.specs.Typed.{Typed, TypedLinks, x_null, x_bool, x_int, x_long, x_chars, x_field, x_local, x_chain, x_compare, x_is_null, x_not, x_minus, x_choose, x_cast, x_project, x_look, x_call, no_links, more_links, links_of}
+use Rattle.pig_typed.specs.Typed.{Typed, TypedLinks, x_null, x_bool, x_int, x_long, x_chars, x_field, x_local, x_chain, x_compare, x_is_null, x_not, x_minus, x_choose, x_cast, x_project, x_look, x_call, no_links, more_links}
 use Rattle.pig_plan.proofs.Exchanged.{changed_plan}
+use Rattle.pig_plan.proofs.Exchanged.{set_other, set_there}
 use Rattle.pig_plan.proofs.Lower.{names_lower}
 use Rattle.pig_plan.proofs.Unfolds.{before_is, length-results}
 use Rattle.pig_plan.specs.Conjuncts.{all_and, conjuncts, link_conjuncts}
 use Rattle.pig_plan.specs.Exchanged.{MayStand}
 use Rattle.pig_plan.specs.NodeKinds.{RowKinds, is_test, kinds_at, kinds_step, kinds_table, node_gives, only_if, tested_gives}
-use Rattle.pig_plan.specs.Nodes.{IsOnlyUse, names}
-use Rattle.pig_plan.specs.Plans.{Plan, PlanNode, PlanOp, p_load, p_filter}
+use Rattle.pig_plan.specs.Nodes.{IsOnlyUse}
+use Rattle.pig_plan.specs.Plans.{Plan, PlanNode, p_load, p_filter}
 use Rattle.pig_plan.specs.Results.{at_place}
-use Rattle.pig_plan.specs.Valid.{IsPlan, fits, is_twin, op_writes_lf}
+use Rattle.pig_plan.specs.Valid.{IsPlan, is_twin, op_writes_lf}
 use Rattle.pig_plan.specs.Written.{links_write_lf, writes_lf}
 use Rattle.pig_push.specs.Pushed.{and_links, chained, conjoined}
-use Rattle.pig_push.proofs.Change.{set_other, set_there}
 use Rattle.pig_push.proofs.Keeps.{node_with}
 use Rattle.pig_push.proofs.Kept.{filter_kinds, gives_some}
 

@@ -1,10 +1,11 @@
 -- A plan with one node more that reads nothing, at a place: the nodes behind it have other numbers, and the plan means what it meant.
-use Rattle.std.specs.Prelude.{◌≡◌, ◌<◌, ◌≤◌, ◌+◌, ◌==◌, ℕ, zero, suc, Bool, true, false, not, List, [], ◌∷◌, ◌++◌, map, length, take, Option, Some, None, slice_get, refl}
+use Rattle.std.specs.Prelude.{◌≡◌, ◌<◌, ◌≤◌, ◌+◌, ◌==◌, ℕ, zero, suc, Bool, true, false, not, List, [], ◌++◌, map, length, take, Option, Some, None, slice_get, refl}
 use Rattle.std.proofs.Common.{ap, sym, ◌∙◌, subst, arith, true≢false, inl, inr}
 use Rattle.std.specs.List.{AllByRecursion, list_all, list_any, range_with_len}
 use Rattle.std.specs.Option.{option_map, option_map_or, unwrap_or}
 use Rattle.std.proofs.lemmas.Bool.{eq-eqb, eqb-true}
 use Rattle.std.proofs.Math.Nat.{eq-or-lt_of_le}
+use Rattle.std.proofs.lemmas.List.{length-map}
 use Rattle.std.proofs.lemmas.Option.{none-some, slice_get_within}
 use Rattle.pig_value.proofs.list_laws.Bags.{either_way}
 use Rattle.pig_value.proofs.list_laws.Indexing.{get_map, some_at}
@@ -21,69 +22,18 @@ use Rattle.pig_plan.specs.Meaning.{AreKept, EachIsKept, IsKept, kept_at, meaning
 use Rattle.pig_plan.specs.NodeKinds.{kinds_at, kinds_step}
 use Rattle.pig_plan.specs.Nodes.{bare_limits, inputs_of, is_bare, is_list, is_live, is_sorted, is_store, names}
 use Rattle.pig_plan.specs.Plans.{Plan, PlanNode, PlanOp, p_load, p_filter, p_foreach, p_group_all, p_group, p_join, p_union, p_distinct, p_order, p_limit, p_store, p_assert, p_rank}
-use Rattle.pig_plan.specs.Renumbered.{IsSame, rename}
+use Rattle.pig_plan.specs.Renumbered.{IsSame, rename, renamed}
 use Rattle.pig_plan.specs.Results.{at_place, results}
 use Rattle.pig_plan.specs.Rewrites.{Fails, SameMeaning, Stores}
+use Rattle.pig_plan.specs.Room.{idle, past, roomy}
 use Rattle.pig_plan.specs.Valid.{IsPlan}
-use Rattle.pig_share.specs.Shared.{renamed}
 use Rattle.pig_share.proofs.Limits.{adds, is_bare_one, listing, next, not_bare}
 use Rattle.pig_share.proofs.Living.{User, came, goes, member, store_lives, store_renamed, user_of}
-use Rattle.pig_share.proofs.Moved.{gives_moved, inputs_renamed, lists_moved, rows_moved, sorts_moved}
+use Rattle.pig_plan.proofs.Room.{From, insert_from, insert_length, insert_new, insert_there, new, old, past_behind, past_below, past_one}
+use Rattle.pig_plan.proofs.Renumbering.{gives_moved, inputs_renamed, lists_moved, rows_moved, sorts_moved}
 use Rattle.pig_share.proofs.Shares.{each_mapped}
-use Rattle.pig_push.specs.Pushed.{IsTidy, idle, insert, past, roomy}
+use Rattle.pig_push.specs.Pushed.{IsTidy}
 use Rattle.pig_push.proofs.Keeps.{is_end, node_with}
-
--- ---- a list with one element more
-
-past_one : (at m n : ℕ) → past at m ≡ past at n → m ≡ n
-past_one zero m n e = omega (arith, e)
-past_one (suc at) zero zero e = refl
-past_one (suc at) zero (suc n) e = absurd (omega (arith, e))
-past_one (suc at) (suc m) zero e = absurd (omega (arith, e))
-past_one (suc at) (suc m) (suc n) e = ap (λ k. suc k) (past_one at m n (omega (arith, e)))
-
-pub past_below : (at n : ℕ) → n < at → past at n ≡ n
-past_below zero n h = absurd (omega (arith, h))
-past_below (suc at) zero h = refl
-past_below (suc at) (suc n) h = ap (λ k. suc k) (past_below at n (omega (arith, h)))
-
-pub past_behind : (at n : ℕ) → at ≤ n → past at n ≡ n + 1
-past_behind zero n h = omega arith
-past_behind (suc at) zero h = absurd (omega (arith, h))
-past_behind (suc at) (suc n) h = let rest = past_behind at n (omega (arith, h)) in omega (arith, rest)
-
-module _ {X : Type 0} (y : X) where
-  pub insert_length : (at : ℕ) (xs : List X) → length (insert at y xs) ≡ suc (length xs)
-  insert_length zero xs = refl
-  insert_length (suc at) [] = refl
-  insert_length (suc at) (x ∷ xs) = ap (λ n. suc n) (insert_length at xs)
-
-  pub insert_there : (at n : ℕ) (xs : List X) (x : X) → slice_get xs n ≡ Some x → slice_get (insert at y xs) (past at n) ≡ Some x
-  insert_there zero n xs x h = h
-  insert_there (suc at) n [] x h = let within = slice_get_within [] n x h in absurd (omega (arith, within))
-  insert_there (suc at) zero (z ∷ xs) x h = h
-  insert_there (suc at) (suc n) (z ∷ xs) x h = insert_there at n xs x h
-
-  pub insert_new : (at : ℕ) (xs : List X) → at ≤ length xs → slice_get (insert at y xs) at ≡ Some y
-  insert_new zero xs h = refl
-  insert_new (suc at) [] h = absurd (omega (arith, h))
-  insert_new (suc at) (x ∷ xs) h = insert_new at xs (omega (arith, h))
-
-  pub data From (at : ℕ) (xs : List X) (j : ℕ) (w : X) : Type 0 where
-    new : y ≡ w → From at xs j w
-    old : (n : ℕ) → past at n ≡ j → slice_get xs n ≡ Some w → From at xs j w
-
-  pub insert_from : (at j : ℕ) (xs : List X) (w : X) → slice_get (insert at y xs) j ≡ Some w → From at xs j w
-  insert_from zero zero xs w h = new (some_same y w h)
-  insert_from zero (suc j) xs w h = old j (omega arith) h
-  insert_from (suc at) zero [] w h = new (some_same y w h)
-  insert_from (suc at) (suc j) [] w h = let within = slice_get_within (y ∷ []) (suc j) w h in absurd (omega (arith, within))
-  insert_from (suc at) zero (x ∷ xs) w h = old 0 refl h
-  insert_from (suc at) (suc j) (x ∷ xs) w h = behind (insert_from at j xs w h)
-    where
-      behind : From at xs j w → From (suc at) (x ∷ xs) (suc j) w
-      behind (new e) = new e
-      behind (old n e g) = old (suc n) (ap (λ k. suc k) e) g
 
 -- ---- the operator that a renamed one was
 
@@ -146,12 +96,11 @@ module _ (p q : Plan) (valid : IsPlan p) (valid_q : IsPlan q) (room : ℕ) (is :
   abbrev f : ℕ → ℕ
   f n = past room n
 
+  short_map : room ≤ length (map (renamed f) p)
+  short_map = let long = length-map p (renamed f) in omega (arith, long, short)
+
   pub size : length q ≡ suc (length p)
-  size = ap (λ xs. length xs) is ∙ insert_length idle room (map (renamed f) p) ∙ ap (λ n. suc n) (length_map p)
-    where
-      length_map : (xs : Plan) → length (map (renamed (past room)) xs) ≡ length xs
-      length_map [] = refl
-      length_map (x ∷ xs) = ap (λ n. suc n) (length_map xs)
+  size = ap (λ xs. length xs) is ∙ insert_length idle room (map (renamed f) p) ∙ ap (λ n. suc n) (length-map p (renamed f))
 
   pub there : (n : ℕ) (v : PlanNode) → slice_get p n ≡ Some v → slice_get q (f n) ≡ Some (renamed f v)
   there n v stands =
@@ -159,11 +108,7 @@ module _ (p q : Plan) (valid : IsPlan p) (valid_q : IsPlan q) (room : ℕ) (is :
       ∙ insert_there idle room n (map (renamed f) p) (renamed f v) (get_map (renamed f) p n ∙ ap (option_map (renamed f)) stands)
 
   pub idle_there : slice_get q room ≡ Some idle
-  idle_there = ap (λ xs. slice_get xs room) is ∙ insert_new idle room (map (renamed f) p) (subst (λ n. room ≤ n) (sym (length_map p)) short)
-    where
-      length_map : (xs : Plan) → length (map (renamed (past room)) xs) ≡ length xs
-      length_map [] = refl
-      length_map (x ∷ xs) = ap (λ n. suc n) (length_map xs)
+  idle_there = ap (λ xs. slice_get xs room) is ∙ insert_new idle room (map (renamed f) p) short_map
 
   pub data Origin (j : ℕ) (w : PlanNode) : Type 0 where
     added : idle ≡ w → Origin j w
@@ -177,7 +122,7 @@ module _ (p q : Plan) (valid : IsPlan p) (valid_q : IsPlan q) (room : ℕ) (is :
       by_node n e (Some v) g h = from_node n v g e (some_same (renamed (past room) v) w h)
 
       by_from : From idle room (map (renamed (past room)) p) j w → Origin j w
-      by_from (new e) = added e
+      by_from (new e here) = added e
       by_from (old n e g) = by_node n e (slice_get p n) refl (sym (get_map (renamed (past room)) p n) ∙ g)
 
   inputs_before : (k : ℕ) (v : PlanNode) → slice_get p k ≡ Some v → AllByRecursion (λ i. f i < f k) (inputs_of v.op)

@@ -1,12 +1,11 @@
 -- A FILTER of several conjuncts is two, one on the other: the plan means what it meant.
-use Rattle.std.specs.Prelude.{◌≡◌, ◌<◌, ◌≤◌, ◌+◌, ◌==◌, ◌&&◌, not, ℕ, zero, suc, Bool, true, false, List, [], ◌∷◌, length, nat_lt, Some, slice_get, slice_set, refl}
-use Rattle.std.specs.Prelude.{Err, IfOk, Ok, Result, map}
-use Rattle.std.specs.declared.alloc.AllocError.{AllocError}
+use Rattle.std.specs.Prelude.{◌≡◌, ◌<◌, ◌≤◌, ◌+◌, ◌==◌, ◌&&◌, not, ℕ, zero, suc, Bool, true, false, List, [], ◌∷◌, length, Some, slice_get, slice_set, refl}
+use Rattle.std.specs.Prelude.{map}
 use Rattle.std.proofs.Common.{ap, sym, ◌∙◌, subst, arith, cond, true≢false, inl, inr}
-use Rattle.std.specs.List.{filter, list_all, list_any}
+use Rattle.std.specs.List.{filter, list_all}
 use Rattle.std.proofs.lemmas.Bool.{eq-eqb, eqb-true}
+use Rattle.std.proofs.lemmas.List.{length-map}
 use Rattle.std.proofs.lemmas.Option.{slice_get_within}
-use Rattle.std.proofs.lemmas.Bool.{ltb-false, ltb-true}
 use Rattle.pig_value.proofs.list_laws.Bags.{either_way}
 use Rattle.pig_value.proofs.list_laws.Indexing.{some_at}
 use Rattle.pig_value.proofs.list_laws.Listing.{filter-filter, some_same}
@@ -17,28 +16,29 @@ use Rattle.pig_value.specs.Trees.{Tree}
 use Rattle.pig_typed.specs.Evaluation.{passes}
 use Rattle.pig_typed.specs.Typed.{Typed}
 use Rattle.pig_plan.proofs.Conjoined.{by_conjuncts}
+use Rattle.pig_plan.proofs.Exchanged.{set_length, set_other, set_there}
 use Rattle.pig_plan.proofs.Lower.{meaning_of_node, names_lower}
 use Rattle.pig_plan.proofs.Meanings.{live_input}
 use Rattle.pig_plan.proofs.Rewrites.{Earlier, same_on}
 use Rattle.pig_plan.specs.Conjuncts.{conjuncts}
 use Rattle.pig_plan.specs.Meaning.{meaning}
-use Rattle.pig_plan.specs.Nodes.{inputs_of, is_live, names}
+use Rattle.pig_plan.specs.Nodes.{IsOnlyUse, inputs_of, is_live, names}
 use Rattle.pig_plan.specs.Operators.{filter_rows}
 use Rattle.pig_plan.specs.declared.nodes.Node.{Node}
 use Rattle.pig_plan.specs.Plans.{Plan, PlanNode, node_of, p_filter, plan_of}
 use Rattle.pig_plan.specs.Renumbered.{IsSame}
 use Rattle.pig_plan.specs.Rewrites.{SameMeaning}
 use Rattle.pig_plan.specs.Valid.{IsPlan}
-use Rattle.pig_share.proofs.Living.{came}
-use Rattle.pig_share.proofs.Moved.{inputs_renamed}
-use Rattle.pig_push.specs.Pushed.{ArePartsOf, IsParted, IsSplit, IsTidy, chained_where, idle, past, roomy}
+use Rattle.pig_plan.proofs.Room.{none_reads, past_behind, past_below}
+use Rattle.pig_plan.specs.Room.{idle, roomy}
+use Rattle.pig_push.specs.Pushed.{ArePartsOf, IsParted, IsSplit, IsTidy, chained_where}
 use Rattle.pig_push.proofs.Chains.{chained_passes}
-use Rattle.pig_push.proofs.Change.{only_one, itself, set_length, set_other, set_there}
+use Rattle.pig_push.proofs.Change.{only_one, itself}
 use Rattle.pig_push.proofs.InPlace.{Gives, InPlace, Reads, by_above, by_inner, in_place_means, in_place_tidy}
 use Rattle.pig_push.proofs.Keeps.{Allowed, is_end, node_with}
 use Rattle.pig_push.proofs.Kept.{filter_kinds}
 use Rattle.pig_push.proofs.Passing.{Rows, filter_sorted}
-use Rattle.pig_push.proofs.Room.{Origin, added, from_node, idle_there, origin, past_below, past_behind, room_means, room_tidy, size, there}
+use Rattle.pig_push.proofs.Room.{idle_there, room_means, room_tidy, size, there}
 
 -- ---- the rows
 
@@ -77,12 +77,6 @@ filter_splits test e rows =
     filter_sorted (passes (chained_where (λ c. not (test c)) e)) (filter (passes (chained_where test e)) rows)
     ∙ ap bag_of (filter-filter (passes (chained_where (λ c. not (test c)) e)) (passes (chained_where test e)) rows)
     ∙ (λ i. bag_of (filter (λ row. split_passes test row e i) rows))
-
--- no element has the number of the new one
-never_past : (at n : ℕ) → past at n ≡ at → ⊥
-never_past at n e = either_way (nat_lt n at)
-    (λ h. let less = ltb-true n at h in let same = past_below at n less in omega (arith, e, same, less))
-    (λ h. let more = ltb-false n at h in let same = past_behind at n more in omega (arith, e, same, more))
 
 -- ---- the plan
 
@@ -162,13 +156,7 @@ module _ (p q : Plan) (valid : IsPlan p) (k : ℕ) (valid_r : IsPlan (roomy k p)
 
   -- no node reads what stands in the room
   unread : (n m : ℕ) (u : PlanNode) → inner m ≡ true → slice_get r n ≡ Some u → names u.op m ≡ true → ⊥
-  unread n m u at stands name = by_origin (origin p r valid valid_r k refl short n u stands)
-    where
-      by_origin : Origin p r valid valid_r k refl short n u → ⊥
-      by_origin (added e) = true≢false (sym name ∙ ap (λ w. names w.op m) (sym e))
-      by_origin (from_node l v at_l is_n is_u) =
-          let c = came (past k) m (inputs_of v.op) (ap (λ ns. list_any (λ i. i == m) ns) (sym (inputs_renamed (past k) v.op)) ∙ ap (λ w. names w.op m) is_u ∙ name) in
-          never_past k c.i (c.there ∙ is_room m at)
+  unread n m u at stands name = none_reads p k short n m u stands (is_room m at) name
 
   in_place : InPlace r q (k + 1) inner whole high
   in_place = record {
@@ -232,13 +220,17 @@ map_set f [] i y = refl
 map_set f (x ∷ xs) zero y = refl
 map_set f (x ∷ xs) (suc i) y = ap (λ ys. f x ∷ ys) (map_set f xs i y)
 
--- the result as it comes: nothing is known of a refusal
-pub planned_split : (r : Result (List Node) AllocError) (plan room made : List Node) (k upper : ℕ) (under over : Node) (input statement : ℕ) (c d : Typed)
+-- the room that was made is read by none, so the FILTER's parts may stand there and above it
+pub room_unread : (plan room : List Node) (k m : ℕ) → k < length plan → plan_of room ≡ roomy k (plan_of plan) → IsOnlyUse (plan_of room) k m
+room_unread plan room k m within is = λ n v stands name.
+    let long = length-map plan node_of in
+    absurd (none_reads (plan_of plan) k (omega (arith, within, long)) n k v (sym (ap (λ p. slice_get p n) is) ∙ stands) refl name)
+
+pub parted : (plan room made : List Node) (k upper : ℕ) (under over : Node) (input statement : ℕ) (c d : Typed)
     → ArePartsOf (plan_of plan) k input statement c d → plan_of room ≡ roomy k (plan_of plan) → IsPlan (plan_of room) → upper ≡ k + 1
     → node_of under ≡ node_with (p_filter input c) statement → node_of over ≡ node_with (p_filter k d) statement
-    → made ≡ slice_set (slice_set room k under) upper over → IfOk r (λ q. plan_of q ≡ plan_of made) → IfOk r (λ q. IsParted (plan_of plan) (plan_of q) k)
-planned_split (Err e) plan room made k upper under over input statement c d parts room_is valid next low_is high_is is same = tt
-planned_split (Ok q) plan room made k upper under over input statement c d parts room_is valid next low_is high_is is same = record {
+    → made ≡ slice_set (slice_set room k under) upper over → IsParted (plan_of plan) (plan_of made) k
+parted plan room made k upper under over input statement c d parts room_is valid next low_is high_is is = record {
   room = subst IsPlan room_is valid;
   split = record {
     input = input;
@@ -246,7 +238,7 @@ planned_split (Ok q) plan room made k upper under over input statement c d parts
     statement = statement;
     test = parts.test;
     above = parts.above;
-    is = same ∙ ap plan_of is ∙ map_set node_of (slice_set room k under) upper over ∙ ap (λ xs. slice_set xs upper (node_of over)) (map_set node_of room k under)
+    is = ap plan_of is ∙ map_set node_of (slice_set room k under) upper over ∙ ap (λ xs. slice_set xs upper (node_of over)) (map_set node_of room k under)
         ∙ (λ i. slice_set (slice_set (room_is i) k (low_is i)) (next i) (high_is i))
         ∙ (λ i. slice_set (slice_set (roomy k (plan_of plan)) k (node_with (p_filter input (parts.low_is i)) statement)) (k + 1) (node_with (p_filter k (parts.high_is i)) statement));
   };

@@ -17,6 +17,7 @@ use Rattle.pig_value.specs.declared.outcomes.Kept.{Kept}
 use Rattle.pig_value.specs.Orders.{bag_of, row_cmp}
 use Rattle.pig_typed.specs.Evaluation.{passes}
 use Rattle.pig_typed.specs.Typed.{Typed}
+use Rattle.pig_plan.proofs.Exchanged.{set_length, set_other, set_there}
 use Rattle.pig_plan.proofs.Lower.{meaning_of_node, names_lower}
 use Rattle.pig_plan.proofs.Meanings.{each_both, live_input}
 use Rattle.pig_plan.proofs.Rewrites.{Earlier}
@@ -29,9 +30,10 @@ use Rattle.pig_plan.specs.Renumbered.{IsSame}
 use Rattle.pig_plan.specs.Rewrites.{SameMeaning}
 use Rattle.pig_plan.specs.Valid.{IsPlan}
 use Rattle.pig_share.proofs.Living.{came, goes as named_on, member}
-use Rattle.pig_share.proofs.Moved.{gives_moved}
-use Rattle.pig_push.specs.Pushed.{IsFree, IsTidy, IsUnited, filter_on, filtered, idle, is_load, place_in, put_from}
-use Rattle.pig_push.proofs.Change.{both, itself, one_of, only_one, or_right, set_length, set_other, set_there}
+use Rattle.pig_plan.proofs.Renumbering.{gives_moved}
+use Rattle.pig_plan.specs.Room.{idle}
+use Rattle.pig_push.specs.Pushed.{IsFree, IsTidy, IsUnited, filter_on, filtered, is_load, place_in, put_from}
+use Rattle.pig_push.proofs.Change.{both, itself, one_of, only_one, or_right}
 use Rattle.pig_push.proofs.InPlace.{Gives, InPlace, Reads, by_above, by_inner, in_place_means, in_place_tidy}
 use Rattle.pig_push.proofs.Keeps.{IsInput, inputs_live, is_end, node_with}
 use Rattle.pig_push.proofs.Kept.{filter_kinds, kinds_of_node}

@@ -1,15 +1,17 @@
 -- What the code's tests and loops say of a UNION under a FILTER, over plain data.
-use Rattle.std.specs.Prelude.{◌≡◌, ◌<◌, ◌≤◌, ◌+◌, ℕ, false, List, map, length, Some, slice_get, slice_set}
-use Rattle.std.proofs.Common.{ap, sym, ◌∙◌, subst, arith, inl, inr}
+use Rattle.std.specs.Prelude.{◌≡◌, ◌<◌, ◌≤◌, ◌+◌, ℕ, false, List, map, length, Some, slice_get, slice_set, refl}
+use Rattle.std.proofs.Common.{ap, sym, ◌∙◌, subst, arith, inl, inr, true≢false}
 use Rattle.std.proofs.Math.Nat.{eq-or-lt_of_le}
 use Rattle.std.proofs.lemmas.List.{length-map}
 use Rattle.std.proofs.lemmas.Option.{slice_get_within}
 use Rattle.pig_value.proofs.list_laws.Listing.{some_same}
 use Rattle.pig_typed.specs.Typed.{Typed}
+use Rattle.pig_plan.proofs.Exchanged.{set_other, set_same}
 use Rattle.pig_plan.specs.declared.nodes.Node.{Node}
-use Rattle.pig_plan.specs.Nodes.{names}
+use Rattle.pig_plan.specs.Nodes.{IsOnlyUse, names}
 use Rattle.pig_plan.specs.Plans.{Plan, PlanNode, node_of, p_union, plan_of}
-use Rattle.pig_push.specs.Pushed.{CanUniteAs, IsUnited, filter_on, idle, put_from}
+use Rattle.pig_plan.specs.Room.{idle}
+use Rattle.pig_push.specs.Pushed.{CanUniteAs, IsAbove, IsUnited, filter_on, put_from}
 use Rattle.pig_push.proofs.Keeps.{node_with}
 use Rattle.pig_push.proofs.Splits.{map_set}
 use Rattle.pig_push.proofs.Steps.{node_there}
@@ -34,10 +36,23 @@ none_read nodes number end whole none m v at =
     let long = length-map nodes node_of in
     none m v (omega (arith, within, long, whole)) at
 
+pub none_above : (nodes seen : List Node) (number k : ℕ) → seen ≡ nodes → ((m : ℕ) (v : PlanNode) → slice_get (plan_of seen) m ≡ Some v → names v.op number ≡ false) → IsOnlyUse (plan_of nodes) number k
+none_above nodes seen number k same none n v stands name = absurd (true≢false (sym name ∙ none n v (ap (λ ns. slice_get (plan_of ns) n) same ∙ stands)))
+
 pub one_set : (nodes new : List Node) (number input statement : ℕ) (x : Node) (c d : Typed) → new ≡ slice_set nodes number x → node_of x ≡ filter_on d statement input → d ≡ c
     → plan_of new ≡ slice_set (plan_of nodes) number (filter_on c statement input)
 one_set nodes new number input statement x c d is x_is same =
     ap plan_of is ∙ map_set node_of nodes number x ∙ ap (slice_set (plan_of nodes) number) (x_is ∙ ap (λ e. filter_on e statement input) same)
+
+-- the FILTER stands there, and the node above it as it stood
+pub filter_put : (plan new : List Node) (number high input statement : ℕ) (x above : Node) (c d : Typed) → IsAbove (plan_of plan) number high (node_of above)
+    → new ≡ slice_set (slice_set plan number x) high above → node_of x ≡ filter_on d statement input → d ≡ c → plan_of new ≡ slice_set (plan_of plan) number (filter_on c statement input)
+filter_put plan new number high input statement x above c d stays is x_is same =
+    let higher = stays.higher in
+    ap plan_of is ∙ map_set node_of (slice_set plan number x) high above
+    ∙ ap (λ xs. slice_set xs high (node_of above)) (one_set plan (slice_set plan number x) number input statement x c d refl x_is same)
+    ∙ set_same (slice_set (plan_of plan) number (filter_on c statement input)) high (node_of above)
+    (set_other (plan_of plan) number high (filter_on c statement input) (λ e. omega (arith, higher, e)) ∙ stays.stands)
 
 pub is_united : (plan filters made : List Node) (next : Plan) (low high first own statement : ℕ) (each numbers : List ℕ) (c : Typed) (x y : Node)
     → CanUniteAs (plan_of plan) low high first each numbers c own statement → plan_of filters ≡ put_from first (map (filter_on c statement) each) (plan_of plan)

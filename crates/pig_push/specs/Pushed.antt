@@ -1,9 +1,9 @@
 -- Conjuncts of FILTERs move towards the sources. A FILTER and the operator that it stands on, which nothing else reads, change their numbers, and
 -- two FILTERs become one. A FILTER of which only some conjuncts pass is made two first, and below a UNION there is one for each input: for
 -- those there is room made.
-use Rattle.std.specs.Prelude.{◌≡◌, ◌<◌, ◌≤◌, max, ◌==◌, ◌+◌, ◌-◌, ℕ, zero, suc, Bool, not, true, false, ◌&&◌, ◌||◌, List, [], ◌∷◌, ◌++◌, map, length, Option, Some, None, slice_get, slice_set, if◌then◌else◌}
+use Rattle.std.specs.Prelude.{◌≡◌, ◌<◌, ◌≤◌, max, ◌==◌, ◌+◌, ◌-◌, ℕ, suc, Bool, not, true, false, ◌&&◌, ◌||◌, List, [], ◌∷◌, ◌++◌, map, length, Option, Some, None, slice_get, slice_set, if◌then◌else◌}
 use Rattle.std.specs.List.{AllByRecursion, filter, list_all, list_any}
-use Rattle.std.specs.Option.{is_some, unwrap_or}
+use Rattle.std.specs.Option.{is_some, option_map_or, unwrap_or}
 use Rattle.pig_value.specs.declared.operators.ChainOp.{ChainOp}
 use Rattle.pig_value.specs.declared.operators.ChainOp.TheVariants as op
 use Rattle.pig_value.specs.declared.operators.Side.{Side}
@@ -15,7 +15,7 @@ use Rattle.pig_plan.specs.Moves.{Move, field_of, fields_in, holds_all, moves, na
 use Rattle.pig_plan.specs.Nodes.{IsOnlyUse, inputs_of, is_live, names}
 use Rattle.pig_plan.specs.Plans.{Keyed, Plan, PlanNode, PlanOp, p_load, p_filter, p_foreach, p_group, p_join, p_union, p_distinct}
 use Rattle.pig_plan.specs.Rewrites.{SameMeaning}
-use Rattle.pig_share.specs.Shared.{renamed}
+use Rattle.pig_plan.specs.Room.{idle, roomy}
 use Rattle.pig_push.specs.declared.joining.Spot.{Spot}
 use Rattle.pig_plan.specs.Valid.{IsPlan}
 
@@ -146,6 +146,14 @@ is_union o = false
 abbrev pub some_pass : (ℕ → ℕ) → PlanOp → Typed → Bool
 some_pass width o cond = is_union o || list_any (may_pass width o) (conjuncts cond)
 
+-- the node numbered k is a FILTER on a UNION
+abbrev pub filters_union : Plan → PlanOp → Bool
+filters_union p (p_filter i cond) = option_map_or (λ v. is_union v.op) (slice_get p i) false
+filters_union p o = false
+
+abbrev pub stands_on_union : Plan → ℕ → Bool
+stands_on_union p k = option_map_or (λ v. filters_union p v.op) (slice_get p k) false
+
 -- Conditions that may pass below a JOIN pass together where they go to the same place; below other operators all do.
 abbrev pub stands_at : ℕ → Option Spot → Bool
 stands_at place None = false
@@ -270,32 +278,6 @@ pub record AreNew (p : Plan) (i k : ℕ) (low high : PlanNode) : Type 0 where
 
 -- ---- a FILTER of several conjuncts
 
--- a node that reads nothing
-abbrev pub idle : PlanNode
-idle = record { op = p_load [] 9 []; statement = 0 }
-
--- a list with one element more at a place, and the number that an element has then
-abbrev pub insert : {X : Type 0} → ℕ → X → List X → List X
-insert zero y xs = y ∷ xs
-insert (suc at) y [] = y ∷ []
-insert (suc at) y (x ∷ xs) = x ∷ insert at y xs
-
-abbrev pub past : ℕ → ℕ → ℕ
-past zero n = suc n
-past (suc at) zero = zero
-past (suc at) (suc n) = suc (past at n)
-
--- the plan with room for one node at a place
-abbrev pub roomy : ℕ → Plan → Plan
-roomy at p = insert at idle (map (renamed (past at)) p)
-
--- a node over inputs at these numbers, and what stands for it, where the room is before the node numbered at
-abbrev pub renamed_past : ℕ → PlanNode → PlanNode
-renamed_past at = renamed (past at)
-
-abbrev pub with_room : ℕ → ℕ → PlanNode → Plan
-with_room at own node = if own == at then idle ∷ node ∷ [] else node ∷ []
-
 -- A FILTER is two, one on the other: the conjuncts that pass a test stand in the room below, and the others above. Both keep their order.
 pub record IsSplit (p q : Plan) (k : ℕ) : Type 0 where
   pub input : ℕ
@@ -349,6 +331,12 @@ pub record IsFree (p : Plan) (n : ℕ) : Type 0 where
   pub stands : slice_get p n ≡ Some node
   pub idles : is_load node.op ≡ true
   pub unread : (m : ℕ) (v : PlanNode) → slice_get p m ≡ Some v → names v.op n ≡ false
+
+-- what stands above a node that no node reads
+pub record IsAbove (p : Plan) (n k : ℕ) (above : PlanNode) : Type 0 where
+  pub stands : slice_get p k ≡ Some above
+  pub higher : n < k
+  pub unread : IsOnlyUse p n k
 
 -- The FILTER numbered k stands on the UNION numbered i, which no other node reads, and below it there is room for a FILTER on each input.
 pub record CanUnite (p : Plan) (i k first : ℕ) (each inputs : List ℕ) (cond : Typed) (own statement : ℕ) : Type 0 where

@@ -1,12 +1,10 @@
-ghost use Rattle.std.specs.Prelude.{◌≡◌, ◌+◌, ◌<◌, ◌++◌, ◌∷◌, [], IfOk, OnOk, length};
+ghost use Rattle.std.specs.Prelude.{◌≡◌, ◌+◌, ◌<◌, ◌++◌, ◌∷◌, [], IfOk, OnOk};
 ghost use Rattle.pig_plan.specs.Nodes.{live_marks as live_list};
 ghost use Rattle.pig_plan.specs.Plans.{node_of, plan_of};
 ghost use Rattle.pig_plan.specs.Valid.{IsPlan};
-ghost use Rattle.pig_push.specs.Pushed.{IsCleared, IsClearedTo, IsNext, reads_nothing};
-ghost use Rattle.pig_plan.specs.Plans.{op_of};
+ghost use Rattle.pig_push.specs.Pushed.{IsCleared, IsNext};
 
-use pig_plan::{Node, NodeOp, Plan, copy_node, live_marks};
-use pig_value::{Columns, Delim, Text};
+use pig_plan::{Node, Plan, copy_node, live_marks, no_rows};
 use std::alloc::{AllocError, Global};
 
 /// The plan in which each node that no STORE reaches reads nothing, so that what reads a node is
@@ -39,17 +37,6 @@ fn next_node(alloc: Global, nodes: &[Node], live: &[bool], own: usize) -> Result
     Ok(Node {
         op: no_rows(alloc)?,
         statement: node.statement,
-    })
-}
-
-/// A node that reads nothing.
-pub fn no_rows(alloc: Global) -> Result<NodeOp, AllocError>
-    ensures { IfOk result (λ o. reads_nothing (op_of o)) }
-{
-    Ok(NodeOp::Load {
-        path: Text::from_str(alloc, "")?,
-        delim: Delim::tab(),
-        columns: Columns::new(alloc),
     })
 }
 

@@ -4,7 +4,7 @@ ghost use Rattle.pig_plan.specs.Meaning.{width_at};
 ghost use Rattle.pig_plan.specs.Plans.{keyed_of, op_of, p_group, p_join, plan_of};
 ghost use Rattle.pig_typed.specs.Typed.{Typed, typed};
 ghost use Rattle.pig_push.specs.Lone.{AreExact, AreSound};
-ghost use Rattle.pig_push.specs.Pushed.{CanMove, CanPart, all_pass, is_union, may_pass, some_pass};
+ghost use Rattle.pig_push.specs.Pushed.{CanMove, CanPart, all_pass, is_union, may_pass, some_pass, stands_on_union};
 
 use crate::chaining::conjuncts;
 use crate::fields::fields;
@@ -132,7 +132,9 @@ pub fn is_union(op: &NodeOp) -> bool
 }
 
 /// Whether the FILTER at a number stands on a UNION.
-pub fn stands_on_union(plan: &Plan, number: u32) -> bool {
+pub fn stands_on_union(plan: &Plan, number: u32) -> bool
+    ensures { result ≡ stands_on_union (plan_of plan.now) number }
+{
     let nodes = plan.nodes().as_slice();
     let Some(node) = nodes.get(number as usize) else {
         return false;

@@ -8,10 +8,10 @@ ghost use Rattle.pig_push.specs.Merged.{AreOver, IsOver, Merges, OnFilter, all_c
 ghost use Rattle.pig_push.specs.Pushed.{GoesOn};
 
 use crate::chaining::{add_conjuncts, chained, conjuncts};
-use crate::clearing::{known_plan, no_rows};
+use crate::clearing::known_plan;
 use crate::moving::planned;
 use crate::readers::{ReadCount, is_lone, readers};
-use pig_plan::{Node, NodeOp, Nodes, Plan};
+use pig_plan::{Node, NodeOp, Nodes, Plan, no_rows};
 use pig_typed::{TExpr, TExprs, copy_expr};
 use pig_value::Seq;
 use std::alloc::{AllocError, Global};

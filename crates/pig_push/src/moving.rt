@@ -5,11 +5,11 @@ ghost use Rattle.pig_typed.specs.Typed.{typed};
 ghost use Rattle.pig_push.specs.Pushed.{AreNew, CanMove, IsMove, high_of, low_of, over_spot, spot_for};
 
 use crate::chaining::conjoined;
-use crate::clearing::{no_rows, push_node};
+use crate::clearing::push_node;
 use crate::fields::fields;
 use crate::handing::{put_columns, put_items, put_key};
 use crate::joining::{find_spot, over_at};
-use pig_plan::{KeyedInput, KeyedInputs, Node, NodeOp, Nodes, Plan};
+use pig_plan::{KeyedInput, KeyedInputs, Node, NodeOp, Nodes, Plan, no_rows};
 use pig_typed::{TExpr, copy_block, copy_expr, copy_exprs};
 use pig_value::Side;
 use std::alloc::{AllocError, Global};

@@ -10,7 +10,6 @@ use crate::clearing::known_plan;
 use crate::fields::fields;
 use crate::finding::may_pass;
 use crate::joining::{Spot, find_spot};
-use crate::moving::planned;
 use crate::rooming::roomy;
 use pig_plan::{Node, NodeOp, Plan};
 use pig_typed::{TExpr, TExprs};
@@ -35,21 +34,21 @@ pub fn split(alloc: Global, plan: Plan, number: u32) -> Result<Plan, AllocError>
         low,
         high,
     } = parts(alloc, &plan, number)?;
-    let room = roomy(alloc, plan, number)?;
-    known_plan(&room);
+    let mut next = roomy(plan, number)?;
+    known_plan(&next);
     let upper = number.checked_add(1).ok_or(AllocError)?;
-    let mut nodes = room.into_nodes();
-    if nodes.len() <= number as usize || nodes.len() <= upper as usize {
-        return Err(AllocError);
-    }
     let op = NodeOp::Filter { input, cond: low };
-    nodes.replace(number as usize, Node { op, statement });
+    let lower = Node { op, statement };
     let op = NodeOp::Filter {
         input: number,
         cond: high,
     };
-    nodes.replace(upper as usize, Node { op, statement });
-    planned(alloc, nodes)
+    let above = Node { op, statement };
+    let stands = next.exchange(number, lower, upper, above)?;
+    if !stands {
+        return Err(AllocError);
+    }
+    Ok(next)
 }
 
 fn parts(alloc: Global, plan: &Plan, number: u32) -> Result<FilterParts, AllocError>

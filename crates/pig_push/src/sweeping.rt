@@ -1,5 +1,5 @@
 //! A pass over the nodes from one on to the first, in which each FILTER goes as far as it may.
-ghost use Rattle.std.specs.Prelude.{◌≡◌, ◌==◌, ℕ, IfOk, MatchOption, ⊤, false, get_or, if◌then◌else◌};
+ghost use Rattle.std.specs.Prelude.{◌≡◌, ◌==◌, ℕ, IfOk, MatchOption, get_or, if◌then◌else◌};
 ghost use Rattle.pig_plan.specs.Plans.{op_of, plan_of};
 ghost use Rattle.pig_push.specs.Lone.{AreSound, CountedOn, NotBoth, NotBothBut, StepsOn, where_read};
 ghost use Rattle.pig_push.specs.Pushed.{CanMove, GoesOn};

@@ -1,15 +1,14 @@
-ghost use Rattle.std.specs.Prelude.{◌≡◌, ◌≤◌, ◌+◌, ◌==◌, ◌∷◌, [], ℕ, ⊤, IfOk, IsTrue, MatchOption, OnOk, Some, false, length, map, slice_get, true};
+ghost use Rattle.std.specs.Prelude.{◌≡◌, ◌≤◌, ◌+◌, ◌==◌, ◌∷◌, [], ℕ, ⊤, IfOk, IsTrue, MatchOption, Some, false, length, map, slice_get, true};
 ghost use Rattle.std.specs.List.{AllByRecursion, list_any};
 ghost use Rattle.pig_plan.specs.Nodes.{names};
-ghost use Rattle.pig_plan.specs.Plans.{PlanNode, op_of, plan_of};
+ghost use Rattle.pig_plan.specs.Plans.{PlanNode, node_of, op_of, plan_of};
 ghost use Rattle.pig_typed.specs.Typed.{typed};
-ghost use Rattle.pig_push.specs.Pushed.{CanUniteAs, GoesOn, IsFree, filter_on, filtered, is_load, place_in, put_from};
+ghost use Rattle.pig_push.specs.Pushed.{CanUniteAs, GoesOn, IsAbove, IsFree, filter_on, filtered, is_load, place_in, put_from};
 
-use crate::clearing::{known_plan, no_rows};
-use crate::moving::planned;
+use crate::clearing::known_plan;
 use crate::reading::{holds, is_only_use, reads};
 use crate::rooming::roomy;
-use pig_plan::{Node, NodeOp, Nodes, Plan};
+use pig_plan::{Node, NodeOp, Plan, copy_node, no_rows};
 use pig_typed::{TExpr, copy_expr};
 use pig_value::Numbers;
 use std::alloc::{AllocError, Global};
@@ -32,7 +31,7 @@ pub fn united(alloc: Global, plan: Plan, number: u32) -> Result<Plan, AllocError
     let each = distinct_inputs(alloc, &plan, number)?;
     let size = u32::try_from(each.len()).map_err(|_| AllocError)?;
     let high = number.checked_add(size).ok_or(AllocError)?;
-    let room = with_room_for(alloc, plan, number, size)?;
+    let room = with_room_for(plan, number, size)?;
     over_each(alloc, room, number, high, each.as_slice())
 }
 
@@ -66,20 +65,20 @@ fn push_new(numbers: &mut Numbers, n: u32) -> Result<(), AllocError> {
 }
 
 /// The plan with room for so many nodes at a number.
-fn with_room_for(alloc: Global, plan: Plan, number: u32, count: u32) -> Result<Plan, AllocError>
+fn with_room_for(plan: Plan, number: u32, count: u32) -> Result<Plan, AllocError>
     ensures { IfOk result (λ q. GoesOn (plan_of plan) (plan_of q)) }
 {
     let mut made = plan;
     'rooms: for _ in 0..count {
-        made = with_one(alloc, made, number)?;
+        made = with_one(made, number)?;
     }
     Ok(made)
 }
 
-fn with_one(alloc: Global, plan: Plan, number: u32) -> Result<Plan, AllocError>
+fn with_one(plan: Plan, number: u32) -> Result<Plan, AllocError>
     ensures { IfOk result (λ q. GoesOn (plan_of plan) (plan_of q)) }
 {
-    let room = roomy(alloc, plan, number)?;
+    let room = roomy(plan, number)?;
     known_plan(&room);
     Ok(room)
 }
@@ -101,63 +100,90 @@ fn over_each(
         cond,
         statement,
     } = over_union(alloc, &plan, first, high, each)?;
-    let mut nodes = plan.into_nodes();
-    put_filters(alloc, &mut nodes, first, each, &cond, statement)?;
+    let mut next = with_filters(alloc, plan, first, high, each, &cond, statement)?;
     drop(cond);
-    if nodes.len() <= low as usize || nodes.len() <= high as usize {
+    if !is_only_use(next.nodes().as_slice(), low, high) {
         return Err(AllocError);
     }
     let op = no_rows(alloc)?;
-    nodes.replace(low as usize, Node { op, statement: 0 });
+    let lower = Node { op, statement: 0 };
     let op = NodeOp::Union { inputs: numbers };
-    nodes.replace(high as usize, Node { op, statement: own });
-    let next = planned(alloc, nodes)?;
+    let upper = Node { op, statement: own };
+    let stands = next.exchange(low, lower, high, upper)?;
+    if !stands {
+        return Err(AllocError);
+    }
     known_plan(&next);
     Ok(next)
 }
 
-/// Puts FILTERs of one condition on each of these nodes in the place of those from a number on.
-fn put_filters(
+/// The plan in which FILTERs of one condition on each of these nodes stand in the place of those
+/// from a number on, below the node at another number.
+fn with_filters(
     alloc: Global,
-    nodes: &mut Nodes,
+    plan: Plan,
     first: u32,
+    high: u32,
     each: &[u32],
     cond: &TExpr,
     statement: u32,
-) -> Result<(), AllocError>
-    ensures { OnOk result (plan_of nodes.new
-        ≡ put_from first (map (filter_on (typed cond.now) statement) each.now)
-        (plan_of nodes.old)) }
+) -> Result<Plan, AllocError>
+    ensures { IfOk result (λ q. plan_of q
+        ≡ put_from first (map (filter_on (typed cond.now) statement) each.now) (plan_of plan)) }
 {
     let mut left = each;
+    let mut made = plan;
     let mut own = first;
     while let [input, rest @ ..] = left {
-        put_filter(alloc, nodes, own, *input, cond, statement)?;
+        made = with_filter(alloc, made, own, high, *input, cond, statement)?;
         own = own.checked_add(1).ok_or(AllocError)?;
         left = rest;
     }
-    Ok(())
+    Ok(made)
 }
 
-fn put_filter(
+/// The FILTER stands where nothing is read, so it and the node above it, which stays as it is, may
+/// stand in the place of two others. That there is such a place is tested.
+fn with_filter(
     alloc: Global,
-    nodes: &mut Nodes,
+    plan: Plan,
     number: u32,
+    high: u32,
     input: u32,
     cond: &TExpr,
     statement: u32,
-) -> Result<(), AllocError>
-    ensures { OnOk result (plan_of nodes.new
-        ≡ put_from number (filter_on (typed cond.now) statement input ∷ [])
-        (plan_of nodes.old)) }
+) -> Result<Plan, AllocError>
+    ensures { IfOk result (λ q. plan_of q
+        ≡ put_from number (filter_on (typed cond.now) statement input ∷ []) (plan_of plan)) }
 {
-    if nodes.len() <= number as usize {
-        return Err(AllocError);
-    }
+    let above = node_above(alloc, &plan, number, high)?;
     let cond = copy_expr(alloc, cond)?;
     let op = NodeOp::Filter { input, cond };
-    nodes.replace(number as usize, Node { op, statement });
-    Ok(())
+    let lower = Node { op, statement };
+    let mut next = plan;
+    let stands = next.exchange(number, lower, high, above)?;
+    if !stands {
+        return Err(AllocError);
+    }
+    Ok(next)
+}
+
+/// A copy of the node at a number above another one that no node reads.
+fn node_above(alloc: Global, plan: &Plan, number: u32, high: u32) -> Result<Node, AllocError>
+    ensures { IfOk result (λ node. IsAbove (plan_of plan.now) number high (node_of node)) }
+{
+    let nodes = plan.nodes().as_slice();
+    let Some(above) = nodes.get(high as usize) else {
+        return Err(AllocError);
+    };
+    if high <= number {
+        return Err(AllocError);
+    }
+    if !is_unread(nodes, number) {
+        return Err(AllocError);
+    }
+    let copied = copy_node(alloc, above)?;
+    Ok(copied)
 }
 
 /// The FILTER at a number and the UNION that it stands on, where there is room for FILTERs on its

@@ -10,10 +10,10 @@ use Rattle.pig_value.proofs.list_laws.Listing.{some_same}
 use Rattle.pig_plan.specs.declared.nodes.Node.{Node}
 use Rattle.pig_plan.specs.Nodes.{is_live, is_sorted, live_marks}
 use Rattle.pig_plan.specs.Plans.{Plan, PlanNode, plan_of}
-use Rattle.pig_plan.specs.Renumbered.{rename}
+use Rattle.pig_plan.specs.Renumbered.{rename, renamed}
 use Rattle.pig_plan.specs.Results.{at_place}
 use Rattle.pig_share.specs.Same.{columns_of, same_op}
-use Rattle.pig_share.specs.Shared.{EachIsOnce, apart_in, is_apart, renamed}
+use Rattle.pig_share.specs.Shared.{EachIsOnce, apart_in, is_apart}
 use Rattle.pig_plan.specs.Valid.{IsPlan, in_order}
 use Rattle.pig_share.specs.Table.{DoesSame, IsFound, IsRenamedAt, IsSoFar, Shares, apart_list, at_of, earlier, none, sorted_list}
 use Rattle.pig_share.proofs.Steps.{goes_on, numbered}

@@ -4,8 +4,8 @@ use Rattle.std.proofs.Common.{ap, sym, ◌∙◌, arith, true≢false}
 use Rattle.std.proofs.lemmas.Bool.{leb-true}
 use Rattle.pig_value.proofs.list_laws.Listing.{some_same}
 use Rattle.pig_plan.specs.Plans.{Plan, PlanNode}
+use Rattle.pig_plan.specs.Renumbered.{renamed}
 use Rattle.pig_plan.specs.Valid.{ascends_from, in_order}
-use Rattle.pig_share.specs.Shared.{renamed}
 
 both : (a b : Bool) → (a && b) ≡ true → (a ≡ true) × (b ≡ true)
 both true b h = (refl, h)

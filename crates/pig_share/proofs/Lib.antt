@@ -1,5 +1,4 @@
 pub mod InOrder
-pub mod Moved
 pub mod Shares
 pub mod Living
 pub mod Limits

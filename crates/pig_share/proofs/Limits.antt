@@ -8,9 +8,9 @@ use Rattle.pig_value.proofs.list_laws.Indexing.{get_map, some_at}
 use Rattle.pig_plan.proofs.Lower.{names_lower}
 use Rattle.pig_plan.specs.Nodes.{bare_limits, inputs_of, is_bare, is_live, is_sorted}
 use Rattle.pig_plan.specs.Plans.{Plan, PlanNode, PlanOp, p_load, p_filter, p_foreach, p_group_all, p_group, p_join, p_union, p_distinct, p_order, p_limit, p_store, p_assert, p_rank}
-use Rattle.pig_plan.specs.Renumbered.{rename}
+use Rattle.pig_plan.specs.Renumbered.{rename, renamed}
 use Rattle.pig_plan.specs.Valid.{IsPlan, in_order}
-use Rattle.pig_share.specs.Shared.{IsNamedBy, apart_in, renamed}
+use Rattle.pig_share.specs.Shared.{IsNamedBy, apart_in}
 use Rattle.pig_share.proofs.Living.{stays_live, was_live}
 use Rattle.pig_share.proofs.Shares.{bare_apart, same_at, there}
 

@@ -6,8 +6,8 @@ use Rattle.pig_value.proofs.list_laws.Indexing.{get_map}
 use Rattle.pig_value.proofs.list_laws.Listing.{some_same}
 use Rattle.pig_plan.specs.declared.nodes.Node.{Node}
 use Rattle.pig_plan.specs.Plans.{Plan, PlanNode, plan_of}
+use Rattle.pig_plan.specs.Renumbered.{renamed}
 use Rattle.pig_share.specs.Hashed.{op_hash}
-use Rattle.pig_share.specs.Shared.{renamed}
 use Rattle.pig_share.specs.Table.{AreListed, HasKey, IsFound, IsOpen, IsRenamedAt, IsSoFar, KeepsKeys, at_of, none}
 use Rattle.pig_share.proofs.Finding.{get_taken, length_plan}
 

@@ -11,10 +11,10 @@ use Rattle.pig_plan.proofs.Lower.{names_lower}
 use Rattle.pig_plan.proofs.Meanings.{live_input}
 use Rattle.pig_plan.specs.Nodes.{inputs_of, is_live, is_store, is_used, names}
 use Rattle.pig_plan.specs.Plans.{Plan, PlanNode, PlanOp, p_load, p_filter, p_foreach, p_group_all, p_group, p_join, p_union, p_distinct, p_order, p_limit, p_store, p_assert, p_rank}
-use Rattle.pig_plan.specs.Renumbered.{rename}
+use Rattle.pig_plan.specs.Renumbered.{rename, renamed}
 use Rattle.pig_plan.specs.Valid.{IsPlan}
-use Rattle.pig_share.specs.Shared.{IsNamedBy, renamed}
-use Rattle.pig_share.proofs.Moved.{inputs_renamed}
+use Rattle.pig_share.specs.Shared.{IsNamedBy}
+use Rattle.pig_plan.proofs.Renumbering.{inputs_renamed}
 use Rattle.pig_share.proofs.Shares.{first_there, inputs_before, there}
 
 -- ---- any plan

@@ -13,10 +13,10 @@ use Rattle.pig_plan.proofs.Lower.{names_lower}
 use Rattle.pig_plan.specs.Meaning.{AreKept, EachIsKept, IsKept, kept_at, meaning}
 use Rattle.pig_plan.specs.Nodes.{inputs_of, is_list, is_live, is_sorted}
 use Rattle.pig_plan.specs.Plans.{Plan, PlanNode, PlanOp, p_load, p_filter, p_foreach, p_group_all, p_group, p_join, p_union, p_distinct, p_order, p_limit, p_store, p_assert, p_rank}
-use Rattle.pig_plan.specs.Renumbered.{IsSame, rename}
+use Rattle.pig_plan.specs.Renumbered.{IsSame, rename, renamed}
 use Rattle.pig_plan.specs.Rewrites.{Fails, SameMeaning, Stores}
 use Rattle.pig_plan.specs.Valid.{IsPlan, in_order}
-use Rattle.pig_share.specs.Shared.{IsNamedBy, IsShared, apart_in, renamed}
+use Rattle.pig_share.specs.Shared.{IsNamedBy, IsShared, apart_in}
 use Rattle.pig_share.proofs.InOrder.{no_later_before}
 use Rattle.pig_share.proofs.Limits.{limits_same, live_same}
 use Rattle.pig_share.proofs.Living.{Back, back, stays_live, was_live}

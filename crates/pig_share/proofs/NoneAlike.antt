@@ -9,9 +9,9 @@ use Rattle.pig_value.proofs.list_laws.Indexing.{get_map}
 use Rattle.pig_value.proofs.list_laws.Listing.{some_same}
 use Rattle.pig_plan.specs.Nodes.{is_bare, is_sorted, is_store}
 use Rattle.pig_plan.specs.Plans.{Plan, PlanNode, PlanOp, p_limit, p_store, p_assert}
-use Rattle.pig_plan.specs.Renumbered.{rename}
+use Rattle.pig_plan.specs.Renumbered.{rename, renamed}
 use Rattle.pig_plan.specs.Valid.{in_order}
-use Rattle.pig_share.specs.Shared.{EachIsOnce, HaveOwnPaths, IsSharable, IsShared, NoTwoAlike, SharesAll, is_apart, renamed, stores_in}
+use Rattle.pig_share.specs.Shared.{EachIsOnce, HaveOwnPaths, IsSharable, IsShared, NoTwoAlike, SharesAll, is_apart, stores_in}
 use Rattle.pig_share.specs.Table.{Shares, at_of}
 use Rattle.pig_share.proofs.InOrder.{no_later_before, order_kept}
 

@@ -3,8 +3,9 @@ use Rattle.std.specs.Prelude.{◌≡◌, ℕ, pos, true, false, [], ◌∷◌, m
 use Rattle.pig_value.specs.declared.operators.Rel.TheVariants as rel
 use Rattle.pig_typed.specs.Typed.{Typed, x_int, x_field, x_compare}
 use Rattle.pig_plan.specs.Plans.{PlanNode, PlanOp, p_load, p_filter, p_union, p_limit, p_store, p_assert}
+use Rattle.pig_plan.specs.Renumbered.{renamed}
 use Rattle.pig_share.specs.Same.{same_op}
-use Rattle.pig_share.specs.Shared.{apart_in, is_apart, renamed}
+use Rattle.pig_share.specs.Shared.{apart_in, is_apart}
 use Rattle.pig_share.specs.Table.{at_of}
 
 abbrev node : PlanOp → ℕ → PlanNode

@@ -16,11 +16,11 @@ use Rattle.pig_plan.specs.Meaning.{kept_at, meaning, width_at}
 use Rattle.pig_plan.specs.NodeKinds.{kinds_at, kinds_step}
 use Rattle.pig_plan.specs.Nodes.{inputs_of, is_bare, is_list, is_sorted}
 use Rattle.pig_plan.specs.Plans.{Plan, PlanNode, PlanOp, p_load, p_filter, p_foreach, p_group_all, p_group, p_join, p_union, p_distinct, p_order, p_limit, p_store, p_assert, p_rank}
-use Rattle.pig_plan.specs.Renumbered.{IsSame, rename}
+use Rattle.pig_plan.specs.Renumbered.{IsSame, rename, renamed}
 use Rattle.pig_plan.specs.Results.{at_place, results}
 use Rattle.pig_plan.specs.Valid.{IsPlan, in_order}
-use Rattle.pig_share.specs.Shared.{IsNamedBy, apart_in, is_apart, renamed}
-use Rattle.pig_share.proofs.Moved.{gives_moved, inputs_renamed, lists_moved, rows_moved, sorts_moved}
+use Rattle.pig_share.specs.Shared.{IsNamedBy, apart_in, is_apart}
+use Rattle.pig_plan.proofs.Renumbering.{gives_moved, inputs_renamed, lists_moved, rows_moved, sorts_moved}
 
 -- what stays apart has its own statement
 pub bare_apart : (ordered : Bool) (sorted : ℕ → Bool) (o : PlanOp) → is_bare sorted o ≡ true → is_apart ordered sorted o ≡ true

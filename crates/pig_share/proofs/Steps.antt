@@ -9,9 +9,9 @@ use Rattle.pig_value.proofs.list_laws.Listing.{each_weaker, some_same}
 use Rattle.pig_plan.proofs.Lower.{names_lower}
 use Rattle.pig_plan.specs.Nodes.{inputs_of, is_live}
 use Rattle.pig_plan.specs.Plans.{Keyed, Plan, PlanNode, PlanOp, p_load, p_filter, p_foreach, p_group_all, p_group, p_join, p_union, p_distinct, p_order, p_limit, p_store, p_assert, p_rank}
-use Rattle.pig_plan.specs.Renumbered.{rename, rename_keyed}
+use Rattle.pig_plan.specs.Renumbered.{rename, rename_keyed, renamed}
 use Rattle.pig_plan.specs.Valid.{IsPlan}
-use Rattle.pig_share.specs.Shared.{IsNamedBy, apart_in, renamed}
+use Rattle.pig_share.specs.Shared.{IsNamedBy, apart_in}
 use Rattle.pig_share.specs.Table.{IsFound, IsNumber, IsSoFar, at_of, earlier, none, other, own}
 
 -- ---- tables

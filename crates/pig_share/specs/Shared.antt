@@ -2,7 +2,7 @@
 use Rattle.std.specs.Prelude.{◌≡◌, ◌≤◌, ℕ, Bool, true, false, not, List, map, Some, slice_get, bytes_eq}
 use Rattle.pig_plan.specs.Nodes.{is_bare, is_live, is_sorted}
 use Rattle.pig_plan.specs.Plans.{Plan, PlanNode, PlanOp, p_limit, p_store, p_assert}
-use Rattle.pig_plan.specs.Renumbered.{rename}
+use Rattle.pig_plan.specs.Renumbered.{rename, renamed}
 use Rattle.pig_plan.specs.Rewrites.{SameMeaning}
 use Rattle.pig_plan.specs.Valid.{IsPlan, in_order}
 
@@ -16,10 +16,6 @@ is_apart ordered sorted o = false
 
 abbrev pub apart_in : Plan → PlanOp → Bool
 apart_in plan o = is_apart (in_order plan) (is_sorted plan) o
-
--- the node over inputs at other numbers, with its statement
-abbrev pub renamed : (ℕ → ℕ) → PlanNode → PlanNode
-renamed at node = record { op = rename at node.op; statement = node.statement }
 
 -- What the node numbered k of a plan is named by once inputs are mapped: the number of a node that does the same to the same inputs,
 -- which is live where this one is, stands no later, and is this one where it stays apart.

@@ -3,9 +3,9 @@ use Rattle.std.specs.Prelude.{◌≡◌, ◌<◌, ℕ, Bool, false, true, List, 
 use Rattle.pig_plan.specs.Nodes.{is_live, sorts}
 use Rattle.pig_plan.specs.Results.{results}
 use Rattle.pig_plan.specs.Plans.{Plan, PlanNode}
-use Rattle.pig_plan.specs.Renumbered.{rename}
+use Rattle.pig_plan.specs.Renumbered.{rename, renamed}
 use Rattle.pig_share.specs.Hashed.{op_hash}
-use Rattle.pig_share.specs.Shared.{IsNamedBy, IsShared, apart_in, renamed}
+use Rattle.pig_share.specs.Shared.{IsNamedBy, IsShared, apart_in}
 
 abbrev pub at_of : List ℕ → ℕ → ℕ
 at_of table i = get_or table i 0

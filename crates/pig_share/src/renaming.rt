@@ -1,7 +1,6 @@
 ghost use Rattle.std.specs.Prelude.{◌≡◌, IfOk, OnOk, get_or, map};
 ghost use Rattle.pig_plan.specs.Plans.{keyed_of, node_of, op_of};
-ghost use Rattle.pig_plan.specs.Renumbered.{rename, rename_keyed};
-ghost use Rattle.pig_share.specs.Shared.{renamed};
+ghost use Rattle.pig_plan.specs.Renumbered.{rename, rename_keyed, renamed};
 ghost use Rattle.pig_share.specs.Table.{at_of};
 
 use pig_plan::{KeyedInput, KeyedInputs, Node, NodeOp, copy_node};

@@ -3,7 +3,7 @@ use Rattle.std.specs.Prelude.{Some, slice_get, refl}
 use Rattle.std.proofs.lemmas.Option.{slice_get_read, slice_get_within}
 use Rattle.std.proofs.lemmas.Result.{on_ok_weaker}
 use Rattle.pig_plan.specs.Plans.{node_of, plan_of}
-use Rattle.pig_share.specs.Shared.{renamed}
+use Rattle.pig_plan.specs.Renumbered.{renamed}
 use Rattle.pig_share.specs.Table.{at_of}
 use Rattle.pig_alive.proofs.Places.{mark_is, node_there, picked_dead, picked_live}
 use Rattle.pig_alive.proofs.dropping.add_live.Goals as goal

@@ -3,7 +3,7 @@ use Rattle.std.specs.Prelude.{slice_get}
 use Rattle.std.specs.List.{filter, filter_map}
 use Rattle.pig_plan.specs.Nodes.{is_live}
 use Rattle.pig_plan.specs.Plans.{plan_of}
-use Rattle.pig_share.specs.Shared.{renamed}
+use Rattle.pig_plan.specs.Renumbered.{renamed}
 use Rattle.pig_share.specs.Table.{at_of}
 use Rattle.pig_alive.proofs.Places.{made_on}
 use Rattle.pig_alive.proofs.dropping.live_nodes.Goals as goal

@@ -2,8 +2,9 @@ use Rattle.std.proofs.Common.{rules}
 use Rattle.std.proofs.Common.{◌≡◌, ◌<◌, length, subst, sym}
 use Rattle.std.proofs.lemmas.List.{length-map}
 use Rattle.pig_plan.specs.Plans.{node_of, plan_of}
+use Rattle.pig_plan.specs.Room.{roomy}
 use Rattle.pig_plan.specs.Valid.{IsPlan}
-use Rattle.pig_push.specs.Pushed.{one_room, roomy}
+use Rattle.pig_push.specs.Pushed.{one_room}
 use Rattle.pig_push.proofs.uniting.with_one.Goals as goal
 
 pub returns : goal.returns

@@ -2,10 +2,10 @@ use Rattle.std.proofs.Common.{◌≡◌, map, length}
 use Rattle.pig_plan.specs.Plans.{plan_of}
 use Rattle.pig_typed.specs.Typed.{typed}
 use Rattle.pig_push.specs.Pushed.{filter_on, put_from}
-use Rattle.pig_push.proofs.uniting.put_filters.Given as goal
+use Rattle.pig_push.proofs.uniting.with_filters.Given as goal
 
 abbrev pub invariant-loop-left : goal.invariant-loop-left
-invariant-loop-left l = put_from l.own (map (filter_on (typed l.cond) l.statement) l.left) (plan_of l.nodes) ≡ put_from l.first (map (filter_on (typed l.cond) l.statement) l.each) (plan_of l.fn.nodes)
+invariant-loop-left l = put_from l.own (map (filter_on (typed l.cond) l.statement) l.left) (plan_of l.made) ≡ put_from l.first (map (filter_on (typed l.cond) l.statement) l.each) (plan_of l.fn.plan)
 
 abbrev pub decreases-loop-left : goal.decreases-loop-left
 decreases-loop-left l = length l.left

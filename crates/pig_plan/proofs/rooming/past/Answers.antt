@@ -1,6 +1,6 @@
 use Rattle.std.proofs.Common.{rules, sym, ◌≡◌, ◌∙◌, ◌<◌, ◌≤◌, ◌+◌}
-use Rattle.pig_push.proofs.Room.{past_behind, past_below}
-use Rattle.pig_push.proofs.rooming.past.Goals as goal
+use Rattle.pig_plan.proofs.Room.{past_behind, past_below}
+use Rattle.pig_plan.proofs.rooming.past.Goals as goal
 
 pub returns-then-number-at : goal.returns-then-number-at
 returns-then-number-at c =

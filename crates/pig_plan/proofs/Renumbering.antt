@@ -1,6 +1,6 @@
 -- An operator over inputs at other numbers gives what it gave, where these inputs are what its own were.
 use Rattle.std.specs.Prelude.{◌≡◌, ℕ, ◌+◌, Bool, true, false, ◌&&◌, not, List, [], ◌∷◌, ◌++◌, map, length, Option, Some, refl}
-use Rattle.std.proofs.Common.{ap, suc, ◌∙◌}
+use Rattle.std.proofs.Common.{ap, sym, suc, ◌∙◌}
 use Rattle.std.specs.List.{AllByRecursion, flat_map, list_all}
 use Rattle.std.specs.Option.{option_and_then, option_map}
 use Rattle.pig_value.specs.declared.inputs.Input.{Input}
@@ -193,3 +193,32 @@ module _ (at : ℕ → ℕ) where
     rows_moved m n (p_store input path delim) b h = h.0.rows
     rows_moved m n (p_assert input cond message) b h = h.0.rows
     rows_moved m n (p_rank input keys dense) b h = ap (λ rows. bag_of (rank_rows keys dense rows)) h.0.rows
+
+-- ---- inputs at their own numbers
+
+keyed_itself : (inputs : List Keyed) → map (rename_keyed (λ n. n)) inputs ≡ inputs
+keyed_itself [] = refl
+keyed_itself (k ∷ inputs) = ap (λ ks. k ∷ ks) (keyed_itself inputs)
+
+numbers_itself : (ns : List ℕ) → map (λ n. n) ns ≡ ns
+numbers_itself [] = refl
+numbers_itself (n ∷ ns) = ap (λ ms. n ∷ ms) (numbers_itself ns)
+
+pub renamed_itself : (o : PlanOp) → rename (λ n. n) o ≡ o
+renamed_itself (p_load path delim columns) = refl
+renamed_itself (p_filter input c) = refl
+renamed_itself (p_foreach input block) = refl
+renamed_itself (p_group_all input) = refl
+renamed_itself (p_group inputs) = ap p_group (keyed_itself inputs)
+renamed_itself (p_join inputs side replicated) = ap (λ ks. p_join ks side replicated) (keyed_itself inputs)
+renamed_itself (p_union inputs) = ap p_union (numbers_itself inputs)
+renamed_itself (p_distinct input) = refl
+renamed_itself (p_order input keys) = refl
+renamed_itself (p_limit input count) = refl
+renamed_itself (p_store input path delim) = refl
+renamed_itself (p_assert input c message) = refl
+renamed_itself (p_rank input keys dense) = refl
+
+-- what an operator gives goes by its inputs alone
+pub gives_agree : (f g : Before) (o : PlanOp) → AllByRecursion (λ i. f i ≡ g i) (inputs_of o) → node_gives f o ≡ node_gives g o
+gives_agree f g o h = ap (node_gives f) (sym (renamed_itself o)) ∙ gives_moved (λ n. n) f g o h
