@@ -21,7 +21,7 @@ use Rattle.pig_plan.specs.Plans.{Keyed, Plan, PlanNode, p_filter, p_foreach, p_g
 use Rattle.pig_plan.specs.Renumbered.{IsSame}
 use Rattle.pig_plan.specs.Results.{at_place, result_at, results}
 use Rattle.pig_plan.specs.Valid.{IsPlan, fits, is_twin, op_writes_lf}
-use Rattle.pig_plan.proofs.Renumbering.{lists_moved, rows_moved, sorts_moved}
+use Rattle.pig_plan.proofs.Renumbering.{gives_agree, lists_moved, renamed_itself, rows_moved, sorts_moved}
 use Rattle.pig_push.proofs.Keeps.{node_with}
 
 -- ---- kinds

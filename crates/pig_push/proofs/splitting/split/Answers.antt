@@ -10,11 +10,11 @@ use Rattle.pig_push.specs.Pushed.{ArePartsOf}
 use Rattle.pig_push.proofs.Splits.{parted, room_unread}
 use Rattle.pig_push.proofs.splitting.split.Goals as goal
 
-pub exchange-requires-clause-only : goal.exchange-requires-clause-only
-exchange-requires-clause-only c =
+pub exchange-requires : goal.exchange-requires
+exchange-requires c =
     let within : c.args.number < length c.args.plan = search rules in
     let room : plan_of c.in_ok-next.next ≡ roomy c.args.number (plan_of c.args.plan) = search rules in
-    room_unread c.args.plan c.in_ok-next.next c.args.number c.in_ok-upper.upper within room
+    record { only = room_unread c.args.plan c.in_ok-next.next c.args.number c.in_ok-upper.upper within room }
 
 pub returns : goal.returns
 returns c =

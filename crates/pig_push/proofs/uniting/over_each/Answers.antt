@@ -11,11 +11,11 @@ use Rattle.pig_push.proofs.Keeps.{node_with}
 use Rattle.pig_push.proofs.Unites.{is_united}
 use Rattle.pig_push.proofs.uniting.over_each.Goals as goal
 
-pub exchange-requires-clause-only : goal.exchange-requires-clause-only
-exchange-requires-clause-only c =
+pub exchange-requires : goal.exchange-requires
+exchange-requires c =
     let same : c.as_slice.result.now ≡ c.in_ok-next.next = search rules in
     let only_is : c.is_only_use.result ≡ true = search rules in
-    subst (λ ns. IsOnlyUse (plan_of ns) c.in_ok-low.low c.args.high) same (c.is_only_use.ensures.yes only_is)
+    record { only = subst (λ ns. IsOnlyUse (plan_of ns) c.in_ok-low.field-0.low c.args.high) same (c.is_only_use.ensures.yes only_is) }
 
 pub returns : goal.returns
 returns c = λ before moves.

@@ -8,10 +8,10 @@ use Rattle.pig_push.specs.Pushed.{IsAbove}
 use Rattle.pig_push.proofs.Unites.{filter_put}
 use Rattle.pig_push.proofs.uniting.with_filter.Goals as goal
 
-pub exchange-requires-clause-only : goal.exchange-requires-clause-only
-exchange-requires-clause-only c =
+pub exchange-requires : goal.exchange-requires
+exchange-requires c =
     let above : IsAbove (plan_of c.args.plan) c.args.number c.args.high (node_of c.in_ok-above.above) = search rules in
-    above.unread
+    record { only = above.unread }
 
 pub returns : goal.returns
 returns c =
