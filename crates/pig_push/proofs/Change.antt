@@ -11,6 +11,7 @@ use Rattle.pig_value.specs.declared.inputs.Input.{Input}
 use Rattle.pig_value.specs.declared.operators.Side.{Side}
 use Rattle.pig_value.specs.declared.outcomes.Kept.{Kept}
 use Rattle.pig_value.specs.FieldReader.{all_of}
+use Rattle.pig_value.specs.Kinds.{IsRowOf}
 use Rattle.pig_value.specs.Orders.{bag_of, row_cmp}
 use Rattle.pig_value.specs.Sorts.{distinct}
 use Rattle.pig_typed.specs.Blocks.{foreach_all}
@@ -34,10 +35,10 @@ use Rattle.pig_share.proofs.Shares.{each_mapped}
 use Rattle.pig_push.specs.declared.joining.Spot.{Spot}
 use Rattle.pig_share.proofs.Living.{member as member_of}
 use Rattle.pig_push.specs.Pushed.{IsMove, IsTidy, all_pass, at_spot, conjoined, filter_as, from_key, handed_on, hands_all, hands_key, high_of, is_open, low_of, may_pass, on_input, opens, over_at, over_spot, spot_for, spot_of}
-use Rattle.pig_push.proofs.InPlace.{Gives, InPlace, Reads, by_above, by_inner, in_place_means, in_place_tidy, wide}
+use Rattle.pig_push.proofs.InPlace.{Gives, InPlace, Reads, by_above, by_inner, in_place_means, in_place_tidy, of_kinds, wide}
 use Rattle.pig_push.proofs.Joins.{Place, Spans, filter_below_join, here, later, place_behind}
 use Rattle.pig_push.proofs.Keeps.{Allowed, IsInput, inputs_live, is_end, node_with}
-use Rattle.pig_push.proofs.Kept.{distinct_kinds, filter_kinds, foreach_kinds, gives_some, group_kinds_of, grouped_kinds, join_kinds_of, joined_kinds, made_kinds}
+use Rattle.pig_push.proofs.Kept.{distinct_kinds, filter_kinds, foreach_kinds, foreach_typed, gives_some, group_kinds_of, grouped_kinds, join_kinds_of, joined_kinds, made_kinds}
 use Rattle.pig_push.proofs.Keyed.{filter_below_group}
 use Rattle.pig_push.proofs.Passing.{filter_below_distinct, filter_below_foreach, filter_joins}
 
@@ -418,10 +419,13 @@ module _ (p q : Plan) (valid : IsPlan p) (valid_q : IsPlan q) (i k : ℕ) (m : I
     abbrev Same : ℕ → Type 0
     Same n = IsSame p q (λ j. j) inputs kept n
 
-    -- what the operator reads stays the same, and its rows are as wide as their kinds
+    -- what the operator reads stays the same, and its rows are of their kinds, and as wide
     record Source (n : ℕ) : Type 0 where
       same : Same n
-      long : AllByRecursion (λ row. length row ≡ width_at p n) (meaning p inputs kept n)
+      row : RowKinds
+      row_is : kinds_at p n ≡ Some row
+      are : AllByRecursion (λ r. IsRowOf r row) (meaning p inputs kept n)
+      long : AllByRecursion (λ r. length r ≡ width_at p n) (meaning p inputs kept n)
       other : n ≡ i → ⊥
 
     is_relation : AllByRecursion (λ n. is_some (kinds_at p n) ≡ true) (inputs_of m.can.below.op)
@@ -440,13 +444,19 @@ module _ (p q : Plan) (valid : IsPlan p) (valid_q : IsPlan q) (i k : ℕ) (m : I
         let other : n ≡ i → ⊥ = λ e. omega (arith, e, lower) in
         let out : inner n ≡ false = either_way (n == i) (λ e. absurd (other (eqb-true n i e))) (λ e. e) in
         let same : Same n = earlier n (omega (arith, down, lower)) input.lives out in
-        record { same = same; long = by_kinds n input same out (kinds_at p n) refl found; other = other })
+        by_kinds n input same other out (kinds_at p n) refl found)
         (inputs_of m.can.below.op) (inputs_live p valid i m.can.below m.can.stands below_lives) is_relation
       where
-        by_kinds : (n : ℕ) → IsInput p i n → IsSame p q (λ j. j) inputs kept n → inner n ≡ false → (o : Option RowKinds) → kinds_at p n ≡ o → is_some o ≡ true
-            → AllByRecursion (λ row. length row ≡ width_at p n) (meaning p inputs kept n)
-        by_kinds n input same out None e h = absurd (true≢false (sym h))
-        by_kinds n input same out (Some ks) e h = wide p q valid valid_q k inner filter_node high_node in_place functions inputs kept allowed n input.node input.stands input.lives out same ks e
+        by_kinds : (n : ℕ) → IsInput p i n → IsSame p q (λ j. j) inputs kept n → (n ≡ i → ⊥) → inner n ≡ false → (o : Option RowKinds) → kinds_at p n ≡ o → is_some o ≡ true → Source n
+        by_kinds n input same other out None e h = absurd (true≢false (sym h))
+        by_kinds n input same other out (Some ks) e h = record {
+          same = same;
+          row = ks;
+          row_is = e;
+          are = of_kinds p q valid valid_q k inner filter_node high_node in_place functions inputs kept allowed n input.node input.stands input.lives out same ks e;
+          long = wide p q valid valid_q k inner filter_node high_node in_place functions inputs kept allowed n input.node input.stands input.lives out same ks e;
+          other = other;
+        }
 
     abbrev Node : Plan → ℕ → PlanOp → ℕ → Type 0
     Node plan n o statement = slice_get plan n ≡ Some (node_with o statement)
@@ -495,7 +505,8 @@ module _ (p q : Plan) (valid : IsPlan p) (valid_q : IsPlan q) (i k : ℕ) (m : I
           rows = meaning_of_node q inputs kept valid_q k (node_with (p_foreach i block) below.statement) is
               ∙ ap (λ rows. bag_of (foreach_all block rows)) (meaning_of_node q inputs kept valid_q i (node_with (p_filter x (put (handed_on block) m.can.cond)) m.can.statement) under)
               ∙ ap (λ rows. bag_of (foreach_all block (bag_of (filter_rows (put (handed_on block) m.can.cond) rows)))) same.rows
-              ∙ filter_below_foreach block m.can.cond hands (meaning p inputs kept x)
+              ∙ filter_below_foreach functions src.0.row block (foreach_typed p valid i x block below.statement was src.0.row src.0.row_is) m.can.cond hands
+              (meaning p inputs kept x) src.0.are
               ∙ ap (λ rows. bag_of (filter_rows m.can.cond rows)) (sym (meaning_of_node p inputs kept valid i (node_with (p_foreach x block) below.statement) was))
               ∙ sym (meaning_of_node p inputs kept valid k filter_node m.can.above);
         }

@@ -30,6 +30,7 @@ use Rattle.pig_share.proofs.Living.{User, member, store_lives, user_of}
 use Rattle.pig_push.specs.Pushed.{IsTidy}
 use Rattle.pig_push.proofs.Keeps.{Allowed, IsInput, Keeps, inputs_live, is_end, keeps_meaning}
 use Rattle.pig_push.proofs.Kept.{list_kept, node_kept, sorted_kept}
+use Rattle.pig_push.proofs.Passing.{length_of}
 
 -- an inner node names the one numbered n
 pub record ByInner (inner : ℕ → Bool) (r : Plan) (n : ℕ) : Type 0 where
@@ -206,17 +207,11 @@ module _ (p q : Plan) (valid : IsPlan p) (valid_q : IsPlan q) (k : ℕ) (inner :
       ])
       (λ e. e)
 
-  -- ---- rows that are as wide as the kinds
+  -- ---- rows that are of the kinds, and as wide
 
-  length_of : (row : List Tree) (ks : RowKinds) → IsRowOf row ks → length row ≡ length ks
-  length_of [] [] h = refl
-  length_of [] (a ∷ ks) h = absurd h
-  length_of (x ∷ row) [] h = absurd h
-  length_of (x ∷ row) (a ∷ ks) h = ap (λ n. suc n) (length_of row ks h.1)
-
-  wide_in : FunctionsKeepKinds → (inputs : List Input) (kept : List Kept) → Allowed p q inputs kept → (n : ℕ) (u : PlanNode) → slice_get p n ≡ Some u → is_live p n ≡ true → inner n ≡ false
+  pub of_kinds : FunctionsKeepKinds → (inputs : List Input) (kept : List Kept) → Allowed p q inputs kept → (n : ℕ) (u : PlanNode) → slice_get p n ≡ Some u → is_live p n ≡ true → inner n ≡ false
       → IsSame p q (λ j. j) inputs kept n → (ks : RowKinds) → kinds_at p n ≡ Some ks → AllByRecursion (λ row. IsRowOf row ks) (meaning p inputs kept n)
-  wide_in functions inputs kept allowed n u stands alive out same ks is = elim allowed [
+  of_kinds functions inputs kept allowed n u stands alive out same ks is = elim allowed [
     | inl each ↦ rows_of_each ks (meaning p inputs kept n) (meanings_are_of_kinds functions p inputs kept valid each n ks alive is)
     | inr each ↦ subst (AllByRecursion (λ row. IsRowOf row ks)) same.rows
         (rows_of_each ks (meaning q inputs kept n) (meanings_are_of_kinds functions q inputs kept valid_q each n ks (stays_live n u stands alive out) (same.kinds ∙ is)))
@@ -226,7 +221,7 @@ module _ (p q : Plan) (valid : IsPlan p) (valid_q : IsPlan q) (k : ℕ) (inner :
       → IsSame p q (λ j. j) inputs kept n → (ks : RowKinds) → kinds_at p n ≡ Some ks → AllByRecursion (λ row. length row ≡ width_at p n) (meaning p inputs kept n)
   wide functions inputs kept allowed n u stands alive out same ks is =
       each_weaker (λ row. IsRowOf row ks) (λ row. length row ≡ width_at p n) (λ row h. length_of row ks h ∙ sym (ap (λ o. option_map_or length o 0) is))
-      (meaning p inputs kept n) (wide_in functions inputs kept allowed n u stands alive out same ks is)
+      (meaning p inputs kept n) (of_kinds functions inputs kept allowed n u stands alive out same ks is)
 
   -- ---- what stays the same
 

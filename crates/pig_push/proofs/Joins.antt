@@ -28,17 +28,12 @@ use Rattle.pig_plan.specs.Moves.{fields_in, put}
 use Rattle.pig_plan.specs.Operators.{filter_rows, join_rows, keyed_entries, keys_of}
 use Rattle.pig_plan.specs.Plans.{Keyed, p_join}
 use Rattle.pig_push.specs.Pushed.{on_input, opens}
-use Rattle.pig_push.proofs.Passing.{Rows, filter_goes_within, filter_sorted}
+use Rattle.pig_push.proofs.Passing.{Rows, at_after, filter_goes_within, filter_sorted}
 
 abbrev Row : Type 0
 Row = List Tree
 
 -- ---- columns of joined rows
-
-at_after : (a b : Row) (n : ℕ) → length a ≤ n → at n (a ++ b) ≡ at (n - length a) b
-at_after [] b n h = let e : n ≡ n - 0 = omega arith in ap (λ m. at m b) e
-at_after (v ∷ a) b zero h = absurd (omega (arith, h))
-at_after (v ∷ a) b (suc n) h = at_after a b n (omega (arith, h)) ∙ (let e : n - length a ≡ suc n - suc (length a) = omega arith in ap (λ m. at m b) e)
 
 at_within : (a b : Row) (n : ℕ) → n < length a → at n (a ++ b) ≡ at n a
 at_within [] b n h = absurd (omega (arith, h))

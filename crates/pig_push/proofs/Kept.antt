@@ -2,13 +2,14 @@
 use Rattle.std.specs.Prelude.{◌≡◌, ◌<◌, ℕ, Bool, true, false, not, ◌&&◌, List, [], ◌∷◌, ◌++◌, length, take, drop, Option, Some, None, slice_get, refl}
 use Rattle.std.proofs.Common.{ap, sym, ◌∙◌, arith, true≢false, append_assoc, append-nil}
 use Rattle.std.specs.List.{AllByRecursion, list_any}
-use Rattle.std.specs.Option.{is_some, option_map_or, unwrap_or}
+use Rattle.std.specs.Option.{is_some, option_and_then, option_map_or, unwrap_or}
 use Rattle.std.proofs.lemmas.List.{length-append, take-append-drop, length-take-le}
 use Rattle.std.proofs.lemmas.Option.{slice_get_within}
 use Rattle.pig_value.proofs.list_laws.Listing.{each_weaker}
 use Rattle.pig_value.specs.declared.inputs.Input.{Input}
 use Rattle.pig_value.specs.declared.outcomes.Kept.{Kept}
 use Rattle.pig_value.specs.declared.operators.Side.{Side}
+use Rattle.pig_typed.specs.BlockKinds.{row_kinds}
 use Rattle.pig_typed.specs.Typed.{Typed, TypedBlock}
 use Rattle.pig_plan.proofs.Listed.{list_of_node, sorted_of_node}
 use Rattle.pig_plan.proofs.Lower.{meaning_of_node, names_lower}
@@ -91,6 +92,17 @@ made_kinds block o = unwrap_or (foreach_gives (λ n. o) 0 block) None
 pub foreach_kinds : (p : Plan) → IsPlan p → (n input : ℕ) (block : TypedBlock) (statement : ℕ) → slice_get p n ≡ Some (node_with (p_foreach input block) statement)
     → kinds_at p n ≡ made_kinds block (kinds_at p input)
 foreach_kinds p valid n input block statement stands = kinds_of_node p valid n (node_with (p_foreach input block) statement) stands
+
+given_some : (o : Option RowKinds) → is_some (option_and_then (λ given. Some (Some given)) o) ≡ true → is_some o ≡ true
+given_some None h = absurd (true≢false (sym h))
+given_some (Some given) h = refl
+
+-- its block is typed for rows of its input's kinds
+pub foreach_typed : (p : Plan) → IsPlan p → (n input : ℕ) (block : TypedBlock) (statement : ℕ) → slice_get p n ≡ Some (node_with (p_foreach input block) statement)
+    → (row : RowKinds) → kinds_at p input ≡ Some row → is_some (row_kinds block row) ≡ true
+foreach_typed p valid n input block statement stands row is =
+    given_some (row_kinds block row)
+    (ap (λ o. is_some (foreach_gives (λ n. o) 0 block)) (sym is) ∙ gives_some p valid n (node_with (p_foreach input block) statement) stands)
 
 abbrev pub grouped_kinds : Keyed → Option RowKinds → Option RowKinds
 grouped_kinds k o = unwrap_or (group_gives (λ n. o) (k ∷ [])) None

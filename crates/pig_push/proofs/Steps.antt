@@ -28,14 +28,14 @@ use Rattle.pig_plan.proofs.Unfolds.{get-front}
 use Rattle.pig_plan.specs.declared.nodes.Node.{Node}
 use Rattle.pig_plan.specs.Conjuncts.{conjuncts, link_conjuncts}
 use Rattle.pig_plan.specs.Meaning.{width_at}
-use Rattle.pig_plan.specs.Moves.{arg_fields, fields_in, link_fields, put, put_args, put_links}
+use Rattle.pig_plan.specs.Moves.{arg_fields, fields_in, link_fields, plain_at, put, put_args, put_links}
 use Rattle.pig_plan.specs.Nodes.{IsOnlyUse, is_live, live_marks, names}
 use Rattle.pig_plan.specs.Plans.{Plan, PlanNode, PlanOp, node_of, p_filter, plan_of}
 use Rattle.pig_plan.specs.Rewrites.{SameMeaning}
 use Rattle.pig_plan.specs.Valid.{IsPlan}
 use Rattle.pig_push.proofs.Chains.{SomeOf, some_of}
 use Rattle.pig_push.proofs.Tidy.{pushed_means}
-use Rattle.pig_push.specs.Pushed.{AreMoves, AreNew, CanMove, IsCleared, IsClearedTo, IsMove, IsNext, IsPushed, CanPart, all_pass, may_pass, some_pass, handed_from, handed_number, is_union, lead_at, linked, put_link, reads_nothing}
+use Rattle.pig_push.specs.Pushed.{AreMoves, AreNew, CanMove, IsCleared, IsClearedTo, IsMove, IsNext, IsPushed, CanPart, all_pass, may_pass, some_pass, handed_from, handed_number, is_union, linked, put_link, reads_nothing}
 use Rattle.pig_push.proofs.Keeps.{node_with}
 
 -- ---- expressions, and those in lists
@@ -303,7 +303,7 @@ links_added links i l old so_far new at is added =
 
 -- columns from the first one on are as they are
 pub from_first : (items : List TypedItem) (e : Typed) → put (λ n. x_field (handed_from items 0 n)) e ≡ put (λ n. x_field (handed_number items n)) e
-from_first items e = λ i. put (λ n. x_field (unwrap_or (lead_at items n) (same n i))) e
+from_first items e = λ i. put (λ n. x_field (unwrap_or (plain_at items n) (same n i))) e
   where
     same : (n : ℕ) → n - 0 ≡ n
     same n = omega arith

@@ -1,32 +1,17 @@
 -- Each move is one of the table of moves: the condition goes where the table says, as it says.
-use Rattle.std.specs.Prelude.{◌≡◌, ◌==◌, ◌-◌, ◌&&◌, ◌||◌, not, ℕ, Bool, true, false, List, [], ◌∷◌, Option, None, Some, nat_lt, refl, if◌then◌else◌}
+use Rattle.std.specs.Prelude.{◌≡◌, ◌==◌, ◌&&◌, ◌||◌, not, ℕ, Bool, true, false, List, [], ◌∷◌, Option, None, Some, refl, if◌then◌else◌}
 use Rattle.std.proofs.Common.{ap, sym, ◌∙◌, arith, true≢false}
 use Rattle.std.specs.List.{list_all, list_any}
 use Rattle.std.specs.Option.{is_some, option_map_or, unwrap_or}
 use Rattle.std.proofs.lemmas.Bool.{eqb-true, ne_eqb}
 use Rattle.std.proofs.lemmas.Option.{none-some}
 use Rattle.pig_value.proofs.list_laws.Listing.{some_same}
-use Rattle.pig_typed.specs.Typed.{Typed, TypedArgs, TypedBlock, TypedItem, TypedLinks, x_null, x_bool, x_int, x_long, x_chars, x_field, x_local, x_chain, x_compare, x_is_null, x_not, x_minus, x_choose, x_cast, x_project, x_look, x_call, no_links, more_links, no_args, more_args}
+use Rattle.pig_typed.specs.Typed.{Typed, TypedArgs, TypedLinks, x_null, x_bool, x_int, x_long, x_chars, x_field, x_local, x_chain, x_compare, x_is_null, x_not, x_minus, x_choose, x_cast, x_project, x_look, x_call, no_links, more_links, no_args, more_args}
 use Rattle.pig_plan.specs.Moves.{below_key, field_of, fields_in, moves, names_some, only_where, plain_at, put, put_args, put_links}
 use Rattle.pig_plan.specs.Plans.{PlanOp, p_load, p_filter, p_foreach, p_group_all, p_group, p_join, p_union, p_distinct, p_order, p_limit, p_store, p_assert, p_rank}
-use Rattle.pig_push.specs.Pushed.{each_arg, each_field, each_link, from_key, gone_to, handed_on, hands_key, is_handed, is_open, key_items, lead_at, may_pass, spot_for}
+use Rattle.pig_push.specs.Pushed.{each_arg, each_field, each_link, from_key, gone_to, hands_key, is_handed, is_open, key_items, may_pass, spot_for}
 use Rattle.pig_push.proofs.Passing.{each_is}
 use Rattle.pig_push.proofs.Spots.{join_moves}
-
--- what leads is plain
-lead_plain : (items : List TypedItem) (n m : ℕ) → lead_at items n ≡ Some m → plain_at items n ≡ Some m
-lead_plain [] n m h = absurd (none-some m h)
-lead_plain (item ∷ items) n m h = by_flat item.flatten (lead_plain items (n - 1) m) h
-  where
-    by_place : (b : Bool) → (lead_at items (n - 1) ≡ Some m → plain_at items (n - 1) ≡ Some m) → (if b then field_of item.value else lead_at items (n - 1)) ≡ Some m
-        → (if b then field_of item.value else plain_at items (n - 1)) ≡ Some m
-    by_place true rest e = e
-    by_place false rest e = rest e
-
-    by_flat : (b : Bool) → (lead_at items (n - 1) ≡ Some m → plain_at items (n - 1) ≡ Some m) → (if b then None else (if n == 0 then field_of item.value else lead_at items (n - 1))) ≡ Some m
-        → (if b then (if nat_lt n item.width then None else plain_at items (n - item.width)) else (if n == 0 then field_of item.value else plain_at items (n - 1))) ≡ Some m
-    by_flat true rest e = absurd (none-some m e)
-    by_flat false rest e = by_place (n == 0) rest e
 
 both : (a b : Bool) → (a && b) ≡ true → (a ≡ true) × (b ≡ true)
 both true b e = (refl, e)
@@ -73,31 +58,10 @@ module _ (f g : ℕ → Typed) (p : ℕ → Bool) (agree : (n : ℕ) → p n ≡
         let two = both (each_field p e) (each_arg p args) h in
         λ i. more_args (put_agrees e two.0 i) (args_agree args two.1 i)
 
-abbrev table_puts : TypedBlock → ℕ → Typed
-table_puts block n = option_map_or x_field (plain_at block.items n) (x_field n)
-
-module _ (block : TypedBlock) where
-  record Alike (n : ℕ) : Type 0 where
-    passes : is_some (plain_at block.items n) ≡ true
-    same : table_puts block n ≡ handed_on block n
-
-  alike : (n : ℕ) → is_handed block.items n ≡ true → Alike n
-  alike n h = by_found (lead_at block.items n) refl h
-    where
-      by_found : (o : Option ℕ) → lead_at block.items n ≡ o → is_some o ≡ true → Alike n
-      by_found None e g = absurd (true≢false (sym g))
-      by_found (Some m) e g =
-          let plain : plain_at block.items n ≡ Some m = lead_plain block.items n m e in
-          record {
-            passes = ap is_some plain;
-            same = ap (λ o. option_map_or x_field o (x_field n)) plain ∙ sym (ap (λ o. x_field (unwrap_or o n)) e);
-          }
-
-  all_pass : (fields : List ℕ) → list_all (is_handed block.items) fields ≡ true → list_all (λ n. is_some (plain_at block.items n)) fields ≡ true
-  all_pass [] h = refl
-  all_pass (n ∷ fields) h =
-      let two = both (is_handed block.items n) (list_all (is_handed block.items) fields) h in
-      λ i. (alike n two.0).passes i && all_pass fields two.1 i
+-- a column that is found, or else the same one
+column_found : (o : Option ℕ) (n : ℕ) → option_map_or x_field o (x_field n) ≡ x_field (unwrap_or o n)
+column_found None n = refl
+column_found (Some m) n = refl
 
 -- ---- GROUP
 
@@ -169,7 +133,7 @@ moves_of_the_table width (p_filter x first) c h = refl
 moves_of_the_table width (p_distinct x) c h = refl
 moves_of_the_table width (p_foreach x block) c h =
     let each : list_all (is_handed block.items) (fields_in c) ≡ true = sym (each_is (is_handed block.items) c) ∙ h in
-    (λ i. only_where (all_pass block (fields_in c) each i) (record { input = x; cond = put_agrees (table_puts block) (handed_on block) (is_handed block.items) (λ n e. (alike block n e).same) c h i }))
+    (λ i. only_where (each i) (record { input = x; cond = put (λ n. column_found (plain_at block.items n) n i) c }))
 moves_of_the_table width (p_load path delim columns) c h = absurd (true≢false (sym h))
 moves_of_the_table width (p_group_all input) c h = absurd (true≢false (sym h))
 moves_of_the_table width (p_group []) c h = absurd (true≢false (sym h))

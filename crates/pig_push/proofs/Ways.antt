@@ -1,40 +1,27 @@
 -- What may not pass has no way in the table of moves, but for what is left out.
-use Rattle.std.specs.Prelude.{◌≡◌, ◌+◌, ◌-◌, ◌==◌, ◌&&◌, ◌||◌, ℕ, Bool, true, false, List, [], ◌∷◌, map, nat_le, nat_lt, Option, Some, None, refl, if◌then◌else◌}
+use Rattle.std.specs.Prelude.{◌≡◌, ◌+◌, ◌&&◌, ℕ, Bool, true, false, List, [], ◌∷◌, map, nat_le, nat_lt, Option, Some, None, refl, if◌then◌else◌}
 use Rattle.std.proofs.Common.{ap, sym, ◌∙◌, arith, cond, true≢false}
-use Rattle.std.specs.List.{filter, list_all, list_any}
-use Rattle.std.specs.Option.{is_some, option_map_or}
+use Rattle.std.specs.List.{filter, list_all}
+use Rattle.std.specs.Option.{option_map_or}
 use Rattle.std.proofs.lemmas.Bool.{leb-true, ltb-true}
 use Rattle.std.proofs.lemmas.Option.{none-some}
 use Rattle.pig_value.proofs.list_laws.Bags.{either_way}
 use Rattle.pig_value.specs.declared.operators.Side.{Side}
 use Rattle.pig_value.specs.declared.operators.Side.TheVariants as side
-use Rattle.pig_typed.specs.Typed.{Typed, TypedBlock, TypedItem, x_field}
-use Rattle.pig_plan.specs.Moves.{Span, field_of, fields_in, holds_all, moves, names_some, only_where, open_spans, plain_at, put, spans}
+use Rattle.pig_typed.specs.Typed.{Typed, TypedBlock, x_field}
+use Rattle.pig_plan.specs.Moves.{Span, fields_in, holds_all, moves, names_some, only_where, open_spans, plain_at, put, spans}
 use Rattle.pig_plan.specs.Plans.{Keyed, p_load, p_filter, p_foreach, p_group_all, p_group, p_join, p_union, p_distinct, p_order, p_limit, p_store, p_assert, p_rank}
 use Rattle.pig_push.specs.declared.joining.Spot.{Spot}
-use Rattle.pig_push.specs.Pushed.{NoOtherWays, hands_all, is_handed, is_open, lead_at, may_pass, spot_of}
+use Rattle.pig_push.specs.Pushed.{NoOtherWays, hands_all, is_handed, is_open, may_pass, spot_of}
 use Rattle.pig_push.proofs.Passing.{each_is}
 use Rattle.pig_push.proofs.Spots.{both, to_span}
 
 -- ---- FOREACH
 
-neither : (a b : Bool) → (a || b) ≡ false → (a ≡ false) × (b ≡ false)
-neither true b e = absurd (true≢false e)
-neither false b e = (refl, e)
-
-lead_is : (items : List TypedItem) → list_any (λ item. item.flatten) items ≡ false → (n : ℕ) → lead_at items n ≡ plain_at items n
-lead_is [] h n = refl
-lead_is (item ∷ items) h n =
-    let two = neither item.flatten (list_any (λ i. i.flatten) items) h in
-    ap (λ b. if b then None else (if n == 0 then field_of item.value else lead_at items (n - 1))) two.0
-    ∙ ap (λ o. if n == 0 then field_of item.value else o) (lead_is items two.1 (n - 1))
-    ∙ ap (λ b. if b then (if nat_lt n item.width then None else plain_at items (n - item.width)) else (if n == 0 then field_of item.value else plain_at items (n - 1))) (sym two.0)
-
-no_foreach : (x : ℕ) (block : TypedBlock) (c : Typed) (width : ℕ → ℕ) → list_any (λ item. item.flatten) block.items ≡ false → hands_all block c ≡ false → moves width (p_foreach x block) c ≡ []
-no_foreach x block c width flat h =
-    let none : list_all (λ n. is_some (plain_at block.items n)) (fields_in c) ≡ false =
-    (λ i. list_all (λ n. is_some (sym (lead_is block.items flat n) i)) (fields_in c)) ∙ sym (each_is (is_handed block.items) c) ∙ h in
-    ap (λ b. only_where b (record { input = x; cond = put (λ n. option_map_or x_field (plain_at block.items n) (x_field n)) c })) none
+no_foreach : (x : ℕ) (block : TypedBlock) (c : Typed) (width : ℕ → ℕ) → hands_all block c ≡ false → moves width (p_foreach x block) c ≡ []
+no_foreach x block c width h =
+    ap (λ b. only_where b (record { input = x; cond = put (λ n. option_map_or x_field (plain_at block.items n) (x_field n)) c }))
+    (sym (each_is (is_handed block.items) c) ∙ h)
 
 -- ---- JOIN
 
@@ -99,7 +86,7 @@ no_join width inputs sd replicated c h = by_fields (fields_in c) h
 pub no_other_ways : NoOtherWays
 no_other_ways width (p_filter x first) c out h = absurd (true≢false h)
 no_other_ways width (p_distinct x) c out h = absurd (true≢false h)
-no_other_ways width (p_foreach x block) c out h = no_foreach x block c width out h
+no_other_ways width (p_foreach x block) c out h = no_foreach x block c width h
 no_other_ways width (p_load path delim columns) c out h = refl
 no_other_ways width (p_group_all input) c out h = refl
 no_other_ways width (p_group []) c out h = refl

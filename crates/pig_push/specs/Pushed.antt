@@ -11,7 +11,7 @@ use Rattle.pig_value.specs.declared.operators.Side.TheVariants as side
 use Rattle.pig_typed.specs.Typed.{Typed, TypedArgs, TypedBlock, TypedItem, TypedLinks, links_of, x_bool, x_field, x_chain, x_compare, x_is_null, x_not, x_minus, x_choose, x_cast, x_project, x_look, x_call, no_links, more_links, no_args, more_args}
 use Rattle.pig_plan.specs.Conjuncts.{conjuncts}
 use Rattle.pig_plan.specs.Meaning.{width_at}
-use Rattle.pig_plan.specs.Moves.{Move, field_of, fields_in, holds_all, moves, names_some, put}
+use Rattle.pig_plan.specs.Moves.{Move, fields_in, holds_all, moves, names_some, plain_at, put}
 use Rattle.pig_plan.specs.Nodes.{IsOnlyUse, inputs_of, is_live, names}
 use Rattle.pig_plan.specs.Plans.{Keyed, Plan, PlanNode, PlanOp, p_load, p_filter, p_foreach, p_group, p_join, p_union, p_distinct}
 use Rattle.pig_plan.specs.Rewrites.{SameMeaning}
@@ -39,19 +39,13 @@ chained_where test cond = chained (filter test (conjuncts cond))
 abbrev pub conjoined : Typed → Typed → Typed
 conjoined first more = chained (conjuncts first ++ conjuncts more)
 
--- The column that an item hands on, by the position of what it makes, where neither it nor an item before it stands under FLATTEN: behind
--- one the positions are not known here.
-abbrev pub lead_at : List TypedItem → ℕ → Option ℕ
-lead_at [] n = None
-lead_at (item ∷ items) n = if item.flatten then None else (if n == 0 then field_of item.value else lead_at items (n - 1))
-
--- what an item hands on, in the place of what it makes
+-- the column that an item hands on, in the place of what it makes: which one the table of moves tells
 abbrev pub handed_number : List TypedItem → ℕ → ℕ
-handed_number items n = unwrap_or (lead_at items n) n
+handed_number items n = unwrap_or (plain_at items n) n
 
 -- and else the column that it has behind those of others
 abbrev pub handed_from : List TypedItem → ℕ → ℕ → ℕ
-handed_from items first n = unwrap_or (lead_at items n) (n - first)
+handed_from items first n = unwrap_or (plain_at items n) (n - first)
 
 abbrev pub handed_on : TypedBlock → ℕ → Typed
 handed_on block n = x_field (handed_number block.items n)
@@ -86,7 +80,7 @@ abbrev mutual
 
 -- each column that the condition names is handed on
 abbrev pub is_handed : List TypedItem → ℕ → Bool
-is_handed items n = is_some (lead_at items n)
+is_handed items n = is_some (plain_at items n)
 
 abbrev pub hands_all : TypedBlock → Typed → Bool
 hands_all block cond = each_field (is_handed block.items) cond
@@ -181,9 +175,8 @@ gone_to width o cond = record { input = 0; cond = cond }
 abbrev pub MovesAreOfTheTable : Type 0
 MovesAreOfTheTable = (width : ℕ → ℕ) (o : PlanOp) (cond : Typed) → may_pass width o cond ≡ true → moves width o cond ≡ gone_to width o cond ∷ []
 
--- What is left out: items behind a FLATTEN, and keys of a GROUP that are no plain columns. A UNION has moves of its own.
+-- What is left out: keys of a GROUP that are no plain columns. A UNION has moves of its own.
 abbrev pub is_left_out : PlanOp → Bool
-is_left_out (p_foreach input block) = list_any (λ item. item.flatten) block.items
 is_left_out (p_group (input ∷ [])) = true
 is_left_out (p_union inputs) = true
 is_left_out o = false

@@ -1,8 +1,8 @@
 ghost use Rattle.std.specs.Prelude.{◌≡◌, ◌-◌, ◌∷◌, [], false, IfOk, map};
 ghost use Rattle.std.specs.Option.{is_some};
-ghost use Rattle.pig_plan.specs.Moves.{field_of, put, put_args, put_links};
+ghost use Rattle.pig_plan.specs.Moves.{field_of, plain_at, put, put_args, put_links};
 ghost use Rattle.pig_typed.specs.Typed.{args_of, item_typed, link_of, links_of, typed, x_choose, x_compare, x_field};
-ghost use Rattle.pig_push.specs.Pushed.{each_arg, each_field, each_link, from_key, handed_from, handed_number, hands_key, is_handed, key_items, lead_at, put_link};
+ghost use Rattle.pig_push.specs.Pushed.{each_arg, each_field, each_link, from_key, handed_from, handed_number, hands_key, is_handed, key_items, put_link};
 
 use pig_typed::{BlockItem, TExpr, TExprs, TLink, TLinks, copy_positions};
 use pig_value::{Boxed, Rel, Seq, copy_kind};
@@ -72,23 +72,28 @@ fn hands_args(items: &[BlockItem], args: &[TExpr]) -> bool
 fn hands(items: &[BlockItem], n: u32) -> bool
     ensures { result ≡ is_handed (map item_typed items.now) n }
 {
-    lead_at(items, n).is_some()
+    plain_at(items, n).is_some()
 }
 
-/// The column that the item at a position hands on, where no item up to it stands under FLATTEN.
-fn lead_at(items: &[BlockItem], n: u32) -> Option<u32>
-    ensures { result ≡ lead_at (map item_typed items.now) n }
+/// The column that an item hands on, by the position of what it makes. An item under FLATTEN makes
+/// as many as its width, and hands on none.
+fn plain_at(items: &[BlockItem], n: u32) -> Option<u32>
+    ensures { result ≡ plain_at (map item_typed items.now) n }
 {
     let mut left = items;
     let mut place = n;
     while let [item, rest @ ..] = left {
+        left = rest;
         if item.flatten {
-            return None;
+            if place < item.width {
+                return None;
+            }
+            place -= item.width;
+            continue;
         }
         if place == 0 {
             return field_of(&item.value);
         }
-        left = rest;
         place -= 1;
     }
     None
@@ -158,7 +163,7 @@ fn field_of(e: &TExpr) -> Option<u32>
 fn handed(items: &[BlockItem], from: u32, n: u32) -> u32
     ensures { result ≡ handed_from (map item_typed items.now) from n }
 {
-    lead_at(items, n).unwrap_or(n.saturating_sub(from))
+    plain_at(items, n).unwrap_or(n.saturating_sub(from))
 }
 
 /// An expression over what the items hand on.

@@ -6,7 +6,9 @@ use pig_push::push;
 use pig_typed::{
     Block, BlockItem, BlockItems, BlockSteps, SortKey, SortKeys, TExpr, TExprs, TLink, TLinks,
 };
-use pig_value::{Boxed, ChainOp, Column, Columns, Delim, Dir, Kind, Numbers, Rel, Seq, Side, Text};
+use pig_value::{
+    Boxed, ChainOp, Column, Columns, Delim, Dir, Kind, Kinds, Numbers, Rel, Seq, Side, Text,
+};
 use std::alloc::Global;
 use std::process::Abort;
 
@@ -40,18 +42,43 @@ fn digits<R: Abort>(rt: &R, alloc: Global, bytes: &[u8]) -> Numbers {
     numbers
 }
 
-/// A LOAD of two chararrays.
-fn load<R: Abort>(rt: &R, alloc: Global, path: &str) -> NodeOp {
+/// The kinds of so many chararrays.
+fn chararrays<R: Abort>(rt: &R, alloc: Global, count: u32) -> Kinds {
+    let mut kinds = Kinds::new(alloc);
+    for _ in 0..count {
+        put(rt, &mut kinds, Kind::Chararray);
+    }
+    kinds
+}
+
+/// A column of a LOAD: `t` for a tuple of two chararrays, `b` for a bag of three, and else a
+/// chararray.
+fn kind<R: Abort>(rt: &R, alloc: Global, byte: u8) -> Kind {
+    match byte {
+        b't' => Kind::Tuple(chararrays(rt, alloc, 2)),
+        b'b' => Kind::Bag(chararrays(rt, alloc, 3)),
+        _ => Kind::Chararray,
+    }
+}
+
+fn load_of<R: Abort>(rt: &R, alloc: Global, path: &str, bytes: &[u8]) -> NodeOp {
     let mut columns = Columns::new(alloc);
-    for position in 0..2 {
-        let kind = Kind::Chararray;
+    let mut position = 0;
+    for byte in bytes {
+        let kind = kind(rt, alloc, *byte);
         put(rt, &mut columns, Column { position, kind });
+        position = if position < 9 { position + 1 } else { 9 };
     }
     NodeOp::Load {
         path: Text::from_str(alloc, path).expect(rt, "memory"),
         delim: Delim::tab(),
         columns,
     }
+}
+
+/// A LOAD of two chararrays.
+fn load<R: Abort>(rt: &R, alloc: Global, path: &str) -> NodeOp {
+    load_of(rt, alloc, path, b"cc")
 }
 
 fn store<R: Abort>(rt: &R, alloc: Global, input: u32, path: &str) -> NodeOp {
@@ -131,18 +158,27 @@ fn tests<R: Abort>(rt: &R, alloc: Global, bytes: &[u8]) -> TExpr {
     }
 }
 
-/// An item of a FOREACH: a column, `F` for the first one under FLATTEN, or `c` for what is
-/// computed.
-fn item(byte: u8) -> BlockItem {
-    let value = match byte {
-        b'c' => TExpr::Int(1),
-        b'F' => TExpr::Field(0),
-        _ => TExpr::Field(digit(byte)),
-    };
+fn column_item(column: u32, flatten: bool, width: u32) -> BlockItem {
     BlockItem {
-        value,
-        flatten: byte == b'F',
-        width: 1,
+        value: TExpr::Field(column),
+        flatten,
+        width,
+    }
+}
+
+/// An item of a FOREACH: a column, or `c` for what is computed. Under FLATTEN stand `F`, the first
+/// column of one field, `T`, that of two, and `B`, the second column of three.
+fn item(byte: u8) -> BlockItem {
+    match byte {
+        b'c' => BlockItem {
+            value: TExpr::Int(1),
+            flatten: false,
+            width: 1,
+        },
+        b'F' => column_item(0, true, 1),
+        b'T' => column_item(0, true, 2),
+        b'B' => column_item(1, true, 3),
+        _ => column_item(digit(byte), false, 1),
     }
 }
 
@@ -196,10 +232,10 @@ fn join<R: Abort>(rt: &R, alloc: Global, letter: u8, bytes: &[u8]) -> NodeOp {
     }
 }
 
-/// The node of a word: a letter, the digit of its input, and what else it has: `La`, `f001` (FILTER
-/// of node 0 where its columns 0 and 1 are there), `g010` (FOREACH of node 0 with columns 1 and 0),
-/// `k01` (GROUP of node 0 by column 1), `jl01` (LEFT JOIN of nodes 0 and 1), `d0`, `u01`, `o0`,
-/// `l0`, `a0`, `s4p`.
+/// The node of a word: a letter, the digit of its input, and what else it has: `La`, `Mtbcc` (LOAD
+/// of a tuple, a bag and two chararrays), `f001` (FILTER of node 0 where its columns 0 and 1 are
+/// there), `g010` (FOREACH of node 0 with columns 1 and 0), `k01` (GROUP of node 0 by column 1),
+/// `jl01` (LEFT JOIN of nodes 0 and 1), `d0`, `u01`, `o0`, `l0`, `a0`, `s4p`.
 fn op<R: Abort>(rt: &R, alloc: Global, word: &str) -> NodeOp {
     let [letter, rest @ ..] = word.as_bytes() else {
         return load(rt, alloc, "c");
@@ -234,6 +270,7 @@ fn op<R: Abort>(rt: &R, alloc: Global, word: &str) -> NodeOp {
         },
         b'l' => NodeOp::Limit { input, count: 1 },
         b's' => store(rt, alloc, input, "p"),
+        b'M' => load_of(rt, alloc, "a", rest),
         _ => load(rt, alloc, "a"),
     }
 }
@@ -366,10 +403,10 @@ fn told<R: Abort>(rt: &R, alloc: Global, words: &str) -> String {
 }
 
 // The words of a plan, and the live nodes once conjuncts have moved: below a FILTER, a DISTINCT, a
-// FOREACH that hands the columns on, a UNION to each distinct input, a GROUP by the one column that
-// is named, and a JOIN to the input whose columns are named, where its rows all stand among the
-// joined ones; not below what is computed, FLATTEN, a bag, several keys, ORDER, LIMIT, ASSERT or
-// LOAD, nor below what two nodes read.
+// FOREACH that hands the columns on, also behind a FLATTEN, a UNION to each distinct input, a GROUP
+// by the one column that is named, and a JOIN to the input whose columns are named, where its rows
+// all stand among the joined ones; not below what is computed, what FLATTEN makes, a bag, several
+// keys, ORDER, LIMIT, ASSERT or LOAD, nor below what two nodes read.
 const TOLD: &str = "La f00 f11 s2p: 0L 2f(0,1).0 3s.2
 La f001 f11 s2p: 0L 2f(0,1,1).0 3s.2
 La f0n f11 s2p: 0L 2f(0,1,1).0 3s.2
@@ -387,7 +424,21 @@ La g01c f11 s2p: 0L 1g.0 2f1.1 3s.2
 La g01c f101 s2p: 0L 1f1.0 2g.1 3f1.2 4s.3
 La g01c f110t0 s2p: 0L 1f(1,t,1).0 2g.1 3f1.2 4s.3
 La g01F f10 s2p: 0L 1f1.0 2g.1 3s.2
-La g0F1 f11 s2p: 0L 1g.0 2f1.1 3s.2
+La g0F1 f11 s2p: 0L 1f1.0 2g.1 3s.2
+La g0F1 f10 s2p: 0L 1g.0 2f0.1 3s.2
+La g0F1c f12 s2p: 0L 1g.0 2f2.1 3s.2
+Mtbcc g0T2 f12 s2p: 0L 1f2.0 2g.1 3s.2
+Mtbcc g0T2 f11 s2p: 0L 1g.0 2f1.1 3s.2
+Mtbcc g0T23 f12 s2p: 0L 1f2.0 2g.1 3s.2
+Mtbcc g0T23 f13 s2p: 0L 1f3.0 2g.1 3s.2
+Mtbcc g0B23 f12 s2p: 0L 1g.0 2f2.1 3s.2
+Mtbcc g0B23 f13 s2p: 0L 1f2.0 2g.1 3s.2
+Mtbcc g02TB3 f10 s2p: 0L 1f2.0 2g.1 3s.2
+Mtbcc g02TB3 f13 s2p: 0L 1g.0 2f3.1 3s.2
+Mtbcc g02TB3 f15 s2p: 0L 1g.0 2f5.1 3s.2
+Mtbcc g02TB3 f16 s2p: 0L 1f3.0 2g.1 3s.2
+Mtbcc g0T2T3 f12513 s2p: 0L 1f(2,3).0 2g.1 3f(1,3).2 4s.3
+Mtbcc d0 g1B32 f23 f34 s4p: 0L 1f(3,2).0 2d.1 4g.2 5s.4
 La d0 g110 f20 s3p: 0L 1f1.0 2d.1 3g.2 4s.3
 La d0 g11c f210 s3p: 0L 1f1.0 2d.1 3g.2 4f1.3 5s.4
 La f00 d1 f21 s3p: 0L 2f(0,1).0 3d.2 4s.3
