@@ -11,8 +11,8 @@ use Rattle.pig_syntax.specs.declared.trees.Expr.TheVariants as ex
 use Rattle.pig_syntax.specs.declared.trees.Link.{Link}
 use Rattle.pig_syntax.specs.declared.trees.PostStep.{PostStep}
 use Rattle.pig_exprs.specs.Grammar.{Forms, Level, expr, conj, neg, comp, sum, term, unary, casted, post, prim, rel_of, chain_of, is_among, ArePostSteps, none, project, look, ReadsExpr, expr_one, expr_more, conj_one, conj_more, neg_none, neg_not, comp_one, comp_rel, comp_null, comp_not_null, sum_one, sum_more, term_one, term_more, unary_none, unary_minus, casted_none, casted_cast, post_one, post_more, prim_literal, prim_field, prim_call_none, prim_call, prim_paren, prim_choose, comp_in, prim_case, prim_case_of, AreWhens, whens_none, whens_more, IsLast, last_none, last_else, Links, links_none, links_link, AreExprs, exprs_last, exprs_more}
-use Rattle.pig_exprs.specs.Reader.{FoundPart, comma_turn, close_paren}
-use Rattle.pig_exprs.specs.ExprReader.{link_turn, chain_at, post_turn, post_of, colon, both_at, paren_after, call_at, then_word, end_word, when_at, when_turn, first_when, last_at, cases_at, case_bare_at, case_of_at, prim_at, post_at, cast_at, casted_at, unary_at, term_at, sum_at, null_test, rel_ahead, in_ahead, among_at, comp_after, comp_at, neg_at, conj_at, expr_with, expr_at}
+use Rattle.pig_exprs.specs.Reader.{FoundPart, comma_turn, after_symbol, after_word}
+use Rattle.pig_exprs.specs.ExprReader.{link_turn, chain_at, post_turn, post_of, both_at, paren_after, call_at, when_at, when_turn, first_when, last_at, cases_at, case_bare_at, case_of_at, prim_at, post_at, cast_at, casted_at, unary_at, term_at, sum_at, null_test, rel_ahead, in_ahead, among_at, comp_after, comp_at, neg_at, conj_at, expr_with, expr_at}
 use Rattle.pig_exprs.proofs.Fits.{Fits}
 use Rattle.pig_exprs.proofs.Finds.{Finds, Run, stops, goes, unmapped, repeat_run, FindsRun, FindsAll, finds_map, finds_last, finds_more, finds_listed}
 use Rattle.pig_exprs.proofs.NamesFound.{field_ref_found, selection_found}
@@ -77,7 +77,7 @@ comp_both most inner ts mid rest t r a b h is g = rw (h, rel_no_null t mid r is,
 -- IN and its values follow
 among_found : (inner : Forms → FoundPart Expr) (a : Expr) {ts rest : Forms} {v : Expr} {others : List Expr} → Run (comma_turn inner) (f.Symbol s.Comma ∷ ts) (v ∷ others) (f.Symbol s.CloseParen ∷ rest)
     → among_at inner a ts ≡ Some (is_among a v others, rest)
-unfolding among_at comma_turn close_paren
+unfolding among_at comma_turn after_symbol
 among_found inner a {ts = ts} {v = v} (goes {mid = mid} h less later) = rw (unmapped (inner ts) (v, mid) h, repeat_run later (length mid) [] (omega arith)) refl
 
 comp_among : (most : ℕ) (inner : Forms → FoundPart Expr) (ts mid rest : Forms) (a b : Expr) → sum_at most inner ts ≡ Some (a, f.Keyword k.In ∷ f.Symbol s.OpenParen ∷ mid) → among_at inner a mid ≡ Some (b, rest)
@@ -107,7 +107,7 @@ inside most (suc m) d low given =
 -- ---- expressions
 
 mutual
-  unfolding Fits comma_turn close_paren colon link_turn chain_of post_of both_at paren_after call_at then_word end_word when_at when_turn last_at case_bare_at case_of_at prim_at cast_at unary_at term_at sum_at null_test comp_after comp_at neg_at conj_at expr_with
+  unfolding Fits comma_turn after_symbol after_word link_turn chain_of post_of both_at paren_after call_at when_at when_turn last_at case_bare_at case_of_at prim_at cast_at unary_at term_at sum_at null_test comp_after comp_at neg_at conj_at expr_with
 
   pub reads_found : {l : Level} {ts rest : Forms} {a : Expr} → ReadsExpr l ts a rest → (d most depth : ℕ) → Fits ts d → d < most → d ≤ depth → binds_ahead rest < rank l
       → Finds (read_at l most (expr_at most depth)) ts a rest d

@@ -9,9 +9,9 @@ use Rattle.pig_syntax.specs.declared.trees.Link.{Link}
 use Rattle.pig_syntax.specs.declared.trees.PostStep.{PostStep}
 use Rattle.pig_exprs.specs.Grammar.{Forms, Listed, Level, expr, conj, neg, comp, sum, term, unary, casted, post, prim, chain_op, rel_of, token_literal, chain_of, IsCastType, ArePostSteps, ReadsExpr, Links, AreExprs, AreWhens, IsLast}
 use Rattle.pig_exprs.specs.Reader.{FoundPart, comma_turn, type_at}
-use Rattle.pig_exprs.specs.ExprReader.{link_turn, chain_at, post_turn, post_of, colon, both_at, paren_after, call_at, simple_at, then_word, end_word, when_at, when_turn, first_when, last_at, cases_at, case_bare_at, case_of_at, case_at, prim_at, post_at, begins_type, cast_at, casted_at, unary_at, term_at, sum_at, null_test, rel_ahead, in_ahead, among_at, comp_after, comp_at, neg_at, conj_at, expr_with, expr_at}
+use Rattle.pig_exprs.specs.ExprReader.{link_turn, chain_at, post_turn, post_of, both_at, paren_after, call_at, simple_at, when_at, when_turn, first_when, last_at, cases_at, case_bare_at, case_of_at, case_at, prim_at, post_at, begins_type, cast_at, casted_at, unary_at, term_at, sum_at, null_test, rel_ahead, in_ahead, among_at, comp_after, comp_at, neg_at, conj_at, expr_with, expr_at}
 use Rattle.pig_exprs.proofs.Options.{Holds, itself, holds_then, holds_map, holds_map_or, holds_weaken, holds_if}
-use Rattle.pig_exprs.proofs.ListSound.{Upholds, Leads, TurnsLead, GoesOn, comma_leads, repeat_runs, listed_upholds, closes}
+use Rattle.pig_exprs.proofs.ListSound.{Upholds, Leads, TurnsLead, GoesOn, comma_leads, repeat_runs, listed_upholds, symbol_stands, word_stands}
 use Rattle.pig_exprs.proofs.NamesSound.{field_ref_upholds, selection_upholds}
 use Rattle.pig_exprs.proofs.TypesSound.{cast_type_upholds, type_upholds}
 
@@ -69,12 +69,6 @@ simple_upholds (t ∷ ts) =
     holds_map_or _ (itself (token_literal t)) (λ a is_literal. Holds.just (ReadsExpr.prim_literal is_literal))
     (holds_map _ (field_ref_upholds (t ∷ ts)) (λ p field. ReadsExpr.prim_field field))
 
--- what stands in front of a `:`
-colon_stands : (P : Forms → Type 0) (ts : Forms) → P ts → Holds (λ rest. P (f.Symbol s.Colon ∷ rest)) (colon ts)
-unfolding colon
-colon_stands P (f.Symbol s.Colon ∷ ts) p = Holds.just p
-colon_stands P _ p = Holds.nothing
-
 -- what stands in front of IS NULL or IS NOT NULL
 null_stands : {start : Forms} {a : Expr} (ts : Forms) → ReadsExpr sum start a ts → Holds (λ n. ReadsExpr comp start (e.IsNull a n.0) n.1) (null_test ts)
 unfolding null_test
@@ -95,17 +89,6 @@ unfolding in_ahead
 in_stands P (f.Keyword k.In ∷ f.Symbol s.OpenParen ∷ ts) p = Holds.just p
 in_stands P ts p = Holds.nothing
 
--- what stands in front of THEN, and of END
-then_stands : (P : Forms → Type 0) (ts : Forms) → P ts → Holds (λ rest. P (f.Keyword k.Then ∷ rest)) (then_word ts)
-unfolding then_word
-then_stands P (f.Keyword k.Then ∷ ts) p = Holds.just p
-then_stands P _ p = Holds.nothing
-
-end_stands : (P : Forms → Type 0) (ts : Forms) → P ts → Holds (λ rest. P (f.Keyword k.End ∷ rest)) (end_word ts)
-unfolding end_word
-end_stands P (f.Keyword k.End ∷ ts) p = Holds.just p
-end_stands P _ p = Holds.nothing
-
 -- the WHENs of a CASE, and what stands behind them
 record AreCases (ts : Forms) (whens : List (Expr × Expr)) (last : Expr) (rest : Forms) : Type 0 where
   mid : Forms
@@ -119,9 +102,9 @@ module _ (most : ℕ) (inner : Forms → FoundPart Expr) (inside : Upholds inner
   unfolding both_at
   both_stand ts =
       holds_then _ (inside ts) (λ left b.
-      holds_then _ (colon_stands (ReadsExpr expr ts left.0) left.1 b) (λ behind b.
+      holds_then _ (symbol_stands s.Colon (ReadsExpr expr ts left.0) left.1 b) (λ behind b.
       holds_then _ (inside behind) (λ right c.
-      holds_then _ (closes (ReadsExpr expr behind right.0) right.1 c) (λ rest c.
+      holds_then _ (symbol_stands s.CloseParen (ReadsExpr expr behind right.0) right.1 c) (λ rest c.
       Holds.just (λ start a first. ReadsExpr.prim_choose first b c)))))
 
   paren_stands : (start : Forms) (a : Expr) (ts : Forms) → ReadsExpr expr start a ts → Holds (λ p. ReadsExpr prim (f.Symbol s.OpenParen ∷ start) p.0 p.1) (paren_after inner a ts)
@@ -135,13 +118,13 @@ module _ (most : ℕ) (inner : Forms → FoundPart Expr) (inside : Upholds inner
   call_stands name (f.Symbol s.CloseParen ∷ ts) = Holds.just ReadsExpr.prim_call_none
   call_stands name ts =
       holds_then _ (listed_upholds inner (ReadsExpr expr) inside ts) (λ args l.
-      holds_then _ (closes (Listed (ReadsExpr expr) ts args.0) args.1 l) (λ rest l. Holds.just (ReadsExpr.prim_call (are_exprs l))))
+      holds_then _ (symbol_stands s.CloseParen (Listed (ReadsExpr expr) ts args.0) args.1 l) (λ rest l. Holds.just (ReadsExpr.prim_call (are_exprs l))))
 
   when_stands : (ts : Forms) → Holds (Leads AreWhens (f.Keyword k.When ∷ ts)) (when_at inner ts)
   unfolding when_at
   when_stands ts =
       holds_then _ (inside ts) (λ test c.
-      holds_then _ (then_stands (ReadsExpr expr ts test.0) test.1 c) (λ behind c.
+      holds_then _ (word_stands k.Then (ReadsExpr expr ts test.0) test.1 c) (λ behind c.
       holds_then _ (inside behind) (λ value a.
       Holds.just (λ others rest more. AreWhens.whens_more c a more))))
 
@@ -160,7 +143,7 @@ module _ (most : ℕ) (inner : Forms → FoundPart Expr) (inside : Upholds inner
   last_upholds (f.Keyword k.End ∷ ts) = Holds.just IsLast.last_none
   last_upholds (f.Keyword k.Else ∷ ts) =
       holds_then _ (inside ts) (λ a is_else.
-      holds_then _ (end_stands (ReadsExpr expr ts a.0) a.1 is_else) (λ rest is_else. Holds.just (IsLast.last_else is_else)))
+      holds_then _ (word_stands k.End (ReadsExpr expr ts a.0) a.1 is_else) (λ rest is_else. Holds.just (IsLast.last_else is_else)))
   last_upholds _ = Holds.nothing
 
   cases_stand : (ts : Forms) → Holds (λ p. AreCases ts (p.0.0.0 ∷ p.0.0.1) p.0.1 p.1) (cases_at inner ts)
@@ -204,7 +187,7 @@ module _ (most : ℕ) (inner : Forms → FoundPart Expr) (inside : Upholds inner
   unfolding cast_at
   cast_stands ts =
       holds_then _ (cast_type_upholds (type_at most) (type_upholds most) ts) (λ type is_type.
-      holds_then _ (closes (IsCastType ts type.0) type.1 is_type) (λ rest is_type.
+      holds_then _ (symbol_stands s.CloseParen (IsCastType ts type.0) type.1 is_type) (λ rest is_type.
       holds_then _ (post_upholds rest) (λ a is_post.
       Holds.just (ReadsExpr.casted_cast is_type is_post))))
 
@@ -238,7 +221,7 @@ module _ (most : ℕ) (inner : Forms → FoundPart Expr) (inside : Upholds inner
   among_stands start a ts operand =
       holds_then _ (inside ts) (λ first v.
       holds_then _ (repeat_runs (comma_turn inner) (GoesOn (ReadsExpr expr)) (λ mid before b r. Listed.last r) (comma_leads inner (ReadsExpr expr) inside) (length first.1) first.1) (λ others goes.
-      holds_then _ (closes (Listed (ReadsExpr expr) ts (first.0 ∷ others.0)) others.1 (goes ts first.0 v)) (λ rest l.
+      holds_then _ (symbol_stands s.CloseParen (Listed (ReadsExpr expr) ts (first.0 ∷ others.0)) others.1 (goes ts first.0 v)) (λ rest l.
       Holds.just (ReadsExpr.comp_in operand (are_exprs l)))))
 
   comp_stands : (start : Forms) (a : Expr) (ts : Forms) → ReadsExpr sum start a ts → Holds (λ p. ReadsExpr comp start p.0 p.1) (comp_after most inner a ts)

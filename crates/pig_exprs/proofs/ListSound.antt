@@ -1,11 +1,16 @@
 -- What a list reads stands by the rule of its members, and what is read turn by turn by the rule of the turns.
-use Rattle.std.proofs.Common.{◌≡◌, ℕ, zero, suc, sym, ◌∙◌, subst, List, [], ◌∷◌, ◌++◌, length, append_assoc, append-nil}
+use Rattle.std.proofs.Common.{◌≡◌, ℕ, zero, suc, refl, sym, Bool, true, false, if◌then◌else◌, ◌∙◌, subst, List, [], ◌∷◌, ◌++◌, length, append_assoc, append-nil}
 use Rattle.std.specs.Prelude.{Some, None}
 use Rattle.std.specs.Option.{option_and_then, option_map_or}
+use denote.Enum.Bare.{sameb, same_true}
+use Rattle.pig_syntax.specs.contracts.tokens.Keyword.{the_type as keywords}
+use Rattle.pig_syntax.specs.contracts.tokens.Symbol.{the_type as symbols}
+use Rattle.pig_syntax.specs.declared.tokens.Keyword.{Keyword}
+use Rattle.pig_syntax.specs.declared.tokens.Symbol.{Symbol}
 use Rattle.pig_syntax.specs.declared.tokens.Symbol.TheVariants as s
 use Rattle.pig_syntax.specs.declared.tokens.TokenForm.TheVariants as f
 use Rattle.pig_exprs.specs.Grammar.{Forms, Listed}
-use Rattle.pig_exprs.specs.Reader.{FoundPart, Turn, repeat, comma_turn, listed, close_paren}
+use Rattle.pig_exprs.specs.Reader.{FoundPart, Turn, repeat, comma_turn, listed, after_symbol, after_word}
 use Rattle.pig_exprs.proofs.Options.{Holds, holds_then, holds_map, holds_weaken}
 
 -- whatever the reader finds stands by the rule
@@ -74,8 +79,26 @@ unfolding listed
 listed_upholds member rule upholds ts =
     holds_then _ (upholds ts) (λ p first. members_listed (comma_turn member) rule (comma_leads member rule upholds) (length p.1) ts p first)
 
--- what stands in front of a `)`
-pub closes : (P : Forms → Type 0) (ts : Forms) → P ts → Holds (λ rest. P (f.Symbol s.CloseParen ∷ rest)) (close_paren ts)
-unfolding close_paren
-closes P (f.Symbol s.CloseParen ∷ ts) p = Holds.just p
-closes P _ p = Holds.nothing
+-- ---- symbols and keywords
+
+symbol_in_front : (P : Forms → Type 0) (symbol found : Symbol) (ts : Forms) (is : Bool) → sameb symbols symbol found ≡ is → P (f.Symbol found ∷ ts)
+    → Holds (λ rest. P (f.Symbol symbol ∷ rest)) (if is then Some ts else None)
+symbol_in_front P symbol found ts true same p = Holds.just (subst (λ x. P (f.Symbol x ∷ ts)) (sym (same_true symbols tt symbol found same)) p)
+symbol_in_front P symbol found ts false same p = Holds.nothing
+
+-- what stands in front of a symbol
+pub symbol_stands : (symbol : Symbol) (P : Forms → Type 0) (ts : Forms) → P ts → Holds (λ rest. P (f.Symbol symbol ∷ rest)) (after_symbol symbol ts)
+unfolding after_symbol
+symbol_stands symbol P (f.Symbol found ∷ ts) p = symbol_in_front P symbol found ts (sameb symbols symbol found) refl p
+symbol_stands symbol P _ p = Holds.nothing
+
+word_in_front : (P : Forms → Type 0) (word found : Keyword) (ts : Forms) (is : Bool) → sameb keywords word found ≡ is → P (f.Keyword found ∷ ts)
+    → Holds (λ rest. P (f.Keyword word ∷ rest)) (if is then Some ts else None)
+word_in_front P word found ts true same p = Holds.just (subst (λ x. P (f.Keyword x ∷ ts)) (sym (same_true keywords tt word found same)) p)
+word_in_front P word found ts false same p = Holds.nothing
+
+-- what stands in front of a keyword
+pub word_stands : (word : Keyword) (P : Forms → Type 0) (ts : Forms) → P ts → Holds (λ rest. P (f.Keyword word ∷ rest)) (after_word word ts)
+unfolding after_word
+word_stands word P (f.Keyword found ∷ ts) p = word_in_front P word found ts (sameb keywords word found) refl p
+word_stands word P _ p = Holds.nothing

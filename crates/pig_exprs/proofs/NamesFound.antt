@@ -11,7 +11,7 @@ use Rattle.pig_syntax.specs.declared.trees.FieldRef.TheVariants as ref
 use Rattle.pig_syntax.specs.declared.trees.PostStep.{PostStep}
 use Rattle.pig_syntax.specs.declared.trees.PostStep.TheVariants as step
 use Rattle.pig_exprs.specs.Grammar.{Forms, part_of, IsName, part, parts, IsFieldRef, name as by_name, position as by_position, IsSelection, one, several}
-use Rattle.pig_exprs.specs.Reader.{comma_turn, close_paren, part_turn, joined_name, name_at, field_ref_at, selection_at}
+use Rattle.pig_exprs.specs.Reader.{comma_turn, after_symbol, part_turn, joined_name, name_at, field_ref_at, selection_at}
 use Rattle.pig_exprs.proofs.Fits.{Fits}
 use Rattle.pig_exprs.proofs.Finds.{Finds, Run, stops, goes, repeat_run, finds_listed, listed_finds}
 
@@ -125,7 +125,7 @@ selection_of_field (by_name (parts {t = t} {ts = ts} {text = text} is later)) = 
 selection_of_field by_position = refl
 
 pub selection_found : {ts rest : Forms} {p : PostStep} → IsSelection ts p rest → (d : ℕ) → Fits ts d → NameEnds rest → Finds selection_at ts p rest d
-unfolding Fits selection_at close_paren comma_turn part_turn
+unfolding Fits selection_at after_symbol comma_turn part_turn
 selection_found (one h) d fits ends =
     let found = field_ref_found h d fits ends in
     record { finds = selection_of_field h ∙ rw found.finds refl; fits = found.fits; shorter = found.shorter }

@@ -7,7 +7,7 @@ use Rattle.pig_syntax.specs.declared.tokens.TokenForm.TheVariants as f
 use Rattle.pig_exprs.specs.Grammar.{Forms, Listed, part_of, IsName, IsFieldRef, IsSelection}
 use Rattle.pig_exprs.specs.Reader.{part_turn, joined_name, name_at, field_ref_at, selection_at}
 use Rattle.pig_exprs.proofs.Options.{Holds, itself, holds_then, holds_map}
-use Rattle.pig_exprs.proofs.ListSound.{Upholds, TurnsLead, repeat_runs, listed_upholds, closes}
+use Rattle.pig_exprs.proofs.ListSound.{Upholds, TurnsLead, repeat_runs, listed_upholds, symbol_stands}
 
 -- parts behind a text go on what stands behind it
 joined_behind : (text name : List ℕ) (parts : List (List ℕ)) → joined_name (text ++ name) parts ≡ text ++ joined_name name parts
@@ -49,5 +49,5 @@ pub selection_upholds : Upholds selection_at IsSelection
 unfolding selection_at
 selection_upholds (f.Symbol s.OpenParen ∷ ts) =
     holds_then _ (listed_upholds field_ref_at IsFieldRef field_ref_upholds ts) (λ fields rs.
-    holds_then _ (closes (Listed IsFieldRef ts fields.0) fields.1 rs) (λ rest rs. Holds.just (IsSelection.several rs)))
+    holds_then _ (symbol_stands s.CloseParen (Listed IsFieldRef ts fields.0) fields.1 rs) (λ rest rs. Holds.just (IsSelection.several rs)))
 selection_upholds ts = holds_map _ (field_ref_upholds ts) (λ p r. IsSelection.one r)

@@ -10,8 +10,7 @@ use Rattle.pig_syntax.specs.declared.trees.FieldTree.{FieldTree}
 use Rattle.pig_syntax.specs.declared.trees.TypeTree.{TypeTree}
 use Rattle.pig_syntax.specs.declared.trees.TypeTree.TheVariants as type
 use Rattle.pig_exprs.specs.Grammar.{Forms, scalar_of, IsType, type_scalar, type_tuple, type_bag, type_bag_word, type_map, type_map_word, IsTuple, tuple_bare, tuple_word, IsBag, bag_bare, bag_named, IsMap, map_bare, map_typed, IsSchema, schema, AreSchemaFields, fields_last, fields_more, IsSchemaField, field_bare, field_typed, IsCastType, cast_scalar, cast_tuple, cast_bag, cast_map}
-use Rattle.pig_exprs.specs.Reader.{FoundPart, comma_turn, close_paren, close_brace, close_bracket, field_at, schema_at, tuple_at, bag_rows_at, bag_at, map_at, cast_type_with, type_with, type_at}
-use Rattle.pig_exprs.specs.ExprReader.{colon}
+use Rattle.pig_exprs.specs.Reader.{FoundPart, comma_turn, after_symbol, field_at, schema_at, tuple_at, bag_rows_at, bag_at, map_at, cast_type_with, type_with, type_at}
 use Rattle.pig_exprs.proofs.Fits.{Fits}
 use Rattle.pig_exprs.proofs.Finds.{Finds, FindsAll, finds_map, finds_last, finds_more, finds_listed}
 
@@ -31,8 +30,8 @@ scalar_fits k.Case type ts d h fits = absurd (cc)
 scalar_fits k.End type ts d h fits = absurd (cc)
 scalar_fits word type ts d h fits = fits
 
-bare_field : (inner : Forms → FoundPart TypeTree) (text : List ℕ) (rest : Forms) → colon rest ≡ None → field_at inner (f.Ident text ∷ rest) ≡ Some (record { name = text; kind = None }, rest)
-unfolding colon field_at
+bare_field : (inner : Forms → FoundPart TypeTree) (text : List ℕ) (rest : Forms) → after_symbol s.Colon rest ≡ None → field_at inner (f.Ident text ∷ rest) ≡ Some (record { name = text; kind = None }, rest)
+unfolding after_symbol field_at
 bare_field inner text (f.Symbol s.Colon ∷ ts) h = absurd (cc)
 bare_field inner text rest h = refl
 
@@ -64,7 +63,7 @@ bag_of_tuple inner (tuple_word h) = refl
 
 -- a map with a type of its values
 map_of_type : (inner : Forms → FoundPart TypeTree) {ts rest : Forms} {type : TypeTree} → IsType ts type rest
-    → map_at inner (f.Symbol s.OpenBracket ∷ ts) ≡ option_and_then (λ values. option_and_then (λ rest. Some (Some values.0, rest)) (close_bracket values.1)) (inner ts)
+    → map_at inner (f.Symbol s.OpenBracket ∷ ts) ≡ option_and_then (λ values. option_and_then (λ rest. Some (Some values.0, rest)) (after_symbol s.CloseBracket values.1)) (inner ts)
 unfolding map_at
 map_of_type inner (type_scalar h) = refl
 map_of_type inner (type_tuple (tuple_bare (schema h))) = refl
@@ -87,7 +86,7 @@ deeper (suc m) d low given =
 -- ---- types
 
 mutual
-  unfolding Fits tuple_at bag_rows_at bag_at map_at schema_at field_at type_with cast_type_with close_paren close_brace close_bracket comma_turn colon
+  unfolding Fits tuple_at bag_rows_at bag_at map_at schema_at field_at type_with cast_type_with after_symbol comma_turn
 
   pub type_found : {ts rest : Forms} {type : TypeTree} → IsType ts type rest → (d n : ℕ) → Fits ts d → d < n → Finds (type_at n) ts type rest d
   type_found (type_scalar {ts = ts} {word = word} {type = type} h) d n fits low =
@@ -130,14 +129,14 @@ mutual
       let found = finds_listed (fields_found h d n fits (omega (arith, low)) refl refl) in
       record { finds = rw found.finds refl; fits = found.fits; shorter = omega (arith, found.shorter) }
 
-  fields_found : {ts rest : Forms} {fields : List FieldTree} → AreSchemaFields ts fields rest → (d n : ℕ) → Fits ts d → d < n → colon rest ≡ None → comma_turn (field_at (type_at n)) rest ≡ Some None
+  fields_found : {ts rest : Forms} {fields : List FieldTree} → AreSchemaFields ts fields rest → (d n : ℕ) → Fits ts d → d < n → after_symbol s.Colon rest ≡ None → comma_turn (field_at (type_at n)) rest ≡ Some None
       → FindsAll (field_at (type_at n)) ts fields rest d
   fields_found (fields_last h) d n fits low bare ends = finds_last (field_found h d n fits low bare) ends
   fields_found (fields_more h later) d n fits low bare ends =
       let first = field_found h d n fits low refl in
       finds_more first (fields_found later d n first.fits low bare ends)
 
-  pub field_found : {ts rest : Forms} {field : FieldTree} → IsSchemaField ts field rest → (d n : ℕ) → Fits ts d → d < n → colon rest ≡ None → Finds (field_at (type_at n)) ts field rest d
+  pub field_found : {ts rest : Forms} {field : FieldTree} → IsSchemaField ts field rest → (d n : ℕ) → Fits ts d → d < n → after_symbol s.Colon rest ≡ None → Finds (field_at (type_at n)) ts field rest d
   field_found (field_bare {ts = ts} {text = text}) d n fits low bare = record { finds = bare_field (type_at n) text ts bare; fits = fits; shorter = omega arith }
   field_found (field_typed h) d n fits low bare =
       let found = type_found h d n fits low in

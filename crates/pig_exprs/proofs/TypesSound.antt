@@ -6,9 +6,9 @@ use Rattle.pig_syntax.specs.declared.tokens.TokenForm.TheVariants as f
 use Rattle.pig_syntax.specs.declared.trees.FieldTree.{FieldTree}
 use Rattle.pig_syntax.specs.declared.trees.TypeTree.{TypeTree}
 use Rattle.pig_exprs.specs.Grammar.{Forms, Listed, scalar_of, IsType, IsTuple, IsBag, IsMap, IsSchema, AreSchemaFields, IsSchemaField, IsCastType}
-use Rattle.pig_exprs.specs.Reader.{FoundPart, close_brace, close_bracket, field_at, schema_at, tuple_at, bag_rows_at, bag_at, map_at, cast_type_with, type_with, type_at}
+use Rattle.pig_exprs.specs.Reader.{FoundPart, field_at, schema_at, tuple_at, bag_rows_at, bag_at, map_at, cast_type_with, type_with, type_at}
 use Rattle.pig_exprs.proofs.Options.{Holds, itself, holds_then, holds_map, holds_weaken}
-use Rattle.pig_exprs.proofs.ListSound.{Upholds, listed_upholds, closes}
+use Rattle.pig_exprs.proofs.ListSound.{Upholds, listed_upholds, symbol_stands}
 
 -- a list of fields
 pub are_fields : {ts rest : Forms} {fields : List FieldTree} → Listed IsSchemaField ts fields rest → AreSchemaFields ts fields rest
@@ -22,18 +22,6 @@ cast_is_type (IsCastType.cast_tuple fields) = IsType.type_tuple (IsTuple.tuple_w
 cast_is_type (IsCastType.cast_bag fields) = IsType.type_bag_word fields
 cast_is_type (IsCastType.cast_map values) = IsType.type_map_word values
 
--- what stands in front of a `}`
-brace_closes : (P : Forms → Type 0) (ts : Forms) → P ts → Holds (λ rest. P (f.Symbol s.CloseBrace ∷ rest)) (close_brace ts)
-unfolding close_brace
-brace_closes P (f.Symbol s.CloseBrace ∷ ts) p = Holds.just p
-brace_closes P _ p = Holds.nothing
-
--- what stands in front of a `]`
-bracket_closes : (P : Forms → Type 0) (ts : Forms) → P ts → Holds (λ rest. P (f.Symbol s.CloseBracket ∷ rest)) (close_bracket ts)
-unfolding close_bracket
-bracket_closes P (f.Symbol s.CloseBracket ∷ ts) p = Holds.just p
-bracket_closes P _ p = Holds.nothing
-
 -- by the types inside
 module _ (inner : Forms → FoundPart TypeTree) (inside : Upholds inner IsType) where
   pub field_upholds : Upholds (field_at inner) IsSchemaField
@@ -46,7 +34,7 @@ module _ (inner : Forms → FoundPart TypeTree) (inside : Upholds inner IsType) 
   unfolding schema_at
   schema_upholds (f.Symbol s.OpenParen ∷ ts) =
       holds_then _ (listed_upholds (field_at inner) IsSchemaField field_upholds ts) (λ fields l.
-      holds_then _ (closes (Listed IsSchemaField ts fields.0) fields.1 l) (λ rest l. Holds.just (IsSchema.schema (are_fields l))))
+      holds_then _ (symbol_stands s.CloseParen (Listed IsSchemaField ts fields.0) fields.1 l) (λ rest l. Holds.just (IsSchema.schema (are_fields l))))
   schema_upholds _ = Holds.nothing
 
   pub tuple_upholds : Upholds (tuple_at inner) IsTuple
@@ -58,7 +46,7 @@ module _ (inner : Forms → FoundPart TypeTree) (inside : Upholds inner IsType) 
   unfolding bag_rows_at
   bag_rows_close ts =
       holds_then _ (tuple_upholds ts) (λ fields rows.
-      holds_then _ (brace_closes (IsTuple ts fields.0) fields.1 rows) (λ rest rows. Holds.just rows))
+      holds_then _ (symbol_stands s.CloseBrace (IsTuple ts fields.0) fields.1 rows) (λ rest rows. Holds.just rows))
 
   pub bag_upholds : Upholds (bag_at inner) IsBag
   unfolding bag_at
@@ -71,7 +59,7 @@ module _ (inner : Forms → FoundPart TypeTree) (inside : Upholds inner IsType) 
   map_upholds (f.Symbol s.OpenBracket ∷ f.Symbol s.CloseBracket ∷ ts) = Holds.just IsMap.map_bare
   map_upholds (f.Symbol s.OpenBracket ∷ ts) =
       holds_then _ (inside ts) (λ values type.
-      holds_then _ (bracket_closes (IsType ts values.0) values.1 type) (λ rest type. Holds.just (IsMap.map_typed type)))
+      holds_then _ (symbol_stands s.CloseBracket (IsType ts values.0) values.1 type) (λ rest type. Holds.just (IsMap.map_typed type)))
   map_upholds _ = Holds.nothing
 
   pub cast_type_upholds : Upholds (cast_type_with inner) IsCastType

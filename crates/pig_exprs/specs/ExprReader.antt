@@ -11,10 +11,10 @@ use Rattle.pig_syntax.specs.declared.trees.Link.{Link}
 use Rattle.pig_syntax.specs.declared.trees.PostStep.{PostStep}
 use Rattle.pig_syntax.specs.declared.trees.PostStep.TheVariants as step
 use Rattle.pig_value.specs.declared.operators.Rel.{Rel}
-use Rattle.pig_exprs.specs.declared.exprs.Chain.{Chain}
-use Rattle.pig_exprs.specs.declared.exprs.Chain.TheVariants as chain
+use Rattle.pig_exprs.specs.declared.chains.Chain.{Chain}
+use Rattle.pig_exprs.specs.declared.chains.Chain.TheVariants as chain
 use Rattle.pig_exprs.specs.Grammar.{Forms, scalar_of, Level, expr, conj, sum, term, chain_op, rel_of, token_literal, chain_of, is_among, choice_of, compared}
-use Rattle.pig_exprs.specs.Reader.{FoundPart, Turn, repeat, comma_turn, listed, close_paren, field_ref_at, selection_at, cast_type_with, type_at}
+use Rattle.pig_exprs.specs.Reader.{FoundPart, Turn, repeat, comma_turn, listed, after_symbol, after_word, close_paren, field_ref_at, selection_at, cast_type_with, type_at}
 use Rattle.pig_value.specs.Results.{◌>>=◌}
 
 -- ---- expressions, by the reader of the expressions inside brackets, with types in casts whose brackets nest less deep than `most`
@@ -46,15 +46,11 @@ unfoldable pub post_of : Expr → List PostStep → Expr
 post_of a [] = a
 post_of a (p ∷ ps) = e.Post a (p ∷ ps)
 
-unfoldable pub colon : Forms → Option Forms
-colon (f.Symbol s.Colon ∷ ts) = Some ts
-colon _ = None
-
 -- what stands behind the `?` of a choice
 unfoldable pub both_at : (Forms → FoundPart Expr) → Forms → FoundPart (Expr × Expr)
 both_at inner ts = do
   left ← inner ts
-  behind ← colon left.1
+  behind ← after_symbol s.Colon left.1
   right ← inner behind
   rest ← close_paren right.1
   Some ((left.0, right.0), rest)
@@ -81,19 +77,11 @@ simple_at (t ∷ ts) = option_map_or (λ a. Some (a, ts)) (token_literal t) (opt
 
 -- ---- CASE
 
-unfoldable pub then_word : Forms → Option Forms
-then_word (f.Keyword k.Then ∷ ts) = Some ts
-then_word _ = None
-
-unfoldable pub end_word : Forms → Option Forms
-end_word (f.Keyword k.End ∷ ts) = Some ts
-end_word _ = None
-
 -- a condition and its value, behind WHEN
 unfoldable pub when_at : (Forms → FoundPart Expr) → Forms → FoundPart (Expr × Expr)
 when_at inner ts = do
   test ← inner ts
-  behind ← then_word test.1
+  behind ← after_word k.Then test.1
   value ← inner behind
   Some ((test.0, value.0), value.1)
 
@@ -110,7 +98,7 @@ unfoldable pub last_at : (Forms → FoundPart Expr) → Forms → FoundPart Expr
 last_at inner (f.Keyword k.End ∷ ts) = Some (e.Null, ts)
 last_at inner (f.Keyword k.Else ∷ ts) = do
   a ← inner ts
-  rest ← end_word a.1
+  rest ← after_word k.End a.1
   Some (a.0, rest)
 last_at inner _ = None
 

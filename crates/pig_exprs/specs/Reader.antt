@@ -1,10 +1,16 @@
 -- What a reader finds at the front of some tokens, and what it leaves; nothing where its part does not stand there. The grammar is in
 -- `Grammar` and `Statements`; these readers are how the code finds its trees.
-use Rattle.std.specs.Prelude.{◌≡◌, ℕ, zero, suc, true, false, codes, List, [], ◌∷◌, ◌++◌, length, map, Option, Some, None, Result, Ok, Err}
+use Rattle.std.specs.Prelude.{◌≡◌, ℕ, zero, suc, Bool, true, false, if◌then◌else◌, codes, List, [], ◌∷◌, ◌++◌, length, map, Option, Some, None, Result, Ok, Err}
 use Rattle.std.specs.Option.{option_map, option_and_then, option_map_or}
 use Rattle.std.specs.Borrow.{Bor}
-use Rattle.pig_syntax.specs.declared.tokens.Token.{Token}
+use denote.Enum.Bare.{sameb}
+use Rattle.pig_syntax.specs.contracts.tokens.Keyword.{the_type as keywords}
+use Rattle.pig_syntax.specs.contracts.tokens.Symbol.{the_type as symbols}
+use Rattle.pig_syntax.specs.declared.tokens.Keyword.{Keyword}
+use Rattle.pig_syntax.specs.declared.tokens.Symbol.{Symbol}
 use Rattle.pig_syntax.specs.declared.tokens.Symbol.TheVariants as s
+use Rattle.pig_syntax.specs.declared.tokens.Token.{Token}
+use Rattle.pig_syntax.specs.declared.tokens.TokenForm.{TokenForm}
 use Rattle.pig_syntax.specs.declared.tokens.TokenForm.TheVariants as f
 use Rattle.pig_exprs.specs.declared.reading.ParseFault.{ParseFault}
 use Rattle.pig_exprs.specs.declared.reading.ParseFault.TheVariants as fault
@@ -70,20 +76,29 @@ comma_turn member ts = Some None
 unfoldable pub listed : {A : Type 0} → (Forms → FoundPart A) → Forms → FoundPart (List A)
 listed member ts = option_and_then (λ p. repeat (comma_turn member) (length p.1) (p.0 ∷ []) p.1) (member ts)
 
+-- whether a token is the symbol
+abbrev pub is_symbol : Symbol → TokenForm → Bool
+is_symbol symbol (f.Symbol found) = sameb symbols symbol found
+is_symbol symbol _ = false
+
+-- whether a token is the keyword
+abbrev pub is_word : Keyword → TokenForm → Bool
+is_word word (f.Keyword found) = sameb keywords word found
+is_word word _ = false
+
+-- the tokens behind the symbol
+unfoldable pub after_symbol : Symbol → Forms → Option Forms
+after_symbol symbol [] = None
+after_symbol symbol (t ∷ ts) = if is_symbol symbol t then Some ts else None
+
+-- the tokens behind the keyword
+unfoldable pub after_word : Keyword → Forms → Option Forms
+after_word word [] = None
+after_word word (t ∷ ts) = if is_word word t then Some ts else None
+
 -- the tokens behind a `)`
-unfoldable pub close_paren : Forms → Option Forms
-close_paren (f.Symbol s.CloseParen ∷ ts) = Some ts
-close_paren _ = None
-
--- the tokens behind a `}`
-unfoldable pub close_brace : Forms → Option Forms
-close_brace (f.Symbol s.CloseBrace ∷ ts) = Some ts
-close_brace _ = None
-
--- the tokens behind a `]`
-unfoldable pub close_bracket : Forms → Option Forms
-close_bracket (f.Symbol s.CloseBracket ∷ ts) = Some ts
-close_bracket _ = None
+abbrev pub close_paren : Forms → Option Forms
+close_paren ts = after_symbol s.CloseParen ts
 
 -- the code gives the tokens that are left
 abbrev pub GivesRest : Option Forms → Result (Bor (List Token)) ParseFault → Type 0
@@ -142,7 +157,7 @@ tuple_at inner ts = schema_at inner ts
 unfoldable pub bag_rows_at : (Forms → FoundPart TypeTree) → Forms → FoundPart (List FieldTree)
 bag_rows_at inner ts = do
   fields ← tuple_at inner ts
-  rest ← close_brace fields.1
+  rest ← after_symbol s.CloseBrace fields.1
   Some (fields.0, rest)
 
 unfoldable pub bag_at : (Forms → FoundPart TypeTree) → Forms → FoundPart (List FieldTree)
@@ -154,7 +169,7 @@ unfoldable pub map_at : (Forms → FoundPart TypeTree) → Forms → FoundPart (
 map_at inner (f.Symbol s.OpenBracket ∷ f.Symbol s.CloseBracket ∷ ts) = Some (None, ts)
 map_at inner (f.Symbol s.OpenBracket ∷ ts) = do
   values ← inner ts
-  rest ← close_bracket values.1
+  rest ← after_symbol s.CloseBracket values.1
   Some (Some values.0, rest)
 map_at inner _ = None
 

@@ -2,12 +2,13 @@ ghost use Rattle.std.specs.Prelude.{◌≡◌, [], ◌∷◌, ◌++◌, List, If
 ghost use Rattle.std.specs.Option.{option_map};
 ghost use Rattle.pig_value.specs.declared.operators.ChainOp.TheVariants as operators;
 ghost use Rattle.pig_exprs.specs.Grammar.{equals, is_among, choice_of, compared};
-ghost use Rattle.pig_exprs.specs.Reader.{forms, Gives, GivesBehind, GivesRest, repeat};
-ghost use Rattle.pig_exprs.specs.ExprReader.{then_word, end_word, when_at, when_turn, first_when, last_at, cases_at};
+ghost use Rattle.pig_exprs.specs.Reader.{forms, Gives, repeat};
+ghost use Rattle.pig_exprs.specs.ExprReader.{when_at, when_turn, first_when, last_at, cases_at};
 
 use crate::limits::Limits;
-use crate::reading::{ParseFault, Rule, Turning, before, beside};
+use crate::reading::{ParseFault, Rule, Turning, before, behind_word, beside};
 use crate::trees::{chain_of, choose, compare};
+use crate::word;
 use pig_syntax::{Expr, Exprs, Keyword, Link, Links, Token, TokenForm};
 use pig_value::{ChainOp, Rel, Seq};
 use std::alloc::{AllocError, Global};
@@ -16,58 +17,6 @@ use std::alloc::{AllocError, Global};
 pub type When = (Expr, Expr);
 
 pub type Whens = Seq<When>;
-
-// The tokens behind THEN.
-#[tactic(auto, unfolding(crate::specs::ExprReader::then_word))]
-fn then_word(tokens: &[Token]) -> Result<&[Token], ParseFault>
-    ensures { GivesRest (then_word (forms tokens.now)) result }
-{
-    match tokens {
-        [
-            Token {
-                form: TokenForm::Keyword(Keyword::Then),
-                ..
-            },
-            rest @ ..,
-        ] => Ok(rest),
-        _ => Err(ParseFault::Off),
-    }
-}
-
-// The tokens behind END.
-#[tactic(auto, unfolding(crate::specs::ExprReader::end_word))]
-fn end_word(tokens: &[Token]) -> Result<&[Token], ParseFault>
-    ensures { GivesRest (end_word (forms tokens.now)) result }
-{
-    match tokens {
-        [
-            Token {
-                form: TokenForm::Keyword(Keyword::End),
-                ..
-            },
-            rest @ ..,
-        ] => Ok(rest),
-        _ => Err(ParseFault::Off),
-    }
-}
-
-// What is kept, where THEN stands there.
-fn behind_then<T: Drop>(kept: T, tokens: &[Token]) -> Result<(T, &[Token]), ParseFault>
-    ensures kept { IfOk result (λ r. r.0 ≡ kept) }
-    ensures rest { GivesBehind (then_word (forms tokens.now)) result }
-{
-    let rest = then_word(tokens)?;
-    Ok((kept, rest))
-}
-
-// What is kept, where END stands there.
-fn behind_end<T: Drop>(kept: T, tokens: &[Token]) -> Result<(T, &[Token]), ParseFault>
-    ensures kept { IfOk result (λ r. r.0 ≡ kept) }
-    ensures rest { GivesBehind (end_word (forms tokens.now)) result }
-{
-    let rest = end_word(tokens)?;
-    Ok((kept, rest))
-}
 
 // A condition and its value, behind WHEN.
 #[tactic(auto, unfolding(crate::specs::ExprReader::when_at))]
@@ -81,7 +30,7 @@ fn when<'a, R: Rule<Tree = Expr>>(
 {
     limits.step()?;
     let (test, rest) = rule.read(tokens)?;
-    let (test, rest) = behind_then(test, rest)?;
+    let (test, rest) = behind_word(test, Keyword::Then, rest)?;
     let (both, rest) = beside(test, rule, rest)?;
     Ok((both, rest))
 }
@@ -97,13 +46,7 @@ fn first_when<'a, R: Rule<Tree = Expr>>(
     ensures { Gives (first_when (R.finds rule.now) (forms tokens.now)) result }
 {
     match tokens {
-        [
-            Token {
-                form: TokenForm::Keyword(Keyword::When),
-                ..
-            },
-            rest @ ..,
-        ] => when(limits, rule, rest),
+        [word!(When), rest @ ..] => when(limits, rule, rest),
         _ => Err(ParseFault::Off),
     }
 }
@@ -125,13 +68,7 @@ impl<R: Rule<Tree = Expr>> Turning for WhenTurns<'_, R> {
     #[tactic(auto, unfolding(crate::specs::ExprReader::when_turn))]
     fn turn<'a>(&self, tokens: &'a [Token]) -> Result<Option<(When, &'a [Token])>, ParseFault> {
         match tokens {
-            [
-                Token {
-                    form: TokenForm::Keyword(Keyword::When),
-                    ..
-                },
-                rest @ ..,
-            ] => {
+            [word!(When), rest @ ..] => {
                 let (when, rest) = when(self.limits, self.rule, rest)?;
                 Ok(Some((when, rest)))
             }
@@ -156,22 +93,10 @@ impl<R: Rule<Tree = Expr>> Rule for Last<'_, R> {
     #[tactic(auto, unfolding(crate::specs::ExprReader::last_at))]
     fn read<'a>(&self, tokens: &'a [Token]) -> Result<(Expr, &'a [Token]), ParseFault> {
         match tokens {
-            [
-                Token {
-                    form: TokenForm::Keyword(Keyword::End),
-                    ..
-                },
-                rest @ ..,
-            ] => Ok((Expr::Null, rest)),
-            [
-                Token {
-                    form: TokenForm::Keyword(Keyword::Else),
-                    ..
-                },
-                rest @ ..,
-            ] => {
+            [word!(End), rest @ ..] => Ok((Expr::Null, rest)),
+            [word!(Else), rest @ ..] => {
                 let (a, rest) = self.rule.read(rest)?;
-                behind_end(a, rest)
+                behind_word(a, Keyword::End, rest)
             }
             _ => Err(ParseFault::Off),
         }

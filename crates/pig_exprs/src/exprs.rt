@@ -1,35 +1,24 @@
 ghost use Rattle.std.specs.Prelude.{◌≡◌, [], ◌∷◌, IfOk, IfSome, Some, length, map, option_map};
-ghost use Rattle.pig_exprs.specs.Grammar.{Forms, chain_op, rel_of, token_literal};
+ghost use Rattle.pig_exprs.specs.declared.exprs.TheConstants.{MOST_NESTED};
+ghost use Rattle.pig_exprs.specs.Grammar.{Forms};
 ghost use Rattle.pig_exprs.specs.Nests.{NestsWithin};
-ghost use Rattle.pig_exprs.specs.Reader.{forms, Gives, GivesBeside, GivesBehind, GivesRest};
-ghost use Rattle.pig_exprs.specs.ExprReader.{both_at, level_of, link_turn, chain_at, post_turn, colon, paren_after, call_at, simple_at, case_bare_at, case_of_at, case_at, prim_at, post_at, begins_type, is_type_word, cast_at, casted_at, unary_at, term_at, sum_at, null_test, rel_ahead, in_ahead, among_at, comp_after, comp_at, neg_at, conj_at, expr_with, expr_at};
+ghost use Rattle.pig_exprs.specs.Reader.{forms, Gives, GivesBeside};
+ghost use Rattle.pig_exprs.specs.ExprReader.{both_at, paren_after, call_at, case_bare_at, case_of_at, case_at, prim_at, post_at, cast_at, casted_at, unary_at, term_at, sum_at, among_at, comp_after, comp_at, neg_at, conj_at, expr_with, expr_at};
 
 use crate::cases::{Cases, Operand, choice};
+use crate::chains::{Chain, chained};
+use crate::comparing::{comparison_ahead, in_ahead, null_test};
 use crate::limits::Limits;
-use crate::names::{field_ref, selection};
+use crate::operands::{Stepping, begins_type, simple};
 use crate::reading::{
-    ParseFault, Rule, Turning, before, beside, close_paren, closed, listed, other_members,
+    ParseFault, Rule, before, behind_symbol, beside, close_paren, closed, listed, other_members,
 };
-use crate::trees::{chain_of, choose, compare, is_null, post_of};
+use crate::trees::{choose, compare, is_null, post_of};
 use crate::types::cast_type;
-use pig_syntax::{
-    Expr, Exprs, Keyword, Link, Links, PostStep, PostSteps, Symbol, Token, TokenForm,
-};
-use pig_value::{Boxed, ChainOp, Rel, Text};
-use std::alloc::{AllocError, Global};
-
-// The chains of expressions, by what stands between their operands.
-#[derive(Clone, Copy)]
-enum Chain {
-    /// OR
-    Or,
-    /// AND
-    And,
-    /// `+` and `-`
-    Sum,
-    /// `*`, `/` and `%`
-    Product,
-}
+use crate::{form, symbol, word};
+use pig_syntax::{Expr, Exprs, Keyword, PostSteps, Symbol, Token, TokenForm};
+use pig_value::{Boxed, Text};
+use std::alloc::Global;
 
 // Expressions whose brackets nest less deep than `depth`, by a function that reads them.
 #[derive(Clone, Copy)]
@@ -45,9 +34,10 @@ impl<
 > Rule for ExpressionsWithin<'_, F> {
     type Tree = Expr;
 
-    ghost ready = { λ r. NestsWithin (expr_at 65) r.depth (F.pre r.function) (F.post r.function) };
+    ghost ready = { λ r. NestsWithin (expr_at MOST_NESTED) r.depth
+        (F.pre r.function) (F.post r.function) };
 
-    ghost finds = { λ r. expr_at 65 r.depth };
+    ghost finds = { λ r. expr_at MOST_NESTED r.depth };
 
     fn read<'a>(&self, tokens: &'a [Token]) -> Result<(Expr, &'a [Token]), ParseFault> {
         (self.function)(self.alloc, self.limits, tokens, self.depth)
@@ -65,300 +55,6 @@ struct Grammar<'l, R> {
 /// The types and expressions of a statement nest less deep than this.
 pub const MOST_NESTED: u32 = 65;
 
-// The operator that a token is in a chain.
-fn operator(chain: Chain, token: &Token) -> Option<ChainOp>
-    ensures { result ≡ chain_op (level_of chain) token.now.form }
-{
-    match (chain, &token.form) {
-        (Chain::Or, TokenForm::Keyword(Keyword::Or)) => Some(ChainOp::Or),
-        (Chain::And, TokenForm::Keyword(Keyword::And)) => Some(ChainOp::And),
-        (Chain::Sum, TokenForm::Symbol(Symbol::Plus)) => Some(ChainOp::Add),
-        (Chain::Sum, TokenForm::Symbol(Symbol::Minus)) => Some(ChainOp::Sub),
-        (Chain::Product, TokenForm::Symbol(Symbol::Star)) => Some(ChainOp::Mul),
-        (Chain::Product, TokenForm::Symbol(Symbol::Slash)) => Some(ChainOp::Div),
-        (Chain::Product, TokenForm::Symbol(Symbol::Percent)) => Some(ChainOp::Rem),
-        _ => None,
-    }
-}
-
-// The comparison that a token is.
-fn comparison(token: &Token) -> Option<Rel>
-    ensures { result ≡ rel_of token.now.form }
-{
-    match &token.form {
-        TokenForm::Symbol(Symbol::Equal) => Some(Rel::Eq),
-        TokenForm::Symbol(Symbol::NotEqual) => Some(Rel::Ne),
-        TokenForm::Symbol(Symbol::Less) => Some(Rel::Lt),
-        TokenForm::Symbol(Symbol::LessEqual) => Some(Rel::Le),
-        TokenForm::Symbol(Symbol::Greater) => Some(Rel::Gt),
-        TokenForm::Symbol(Symbol::GreaterEqual) => Some(Rel::Ge),
-        _ => None,
-    }
-}
-
-// IS NULL or IS NOT NULL, and whether NOT stands in it.
-#[tactic(auto, unfolding(crate::specs::ExprReader::null_test))]
-fn null_test(tokens: &[Token]) -> Option<(bool, &[Token])>
-    ensures { option_map (λ p. (p.0, forms p.1.now)) result ≡ null_test (forms tokens.now) }
-{
-    match tokens {
-        [
-            Token {
-                form: TokenForm::Keyword(Keyword::Is),
-                ..
-            },
-            Token {
-                form: TokenForm::Keyword(Keyword::Null),
-                ..
-            },
-            rest @ ..,
-        ] => Some((false, rest)),
-        [
-            Token {
-                form: TokenForm::Keyword(Keyword::Is),
-                ..
-            },
-            Token {
-                form: TokenForm::Keyword(Keyword::Not),
-                ..
-            },
-            Token {
-                form: TokenForm::Keyword(Keyword::Null),
-                ..
-            },
-            rest @ ..,
-        ] => Some((true, rest)),
-        _ => None,
-    }
-}
-
-// The comparison whose sign stands there.
-#[tactic(auto, unfolding(crate::specs::ExprReader::rel_ahead))]
-fn comparison_ahead(tokens: &[Token]) -> Option<(Rel, &[Token])>
-    ensures { option_map (λ p. (p.0, forms p.1.now)) result ≡ rel_ahead (forms tokens.now) }
-{
-    match tokens {
-        [token, rest @ ..] => {
-            let op = comparison(token)?;
-            Some((op, rest))
-        }
-        _ => None,
-    }
-}
-
-// The tokens behind IN and its `(`.
-#[tactic(auto, unfolding(crate::specs::ExprReader::in_ahead))]
-fn in_ahead(tokens: &[Token]) -> Option<&[Token]>
-    ensures { option_map (λ rest. forms rest.now) result ≡ in_ahead (forms tokens.now) }
-{
-    match tokens {
-        [
-            Token {
-                form: TokenForm::Keyword(Keyword::In),
-                ..
-            },
-            Token {
-                form: TokenForm::Symbol(Symbol::OpenParen),
-                ..
-            },
-            rest @ ..,
-        ] => Some(rest),
-        _ => None,
-    }
-}
-
-// The literal that a token is.
-fn literal(alloc: Global, token: &Token) -> Result<Option<Expr>, AllocError>
-    ensures { IfOk result (λ found. found ≡ token_literal token.now.form) }
-{
-    match &token.form {
-        TokenForm::Int(number) => Ok(Some(Expr::Int(*number))),
-        TokenForm::Long(number) => Ok(Some(Expr::Long(*number))),
-        TokenForm::Float => Ok(Some(Expr::Float)),
-        TokenForm::Text(text) => Ok(Some(Expr::Text(text.copy(alloc)?))),
-        TokenForm::Keyword(Keyword::True) => Ok(Some(Expr::Bool(true))),
-        TokenForm::Keyword(Keyword::False) => Ok(Some(Expr::Bool(false))),
-        TokenForm::Keyword(Keyword::Null) => Ok(Some(Expr::Null)),
-        _ => Ok(None),
-    }
-}
-
-// The links of a chain over operands of a rule.
-#[derive(Drop)]
-struct Linking<'r, R> {
-    chain: Chain,
-    rule: &'r R,
-}
-
-impl<R: Rule<Tree = Expr>> Turning for Linking<'_, R> {
-    type Tree = Link;
-
-    ghost ready = { λ l. R.ready l.rule.now };
-
-    ghost finds = { λ l. link_turn (level_of l.chain) (R.finds l.rule.now) };
-
-    #[tactic(auto, unfolding(crate::specs::ExprReader::link_turn))]
-    fn turn<'a>(&self, tokens: &'a [Token]) -> Result<Option<(Link, &'a [Token])>, ParseFault> {
-        match tokens {
-            [token, rest @ ..] => match operator(self.chain, token) {
-                Some(op) => {
-                    let (a, rest) = self.rule.read(rest)?;
-                    Ok(Some((Link { op, a }, rest)))
-                }
-                None => Ok(None),
-            },
-            _ => Ok(None),
-        }
-    }
-}
-
-// Operands of a rule with the chain's operators between, taken from left to right.
-#[tactic(auto, unfolding(crate::specs::ExprReader::chain_at))]
-fn chained<'a, R: Rule<Tree = Expr>>(
-    alloc: Global,
-    chain: Chain,
-    rule: &R,
-    tokens: &'a [Token],
-) -> Result<(Expr, &'a [Token]), ParseFault>
-    requires { R.ready rule.now }
-    ensures { Gives (chain_at (level_of chain) (R.finds rule.now) (forms tokens.now)) result }
-{
-    let (first, rest) = rule.read(tokens)?;
-    let linking = Linking { chain, rule };
-    let ((first, links), rest) = before(first, &linking, Links::new(alloc), rest)?;
-    let whole = chain_of(alloc, first, links)?;
-    Ok((whole, rest))
-}
-
-// The projections and look-ups behind an expression.
-#[derive(Drop)]
-struct Stepping<'l> {
-    alloc: Global,
-    limits: &'l Limits,
-}
-
-impl Turning for Stepping<'_> {
-    type Tree = PostStep;
-
-    ghost ready = { λ _. Unit {0} };
-
-    ghost finds = { λ _. post_turn };
-
-    #[tactic(auto, unfolding(crate::specs::ExprReader::post_turn))]
-    fn turn<'a>(&self, tokens: &'a [Token]) -> Result<Option<(PostStep, &'a [Token])>, ParseFault> {
-        match tokens {
-            [
-                Token {
-                    form: TokenForm::Symbol(Symbol::Dot),
-                    ..
-                },
-                rest @ ..,
-            ] => {
-                self.limits.step()?;
-                let (step, rest) = selection(self.alloc, rest)?;
-                Ok(Some((step, rest)))
-            }
-            [
-                Token {
-                    form: TokenForm::Symbol(Symbol::Hash),
-                    ..
-                },
-                Token {
-                    form: TokenForm::Text(key),
-                    ..
-                },
-                rest @ ..,
-            ] => {
-                self.limits.step()?;
-                let key = key.copy(self.alloc)?;
-                Ok(Some((PostStep::Look(key), rest)))
-            }
-            _ => Ok(None),
-        }
-    }
-}
-
-// The tokens behind a `:`.
-#[tactic(auto, unfolding(crate::specs::ExprReader::colon))]
-fn colon(tokens: &[Token]) -> Result<&[Token], ParseFault>
-    ensures { GivesRest (colon (forms tokens.now)) result }
-{
-    match tokens {
-        [
-            Token {
-                form: TokenForm::Symbol(Symbol::Colon),
-                ..
-            },
-            rest @ ..,
-        ] => Ok(rest),
-        _ => Err(ParseFault::Off),
-    }
-}
-
-// What is kept, where a `:` stands there.
-fn behind_colon<T: Drop>(kept: T, tokens: &[Token]) -> Result<(T, &[Token]), ParseFault>
-    ensures kept { IfOk result (λ r. r.0 ≡ kept) }
-    ensures rest { GivesBehind (colon (forms tokens.now)) result }
-{
-    let rest = colon(tokens)?;
-    Ok((kept, rest))
-}
-
-// A literal or a field.
-#[tactic(auto, unfolding(crate::specs::ExprReader::simple_at))]
-fn simple(alloc: Global, tokens: &[Token]) -> Result<(Expr, &[Token]), ParseFault>
-    ensures { Gives (simple_at (forms tokens.now)) result }
-{
-    match tokens {
-        [first, rest @ ..] => match literal(alloc, first)? {
-            Some(literal) => Ok((literal, rest)),
-            None => {
-                let (field, rest) = field_ref(alloc, tokens)?;
-                Ok((Expr::Field(field), rest))
-            }
-        },
-        _ => Err(ParseFault::Off),
-    }
-}
-
-// Whether a type that begins with a word stands there.
-fn begins_type(tokens: &[Token]) -> bool
-    ensures { result ≡ begins_type (forms tokens.now) }
-{
-    match tokens {
-        [
-            Token {
-                form: TokenForm::Keyword(word),
-                ..
-            },
-            ..
-        ] => is_type_word(*word),
-        _ => false,
-    }
-}
-
-// Whether a type begins with the word.
-fn is_type_word(word: Keyword) -> bool
-    ensures { result ≡ is_type_word word }
-{
-    matches!(
-        word,
-        Keyword::Tuple
-            | Keyword::Bag
-            | Keyword::Map
-            | Keyword::Int
-            | Keyword::Long
-            | Keyword::Chararray
-            | Keyword::Bytearray
-            | Keyword::Boolean
-            | Keyword::Float
-            | Keyword::Double
-            | Keyword::BigInteger
-            | Keyword::BigDecimal
-            | Keyword::DateTime
-    )
-}
-
 // Operands of OR, as members of a list.
 #[derive(Drop)]
 struct Conjunctions<'g, 'l, R> {
@@ -370,7 +66,7 @@ impl<R: Rule<Tree = Expr>> Rule for Conjunctions<'_, '_, R> {
 
     ghost ready = { λ r. R.ready r.grammar.now.inner };
 
-    ghost finds = { λ r. conj_at 65 (R.finds r.grammar.now.inner) };
+    ghost finds = { λ r. conj_at MOST_NESTED (R.finds r.grammar.now.inner) };
 
     fn read<'a>(&self, tokens: &'a [Token]) -> Result<(Expr, &'a [Token]), ParseFault> {
         self.grammar.conj(tokens)
@@ -388,7 +84,7 @@ impl<R: Rule<Tree = Expr>> Rule for Negations<'_, '_, R> {
 
     ghost ready = { λ r. R.ready r.grammar.now.inner };
 
-    ghost finds = { λ r. neg_at 65 (R.finds r.grammar.now.inner) };
+    ghost finds = { λ r. neg_at MOST_NESTED (R.finds r.grammar.now.inner) };
 
     fn read<'a>(&self, tokens: &'a [Token]) -> Result<(Expr, &'a [Token]), ParseFault> {
         self.grammar.neg(tokens)
@@ -406,7 +102,7 @@ impl<R: Rule<Tree = Expr>> Rule for Products<'_, '_, R> {
 
     ghost ready = { λ r. R.ready r.grammar.now.inner };
 
-    ghost finds = { λ r. term_at 65 (R.finds r.grammar.now.inner) };
+    ghost finds = { λ r. term_at MOST_NESTED (R.finds r.grammar.now.inner) };
 
     fn read<'a>(&self, tokens: &'a [Token]) -> Result<(Expr, &'a [Token]), ParseFault> {
         self.grammar.product(tokens)
@@ -424,7 +120,7 @@ impl<R: Rule<Tree = Expr>> Rule for Sums<'_, '_, R> {
 
     ghost ready = { λ r. R.ready r.grammar.now.inner };
 
-    ghost finds = { λ r. sum_at 65 (R.finds r.grammar.now.inner) };
+    ghost finds = { λ r. sum_at MOST_NESTED (R.finds r.grammar.now.inner) };
 
     fn read<'a>(&self, tokens: &'a [Token]) -> Result<(Expr, &'a [Token]), ParseFault> {
         self.grammar.sum(tokens)
@@ -442,7 +138,7 @@ impl<R: Rule<Tree = Expr>> Rule for Signed<'_, '_, R> {
 
     ghost ready = { λ r. R.ready r.grammar.now.inner };
 
-    ghost finds = { λ r. unary_at 65 (R.finds r.grammar.now.inner) };
+    ghost finds = { λ r. unary_at MOST_NESTED (R.finds r.grammar.now.inner) };
 
     fn read<'a>(&self, tokens: &'a [Token]) -> Result<(Expr, &'a [Token]), ParseFault> {
         self.grammar.signed(tokens)
@@ -462,7 +158,7 @@ impl<R: Rule<Tree = Expr>> Grammar<'_, R> {
         ensures found { GivesBeside (both_at (R.finds self.now.inner) (forms tokens.now)) result }
     {
         let (left, rest) = self.inner.read(tokens)?;
-        let (left, rest) = behind_colon(left, rest)?;
+        let (left, rest) = behind_symbol(left, Symbol::Colon, rest)?;
         let (both, rest) = beside(left, &self.inner, rest)?;
         let (both, rest) = closed(both, rest)?;
         Ok(((kept, both), rest))
@@ -475,20 +171,8 @@ impl<R: Rule<Tree = Expr>> Grammar<'_, R> {
         ensures { Gives (paren_after (R.finds self.now.inner) first (forms tokens.now)) result }
     {
         match tokens {
-            [
-                Token {
-                    form: TokenForm::Symbol(Symbol::CloseParen),
-                    ..
-                },
-                rest @ ..,
-            ] => Ok((first, rest)),
-            [
-                Token {
-                    form: TokenForm::Symbol(Symbol::Question),
-                    ..
-                },
-                rest @ ..,
-            ] => {
+            [symbol!(CloseParen), rest @ ..] => Ok((first, rest)),
+            [symbol!(Question), rest @ ..] => {
                 let ((first, (yes, no)), rest) = self.both(first, rest)?;
                 let choice = choose(self.alloc, first, yes, no)?;
                 Ok((choice, rest))
@@ -507,13 +191,7 @@ impl<R: Rule<Tree = Expr>> Grammar<'_, R> {
         ensures { Gives (call_at (R.finds self.now.inner) name.now (forms tokens.now)) result }
     {
         match tokens {
-            [
-                Token {
-                    form: TokenForm::Symbol(Symbol::CloseParen),
-                    ..
-                },
-                rest @ ..,
-            ] => {
+            [symbol!(CloseParen), rest @ ..] => {
                 let name = name.copy(self.alloc)?;
                 let args = Exprs::new(self.alloc);
                 Ok((Expr::Call { name, args }, rest))
@@ -577,13 +255,7 @@ impl<R: Rule<Tree = Expr>> Grammar<'_, R> {
         ensures { Gives (case_at (R.finds self.now.inner) (forms tokens.now)) result }
     {
         match tokens {
-            [
-                Token {
-                    form: TokenForm::Keyword(Keyword::When),
-                    ..
-                },
-                ..
-            ] => self.case_bare(tokens),
+            [word!(When), ..] => self.case_bare(tokens),
             _ => self.case_of(tokens),
         }
     }
@@ -595,31 +267,9 @@ impl<R: Rule<Tree = Expr>> Grammar<'_, R> {
         ensures { Gives (prim_at (R.finds self.now.inner) (forms tokens.now)) result }
     {
         match tokens {
-            [
-                Token {
-                    form: TokenForm::Ident(name),
-                    ..
-                },
-                Token {
-                    form: TokenForm::Symbol(Symbol::OpenParen),
-                    ..
-                },
-                rest @ ..,
-            ] => self.call(name, rest),
-            [
-                Token {
-                    form: TokenForm::Keyword(Keyword::Case),
-                    ..
-                },
-                rest @ ..,
-            ] => self.case(rest),
-            [
-                Token {
-                    form: TokenForm::Symbol(Symbol::OpenParen),
-                    ..
-                },
-                rest @ ..,
-            ] => {
+            [form!(Ident(name)), symbol!(OpenParen), rest @ ..] => self.call(name, rest),
+            [word!(Case), rest @ ..] => self.case(rest),
+            [symbol!(OpenParen), rest @ ..] => {
                 let (first, rest) = self.inner.read(rest)?;
                 self.paren(first, rest)
             }
@@ -663,7 +313,7 @@ impl<R: Rule<Tree = Expr>> Grammar<'_, R> {
     #[tactic(auto, unfolding(crate::specs::ExprReader::cast_at))]
     fn cast<'a>(&self, tokens: &'a [Token]) -> Result<(Expr, &'a [Token]), ParseFault>
         requires { R.ready self.now.inner }
-        ensures { Gives (cast_at 65 (R.finds self.now.inner) (forms tokens.now)) result }
+        ensures { Gives (cast_at MOST_NESTED (R.finds self.now.inner) (forms tokens.now)) result }
     {
         let (to, rest) = cast_type(self.alloc, tokens, MOST_NESTED)?;
         let (to, rest) = closed(to, rest)?;
@@ -675,16 +325,10 @@ impl<R: Rule<Tree = Expr>> Grammar<'_, R> {
     #[tactic(auto, unfolding(crate::specs::ExprReader::casted_at))]
     fn casted<'a>(&self, tokens: &'a [Token]) -> Result<(Expr, &'a [Token]), ParseFault>
         requires { R.ready self.now.inner }
-        ensures { Gives (casted_at 65 (R.finds self.now.inner) (forms tokens.now)) result }
+        ensures { Gives (casted_at MOST_NESTED (R.finds self.now.inner) (forms tokens.now)) result }
     {
         match tokens {
-            [
-                Token {
-                    form: TokenForm::Symbol(Symbol::OpenParen),
-                    ..
-                },
-                rest @ ..,
-            ] => {
+            [symbol!(OpenParen), rest @ ..] => {
                 if begins_type(rest) {
                     self.cast(rest)
                 } else {
@@ -699,16 +343,10 @@ impl<R: Rule<Tree = Expr>> Grammar<'_, R> {
     #[tactic(auto, unfolding(crate::specs::ExprReader::unary_at))]
     fn signed<'a>(&self, tokens: &'a [Token]) -> Result<(Expr, &'a [Token]), ParseFault>
         requires { R.ready self.now.inner }
-        ensures { Gives (unary_at 65 (R.finds self.now.inner) (forms tokens.now)) result }
+        ensures { Gives (unary_at MOST_NESTED (R.finds self.now.inner) (forms tokens.now)) result }
     {
         match tokens {
-            [
-                Token {
-                    form: TokenForm::Symbol(Symbol::Minus),
-                    ..
-                },
-                rest @ ..,
-            ] => {
+            [symbol!(Minus), rest @ ..] => {
                 let (a, rest) = self.casted(rest)?;
                 let a = Boxed::new(self.alloc, a)?;
                 Ok((Expr::Minus(a), rest))
@@ -721,7 +359,7 @@ impl<R: Rule<Tree = Expr>> Grammar<'_, R> {
     #[tactic(auto, unfolding(crate::specs::ExprReader::term_at))]
     fn product<'a>(&self, tokens: &'a [Token]) -> Result<(Expr, &'a [Token]), ParseFault>
         requires { R.ready self.now.inner }
-        ensures { Gives (term_at 65 (R.finds self.now.inner) (forms tokens.now)) result }
+        ensures { Gives (term_at MOST_NESTED (R.finds self.now.inner) (forms tokens.now)) result }
     {
         chained(
             self.alloc,
@@ -735,7 +373,7 @@ impl<R: Rule<Tree = Expr>> Grammar<'_, R> {
     #[tactic(auto, unfolding(crate::specs::ExprReader::sum_at))]
     fn sum<'a>(&self, tokens: &'a [Token]) -> Result<(Expr, &'a [Token]), ParseFault>
         requires { R.ready self.now.inner }
-        ensures { Gives (sum_at 65 (R.finds self.now.inner) (forms tokens.now)) result }
+        ensures { Gives (sum_at MOST_NESTED (R.finds self.now.inner) (forms tokens.now)) result }
     {
         chained(self.alloc, Chain::Sum, &Products { grammar: self }, tokens)
     }
@@ -748,7 +386,8 @@ impl<R: Rule<Tree = Expr>> Grammar<'_, R> {
     ) -> Result<((K, Expr), &'a [Token]), ParseFault>
         requires { R.ready self.now.inner }
         ensures kept { IfOk result (λ r. r.0.0 ≡ kept) }
-        ensures found { GivesBeside (sum_at 65 (R.finds self.now.inner) (forms tokens.now)) result }
+        ensures found { GivesBeside
+            (sum_at MOST_NESTED (R.finds self.now.inner) (forms tokens.now)) result }
     {
         let (sum, rest) = self.sum(tokens)?;
         Ok(((kept, sum), rest))
@@ -763,8 +402,8 @@ impl<R: Rule<Tree = Expr>> Grammar<'_, R> {
         tokens: &'a [Token],
     ) -> Result<(Expr, &'a [Token]), ParseFault>
         requires ready { R.ready self.now.inner }
-        requires read { option_map (λ p. p.0) (sum_at 65 (R.finds self.now.inner) (forms read.now))
-            ≡ Some a }
+        requires read { option_map (λ p. p.0)
+            (sum_at MOST_NESTED (R.finds self.now.inner) (forms read.now)) ≡ Some a }
         ensures { Gives (among_at (R.finds self.now.inner) a (forms tokens.now)) result }
     {
         let ((a, first), rest) = beside(a, &self.inner, tokens)?;
@@ -790,9 +429,10 @@ impl<R: Rule<Tree = Expr>> Grammar<'_, R> {
         tokens: &'a [Token],
     ) -> Result<(Expr, &'a [Token]), ParseFault>
         requires ready { R.ready self.now.inner }
-        requires read { option_map (λ p. p.0) (sum_at 65 (R.finds self.now.inner) (forms read.now))
-            ≡ Some a }
-        ensures { Gives (comp_after 65 (R.finds self.now.inner) a (forms tokens.now)) result }
+        requires read { option_map (λ p. p.0)
+            (sum_at MOST_NESTED (R.finds self.now.inner) (forms read.now)) ≡ Some a }
+        ensures { Gives
+            (comp_after MOST_NESTED (R.finds self.now.inner) a (forms tokens.now)) result }
     {
         match null_test(tokens) {
             Some((not, rest)) => {
@@ -817,7 +457,7 @@ impl<R: Rule<Tree = Expr>> Grammar<'_, R> {
     #[tactic(auto, unfolding(crate::specs::ExprReader::comp_at))]
     fn comp<'a>(&self, tokens: &'a [Token]) -> Result<(Expr, &'a [Token]), ParseFault>
         requires { R.ready self.now.inner }
-        ensures { Gives (comp_at 65 (R.finds self.now.inner) (forms tokens.now)) result }
+        ensures { Gives (comp_at MOST_NESTED (R.finds self.now.inner) (forms tokens.now)) result }
     {
         let (a, rest) = self.sum(tokens)?;
         self.comp_after(a, tokens, rest)
@@ -827,16 +467,10 @@ impl<R: Rule<Tree = Expr>> Grammar<'_, R> {
     #[tactic(auto, unfolding(crate::specs::ExprReader::neg_at))]
     fn neg<'a>(&self, tokens: &'a [Token]) -> Result<(Expr, &'a [Token]), ParseFault>
         requires { R.ready self.now.inner }
-        ensures { Gives (neg_at 65 (R.finds self.now.inner) (forms tokens.now)) result }
+        ensures { Gives (neg_at MOST_NESTED (R.finds self.now.inner) (forms tokens.now)) result }
     {
         match tokens {
-            [
-                Token {
-                    form: TokenForm::Keyword(Keyword::Not),
-                    ..
-                },
-                rest @ ..,
-            ] => {
+            [word!(Not), rest @ ..] => {
                 let (a, rest) = self.comp(rest)?;
                 let a = Boxed::new(self.alloc, a)?;
                 Ok((Expr::Not(a), rest))
@@ -849,7 +483,7 @@ impl<R: Rule<Tree = Expr>> Grammar<'_, R> {
     #[tactic(auto, unfolding(crate::specs::ExprReader::conj_at))]
     fn conj<'a>(&self, tokens: &'a [Token]) -> Result<(Expr, &'a [Token]), ParseFault>
         requires { R.ready self.now.inner }
-        ensures { Gives (conj_at 65 (R.finds self.now.inner) (forms tokens.now)) result }
+        ensures { Gives (conj_at MOST_NESTED (R.finds self.now.inner) (forms tokens.now)) result }
     {
         chained(self.alloc, Chain::And, &Negations { grammar: self }, tokens)
     }
@@ -858,7 +492,7 @@ impl<R: Rule<Tree = Expr>> Grammar<'_, R> {
     #[tactic(auto, unfolding(crate::specs::ExprReader::expr_with))]
     fn disj<'a>(&self, tokens: &'a [Token]) -> Result<(Expr, &'a [Token]), ParseFault>
         requires { R.ready self.now.inner }
-        ensures { Gives (expr_with 65 (R.finds self.now.inner) (forms tokens.now)) result }
+        ensures { Gives (expr_with MOST_NESTED (R.finds self.now.inner) (forms tokens.now)) result }
     {
         chained(
             self.alloc,
@@ -877,7 +511,7 @@ fn expr<'a>(
     tokens: &'a [Token],
     depth: u32,
 ) -> Result<(Expr, &'a [Token]), ParseFault>
-    ensures { Gives (expr_at 65 depth (forms tokens.now)) result }
+    ensures { Gives (expr_at MOST_NESTED depth (forms tokens.now)) result }
 {
     if depth == 0 {
         return Err(ParseFault::Off);
@@ -901,7 +535,7 @@ pub fn expression<'a>(
     limits: &Limits,
     tokens: &'a [Token],
 ) -> Result<(Expr, &'a [Token]), ParseFault>
-    ensures { Gives (expr_at 65 65 (forms tokens.now)) result }
+    ensures { Gives (expr_at MOST_NESTED MOST_NESTED (forms tokens.now)) result }
 {
     limits.steps_from(0);
     expr(alloc, limits, tokens, MOST_NESTED)

@@ -11,9 +11,13 @@
 #![tactic(auto)]
 
 mod cases;
+mod chains;
+mod comparing;
 mod exprs;
 mod limits;
 mod names;
+mod operands;
+mod patterns;
 mod reading;
 mod trees;
 mod types;
@@ -22,6 +26,7 @@ pub use exprs::{MOST_NESTED, expression};
 pub use limits::{Limits, MOST_COPIED, MOST_STEPS};
 pub use names::{FieldRefRule, field_ref, selection};
 pub use reading::{
-    ParseFault, Rule, Turning, before, beside, close_paren, closed, listed, one, repeat,
+    ParseFault, Rule, Turning, after_symbol, after_word, before, behind_symbol, behind_word,
+    beside, close_paren, closed, listed, one, repeat,
 };
 pub use types::{field, schema};

@@ -3,6 +3,7 @@ ghost use Rattle.pig_exprs.specs.Grammar.{Forms, part_of};
 ghost use Rattle.pig_exprs.specs.Reader.{forms, Gives, joined_name, part_turn, name_at, field_ref_at, selection_at, close_paren};
 
 use crate::reading::{ParseFault, Rule, Turning, close_paren, listed, one, repeat};
+use crate::{form, symbol};
 use pig_syntax::{FieldRef, Keyword, PostStep, Symbol, Token, TokenForm};
 use pig_value::{Seq, Text};
 use std::alloc::{AllocError, Global};
@@ -60,14 +61,7 @@ impl Turning for Parting {
     #[tactic(auto, unfolding(crate::specs::Reader::part_turn))]
     fn turn<'a>(&self, tokens: &'a [Token]) -> Result<Option<(Text, &'a [Token])>, ParseFault> {
         match tokens {
-            [
-                Token {
-                    form: TokenForm::Symbol(Symbol::DoubleColon),
-                    ..
-                },
-                next,
-                rest @ ..,
-            ] => match part(next) {
+            [symbol!(DoubleColon), next, rest @ ..] => match part(next) {
                 Some(text) => {
                     let text = Text::from_str(self.alloc, text)?;
                     Ok(Some((text, rest)))
@@ -103,13 +97,7 @@ pub fn field_ref(alloc: Global, tokens: &[Token]) -> Result<(FieldRef, &[Token])
     ensures { Gives (field_ref_at (forms tokens.now)) result }
 {
     match tokens {
-        [
-            Token {
-                form: TokenForm::Position(position),
-                ..
-            },
-            rest @ ..,
-        ] => Ok((FieldRef::Position(*position), rest)),
+        [form!(Position(position)), rest @ ..] => Ok((FieldRef::Position(*position), rest)),
         _ => {
             let (name, rest) = name(alloc, tokens)?;
             Ok((FieldRef::Name(name), rest))
@@ -141,13 +129,7 @@ pub fn selection(alloc: Global, tokens: &[Token]) -> Result<(PostStep, &[Token])
     ensures { Gives (selection_at (forms tokens.now)) result }
 {
     match tokens {
-        [
-            Token {
-                form: TokenForm::Symbol(Symbol::OpenParen),
-                ..
-            },
-            rest @ ..,
-        ] => {
+        [symbol!(OpenParen), rest @ ..] => {
             let (fields, rest) = listed(alloc, &FieldRefRule { alloc }, rest)?;
             let rest = close_paren(rest)?;
             let single = false;

@@ -1,8 +1,9 @@
 ghost use Rattle.std.specs.Prelude.{◌≡◌, [], ◌∷◌, ◌++◌, ℕ, Option, IfOk, length};
 ghost use Rattle.pig_exprs.specs.Grammar.{Forms};
-ghost use Rattle.pig_exprs.specs.Reader.{FoundPart, Turn, forms, Gives, GivesBeside, GivesBehind, Turns, GivesRest, repeat, comma_turn, listed, close_paren, close_brace, close_bracket};
+ghost use Rattle.pig_exprs.specs.Reader.{FoundPart, Turn, forms, Gives, GivesBeside, GivesBehind, Turns, GivesRest, repeat, comma_turn, listed, is_symbol, is_word, after_symbol, after_word, close_paren};
 
-use pig_syntax::{Symbol, Token, TokenForm};
+use crate::symbol;
+use pig_syntax::{Keyword, Symbol, Token, TokenForm};
 use pig_value::Seq;
 use std::alloc::{AllocError, Global};
 
@@ -82,13 +83,7 @@ impl<R: Rule> Turning for Commas<'_, R> {
     #[tactic(auto, unfolding(crate::specs::Reader::comma_turn))]
     fn turn<'a>(&self, tokens: &'a [Token]) -> Result<Option<(R::Tree, &'a [Token])>, ParseFault> {
         match tokens {
-            [
-                Token {
-                    form: TokenForm::Symbol(Symbol::Comma),
-                    ..
-                },
-                rest @ ..,
-            ] => {
+            [symbol!(Comma), rest @ ..] => {
                 let (member, rest) = self.rule.read(rest)?;
                 Ok(Some((member, rest)))
             }
@@ -147,21 +142,91 @@ pub fn listed<'a, R: Rule>(
     Ok((members, rest))
 }
 
+// Whether a token is the symbol.
+fn is_symbol(symbol: Symbol, form: &TokenForm) -> bool
+    ensures { result ≡ is_symbol symbol form.now }
+{
+    match form {
+        TokenForm::Symbol(found) => symbol == *found,
+        _ => false,
+    }
+}
+
+// Whether a token is the keyword.
+fn is_word(word: Keyword, form: &TokenForm) -> bool
+    ensures { result ≡ is_word word form.now }
+{
+    match form {
+        TokenForm::Keyword(found) => word == *found,
+        _ => false,
+    }
+}
+
+/// The tokens behind the symbol.
+#[tactic(auto, unfolding(crate::specs::Reader::after_symbol))]
+pub fn after_symbol(symbol: Symbol, tokens: &[Token]) -> Result<&[Token], ParseFault>
+    ensures { GivesRest (after_symbol symbol (forms tokens.now)) result }
+{
+    match tokens {
+        [first, rest @ ..] => {
+            if is_symbol(symbol, &first.form) {
+                Ok(rest)
+            } else {
+                Err(ParseFault::Off)
+            }
+        }
+        _ => Err(ParseFault::Off),
+    }
+}
+
+/// The tokens behind the keyword.
+#[tactic(auto, unfolding(crate::specs::Reader::after_word))]
+pub fn after_word(word: Keyword, tokens: &[Token]) -> Result<&[Token], ParseFault>
+    ensures { GivesRest (after_word word (forms tokens.now)) result }
+{
+    match tokens {
+        [first, rest @ ..] => {
+            if is_word(word, &first.form) {
+                Ok(rest)
+            } else {
+                Err(ParseFault::Off)
+            }
+        }
+        _ => Err(ParseFault::Off),
+    }
+}
+
+/// What is kept, where the symbol stands there.
+pub fn behind_symbol<T: Drop>(
+    kept: T,
+    symbol: Symbol,
+    tokens: &[Token],
+) -> Result<(T, &[Token]), ParseFault>
+    ensures kept { IfOk result (λ r. r.0 ≡ kept) }
+    ensures rest { GivesBehind (after_symbol symbol (forms tokens.now)) result }
+{
+    let rest = after_symbol(symbol, tokens)?;
+    Ok((kept, rest))
+}
+
+/// What is kept, where the keyword stands there.
+pub fn behind_word<T: Drop>(
+    kept: T,
+    word: Keyword,
+    tokens: &[Token],
+) -> Result<(T, &[Token]), ParseFault>
+    ensures kept { IfOk result (λ r. r.0 ≡ kept) }
+    ensures rest { GivesBehind (after_word word (forms tokens.now)) result }
+{
+    let rest = after_word(word, tokens)?;
+    Ok((kept, rest))
+}
+
 /// The tokens behind a `)`.
-#[tactic(auto, unfolding(crate::specs::Reader::close_paren))]
 pub fn close_paren(tokens: &[Token]) -> Result<&[Token], ParseFault>
     ensures { GivesRest (close_paren (forms tokens.now)) result }
 {
-    match tokens {
-        [
-            Token {
-                form: TokenForm::Symbol(Symbol::CloseParen),
-                ..
-            },
-            rest @ ..,
-        ] => Ok(rest),
-        _ => Err(ParseFault::Off),
-    }
+    after_symbol(Symbol::CloseParen, tokens)
 }
 
 /// What is kept, where a `)` stands there.
@@ -172,8 +237,7 @@ pub fn closed<T: Drop>(kept: T, tokens: &[Token]) -> Result<(T, &[Token]), Parse
     ensures kept { IfOk result (λ r. r.0 ≡ kept) }
     ensures rest { GivesBehind (close_paren (forms tokens.now)) result }
 {
-    let rest = close_paren(tokens)?;
-    Ok((kept, rest))
+    behind_symbol(kept, Symbol::CloseParen, tokens)
 }
 
 /// What is kept, and what a rule reads.
@@ -219,38 +283,4 @@ pub fn other_members<'a, K: Drop, R: Rule>(
         (comma_turn (R.finds rule.now)) (length tokens.now) [] (forms tokens.now)) result }
 {
     before(kept, &Commas { rule }, Seq::new(alloc), tokens)
-}
-
-/// The tokens behind a `}`.
-#[tactic(auto, unfolding(crate::specs::Reader::close_brace))]
-pub fn close_brace(tokens: &[Token]) -> Result<&[Token], ParseFault>
-    ensures { GivesRest (close_brace (forms tokens.now)) result }
-{
-    match tokens {
-        [
-            Token {
-                form: TokenForm::Symbol(Symbol::CloseBrace),
-                ..
-            },
-            rest @ ..,
-        ] => Ok(rest),
-        _ => Err(ParseFault::Off),
-    }
-}
-
-/// The tokens behind a `]`.
-#[tactic(auto, unfolding(crate::specs::Reader::close_bracket))]
-pub fn close_bracket(tokens: &[Token]) -> Result<&[Token], ParseFault>
-    ensures { GivesRest (close_bracket (forms tokens.now)) result }
-{
-    match tokens {
-        [
-            Token {
-                form: TokenForm::Symbol(Symbol::CloseBracket),
-                ..
-            },
-            rest @ ..,
-        ] => Ok(rest),
-        _ => Err(ParseFault::Off),
-    }
 }

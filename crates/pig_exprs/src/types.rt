@@ -3,7 +3,8 @@ ghost use Rattle.pig_exprs.specs.Grammar.{Forms, scalar_of};
 ghost use Rattle.pig_exprs.specs.Nests.{Nests};
 ghost use Rattle.pig_exprs.specs.Reader.{forms, Gives, field_at, schema_at, tuple_at, bag_rows_at, bag_at, map_at, cast_type_with, type_with, type_at};
 
-use crate::reading::{ParseFault, Rule, close_brace, close_bracket, close_paren, listed};
+use crate::reading::{ParseFault, Rule, after_symbol, close_paren, listed};
+use crate::{form, symbol, word};
 use pig_syntax::{FieldTree, Fields, Keyword, Symbol, Token, TokenForm, TypeTree};
 use pig_value::Boxed;
 use std::alloc::Global;
@@ -65,29 +66,13 @@ impl<R: Rule<Tree = TypeTree>> Rule for TypeRules<R> {
     #[tactic(auto, unfolding(crate::specs::Reader::field_at))]
     fn read<'a>(&self, tokens: &'a [Token]) -> Result<(FieldTree, &'a [Token]), ParseFault> {
         match tokens {
-            [
-                Token {
-                    form: TokenForm::Ident(name),
-                    ..
-                },
-                Token {
-                    form: TokenForm::Symbol(Symbol::Colon),
-                    ..
-                },
-                rest @ ..,
-            ] => {
+            [form!(Ident(name)), symbol!(Colon), rest @ ..] => {
                 let (kind, rest) = self.inner.read(rest)?;
                 let name = name.copy(self.alloc)?;
                 let kind = Some(kind);
                 Ok((FieldTree { name, kind }, rest))
             }
-            [
-                Token {
-                    form: TokenForm::Ident(name),
-                    ..
-                },
-                rest @ ..,
-            ] => {
+            [form!(Ident(name)), rest @ ..] => {
                 let name = name.copy(self.alloc)?;
                 Ok((FieldTree { name, kind: None }, rest))
             }
@@ -104,13 +89,7 @@ impl<R: Rule<Tree = TypeTree>> TypeRules<R> {
         ensures { Gives (schema_at (R.finds self.now.inner) (forms tokens.now)) result }
     {
         match tokens {
-            [
-                Token {
-                    form: TokenForm::Symbol(Symbol::OpenParen),
-                    ..
-                },
-                rest @ ..,
-            ] => {
+            [symbol!(OpenParen), rest @ ..] => {
                 let (fields, rest) = listed(self.alloc, self, rest)?;
                 let rest = close_paren(rest)?;
                 Ok((fields, rest))
@@ -126,13 +105,7 @@ impl<R: Rule<Tree = TypeTree>> TypeRules<R> {
         ensures { Gives (tuple_at (R.finds self.now.inner) (forms tokens.now)) result }
     {
         match tokens {
-            [
-                Token {
-                    form: TokenForm::Keyword(Keyword::Tuple),
-                    ..
-                },
-                rest @ ..,
-            ] => self.schema(rest),
+            [word!(Tuple), rest @ ..] => self.schema(rest),
             _ => self.schema(tokens),
         }
     }
@@ -144,7 +117,7 @@ impl<R: Rule<Tree = TypeTree>> TypeRules<R> {
         ensures { Gives (bag_rows_at (R.finds self.now.inner) (forms tokens.now)) result }
     {
         let (fields, rest) = self.tuple(tokens)?;
-        let rest = close_brace(rest)?;
+        let rest = after_symbol(Symbol::CloseBrace, rest)?;
         Ok((fields, rest))
     }
 
@@ -156,27 +129,12 @@ impl<R: Rule<Tree = TypeTree>> TypeRules<R> {
     {
         match tokens {
             [
-                Token {
-                    form: TokenForm::Symbol(Symbol::OpenBrace),
-                    ..
-                },
-                Token {
-                    form: TokenForm::Ident(_),
-                    ..
-                },
-                Token {
-                    form: TokenForm::Symbol(Symbol::Colon),
-                    ..
-                },
+                symbol!(OpenBrace),
+                form!(Ident(_)),
+                symbol!(Colon),
                 rest @ ..,
             ] => self.bag_rows(rest),
-            [
-                Token {
-                    form: TokenForm::Symbol(Symbol::OpenBrace),
-                    ..
-                },
-                rest @ ..,
-            ] => self.bag_rows(rest),
+            [symbol!(OpenBrace), rest @ ..] => self.bag_rows(rest),
             _ => Err(ParseFault::Off),
         }
     }
@@ -188,26 +146,10 @@ impl<R: Rule<Tree = TypeTree>> TypeRules<R> {
         ensures { Gives (map_at (R.finds self.now.inner) (forms tokens.now)) result }
     {
         match tokens {
-            [
-                Token {
-                    form: TokenForm::Symbol(Symbol::OpenBracket),
-                    ..
-                },
-                Token {
-                    form: TokenForm::Symbol(Symbol::CloseBracket),
-                    ..
-                },
-                rest @ ..,
-            ] => Ok((None, rest)),
-            [
-                Token {
-                    form: TokenForm::Symbol(Symbol::OpenBracket),
-                    ..
-                },
-                rest @ ..,
-            ] => {
+            [symbol!(OpenBracket), symbol!(CloseBracket), rest @ ..] => Ok((None, rest)),
+            [symbol!(OpenBracket), rest @ ..] => {
                 let (values, rest) = self.inner.read(rest)?;
-                let rest = close_bracket(rest)?;
+                let rest = after_symbol(Symbol::CloseBracket, rest)?;
                 Ok((Some(values), rest))
             }
             _ => Err(ParseFault::Off),
@@ -237,40 +179,16 @@ impl<R: Rule<Tree = TypeTree>> TypeRules<R> {
         ensures { Gives (cast_type_with (R.finds self.now.inner) (forms tokens.now)) result }
     {
         match tokens {
-            [
-                Token {
-                    form: TokenForm::Keyword(Keyword::Tuple),
-                    ..
-                },
-                rest @ ..,
-            ] => {
+            [word!(Tuple), rest @ ..] => {
                 let (fields, rest) = self.schema(rest)?;
                 Ok((TypeTree::Tuple(fields), rest))
             }
-            [
-                Token {
-                    form: TokenForm::Keyword(Keyword::Bag),
-                    ..
-                },
-                rest @ ..,
-            ] => {
+            [word!(Bag), rest @ ..] => {
                 let (fields, rest) = self.bag(rest)?;
                 Ok((TypeTree::Bag(fields), rest))
             }
-            [
-                Token {
-                    form: TokenForm::Keyword(Keyword::Map),
-                    ..
-                },
-                rest @ ..,
-            ] => self.map_type(rest),
-            [
-                Token {
-                    form: TokenForm::Keyword(word),
-                    ..
-                },
-                rest @ ..,
-            ] => match scalar(*word) {
+            [word!(Map), rest @ ..] => self.map_type(rest),
+            [form!(Keyword(word)), rest @ ..] => match scalar(*word) {
                 Some(kind) => Ok((kind, rest)),
                 None => Err(ParseFault::Off),
             },
@@ -285,33 +203,15 @@ impl<R: Rule<Tree = TypeTree>> TypeRules<R> {
         ensures { Gives (type_with (R.finds self.now.inner) (forms tokens.now)) result }
     {
         match tokens {
-            [
-                Token {
-                    form: TokenForm::Symbol(Symbol::OpenParen),
-                    ..
-                },
-                ..
-            ] => {
+            [symbol!(OpenParen), ..] => {
                 let (fields, rest) = self.schema(tokens)?;
                 Ok((TypeTree::Tuple(fields), rest))
             }
-            [
-                Token {
-                    form: TokenForm::Symbol(Symbol::OpenBrace),
-                    ..
-                },
-                ..
-            ] => {
+            [symbol!(OpenBrace), ..] => {
                 let (fields, rest) = self.bag(tokens)?;
                 Ok((TypeTree::Bag(fields), rest))
             }
-            [
-                Token {
-                    form: TokenForm::Symbol(Symbol::OpenBracket),
-                    ..
-                },
-                ..
-            ] => self.map_type(tokens),
+            [symbol!(OpenBracket), ..] => self.map_type(tokens),
             _ => self.cast_type(tokens),
         }
     }

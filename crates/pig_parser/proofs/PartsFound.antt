@@ -27,9 +27,9 @@ use Rattle.pig_syntax.specs.declared.trees.OrderKeys.TheVariants as keys
 use Rattle.pig_syntax.specs.declared.trees.Step.{Step}
 use Rattle.pig_exprs.specs.Grammar.{Forms, Listed, last, more, IsSchema, schema, field_bare, field_typed, expr, ReadsExpr}
 use Rattle.pig_parser.specs.Statements.{AreKeys, one_key, several_keys, IsDir, no_dir, asc, desc, IsOrderField, order_field, AreOrderKeys, all_fields, order_fields, IsTextToken, text, IsIdent, ident, IsFunc, func_bare, func_args, IsUsingFunc, no_func, using_func, IsUsingText, no_text, using_text, count_of, AreNames, one_name, typed_name, several_names, IsNaming, no_naming, naming, IsItem, all_items, flattened, value, IsBagRef, bag_field, bag_selection, IsNested, nested_filter, nested_distinct, nested_order, nested_limit, nested_take, AreSteps, no_step, step, IsGroupInput, input_bare, input_inner, input_outer, IsJoinInput, join_input, side_of, IsSide, no_side, side_bare, side_outer}
-use Rattle.pig_exprs.specs.Reader.{FoundPart, comma_turn, listed, close_paren, part_turn, schema_at, type_at}
-use Rattle.pig_exprs.specs.ExprReader.{colon, chain_at, paren_after, prim_at, post_at, begins_type, casted_at, unary_at, term_at, sum_at, comp_at, neg_at, conj_at, expr_with, expr_at}
-use Rattle.pig_parser.specs.StatementReader.{comma, semicolon, by_word, several, key_list_at, keys_at, dir_at, order_field_at, order_keys_at, text_at, ident_at, func_at, using_func_at, using_text_at, count_at, names_at, naming_at, flattened_at, value_at, item_at, bag_selection_at, bag_ref_at, nested_filter_at, nested_order_at, nested_limit_at, nested_at, step_turn, inner_at, group_input_at, join_input_at, after_outer, side_at}
+use Rattle.pig_exprs.specs.Reader.{FoundPart, comma_turn, listed, after_symbol, after_word, close_paren, part_turn, schema_at, type_at}
+use Rattle.pig_exprs.specs.ExprReader.{chain_at, paren_after, prim_at, post_at, begins_type, casted_at, unary_at, term_at, sum_at, comp_at, neg_at, conj_at, expr_with, expr_at}
+use Rattle.pig_parser.specs.StatementReader.{several, key_list_at, keys_at, dir_at, order_field_at, order_keys_at, text_at, ident_at, func_at, using_func_at, using_text_at, count_at, names_at, naming_at, flattened_at, value_at, item_at, bag_selection_at, bag_ref_at, nested_filter_at, nested_order_at, nested_limit_at, nested_at, step_turn, inner_at, group_input_at, join_input_at, after_outer, side_at}
 use Rattle.pig_exprs.proofs.Fits.{Fits}
 use Rattle.pig_exprs.proofs.Finds.{Finds, FindsMaybe, FindsRun, stops, goes, finds_map, finds_more, finds_listed, listed_finds}
 use Rattle.pig_exprs.proofs.NamesFound.{NameEnds, field_ref_found, selection_found}
@@ -38,8 +38,8 @@ use Rattle.pig_exprs.proofs.Follow.{binds, binds_ahead, name_stops, begins_ahead
 use Rattle.pig_exprs.proofs.ExprsFound.{expr_found}
 
 -- no further member of a list stands behind what is no comma
-pub no_comma : {A : Type 0} (member : Forms → FoundPart A) (ts : Forms) → comma ts ≡ None → comma_turn member ts ≡ Some None
-unfolding comma comma_turn
+pub no_comma : {A : Type 0} (member : Forms → FoundPart A) (ts : Forms) → after_symbol s.Comma ts ≡ None → comma_turn member ts ≡ Some None
+unfolding after_symbol comma_turn
 no_comma member (f.Symbol s.Comma ∷ ts) h = absurd (cc)
 no_comma member ts h = refl
 
@@ -58,7 +58,7 @@ several_not_one {ts = ts} {mid = mid} {a = a} h d (suc m) fits low =
     not_one (suc m) (expr_at (suc m) m) ts mid a (expr_found h d (suc m) m fits (omega (arith, low)) (omega (arith, low)) (omega arith)).finds (no_type ts (reads_begin h))
 
 pub keys_found : {ts rest : Forms} {by_ : List Expr} → AreKeys ts by_ rest → (d most : ℕ) → Fits ts d → d < most → binds_ahead rest < 1 → Finds (keys_at most) ts by_ rest d
-unfolding Fits close_paren several key_list_at keys_at comma
+unfolding Fits after_symbol several key_list_at keys_at
 keys_found (one_key h) d most fits low ends =
     let found = expr_found h d most most fits low low ends in
     record { finds = rw found.finds refl; fits = found.fits; shorter = found.shorter }
@@ -105,7 +105,7 @@ unfolding order_keys_at
 order_plain (f.Symbol s.Star ∷ ts) h = absurd (omega (arith, h))
 order_plain ts h = refl
 
-pub order_keys_found : {ts rest : Forms} {o : OrderKeys} → AreOrderKeys ts o rest → (d : ℕ) → Fits ts d → OrderMay rest → comma rest ≡ None → Finds order_keys_at ts o rest d
+pub order_keys_found : {ts rest : Forms} {o : OrderKeys} → AreOrderKeys ts o rest → (d : ℕ) → Fits ts d → OrderMay rest → after_symbol s.Comma rest ≡ None → Finds order_keys_at ts o rest d
 unfolding Fits order_keys_at part_turn dir_at
 order_keys_found (all_fields way) d fits may ends =
     let found = dir_found way d fits may.way in
@@ -131,7 +131,7 @@ func_of_args name (last text) = refl
 func_of_args name (more text later) = refl
 
 func_found : {ts rest : Forms} {func : Func} → IsFunc ts func rest → (d : ℕ) → Fits ts d → Finds func_at ts func rest d
-unfolding Fits func_at close_paren comma
+unfolding Fits func_at after_symbol
 func_found func_bare zero fits = absurd fits
 func_found func_bare (suc d) fits = record { finds = refl; fits = fits; shorter = omega arith }
 func_found (func_args list) zero fits = absurd fits
@@ -177,7 +177,7 @@ schema_names : {ts rest : Forms} {fields : List FieldTree} (most : ℕ) → IsSc
 unfolding names_at
 schema_names most (schema h) = refl
 
-names_found : {ts rest : Forms} {names : AsNames} → AreNames ts names rest → (d most : ℕ) → Fits ts d → d < most → colon rest ≡ None → Finds (names_at most) ts names rest d
+names_found : {ts rest : Forms} {names : AsNames} → AreNames ts names rest → (d most : ℕ) → Fits ts d → d < most → after_symbol s.Colon rest ≡ None → Finds (names_at most) ts names rest d
 unfolding Fits names_at
 names_found (one_name {ts = ts} {text = name}) d most fits low bare = finds_map (field_found (field_bare {ts = ts} {text = name}) d most fits low bare) (names_at most) _ named.One refl (omega arith)
 names_found (typed_name h) d most fits low bare = finds_map (field_found (field_typed h) d most fits low bare) (names_at most) _ named.One refl (omega arith)
@@ -187,7 +187,7 @@ names_found {ts = ts} (several_names h) d most fits low bare = finds_map (schema
 pub record ItemMay (most : ℕ) (rest : Forms) : Type 0 where
   pub loose : binds_ahead rest < 1
   pub naming : naming_at most rest ≡ Some (None, rest)
-  pub bare : colon rest ≡ None
+  pub bare : after_symbol s.Colon rest ≡ None
 
 naming_found : {ts rest : Forms} {names : Option AsNames} → IsNaming ts names rest → (d most : ℕ) → Fits ts d → d < most → ItemMay most rest → FindsMaybe (naming_at most) ts names rest d
 unfolding Fits naming_at
@@ -207,7 +207,7 @@ item_plain most (f.Keyword k.Flatten ∷ ts) h = absurd (omega (arith, h))
 item_plain most ts h = refl
 
 pub item_found : {ts rest : Forms} {i : Item} → IsItem ts i rest → (d most : ℕ) → Fits ts d → d < most → ItemMay most rest → Finds (item_at most) ts i rest d
-unfolding Fits item_at flattened_at value_at close_paren
+unfolding Fits item_at flattened_at value_at after_symbol
 item_found all_items d most fits low may = record { finds = refl; fits = fits; shorter = omega arith }
 item_found (flattened h names) zero most fits low may = absurd fits
 item_found (flattened h names) (suc d) most fits low may =
@@ -254,10 +254,10 @@ nested_plain most ts h = refl
 pub record NestedMay (rest : Forms) : Type 0 where
   pub loose : binds_ahead rest < 1
   pub way : dir_at rest ≡ Some (dir.Asc, rest)
-  pub alone : comma rest ≡ None
+  pub alone : after_symbol s.Comma rest ≡ None
 
 nested_found : {ts rest : Forms} {n : Nested} → IsNested ts n rest → (d most : ℕ) → Fits ts d → d < most → NestedMay rest → Finds (nested_at most) ts n rest d
-unfolding Fits nested_at nested_filter_at nested_order_at nested_limit_at by_word
+unfolding Fits nested_at nested_filter_at nested_order_at nested_limit_at after_word
 nested_found (nested_filter b a) d most fits low may =
     let bag = bag_ref_found b d fits (omega arith) in
     let found = expr_found a d most most bag.fits low low may.loose in
@@ -274,7 +274,7 @@ nested_found {ts = ts} (nested_take b) d most fits low may =
     finds_map (bag_ref_found b d fits (omega (arith, may.loose))) (nested_at most) ts nested.Take (nested_plain most ts (bag_begins b)) (omega arith)
 
 pub block_found : {ts rest : Forms} {steps : List Step} → AreSteps ts steps rest → (d most : ℕ) → Fits ts d → d < most → step_turn most rest ≡ Some None → FindsRun (step_turn most) ts steps rest d
-unfolding Fits step_turn semicolon dir_at comma
+unfolding Fits step_turn after_symbol dir_at
 block_found no_step d most fits low ends = record { run = stops ends; fits = fits; shorter = omega arith }
 block_found (step n later) d most fits low ends =
     let first = nested_found n d most fits low (record { loose = omega arith; way = refl; alone = refl }) in

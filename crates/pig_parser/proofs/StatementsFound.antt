@@ -15,9 +15,8 @@ use Rattle.pig_syntax.specs.declared.trees.Stmt.{Stmt}
 use Rattle.pig_syntax.specs.declared.trees.Stmt.TheVariants as stmt
 use Rattle.pig_exprs.specs.Grammar.{Forms, Listed, last, more, IsFieldRef}
 use Rattle.pig_parser.specs.Statements.{IsIdent, ident, IsUsingText, no_text, using_text, IsParallel, no_par, par, IsItem, IsGroupInput, input_bare, input_inner, input_outer, IsJoinInput, IsSide, IsOnSchema, by_place, by_name, rollup_of, IsDense, not_dense, is_dense, is_group_word, IsOp, load, filter, foreach, foreach_block, group_all, group, join, union, distinct, order, limit, cube, rank, IsBranch, branch, IsOtherwise, no_otherwise, otherwise, IsMessage, no_message, with_message, is_unsupported_word, IsStatement, empty, assign, split, store, assertion, unsupported, unsupported_named}
-use Rattle.pig_exprs.specs.Reader.{listed, comma_turn, close_paren, part_turn, field_ref_at}
-use Rattle.pig_exprs.specs.ExprReader.{colon}
-use Rattle.pig_parser.specs.StatementReader.{comma, as_word, generate_word, block_end, several, dir_at, ident_at, using_func_at, using_text_at, after_parallel, naming_at, item_at, step_turn, steps_at, inner_at, group_input_at, join_input_at, after_outer, side_at, on_schema_at, dense_at, load_at, filter_at, block_at, foreach_at, groups_at, group_at, join_at, union_at, distinct_at, order_at, limit_at, cube_at, rank_at, op_at, branch_with, branch_at, branch_turn, branches_at, otherwise_at, split_at, store_at, message_at, assert_at, is_unsupported, assign_at, front_at, ended, statement_at}
+use Rattle.pig_exprs.specs.Reader.{listed, comma_turn, after_symbol, after_word, part_turn, field_ref_at}
+use Rattle.pig_parser.specs.StatementReader.{several, dir_at, ident_at, using_func_at, using_text_at, after_parallel, naming_at, item_at, step_turn, steps_at, inner_at, group_input_at, join_input_at, after_outer, side_at, on_schema_at, dense_at, load_at, filter_at, block_at, foreach_at, groups_at, group_at, join_at, union_at, distinct_at, order_at, limit_at, cube_at, rank_at, op_at, branch_with, branch_at, branch_turn, branches_at, otherwise_at, split_at, store_at, message_at, assert_at, is_unsupported, assign_at, front_at, ended, statement_at}
 use Rattle.pig_exprs.proofs.Fits.{Fits}
 use Rattle.pig_exprs.proofs.Finds.{Finds, Run, stops, goes, repeat_run, finds_more, finds_listed, listed_finds}
 use Rattle.pig_exprs.proofs.NamesFound.{NameEnds, field_ref_found}
@@ -29,8 +28,8 @@ use Rattle.pig_parser.proofs.PartsFound.{no_comma, order_keys_found, OrderMay, i
 -- ---- what may follow
 
 -- items of an operator
-items_found : {ts rest : Forms} {items : List _} → Listed IsItem ts items rest → (d most : ℕ) → Fits ts d → d < most → ItemMay most rest → comma rest ≡ None → Finds (listed (item_at most)) ts items rest d
-unfolding naming_at colon
+items_found : {ts rest : Forms} {items : List _} → Listed IsItem ts items rest → (d most : ℕ) → Fits ts d → d < most → ItemMay most rest → after_symbol s.Comma rest ≡ None → Finds (listed (item_at most)) ts items rest d
+unfolding naming_at after_symbol
 items_found list d most fits low may ends =
     finds_listed (listed_finds list (item_at most) d (ItemMay most) (λ ts rest i is room may. item_found is d most room low may) (λ v. record { loose = omega arith; naming = refl; bare = refl }) fits may (no_comma (item_at most) _ ends))
 
@@ -38,15 +37,15 @@ items_found list d most fits low may ends =
 record EndMay (ts : Forms) : Type 0 where
   loose : binds_ahead ts < 1
   inner : inner_at ts ≡ Some (false, ts)
-  alone : comma ts ≡ None
+  alone : after_symbol s.Comma ts ≡ None
 
 parallel_may : {ts : Forms} → IsParallel ts [] → EndMay ts
-unfolding inner_at comma
+unfolding inner_at after_symbol
 parallel_may no_par = record { loose = omega arith; inner = refl; alone = refl }
 parallel_may par = record { loose = omega arith; inner = refl; alone = refl }
 
 using_may : {ts mid : Forms} {using_ : Option (List ℕ)} → IsUsingText ts using_ mid → IsParallel mid [] → EndMay ts
-unfolding inner_at comma
+unfolding inner_at after_symbol
 using_may no_text p = parallel_may p
 using_may using_text p = record { loose = omega arith; inner = refl; alone = refl }
 
@@ -63,10 +62,10 @@ parallel_order par = record { name = refl; way = refl }
 -- what stands behind the keys of RANK
 record RankMay (ts : Forms) : Type 0 where
   order : OrderMay ts
-  alone : comma ts ≡ None
+  alone : after_symbol s.Comma ts ≡ None
 
 dense_may : {ts : Forms} {dense : Bool} → IsDense ts dense [] → RankMay ts
-unfolding part_turn dir_at comma
+unfolding part_turn dir_at after_symbol
 dense_may not_dense = record { order = record { name = refl; way = refl }; alone = refl }
 dense_may is_dense = record { order = record { name = refl; way = refl }; alone = refl }
 
@@ -115,7 +114,7 @@ groups_found {mid = mid} list how p d most fits low =
 
 join_found : {ts left right mid behind : Forms} {first : _} {others : List _} {x : _} {using_ : Option (List ℕ)} → IsJoinInput ts first left → IsSide left x (f.Symbol s.Comma ∷ right)
     → Listed IsJoinInput right others mid → IsUsingText mid using_ behind → IsParallel behind [] → (d most : ℕ) → Fits ts d → d < most → join_at most ts ≡ Some (op.Join (first ∷ others) x using_, [])
-unfolding Fits join_at side_at after_outer comma
+unfolding Fits join_at side_at after_outer after_symbol
 join_found {right = right} {mid = mid} h which list how p d most fits low =
     let may = using_may how p in
     let first = join_input_found h d most fits low (side_ahead which (omega arith)) in
@@ -142,7 +141,7 @@ on_schema_fits by_name d fits = fits
 
 union_found : {ts mid : Forms} {onschema : Bool} {name : List ℕ} {others : List (List ℕ)} → IsOnSchema ts onschema (f.Ident name ∷ f.Symbol s.Comma ∷ mid) → Listed IsIdent mid others [] → (d : ℕ) → Fits ts d
     → union_at ts ≡ Some (op.Union onschema (name ∷ others), [])
-unfolding Fits union_at comma
+unfolding Fits union_at after_symbol
 union_found {mid = mid} {name = name} h list d fits =
     let behind = on_schema_fits h d fits in
     let first = ident_found (ident {ts = f.Symbol s.Comma ∷ mid} {name = name}) d behind in
@@ -159,14 +158,14 @@ cube_word_fits word rollup ts d h fits = absurd (cc)
 
 cube_found : {ts mid : Forms} {dims : List FieldRef} (word : Keyword) (rollup : Bool) (name : List ℕ) → rollup_of word ≡ Some rollup → Listed IsFieldRef ts dims (f.Symbol s.CloseParen ∷ mid) → IsParallel mid []
     → (d : ℕ) → Fits (f.Symbol s.OpenParen ∷ ts) d → cube_at (f.Ident name ∷ f.Keyword k.By ∷ f.Keyword word ∷ f.Symbol s.OpenParen ∷ ts) ≡ Some (op.Cube name rollup dims, [])
-unfolding Fits cube_at close_paren comma_turn part_turn
+unfolding Fits cube_at after_symbol comma_turn part_turn
 cube_found word rollup name is list p zero fits = absurd fits
 cube_found word rollup name is list p (suc d) fits =
     let found = finds_listed (listed_finds list field_ref_at d NameEnds (λ ts rest r h room may. field_ref_found h d room may) (λ mid. refl) fits refl refl) in
     rw (is, found.finds, all_of p) refl
 
 op_found : {ts : Forms} {o : Op} → IsOp ts o [] → (d most : ℕ) → Fits ts d → d < most → op_at most ts ≡ Some (o, [])
-unfolding Fits op_at load_at filter_at block_at foreach_at group_at distinct_at order_at limit_at rank_at using_func_at as_word generate_word block_end steps_at step_turn naming_at colon comma
+unfolding Fits op_at load_at filter_at block_at foreach_at group_at distinct_at order_at limit_at rank_at using_func_at after_symbol after_word steps_at step_turn naming_at
 op_found (load using_ h) d most fits low =
     let func = using_func_found using_ d fits refl in
     let fields = schema_found h d most func.fits (omega (arith, low)) in

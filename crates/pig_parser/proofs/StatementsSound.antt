@@ -20,44 +20,12 @@ use Rattle.pig_exprs.specs.Grammar.{Forms, Listed, IsFieldRef, IsSchemaField}
 use Rattle.pig_parser.specs.Statements.{IsExpr, AreKeys, IsDir, IsOrderField, AreOrderKeys, IsTextToken, IsIdent, IsFunc, IsUsingFunc, IsUsingText, IsParallel, count_of, AreNames, IsNaming, IsItem, IsBagRef, IsNested, AreSteps, IsGroupInput, IsJoinInput, side_of, IsSide, IsOnSchema, rollup_of, IsDense, is_group_word, IsOp, IsBranch, IsOtherwise, IsMessage, is_unsupported_word, IsStatement}
 use Rattle.pig_exprs.specs.Reader.{field_ref_at, type_at}
 use Rattle.pig_exprs.specs.ExprReader.{expr_at}
-use Rattle.pig_parser.specs.StatementReader.{comma, semicolon, as_word, by_word, generate_word, block_end, several, key_list_at, keys_at, dir_at, order_field_at, order_keys_at, text_at, ident_at, func_at, using_func_at, using_text_at, after_parallel, count_at, names_at, naming_at, flattened_at, value_at, item_at, bag_selection_at, bag_ref_at, nested_filter_at, nested_order_at, nested_limit_at, nested_at, step_turn, steps_at, inner_at, group_input_at, join_input_at, after_outer, side_at, on_schema_at, dense_at, load_at, filter_at, block_at, foreach_at, groups_at, group_at, join_at, union_at, distinct_at, order_at, limit_at, cube_at, rank_at, op_at, branch_with, branch_at, branch_turn, branches_at, otherwise_at, split_at, store_at, message_at, assert_at, is_unsupported, assign_at, front_at, ended, statement_at}
+use Rattle.pig_parser.specs.StatementReader.{several, key_list_at, keys_at, dir_at, order_field_at, order_keys_at, text_at, ident_at, func_at, using_func_at, using_text_at, after_parallel, count_at, names_at, naming_at, flattened_at, value_at, item_at, bag_selection_at, bag_ref_at, nested_filter_at, nested_order_at, nested_limit_at, nested_at, step_turn, steps_at, inner_at, group_input_at, join_input_at, after_outer, side_at, on_schema_at, dense_at, load_at, filter_at, block_at, foreach_at, groups_at, group_at, join_at, union_at, distinct_at, order_at, limit_at, cube_at, rank_at, op_at, branch_with, branch_at, branch_turn, branches_at, otherwise_at, split_at, store_at, message_at, assert_at, is_unsupported, assign_at, front_at, ended, statement_at}
 use Rattle.pig_exprs.proofs.Options.{Holds, of_known, itself, holds_then, holds_map, holds_map_or, holds_if}
-use Rattle.pig_exprs.proofs.ListSound.{Upholds, TurnsLead, GoesOn, repeat_runs, members_listed, listed_upholds, closes}
+use Rattle.pig_exprs.proofs.ListSound.{Upholds, TurnsLead, GoesOn, repeat_runs, members_listed, listed_upholds, symbol_stands, word_stands}
 use Rattle.pig_exprs.proofs.NamesSound.{field_ref_upholds, selection_upholds}
 use Rattle.pig_exprs.proofs.TypesSound.{type_upholds, field_upholds, schema_upholds}
 use Rattle.pig_exprs.proofs.ExprsSound.{expr_upholds}
-
--- ---- what stands in front of a mark or a word
-
-before_comma : (P : Forms → Type 0) (ts : Forms) → P ts → Holds (λ rest. P (f.Symbol s.Comma ∷ rest)) (comma ts)
-unfolding comma
-before_comma P (f.Symbol s.Comma ∷ ts) p = Holds.just p
-before_comma P _ p = Holds.nothing
-
-before_semicolon : (P : Forms → Type 0) (ts : Forms) → P ts → Holds (λ rest. P (f.Symbol s.Semicolon ∷ rest)) (semicolon ts)
-unfolding semicolon
-before_semicolon P (f.Symbol s.Semicolon ∷ ts) p = Holds.just p
-before_semicolon P _ p = Holds.nothing
-
-before_as : (P : Forms → Type 0) (ts : Forms) → P ts → Holds (λ rest. P (f.Keyword k.As ∷ rest)) (as_word ts)
-unfolding as_word
-before_as P (f.Keyword k.As ∷ ts) p = Holds.just p
-before_as P _ p = Holds.nothing
-
-before_by : (P : Forms → Type 0) (ts : Forms) → P ts → Holds (λ rest. P (f.Keyword k.By ∷ rest)) (by_word ts)
-unfolding by_word
-before_by P (f.Keyword k.By ∷ ts) p = Holds.just p
-before_by P _ p = Holds.nothing
-
-before_generate : (P : Forms → Type 0) (ts : Forms) → P ts → Holds (λ rest. P (f.Keyword k.Generate ∷ rest)) (generate_word ts)
-unfolding generate_word
-before_generate P (f.Keyword k.Generate ∷ ts) p = Holds.just p
-before_generate P _ p = Holds.nothing
-
-before_block_end : (P : Forms → Type 0) (ts : Forms) → P ts → Holds (λ rest. P (f.Symbol s.Semicolon ∷ f.Symbol s.CloseBrace ∷ rest)) (block_end ts)
-unfolding block_end
-before_block_end P (f.Symbol s.Semicolon ∷ f.Symbol s.CloseBrace ∷ ts) p = Holds.just p
-before_block_end P _ p = Holds.nothing
 
 -- ---- parts
 
@@ -82,7 +50,7 @@ unfolding key_list_at
 key_list_upholds most (f.Symbol s.OpenParen ∷ ts) =
     holds_then _ (listed_upholds (expr_at most most) IsExpr (expr_upholds most most) ts) (λ read l.
     holds_then _ (several_stand IsExpr read.0) (λ keys are_several.
-    holds_then _ (closes (Listed IsExpr ts read.0) read.1 l) (λ rest l. Holds.just (keys_of (are_several ts (f.Symbol s.CloseParen ∷ rest) l)))))
+    holds_then _ (symbol_stands s.CloseParen (Listed IsExpr ts read.0) read.1 l) (λ rest l. Holds.just (keys_of (are_several ts (f.Symbol s.CloseParen ∷ rest) l)))))
 key_list_upholds most _ = Holds.nothing
 
 keys_upholds : (most : ℕ) → Upholds (keys_at most) AreKeys
@@ -121,7 +89,7 @@ unfolding func_at
 func_upholds (f.Ident name ∷ f.Symbol s.OpenParen ∷ f.Symbol s.CloseParen ∷ ts) = Holds.just IsFunc.func_bare
 func_upholds (f.Ident name ∷ f.Symbol s.OpenParen ∷ ts) =
     holds_then _ (listed_upholds text_at IsTextToken text_upholds ts) (λ args l.
-    holds_then _ (closes (Listed IsTextToken ts args.0) args.1 l) (λ rest l. Holds.just (IsFunc.func_args l)))
+    holds_then _ (symbol_stands s.CloseParen (Listed IsTextToken ts args.0) args.1 l) (λ rest l. Holds.just (IsFunc.func_args l)))
 func_upholds _ = Holds.nothing
 
 using_func_upholds : Upholds using_func_at IsUsingFunc
@@ -168,7 +136,7 @@ flattened_stands : (most : ℕ) (ts : Forms) → Holds (λ p. IsItem (f.Keyword 
 unfolding flattened_at
 flattened_stands most ts =
     holds_then _ (expr_upholds most most ts) (λ a is_expr.
-    holds_then _ (closes (IsExpr ts a.0) a.1 is_expr) (λ behind is_expr.
+    holds_then _ (symbol_stands s.CloseParen (IsExpr ts a.0) a.1 is_expr) (λ behind is_expr.
     holds_then _ (naming_upholds most behind) (λ names is_naming. Holds.just (IsItem.flattened is_expr is_naming))))
 
 value_upholds : (most : ℕ) → Upholds (value_at most) IsItem
@@ -200,14 +168,14 @@ nested_filter_stands : (most : ℕ) (ts : Forms) → Holds (λ p. IsNested (f.Ke
 unfolding nested_filter_at
 nested_filter_stands most ts =
     holds_then _ (bag_ref_upholds ts) (λ bag b.
-    holds_then _ (before_by (IsBagRef ts bag.0) bag.1 b) (λ behind b.
+    holds_then _ (word_stands k.By (IsBagRef ts bag.0) bag.1 b) (λ behind b.
     holds_then _ (expr_upholds most most behind) (λ cond a. Holds.just (IsNested.nested_filter b a))))
 
 nested_order_stands : (ts : Forms) → Holds (λ p. IsNested (f.Keyword k.Order ∷ ts) p.0 p.1) (nested_order_at ts)
 unfolding nested_order_at
 nested_order_stands ts =
     holds_then _ (bag_ref_upholds ts) (λ bag b.
-    holds_then _ (before_by (IsBagRef ts bag.0) bag.1 b) (λ behind b.
+    holds_then _ (word_stands k.By (IsBagRef ts bag.0) bag.1 b) (λ behind b.
     holds_then _ (order_keys_upholds behind) (λ by_ o. Holds.just (IsNested.nested_order b o))))
 
 nested_limit_of : {ts mid rest : Forms} {b : BagRef} {n : ℕ} → IsBagRef ts b mid → IsCount mid n rest → IsNested (f.Keyword k.Limit ∷ ts) (nested.Limit b n) rest
@@ -231,7 +199,7 @@ step_leads : (most : ℕ) → TurnsLead (step_turn most) AreSteps
 unfolding step_turn
 step_leads most (f.Ident name ∷ f.Symbol s.Assign ∷ ts) =
     holds_then _ (nested_upholds most ts) (λ made n.
-    holds_then _ (before_semicolon (IsNested ts made.0) made.1 n) (λ behind n. Holds.just (Holds.just (λ others rest more. AreSteps.step n more))))
+    holds_then _ (symbol_stands s.Semicolon (IsNested ts made.0) made.1 n) (λ behind n. Holds.just (Holds.just (λ others rest more. AreSteps.step n more))))
 step_leads most ts = Holds.just Holds.nothing
 
 steps_upholds : (most : ℕ) → Upholds (steps_at most) AreSteps
@@ -280,7 +248,7 @@ load_stands : (most : ℕ) (ts : Forms) → Holds (λ p. IsOp (f.Keyword k.Load 
 unfolding load_at
 load_stands most (f.Text path ∷ ts) =
     holds_then _ (using_func_upholds ts) (λ func u.
-    holds_then _ (before_as (IsUsingFunc ts func.0) func.1 u) (λ behind u.
+    holds_then _ (word_stands k.As (IsUsingFunc ts func.0) func.1 u) (λ behind u.
     holds_then _ (schema_upholds (type_at most) (type_upholds most) behind) (λ fields schema. Holds.just (IsOp.load u schema))))
 load_stands most _ = Holds.nothing
 
@@ -293,9 +261,10 @@ block_stands : (most : ℕ) (name : List ℕ) (ts : Forms) → Holds (λ p. IsOp
 unfolding block_at
 block_stands most name ts =
     holds_then _ (steps_upholds most ts) (λ steps are_steps.
-    holds_then _ (before_generate (AreSteps ts steps.0) steps.1 are_steps) (λ behind are_steps.
+    holds_then _ (word_stands k.Generate (AreSteps ts steps.0) steps.1 are_steps) (λ behind are_steps.
     holds_then _ (listed_upholds (item_at most) IsItem (item_upholds most) behind) (λ items l.
-    holds_then _ (before_block_end (Listed IsItem behind items.0) items.1 l) (λ rest l. Holds.just (IsOp.foreach_block are_steps l)))))
+    holds_then _ (symbol_stands s.Semicolon (Listed IsItem behind items.0) items.1 l) (λ ended l.
+    holds_then _ (symbol_stands s.CloseBrace (λ rest. Listed IsItem behind items.0 (f.Symbol s.Semicolon ∷ rest)) ended l) (λ rest l. Holds.just (IsOp.foreach_block are_steps l))))))
 
 foreach_stands : (most : ℕ) (ts : Forms) → Holds (λ p. IsOp (f.Keyword k.Foreach ∷ ts) p.0 p.1) (foreach_at most ts)
 unfolding foreach_at
@@ -319,7 +288,7 @@ unfolding join_at
 join_stands most ts =
     holds_then _ (join_input_upholds most ts) (λ first input.
     holds_then _ (side_upholds first.1) (λ which is_side.
-    holds_then _ (before_comma (IsSide first.1 which.0) which.1 is_side) (λ behind is_side.
+    holds_then _ (symbol_stands s.Comma (IsSide first.1 which.0) which.1 is_side) (λ behind is_side.
     holds_then _ (listed_upholds (join_input_at most) IsJoinInput (join_input_upholds most) behind) (λ others l.
     holds_then _ (using_text_upholds others.1) (λ how u. Holds.just (IsOp.join input is_side l u (parallel_stands how.1)))))))
 
@@ -356,7 +325,7 @@ unfolding cube_at
 cube_stands (f.Ident name ∷ f.Keyword k.By ∷ f.Keyword word ∷ f.Symbol s.OpenParen ∷ ts) =
     holds_then _ (itself (rollup_of word)) (λ rollup is_word.
     holds_then _ (listed_upholds field_ref_at IsFieldRef field_ref_upholds ts) (λ dims l.
-    holds_then _ (closes (Listed IsFieldRef ts dims.0) dims.1 l) (λ rest l. Holds.just (IsOp.cube is_word l (parallel_stands rest)))))
+    holds_then _ (symbol_stands s.CloseParen (Listed IsFieldRef ts dims.0) dims.1 l) (λ rest l. Holds.just (IsOp.cube is_word l (parallel_stands rest)))))
 cube_stands _ = Holds.nothing
 
 dense_upholds : Upholds dense_at IsDense

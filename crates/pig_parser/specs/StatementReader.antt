@@ -34,7 +34,7 @@ use Rattle.pig_exprs.specs.declared.reading.ParseFault.{ParseFault}
 use Rattle.pig_exprs.specs.declared.reading.ParseFault.TheVariants as fault
 use Rattle.pig_exprs.specs.Grammar.{Forms}
 use Rattle.pig_parser.specs.Statements.{count_of, side_of, rollup_of, is_unsupported_word}
-use Rattle.pig_exprs.specs.Reader.{FoundPart, Turn, repeat, listed, close_paren, field_ref_at, selection_at, field_at, schema_at, type_at}
+use Rattle.pig_exprs.specs.Reader.{FoundPart, Turn, repeat, listed, after_symbol, after_word, close_paren, field_ref_at, selection_at, field_at, schema_at, type_at}
 use Rattle.pig_exprs.specs.ExprReader.{expr_at}
 use Rattle.pig_value.specs.Results.{◌>>=◌}
 
@@ -43,38 +43,6 @@ abbrev pub GivesFound : {A : Type 0} → Option A → Result A ParseFault → Ty
 GivesFound found (Ok a) = found ≡ Some a
 GivesFound found (Err fault.Off) = found ≡ None
 GivesFound found (Err fault.OutOfMemory) = Unit {0}
-
--- ---- marks and words
-
--- the tokens behind a `,`
-unfoldable pub comma : Forms → Option Forms
-comma (f.Symbol s.Comma ∷ ts) = Some ts
-comma _ = None
-
--- the tokens behind a `;`
-unfoldable pub semicolon : Forms → Option Forms
-semicolon (f.Symbol s.Semicolon ∷ ts) = Some ts
-semicolon _ = None
-
--- the tokens behind AS
-unfoldable pub as_word : Forms → Option Forms
-as_word (f.Keyword k.As ∷ ts) = Some ts
-as_word _ = None
-
--- the tokens behind BY
-unfoldable pub by_word : Forms → Option Forms
-by_word (f.Keyword k.By ∷ ts) = Some ts
-by_word _ = None
-
--- the tokens behind GENERATE
-unfoldable pub generate_word : Forms → Option Forms
-generate_word (f.Keyword k.Generate ∷ ts) = Some ts
-generate_word _ = None
-
--- the tokens behind `;` and `}`
-unfoldable pub block_end : Forms → Option Forms
-block_end (f.Symbol s.Semicolon ∷ f.Symbol s.CloseBrace ∷ ts) = Some ts
-block_end _ = None
 
 -- ---- parts
 
@@ -190,14 +158,14 @@ bag_ref_at ts = do
 unfoldable pub nested_filter_at : ℕ → Forms → FoundPart Nested
 nested_filter_at most ts = do
   bag ← bag_ref_at ts
-  behind ← by_word bag.1
+  behind ← after_word k.By bag.1
   cond ← expr_at most most behind
   Some (nested.Filter bag.0 cond.0, cond.1)
 
 unfoldable pub nested_order_at : Forms → FoundPart Nested
 nested_order_at ts = do
   bag ← bag_ref_at ts
-  behind ← by_word bag.1
+  behind ← after_word k.By bag.1
   by_ ← order_keys_at behind
   Some (nested.Order bag.0 by_.0, by_.1)
 
@@ -218,7 +186,7 @@ nested_at most ts = option_map (λ p. (nested.Take p.0, p.1)) (bag_ref_at ts)
 unfoldable pub step_turn : ℕ → Forms → Turn Step
 step_turn most (f.Ident name ∷ f.Symbol s.Assign ∷ ts) = do
   made ← nested_at most ts
-  behind ← semicolon made.1
+  behind ← after_symbol s.Semicolon made.1
   Some (Some (record { alias = name; nested = made.0 }, behind))
 step_turn most ts = Some None
 
@@ -266,7 +234,7 @@ dense_at ts = Some (false, ts)
 unfoldable pub load_at : ℕ → Forms → FoundPart Op
 load_at most (f.Text path ∷ ts) = do
   func ← using_func_at ts
-  behind ← as_word func.1
+  behind ← after_word k.As func.1
   fields ← schema_at (type_at most) behind
   Some (op.Load path func.0 fields.0, fields.1)
 load_at most _ = None
@@ -279,9 +247,10 @@ filter_at most _ = None
 unfoldable pub block_at : ℕ → List ℕ → Forms → FoundPart Op
 block_at most name ts = do
   steps ← steps_at most ts
-  behind ← generate_word steps.1
+  behind ← after_word k.Generate steps.1
   items ← listed (item_at most) behind
-  rest ← block_end items.1
+  ended ← after_symbol s.Semicolon items.1
+  rest ← after_symbol s.CloseBrace ended
   Some (op.Foreach name steps.0 items.0, rest)
 
 unfoldable pub foreach_at : ℕ → Forms → FoundPart Op
@@ -303,7 +272,7 @@ unfoldable pub join_at : ℕ → Forms → FoundPart Op
 join_at most ts = do
   first ← join_input_at most ts
   which ← side_at first.1
-  behind ← comma which.1
+  behind ← after_symbol s.Comma which.1
   others ← listed (join_input_at most) behind
   how ← using_text_at others.1
   Some (op.Join (first.0 ∷ others.0) which.0 how.0, after_parallel how.1)

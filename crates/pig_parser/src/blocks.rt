@@ -1,12 +1,13 @@
 ghost use Rattle.std.specs.Prelude.{◌≡◌, [], ◌∷◌, IfOk, length, map};
+ghost use Rattle.pig_exprs.specs.declared.exprs.TheConstants.{MOST_NESTED};
 ghost use Rattle.pig_exprs.specs.Grammar.{Forms};
-ghost use Rattle.pig_exprs.specs.Reader.{forms, Gives, GivesBeside, GivesBehind};
-ghost use Rattle.pig_parser.specs.StatementReader.{semicolon, by_word, names_at, naming_at, flattened_at, value_at, item_at, bag_selection_at, bag_ref_at, nested_filter_at, nested_order_at, nested_limit_at, nested_at, step_turn, steps_at};
+ghost use Rattle.pig_exprs.specs.Reader.{forms, Gives, GivesBeside};
+ghost use Rattle.pig_parser.specs.StatementReader.{names_at, naming_at, flattened_at, value_at, item_at, bag_selection_at, bag_ref_at, nested_filter_at, nested_order_at, nested_limit_at, nested_at, step_turn, steps_at};
 
-use crate::parts::{ExpressionRule, by_word, count, order_keys, semicolon};
+use crate::parts::{ExpressionRule, count, order_keys};
 use pig_exprs::{
-    Limits, MOST_NESTED, ParseFault, Rule, Turning, beside, closed, expression, field, field_ref,
-    repeat, schema, selection,
+    Limits, MOST_NESTED, ParseFault, Rule, Turning, behind_symbol, behind_word, beside, closed,
+    expression, field, field_ref, form, repeat, schema, selection, symbol, word,
 };
 use pig_syntax::{
     AsNames, BagRef, Item, Keyword, Nested, PostStep, Step, Steps, Symbol, Token, TokenForm,
@@ -16,16 +17,10 @@ use std::alloc::Global;
 // The names behind AS.
 #[tactic(auto, unfolding(crate::specs::StatementReader::names_at))]
 fn names(alloc: Global, tokens: &[Token]) -> Result<(AsNames, &[Token]), ParseFault>
-    ensures { Gives (names_at 65 (forms tokens.now)) result }
+    ensures { Gives (names_at MOST_NESTED (forms tokens.now)) result }
 {
     match tokens {
-        [
-            Token {
-                form: TokenForm::Ident(_),
-                ..
-            },
-            ..
-        ] => {
+        [form!(Ident(_)), ..] => {
             let (name, rest) = field(alloc, tokens, MOST_NESTED)?;
             Ok((AsNames::One(name), rest))
         }
@@ -39,16 +34,10 @@ fn names(alloc: Global, tokens: &[Token]) -> Result<(AsNames, &[Token]), ParseFa
 // AS and its names, where they stand.
 #[tactic(auto, unfolding(crate::specs::StatementReader::naming_at))]
 fn naming(alloc: Global, tokens: &[Token]) -> Result<(Option<AsNames>, &[Token]), ParseFault>
-    ensures { Gives (naming_at 65 (forms tokens.now)) result }
+    ensures { Gives (naming_at MOST_NESTED (forms tokens.now)) result }
 {
     match tokens {
-        [
-            Token {
-                form: TokenForm::Keyword(Keyword::As),
-                ..
-            },
-            rest @ ..,
-        ] => {
+        [word!(As), rest @ ..] => {
             let (names, rest) = names(alloc, rest)?;
             Ok((Some(names), rest))
         }
@@ -63,7 +52,7 @@ fn and_naming<K: Drop>(
     tokens: &[Token],
 ) -> Result<((K, Option<AsNames>), &[Token]), ParseFault>
     ensures kept { IfOk result (λ r. r.0.0 ≡ kept) }
-    ensures found { GivesBeside (naming_at 65 (forms tokens.now)) result }
+    ensures found { GivesBeside (naming_at MOST_NESTED (forms tokens.now)) result }
 {
     let (names, rest) = naming(alloc, tokens)?;
     Ok(((kept, names), rest))
@@ -76,7 +65,7 @@ fn flattened<'a>(
     limits: &Limits,
     tokens: &'a [Token],
 ) -> Result<(Item, &'a [Token]), ParseFault>
-    ensures { Gives (flattened_at 65 (forms tokens.now)) result }
+    ensures { Gives (flattened_at MOST_NESTED (forms tokens.now)) result }
 {
     let (value, rest) = expression(alloc, limits, tokens)?;
     let (value, rest) = closed(value, rest)?;
@@ -99,7 +88,7 @@ fn value<'a>(
     limits: &Limits,
     tokens: &'a [Token],
 ) -> Result<(Item, &'a [Token]), ParseFault>
-    ensures { Gives (value_at 65 (forms tokens.now)) result }
+    ensures { Gives (value_at MOST_NESTED (forms tokens.now)) result }
 {
     let (value, rest) = expression(alloc, limits, tokens)?;
     let ((value, names), rest) = and_naming(alloc, value, rest)?;
@@ -126,29 +115,17 @@ impl Rule for ItemRule<'_> {
 
     ghost ready = { λ _. Unit {0} };
 
-    ghost finds = { λ _. item_at 65 };
+    ghost finds = { λ _. item_at MOST_NESTED };
 
     #[tactic(auto, unfolding(crate::specs::StatementReader::item_at))]
     fn read<'a>(&self, tokens: &'a [Token]) -> Result<(Item, &'a [Token]), ParseFault> {
         match tokens {
-            [
-                Token {
-                    form: TokenForm::Symbol(Symbol::Star),
-                    ..
-                },
-                rest @ ..,
-            ] => Ok((Item::All, rest)),
-            [
-                Token {
-                    form: TokenForm::Keyword(Keyword::Flatten),
-                    ..
-                },
-                Token {
-                    form: TokenForm::Symbol(Symbol::OpenParen),
-                    ..
-                },
-                rest @ ..,
-            ] => flattened(self.alloc, self.limits, rest),
+            [symbol!(Star), rest @ ..] => Ok((Item::All, rest)),
+            [word!(Flatten), symbol!(OpenParen), rest @ ..] => flattened(
+                self.alloc,
+                self.limits,
+                rest,
+            ),
             _ => value(self.alloc, self.limits, tokens),
         }
     }
@@ -165,36 +142,12 @@ fn bag_selection<K: Drop>(
     ensures found { GivesBeside (bag_selection_at (forms tokens.now)) result }
 {
     match tokens {
-        [
-            Token {
-                form: TokenForm::Symbol(Symbol::Dot),
-                ..
-            },
-            rest @ ..,
-        ] => {
+        [symbol!(Dot), rest @ ..] => {
             let (step, rest) = selection(alloc, rest)?;
             Ok(((kept, Some(step)), rest))
         }
         _ => Ok(((kept, None), tokens)),
     }
-}
-
-// What is kept, where BY stands there.
-fn behind_by<K: Drop>(kept: K, tokens: &[Token]) -> Result<(K, &[Token]), ParseFault>
-    ensures kept { IfOk result (λ r. r.0 ≡ kept) }
-    ensures rest { GivesBehind (by_word (forms tokens.now)) result }
-{
-    let rest = by_word(tokens)?;
-    Ok((kept, rest))
-}
-
-// What is kept, where a `;` stands there.
-fn behind_semicolon<K: Drop>(kept: K, tokens: &[Token]) -> Result<(K, &[Token]), ParseFault>
-    ensures kept { IfOk result (λ r. r.0 ≡ kept) }
-    ensures rest { GivesBehind (semicolon (forms tokens.now)) result }
-{
-    let rest = semicolon(tokens)?;
-    Ok((kept, rest))
 }
 
 // A bag in a block.
@@ -214,10 +167,10 @@ fn nested_filter<'a>(
     limits: &Limits,
     tokens: &'a [Token],
 ) -> Result<(Nested, &'a [Token]), ParseFault>
-    ensures { Gives (nested_filter_at 65 (forms tokens.now)) result }
+    ensures { Gives (nested_filter_at MOST_NESTED (forms tokens.now)) result }
 {
     let (from, rest) = bag_ref(alloc, tokens)?;
-    let (from, rest) = behind_by(from, rest)?;
+    let (from, rest) = behind_word(from, Keyword::By, rest)?;
     let ((from, cond), rest) = beside(from, &ExpressionRule { alloc, limits }, rest)?;
     Ok((Nested::Filter { from, cond }, rest))
 }
@@ -228,7 +181,7 @@ fn nested_order(alloc: Global, tokens: &[Token]) -> Result<(Nested, &[Token]), P
     ensures { Gives (nested_order_at (forms tokens.now)) result }
 {
     let (from, rest) = bag_ref(alloc, tokens)?;
-    let (from, rest) = behind_by(from, rest)?;
+    let (from, rest) = behind_word(from, Keyword::By, rest)?;
     let ((from, keys), rest) = order_keys(alloc, from, rest)?;
     Ok((Nested::Order { from, keys }, rest))
 }
@@ -250,40 +203,16 @@ fn nested<'a>(
     limits: &Limits,
     tokens: &'a [Token],
 ) -> Result<(Nested, &'a [Token]), ParseFault>
-    ensures { Gives (nested_at 65 (forms tokens.now)) result }
+    ensures { Gives (nested_at MOST_NESTED (forms tokens.now)) result }
 {
     match tokens {
-        [
-            Token {
-                form: TokenForm::Keyword(Keyword::Filter),
-                ..
-            },
-            rest @ ..,
-        ] => nested_filter(alloc, limits, rest),
-        [
-            Token {
-                form: TokenForm::Keyword(Keyword::Distinct),
-                ..
-            },
-            rest @ ..,
-        ] => {
+        [word!(Filter), rest @ ..] => nested_filter(alloc, limits, rest),
+        [word!(Distinct), rest @ ..] => {
             let (from, rest) = bag_ref(alloc, rest)?;
             Ok((Nested::Distinct { from }, rest))
         }
-        [
-            Token {
-                form: TokenForm::Keyword(Keyword::Order),
-                ..
-            },
-            rest @ ..,
-        ] => nested_order(alloc, rest),
-        [
-            Token {
-                form: TokenForm::Keyword(Keyword::Limit),
-                ..
-            },
-            rest @ ..,
-        ] => nested_limit(alloc, rest),
+        [word!(Order), rest @ ..] => nested_order(alloc, rest),
+        [word!(Limit), rest @ ..] => nested_limit(alloc, rest),
         _ => {
             let (from, rest) = bag_ref(alloc, tokens)?;
             Ok((Nested::Take { from }, rest))
@@ -303,25 +232,15 @@ impl Turning for StepTurns<'_> {
 
     ghost ready = { λ _. Unit {0} };
 
-    ghost finds = { λ _. step_turn 65 };
+    ghost finds = { λ _. step_turn MOST_NESTED };
 
     #[tactic(auto, unfolding(crate::specs::StatementReader::step_turn))]
     fn turn<'a>(&self, tokens: &'a [Token]) -> Result<Option<(Step, &'a [Token])>, ParseFault> {
         match tokens {
-            [
-                Token {
-                    form: TokenForm::Ident(name),
-                    ..
-                },
-                Token {
-                    form: TokenForm::Symbol(Symbol::Assign),
-                    ..
-                },
-                rest @ ..,
-            ] => {
+            [form!(Ident(name)), symbol!(Assign), rest @ ..] => {
                 let alias = name.copy(self.alloc)?;
                 let (nested, rest) = nested(self.alloc, self.limits, rest)?;
-                let (nested, rest) = behind_semicolon(nested, rest)?;
+                let (nested, rest) = behind_symbol(nested, Symbol::Semicolon, rest)?;
                 Ok(Some((Step { alias, nested }, rest)))
             }
             _ => Ok(None),
@@ -336,7 +255,7 @@ pub fn steps<'a>(
     limits: &Limits,
     tokens: &'a [Token],
 ) -> Result<(Steps, &'a [Token]), ParseFault>
-    ensures { Gives (steps_at 65 (forms tokens.now)) result }
+    ensures { Gives (steps_at MOST_NESTED (forms tokens.now)) result }
 {
     repeat(&StepTurns { alloc, limits }, Steps::new(alloc), tokens)
 }

@@ -1,60 +1,22 @@
 ghost use Rattle.std.specs.Prelude.{◌≡◌, [], ◌∷◌, Some, IfOk, length, map};
 ghost use Rattle.pig_syntax.specs.declared.tokens.TokenForm.TheVariants as f;
+ghost use Rattle.pig_exprs.specs.declared.exprs.TheConstants.{MOST_NESTED};
 ghost use Rattle.pig_exprs.specs.Grammar.{Forms};
 ghost use Rattle.pig_parser.specs.Statements.{side_of, rollup_of};
-ghost use Rattle.pig_exprs.specs.Reader.{forms, Gives, GivesRest};
-ghost use Rattle.pig_parser.specs.StatementReader.{GivesFound, generate_word, block_end, inner_at, group_input_at, join_input_at, after_outer, side_at, on_schema_at, dense_at, load_at, filter_at, block_at, foreach_at, groups_at, group_at, join_at, union_at, distinct_at, order_at, limit_at, cube_at, rank_at, op_at};
+ghost use Rattle.pig_exprs.specs.Reader.{forms, Gives};
+ghost use Rattle.pig_parser.specs.StatementReader.{GivesFound, inner_at, group_input_at, join_input_at, after_outer, side_at, on_schema_at, dense_at, load_at, filter_at, block_at, foreach_at, groups_at, group_at, join_at, union_at, distinct_at, order_at, limit_at, cube_at, rank_at, op_at};
 
 use crate::blocks::{ItemRule, steps};
 use crate::parts::{
-    IdentRule, after_parallel, as_word, comma, count, keys, order_keys, several, using_func,
-    using_text,
+    IdentRule, after_parallel, count, keys, order_keys, several, using_func, using_text,
 };
 use pig_exprs::{
-    FieldRefRule, Limits, MOST_NESTED, ParseFault, Rule, close_paren, expression, listed, one,
-    schema,
+    FieldRefRule, Limits, MOST_NESTED, ParseFault, Rule, after_symbol, after_word, close_paren,
+    expression, form, listed, one, schema, symbol, word,
 };
 use pig_syntax::{GroupInput, JoinInput, Keyword, Op, Steps, Symbol, Token, TokenForm};
 use pig_value::{Side, Text};
 use std::alloc::Global;
-
-// The tokens behind GENERATE.
-#[tactic(auto, unfolding(crate::specs::StatementReader::generate_word))]
-fn generate_word(tokens: &[Token]) -> Result<&[Token], ParseFault>
-    ensures { GivesRest (generate_word (forms tokens.now)) result }
-{
-    match tokens {
-        [
-            Token {
-                form: TokenForm::Keyword(Keyword::Generate),
-                ..
-            },
-            rest @ ..,
-        ] => Ok(rest),
-        _ => Err(ParseFault::Off),
-    }
-}
-
-// The tokens behind `;` and `}`.
-#[tactic(auto, unfolding(crate::specs::StatementReader::block_end))]
-fn block_end(tokens: &[Token]) -> Result<&[Token], ParseFault>
-    ensures { GivesRest (block_end (forms tokens.now)) result }
-{
-    match tokens {
-        [
-            Token {
-                form: TokenForm::Symbol(Symbol::Semicolon),
-                ..
-            },
-            Token {
-                form: TokenForm::Symbol(Symbol::CloseBrace),
-                ..
-            },
-            rest @ ..,
-        ] => Ok(rest),
-        _ => Err(ParseFault::Off),
-    }
-}
 
 // Whether groups without a tuple of an input are left out.
 #[tactic(auto, unfolding(crate::specs::StatementReader::inner_at))]
@@ -62,20 +24,8 @@ fn inner(tokens: &[Token]) -> (bool, &[Token])
     ensures { inner_at (forms tokens.now) ≡ Some (result.0, forms result.1.now) }
 {
     match tokens {
-        [
-            Token {
-                form: TokenForm::Keyword(Keyword::Inner),
-                ..
-            },
-            rest @ ..,
-        ] => (true, rest),
-        [
-            Token {
-                form: TokenForm::Keyword(Keyword::Outer),
-                ..
-            },
-            rest @ ..,
-        ] => (false, rest),
+        [word!(Inner), rest @ ..] => (true, rest),
+        [word!(Outer), rest @ ..] => (false, rest),
         _ => (false, tokens),
     }
 }
@@ -92,22 +42,12 @@ impl Rule for GroupInputRule<'_> {
 
     ghost ready = { λ _. Unit {0} };
 
-    ghost finds = { λ _. group_input_at 65 };
+    ghost finds = { λ _. group_input_at MOST_NESTED };
 
     #[tactic(auto, unfolding(crate::specs::StatementReader::group_input_at))]
     fn read<'a>(&self, tokens: &'a [Token]) -> Result<(GroupInput, &'a [Token]), ParseFault> {
         match tokens {
-            [
-                Token {
-                    form: TokenForm::Ident(name),
-                    ..
-                },
-                Token {
-                    form: TokenForm::Keyword(Keyword::By),
-                    ..
-                },
-                rest @ ..,
-            ] => {
+            [form!(Ident(name)), word!(By), rest @ ..] => {
                 let from = name.copy(self.alloc)?;
                 let (keys, rest) = keys(self.alloc, self.limits, rest)?;
                 let (inner, rest) = inner(rest);
@@ -130,22 +70,12 @@ impl Rule for JoinInputRule<'_> {
 
     ghost ready = { λ _. Unit {0} };
 
-    ghost finds = { λ _. join_input_at 65 };
+    ghost finds = { λ _. join_input_at MOST_NESTED };
 
     #[tactic(auto, unfolding(crate::specs::StatementReader::join_input_at))]
     fn read<'a>(&self, tokens: &'a [Token]) -> Result<(JoinInput, &'a [Token]), ParseFault> {
         match tokens {
-            [
-                Token {
-                    form: TokenForm::Ident(name),
-                    ..
-                },
-                Token {
-                    form: TokenForm::Keyword(Keyword::By),
-                    ..
-                },
-                rest @ ..,
-            ] => {
+            [form!(Ident(name)), word!(By), rest @ ..] => {
                 let from = name.copy(self.alloc)?;
                 let (keys, rest) = keys(self.alloc, self.limits, rest)?;
                 Ok((JoinInput { from, keys }, rest))
@@ -161,13 +91,7 @@ fn after_outer(tokens: &[Token]) -> &[Token]
     ensures { forms result.now ≡ after_outer (forms tokens.now) }
 {
     match tokens {
-        [
-            Token {
-                form: TokenForm::Keyword(Keyword::Outer),
-                ..
-            },
-            rest @ ..,
-        ] => rest,
+        [word!(Outer), rest @ ..] => rest,
         _ => tokens,
     }
 }
@@ -204,13 +128,7 @@ fn on_schema(tokens: &[Token]) -> (bool, &[Token])
     ensures { on_schema_at (forms tokens.now) ≡ Some (result.0, forms result.1.now) }
 {
     match tokens {
-        [
-            Token {
-                form: TokenForm::Keyword(Keyword::OnSchema),
-                ..
-            },
-            rest @ ..,
-        ] => (true, rest),
+        [word!(OnSchema), rest @ ..] => (true, rest),
         _ => (false, tokens),
     }
 }
@@ -218,19 +136,13 @@ fn on_schema(tokens: &[Token]) -> (bool, &[Token])
 // A LOAD, behind its word.
 #[tactic(auto, unfolding(crate::specs::StatementReader::load_at))]
 fn load(alloc: Global, tokens: &[Token]) -> Result<(Op, &[Token]), ParseFault>
-    ensures { Gives (load_at 65 (forms tokens.now)) result }
+    ensures { Gives (load_at MOST_NESTED (forms tokens.now)) result }
 {
     match tokens {
-        [
-            Token {
-                form: TokenForm::Text(path),
-                ..
-            },
-            rest @ ..,
-        ] => {
+        [form!(Text(path)), rest @ ..] => {
             let path = path.copy(alloc)?;
             let (func, rest) = using_func(alloc, rest)?;
-            let rest = as_word(rest)?;
+            let rest = after_word(Keyword::As, rest)?;
             let (schema, rest) = schema(alloc, rest, MOST_NESTED)?;
             Ok((Op::Load { path, func, schema }, rest))
         }
@@ -245,20 +157,10 @@ fn filter<'a>(
     limits: &Limits,
     tokens: &'a [Token],
 ) -> Result<(Op, &'a [Token]), ParseFault>
-    ensures { Gives (filter_at 65 (forms tokens.now)) result }
+    ensures { Gives (filter_at MOST_NESTED (forms tokens.now)) result }
 {
     match tokens {
-        [
-            Token {
-                form: TokenForm::Ident(name),
-                ..
-            },
-            Token {
-                form: TokenForm::Keyword(Keyword::By),
-                ..
-            },
-            rest @ ..,
-        ] => {
+        [form!(Ident(name)), word!(By), rest @ ..] => {
             let from = name.copy(alloc)?;
             let (cond, rest) = expression(alloc, limits, rest)?;
             Ok((Op::Filter { from, cond }, rest))
@@ -275,13 +177,14 @@ fn block<'a>(
     name: &Text,
     tokens: &'a [Token],
 ) -> Result<(Op, &'a [Token]), ParseFault>
-    ensures { Gives (block_at 65 name.now (forms tokens.now)) result }
+    ensures { Gives (block_at MOST_NESTED name.now (forms tokens.now)) result }
 {
     let from = name.copy(alloc)?;
     let (steps, rest) = steps(alloc, limits, tokens)?;
-    let rest = generate_word(rest)?;
+    let rest = after_word(Keyword::Generate, rest)?;
     let (items, rest) = listed(alloc, &ItemRule { alloc, limits }, rest)?;
-    let rest = block_end(rest)?;
+    let rest = after_symbol(Symbol::Semicolon, rest)?;
+    let rest = after_symbol(Symbol::CloseBrace, rest)?;
     Ok((Op::Foreach { from, steps, items }, rest))
 }
 
@@ -292,36 +195,16 @@ fn foreach<'a>(
     limits: &Limits,
     tokens: &'a [Token],
 ) -> Result<(Op, &'a [Token]), ParseFault>
-    ensures { Gives (foreach_at 65 (forms tokens.now)) result }
+    ensures { Gives (foreach_at MOST_NESTED (forms tokens.now)) result }
 {
     match tokens {
-        [
-            Token {
-                form: TokenForm::Ident(name),
-                ..
-            },
-            Token {
-                form: TokenForm::Keyword(Keyword::Generate),
-                ..
-            },
-            rest @ ..,
-        ] => {
+        [form!(Ident(name)), word!(Generate), rest @ ..] => {
             let from = name.copy(alloc)?;
             let steps = Steps::new(alloc);
             let (items, rest) = listed(alloc, &ItemRule { alloc, limits }, rest)?;
             Ok((Op::Foreach { from, steps, items }, rest))
         }
-        [
-            Token {
-                form: TokenForm::Ident(name),
-                ..
-            },
-            Token {
-                form: TokenForm::Symbol(Symbol::OpenBrace),
-                ..
-            },
-            rest @ ..,
-        ] => block(alloc, limits, name, rest),
+        [form!(Ident(name)), symbol!(OpenBrace), rest @ ..] => block(alloc, limits, name, rest),
         _ => Err(ParseFault::Off),
     }
 }
@@ -333,7 +216,7 @@ fn groups<'a>(
     limits: &Limits,
     tokens: &'a [Token],
 ) -> Result<(Op, &'a [Token]), ParseFault>
-    ensures { Gives (groups_at 65 (forms tokens.now)) result }
+    ensures { Gives (groups_at MOST_NESTED (forms tokens.now)) result }
 {
     let (inputs, rest) = listed(alloc, &GroupInputRule { alloc, limits }, tokens)?;
     let (using, rest) = using_text(alloc, rest)?;
@@ -347,20 +230,10 @@ fn group<'a>(
     limits: &Limits,
     tokens: &'a [Token],
 ) -> Result<(Op, &'a [Token]), ParseFault>
-    ensures { Gives (group_at 65 (forms tokens.now)) result }
+    ensures { Gives (group_at MOST_NESTED (forms tokens.now)) result }
 {
     match tokens {
-        [
-            Token {
-                form: TokenForm::Ident(name),
-                ..
-            },
-            Token {
-                form: TokenForm::Keyword(Keyword::All),
-                ..
-            },
-            rest @ ..,
-        ] => {
+        [form!(Ident(name)), word!(All), rest @ ..] => {
             let from = name.copy(alloc)?;
             let (using, rest) = using_text(alloc, rest)?;
             Ok((Op::GroupAll { from, using }, after_parallel(rest)))
@@ -376,12 +249,12 @@ fn join<'a>(
     limits: &Limits,
     tokens: &'a [Token],
 ) -> Result<(Op, &'a [Token]), ParseFault>
-    ensures { Gives (join_at 65 (forms tokens.now)) result }
+    ensures { Gives (join_at MOST_NESTED (forms tokens.now)) result }
 {
     let (first, rest) = JoinInputRule { alloc, limits }.read(tokens)?;
     let mut inputs = one(alloc, first)?;
     let (side, rest) = side(rest);
-    let rest = comma(rest)?;
+    let rest = after_symbol(Symbol::Comma, rest)?;
     let (others, rest) = listed(alloc, &JoinInputRule { alloc, limits }, rest)?;
     inputs.extend(others)?;
     let (using, rest) = using_text(alloc, rest)?;
@@ -412,13 +285,7 @@ fn distinct(alloc: Global, tokens: &[Token]) -> Result<(Op, &[Token]), ParseFaul
     ensures { Gives (distinct_at (forms tokens.now)) result }
 {
     match tokens {
-        [
-            Token {
-                form: TokenForm::Ident(name),
-                ..
-            },
-            rest @ ..,
-        ] => {
+        [form!(Ident(name)), rest @ ..] => {
             let from = name.copy(alloc)?;
             Ok((Op::Distinct { from }, after_parallel(rest)))
         }
@@ -432,17 +299,7 @@ fn order(alloc: Global, tokens: &[Token]) -> Result<(Op, &[Token]), ParseFault>
     ensures { Gives (order_at (forms tokens.now)) result }
 {
     match tokens {
-        [
-            Token {
-                form: TokenForm::Ident(name),
-                ..
-            },
-            Token {
-                form: TokenForm::Keyword(Keyword::By),
-                ..
-            },
-            rest @ ..,
-        ] => {
+        [form!(Ident(name)), word!(By), rest @ ..] => {
             let from = name.copy(alloc)?;
             let ((from, keys), rest) = order_keys(alloc, from, rest)?;
             Ok((Op::Order { from, keys }, after_parallel(rest)))
@@ -457,13 +314,7 @@ fn limit(alloc: Global, tokens: &[Token]) -> Result<(Op, &[Token]), ParseFault>
     ensures { Gives (limit_at (forms tokens.now)) result }
 {
     match tokens {
-        [
-            Token {
-                form: TokenForm::Ident(name),
-                ..
-            },
-            rest @ ..,
-        ] => {
+        [form!(Ident(name)), rest @ ..] => {
             let from = name.copy(alloc)?;
             let ((from, count), rest) = count(from, rest)?;
             Ok((Op::Limit { from, count }, rest))
@@ -490,22 +341,10 @@ fn cube(alloc: Global, tokens: &[Token]) -> Result<(Op, &[Token]), ParseFault>
 {
     match tokens {
         [
-            Token {
-                form: TokenForm::Ident(name),
-                ..
-            },
-            Token {
-                form: TokenForm::Keyword(Keyword::By),
-                ..
-            },
-            Token {
-                form: TokenForm::Keyword(word),
-                ..
-            },
-            Token {
-                form: TokenForm::Symbol(Symbol::OpenParen),
-                ..
-            },
+            form!(Ident(name)),
+            word!(By),
+            form!(Keyword(word)),
+            symbol!(OpenParen),
             rest @ ..,
         ] => {
             let from = name.copy(alloc)?;
@@ -524,13 +363,7 @@ fn dense(tokens: &[Token]) -> (bool, &[Token])
     ensures { dense_at (forms tokens.now) ≡ Some (result.0, forms result.1.now) }
 {
     match tokens {
-        [
-            Token {
-                form: TokenForm::Keyword(Keyword::Dense),
-                ..
-            },
-            rest @ ..,
-        ] => (true, rest),
+        [word!(Dense), rest @ ..] => (true, rest),
         _ => (false, tokens),
     }
 }
@@ -541,17 +374,7 @@ fn rank(alloc: Global, tokens: &[Token]) -> Result<(Op, &[Token]), ParseFault>
     ensures { Gives (rank_at (forms tokens.now)) result }
 {
     match tokens {
-        [
-            Token {
-                form: TokenForm::Ident(name),
-                ..
-            },
-            Token {
-                form: TokenForm::Keyword(Keyword::By),
-                ..
-            },
-            rest @ ..,
-        ] => {
+        [form!(Ident(name)), word!(By), rest @ ..] => {
             let from = name.copy(alloc)?;
             let ((from, keys), rest) = order_keys(alloc, from, rest)?;
             let (dense, rest) = dense(rest);
@@ -568,16 +391,10 @@ pub fn operator<'a>(
     limits: &Limits,
     tokens: &'a [Token],
 ) -> Result<(Op, &'a [Token]), ParseFault>
-    ensures { Gives (op_at 65 (forms tokens.now)) result }
+    ensures { Gives (op_at MOST_NESTED (forms tokens.now)) result }
 {
     match tokens {
-        [
-            Token {
-                form: TokenForm::Keyword(word),
-                ..
-            },
-            rest @ ..,
-        ] => operator_of(alloc, limits, *word, rest),
+        [form!(Keyword(word)), rest @ ..] => operator_of(alloc, limits, *word, rest),
         _ => Err(ParseFault::Off),
     }
 }
@@ -590,7 +407,7 @@ fn operator_of<'a>(
     word: Keyword,
     tokens: &'a [Token],
 ) -> Result<(Op, &'a [Token]), ParseFault>
-    ensures { Gives (op_at 65 (f.Keyword word ∷ forms tokens.now)) result }
+    ensures { Gives (op_at MOST_NESTED (f.Keyword word ∷ forms tokens.now)) result }
 {
     match word {
         Keyword::Load => load(alloc, tokens),

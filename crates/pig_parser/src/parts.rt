@@ -1,86 +1,20 @@
 ghost use Rattle.std.specs.Prelude.{◌≡◌, [], ◌∷◌, Some, IfOk, length, map, option_map};
+ghost use Rattle.pig_exprs.specs.declared.exprs.TheConstants.{MOST_NESTED};
 ghost use Rattle.pig_exprs.specs.Grammar.{Forms};
 ghost use Rattle.pig_parser.specs.Statements.{count_of};
-ghost use Rattle.pig_exprs.specs.Reader.{forms, Gives, GivesBeside, GivesRest};
+ghost use Rattle.pig_exprs.specs.Reader.{forms, Gives, GivesBeside};
 ghost use Rattle.pig_exprs.specs.ExprReader.{expr_at};
-ghost use Rattle.pig_parser.specs.StatementReader.{GivesFound, comma, semicolon, as_word, by_word, several, key_list_at, keys_at, dir_at, order_field_at, order_keys_at, text_at, ident_at, func_at, using_func_at, using_text_at, after_parallel, count_at};
+ghost use Rattle.pig_parser.specs.StatementReader.{GivesFound, several, key_list_at, keys_at, dir_at, order_field_at, order_keys_at, text_at, ident_at, func_at, using_func_at, using_text_at, after_parallel, count_at};
 
 use pig_exprs::{
-    Limits, ParseFault, Rule, close_paren, closed, expression, field_ref, listed, one,
+    Limits, ParseFault, Rule, close_paren, closed, expression, field_ref, form, listed, one,
+    symbol, word,
 };
 use pig_syntax::{
     Expr, Exprs, Func, Keyword, OrderField, OrderKeys, Symbol, Texts, Token, TokenForm,
 };
 use pig_value::{Dir, Seq, Text};
 use std::alloc::Global;
-
-/// The tokens behind a `,`.
-#[tactic(auto, unfolding(crate::specs::StatementReader::comma))]
-pub fn comma(tokens: &[Token]) -> Result<&[Token], ParseFault>
-    ensures { GivesRest (comma (forms tokens.now)) result }
-{
-    match tokens {
-        [
-            Token {
-                form: TokenForm::Symbol(Symbol::Comma),
-                ..
-            },
-            rest @ ..,
-        ] => Ok(rest),
-        _ => Err(ParseFault::Off),
-    }
-}
-
-/// The tokens behind a `;`.
-#[tactic(auto, unfolding(crate::specs::StatementReader::semicolon))]
-pub fn semicolon(tokens: &[Token]) -> Result<&[Token], ParseFault>
-    ensures { GivesRest (semicolon (forms tokens.now)) result }
-{
-    match tokens {
-        [
-            Token {
-                form: TokenForm::Symbol(Symbol::Semicolon),
-                ..
-            },
-            rest @ ..,
-        ] => Ok(rest),
-        _ => Err(ParseFault::Off),
-    }
-}
-
-/// The tokens behind AS.
-#[tactic(auto, unfolding(crate::specs::StatementReader::as_word))]
-pub fn as_word(tokens: &[Token]) -> Result<&[Token], ParseFault>
-    ensures { GivesRest (as_word (forms tokens.now)) result }
-{
-    match tokens {
-        [
-            Token {
-                form: TokenForm::Keyword(Keyword::As),
-                ..
-            },
-            rest @ ..,
-        ] => Ok(rest),
-        _ => Err(ParseFault::Off),
-    }
-}
-
-/// The tokens behind BY.
-#[tactic(auto, unfolding(crate::specs::StatementReader::by_word))]
-pub fn by_word(tokens: &[Token]) -> Result<&[Token], ParseFault>
-    ensures { GivesRest (by_word (forms tokens.now)) result }
-{
-    match tokens {
-        [
-            Token {
-                form: TokenForm::Keyword(Keyword::By),
-                ..
-            },
-            rest @ ..,
-        ] => Ok(rest),
-        _ => Err(ParseFault::Off),
-    }
-}
 
 /// The members, where they are two at least.
 #[tactic(auto, unfolding(crate::specs::StatementReader::several))]
@@ -105,7 +39,7 @@ impl Rule for ExpressionRule<'_> {
 
     ghost ready = { λ _. Unit {0} };
 
-    ghost finds = { λ _. expr_at 65 65 };
+    ghost finds = { λ _. expr_at MOST_NESTED MOST_NESTED };
 
     fn read<'a>(&self, tokens: &'a [Token]) -> Result<(Expr, &'a [Token]), ParseFault> {
         expression(self.alloc, self.limits, tokens)
@@ -119,16 +53,10 @@ fn key_list<'a>(
     limits: &Limits,
     tokens: &'a [Token],
 ) -> Result<(Exprs, &'a [Token]), ParseFault>
-    ensures { Gives (key_list_at 65 (forms tokens.now)) result }
+    ensures { Gives (key_list_at MOST_NESTED (forms tokens.now)) result }
 {
     match tokens {
-        [
-            Token {
-                form: TokenForm::Symbol(Symbol::OpenParen),
-                ..
-            },
-            rest @ ..,
-        ] => {
+        [symbol!(OpenParen), rest @ ..] => {
             let (keys, rest) = listed(alloc, &ExpressionRule { alloc, limits }, rest)?;
             let keys = several(keys)?;
             let (keys, rest) = closed(keys, rest)?;
@@ -146,7 +74,7 @@ pub fn keys<'a>(
     limits: &Limits,
     tokens: &'a [Token],
 ) -> Result<(Exprs, &'a [Token]), ParseFault>
-    ensures { Gives (keys_at 65 (forms tokens.now)) result }
+    ensures { Gives (keys_at MOST_NESTED (forms tokens.now)) result }
 {
     let copied = limits.copied();
     match expression(alloc, limits, tokens) {
@@ -168,20 +96,8 @@ fn dir(tokens: &[Token]) -> (Dir, &[Token])
     ensures { dir_at (forms tokens.now) ≡ Some (result.0, forms result.1.now) }
 {
     match tokens {
-        [
-            Token {
-                form: TokenForm::Keyword(Keyword::Asc),
-                ..
-            },
-            rest @ ..,
-        ] => (Dir::Asc, rest),
-        [
-            Token {
-                form: TokenForm::Keyword(Keyword::Desc),
-                ..
-            },
-            rest @ ..,
-        ] => (Dir::Desc, rest),
+        [word!(Asc), rest @ ..] => (Dir::Asc, rest),
+        [word!(Desc), rest @ ..] => (Dir::Desc, rest),
         _ => (Dir::Asc, tokens),
     }
 }
@@ -218,13 +134,7 @@ pub fn order_keys<K: Drop>(
     ensures found { GivesBeside (order_keys_at (forms tokens.now)) result }
 {
     match tokens {
-        [
-            Token {
-                form: TokenForm::Symbol(Symbol::Star),
-                ..
-            },
-            rest @ ..,
-        ] => {
+        [symbol!(Star), rest @ ..] => {
             let (dir, rest) = dir(rest);
             Ok(((kept, OrderKeys::All(dir)), rest))
         }
@@ -251,13 +161,7 @@ impl Rule for TextRule {
     #[tactic(auto, unfolding(crate::specs::StatementReader::text_at))]
     fn read<'a>(&self, tokens: &'a [Token]) -> Result<(Text, &'a [Token]), ParseFault> {
         match tokens {
-            [
-                Token {
-                    form: TokenForm::Text(content),
-                    ..
-                },
-                rest @ ..,
-            ] => {
+            [form!(Text(content)), rest @ ..] => {
                 let content = content.copy(self.alloc)?;
                 Ok((content, rest))
             }
@@ -282,13 +186,7 @@ impl Rule for IdentRule {
     #[tactic(auto, unfolding(crate::specs::StatementReader::ident_at))]
     fn read<'a>(&self, tokens: &'a [Token]) -> Result<(Text, &'a [Token]), ParseFault> {
         match tokens {
-            [
-                Token {
-                    form: TokenForm::Ident(name),
-                    ..
-                },
-                rest @ ..,
-            ] => {
+            [form!(Ident(name)), rest @ ..] => {
                 let name = name.copy(self.alloc)?;
                 Ok((name, rest))
             }
@@ -304,35 +202,16 @@ fn func(alloc: Global, tokens: &[Token]) -> Result<(Func, &[Token]), ParseFault>
 {
     match tokens {
         [
-            Token {
-                form: TokenForm::Ident(name),
-                ..
-            },
-            Token {
-                form: TokenForm::Symbol(Symbol::OpenParen),
-                ..
-            },
-            Token {
-                form: TokenForm::Symbol(Symbol::CloseParen),
-                ..
-            },
+            form!(Ident(name)),
+            symbol!(OpenParen),
+            symbol!(CloseParen),
             rest @ ..,
         ] => {
             let name = name.copy(alloc)?;
             let args = Texts::new(alloc);
             Ok((Func { name, args }, rest))
         }
-        [
-            Token {
-                form: TokenForm::Ident(name),
-                ..
-            },
-            Token {
-                form: TokenForm::Symbol(Symbol::OpenParen),
-                ..
-            },
-            rest @ ..,
-        ] => {
+        [form!(Ident(name)), symbol!(OpenParen), rest @ ..] => {
             let name = name.copy(alloc)?;
             let (args, rest) = listed(alloc, &TextRule { alloc }, rest)?;
             let rest = close_paren(rest)?;
@@ -348,13 +227,7 @@ pub fn using_func(alloc: Global, tokens: &[Token]) -> Result<(Option<Func>, &[To
     ensures { Gives (using_func_at (forms tokens.now)) result }
 {
     match tokens {
-        [
-            Token {
-                form: TokenForm::Keyword(Keyword::Using),
-                ..
-            },
-            rest @ ..,
-        ] => {
+        [word!(Using), rest @ ..] => {
             let (func, rest) = func(alloc, rest)?;
             Ok((Some(func), rest))
         }
@@ -368,17 +241,7 @@ pub fn using_text(alloc: Global, tokens: &[Token]) -> Result<(Option<Text>, &[To
     ensures { Gives (using_text_at (forms tokens.now)) result }
 {
     match tokens {
-        [
-            Token {
-                form: TokenForm::Keyword(Keyword::Using),
-                ..
-            },
-            Token {
-                form: TokenForm::Text(content),
-                ..
-            },
-            rest @ ..,
-        ] => {
+        [word!(Using), form!(Text(content)), rest @ ..] => {
             let content = content.copy(alloc)?;
             Ok((Some(content), rest))
         }
@@ -392,17 +255,7 @@ pub fn after_parallel(tokens: &[Token]) -> &[Token]
     ensures { forms result.now ≡ after_parallel (forms tokens.now) }
 {
     match tokens {
-        [
-            Token {
-                form: TokenForm::Keyword(Keyword::Parallel),
-                ..
-            },
-            Token {
-                form: TokenForm::Int(_),
-                ..
-            },
-            rest @ ..,
-        ] => rest,
+        [word!(Parallel), form!(Int(_)), rest @ ..] => rest,
         _ => tokens,
     }
 }

@@ -1,4 +1,5 @@
 ghost use Rattle.std.specs.Prelude.{◌≡◌, [], ◌∷◌, Some, length, map};
+ghost use Rattle.pig_exprs.specs.declared.exprs.TheConstants.{MOST_NESTED};
 ghost use Rattle.pig_exprs.specs.Grammar.{Forms};
 ghost use Rattle.pig_parser.specs.Statements.{is_unsupported_word};
 ghost use Rattle.pig_exprs.specs.Reader.{forms, Gives};
@@ -6,7 +7,7 @@ ghost use Rattle.pig_parser.specs.StatementReader.{GivesFound, branch_with, bran
 
 use crate::operators::operator;
 use crate::parts::using_func;
-use pig_exprs::{Limits, ParseFault, Turning, expression, one, repeat};
+use pig_exprs::{Limits, ParseFault, Turning, expression, form, one, repeat, symbol, word};
 use pig_syntax::{Branch, Branches, Keyword, Stmt, Symbol, Token, TokenForm};
 use pig_value::Text;
 use std::alloc::Global;
@@ -19,7 +20,7 @@ fn branch_with<'a>(
     name: &Text,
     tokens: &'a [Token],
 ) -> Result<(Branch, &'a [Token]), ParseFault>
-    ensures { Gives (branch_with 65 name.now (forms tokens.now)) result }
+    ensures { Gives (branch_with MOST_NESTED name.now (forms tokens.now)) result }
 {
     let alias = name.copy(alloc)?;
     let (cond, rest) = expression(alloc, limits, tokens)?;
@@ -33,20 +34,10 @@ fn branch<'a>(
     limits: &Limits,
     tokens: &'a [Token],
 ) -> Result<(Branch, &'a [Token]), ParseFault>
-    ensures { Gives (branch_at 65 (forms tokens.now)) result }
+    ensures { Gives (branch_at MOST_NESTED (forms tokens.now)) result }
 {
     match tokens {
-        [
-            Token {
-                form: TokenForm::Ident(name),
-                ..
-            },
-            Token {
-                form: TokenForm::Keyword(Keyword::If),
-                ..
-            },
-            rest @ ..,
-        ] => branch_with(alloc, limits, name, rest),
+        [form!(Ident(name)), word!(If), rest @ ..] => branch_with(alloc, limits, name, rest),
         _ => Err(ParseFault::Off),
     }
 }
@@ -63,26 +54,12 @@ impl Turning for BranchTurns<'_> {
 
     ghost ready = { λ _. Unit {0} };
 
-    ghost finds = { λ _. branch_turn 65 };
+    ghost finds = { λ _. branch_turn MOST_NESTED };
 
     #[tactic(auto, unfolding(crate::specs::StatementReader::branch_turn))]
     fn turn<'a>(&self, tokens: &'a [Token]) -> Result<Option<(Branch, &'a [Token])>, ParseFault> {
         match tokens {
-            [
-                Token {
-                    form: TokenForm::Symbol(Symbol::Comma),
-                    ..
-                },
-                Token {
-                    form: TokenForm::Ident(name),
-                    ..
-                },
-                Token {
-                    form: TokenForm::Keyword(Keyword::If),
-                    ..
-                },
-                rest @ ..,
-            ] => {
+            [symbol!(Comma), form!(Ident(name)), word!(If), rest @ ..] => {
                 let (branch, rest) = branch_with(self.alloc, self.limits, name, rest)?;
                 Ok(Some((branch, rest)))
             }
@@ -98,7 +75,7 @@ fn branches<'a>(
     limits: &Limits,
     tokens: &'a [Token],
 ) -> Result<(Branches, &'a [Token]), ParseFault>
-    ensures { Gives (branches_at 65 (forms tokens.now)) result }
+    ensures { Gives (branches_at MOST_NESTED (forms tokens.now)) result }
 {
     let (first, rest) = branch(alloc, limits, tokens)?;
     let branches = one(alloc, first)?;
@@ -112,18 +89,9 @@ fn otherwise(alloc: Global, tokens: &[Token]) -> Result<(Option<Text>, &[Token])
 {
     match tokens {
         [
-            Token {
-                form: TokenForm::Symbol(Symbol::Comma),
-                ..
-            },
-            Token {
-                form: TokenForm::Ident(name),
-                ..
-            },
-            Token {
-                form: TokenForm::Keyword(Keyword::Otherwise),
-                ..
-            },
+            symbol!(Comma),
+            form!(Ident(name)),
+            word!(Otherwise),
             rest @ ..,
         ] => {
             let name = name.copy(alloc)?;
@@ -140,20 +108,10 @@ fn split<'a>(
     limits: &Limits,
     tokens: &'a [Token],
 ) -> Result<(Stmt, &'a [Token]), ParseFault>
-    ensures { Gives (split_at 65 (forms tokens.now)) result }
+    ensures { Gives (split_at MOST_NESTED (forms tokens.now)) result }
 {
     match tokens {
-        [
-            Token {
-                form: TokenForm::Ident(name),
-                ..
-            },
-            Token {
-                form: TokenForm::Keyword(Keyword::Into),
-                ..
-            },
-            rest @ ..,
-        ] => {
+        [form!(Ident(name)), word!(Into), rest @ ..] => {
             let from = name.copy(alloc)?;
             let (branches, rest) = branches(alloc, limits, rest)?;
             let (otherwise, rest) = otherwise(alloc, rest)?;
@@ -177,18 +135,9 @@ fn store(alloc: Global, tokens: &[Token]) -> Result<(Stmt, &[Token]), ParseFault
 {
     match tokens {
         [
-            Token {
-                form: TokenForm::Ident(name),
-                ..
-            },
-            Token {
-                form: TokenForm::Keyword(Keyword::Into),
-                ..
-            },
-            Token {
-                form: TokenForm::Text(path),
-                ..
-            },
+            form!(Ident(name)),
+            word!(Into),
+            form!(Text(path)),
             rest @ ..,
         ] => {
             let from = name.copy(alloc)?;
@@ -206,17 +155,7 @@ fn message(alloc: Global, tokens: &[Token]) -> Result<(Option<Text>, &[Token]), 
     ensures { Gives (message_at (forms tokens.now)) result }
 {
     match tokens {
-        [
-            Token {
-                form: TokenForm::Symbol(Symbol::Comma),
-                ..
-            },
-            Token {
-                form: TokenForm::Text(content),
-                ..
-            },
-            rest @ ..,
-        ] => {
+        [symbol!(Comma), form!(Text(content)), rest @ ..] => {
             let content = content.copy(alloc)?;
             Ok((Some(content), rest))
         }
@@ -231,20 +170,10 @@ fn assertion<'a>(
     limits: &Limits,
     tokens: &'a [Token],
 ) -> Result<(Stmt, &'a [Token]), ParseFault>
-    ensures { Gives (assert_at 65 (forms tokens.now)) result }
+    ensures { Gives (assert_at MOST_NESTED (forms tokens.now)) result }
 {
     match tokens {
-        [
-            Token {
-                form: TokenForm::Ident(name),
-                ..
-            },
-            Token {
-                form: TokenForm::Keyword(Keyword::By),
-                ..
-            },
-            rest @ ..,
-        ] => {
+        [form!(Ident(name)), word!(By), rest @ ..] => {
             let from = name.copy(alloc)?;
             let (cond, rest) = expression(alloc, limits, rest)?;
             let (message, rest) = message(alloc, rest)?;
@@ -288,13 +217,7 @@ fn is_unsupported(tokens: &[Token]) -> bool
     ensures { result ≡ is_unsupported (forms tokens.now) }
 {
     match tokens {
-        [
-            Token {
-                form: TokenForm::Keyword(word),
-                ..
-            },
-            ..
-        ] => is_unsupported_word(*word),
+        [form!(Keyword(word)), ..] => is_unsupported_word(*word),
         _ => false,
     }
 }
@@ -307,7 +230,7 @@ fn assign<'a>(
     name: &Text,
     tokens: &'a [Token],
 ) -> Result<(Stmt, &'a [Token]), ParseFault>
-    ensures { Gives (assign_at 65 name.now (forms tokens.now)) result }
+    ensures { Gives (assign_at MOST_NESTED name.now (forms tokens.now)) result }
 {
     if is_unsupported(tokens) {
         return Ok((Stmt::Unsupported, &[]));
@@ -324,41 +247,13 @@ fn front<'a>(
     limits: &Limits,
     tokens: &'a [Token],
 ) -> Result<(Stmt, &'a [Token]), ParseFault>
-    ensures { Gives (front_at 65 (forms tokens.now)) result }
+    ensures { Gives (front_at MOST_NESTED (forms tokens.now)) result }
 {
     match tokens {
-        [
-            Token {
-                form: TokenForm::Ident(name),
-                ..
-            },
-            Token {
-                form: TokenForm::Symbol(Symbol::Assign),
-                ..
-            },
-            rest @ ..,
-        ] => assign(alloc, limits, name, rest),
-        [
-            Token {
-                form: TokenForm::Keyword(Keyword::Split),
-                ..
-            },
-            rest @ ..,
-        ] => split(alloc, limits, rest),
-        [
-            Token {
-                form: TokenForm::Keyword(Keyword::Store),
-                ..
-            },
-            rest @ ..,
-        ] => store(alloc, rest),
-        [
-            Token {
-                form: TokenForm::Keyword(Keyword::Assert),
-                ..
-            },
-            rest @ ..,
-        ] => assertion(alloc, limits, rest),
+        [form!(Ident(name)), symbol!(Assign), rest @ ..] => assign(alloc, limits, name, rest),
+        [word!(Split), rest @ ..] => split(alloc, limits, rest),
+        [word!(Store), rest @ ..] => store(alloc, rest),
+        [word!(Assert), rest @ ..] => assertion(alloc, limits, rest),
         _ => {
             if is_unsupported(tokens) {
                 return Ok((Stmt::Unsupported, &[]));
@@ -385,7 +280,7 @@ fn ended(tree: Stmt, rest: &[Token]) -> Result<Stmt, ParseFault>
 /// The tree of a statement's tokens.
 #[tactic(auto, unfolding(crate::specs::StatementReader::statement_at))]
 pub fn statement(alloc: Global, limits: &Limits, tokens: &[Token]) -> Result<Stmt, ParseFault>
-    ensures { GivesFound (statement_at 65 (forms tokens.now)) result }
+    ensures { GivesFound (statement_at MOST_NESTED (forms tokens.now)) result }
 {
     match tokens {
         [] => Ok(Stmt::Empty),

@@ -1,4 +1,5 @@
 use Rattle.std.proofs.Common.{arith}
+use Rattle.pig_exprs.specs.declared.exprs.TheConstants.{MOST_NESTED}
 use Rattle.pig_exprs.specs.Reader.{forms}
 use Rattle.pig_exprs.specs.ExprReader.{expr_at}
 use Rattle.pig_exprs.proofs.Turns.{deeper}
@@ -6,4 +7,4 @@ use Rattle.pig_exprs.proofs.exprs.+expr.Goals as goal
 
 pub returns : goal.returns
 unfolding expr_at
-returns t c = rw (deeper (λ n. expr_at 65 n (forms c.args.tokens.now)) c.args.depth (omega arith)) c.disj.ensures
+returns t c = rw (deeper (λ n. expr_at MOST_NESTED n (forms c.args.tokens.now)) c.args.depth (omega arith)) c.disj.ensures
