@@ -1,8 +1,0 @@
-use Rattle.std.proofs.Common.{◌≡◌, ◌≤◌, ◌-◌, [], length}
-use Rattle.pig_reduce_rows.proofs.given.add_rows.Given as goal
-
-abbrev pub invariant-loop-span : goal.invariant-loop-span
-invariant-loop-span l = (l.from ≤ length l.text) × (l.built.begun ≡ [])
-
-abbrev pub decreases-loop-span : goal.decreases-loop-span
-decreases-loop-span l = length l.text - l.from

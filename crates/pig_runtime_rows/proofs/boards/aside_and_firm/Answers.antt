@@ -1,4 +1,0 @@
-use Rattle.pig_runtime_rows.proofs.boards.aside_and_firm.Goals as goal
-
-pub split-other-requires : goal.split-other-requires
-split-other-requires g c = c.firm.ensures.board c.expect-board.result.0 c.fail-3.ensures.board

@@ -1,8 +1,0 @@
-use Rattle.std.proofs.Common.{◌≤◌, ◌-◌, length}
-use Rattle.pig_storage_rows.proofs.storage.stored.Given as goal
-
-abbrev pub invariant-loop-span : goal.invariant-loop-span
-invariant-loop-span l = l.from ≤ length l.input
-
-abbrev pub decreases-loop-span : goal.decreases-loop-span
-decreases-loop-span l = length l.input - l.from

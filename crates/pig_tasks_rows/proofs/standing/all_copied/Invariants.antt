@@ -1,8 +1,0 @@
-use Rattle.std.proofs.Common.{◌<◌, ℕ}
-use Rattle.pig_physical.specs.Handed.{outs_of}
-use Rattle.pig_physical.specs.Seen.{staged}
-use Rattle.pig_tasks_rows.specs.Fits.{CopiedAt}
-use Rattle.pig_tasks_rows.proofs.standing.all_copied.Given as goal
-
-abbrev pub invariant-loop-wave : goal.invariant-loop-wave
-invariant-loop-wave l = (w : ℕ) → w < l.wave → CopiedAt (staged l.stages) (outs_of l.prior) l.node w
