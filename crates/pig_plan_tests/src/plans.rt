@@ -371,6 +371,7 @@ fn room_is_made_before_a_node(rt: HostRuntime) {
     let alloc = rt.alloc();
     let lines = ["L", "L", "f1", "j00,20", "u01", "s3"];
     let plan = planned(&rt, alloc, &lines);
+    assert!(&rt; plan.nodes().len() > 1);
     let Ok(plan) = plan.with_room(1) else {
         panic!(&rt; "memory");
     };
