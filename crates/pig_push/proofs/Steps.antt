@@ -30,7 +30,7 @@ use Rattle.pig_plan.specs.Conjuncts.{conjuncts, link_conjuncts}
 use Rattle.pig_plan.specs.Meaning.{width_at}
 use Rattle.pig_plan.specs.Moves.{arg_fields, fields_in, link_fields, plain_at, put, put_args, put_links}
 use Rattle.pig_plan.specs.Nodes.{IsOnlyUse, is_live, live_marks, names}
-use Rattle.pig_plan.specs.Plans.{Plan, PlanNode, PlanOp, node_of, p_filter, plan_of}
+use Rattle.pig_plan.specs.Plans.{Plan, PlanNode, PlanOp, node_of, p_distinct, p_filter, plan_of}
 use Rattle.pig_plan.specs.Rewrites.{SameMeaning}
 use Rattle.pig_plan.specs.Valid.{IsPlan}
 use Rattle.pig_push.proofs.Chains.{SomeOf, some_of}
@@ -348,6 +348,9 @@ all_true (c ∷ cs) = all_true cs
 
 pub filter_passes : (width : ℕ → ℕ) (input : ℕ) (first c : Typed) → all_pass width (p_filter input first) c ≡ true
 filter_passes width input first c = all_true (conjuncts c)
+
+pub distinct_passes : (width : ℕ → ℕ) (input : ℕ) (c : Typed) → all_pass width (p_distinct input) c ≡ true
+distinct_passes width input c = all_true (conjuncts c)
 
 pub none_pass : (width : ℕ → ℕ) (o : PlanOp) (c : Typed) → is_union o ≡ false → ((e : Typed) → may_pass width o e ≡ false) → some_pass width o c ≡ false
 none_pass width o c other never = ap (λ b. b || list_any (may_pass width o) (conjuncts c)) other ∙ each (conjuncts c)

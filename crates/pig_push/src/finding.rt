@@ -113,6 +113,9 @@ fn some_pass(alloc: Global, plan: &Plan, op: &NodeOp, cond: &TExpr) -> Result<bo
     if let NodeOp::Filter { .. } = op {
         return Ok(true);
     }
+    if let NodeOp::Distinct { .. } = op {
+        return Ok(true);
+    }
     let union = is_union(op);
     if union {
         return Ok(true);
@@ -190,6 +193,9 @@ fn all_pass(alloc: Global, plan: &Plan, op: &NodeOp, cond: &TExpr) -> Result<boo
         ≡ all_pass (width_at (plan_of plan.now)) (op_of op.now) (typed cond.now)) }
 {
     if let NodeOp::Filter { .. } = op {
+        return Ok(true);
+    }
+    if let NodeOp::Distinct { .. } = op {
         return Ok(true);
     }
     let whole = may_pass(alloc, plan, op, cond)?;

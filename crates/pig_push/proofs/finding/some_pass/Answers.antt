@@ -11,6 +11,9 @@ use Rattle.pig_push.proofs.finding.some_pass.Goals as goal
 pub returns-in-Filter : goal.returns-in-Filter
 returns-in-Filter c = sym (ap (λ o. some_pass (width_at (plan_of c.args.plan.now)) (op_of o) (typed c.args.cond.now)) c.in-Filter.is ∙ any_true (typed c.args.cond.now))
 
+pub returns-in-Distinct : goal.returns-in-Distinct
+returns-in-Distinct c = sym (ap (λ o. some_pass (width_at (plan_of c.args.plan.now)) (op_of o) (typed c.args.cond.now)) c.in-Distinct.is ∙ any_true (typed c.args.cond.now))
+
 pub returns-then-not-is_ever_passed : goal.returns-then-not-is_ever_passed
 returns-then-not-is_ever_passed c =
     let other : is_union (op_of c.args.op.now) ≡ false = search rules in
