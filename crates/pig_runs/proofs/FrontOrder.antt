@@ -1,5 +1,5 @@
 -- Texts compare as their fronts and then what is behind these.
-use Rattle.std.proofs.Common.{◌≡◌, ◌<◌, ◌≤◌, ◌+◌, ◌*◌, ◌^◌, ℕ, zero, suc, List, [], ◌∷◌, length, take, drop, refl, arith, sym, ◌∙◌, ap, pow-suc, mul_comm, mul_assoc, zero-mul, zero-add, suc-add, add-mul}
+use Rattle.std.proofs.Common.{◌≡◌, ◌<◌, ◌≤◌, ◌+◌, ◌*◌, ◌^◌, ℕ, zero, suc, List, [], ◌∷◌, length, take, drop, min, refl, arith, sym, ◌∙◌, ap, pow-suc, mul_comm, mul_assoc, zero-mul, zero-add, suc-add, add-mul}
 use Rattle.std.proofs.Math.Nat.{pow-le-pow_right}
 use Rattle.std.proofs.lemmas.Nat.{mul-le, pow-add}
 use Rattle.std.specs.Cmp.{IsTotalOrder, nat_cmp_is}
@@ -12,7 +12,7 @@ use Rattle.pig_value.specs.Orders.{text_cmp}
 use Rattle.pig_value.proofs.list_laws.Listing.{each-drop}
 use Rattle.pig_keycode.proofs.NumberOrder.{digits_cmp}
 use Rattle.pig_keycode.proofs.TextOrder.{then_assoc}
-use Rattle.pig_runs.specs.Fronts.{first_bytes, front, front_cmp, front_len, behind_cmp, fronted_cmp, sided_cmp}
+use Rattle.pig_runs.specs.Fronts.{first_bytes, front, front_cmp, front_len, fronted_cmp, sided_cmp}
 
 unit_above : (k : ℕ) → 0 < 256 ^ k
 unit_above k = pow-le-pow_right {n = 256} (omega arith) {i = 0} {j = k} (omega arith)
@@ -47,18 +47,22 @@ bumped m n Greater h = omega (arith, h)
 suc_cmp : (m n : ℕ) → nat_cmp (suc m) (suc n) ≡ nat_cmp m n
 suc_cmp m n = sym (nat_cmp_is (suc m) (suc n) (nat_cmp m n) (bumped m n (nat_cmp m n) (ranked m n (nat_cmp m n) refl)))
 
-behind_more : (k b c : ℕ) (s t : List ℕ) → behind_cmp (suc k) (b ∷ s) (c ∷ t) ≡ behind_cmp k s t
+-- what is compared behind the first so many bytes: how many there are, and the bytes behind them
+abbrev pub from_cmp : ℕ → List ℕ → List ℕ → Ordering
+from_cmp k s t = ordering_then (nat_cmp (length (take k s)) (length (take k t))) (text_cmp (drop k s) (drop k t))
+
+behind_more : (k b c : ℕ) (s t : List ℕ) → from_cmp (suc k) (b ∷ s) (c ∷ t) ≡ from_cmp k s t
 behind_more k b c s t = ap (λ o. ordering_then o (text_cmp (drop k s) (drop k t))) (suc_cmp (length (take k s)) (length (take k t)))
 
-bytes_order : (k : ℕ) (s t : List ℕ) → AreBytes s → AreBytes t → ordering_then (nat_cmp (first_bytes k s) (first_bytes k t)) (behind_cmp k s t) ≡ text_cmp s t
+bytes_order : (k : ℕ) (s t : List ℕ) → AreBytes s → AreBytes t → ordering_then (nat_cmp (first_bytes k s) (first_bytes k t)) (from_cmp k s t) ≡ text_cmp s t
 bytes_order zero s t h l = refl
 bytes_order (suc k) [] [] h l = refl
 bytes_order (suc k) [] (c ∷ t) h l = none_first (first_bytes (suc k) (c ∷ t)) (length (take k t)) (text_cmp [] (drop k t))
 bytes_order (suc k) (b ∷ s) [] h l = none_last (first_bytes (suc k) (b ∷ s)) (length (take k s)) (text_cmp (drop k s) [])
 bytes_order (suc k) (b ∷ s) (c ∷ t) h l =
     ap (ordering_then (nat_cmp (b * 256 ^ k + first_bytes k s) (c * 256 ^ k + first_bytes k t))) (behind_more k b c s t)
-    ∙ (ap (λ o. ordering_then o (behind_cmp k s t)) (sym (digits_cmp (256 ^ k) b c (first_bytes k s) (first_bytes k t) (first_below k s h.1) (first_below k t l.1)))
-    ∙ (then_assoc (nat_cmp b c) (nat_cmp (first_bytes k s) (first_bytes k t)) (behind_cmp k s t)
+    ∙ (ap (λ o. ordering_then o (from_cmp k s t)) (sym (digits_cmp (256 ^ k) b c (first_bytes k s) (first_bytes k t) (first_below k s h.1) (first_below k t l.1)))
+    ∙ (then_assoc (nat_cmp b c) (nat_cmp (first_bytes k s) (first_bytes k t)) (from_cmp k s t)
     ∙ ap (ordering_then (nat_cmp b c)) (bytes_order k s t h.1 l.1)))
 
 first_of_none : (k : ℕ) → first_bytes k [] ≡ 0
@@ -87,9 +91,9 @@ first_split (suc j) k (b ∷ s) =
     omega (arith, whole, first, behind, rest, unit, apart)
 
 -- of texts whose fronts are right
-pub front_order : (s t : List ℕ) → AreBytes s → AreBytes t → ordering_then (front_cmp (front s) (front t)) (behind_cmp front_len s t) ≡ text_cmp s t
+pub front_order : (s t : List ℕ) → AreBytes s → AreBytes t → ordering_then (front_cmp (front s) (front t)) (from_cmp front_len s t) ≡ text_cmp s t
 front_order s t h l =
-    ap (λ o. ordering_then o (behind_cmp front_len s t)) (digits_cmp (256 ^ 8) (first_bytes 8 s) (first_bytes 8 t) (first_bytes 8 (drop 8 s)) (first_bytes 8 (drop 8 t)) (low_below s h) (low_below t l)
+    ap (λ o. ordering_then o (from_cmp front_len s t)) (digits_cmp (256 ^ 8) (first_bytes 8 s) (first_bytes 8 t) (first_bytes 8 (drop 8 s)) (first_bytes 8 (drop 8 t)) (low_below s h) (low_below t l)
     ∙ (λ i. nat_cmp (sym (first_split 8 8 s) i) (sym (first_split 8 8 t) i)))
     ∙ bytes_order front_len s t h l
   where
@@ -103,7 +107,7 @@ fronts_total : IsTotalOrder front_cmp
 fronts_total = then_total (on_total (λ p. p.high) nat_cmp_total) (on_total (λ p. p.low) nat_cmp_total)
 
 pub fronted_total : IsTotalOrder fronted_cmp
-fronted_total = then_total (on_total (λ p. p.front) fronts_total) (then_total (on_total (λ p. length (take front_len p.text)) nat_cmp_total) (on_total (λ p. drop front_len p.text) texts_total))
+fronted_total = then_total (on_total (λ p. p.front) fronts_total) (then_total (on_total (λ p. min p.len front_len) nat_cmp_total) (on_total (λ p. drop front_len p.text) texts_total))
 
 pub sided_total : IsTotalOrder sided_cmp
 sided_total = then_total (on_total (λ p. p.side) nat_cmp_total) (on_total (λ p. p.rest) fronted_total)

@@ -2,6 +2,7 @@ pub mod Order
 mod Adding
 mod Reading
 mod SortedSlots
+mod Ends
 mod FrontOrder
 mod ByFronts
 mod FrontedSlots

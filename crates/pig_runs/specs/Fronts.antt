@@ -1,5 +1,5 @@
 -- The front of a text: its first sixteen bytes as two numbers, by which texts are compared before their bytes are.
-use Rattle.std.specs.Prelude.{ℕ, zero, suc, ◌+◌, ◌*◌, ◌^◌, ◌==◌, if◌then◌else◌, List, [], ◌∷◌, length, take, drop}
+use Rattle.std.specs.Prelude.{ℕ, zero, suc, ◌+◌, ◌*◌, ◌^◌, ◌==◌, min, if◌then◌else◌, List, [], ◌∷◌, length, take, drop}
 use Rattle.std.specs.Ordering.{ordering_then, nat_cmp}
 use Rattle.std.specs.declared.cmp.Ordering.{Ordering}
 use Rattle.std.specs.declared.cmp.Ordering.TheVariants.{Less, Equal, Greater}
@@ -22,17 +22,18 @@ front text = record { high = first_bytes 8 text; low = first_bytes 8 (drop 8 tex
 abbrev pub front_cmp : Front → Front → Ordering
 front_cmp p q = ordering_then (nat_cmp p.high q.high) (nat_cmp p.low q.low)
 
--- what is compared where the fronts are the same: how many bytes they are of, and the bytes behind them
-abbrev pub behind_cmp : ℕ → List ℕ → List ℕ → Ordering
-behind_cmp k s t = ordering_then (nat_cmp (length (take k s)) (length (take k t))) (text_cmp (drop k s) (drop k t))
-
--- a text with its front
+-- a text with its front and its length
 pub record Fronted : Type 0 where
   pub front : Front
+  pub len : ℕ
   pub text : List ℕ
 
+-- what is compared where the fronts are the same: how many bytes they are of, and the bytes behind them
+abbrev pub behind_cmp : Fronted → Fronted → Ordering
+behind_cmp p q = ordering_then (nat_cmp (min p.len front_len) (min q.len front_len)) (text_cmp (drop front_len p.text) (drop front_len q.text))
+
 abbrev pub fronted_cmp : Fronted → Fronted → Ordering
-fronted_cmp p q = ordering_then (front_cmp p.front q.front) (behind_cmp front_len p.text q.text)
+fronted_cmp p q = ordering_then (front_cmp p.front q.front) (behind_cmp p q)
 
 -- ---- rows, of which those under one key may all begin with it
 

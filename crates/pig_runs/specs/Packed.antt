@@ -1,5 +1,5 @@
 -- Entries kept as bytes: what stands there for each, and that it tells the entries.
-use Rattle.std.specs.Prelude.{◌≡◌, ◌≤◌, ◌+◌, ℕ, List, [], ◌∷◌, map, length, take, drop, refl}
+use Rattle.std.specs.Prelude.{◌≡◌, ◌≤◌, ◌+◌, ◌-◌, ℕ, List, [], ◌∷◌, map, length, take, drop, refl}
 use Rattle.std.proofs.Common.{sym, ◌∙◌, ap}
 use Rattle.std.specs.Ordering.{ordering_then, nat_cmp}
 use Rattle.std.specs.declared.cmp.Ordering.{Ordering}
@@ -18,7 +18,7 @@ use Rattle.pig_keycode.proofs.Wholes.{one_row}
 use Rattle.pig_runs.specs.declared.lent.Lent.{Lent}
 use Rattle.pig_runs.specs.declared.slots.Slot.{Slot}
 use Rattle.pig_runs.specs.Entries.{IsEntry, AreKeyed, coded_entry}
-use Rattle.pig_runs.specs.Fronts.{Fronted, Sided, front, fronted_cmp, side_of, sided_cmp, untold}
+use Rattle.pig_runs.specs.Fronts.{Fronted, Sided, front, fronted_cmp, side_of, sided_cmp, told_len, untold}
 
 -- an entry as bytes: the code of its key, the number of its input, the code of its row
 pub record Packed : Type 0 where
@@ -78,9 +78,12 @@ pub record IsWithin (size : ℕ) (s : Slot) : Type 0 where
   pub key : s.at + s.key_len ≤ size
   pub row : row_at s + s.row_len ≤ size
 
--- the bytes of a slot's row that its side doesn't tell
+-- the bytes of a slot's row that its side doesn't tell, and how many these are
 abbrev pub row_untold : List ℕ → Slot → List ℕ
 row_untold bytes s = untold s.side s.key_len (part bytes (row_at s) s.row_len)
+
+abbrev pub untold_len : Slot → ℕ
+untold_len s = s.row_len - told_len s.side s.key_len
 
 -- the fronts of a slot are those of what it finds
 pub record HasFronts (bytes : List ℕ) (s : Slot) : Type 0 where
@@ -111,15 +114,17 @@ pub record FrontedEntry : Type 0 where
 abbrev pub fronted_entry_cmp : FrontedEntry → FrontedEntry → Ordering
 fronted_entry_cmp p q = ordering_then (fronted_cmp p.key q.key) (ordering_then (nat_cmp p.input q.input) (sided_cmp p.row q.row))
 
+abbrev pub fronted_key : List ℕ → Slot → Fronted
+fronted_key bytes s = record { front = s.key_front; len = s.key_len; text = part bytes s.at s.key_len }
+
+abbrev pub fronted_row : List ℕ → Slot → Fronted
+fronted_row bytes s = record { front = s.row_front; len = untold_len s; text = row_untold bytes s }
+
 abbrev pub sided_at : List ℕ → Slot → Sided
-sided_at bytes s = record { side = s.side; rest = record { front = s.row_front; text = row_untold bytes s } }
+sided_at bytes s = record { side = s.side; rest = fronted_row bytes s }
 
 abbrev pub fronted_at : List ℕ → Slot → FrontedEntry
-fronted_at bytes s = record {
-  key = record { front = s.key_front; text = part bytes s.at s.key_len };
-  input = s.input;
-  row = sided_at bytes s;
-}
+fronted_at bytes s = record { key = fronted_key bytes s; input = s.input; row = sided_at bytes s }
 
 -- ---- the bytes tell the entries
 

@@ -1,5 +1,7 @@
-ghost use Rattle.std.specs.Prelude.{◌≡◌, drop, length, take};
-ghost use Rattle.pig_runs.specs.Fronts.{Fronted, behind_cmp, first_bytes, front as front_of, front_cmp, front_len, fronted_cmp};
+ghost use Rattle.std.specs.Prelude.{◌≡◌, drop, max, min, nat_le};
+ghost use Rattle.std.specs.Ordering.{nat_cmp};
+ghost use Rattle.pig_value.specs.Orders.{text_cmp};
+ghost use Rattle.pig_runs.specs.Fronts.{first_bytes, front as front_of, front_cmp, front_len};
 
 use crate::slots::Front;
 use std::cmp::Ordering;
@@ -31,18 +33,9 @@ fn first_eight(text: &[u8]) -> u64
     }
 }
 
-// How two texts stand of which the fronts are known: the texts are looked at only where these are the same.
-pub(crate) fn compare_fronted(front: Front, text: &[u8], other: Front, with: &[u8]) -> Ordering
-    ensures { result ≡ fronted_cmp (record { front = front; text = text.now })
-        (record { front = other; text = with.now }) }
-{
-    match compare_fronts(front, other) {
-        Ordering::Equal => compare_behind(text, with),
-        found => found,
-    }
-}
-
-fn compare_fronts(front: Front, other: Front) -> Ordering
+// How two texts stand by their fronts.
+#[inline]
+pub(crate) fn compare_fronts(front: Front, other: Front) -> Ordering
     ensures { result ≡ front_cmp front other }
 {
     match front.high.cmp(&other.high) {
@@ -51,20 +44,27 @@ fn compare_fronts(front: Front, other: Front) -> Ordering
     }
 }
 
-fn compare_behind(text: &[u8], with: &[u8]) -> Ordering
-    ensures { result ≡ behind_cmp front_len text.now with.now }
+// How two texts whose fronts are the same stand by how many bytes these are of.
+#[inline]
+pub(crate) fn compare_lens(len: usize, other: usize) -> Ordering
+    ensures { result ≡ nat_cmp (min len front_len) (min other front_len) }
 {
-    match fronted(text).cmp(&fronted(with)) {
-        Ordering::Equal => behind(text, 16).cmp(behind(with, 16)),
-        found => found,
-    }
+    len.min(16).cmp(&other.min(16))
 }
 
-// How many bytes the front is of.
-fn fronted(text: &[u8]) -> usize
-    ensures { result ≡ length (take front_len text.now) }
+// Whether no byte of two texts stands behind their fronts.
+#[inline]
+pub(crate) fn end_within(len: usize, other: usize) -> bool
+    ensures { result ≡ nat_le (max len other) front_len }
 {
-    text.len().min(16)
+    len.max(other) <= 16
+}
+
+// How two texts stand by the bytes behind their fronts.
+pub(crate) fn compare_behind(text: &[u8], with: &[u8]) -> Ordering
+    ensures { result ≡ text_cmp (drop front_len text.now) (drop front_len with.now) }
+{
+    behind(text, 16).cmp(behind(with, 16))
 }
 
 // The bytes behind the first so many.

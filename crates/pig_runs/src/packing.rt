@@ -7,10 +7,11 @@ ghost use Rattle.pig_value.specs.Trees.{Tree, tree, row_tree};
 ghost use Rattle.pig_keycode.specs.Codable.{IsCodeOf, IsCodeOfRow};
 ghost use Rattle.pig_keycode.specs.Keys.{key_code};
 ghost use Rattle.pig_keycode.specs.Reading.{row_code};
-ghost use Rattle.pig_runs.specs.Fronts.{against, sided_cmp, side_of, told_len, untold};
-ghost use Rattle.pig_runs.specs.Packed.{part, found_at, fronted_at, fronted_entry_cmp, packed_cmp, packed_lent, row_at, row_untold, sided_at, slot_of, moved, IsPlaced};
+ghost use Rattle.pig_value.specs.Orders.{text_cmp};
+ghost use Rattle.pig_runs.specs.Fronts.{against, behind_cmp, front_len, fronted_cmp, sided_cmp, side_of, told_len, untold};
+ghost use Rattle.pig_runs.specs.Packed.{part, found_at, fronted_at, fronted_entry_cmp, fronted_key, fronted_row, packed_cmp, packed_lent, row_at, row_untold, sided_at, slot_of, moved, untold_len, IsPlaced};
 
-use crate::fronts::{compare_fronted, front};
+use crate::fronts::{compare_behind, compare_fronts, compare_lens, end_within, front};
 use crate::lent::{Lent, compare_lent};
 use crate::slots::Slot;
 use pig_keycode::{decode, decode_row, encode_key, encode_row};
@@ -87,23 +88,55 @@ fn told_len(side: u32, len: u32) -> usize
     }
 }
 
+// How many bytes of a slot's row its side doesn't tell.
+fn untold_len(slot: &Slot) -> usize
+    ensures { result ≡ untold_len slot.now }
+{
+    (slot.row_len as usize).saturating_sub(told_len(slot.side, slot.key_len))
+}
+
 // How two entries in the same bytes stand.
 pub(crate) fn compare(bytes: &[u8], a: &Slot, b: &Slot) -> Ordering
     ensures { result ≡ fronted_entry_cmp (fronted_at bytes.now a.now) (fronted_at bytes.now b.now) }
 {
-    compare_apart(bytes, a, bytes, b)
+    match compare_fronts(a.key_front, b.key_front) {
+        Ordering::Equal => compare_alike(bytes, a, bytes, b),
+        found => found,
+    }
 }
 
-// How two entries stand, by their keys, their inputs and their rows, of which the fronts are compared first.
-pub(crate) fn compare_apart(bytes: &[u8], a: &Slot, with: &[u8], b: &Slot) -> Ordering
-    ensures { result ≡ fronted_entry_cmp (fronted_at bytes.now a.now) (fronted_at with.now b.now) }
+// How two entries stand the fronts of whose keys are the same: by what the slots keep, and by the bytes only where that
+// doesn't tell.
+#[inline(never)]
+pub(crate) fn compare_alike(bytes: &[u8], a: &Slot, with: &[u8], b: &Slot) -> Ordering
+    ensures { result
+        ≡ ordering_then (behind_cmp (fronted_key bytes.now a.now) (fronted_key with.now b.now))
+        (ordering_then (nat_cmp a.now.input b.now.input)
+        (sided_cmp (sided_at bytes.now a.now) (sided_at with.now b.now))) }
 {
-    let key = key_of(bytes, a);
-    let other = key_of(with, b);
-    match compare_fronted(a.key_front, key, b.key_front, other) {
+    match compare_keys(bytes, a, with, b) {
         Ordering::Equal => compare_rows(bytes, a, with, b),
         found => found,
     }
+}
+
+fn compare_keys(bytes: &[u8], a: &Slot, with: &[u8], b: &Slot) -> Ordering
+    ensures { result ≡ behind_cmp (fronted_key bytes.now a.now) (fronted_key with.now b.now) }
+{
+    match compare_lens(a.key_len as usize, b.key_len as usize) {
+        Ordering::Equal => compare_key_ends(bytes, a, with, b),
+        found => found,
+    }
+}
+
+fn compare_key_ends(bytes: &[u8], a: &Slot, with: &[u8], b: &Slot) -> Ordering
+    ensures { result ≡ text_cmp (drop front_len (part bytes.now a.now.at a.now.key_len))
+        (drop front_len (part with.now b.now.at b.now.key_len)) }
+{
+    if end_within(a.key_len as usize, b.key_len as usize) {
+        return Ordering::Equal;
+    }
+    compare_behind(key_of(bytes, a), key_of(with, b))
 }
 
 fn compare_rows(bytes: &[u8], a: &Slot, with: &[u8], b: &Slot) -> Ordering
@@ -120,13 +153,37 @@ fn compare_sided(bytes: &[u8], a: &Slot, with: &[u8], b: &Slot) -> Ordering
     ensures { result ≡ sided_cmp (sided_at bytes.now a.now) (sided_at with.now b.now) }
 {
     match a.side.cmp(&b.side) {
-        Ordering::Equal => {
-            let rest = row_untold(bytes, a);
-            let other = row_untold(with, b);
-            compare_fronted(a.row_front, rest, b.row_front, other)
-        }
+        Ordering::Equal => compare_untold(bytes, a, with, b),
         found => found,
     }
+}
+
+fn compare_untold(bytes: &[u8], a: &Slot, with: &[u8], b: &Slot) -> Ordering
+    ensures { result ≡ fronted_cmp (fronted_row bytes.now a.now) (fronted_row with.now b.now) }
+{
+    match compare_fronts(a.row_front, b.row_front) {
+        Ordering::Equal => compare_row_lens(bytes, a, with, b),
+        found => found,
+    }
+}
+
+fn compare_row_lens(bytes: &[u8], a: &Slot, with: &[u8], b: &Slot) -> Ordering
+    ensures { result ≡ behind_cmp (fronted_row bytes.now a.now) (fronted_row with.now b.now) }
+{
+    match compare_lens(untold_len(a), untold_len(b)) {
+        Ordering::Equal => compare_row_ends(bytes, a, with, b),
+        found => found,
+    }
+}
+
+fn compare_row_ends(bytes: &[u8], a: &Slot, with: &[u8], b: &Slot) -> Ordering
+    ensures { result ≡ text_cmp (drop front_len (row_untold bytes.now a.now))
+        (drop front_len (row_untold with.now b.now)) }
+{
+    if end_within(untold_len(a), untold_len(b)) {
+        return Ordering::Equal;
+    }
+    compare_behind(row_untold(bytes, a), row_untold(with, b))
 }
 
 // On which side a row stands of those whose first field is the key.

@@ -2,9 +2,10 @@ ghost use Rattle.std.specs.Prelude.{◌≡◌, drop, take, slice_get, IfOk};
 ghost use Rattle.pig_runs.specs.Packed.{fronted_entry_cmp, packed_lent};
 ghost use Rattle.pig_runs.specs.Places.{bytes_of, found_place, fronted_head, lists_of_heads, slot_of, slots_in};
 
+use crate::fronts::compare_fronts;
 use crate::heads::Heads;
 use crate::lent::Lent;
-use crate::packing::{compare_apart, lend, narrow};
+use crate::packing::{compare_alike, lend, narrow};
 use crate::slots::{Front, Slot};
 use std::alloc::{AllocError, Global};
 use std::cmp::Ordering;
@@ -84,17 +85,20 @@ pub(crate) fn lend_place<'r>(stretches: &[Stretch<'r>], place: Place) -> Lent<'r
     lend(bytes_of(stretches, place), *slot_of(stretches, place))
 }
 
-// How the entries of two heads stand.
+// How the entries of two heads stand: by the fronts of their keys alone, where these tell.
+#[inline]
 pub(crate) fn compare_heads(stretches: &[Stretch], a: &Head, b: &Head) -> Ordering
     ensures { result ≡ fronted_entry_cmp (fronted_head stretches.now a.now)
         (fronted_head stretches.now b.now) }
 {
-    compare_apart(
-        bytes_of(stretches, a.place),
-        &a.slot,
-        bytes_of(stretches, b.place),
-        &b.slot,
-    )
+    match compare_fronts(a.slot.key_front, b.slot.key_front) {
+        Ordering::Equal => {
+            let bytes = bytes_of(stretches, a.place);
+            let with = bytes_of(stretches, b.place);
+            compare_alike(bytes, &a.slot, with, &b.slot)
+        }
+        found => found,
+    }
 }
 
 // The slots of a stretch.

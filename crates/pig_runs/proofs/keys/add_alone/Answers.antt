@@ -1,4 +1,4 @@
-use Rattle.std.proofs.Common.{◌≡◌, ◌∙◌, [], ◌∷◌, ◌++◌}
+use Rattle.std.proofs.Common.{◌∙◌, [], ◌∷◌}
 use Rattle.pig_runs.specs.Alone.{alone}
 use Rattle.pig_runs.proofs.Once.{alone_told, good_entry, one_held, packed_entry}
 use Rattle.pig_runs.proofs.keys.add_alone.Goals as goal

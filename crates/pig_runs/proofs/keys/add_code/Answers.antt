@@ -1,4 +1,4 @@
-use Rattle.std.proofs.Common.{[], refl}
+use Rattle.std.proofs.Common.{refl}
 use Rattle.std.proofs.lemmas.Result.{on_ok_weaker}
 use Rattle.pig_runs.specs.Alone.{keys_in}
 use Rattle.pig_runs.proofs.Once.{and_key, same_keys_added}

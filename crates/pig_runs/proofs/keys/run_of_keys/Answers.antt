@@ -1,4 +1,4 @@
-use Rattle.std.proofs.Common.{◌≡◌, ◌≤◌, ◌∙◌, [], arith, length}
+use Rattle.std.proofs.Common.{◌≤◌, ◌∙◌, [], arith, length}
 use Rattle.pig_runs.specs.Alone.{alone_once, keys_in}
 use Rattle.pig_runs.proofs.Once.{all_taken}
 use Rattle.pig_runs.proofs.SortedSlots.{ascends_run}

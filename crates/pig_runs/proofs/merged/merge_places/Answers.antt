@@ -4,7 +4,6 @@ use Rattle.std.proofs.lemmas.Result.{IfOk-weaker}
 use Rattle.std.specs.List.{AllByRecursion}
 use Rattle.pig_value.specs.Sorts.{sort}
 use Rattle.pig_runs.specs.declared.stretches.Head.{Head}
-use Rattle.pig_runs.specs.declared.stretches.Place.{Place}
 use Rattle.pig_runs.specs.Packed.{packed_cmp}
 use Rattle.pig_runs.specs.Places.{found_head, found_in_all, found_place, fronted_head}
 use Rattle.pig_runs.proofs.ByFronts.{before, fronted_entry_total}

@@ -1,4 +1,4 @@
-use Rattle.std.proofs.Common.{◌≡◌, List, ℕ, map, subst, sym}
+use Rattle.std.proofs.Common.{◌≡◌, map, subst, sym}
 use Rattle.pig_value.specs.Sorts.{sort}
 use Rattle.pig_runs.specs.Packed.{found_at, packed_cmp}
 use Rattle.pig_runs.proofs.SortedSlots.{held_sorted, placed_sorted, seen_sorted}
