@@ -38,6 +38,7 @@ use Rattle.pig_push.specs.Pushed.{IsMove, IsTidy, all_pass, at_spot, conjoined, 
 use Rattle.pig_push.proofs.InPlace.{Gives, InPlace, Reads, by_above, by_inner, in_place_means, in_place_tidy, of_kinds, wide}
 use Rattle.pig_push.proofs.Joins.{Place, Spans, filter_below_join, here, later, place_behind}
 use Rattle.pig_push.proofs.Keeps.{Allowed, IsInput, inputs_live, is_end, node_with}
+use Rattle.pig_push.proofs.Columns.{group_columns}
 use Rattle.pig_push.proofs.Kept.{distinct_kinds, filter_kinds, foreach_kinds, foreach_typed, gives_some, group_kinds_of, grouped_kinds, join_kinds_of, joined_kinds, made_kinds}
 use Rattle.pig_push.proofs.Keyed.{filter_below_group}
 use Rattle.pig_push.proofs.Passing.{filter_below_distinct, filter_below_foreach, filter_joins}
@@ -524,7 +525,7 @@ module _ (p q : Plan) (valid : IsPlan p) (valid_q : IsPlan q) (i k : ℕ) (m : I
               ∙ ap (λ rows. bag_of (group_rows (record { input = i; keys = keyed.keys; inner = keyed.inner } ∷ []) (λ n. rows)))
               (meaning_of_node q inputs kept valid_q i (node_with (p_filter keyed.input (put (from_key keyed.keys) m.can.cond)) m.can.statement) under)
               ∙ ap (λ rows. bag_of (group_rows (record { input = i; keys = keyed.keys; inner = keyed.inner } ∷ []) (λ n. bag_of (filter_rows (put (from_key keyed.keys) m.can.cond) rows)))) same.rows
-              ∙ filter_below_group keyed i m.can.cond (meaning p inputs kept keyed.input) hands
+              ∙ filter_below_group keyed i m.can.cond (group_columns p valid k i keyed m.can.cond m.can.statement below.statement m.can.above was) (meaning p inputs kept keyed.input) hands
               ∙ ap (λ rows. bag_of (filter_rows m.can.cond rows)) (sym (meaning_of_node p inputs kept valid i (node_with (p_group (keyed ∷ [])) below.statement) was))
               ∙ sym (meaning_of_node p inputs kept valid k filter_node m.can.above);
         }

@@ -1,4 +1,4 @@
--- Conditions that move nest no deeper than they did, but for one chain.
+-- Conditions that move nest no deeper than they did, but for one chain, or no deeper than is let past a GROUP.
 use Rattle.std.specs.Prelude.{◌≡◌, ◌≤◌, ◌+◌, ◌-◌, ◌⊎◌, not, max, ℕ, zero, suc, Bool, true, false, List, [], ◌∷◌, ◌++◌, map, Option, Some, None, slice_get, slice_set, Err, IfOk, Ok, Result, ⊤, refl}
 use Rattle.std.proofs.Common.{ap, sym, ◌∙◌, subst, arith, cond, inl, inr}
 use Rattle.std.specs.List.{AllByRecursion, filter}
@@ -16,11 +16,12 @@ use Rattle.pig_plan.specs.declared.nodes.Node.{Node}
 use Rattle.pig_plan.specs.Conjuncts.{all_and, conjuncts, link_conjuncts}
 use Rattle.pig_plan.specs.Moves.{put, put_args, put_links}
 use Rattle.pig_plan.specs.Nodes.{is_live}
-use Rattle.pig_plan.specs.Plans.{Plan, PlanNode, PlanOp, p_load, p_filter, p_foreach, p_group_all, p_group, p_join, p_union, p_distinct, p_order, p_limit, p_store, p_assert, p_rank, plan_of}
+use Rattle.pig_plan.specs.Plans.{Keyed, Plan, PlanNode, PlanOp, p_load, p_filter, p_foreach, p_group_all, p_group, p_join, p_union, p_distinct, p_order, p_limit, p_store, p_assert, p_rank, plan_of}
 use Rattle.pig_plan.specs.Renumbered.{rename, renamed}
 use Rattle.pig_plan.specs.Room.{idle, past, roomy}
 use Rattle.pig_push.specs.declared.joining.Spot.{Spot}
-use Rattle.pig_push.specs.Pushed.{AreMoves, IsCleared, IsMove, IsPushed, IsSplit, IsUnited, NestUpTo, and_links, arg_depth, at_spot, chained, chained_where, conjoined, depth, filter_as, filter_depth, filter_on, filtered, high_of, link_depth, low_of, none, one_more, one_room, one_split, one_union, put_from, spot_for}
+use Rattle.pig_push.specs.Depths.{NestUpTo, arg_depth, depth, filter_depth, link_depth, most_levels}
+use Rattle.pig_push.specs.Pushed.{AreMoves, IsCleared, IsMove, IsPushed, IsSplit, IsUnited, and_links, at_spot, chained, chained_where, conjoined, filter_as, filter_on, filtered, from_key, high_of, low_of, none, one_more, one_room, one_split, one_union, put_from, spot_for}
 use Rattle.pig_push.proofs.Chains.{IsConjunct, chained_back, conjuncts_kept, each_conjunct}
 use Rattle.pig_push.proofs.Keeps.{node_with}
 
@@ -62,6 +63,36 @@ module _ (f : ℕ → Typed) (flat : (n : ℕ) → depth (f n) ≡ 0) where
     put_arg_depth : (args : TypedArgs) → arg_depth (put_args f args) ≡ arg_depth args
     put_arg_depth no_args = refl
     put_arg_depth (more_args e args) = λ i. max (put_depth e i) (put_arg_depth args i)
+
+-- with others that nest so far it nests so much deeper at most
+module _ (f : ℕ → Typed) (most : ℕ) (each : (n : ℕ) → depth (f n) ≤ most) where
+  mutual
+    pub put_deeper : (e : Typed) → depth (put f e) ≤ depth e + most
+    put_deeper (x_field n) = let own = each n in omega (arith, own)
+    put_deeper (x_chain first links) = let a = put_deeper first in let b = links_deeper links in omega (arith, a, b)
+    put_deeper (x_compare r a b) = let x = put_deeper a in let y = put_deeper b in omega (arith, x, y)
+    put_deeper (x_is_null a negated) = let x = put_deeper a in omega (arith, x)
+    put_deeper (x_not a) = let x = put_deeper a in omega (arith, x)
+    put_deeper (x_minus a) = let x = put_deeper a in omega (arith, x)
+    put_deeper (x_choose test a b) = let x = put_deeper test in let y = put_deeper a in let z = put_deeper b in omega (arith, x, y, z)
+    put_deeper (x_cast to a) = let x = put_deeper a in omega (arith, x)
+    put_deeper (x_project a ns single) = let x = put_deeper a in omega (arith, x)
+    put_deeper (x_look a key) = let x = put_deeper a in omega (arith, x)
+    put_deeper (x_call function args) = let x = args_deeper args in omega (arith, x)
+    put_deeper x_null = omega arith
+    put_deeper (x_bool b) = omega arith
+    put_deeper (x_int z) = omega arith
+    put_deeper (x_long z) = omega arith
+    put_deeper (x_chars text) = omega arith
+    put_deeper (x_local n) = omega arith
+
+    links_deeper : (links : TypedLinks) → link_depth (put_links f links) ≤ link_depth links + most
+    links_deeper no_links = omega arith
+    links_deeper (more_links operator a links) = let x = put_deeper a in let y = links_deeper links in omega (arith, x, y)
+
+    args_deeper : (args : TypedArgs) → arg_depth (put_args f args) ≤ arg_depth args + most
+    args_deeper no_args = omega arith
+    args_deeper (more_args e args) = let x = put_deeper e in let y = args_deeper args in omega (arith, x, y)
 
 -- ---- conjuncts nest no deeper than their condition
 
@@ -204,22 +235,25 @@ shallow_at : (most : ℕ) (o : Option Spot) (c : Typed) → IsShallow most c →
 shallow_at most None c h = h
 shallow_at most (Some spot) c h = shallow_put most (λ n. n - spot.first) c h
 
-shallow_low : (most : ℕ) (width : ℕ → ℕ) (o : PlanOp) (c : Typed) → IsShallow most c → ShallowOp most (low_of width o c)
-shallow_low most width (p_filter x first) c h = tt
-shallow_low most width (p_distinct x) c h = h
-shallow_low most width (p_foreach x block) c h = shallow_put most _ c h
-shallow_low most width (p_load path delim columns) c h = h
-shallow_low most width (p_group_all input) c h = h
-shallow_low most width (p_group []) c h = h
-shallow_low most width (p_group (keyed ∷ [])) c h = shallow_put most _ c h
-shallow_low most width (p_group (a ∷ b ∷ inputs)) c h = h
-shallow_low most width (p_join inputs side replicated) c h = shallow_at most (spot_for width inputs c) c h
-shallow_low most width (p_union inputs) c h = h
-shallow_low most width (p_order input keys) c h = h
-shallow_low most width (p_limit input count) c h = h
-shallow_low most width (p_store input path delim) c h = h
-shallow_low most width (p_assert input test message) c h = h
-shallow_low most width (p_rank input keys dense) c h = h
+shallow_low : (most : ℕ) → most_levels ≤ most → (width : ℕ → ℕ) (o : PlanOp) (c : Typed) → ((inputs : List Keyed) → o ≡ p_group inputs → filter_depth (low_of width o c) ≤ most_levels)
+    → IsShallow most c → ShallowOp most (low_of width o c)
+shallow_low most le width (p_filter x first) c nests h = tt
+shallow_low most le width (p_distinct x) c nests h = h
+shallow_low most le width (p_foreach x block) c nests h = shallow_put most _ c h
+shallow_low most le width (p_load path delim columns) c nests h = h
+shallow_low most le width (p_group_all input) c nests h = h
+shallow_low most le width (p_group []) c nests h = h
+shallow_low most le width (p_group (keyed ∷ [])) c nests h =
+    let own = nests (keyed ∷ []) refl in
+    record { whole = omega (arith, le, own); each = conjuncts_under most (put (from_key keyed.keys) c) (omega (arith, le, own)) }
+shallow_low most le width (p_group (a ∷ b ∷ inputs)) c nests h = h
+shallow_low most le width (p_join inputs side replicated) c nests h = shallow_at most (spot_for width inputs c) c h
+shallow_low most le width (p_union inputs) c nests h = h
+shallow_low most le width (p_order input keys) c nests h = h
+shallow_low most le width (p_limit input count) c nests h = h
+shallow_low most le width (p_store input path delim) c nests h = h
+shallow_low most le width (p_assert input test message) c nests h = h
+shallow_low most le width (p_rank input keys dense) c nests h = h
 
 shallow_high : (most : ℕ) (width : ℕ → ℕ) (i : ℕ) (o : PlanOp) (c : Typed) → ShallowOp most o → IsShallow most c → ShallowOp most (high_of width i o c)
 shallow_high most width i (p_filter x first) c own h = shallow_both most first c own h
@@ -281,13 +315,13 @@ shallow_room most k p h j w at = by_from (insert_from idle k j (map (renamed (pa
 
 -- ---- moves
 
-move_shallow : (most : ℕ) (p q : Plan) (i k : ℕ) → IsMove p q i k → ShallowPlan most p → ShallowPlan most q
-move_shallow most p q i k m h =
+move_shallow : (most : ℕ) → most_levels ≤ most → (p q : Plan) (i k : ℕ) → IsMove p q i k → ShallowPlan most p → ShallowPlan most q
+move_shallow most le p q i k m h =
     let c : IsShallow most m.can.cond = h k (node_with (p_filter i m.can.cond) m.can.statement) m.can.above in
     let o : ShallowOp most m.can.below.op = h i m.can.below m.can.stands in
     subst (ShallowPlan most) (sym m.is)
     (shallow_set most (slice_set p i (node_with (low_of _ m.can.below.op m.can.cond) m.can.statement)) k (node_with (high_of _ i m.can.below.op m.can.cond) m.can.below.statement)
-    (shallow_set most p i (node_with (low_of _ m.can.below.op m.can.cond) m.can.statement) h (shallow_low most _ m.can.below.op m.can.cond c))
+    (shallow_set most p i (node_with (low_of _ m.can.below.op m.can.cond) m.can.statement) h (shallow_low most le _ m.can.below.op m.can.cond m.nests c))
     (shallow_high most _ i m.can.below.op m.can.cond o c))
 
 split_shallow : (most : ℕ) (p q : Plan) (k : ℕ) → IsSplit p q k → ShallowPlan most p → ShallowPlan most q
@@ -310,12 +344,12 @@ union_shallow most p q i k s h =
     (shallow_set most (slice_set begun i idle) k (node_with (p_union (map (filtered s.first s.each) s.inputs)) s.own)
     (shallow_set most begun i idle (shallow_from most s.first s.cond s.statement s.each p c h) tt) tt)
 
-moves_shallow : (most : ℕ) (p r : Plan) → AreMoves p r → ShallowPlan most p → ShallowPlan most r
-moves_shallow most p _ none h = h
-moves_shallow most p _ (one_more q r i k before valid move) h = move_shallow most q r i k move (moves_shallow most p q before h)
-moves_shallow most p _ (one_room q r k before valid within is) h = subst (ShallowPlan most) (sym is) (shallow_room most k q (moves_shallow most p q before h))
-moves_shallow most p _ (one_union q r i k before valid union) h = union_shallow most q r i k union (moves_shallow most p q before h)
-moves_shallow most p _ (one_split q r k before room valid split) h = split_shallow most q r k split (moves_shallow most p q before h)
+moves_shallow : (most : ℕ) → most_levels ≤ most → (p r : Plan) → AreMoves p r → ShallowPlan most p → ShallowPlan most r
+moves_shallow most le p _ none h = h
+moves_shallow most le p _ (one_more q r i k before valid move) h = move_shallow most le q r i k move (moves_shallow most le p q before h)
+moves_shallow most le p _ (one_room q r k before valid within is) h = subst (ShallowPlan most) (sym is) (shallow_room most k q (moves_shallow most le p q before h))
+moves_shallow most le p _ (one_union q r i k before valid union) h = union_shallow most q r i k union (moves_shallow most le p q before h)
+moves_shallow most le p _ (one_split q r k before room valid split) h = split_shallow most q r k split (moves_shallow most le p q before h)
 
 begun_op : (most : ℕ) (o : PlanOp) → filter_depth o ≤ most → ShallowOp most o
 begun_op most (p_filter x c) h = record { whole = omega (arith, h); each = conjuncts_under most c h }
@@ -356,10 +390,12 @@ cleared_shallow most p q c h n w at =
     (λ alive. subst (λ v. ShallowOp most v.op) (some_same found.0 w (sym (c.lives n found.0 found.1 alive) ∙ at)) (begun_op most found.0.op (h n found.0 found.1)))
     (λ dead. subst (ShallowOp most) (sym (c.dead n w at dead)) tt)
 
-pub pushed_shallow : (p r : Plan) → IsPushed p r → (most : ℕ) → NestUpTo most p → NestUpTo (most + 1) r
+pub pushed_shallow : (p r : Plan) → IsPushed p r → (most : ℕ) → NestUpTo most p → NestUpTo (max most most_levels + 1) r
 pushed_shallow p r pushed most h n v at =
-    ended_op most v.op (moves_shallow most pushed.cleared r pushed.moves (cleared_shallow most p pushed.cleared pushed.clears h) n v at)
+    let far : ℕ = max most most_levels in
+    let up : NestUpTo far p = λ k u there. let own = h k u there in omega (arith, own) in
+    ended_op far v.op (moves_shallow far (omega arith) pushed.cleared r pushed.moves (cleared_shallow far p pushed.cleared pushed.clears up) n v at)
 
-pub shallow_pushed : (r : Result (List Node) AllocError) (p : Plan) → IfOk r (λ m. IsPushed p (plan_of m)) → IfOk r (λ m. (most : ℕ) → NestUpTo most p → NestUpTo (most + 1) (plan_of m))
+pub shallow_pushed : (r : Result (List Node) AllocError) (p : Plan) → IfOk r (λ m. IsPushed p (plan_of m)) → IfOk r (λ m. (most : ℕ) → NestUpTo most p → NestUpTo (max most most_levels + 1) (plan_of m))
 shallow_pushed (Ok m) p pushed = pushed_shallow p (plan_of m) pushed
 shallow_pushed (Err e) p pushed = tt

@@ -1,5 +1,5 @@
 -- Nodes of a plan that change in place under one node, which gives what it gave: the plan means what it meant, and dead nodes still read nothing.
-use Rattle.std.specs.Prelude.{◌≡◌, ◌<◌, ◌≤◌, ◌+◌, ◌==◌, ◌⊎◌, ℕ, zero, suc, Bool, true, false, List, [], ◌∷◌, length, Some, slice_get, refl}
+use Rattle.std.specs.Prelude.{◌≡◌, ◌<◌, ◌≤◌, ◌+◌, ◌==◌, ◌⊎◌, ℕ, zero, suc, Bool, true, false, List, [], length, Some, slice_get, refl}
 use Rattle.std.proofs.Common.{ap, sym, ◌∙◌, subst, arith, true≢false, inl, inr}
 use Rattle.std.specs.List.{AllByRecursion, list_any}
 use Rattle.std.specs.Option.{option_map_or}
@@ -12,7 +12,6 @@ use Rattle.pig_value.proofs.list_laws.Listing.{each_weaker, some_same}
 use Rattle.pig_value.specs.declared.inputs.Input.{Input}
 use Rattle.pig_value.specs.declared.outcomes.Kept.{Kept}
 use Rattle.pig_value.specs.Kinds.{IsRowOf}
-use Rattle.pig_value.specs.Trees.{Tree}
 use Rattle.pig_typed.specs.Premises.{FunctionsKeepKinds}
 use Rattle.pig_plan.proofs.Listed.{list_of_node, sorted_of_node}
 use Rattle.pig_plan.proofs.Lower.{names_lower}

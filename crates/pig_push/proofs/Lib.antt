@@ -6,6 +6,7 @@ pub mod Room
 pub mod Splits
 pub mod Keeps
 pub mod Kept
+pub mod Columns
 pub mod Passing
 pub mod Change
 pub mod Tidy
@@ -13,6 +14,7 @@ pub mod Steps
 pub mod Table
 pub mod Keyed
 pub mod Depths
+pub mod Nesting
 pub mod Unions
 pub mod Unites
 pub mod Ways

@@ -84,6 +84,7 @@ module _ (p q : Plan) (i k x : ℕ) (first c : Typed) (own statement : ℕ) (tab
           passes = filter_passes (width_at p) x first c;
         };
         is = is;
+        nests = λ inputs e. omega arith;
       })
       x first refl table sound
 

@@ -7,7 +7,7 @@ use Rattle.std.proofs.Common.{inl, inr}
 use Rattle.std.specs.Prelude.{Err, IfOk, MatchOption, Ok, Result}
 use Rattle.std.specs.declared.alloc.AllocError.{AllocError}
 use Rattle.std.specs.List.{list_all, list_any}
-use Rattle.std.specs.Option.{option_map, unwrap_or}
+use Rattle.std.specs.Option.{option_map}
 use Rattle.std.proofs.lemmas.Bool.{eq-eqb, eqb-true}
 use Rattle.std.proofs.lemmas.List.{length-append, length-map, map-append}
 use Rattle.std.proofs.lemmas.List.FromFn.{get_or-map-range_with_len}
@@ -23,19 +23,21 @@ use Rattle.pig_typed.specs.declared.exprs.TExpr.TheOpen.{TExpr-F}
 use Rattle.pig_typed.specs.declared.exprs.TExpr.TheFolds.{fold-roll-TExpr}
 use Rattle.pig_typed.specs.declared.exprs.TExpr.TheVariants as expr
 use Rattle.pig_typed.specs.Premises.{FunctionsKeepKinds}
-use Rattle.pig_typed.specs.Typed.{Typed, args_of, link_of, link_step, links_of, more_args, more_links, TypedItem, typed, typed_step, x_chain, x_choose, x_compare, x_field}
+use Rattle.pig_typed.specs.Typed.{Typed, args_of, link_of, link_step, links_of, more_args, more_links, typed, typed_step, x_chain, x_choose, x_compare}
 use Rattle.pig_plan.proofs.Unfolds.{get-front}
 use Rattle.pig_plan.specs.declared.nodes.Node.{Node}
 use Rattle.pig_plan.specs.Conjuncts.{conjuncts, link_conjuncts}
 use Rattle.pig_plan.specs.Meaning.{width_at}
-use Rattle.pig_plan.specs.Moves.{arg_fields, fields_in, link_fields, plain_at, put, put_args, put_links}
+use Rattle.pig_plan.specs.Moves.{arg_fields, fields_in, link_fields, put, put_args, put_links}
 use Rattle.pig_plan.specs.Nodes.{IsOnlyUse, is_live, live_marks, names}
 use Rattle.pig_plan.specs.Plans.{Plan, PlanNode, PlanOp, node_of, p_distinct, p_filter, plan_of}
 use Rattle.pig_plan.specs.Rewrites.{SameMeaning}
 use Rattle.pig_plan.specs.Valid.{IsPlan}
 use Rattle.pig_push.proofs.Chains.{SomeOf, some_of}
 use Rattle.pig_push.proofs.Tidy.{pushed_means}
-use Rattle.pig_push.specs.Pushed.{AreMoves, AreNew, CanMove, IsCleared, IsClearedTo, IsMove, IsNext, IsPushed, CanPart, all_pass, may_pass, some_pass, handed_from, handed_number, is_union, linked, put_link, reads_nothing}
+use Rattle.pig_push.specs.Pushed.{AreMoves, AreNew, CanMove, IsCleared, IsClearedTo, IsMove, IsNext, IsPushed, CanPart, all_pass, may_pass, some_pass, is_union, linked, reads_nothing}
+use Rattle.pig_push.specs.Depths.{filter_depth, most_levels}
+use Rattle.pig_push.specs.Putting.{put_link}
 use Rattle.pig_push.proofs.Keeps.{node_with}
 
 -- ---- expressions, and those in lists
@@ -256,6 +258,7 @@ is_move nodes made i k low high can new is = record {
   can = can;
   is = ap plan_of is ∙ map_set node_of (slice_set nodes i low) k high ∙ ap (λ xs. slice_set xs k (node_of high)) (map_set node_of nodes i low)
       ∙ (λ j. slice_set (slice_set (plan_of nodes) i (new.low_is can.below can.cond can.statement can.stands can.above j)) k (new.high_is can.below can.cond can.statement can.stands can.above j));
+  nests = λ inputs e. subst (λ v. filter_depth v.op ≤ most_levels) (new.low_is can.below can.cond can.statement can.stands can.above) (new.nests can.below inputs can.stands e);
 }
 
 -- the result as it comes: nothing is known of a refusal
@@ -300,13 +303,6 @@ links_added links i l old so_far new at is added =
     added ∙ ap (λ cs. cs ++ conjuncts (link_of l).1) is
     ∙ append_assoc old (link_conjuncts (links_of (map link_of (take i links)))) (conjuncts (link_of l).1)
     ∙ ap (λ cs. old ++ cs) (sym (links_taken links i l at))
-
--- columns from the first one on are as they are
-pub from_first : (items : List TypedItem) (e : Typed) → put (λ n. x_field (handed_from items 0 n)) e ≡ put (λ n. x_field (handed_number items n)) e
-from_first items e = λ i. put (λ n. x_field (unwrap_or (plain_at items n) (same n i))) e
-  where
-    same : (n : ℕ) → n - 0 ≡ n
-    same n = omega arith
 
 -- ---- columns
 
@@ -362,5 +358,5 @@ none_pass width o c other never = ap (λ b. b || list_any (may_pass width o) (co
 pub union_passes : (width : ℕ → ℕ) (o : PlanOp) (c : Typed) → is_union o ≡ true → some_pass width o c ≡ true
 union_passes width o c is = ap (λ b. b || list_any (may_pass width o) (conjuncts c)) is
 
-pub some_passes : (width : ℕ → ℕ) (o : PlanOp) (c : Typed) (cs : List Typed) (b : Bool) → is_union o ≡ false → cs ≡ conjuncts c → b ≡ list_any (may_pass width o) cs → b ≡ some_pass width o c
-some_passes width o c cs b other all told = told ∙ ap (list_any (may_pass width o)) all ∙ sym (ap (λ d. d || list_any (may_pass width o) (conjuncts c)) other)
+pub no_union_passes : (width : ℕ → ℕ) (o : PlanOp) (c : Typed) → is_union o ≡ false → list_any (may_pass width o) (conjuncts c) ≡ some_pass width o c
+no_union_passes width o c other = sym (ap (λ b. b || list_any (may_pass width o) (conjuncts c)) other)

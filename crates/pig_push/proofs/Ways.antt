@@ -1,4 +1,4 @@
--- What may not pass has no way in the table of moves, but for what is left out.
+-- What may not pass has no way in the table of moves.
 use Rattle.std.specs.Prelude.{◌≡◌, ◌+◌, ◌&&◌, ℕ, Bool, true, false, List, [], ◌∷◌, map, nat_le, nat_lt, Option, Some, None, refl, if◌then◌else◌}
 use Rattle.std.proofs.Common.{ap, sym, ◌∙◌, arith, cond, true≢false}
 use Rattle.std.specs.List.{filter, list_all}
@@ -9,10 +9,10 @@ use Rattle.pig_value.proofs.list_laws.Bags.{either_way}
 use Rattle.pig_value.specs.declared.operators.Side.{Side}
 use Rattle.pig_value.specs.declared.operators.Side.TheVariants as side
 use Rattle.pig_typed.specs.Typed.{Typed, TypedBlock, x_field}
-use Rattle.pig_plan.specs.Moves.{Span, fields_in, holds_all, moves, names_some, only_where, open_spans, plain_at, put, spans}
+use Rattle.pig_plan.specs.Moves.{Span, below_key, fields_in, holds_all, moves, names_some, only_where, open_spans, plain_at, put, spans}
 use Rattle.pig_plan.specs.Plans.{Keyed, p_load, p_filter, p_foreach, p_group_all, p_group, p_join, p_union, p_distinct, p_order, p_limit, p_store, p_assert, p_rank}
 use Rattle.pig_push.specs.declared.joining.Spot.{Spot}
-use Rattle.pig_push.specs.Pushed.{NoOtherWays, hands_all, is_handed, is_open, may_pass, spot_of}
+use Rattle.pig_push.specs.Pushed.{NoOtherWays, hands_all, hands_key, is_handed, is_open, may_pass, spot_of}
 use Rattle.pig_push.proofs.Passing.{each_is}
 use Rattle.pig_push.proofs.Spots.{both, to_span}
 
@@ -22,6 +22,13 @@ no_foreach : (x : ℕ) (block : TypedBlock) (c : Typed) (width : ℕ → ℕ) �
 no_foreach x block c width h =
     ap (λ b. only_where b (record { input = x; cond = put (λ n. option_map_or x_field (plain_at block.items n) (x_field n)) c }))
     (sym (each_is (is_handed block.items) c) ∙ h)
+
+-- ---- GROUP
+
+no_group : (input : ℕ) (keys : List Typed) (c : Typed) → hands_key keys c ≡ false → below_key input keys c ≡ []
+no_group input [] c h = refl
+no_group input (e ∷ []) c h = ap (λ b. only_where b (record { input = input; cond = put (λ n. e) c })) h
+no_group input (e ∷ d ∷ keys) c h = refl
 
 -- ---- JOIN
 
@@ -90,7 +97,7 @@ no_other_ways width (p_foreach x block) c out h = no_foreach x block c width h
 no_other_ways width (p_load path delim columns) c out h = refl
 no_other_ways width (p_group_all input) c out h = refl
 no_other_ways width (p_group []) c out h = refl
-no_other_ways width (p_group (input ∷ [])) c out h = absurd (true≢false out)
+no_other_ways width (p_group (input ∷ [])) c out h = no_group input.input input.keys c h
 no_other_ways width (p_group (a ∷ b ∷ inputs)) c out h = refl
 no_other_ways width (p_join inputs sd replicated) c out h = no_join width inputs sd replicated c h
 no_other_ways width (p_union inputs) c out h = absurd (true≢false out)

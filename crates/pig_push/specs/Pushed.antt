@@ -1,10 +1,9 @@
 -- Conjuncts of FILTERs move towards the sources. A FILTER and the operator that it stands on, which nothing else reads, change their numbers, and
 -- two FILTERs become one. A FILTER of which only some conjuncts pass is made two first, and below a UNION there is one for each input: for
 -- those there is room made.
-use Rattle.std.specs.Prelude.{◌≡◌, ◌<◌, ◌≤◌, max, ◌==◌, ◌+◌, ◌-◌, ℕ, suc, Bool, not, true, false, ◌&&◌, ◌||◌, List, [], ◌∷◌, ◌++◌, map, length, Option, Some, None, slice_get, slice_set, if◌then◌else◌}
+use Rattle.std.specs.Prelude.{◌≡◌, ◌<◌, ◌≤◌, ◌==◌, ◌+◌, ◌-◌, ℕ, suc, Bool, not, true, false, ◌&&◌, ◌||◌, List, [], ◌∷◌, ◌++◌, map, length, Option, Some, None, slice_get, slice_set, if◌then◌else◌}
 use Rattle.std.specs.List.{AllByRecursion, filter, list_all, list_any}
 use Rattle.std.specs.Option.{is_some, option_map_or, unwrap_or}
-use Rattle.pig_value.specs.declared.operators.ChainOp.{ChainOp}
 use Rattle.pig_value.specs.declared.operators.ChainOp.TheVariants as op
 use Rattle.pig_value.specs.declared.operators.Side.{Side}
 use Rattle.pig_value.specs.declared.operators.Side.TheVariants as side
@@ -16,6 +15,7 @@ use Rattle.pig_plan.specs.Nodes.{IsOnlyUse, inputs_of, is_live, names}
 use Rattle.pig_plan.specs.Plans.{Keyed, Plan, PlanNode, PlanOp, p_load, p_filter, p_foreach, p_group, p_join, p_union, p_distinct}
 use Rattle.pig_plan.specs.Rewrites.{SameMeaning}
 use Rattle.pig_plan.specs.Room.{idle, roomy}
+use Rattle.pig_push.specs.Depths.{filter_depth, most_levels}
 use Rattle.pig_push.specs.declared.joining.Spot.{Spot}
 use Rattle.pig_plan.specs.Valid.{IsPlan}
 
@@ -43,16 +43,8 @@ conjoined first more = chained (conjuncts first ++ conjuncts more)
 abbrev pub handed_number : List TypedItem → ℕ → ℕ
 handed_number items n = unwrap_or (plain_at items n) n
 
--- and else the column that it has behind those of others
-abbrev pub handed_from : List TypedItem → ℕ → ℕ → ℕ
-handed_from items first n = unwrap_or (plain_at items n) (n - first)
-
 abbrev pub handed_on : TypedBlock → ℕ → Typed
 handed_on block n = x_field (handed_number block.items n)
-
--- a link of a chain over others in the place of its columns
-abbrev pub put_link : (ℕ → Typed) → ChainOp × Typed → ChainOp × Typed
-put_link f l = (l.0, put f l.1)
 
 -- each column that an expression names passes a test
 abbrev mutual
@@ -85,17 +77,19 @@ is_handed items n = is_some (plain_at items n)
 abbrev pub hands_all : TypedBlock → Typed → Bool
 hands_all block cond = each_field (is_handed block.items) cond
 
--- the key of a GROUP by one key, as an item at position 0; its bag stands at the next one
-abbrev pub key_items : List Typed → List TypedItem
-key_items (key ∷ []) = record { value = key; flatten = false; width = 1 } ∷ []
-key_items keys = []
+-- the bag of a GROUP of one input stands behind its key
+abbrev pub names_bag : List ℕ → Bool
+names_bag fields = list_any (λ n. n == 1) fields
 
-abbrev pub from_key : List Typed → ℕ → Typed
-from_key keys n = x_field (handed_number (key_items keys) n)
-
--- there is one key, a plain column, and the condition names no other column of the groups
+-- there is one key, and the condition names no bag of the groups
 abbrev pub hands_key : List Typed → Typed → Bool
-hands_key keys cond = is_handed (key_items keys) 0 && each_field (is_handed (key_items keys)) cond
+hands_key (key ∷ []) cond = not (names_bag (fields_in cond))
+hands_key keys cond = false
+
+-- the one key, in the place of the group
+abbrev pub from_key : List Typed → ℕ → Typed
+from_key (key ∷ []) n = key
+from_key keys n = x_field n
 
 -- The input of a JOIN whose columns have all of these, of inputs from a place on, behind so many columns.
 abbrev pub spot_of : (ℕ → ℕ) → List ℕ → ℕ → ℕ → List Keyed → Option Spot
@@ -175,15 +169,9 @@ gone_to width o cond = record { input = 0; cond = cond }
 abbrev pub MovesAreOfTheTable : Type 0
 MovesAreOfTheTable = (width : ℕ → ℕ) (o : PlanOp) (cond : Typed) → may_pass width o cond ≡ true → moves width o cond ≡ gone_to width o cond ∷ []
 
--- What is left out: keys of a GROUP that are no plain columns. A UNION has moves of its own.
-abbrev pub is_left_out : PlanOp → Bool
-is_left_out (p_group (input ∷ [])) = true
-is_left_out (p_union inputs) = true
-is_left_out o = false
-
--- but for that, a condition that may not pass has no way to go in the table of moves
+-- A condition that may not pass has no way to go there. It always passes a UNION, which has moves of its own.
 abbrev pub NoOtherWays : Type 0
-NoOtherWays = (width : ℕ → ℕ) (o : PlanOp) (cond : Typed) → is_left_out o ≡ false → may_pass width o cond ≡ false → moves width o cond ≡ []
+NoOtherWays = (width : ℕ → ℕ) (o : PlanOp) (cond : Typed) → is_union o ≡ false → may_pass width o cond ≡ false → moves width o cond ≡ []
 
 -- an input by key that reads another node, and inputs of which the one at a place does
 abbrev pub on_input : ℕ → Keyed → Keyed
@@ -236,6 +224,8 @@ pub record IsMove (p q : Plan) (i k : ℕ) : Type 0 where
   pub can : CanMove p i k
   pub is : q ≡ slice_set (slice_set p i (record { op = low_of (width_at p) can.below.op can.cond; statement = can.statement })) k
       (record { op = high_of (width_at p) i can.below.op can.cond; statement = can.below.statement })
+  -- with the key of a GROUP in it the condition nests so far at most
+  pub nests : (inputs : List Keyed) → can.below.op ≡ p_group inputs → filter_depth (low_of (width_at p) can.below.op can.cond) ≤ most_levels
 
 -- what stands at the number of a dead node: it reads nothing
 abbrev pub reads_nothing : PlanOp → Type 0
@@ -268,6 +258,7 @@ pub record AreNew (p : Plan) (i k : ℕ) (low high : PlanNode) : Type 0 where
       → low ≡ record { op = low_of (width_at p) below.op cond; statement = statement }
   pub high_is : (below : PlanNode) (cond : Typed) (statement : ℕ) → slice_get p i ≡ Some below → slice_get p k ≡ Some (record { op = p_filter i cond; statement = statement })
       → high ≡ record { op = high_of (width_at p) i below.op cond; statement = below.statement }
+  pub nests : (below : PlanNode) (inputs : List Keyed) → slice_get p i ≡ Some below → below.op ≡ p_group inputs → filter_depth low.op ≤ most_levels
 
 -- ---- a FILTER of several conjuncts
 
@@ -398,35 +389,3 @@ ConjunctsAreKept = (first more : Typed) → conjuncts (conjoined first more) ≡
 
 abbrev pub PushedPlansMeanTheSame : Type 0
 PushedPlansMeanTheSame = (p r : Plan) → IsPlan p → IsPushed p r → SameMeaning p r
-
--- ---- how deep conditions nest
-
-abbrev mutual
-  pub depth : Typed → ℕ
-  depth (x_chain first links) = suc (max (depth first) (link_depth links))
-  depth (x_compare r a b) = suc (max (depth a) (depth b))
-  depth (x_is_null a negated) = suc (depth a)
-  depth (x_not a) = suc (depth a)
-  depth (x_minus a) = suc (depth a)
-  depth (x_choose test a b) = suc (max (depth test) (max (depth a) (depth b)))
-  depth (x_cast to a) = suc (depth a)
-  depth (x_project a ns single) = suc (depth a)
-  depth (x_look a key) = suc (depth a)
-  depth (x_call function args) = suc (arg_depth args)
-  depth e = 0
-
-  pub link_depth : TypedLinks → ℕ
-  link_depth no_links = 0
-  link_depth (more_links operator a links) = max (depth a) (link_depth links)
-
-  pub arg_depth : TypedArgs → ℕ
-  arg_depth no_args = 0
-  arg_depth (more_args e args) = max (depth e) (arg_depth args)
-
-abbrev pub filter_depth : PlanOp → ℕ
-filter_depth (p_filter input cond) = depth cond
-filter_depth o = 0
-
--- no condition of a FILTER nests deeper
-abbrev pub NestUpTo : ℕ → Plan → Type 0
-NestUpTo most p = (n : ℕ) (v : PlanNode) → slice_get p n ≡ Some v → filter_depth v.op ≤ most

@@ -97,7 +97,7 @@ fn add_copy(alloc: Global, e: &TExpr, into: &mut TExprs) -> Result<(), AllocErro
 }
 
 /// Whether each link of a chain is an AND.
-fn all_and(links: &[TLink]) -> bool
+pub fn all_and(links: &[TLink]) -> bool
     ensures { result ≡ all_and (links_of (map link_of links.now)) }
 {
     let mut left = links;

@@ -1,18 +1,20 @@
 ghost use Rattle.std.specs.Prelude.{◌≡◌, ℕ, IfOk, MatchOption, ⊤, false, length, map};
 ghost use Rattle.std.specs.List.{list_all, list_any};
+ghost use Rattle.pig_plan.specs.Conjuncts.{conjuncts, link_conjuncts};
 ghost use Rattle.pig_plan.specs.Meaning.{width_at};
 ghost use Rattle.pig_plan.specs.Plans.{keyed_of, op_of, p_group, p_join, plan_of};
-ghost use Rattle.pig_typed.specs.Typed.{Typed, typed};
+ghost use Rattle.pig_typed.specs.Typed.{Typed, link_of, links_of, typed};
 ghost use Rattle.pig_push.specs.Lone.{AreExact, AreSound};
 ghost use Rattle.pig_push.specs.Pushed.{CanMove, CanPart, all_pass, is_union, may_pass, some_pass, stands_on_union};
 
-use crate::chaining::conjuncts;
+use crate::chaining::all_and;
 use crate::fields::fields;
-use crate::handing::{hands_all, hands_key};
+use crate::handing::hands_all;
 use crate::joining::{find_spot, is_open};
+use crate::keying::hands_key;
 use crate::readers::{ReadCount, is_lone};
 use pig_plan::{KeyedInput, NodeOp, Plan};
-use pig_typed::TExpr;
+use pig_typed::{TExpr, TLink};
 use pig_value::Side;
 use std::alloc::{AllocError, Global};
 
@@ -123,9 +125,7 @@ fn some_pass(alloc: Global, plan: &Plan, op: &NodeOp, cond: &TExpr) -> Result<bo
     if !is_ever_passed(op) {
         return Ok(false);
     }
-    let all = conjuncts(alloc, cond)?;
-    let passes = one_passes(alloc, plan, op, all.as_slice())?;
-    Ok(passes)
+    one_passes(alloc, plan, op, cond)
 }
 
 pub fn is_union(op: &NodeOp) -> bool
@@ -166,23 +166,44 @@ fn is_ever_passed(op: &NodeOp) -> bool
     }
 }
 
-fn one_passes(
+/// Whether one of the conjuncts of a condition may, by itself.
+#[cycle(one_passes)]
+fn one_passes(alloc: Global, plan: &Plan, op: &NodeOp, cond: &TExpr) -> Result<bool, AllocError>
+    ensures { IfOk result (λ b. b
+        ≡ list_any (may_pass (width_at (plan_of plan.now)) (op_of op.now))
+        (conjuncts (typed cond.now))) }
+{
+    match cond {
+        TExpr::Chain { first, rest } => {
+            if !all_and(rest.as_slice()) {
+                return may_pass(alloc, plan, op, cond);
+            }
+            let passes = one_passes(alloc, plan, op, first.get())?;
+            if passes {
+                return Ok(true);
+            }
+            one_link_passes(alloc, plan, op, rest.as_slice())
+        }
+        _ => may_pass(alloc, plan, op, cond),
+    }
+}
+
+#[cycle(one_passes)]
+fn one_link_passes(
     alloc: Global,
     plan: &Plan,
     op: &NodeOp,
-    conditions: &[TExpr],
+    links: &[TLink],
 ) -> Result<bool, AllocError>
     ensures { IfOk result (λ b. b
         ≡ list_any (may_pass (width_at (plan_of plan.now)) (op_of op.now))
-        (map typed conditions.now)) }
+        (link_conjuncts (links_of (map link_of links.now)))) }
 {
-    let mut left = conditions;
-    while let [first, rest @ ..] = left {
-        let passes = may_pass(alloc, plan, op, first)?;
+    for link in links {
+        let passes = one_passes(alloc, plan, op, &link.a)?;
         if passes {
             return Ok(true);
         }
-        left = rest;
     }
     Ok(false)
 }
@@ -202,27 +223,47 @@ fn all_pass(alloc: Global, plan: &Plan, op: &NodeOp, cond: &TExpr) -> Result<boo
     if !whole {
         return Ok(false);
     }
-    let all = conjuncts(alloc, cond)?;
-    each_passes(alloc, plan, op, all.as_slice())
+    each_passes(alloc, plan, op, cond)
 }
 
-fn each_passes(
+/// Whether each of the conjuncts of a condition may, by itself.
+#[cycle(each_passes)]
+fn each_passes(alloc: Global, plan: &Plan, op: &NodeOp, cond: &TExpr) -> Result<bool, AllocError>
+    ensures { IfOk result (λ b. b
+        ≡ list_all (may_pass (width_at (plan_of plan.now)) (op_of op.now))
+        (conjuncts (typed cond.now))) }
+{
+    match cond {
+        TExpr::Chain { first, rest } => {
+            if !all_and(rest.as_slice()) {
+                return may_pass(alloc, plan, op, cond);
+            }
+            let passes = each_passes(alloc, plan, op, first.get())?;
+            if !passes {
+                return Ok(false);
+            }
+            each_link_passes(alloc, plan, op, rest.as_slice())
+        }
+        _ => may_pass(alloc, plan, op, cond),
+    }
+}
+
+#[cycle(each_passes)]
+fn each_link_passes(
     alloc: Global,
     plan: &Plan,
     op: &NodeOp,
-    conditions: &[TExpr],
+    links: &[TLink],
 ) -> Result<bool, AllocError>
     ensures { IfOk result (λ b. b
         ≡ list_all (may_pass (width_at (plan_of plan.now)) (op_of op.now))
-        (map typed conditions.now)) }
+        (link_conjuncts (links_of (map link_of links.now)))) }
 {
-    let mut left = conditions;
-    while let [first, rest @ ..] = left {
-        let passes = may_pass(alloc, plan, op, first)?;
+    for link in links {
+        let passes = each_passes(alloc, plan, op, &link.a)?;
         if !passes {
             return Ok(false);
         }
-        left = rest;
     }
     Ok(true)
 }
@@ -236,7 +277,7 @@ pub fn may_pass(alloc: Global, plan: &Plan, op: &NodeOp, cond: &TExpr) -> Result
         NodeOp::Filter { .. } => Ok(true),
         NodeOp::Distinct { .. } => Ok(true),
         NodeOp::Foreach { input: _, block } => Ok(hands_all(block.items.as_slice(), cond)),
-        NodeOp::Group { inputs } => Ok(passes_groups(plan, inputs.as_slice(), cond)),
+        NodeOp::Group { inputs } => passes_groups(alloc, plan, inputs.as_slice(), cond),
         NodeOp::Join {
             inputs,
             side,
@@ -246,15 +287,20 @@ pub fn may_pass(alloc: Global, plan: &Plan, op: &NodeOp, cond: &TExpr) -> Result
     }
 }
 
-fn passes_groups(plan: &Plan, inputs: &[KeyedInput], cond: &TExpr) -> bool
-    ensures { result
+fn passes_groups(
+    alloc: Global,
+    plan: &Plan,
+    inputs: &[KeyedInput],
+    cond: &TExpr,
+) -> Result<bool, AllocError>
+    ensures { IfOk result (λ b. b
         ≡ may_pass (width_at (plan_of plan.now)) (p_group (map keyed_of inputs.now))
-        (typed cond.now) }
+        (typed cond.now)) }
 {
     let [input] = inputs else {
-        return false;
+        return Ok(false);
     };
-    hands_key(input.keys.as_slice(), cond)
+    hands_key(alloc, input.keys.as_slice(), cond)
 }
 
 fn passes_join(

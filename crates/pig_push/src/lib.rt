@@ -3,14 +3,17 @@
 
 mod chaining;
 mod clearing;
+mod extents;
 mod fields;
 mod finding;
 mod handing;
 mod joining;
+mod keying;
 mod laws;
 mod merging;
 mod moving;
 mod pushing;
+mod putting;
 mod readers;
 mod reading;
 mod rooming;

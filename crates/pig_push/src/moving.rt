@@ -1,14 +1,16 @@
-ghost use Rattle.std.specs.Prelude.{◌≡◌, IfOk, false, map};
+ghost use Rattle.std.specs.Prelude.{◌≡◌, ◌≤◌, IfOk, List, false, map};
 ghost use Rattle.pig_plan.specs.Meaning.{width_at};
-ghost use Rattle.pig_plan.specs.Plans.{keyed_of, node_of, op_of, p_group, p_join, plan_of};
+ghost use Rattle.pig_plan.specs.Plans.{Keyed, keyed_of, node_of, op_of, p_group, p_join, plan_of};
 ghost use Rattle.pig_typed.specs.Typed.{typed};
+ghost use Rattle.pig_push.specs.Depths.{filter_depth, most_levels};
 ghost use Rattle.pig_push.specs.Pushed.{AreNew, CanMove, IsMove, high_of, low_of, over_spot, spot_for};
 
 use crate::chaining::conjoined;
 use crate::clearing::push_node;
 use crate::fields::fields;
-use crate::handing::{put_columns, put_items, put_key};
 use crate::joining::{find_spot, over_at};
+use crate::keying::put_key;
+use crate::putting::{Instead, put};
 use pig_plan::{KeyedInput, KeyedInputs, Node, NodeOp, Nodes, Plan, no_rows};
 use pig_typed::{TExpr, copy_block, copy_expr, copy_exprs};
 use pig_value::Side;
@@ -64,8 +66,10 @@ fn new_nodes(alloc: Global, plan: &Plan, low: u32, high: u32) -> Result<(Node, N
 
 /// What stands at the lower number.
 fn low_op(alloc: Global, plan: &Plan, op: &NodeOp, cond: &TExpr) -> Result<NodeOp, AllocError>
-    ensures { IfOk result (λ o. op_of o
+    ensures is { IfOk result (λ o. op_of o
         ≡ low_of (width_at (plan_of plan.now)) (op_of op.now) (typed cond.now)) }
+    ensures nests { (inputs : List Keyed) → op_of op.now ≡ p_group inputs
+        → IfOk result (λ o. filter_depth (op_of o) ≤ most_levels) }
 {
     match op {
         NodeOp::Filter { .. } => no_rows(alloc),
@@ -75,7 +79,7 @@ fn low_op(alloc: Global, plan: &Plan, op: &NodeOp, cond: &TExpr) -> Result<NodeO
         }),
         NodeOp::Foreach { input, block } => Ok(NodeOp::Filter {
             input: *input,
-            cond: put_items(alloc, block.items.as_slice(), cond)?,
+            cond: put(alloc, Instead::Handed(block.items.as_slice()), cond)?,
         }),
         NodeOp::Group { inputs } => below_groups(alloc, plan, inputs.as_slice(), cond),
         NodeOp::Join {
@@ -93,9 +97,10 @@ fn below_groups(
     inputs: &[KeyedInput],
     cond: &TExpr,
 ) -> Result<NodeOp, AllocError>
-    ensures { IfOk result (λ o. op_of o
+    ensures is { IfOk result (λ o. op_of o
         ≡ low_of (width_at (plan_of plan.now)) (p_group (map keyed_of inputs.now))
         (typed cond.now)) }
+    ensures nests { IfOk result (λ o. filter_depth (op_of o) ≤ most_levels) }
 {
     let [input] = inputs else {
         return Err(AllocError);
@@ -124,7 +129,7 @@ fn below_join(
     };
     Ok(NodeOp::Filter {
         input: spot.input,
-        cond: put_columns(alloc, spot.first, cond)?,
+        cond: put(alloc, Instead::Behind(spot.first), cond)?,
     })
 }
 

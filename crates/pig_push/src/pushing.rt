@@ -1,8 +1,9 @@
-ghost use Rattle.std.specs.Prelude.{◌≡◌, ◌+◌, ℕ, IfOk};
+ghost use Rattle.std.specs.Prelude.{◌≡◌, ◌+◌, max, ℕ, IfOk};
 ghost use Rattle.pig_plan.specs.Plans.{plan_of};
 ghost use Rattle.pig_plan.specs.Rewrites.{SameMeaning};
 ghost use Rattle.pig_plan.specs.Valid.{IsPlan};
-ghost use Rattle.pig_push.specs.Pushed.{AreMoves, IsPushed, IsTidy, NestUpTo, NoneMayMove};
+ghost use Rattle.pig_push.specs.Depths.{NestUpTo, most_levels};
+ghost use Rattle.pig_push.specs.Pushed.{AreMoves, IsPushed, IsTidy, NoneMayMove};
 
 use crate::clearing::{cleared, known_plan};
 use crate::finding::find_part;
@@ -23,7 +24,7 @@ pub fn push(alloc: Global, plan: Plan) -> Result<Plan, AllocError>
     ensures pushed { IfOk result (λ q. IsPushed (plan_of plan) (plan_of q)) }
     ensures normal { IfOk result (λ q. NoneMayMove (plan_of q)) }
     ensures shallow { IfOk result (λ q. (most : ℕ) → NestUpTo most (plan_of plan)
-        → NestUpTo (most + 1) (plan_of q)) }
+        → NestUpTo (max most most_levels + 1) (plan_of q)) }
 {
     let begun = cleared(alloc, &plan)?;
     function_laws();

@@ -127,13 +127,14 @@ fn are_equal<R: Abort>(rt: &R, alloc: Global) -> TExpr {
 }
 
 /// That a column is there; `t` for what always holds, `n` for the first two columns in a chain of
-/// their own, `o` for one of them, `x` for columns 0 and 2 that are equal.
+/// their own, `o` for one of them, `x` for columns 0 and 2 that are equal, `p` for the first column itself.
 fn test<R: Abort>(rt: &R, alloc: Global, byte: u8) -> TExpr {
     match byte {
         b't' => TExpr::Bool(true),
         b'n' => first_two(rt, alloc, ChainOp::And),
         b'o' => first_two(rt, alloc, ChainOp::Or),
         b'x' => are_equal(rt, alloc),
+        b'p' => TExpr::Field(0),
         _ => is_there(rt, alloc, digit(byte)),
     }
 }
@@ -193,11 +194,20 @@ fn block<R: Abort>(rt: &R, alloc: Global, bytes: &[u8]) -> Block {
     }
 }
 
-/// A GROUP by columns, or `c` for what is computed.
+/// A key: a column, or what is computed: `c`, and `n` and `o` as tests have them.
+fn key<R: Abort>(rt: &R, alloc: Global, byte: u8) -> TExpr {
+    match byte {
+        b'n' => test(rt, alloc, byte),
+        b'o' => test(rt, alloc, byte),
+        _ => item(byte).value,
+    }
+}
+
+/// A GROUP by keys.
 fn group<R: Abort>(rt: &R, alloc: Global, input: u32, bytes: &[u8]) -> NodeOp {
     let mut keys = TExprs::new(alloc);
     for byte in bytes {
-        put(rt, &mut keys, item(*byte).value);
+        put(rt, &mut keys, key(rt, alloc, *byte));
     }
     let inner = false;
     let mut inputs = KeyedInputs::new(alloc);
@@ -303,6 +313,7 @@ fn column<R: Abort>(rt: &R, alloc: Global, into: &mut String, e: &TExpr) {
     match e {
         TExpr::Field(n) => add_number(rt, alloc, into, *n),
         TExpr::Bool(_) => add(rt, into, "t"),
+        TExpr::Int(_) => add(rt, into, "c"),
         TExpr::Compare { .. } => add(rt, into, "x"),
         TExpr::Chain { .. } => add(rt, into, "o"),
         _ => add(rt, into, "?"),
@@ -404,9 +415,10 @@ fn told<R: Abort>(rt: &R, alloc: Global, words: &str) -> String {
 
 // The words of a plan, and the live nodes once conjuncts have moved: below a FILTER, a DISTINCT, a
 // FOREACH that hands the columns on, also behind a FLATTEN, a UNION to each distinct input, a GROUP
-// by the one column that is named, and a JOIN to the input whose columns are named, where its rows
-// all stand among the joined ones; not below what is computed, what FLATTEN makes, a bag, several
-// keys, ORDER, LIMIT, ASSERT or LOAD, nor below what two nodes read.
+// by one key, computed or not, which stands in the place of the group, and a JOIN to the input whose
+// columns are named, where its rows all stand among the joined ones; not below an item that is
+// computed, what FLATTEN makes, a bag, several keys, ORDER, LIMIT, ASSERT or LOAD, nor below what two
+// nodes read.
 const TOLD: &str = "La f00 f11 s2p: 0L 2f(0,1).0 3s.2
 La f001 f11 s2p: 0L 2f(0,1,1).0 3s.2
 La f0n f11 s2p: 0L 2f(0,1,1).0 3s.2
@@ -458,7 +470,16 @@ La k01 f1t s2p: 0L 1ft.0 2k.1 3s.2
 La k01 f11 s2p: 0L 1k.0 2f1.1 3s.2
 La k01 f101 s2p: 0L 1f1.0 2k.1 3f1.2 4s.3
 La k001 f10 s2p: 0L 1k.0 2f0.1 3s.2
-La k0c f10 s2p: 0L 1k.0 2f0.1 3s.2
+La k0c f10 s2p: 0L 1fc.0 2k.1 3s.2
+La k0c f1t s2p: 0L 1ft.0 2k.1 3s.2
+La k0c f11 s2p: 0L 1k.0 2f1.1 3s.2
+La k0o f10 s2p: 0L 1fo.0 2k.1 3s.2
+La k0o f1p s2p: 0L 1fo.0 2k.1 3s.2
+La k0o f101 s2p: 0L 1fo.0 2k.1 3f1.2 4s.3
+La k0n f1p s2p: 0L 1f(0,1).0 2k.1 3s.2
+La k0on f10 s2p: 0L 1k.0 2f0.1 3s.2
+La d0 k1n f2p s3p: 0L 1f(0,1).0 2d.1 3k.2 4s.3
+La g01c k1n f2p s3p: 0L 1f1.0 2g.1 3f1.2 4k.3 5s.4
 La f00 s1p: 0L 1f0.0 2s.1
 La d0 f10 u12 s3p: 0L 1d.0 2f0.1 3-.1.2 4s.3
 La d0 f10 d1 s2p: 0L 1f0.0 2d.1 4s.2
@@ -530,4 +551,98 @@ fn a_thousand_filters_are_one(rt: HostRuntime) {
     assert_eq!(rt; live.len(), 3);
     assert_eq!(rt; tests_at(&pushed, 1000), 999);
     drop(pushed);
+}
+
+/// That the one column does not hold, and that it holds, twice.
+fn negated<R: Abort>(rt: &R, alloc: Global) -> TExpr {
+    TExpr::Not(Boxed::new(alloc, TExpr::Field(0)).expect(rt, "memory"))
+}
+
+fn doubled<R: Abort>(rt: &R, alloc: Global) -> TExpr {
+    let mut rest = TLinks::new(alloc);
+    let a = TExpr::Field(0);
+    put(rt, &mut rest, TLink { op: ChainOp::Or, a });
+    TExpr::Chain {
+        first: Boxed::new(alloc, TExpr::Field(0)).expect(rt, "memory"),
+        rest,
+    }
+}
+
+/// A FOREACH of one item.
+fn made<R: Abort>(rt: &R, alloc: Global, input: u32, value: TExpr) -> NodeOp {
+    let mut items = BlockItems::new(alloc);
+    let item = BlockItem {
+        value,
+        flatten: false,
+        width: 1,
+    };
+    put(rt, &mut items, item);
+    let steps = BlockSteps::new(alloc);
+    NodeOp::Foreach {
+        input,
+        block: Block { steps, items },
+    }
+}
+
+fn grouped<R: Abort>(rt: &R, alloc: Global, input: u32, key: TExpr) -> NodeOp {
+    let mut keys = TExprs::new(alloc);
+    put(rt, &mut keys, key);
+    let inner = false;
+    let mut inputs = KeyedInputs::new(alloc);
+    put(rt, &mut inputs, KeyedInput { input, keys, inner });
+    NodeOp::Group { inputs }
+}
+
+/// A FILTER by a boolean column over so many GROUPs in turn, each by a key of the one before.
+fn groups<R: Abort>(rt: &R, alloc: Global, count: u32, twice: bool) -> Plan {
+    let mut plan = Plan::empty(alloc);
+    let statement = 1;
+    let op = load(rt, alloc, "a");
+    add_fitting(rt, &mut plan, Node { op, statement });
+    let op = made(rt, alloc, 0, is_there(rt, alloc, 0));
+    add_fitting(rt, &mut plan, Node { op, statement });
+    let mut last = 1;
+    for _ in 0..count {
+        let key = if twice {
+            doubled(rt, alloc)
+        } else {
+            negated(rt, alloc)
+        };
+        let op = grouped(rt, alloc, last, key);
+        add_fitting(rt, &mut plan, Node { op, statement });
+        let op = made(rt, alloc, last + 1, TExpr::Field(0));
+        add_fitting(rt, &mut plan, Node { op, statement });
+        last += 2;
+    }
+    let cond = TExpr::Field(0);
+    let op = NodeOp::Filter { input: last, cond };
+    add_fitting(rt, &mut plan, Node { op, statement });
+    let op = store(rt, alloc, last + 1, "p");
+    add_fitting(rt, &mut plan, Node { op, statement });
+    plan
+}
+
+/// The node on which all of them stand, once the conditions have moved: a FILTER or not.
+fn is_pushed<R: Abort>(rt: &R, count: u32, twice: bool) -> bool {
+    let Ok(pushed) = push(rt.alloc(), groups(rt, rt.alloc(), count, twice)) else {
+        return false;
+    };
+    matches!(
+        pushed.nodes().get(2),
+        Some(Node {
+            op: NodeOp::Filter { .. },
+            ..
+        })
+    )
+}
+
+// A condition takes the key of each GROUP that it passes: a level deeper each, or twice as large. Past
+// 2,048 levels, and past 2 to the 20 nodes (with k of the keys it has 2 to the k + 1 but one), there is
+// no memory.
+#[test]
+fn conditions_grow_up_to_a_bound(rt: HostRuntime) {
+    assert!(rt; is_pushed(&rt, 2_048, false));
+    assert!(rt; !is_pushed(&rt, 2_049, false));
+    assert!(rt; is_pushed(&rt, 12, true));
+    assert!(rt; !is_pushed(&rt, 20, true));
 }

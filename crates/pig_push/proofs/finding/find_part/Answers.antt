@@ -1,4 +1,4 @@
-use Rattle.std.proofs.Common.{rules, ◌≡◌, ◌<◌, ◌-◌, length, sym, subst, arith}
+use Rattle.std.proofs.Common.{rules, ◌≡◌, ◌<◌, ◌-◌, length, arith}
 use Rattle.pig_push.proofs.Steps.{NoMove, none_at_all, one_before}
 use Rattle.pig_push.proofs.finding.find_part.Goals as goal
 

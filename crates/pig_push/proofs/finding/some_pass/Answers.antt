@@ -1,11 +1,10 @@
-use Rattle.std.proofs.Common.{rules, ◌≡◌, ◌∙◌, ap, false, sym, true, map}
-use Rattle.std.specs.List.{list_any}
-use Rattle.pig_plan.specs.Conjuncts.{conjuncts}
+use Rattle.std.proofs.Common.{rules, ◌≡◌, ◌∙◌, ap, false, subst, sym, true}
+use Rattle.std.specs.Prelude.{IfOk}
 use Rattle.pig_typed.specs.Typed.{typed}
 use Rattle.pig_plan.specs.Meaning.{width_at}
 use Rattle.pig_plan.specs.Plans.{op_of, plan_of}
-use Rattle.pig_push.specs.Pushed.{is_union, may_pass, some_pass}
-use Rattle.pig_push.proofs.Steps.{any_true, none_pass, some_passes, union_passes}
+use Rattle.pig_push.specs.Pushed.{is_union, some_pass}
+use Rattle.pig_push.proofs.Steps.{any_true, no_union_passes, none_pass, union_passes}
 use Rattle.pig_push.proofs.finding.some_pass.Goals as goal
 
 pub returns-in-Filter : goal.returns-in-Filter
@@ -28,6 +27,4 @@ returns-then-union c =
 pub returns : goal.returns
 returns c =
     let other : is_union (op_of c.args.op.now) ≡ false = search rules in
-    let all : map typed c.in_ok-all.all ≡ conjuncts (typed c.args.cond.now) = search rules in
-    let told : c.in_ok-passes.passes ≡ list_any (may_pass (width_at (plan_of c.args.plan.now)) (op_of c.args.op.now)) (map typed c.in_ok-all.all) = search rules in
-    some_passes (width_at (plan_of c.args.plan.now)) (op_of c.args.op.now) (typed c.args.cond.now) (map typed c.in_ok-all.all) c.in_ok-passes.passes other all told
+    subst (λ passes. IfOk c.one_passes.result (λ b. b ≡ passes)) (no_union_passes (width_at (plan_of c.args.plan.now)) (op_of c.args.op.now) (typed c.args.cond.now) other) c.one_passes.ensures

@@ -1,5 +1,5 @@
-use Rattle.std.proofs.Common.{rules, ◌≡◌, ◌∙◌, [], ap, true}
-use Rattle.std.specs.Prelude.{Some, slice_get, refl, length}
+use Rattle.std.proofs.Common.{rules, ◌≡◌, [], ap, true}
+use Rattle.std.specs.Prelude.{refl, length}
 use Rattle.std.proofs.lemmas.Option.{slice_get_read}
 use Rattle.pig_typed.specs.Typed.{typed}
 use Rattle.pig_plan.specs.Plans.{op_of}

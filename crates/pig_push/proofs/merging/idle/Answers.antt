@@ -1,4 +1,4 @@
-use Rattle.std.proofs.Common.{rules, ◌≡◌, []}
+use Rattle.std.proofs.Common.{rules}
 use Rattle.pig_plan.specs.Plans.{op_of}
 use Rattle.pig_push.specs.Pushed.{reads_nothing}
 use Rattle.pig_push.proofs.MergePass.{gone_held}

@@ -1,5 +1,5 @@
-use Rattle.std.proofs.Common.{rules, ◌≡◌}
-use Rattle.pig_push.specs.Merged.{AreOver, OnFilter, plan_held}
+use Rattle.std.proofs.Common.{rules}
+use Rattle.pig_push.specs.Merged.{OnFilter, plan_held}
 use Rattle.pig_push.proofs.MergePass.{merges_at_ok, merges_none}
 use Rattle.pig_push.proofs.merging.merge_at.Goals as goal
 

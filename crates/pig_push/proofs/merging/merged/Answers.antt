@@ -1,9 +1,8 @@
-use Rattle.std.proofs.Common.{rules, ◌≡◌, subst, sym}
+use Rattle.std.proofs.Common.{rules, ◌≡◌}
 use Rattle.pig_plan.specs.Plans.{plan_of}
 use Rattle.pig_plan.specs.Valid.{IsPlan}
 use Rattle.pig_push.specs.Lone.{AreReaders}
-use Rattle.pig_push.specs.Merged.{Merges, MergesOn, plan_held}
-use Rattle.pig_push.specs.Pushed.{GoesOn}
+use Rattle.pig_push.specs.Merged.{Merges, plan_held}
 use Rattle.pig_push.proofs.LoneReaders.{sound_of}
 use Rattle.pig_push.proofs.MergePass.{merges_done, merges_first, merges_more}
 use Rattle.pig_push.proofs.merging.merged.Goals as goal

@@ -1,4 +1,4 @@
-use Rattle.std.proofs.Common.{rules, ◌≡◌}
+use Rattle.std.proofs.Common.{rules}
 use Rattle.pig_plan.specs.Plans.{plan_of}
 use Rattle.pig_push.specs.Lone.{AreReaders}
 use Rattle.pig_push.specs.Pushed.{GoesOn}

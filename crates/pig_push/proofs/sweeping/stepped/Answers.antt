@@ -1,4 +1,4 @@
-use Rattle.std.proofs.Common.{rules, ◌≡◌}
+use Rattle.std.proofs.Common.{rules}
 use Rattle.pig_plan.specs.Plans.{plan_of}
 use Rattle.pig_push.proofs.LoneMoves.{steps_none}
 use Rattle.pig_push.proofs.sweeping.stepped.Goals as goal

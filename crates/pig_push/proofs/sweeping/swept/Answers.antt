@@ -1,4 +1,4 @@
-use Rattle.std.proofs.Common.{rules, ◌≡◌}
+use Rattle.std.proofs.Common.{rules}
 use Rattle.pig_plan.specs.Plans.{plan_of}
 use Rattle.pig_push.specs.Lone.{StepsOn}
 use Rattle.pig_push.proofs.sweeping.swept.Goals as goal

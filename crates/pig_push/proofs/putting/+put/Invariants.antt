@@ -1,12 +1,12 @@
 use Rattle.std.proofs.Common.{◌≡◌, ◌+◌, ◌*◌, map, max, take}
-use Rattle.pig_typed.specs.Typed.{item_typed, link_of, typed, x_field}
+use Rattle.pig_typed.specs.Typed.{link_of, typed}
 use Rattle.pig_plan.specs.Moves.{put}
 use Rattle.pig_typed.specs.declared.exprs.TExpr.TheViews.{size-TExpr}
-use Rattle.pig_push.specs.Pushed.{handed_from, put_link}
-use Rattle.pig_push.proofs.handing.+put_back.Given as goal
+use Rattle.pig_push.specs.Putting.{instead_of, put_link}
+use Rattle.pig_push.proofs.putting.+put.Given as goal
 
-abbrev pub decreases-put_back : goal.decreases-put_back
-decreases-put_back l = 4 * goal.size-put_back l
+abbrev pub decreases-put : goal.decreases-put
+decreases-put l = 4 * goal.size-put l
 
 abbrev pub decreases-put_boxed : goal.decreases-put_boxed
 decreases-put_boxed l = 4 * goal.size-put_boxed l + 1
@@ -27,7 +27,7 @@ abbrev pub decreases-put_args : goal.decreases-put_args
 decreases-put_args l = 4 * goal.size-put_args l + 1
 
 abbrev pub invariant-put_links-loop-link : goal.invariant-put_links-loop-link
-invariant-put_links-loop-link l = map link_of l.made.items ≡ map (put_link (λ n. x_field (handed_from (map item_typed l.items) l.from n))) (map link_of (take l.link-index l.links))
+invariant-put_links-loop-link l = map link_of l.made.items ≡ map (put_link (instead_of l.instead)) (map link_of (take l.link-index l.links))
 
 abbrev pub invariant-put_args-loop-e : goal.invariant-put_args-loop-e
-invariant-put_args-loop-e l = map typed l.made.items ≡ map (put (λ n. x_field (handed_from (map item_typed l.items) l.from n))) (map typed (take l.e-index l.args))
+invariant-put_args-loop-e l = map typed l.made.items ≡ map (put (instead_of l.instead)) (map typed (take l.e-index l.args))

@@ -1,0 +1,38 @@
+-- How deep conditions nest.
+use Rattle.std.specs.Prelude.{◌≡◌, ◌≤◌, max, ℕ, suc, Some, slice_get}
+use Rattle.pig_typed.specs.Typed.{Typed, TypedArgs, TypedLinks, x_chain, x_compare, x_is_null, x_not, x_minus, x_choose, x_cast, x_project, x_look, x_call, no_links, more_links, no_args, more_args}
+use Rattle.pig_plan.specs.Plans.{Plan, PlanNode, PlanOp, p_filter}
+
+abbrev mutual
+  pub depth : Typed → ℕ
+  depth (x_chain first links) = suc (max (depth first) (link_depth links))
+  depth (x_compare r a b) = suc (max (depth a) (depth b))
+  depth (x_is_null a negated) = suc (depth a)
+  depth (x_not a) = suc (depth a)
+  depth (x_minus a) = suc (depth a)
+  depth (x_choose test a b) = suc (max (depth test) (max (depth a) (depth b)))
+  depth (x_cast to a) = suc (depth a)
+  depth (x_project a ns single) = suc (depth a)
+  depth (x_look a key) = suc (depth a)
+  depth (x_call function args) = suc (arg_depth args)
+  depth e = 0
+
+  pub link_depth : TypedLinks → ℕ
+  link_depth no_links = 0
+  link_depth (more_links operator a links) = max (depth a) (link_depth links)
+
+  pub arg_depth : TypedArgs → ℕ
+  arg_depth no_args = 0
+  arg_depth (more_args e args) = max (depth e) (arg_depth args)
+
+abbrev pub filter_depth : PlanOp → ℕ
+filter_depth (p_filter input cond) = depth cond
+filter_depth o = 0
+
+-- no condition of a FILTER nests deeper
+abbrev pub NestUpTo : ℕ → Plan → Type 0
+NestUpTo most p = (n : ℕ) (v : PlanNode) → slice_get p n ≡ Some v → filter_depth v.op ≤ most
+
+-- So far a condition may nest that has the key of a GROUP in it.
+abbrev pub most_levels : ℕ
+most_levels = 2048
