@@ -87,13 +87,6 @@ wins_won_other u t a v h n =
 pub wins_late : (u t a b : ℕ) (v : View) → has_open t a v ≡ true → wins_of u (came_late t a b v) ≡ wins_of u v
 wins_late u t a b v h = swapped_alike (is_win_of u) _ _ _ _ (Swaps-settle t a Late v.tried h) refl
 
-pub fails_failed : (t k : ℕ) (v : View) → has_open_of t v ≡ true → fails_of t (failed_at t k v) ≡ fails_of t v + 1
-fails_failed t k v h =
-    let d = Swaps-settle t (earliest t v.tried) Failed v.tried (earliest-open t v.tried h) in
-    let p = d.sums (λ z. cond {A = ℕ} (is_failure_of t z) 1 0) in
-    let one : cond {A = ℕ} (t == t) 1 0 ≡ 1 = ap (λ c. cond {A = ℕ} c 1 0) (eq-eqb t t refl) in
-    omega arith
-
 pub wins_failed : (u t k : ℕ) (v : View) → has_open_of t v ≡ true → wins_of u (failed_at t k v) ≡ wins_of u v
 wins_failed u t k v h = swapped_alike (is_win_of u) _ _ _ _ (Swaps-settle t (earliest t v.tried) Failed v.tried (earliest-open t v.tried h)) refl
 

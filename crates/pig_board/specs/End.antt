@@ -1,9 +1,10 @@
 -- The end of a job: what stands of each task.
-use Rattle.std.specs.Prelude.{◌≡◌, ℕ, ◌+◌, ◌*◌, ◌^◌, ◌≤◌, None, List, length, slice_index, slice_index_or}
+use Rattle.std.specs.Prelude.{◌≡◌, ℕ, ◌+◌, ◌^◌, ◌≤◌, None, List, length, slice_index, slice_index_or}
 use Rattle.pig_job.specs.Rule.{Words, Kept}
 use Rattle.pig_board.specs.declared.view.View.{View}
 use Rattle.pig_board.specs.declared.end.TaskEnd.{TaskEnd}
 use Rattle.pig_board.specs.Rule.{winner_of, total_of, Noted}
+use Rattle.pig_board.specs.Words.{begun_word, failures_word, winner_word}
 
 -- a task at which nothing was tried
 abbrev pub untried : TaskEnd
@@ -16,16 +17,16 @@ end_of ends t = slice_index_or ends t untried
 -- the end of task t that the words tell
 abbrev pub end_in : List ℕ → ℕ → TaskEnd
 end_in ws t = record {
-  attempts = slice_index ws (3 * t + 1);
-  failed = slice_index ws (3 * t + 2);
-  winner = winner_of (slice_index ws (3 * t + 3));
+  attempts = slice_index ws (begun_word t);
+  failed = slice_index ws (failures_word t);
+  winner = winner_of (slice_index ws (winner_word t));
 }
 
 -- the words of task t are small enough to be read as 32 bits
 pub record AreSmall (ws : List ℕ) (t : ℕ) : Type 0 where
-  pub attempts : slice_index ws (3 * t + 1) ≤ 2 ^ 31
-  pub failed : slice_index ws (3 * t + 2) ≤ 2 ^ 31
-  pub winner : slice_index ws (3 * t + 3) ≤ 2 ^ 31
+  pub attempts : slice_index ws (begun_word t) ≤ 2 ^ 31
+  pub failed : slice_index ws (failures_word t) ≤ 2 ^ 31
+  pub winner : slice_index ws (winner_word t) ≤ 2 ^ 31
 
 -- the words of a job with these ends, in which `next` numbers were drawn
 abbrev pub words_at : ℕ → List TaskEnd → Words

@@ -1,5 +1,5 @@
 -- What holds of every board that meets its rule.
-use Rattle.std.specs.Prelude.{◌≡◌, ℕ, ◌+◌, ◌*◌, ◌<◌, ◌≤◌, Bool, true, Option, Some, is_some, List, [], ◌∷◌, ◌++◌, map, slice_index, sum_by, All, zero, suc, if◌then◌else◌}
+use Rattle.std.specs.Prelude.{◌≡◌, ℕ, ◌<◌, ◌≤◌, Bool, true, Option, Some, is_some, List, [], ◌∷◌, ◌++◌, map, slice_index, sum_by, All, zero, suc, if◌then◌else◌}
 use Rattle.std.specs.List.{list_any}
 use Rattle.pig_job.specs.declared.Status.TheVariants.{Running}
 use Rattle.pig_job.specs.declared.Task.{Task}
@@ -9,13 +9,14 @@ use Rattle.pig_board.specs.declared.end.TaskEnd.{TaskEnd}
 use Rattle.pig_board.specs.View.{has_open, has_open_of, knows_winner, fails_of, all_fails, wins_of, drew, began, won, came_late, failed_at, saw_winner, saw_count, kept_half, both}
 use Rattle.pig_board.specs.Rule.{winner_of, IsBoard}
 use Rattle.pig_board.specs.End.{end_of, IsEnd}
+use Rattle.pig_board.specs.Words.{begun_word, failures_word, winner_word}
 
 -- task t as the words have it
 abbrev pub task_in : List ℕ → ℕ → Task
 task_in ws t = record {
-  begun = slice_index ws (3 * t + 1);
-  failed = slice_index ws (3 * t + 2);
-  winner = winner_of (slice_index ws (3 * t + 3));
+  begun = slice_index ws (begun_word t);
+  failed = slice_index ws (failures_word t);
+  winner = winner_of (slice_index ws (winner_word t));
 }
 
 -- the tasks below n as the words have them

@@ -4,3 +4,4 @@ pub mod Pass
 pub mod Rule
 pub mod Told
 pub mod View
+pub mod Words

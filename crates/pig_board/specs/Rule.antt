@@ -1,11 +1,12 @@
 -- The rule of a board: what its words and the views of all its passes tell of one another.
-use Rattle.std.specs.Prelude.{◌≡◌, ℕ, ◌+◌, ◌*◌, ◌^◌, ◌≤◌, Option, Some, None, List, length, slice_index, sum_by, All, zero, suc}
+use Rattle.std.specs.Prelude.{◌≡◌, ℕ, ◌+◌, ◌^◌, ◌≤◌, Option, Some, None, List, length, slice_index, sum_by, All, zero, suc}
 use Rattle.std.specs.List.{flat_map}
 use mathlib.Core.Option.{some}
 use lib.ListN.{get_elem?}
 use Rattle.pig_job.specs.Rule.{Words, Kept}
 use Rattle.pig_board.specs.declared.view.View.{View}
 use Rattle.pig_board.specs.View.{steps_of}
+use Rattle.pig_board.specs.Words.{begun_word, failures_word, winner_word, words_for}
 
 -- the winner that a word tells: none, or one less than the word
 abbrev pub winner_of : ℕ → Option ℕ
@@ -17,9 +18,9 @@ abbrev pub words_of : ℕ → List ℕ → Words
 words_of n ws = record {
   tasks = n;
   next = slice_index ws 0;
-  begun = λ t. slice_index ws (3 * t + 1);
-  failed = λ t. slice_index ws (3 * t + 2);
-  winner = λ t. winner_of (slice_index ws (3 * t + 3));
+  begun = λ t. slice_index ws (begun_word t);
+  failed = λ t. slice_index ws (failures_word t);
+  winner = λ t. winner_of (slice_index ws (winner_word t));
 }
 
 -- the sum of f over the numbers below n
@@ -40,7 +41,7 @@ pub record Noted (w : Words) (v : View) : Type 0 where
 
 -- the rule of a board of n tasks with the words ws, whose passes have the views vs
 pub record IsBoard (n : ℕ) (ws : List ℕ) (vs : List View) : Type 0 where
-  pub long : length ws ≡ 3 * n + 1
+  pub long : length ws ≡ words_for n
   -- the words and the entries of all passes meet the rule of a job
   pub kept : Kept (words_of n ws) (flat_map (λ v. v.drawn) vs) (flat_map (λ v. v.tried) vs)
   -- the notes of each pass

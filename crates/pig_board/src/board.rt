@@ -1,6 +1,7 @@
 //! A board and its passes, as they are kept.
 
-ghost use Rattle.std.specs.Prelude.{◌≡◌, ◌+◌, ◌*◌, ◌^◌, ◌≤◌, [], vec_len};
+ghost use Rattle.std.specs.Prelude.{◌≡◌, ◌^◌, ◌≤◌, [], vec_len};
+ghost use Rattle.pig_board.specs.Words.{words_for};
 
 use crate::end::TaskEnd;
 use crate::rule::Rule;
@@ -16,7 +17,7 @@ pub struct Board {
     pub(crate) tasks: u32,
     pub(crate) ends: Vec<TaskEnd>,
     ghost counted: { table.shared.key ≡ tasks },
-    ghost words: { table.shared.table_id.words ≡ 3 * tasks + 1 },
+    ghost words: { table.shared.table_id.words ≡ words_for tasks },
     ghost no_slots: { table.shared.table_id.slots ≡ 0 },
     ghost few: { tasks ≤ 65536 },
     ghost room_for_ends: { vec_len ends ≡ tasks },

@@ -1,6 +1,6 @@
 //! The calls of a board.
 
-ghost use Rattle.std.specs.Prelude.{◌≡◌, ◌+◌, ◌*◌, ◌^◌, ◌<◌, ◌≤◌, true, false, length, slice_index, count_by, All, IfOk, IfNone, MatchBool, IsTrue, None};
+ghost use Rattle.std.specs.Prelude.{◌≡◌, ◌^◌, ◌<◌, ◌≤◌, true, false, length, slice_index, count_by, All, IfOk, IfNone, MatchBool, IsTrue, None};
 ghost use Rattle.pig_job.specs.Rule.{is_attempt};
 ghost use Rattle.pig_board.specs.View.{IsAlone, IsDraw, IsLate, has_open, has_open_of, knows_winner, fails_of, fresh, began, won, failed_at, saw_winner, saw_count, kept_half, other_half, both};
 ghost use Rattle.pig_board.specs.Pass.{tasks_of, view_of, is_firm, may_begin, OnBoard};
@@ -9,6 +9,7 @@ ghost use Rattle.pig_board.specs.declared.board.Board.{Board};
 ghost use Rattle.std.specs.Slots.{slots_items, slots_len, IsFull};
 ghost use Rattle.pig_board.specs.End.{AreSmall, IsEnd, end_in};
 ghost use Rattle.pig_board.specs.Rule.{winner_of};
+ghost use Rattle.pig_board.specs.Words.{winner_word};
 
 use crate::board::{Board, Pass};
 use crate::end::{JobEnd, TaskEnd};
@@ -17,6 +18,16 @@ use crate::rule::{
 };
 use atomic_table::{Closed, Table};
 use std::alloc::{AllocError, Global};
+
+// The words of each task, behind the first one, and where among them stand how many of its attempts
+// were begun, how many of them failed, and which one won.
+const TASK_WORDS: usize = 3;
+
+const BEGUN: usize = 1;
+
+const FAILURES: usize = 2;
+
+const WINNER: usize = 3;
 
 /// The room of a board's first pass.
 const FULL_ROOM: u64 = 2_147_483_648;
@@ -73,7 +84,7 @@ impl Board {
             winner: None,
         };
         let ends = vec![in alloc; untried; tasks as usize]?;
-        let words = vec![in alloc; 0u64; 3 * tasks as usize + 1]?;
+        let words = vec![in alloc; 0u64; TASK_WORDS * tasks as usize + 1]?;
         let (table, seat) = Table::of_words(alloc, words.as_slice(), &tasks)?;
         let board = Board { table, tasks, ends };
         let pass = Pass {
@@ -114,7 +125,7 @@ impl Board {
         ensures unused { count_by (is_attempt t result) (view_of pass.old).tried ≡ 0 }
         ensures firm { is_firm pass.new ≡ is_firm pass.old }
     {
-        let word = 3 * t as usize + 1;
+        let word = TASK_WORDS * t as usize + BEGUN;
         let number = self
             .table
             .shared
@@ -134,7 +145,7 @@ impl Board {
         ensures firm { is_firm pass.new ≡ is_firm pass.old }
         ensures known { IsTrue result → knows_winner t (view_of pass.old) ≡ false }
     {
-        let word = 3 * t as usize + 3;
+        let word = TASK_WORDS * t as usize + WINNER;
         let mark = a as u64 + 1;
         let found = self
             .table
@@ -157,7 +168,7 @@ impl Board {
         ensures alone { IsAlone (view_of pass.old) → result ≡ fails_of t (view_of pass.new) }
         ensures firm { is_firm pass.new ≡ is_firm pass.old }
     {
-        let word = 3 * t as usize + 2;
+        let word = TASK_WORDS * t as usize + FAILURES;
         let before = self
             .table
             .shared
@@ -178,7 +189,7 @@ impl Board {
             → result ≡ None }
         ensures firm { is_firm pass.new ≡ is_firm pass.old }
     {
-        let word = 3 * t as usize + 3;
+        let word = TASK_WORDS * t as usize + WINNER;
         let found = self.table.shared.load::<WinnerLook>(&mut pass.seat, word);
         winner_in(found)
     }
@@ -194,7 +205,7 @@ impl Board {
         ensures alone { IsAlone (view_of pass.old) → result ≡ fails_of t (view_of pass.old) }
         ensures firm { is_firm pass.new ≡ is_firm pass.old }
     {
-        let word = 3 * t as usize + 2;
+        let word = TASK_WORDS * t as usize + FAILURES;
         let found = self.table.shared.load::<CountLook>(&mut pass.seat, word);
         found as u32
     }
@@ -286,14 +297,14 @@ fn word_at(closed: &Closed<(), Global>, i: usize) -> u64
 /// The end of task `t` that the words of a closed table tell.
 fn end_at(closed: &Closed<(), Global>, t: u32) -> TaskEnd
     requires few { t < 65536 }
-    requires whole { IsFull closed.now.words × (3 * t + 3 < slots_len closed.now.words) }
+    requires whole { IsFull closed.now.words × (winner_word t < slots_len closed.now.words) }
     requires small { AreSmall (slots_items closed.now.words) t }
     ensures { result ≡ end_in (slots_items closed.now.words) t }
 {
-    let first = 3 * t as usize;
-    let attempts = word_at(closed, first + 1) as u32;
-    let failed = word_at(closed, first + 2) as u32;
-    let winner = winner_in(word_at(closed, first + 3));
+    let first = TASK_WORDS * t as usize;
+    let attempts = word_at(closed, first + BEGUN) as u32;
+    let failed = word_at(closed, first + FAILURES) as u32;
+    let winner = winner_in(word_at(closed, first + WINNER));
     TaskEnd {
         attempts,
         failed,

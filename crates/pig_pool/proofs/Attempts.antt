@@ -12,14 +12,14 @@ use Rattle.pig_outside.specs.Calls.{and_attempt}
 use Rattle.pig_board.specs.declared.board.Board.{Board}
 use Rattle.pig_board.specs.declared.board.Pass.{Pass}
 use Rattle.pig_board.specs.declared.view.View.{View}
-use Rattle.pig_board.specs.Pass.{tasks_of, view_of, is_firm, may_begin, OnBoard}
-use Rattle.pig_board.specs.View.{knows_winner, fails_of, all_fails, wins_of, has_open, has_open_of, began, won, came_late, saw_winner, saw_count, IsLate}
+use Rattle.pig_board.specs.Pass.{tasks_of, view_of, OnBoard}
+use Rattle.pig_board.specs.View.{fails_of, all_fails, wins_of, has_open, has_open_of, began, won, came_late, saw_winner, saw_count, IsLate}
 use Rattle.pig_board.proofs.CountLaws.{wins_began, wins_late, wins_failed, fails_began}
 use Rattle.pig_pool.specs.Begins.{Tells}
-use Rattle.pig_pool.specs.Workers.{HasWon, Works, Stands, Spends, HasRoom, IsFailed, FailedAs, IsTried, beside, saw_limit}
+use Rattle.pig_pool.specs.Workers.{HasWon, Works, Stands, Spends, HasRoom, IsFailed, FailedAs, IsTried, beside}
 use Rattle.pig_pool.specs.declared.tries.Tried.{Tried}
 use Rattle.pig_pool.specs.declared.tries.Tried.TheVariants.{Won, Failed, GivenUp, Aside}
-use Rattle.pig_pool.proofs.Steps.{IsCalm, IsClosed, calm-all, calm-own, calm-wins, calm-open, calm-open_of, calm-trans, closed-failed, closed-offer, works-closed, won-calm, won-offer, open-begin, open_of-begin, room-begin, room-offer, room-two, fewer-all, known-offer, streak-offer, may-fresh, may-same, nothing, calm-closed, calm-failures, room-closed, room-failures}
+use Rattle.pig_pool.proofs.Steps.{IsCalm, IsClosed, calm-all, calm-own, calm-wins, calm-open, calm-open_of, calm-trans, closed-failed, closed-offer, works-closed, won-calm, won-offer, open-begin, open_of-begin, room-begin, room-offer, room-two, fewer-all, known-offer, streak-offer, may-fresh, nothing, calm-closed, calm-failures}
 use Rattle.pig_pool.proofs.Looks.{IsBegun, calm-beside, room-beside}
 
 all-begun : (t a : ℕ) (v z : View) → IsBegun t a v z → all_fails z ≡ all_fails v
@@ -135,22 +135,6 @@ tried-failed limit t a p z u q r b same room e f =
     by_answer Failed g s m = (s, (m, g))
     by_answer GivenUp g s m = (s, g)
     by_answer Aside g s m = (s, g)
-
--- a look that finds a winner, and one that finds too many failures
-pub tried-closed : (limit t : ℕ) (o : Option ℕ) (p q : Pass) → view_of q ≡ saw_winner t o (view_of p) → knows_winner t (view_of q) ≡ true → is_firm q ≡ is_firm p → may_begin p ≡ true → IsTried limit t p q Won
-tried-closed limit t o p q e known firm may =
-    let calm = calm-closed t o (view_of p) (view_of q) e in
-    let room = room-closed t o (view_of p) (view_of q) e in
-    let all = calm-all (view_of p) (view_of q) calm in
-    (omega arith, (known, may-same p q calm.streak firm ∙ may))
-
-pub tried-given_up : (limit t c : ℕ) (o : Option ℕ) (p x q : Pass) → view_of x ≡ saw_winner t o (view_of p) → view_of q ≡ saw_count t c (view_of x) → saw_limit limit (view_of q) ≡ true → IsTried limit t p q GivenUp
-tried-given_up limit t c o p x q e f seen =
-    let calm = calm-trans (view_of p) (view_of x) (view_of q) (calm-closed t o (view_of p) (view_of x) e) (calm-failures t c (view_of x) (view_of q) f) in
-    let room = room-closed t o (view_of p) (view_of x) e in
-    let left = room-failures t c (view_of x) (view_of q) f in
-    let all = calm-all (view_of p) (view_of q) calm in
-    (omega arith, seen)
 
 pub calm-both : (t c : ℕ) (o : Option ℕ) (p x q : Pass) → view_of x ≡ saw_winner t o (view_of p) → view_of q ≡ saw_count t c (view_of x) → IsCalm (view_of p) (view_of q)
 calm-both t c o p x q e f = calm-trans (view_of p) (view_of x) (view_of q) (calm-closed t o (view_of p) (view_of x) e) (calm-failures t c (view_of x) (view_of q) f)

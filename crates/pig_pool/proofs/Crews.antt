@@ -6,7 +6,7 @@ use Rattle.std.specs.Option.{option_map}
 use Rattle.std.proofs.lemmas.Bool.{or_left, or_right, false_from_ne_true, false≢true}
 use Rattle.std.proofs.lemmas.List.{map-append}
 use Rattle.std.proofs.lemmas.List.Folds.{list_any-append}
-use Rattle.std.proofs.lemmas.List.Elements.{All-append, All-nil}
+use Rattle.std.proofs.lemmas.List.Elements.{All-append}
 use Rattle.std.proofs.lemmas.List.Sums.{sum_by-append, sum_by-cons}
 use Rattle.std.proofs.Math.Nat.{pow-suc}
 use Rattle.pig_job.specs.declared.Attempt.{Attempt}
@@ -17,11 +17,11 @@ use Rattle.pig_board.specs.declared.board.Board.{Board}
 use Rattle.pig_board.specs.declared.board.Pass.{Pass}
 use Rattle.pig_board.specs.declared.view.View.{View}
 use Rattle.pig_board.specs.Pass.{view_of, is_firm, OnBoard}
-use Rattle.pig_board.specs.View.{steps_of, fails_of, all_fails, is_win_of, kept_half, other_half, both}
+use Rattle.pig_board.specs.View.{steps_of, fails_of, all_fails, kept_half, other_half, both}
 use Rattle.pig_board.proofs.Notes.{steps_keep}
 use Rattle.pig_board.proofs.CountLaws.{steps_cut, steps_both, wins_both}
 use Rattle.pig_pool.specs.Begins.{Tells, tells, Turn, turn_begins, turn_lost, is_begin, next_count, CrewTells, crew_tells, Rise}
-use Rattle.pig_pool.specs.Workers.{HasWon, Works, Stands, IsDone, Rested, Spends, saw_limit, worker_room, worker_cost, again_room}
+use Rattle.pig_pool.specs.Workers.{HasWon, Works, IsDone, Rested, Spends, saw_limit, worker_room, worker_cost}
 use Rattle.pig_pool.specs.Crew.{IsReady, CrewWorks, IsEnded, Rose, total}
 use Rattle.pig_pool.proofs.Begins.{told_twice, next-append, next-rises, lost-append, lost-rises}
 use Rattle.pig_pool.proofs.Steps.{IsCalm, notes-trans, works-trans, calm-all, calm-own}
@@ -74,23 +74,6 @@ ready-given b depth p k left ready on is firm = record {
   idle = ap (λ (v : View). v.tried) is;
   room = let h = room_halves depth (view_of p).room left ready.room in let e = ap (λ (v : View). v.room) is in let l = h.1 in omega arith;
   start = λ no. ap (λ (v : View). v.streak) is ∙ ready.start (sym firm ∙ no);
-}
-
--- one worker is ready where a crew is
-pub ready-one : (b : Board) (depth : ℕ) (p : Pass) → IsReady b depth p → IsReady b 0 p
-ready-one b depth p ready = record {
-  board = ready.board;
-  idle = ready.idle;
-  room = let l = ready.room in let q = some_power depth in omega arith;
-  start = ready.start;
-}
-
--- and stands, with no outputs
-pub ready-stands : {O : Type 0} (r : ℕ → O → Type 0) (limit : ℕ) (b : Board) (depth : ℕ) (p : Pass) (os : List (ℕ × O)) → IsReady b depth p → os ≡ [] → Stands r limit b p os
-ready-stands {O} r limit b depth p os ready none = record {
-  board = ready.board;
-  won = subst (HasWon r (view_of p)) (sym none) (record { each = λ t. sym (ap (count_by (is_win_of t)) ready.idle); right = All-nil (λ (o : ℕ × O). r o.0 o.1) });
-  few = λ t. let e = ap (count_by (is_failure_of t)) ready.idle in omega arith;
 }
 
 -- a worker as a crew
@@ -300,17 +283,6 @@ pub ok_six : {A E : Type 0} (m : Result A E) (P Q R S T V U : A → Type 0) → 
 ok_six (Ok x) P Q R S T V U p q r s t v f = f x p q r s t v
 ok_six (Err e) P Q R S T V U p q r s t v f = p
 
--- the hosts of both halves
-pub later_halves : {X : Type 0} (f : X → ℕ) (xs front back front' back' : List X) → xs ≡ front ++ back → sum_by f front ≤ sum_by f front' → sum_by f back ≤ sum_by f back' → sum_by f xs ≤ sum_by f (front' ++ back')
-later_halves f xs front back front' back' e a b =
-    let p = ap (sum_by f) e in
-    let q = sum_by-append f front back in
-    let r = sum_by-append f front' back' in
-    omega arith
-
-pub same_halves : {X Y : Type 0} (f : X → Y) (xs front back front' back' : List X) → xs ≡ front ++ back → map f front' ≡ map f front → map f back' ≡ map f back → map f (front' ++ back') ≡ map f xs
-same_halves f xs front back front' back' e a b = map-append f front' back' ∙ (ap (λ l. l ++ map f back') a ∙ (ap (λ l. map f front ++ l) b ∙ (sym (map-append f front back) ∙ ap (map f) (sym e))))
-
 -- two turns of one host
 abbrev turn_then : {wave : ℕ} (a b : Turn wave) → a.faults ≡ b.start → a.after ≡ b.before → Turn wave
 turn_then {wave} a b e f = record {
@@ -398,20 +370,6 @@ crew-then wave u v v' w x y z a c b =
       failed = λ t. let p = a.failed t in let q = b.failed t in let r = calm-own v v' c t in let s = j.failed t in omega arith;
     }
 
-pub crew-calm : (wave : ℕ) (u v w : View) (x y : CrewTells) → CrewWorks wave u v x y → IsCalm v w → CrewWorks wave u w x y
-crew-calm wave u v w x y a c = record {
-  notes = notes-trans u v w a.notes c.notes;
-  steps = c.steps ∙ a.steps;
-  faults = let p = a.faults in let r = calm-all v w c in omega arith;
-  turns = a.turns;
-  start = a.start;
-  behind = a.behind;
-  before = a.before;
-  after = a.after;
-  attempts = λ t n. let p = a.attempts t n in let r = ap (count_by (is_attempt t n)) c.tried in omega arith;
-  failed = λ t. let p = a.failed t in let r = calm-own v w c t in omega arith;
-}
-
 -- a round that is begun on three quarters of the room, with the entries left aside
 pub crew-again : (wave : ℕ) (v k o l w : View) (x y : CrewTells) → k ≡ kept_half (kept_half v) → o ≡ both (other_half v) (other_half (kept_half v)) → w ≡ both k l → CrewWorks wave o l x y → CrewWorks wave v w x y
 crew-again wave v k o l w x y ek eo ew a = subst (λ z. CrewWorks wave v z x y) (sym (ew ∙ ap (λ z. both z l) ek)) (record {
@@ -444,15 +402,6 @@ crew-again wave v k o l w x y ek eo ew a = subst (λ z. CrewWorks wave v z x y) 
       let r = a.failed t in
       omega arith;
 })
-
--- its pass is ready, and what it won and did is joined to what there was
-pub ready-again : (b : Board) (p o : Pass) → again_room ≤ (view_of p).room → OnBoard b o → view_of o ≡ both (other_half (view_of p)) (other_half (kept_half (view_of p))) → is_firm o ≡ true → IsReady b 8 o
-ready-again b p o room on is firm = record {
-  board = on;
-  idle = ap (λ (v : View). v.tried) is;
-  room = let e = ap (λ (v : View). v.room) is in omega arith;
-  start = λ no. absurd (false≢true (sym no ∙ firm));
-}
 
 pub won-again : {O : Type 0} (r : ℕ → O → Type 0) (v k l w : View) (os ps qs : List (ℕ × O)) → k ≡ kept_half (kept_half v) → w ≡ both k l → qs ≡ os ++ ps → HasWon r v os → HasWon r l ps → HasWon r w qs
 won-again r v k l w os ps qs ek ew eq a b = won_both r k l w os ps qs ew eq (subst (λ z. HasWon r z os) (sym ek) (record { each = a.each; right = a.right })) b

@@ -51,9 +51,6 @@ pub record IsCalm (v w : View) : Type 0 where
   pub tried : w.tried ≡ v.tried
   pub streak : w.streak ≡ v.streak
 
-pub calm-refl : (v : View) → IsCalm v v
-calm-refl v = record { notes = notes-refl v; steps = refl; tried = refl; streak = refl }
-
 pub calm-trans : (u v w : View) → IsCalm u v → IsCalm v w → IsCalm u w
 calm-trans u v w a b = record { notes = notes-trans u v w a.notes b.notes; steps = b.steps ∙ a.steps; tried = b.tried ∙ a.tried; streak = b.streak ∙ a.streak }
 
@@ -325,9 +322,6 @@ may-same p q e f = ap (λ n. nat_lt n 3 || is_firm q) e ∙ ap (λ b. nat_lt (vi
 pub may-fresh : (q : Pass) → (view_of q).streak ≡ 0 → may_begin q ≡ true
 may-fresh q e = ap (λ n. nat_lt n 3 || is_firm q) e
 
-pub may-firm : (q : Pass) → is_firm q ≡ true → may_begin q ≡ true
-may-firm q e = or_right (nat_lt (view_of q).streak 3) (is_firm q) e
-
 -- a draw
 pub calm-drawn : (n : ℕ) (o : Option ℕ) (v w : View) → 0 < v.room → IsDraw n v w o → IsCalm v w
 calm-drawn n o v w room d = calm-draw d.number v w room d.beyond d.view
@@ -406,21 +400,11 @@ fewer-all b p l t on few there less =
     let r = less_than_most (λ u. fails_of u (view_of p)) l (tasks_of b) t few there less in
     omega arith
 
--- room, spent
-pub room-some : (k m : ℕ) (v : View) → HasRoom (k + 1) m v → all_fails v ≤ m → 0 < v.room
-room-some k m v room most = omega arith
-
 pub room-two : (m : ℕ) (v : View) → HasRoom 1 m v → all_fails v < m → 2 < v.room
 room-two m v room less = omega arith
 
 pub room-after : (j k m : ℕ) (v w : View) → HasRoom (j + k) m v → Spends j v w → HasRoom k m w
 room-after j k m v w room spent = omega arith
-
-pub spends-trans : (j k : ℕ) (u v w : View) → Spends j u v → Spends k v w → Spends (j + k) u w
-spends-trans j k u v w a b = omega arith
-
-pub spends-more : (j k : ℕ) (v w : View) → j ≤ k → Spends j v w → Spends k v w
-spends-more j k v w l a = omega arith
 
 -- the room before a draw, and before the try of what was drawn
 pub drawn-room : (limit : ℕ) (b : Board) (p : Pass) (v : View) → HasRoom (3 * tasks_of b + 2) (limit * tasks_of b) v → OnBoard b p → ((u : ℕ) → fails_of u (view_of p) ≤ limit) → Spends (2 * min (view_of p).known (tasks_of b)) v (view_of p) → 0 < (view_of p).room
@@ -439,10 +423,6 @@ drawn-room-left limit n t u v w room spent beyond below left all some = left_roo
 
 pub rest-room : (m n t : ℕ) (v w : View) → t < n → HasRoom (n + 1) m v → Spends t v w → HasRoom 1 m w
 rest-room m n t v w l room spent = omega arith
-
--- looks after one another
-pub looks-refl : (v : View) → Looks v v
-looks-refl v = record { notes = notes-refl v; drawn = refl; tried = refl; room = refl; streak = refl }
 
 pub looks-trans : (u v w : View) → Looks u v → Looks v w → Looks u w
 looks-trans u v w a b = record { notes = notes-trans u v w a.notes b.notes; drawn = b.drawn ∙ a.drawn; tried = b.tried ∙ a.tried; room = b.room ∙ a.room; streak = b.streak ∙ a.streak }

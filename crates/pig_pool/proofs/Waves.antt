@@ -1,8 +1,8 @@
 -- The end of a wave, from what its workers tell.
 use Rattle.std.proofs.Common.{◌≡◌, ℕ, ◌+◌, ◌*◌, ◌<◌, ◌≤◌, Bool, true, false, not, ◌&&◌, ◌||◌, Option, Some, None, List, [], ◌∷◌, cond, map, length, refl, sym, ◌∙◌, ap, subst, arith, inl, inr}
-use Rattle.std.specs.Prelude.{⊤, ◌^◌, ◌==◌, is_some, nat_le, nat_lt, count_by, MatchBool, All, Result, Ok, Err, IfErr, MatchResult}
+use Rattle.std.specs.Prelude.{⊤, ◌^◌, ◌==◌, is_some, nat_le, count_by, MatchBool, All, Result, Ok, Err, IfErr, MatchResult}
 use Rattle.std.specs.List.{list_any, sum_by}
-use Rattle.std.proofs.lemmas.Bool.{cases_Bool, cases_lt, or_cases, leb-true, lt-ltb, ne_eqb, false≢true, false_from_ne_true}
+use Rattle.std.proofs.lemmas.Bool.{cases_Bool, cases_lt, or_cases, leb-true, ne_eqb, false≢true, false_from_ne_true}
 use Rattle.std.proofs.lemmas.Bool.Decides.{nat_tests}
 use Rattle.std.proofs.lemmas.List.{get_or_past, length-map}
 use Rattle.std.proofs.lemmas.List.Elements.{All-head, All-tail, All-nil, All-cons}
@@ -16,21 +16,18 @@ use Rattle.pig_board.specs.declared.end.TaskEnd.{TaskEnd}
 use Rattle.pig_board.specs.declared.board.Board.{Board}
 use Rattle.pig_board.specs.declared.board.Pass.{Pass}
 use Rattle.pig_board.specs.View.{steps_of, IsAlone, fails_of, all_fails, fresh}
-use Rattle.pig_board.specs.Pass.{tasks_of, view_of, is_firm, may_begin, OnBoard}
+use Rattle.pig_board.specs.Pass.{tasks_of, view_of, OnBoard}
 use Rattle.pig_board.specs.End.{untried, end_of, IsEnd}
 use Rattle.pig_board.proofs.EndLaws.{an_end}
 use Rattle.pig_board.specs.Laws.{EndTells}
 use Rattle.pig_pool.specs.Begins.{CrewTells, crew_tells}
-use Rattle.pig_pool.specs.Workers.{outputs_of, HasWon, IsDone, IsBelow, KnowsAll, Looks, Went, Rested, was_aside, Spends, HasRoom, saw_limit, worker_cost, again_room}
-use Rattle.pig_pool.specs.declared.worker.Course.{Course}
-use Rattle.pig_pool.specs.declared.worker.Course.TheVariants as course
-use Rattle.pig_pool.specs.Crew.{AreHosts, IsReady, CrewWorks}
+use Rattle.pig_pool.specs.Workers.{outputs_of, HasWon, IsDone, IsBelow, KnowsAll, Looks, Rested, Spends, saw_limit, worker_cost, again_room}
+use Rattle.pig_pool.specs.Crew.{AreHosts, CrewWorks}
 use Rattle.pig_pool.specs.declared.wave.WaveFault.{WaveFault}
 use Rattle.pig_pool.specs.declared.wave.WaveFault.TheVariants.{TaskFailed, OutOfMemory}
 use Rattle.pig_pool.specs.Wave.{AllWon, IsWonWave, HasUnwon, IsLeast, HasFailed, AreBegun, FaultBegun, EndsAt, FaultEndsAt, failures_in, failures_of}
 use Rattle.pig_pool.proofs.Placing.{once_at_most}
-use Rattle.pig_pool.proofs.Steps.{calm-looks, calm-all, few-all, may-firm, may-fresh}
-use Rattle.pig_pool.proofs.Looks.{or_parts}
+use Rattle.pig_pool.proofs.Steps.{calm-looks, calm-all, few-all}
 use Rattle.pig_pool.proofs.Crews.{total-map, head_of, tail_of}
 
 none_above : (n t : ℕ) → n ≤ t → once_below n t ≡ 0
@@ -105,15 +102,6 @@ few_faults (Ok r) limit k n f g failed rise few = failed
 few_faults (Err (TaskFailed t ends)) limit k n f g failed rise few = let p = some_failures limit t ends failed.least in absurd (omega arith)
 few_faults (Err OutOfMemory) limit k n f g failed rise few = refl
 
--- the first pass is ready for eight halvings
-pub ready-fresh : (b : Board) (p : Pass) → OnBoard b p → view_of p ≡ fresh → IsReady b 8 p
-ready-fresh b p on is = record {
-  board = on;
-  idle = ap (λ (v : View). v.tried) is;
-  room = let e = ap (λ (v : View). v.room) is in omega arith;
-  start = λ no. ap (λ (v : View). v.streak) is;
-}
-
 -- the failures of a task that is not of the board
 no_failures : (n t : ℕ) (xs : List Attempt) → n ≤ t → All (λ x. x.task < n) xs → count_by (is_failure_of t) xs ≡ 0
 no_failures n t [] l all = refl
@@ -150,33 +138,6 @@ room-again limit b v p q tasks small is spent on looks few =
     let f = few_all b q limit on tasks small few in
     let g = calm-all (view_of p) (view_of q) calm in
     omega arith
-
--- the room of a worker is enough for its course
-pub room-enough : (limit : ℕ) (b : Board) (p : Pass) → tasks_of b ≤ 65536 → limit ≤ 16 → IsReady b 0 p → HasRoom (3 * tasks_of b + 2) (limit * tasks_of b) (view_of p)
-room-enough limit b p tasks small ready =
-    let a = mul-le-mul_left limit tasks in
-    let room = ready.room in
-    omega arith
-
-pub may-ready : (b : Board) (d : ℕ) (p : Pass) → IsReady b d p → may_begin p ≡ true
-may-ready b d p ready = elim (cases_Bool (is_firm p)) as (λ _. may_begin p ≡ true) [
-  | inl is ↦ may-firm p is
-  | inr not_firm ↦ may-fresh p (ready.start not_firm)
-]
-
--- how a worker's course ended
-pub rested-course : (limit n : ℕ) (p : Pass) (firm : Bool) (c : Course) → is_firm p ≡ firm → Went limit p (KnowsAll n (view_of p)) c → Rested limit n firm (view_of p) (was_aside c)
-rested-course limit n p firm course.On e w = record { all = λ _. w.0 }
-rested-course limit n p firm course.Over e w = record { all = λ none. absurd (false≢true (sym none ∙ w)) }
-rested-course limit n p firm course.Aside e w =
-    let parts = or_parts (nat_lt (view_of p).streak 3) (is_firm p) w in
-    (not_less (view_of p).streak parts.0, sym e ∙ parts.1)
-  where
-    not_less : (s : ℕ) → nat_lt s 3 ≡ false → 3 ≤ s
-    not_less s h = elim (cases_lt s 3) as (λ _. 3 ≤ s) [
-      | inl l ↦ absurd (false≢true (sym h ∙ lt-ltb s 3 l))
-      | inr l ↦ l
-    ]
 
 -- all steps are those of the first pass
 pub alone-again : (wave : ℕ) (v w : View) (x y : CrewTells) → v ≡ fresh → CrewWorks wave v w x y → IsAlone w

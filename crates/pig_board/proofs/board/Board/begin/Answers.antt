@@ -1,8 +1,9 @@
-use Rattle.std.proofs.Common.{◌<◌, ◌+◌, ◌*◌, refl, sym, ◌∙◌, subst, arith}
+use Rattle.std.proofs.Common.{◌<◌, refl, sym, ◌∙◌, subst, arith}
 use Rattle.std.specs.Prelude.{All}
 use Rattle.std.proofs.lemmas.List.Elements.{All-push}
 use Rattle.pig_job.specs.declared.Attempt.{Attempt}
 use Rattle.pig_job.specs.declared.Fate.TheVariants.{Unended}
+use Rattle.pig_board.specs.Words.{begun_word}
 use Rattle.pig_board.proofs.Moves.{begin_allowed}
 use Rattle.pig_board.proofs.board.Board.begin.Goals as goal
 
@@ -13,7 +14,7 @@ fetch_add-number-requires c =
     let words = c.args.self.now.words in
     let task = c.requires.task in
     let counted = c.args.self.now.counted in
-    (c.requires.board.seat, omega arith, begin_allowed table.key table.table_id.slots seat.id c.args.t (3 * c.args.t + 1) seat.me c.requires.room (omega arith) c.requires.drawn refl)
+    (c.requires.board.seat, omega arith, begin_allowed table.key table.table_id.slots seat.id c.args.t (begun_word c.args.t) seat.me c.requires.room (omega arith) c.requires.drawn refl)
 
 pub returns-clause-unused : goal.returns-clause-unused
 returns-clause-unused c = (c.fetch_add-number.ensures.2.after c.args.t refl).1

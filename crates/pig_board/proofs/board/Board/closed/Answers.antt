@@ -1,7 +1,8 @@
-use Rattle.std.proofs.Common.{◌<◌, ◌+◌, ◌*◌, refl, sym, ◌∙◌, subst, arith}
+use Rattle.std.proofs.Common.{◌<◌, refl, sym, ◌∙◌, subst, arith}
 use Rattle.std.specs.Prelude.{All}
 use Rattle.pig_job.specs.declared.Attempt.{Attempt}
 use Rattle.pig_board.specs.Rule.{winner_of}
+use Rattle.pig_board.specs.Words.{winner_word}
 use Rattle.pig_board.proofs.Moves.{winner_allowed, winner_below}
 use Rattle.pig_board.proofs.board.Board.closed.Goals as goal
 
@@ -12,7 +13,7 @@ load-found-requires c =
     let words = c.args.self.now.words in
     let task = c.requires.task in
     let counted = c.args.self.now.counted in
-    (c.requires.board.seat, omega arith, winner_allowed table.key table.table_id.slots seat.id c.args.t (3 * c.args.t + 3) seat.me (omega arith) refl)
+    (c.requires.board.seat, omega arith, winner_allowed table.key table.table_id.slots seat.id c.args.t (winner_word c.args.t) seat.me (omega arith) refl)
 
 pub returns-clause-board : goal.returns-clause-board
 returns-clause-board c =

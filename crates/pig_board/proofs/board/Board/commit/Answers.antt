@@ -1,6 +1,7 @@
-use Rattle.std.proofs.Common.{◌<◌, ◌+◌, ◌*◌, refl, sym, ◌∙◌, ap, subst, arith}
+use Rattle.std.proofs.Common.{◌<◌, ◌+◌, refl, sym, ◌∙◌, ap, subst, arith}
 use Rattle.std.specs.Prelude.{All}
 use Rattle.pig_job.specs.declared.Attempt.{Attempt}
+use Rattle.pig_board.specs.Words.{winner_word}
 use Rattle.pig_board.proofs.Counts.{open_below, open-of}
 use Rattle.pig_board.proofs.Moves.{commit_allowed, commit_answer, committed_below}
 use Rattle.pig_board.proofs.board.Board.commit.Goals as goal
@@ -11,7 +12,7 @@ compare_exchange-found-requires c =
     let seat = c.args.pass.now.seat in
     let words = c.args.self.now.words in
     let task : c.args.t < c.args.self.now.tasks = open_below c.args.self.now.tasks c.args.t seat.me.0.tried c.requires.board.tasks (open-of c.args.t c.args.a seat.me.0.tried c.requires.under_way) in
-    (c.requires.board.seat, omega arith, commit_allowed table.key table.table_id.slots seat.id c.args.t c.args.a (3 * c.args.t + 3) (c.args.a + 1) seat.me c.requires.under_way refl refl)
+    (c.requires.board.seat, omega arith, commit_allowed table.key table.table_id.slots seat.id c.args.t c.args.a (winner_word c.args.t) (c.args.a + 1) seat.me c.requires.under_way refl refl)
 
 pub returns-clause-view : goal.returns-clause-view
 returns-clause-view c =

@@ -1,8 +1,9 @@
-use Rattle.std.proofs.Common.{◌<◌, ◌+◌, ◌*◌, refl, sym, ◌∙◌, subst, arith}
+use Rattle.std.proofs.Common.{◌<◌, refl, sym, ◌∙◌, subst, arith}
 use Rattle.std.specs.Prelude.{All}
 use Rattle.pig_job.specs.declared.Attempt.{Attempt}
 use Rattle.pig_job.specs.declared.Fate.TheVariants.{Failed}
 use Rattle.pig_board.specs.View.{earliest}
+use Rattle.pig_board.specs.Words.{failures_word}
 use Rattle.pig_board.proofs.Counts.{open_below, settled_below}
 use Rattle.pig_board.proofs.Moves.{fail_allowed}
 use Rattle.pig_board.proofs.board.Board.fail.Goals as goal
@@ -13,7 +14,7 @@ fetch_add-before-requires c =
     let seat = c.args.pass.now.seat in
     let words = c.args.self.now.words in
     let task : c.args.t < c.args.self.now.tasks = open_below c.args.self.now.tasks c.args.t seat.me.0.tried c.requires.board.tasks c.requires.under_way in
-    (c.requires.board.seat, omega arith, fail_allowed table.key table.table_id.slots seat.id c.args.t (3 * c.args.t + 2) seat.me c.requires.room c.requires.under_way refl)
+    (c.requires.board.seat, omega arith, fail_allowed table.key table.table_id.slots seat.id c.args.t (failures_word c.args.t) seat.me c.requires.room c.requires.under_way refl)
 
 pub returns-clause-board : goal.returns-clause-board
 returns-clause-board c =

@@ -1,6 +1,7 @@
-use Rattle.std.proofs.Common.{◌<◌, ◌+◌, ◌*◌, refl, sym, ◌∙◌, subst, arith}
+use Rattle.std.proofs.Common.{◌<◌, refl, sym, ◌∙◌, subst, arith}
 use Rattle.std.specs.Prelude.{All}
 use Rattle.pig_job.specs.declared.Attempt.{Attempt}
+use Rattle.pig_board.specs.Words.{failures_word}
 use Rattle.pig_board.proofs.Moves.{count_allowed}
 use Rattle.pig_board.proofs.board.Board.failures.Goals as goal
 
@@ -11,7 +12,7 @@ load-found-requires c =
     let words = c.args.self.now.words in
     let task = c.requires.task in
     let counted = c.args.self.now.counted in
-    (c.requires.board.seat, omega arith, count_allowed table.key table.table_id.slots seat.id c.args.t (3 * c.args.t + 2) seat.me (omega arith) refl)
+    (c.requires.board.seat, omega arith, count_allowed table.key table.table_id.slots seat.id c.args.t (failures_word c.args.t) seat.me (omega arith) refl)
 
 pub returns-clause-board : goal.returns-clause-board
 returns-clause-board c =
