@@ -63,21 +63,6 @@ pub record IsSoFar (stores left : List StorePart) (old now : Option Shelf) (call
   pub absent : ForSome now (AreAbsent left)
   pub apart : AreApart left
 
--- at the beginning
-pub none_stored : (stores : List StorePart) (old : Option Shelf) (calls : Option (List DepotCall)) → ForSome old (AreAbsent stores) → AreApart stores → IsSoFar stores stores old old calls calls
-none_stored stores old calls absent apart = record {
-  before = [];
-  are = refl;
-  shelf = same old;
-  asked = none_asked calls;
-  absent = absent;
-  apart = apart;
-}
-  where
-    same : (o : Option Shelf) → o ≡ option_map (with_stored []) o
-    same None = refl
-    same (Some s) = refl
-
 absent_still : (shelf : Shelf) (store : StorePart) (stores : List StorePart) → AllByRecursion (λ other. other.dir ≢ store.dir) stores → AreAbsent stores shelf
     → AreAbsent stores (with_dir store.dir (whole_state store.parts) shelf)
 absent_still shelf store [] apart absent = tt
@@ -149,14 +134,6 @@ module _ (stores : List StorePart) (place : ℕ) (store d : StorePart) (old now 
         ∙ ap (flat_map store_calls) (sym here.are),
     some_made (flat_map store_calls here.before) made some,
   )
-
-pub all_stored : (stores left : List StorePart) (old now : Option Shelf) (calls_old calls_now : Option (List DepotCall)) → left ≡ [] → IsSoFar stores left old now calls_old calls_now
-    → (now ≡ option_map (with_stored stores) old) × Asked (flat_map store_calls stores) calls_old calls_now
-all_stored stores left old now calls_old calls_now none so_far =
-    let are : so_far.before ≡ stores = sym (so_far.are ∙ ap (λ l. so_far.before ++ l) none ∙ append-nil so_far.before) in (
-      so_far.shelf ∙ ap (λ b. option_map (with_stored b) old) are,
-      subst (λ b. Asked (flat_map store_calls b) calls_old calls_now) are so_far.asked,
-    )
 
 -- ---- parts
 

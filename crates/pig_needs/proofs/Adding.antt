@@ -2,9 +2,6 @@
 use Rattle.std.specs.Prelude.{◌≡◌, ◌<◌, ◌≤◌, ◌+◌, ◌==◌, ℕ, zero, suc, Bool, true, false, List, [], ◌∷◌, drop, length, map, Some, slice_get, get_or, slice_set, replicate, refl, if◌then◌else◌}
 use Rattle.std.proofs.Common.{ap, sym, subst, ◌∙◌, arith, inl, inr}
 use Rattle.std.specs.List.{range_with_len}
-use Rattle.std.proofs.lemmas.Bool.{eqb-true, ne_eqb}
-use Rattle.pig_value.proofs.list_laws.Bags.{either_way}
-use Rattle.std.proofs.lemmas.Bool.Decides.{Decides-eqb}
 use Rattle.std.proofs.lemmas.List.{drop_all, get_or-set_same, get_or-set_other}
 use Rattle.std.proofs.Math.Nat.{eq-or-lt_of_le}
 use Rattle.pig_value.proofs.list_laws.Indexing.{dropped}
@@ -26,61 +23,10 @@ pub record StillUsed (i : ℕ) (all left : List Use) (old new : List (List Need)
   pub behind : (k : ℕ) → i ≤ k → get_or new k [] ≡ get_or old k []
   pub before : (k : ℕ) → k < i → with_uses k (get_or new k []) left ≡ with_uses k (get_or old k []) all
 
-pub still_begun : (i : ℕ) (all : List Use) (found : List (List Need)) → StillUsed i all all found found
-still_begun i all found = record { size = refl; behind = λ k h. refl; before = λ k h. refl }
-
-pub still_next : (i : ℕ) (all left : List Use) (one : Use) (old mid new : List (List Need)) → StillUsed i all (one ∷ left) old mid → AreUsed i (one ∷ []) mid new
-    → StillUsed i all left old new
-still_next i all left one old mid new so_far next = record {
-  size = next.size ∙ so_far.size;
-  behind = λ k h. next.behind k h ∙ so_far.behind k h;
-  before = λ k h. ap (λ need. with_uses k need left) (next.before k h) ∙ so_far.before k h;
-}
-
-pub still_ends : (i : ℕ) (all : List Use) (old new : List (List Need)) → StillUsed i all [] old new → AreUsed i all old new
-still_ends i all old new so_far = record { size = so_far.size; behind = so_far.behind; before = so_far.before }
-
 -- ---- one use
 
 other_one : (one : Use) (k : ℕ) (need : List Need) → (one.input == k) ≡ false → with_use k need one ≡ need
 other_one one k need h = ap (λ b. if b then with_all need one.named else need) h
-
-same_one : (one : Use) (k : ℕ) (need : List Need) → (one.input == k) ≡ true → with_use k need one ≡ with_all need one.named
-same_one one k need h = ap (λ b. if b then with_all need one.named else need) h
-
-pub used_none : (i : ℕ) (one : Use) (found : List (List Need)) → i ≤ one.input → AreUsed i (one ∷ []) found found
-used_none i one found above = record {
-  size = refl;
-  behind = λ k h. refl;
-  before = λ k h. sym (other_one one k (get_or found k []) (ne_eqb one.input k (λ e. omega (arith, e, above, h))));
-}
-
-pub used_one : (i : ℕ) (one : Use) (old new : List (List Need)) → one.input < i → i < length old → length new ≡ length old
-    → new ≡ slice_set old one.input (with_all (get_or old one.input []) one.named) → AreUsed i (one ∷ []) old new
-used_one i one old new below within size is = record {
-  size = size;
-  behind = λ k h. ap (λ xs. get_or xs k []) is ∙ get_or-set_other old one.input k (with_all (get_or old one.input []) one.named) [] (λ e. omega (arith, e, h, below));
-  before = λ k h. ap (λ xs. get_or xs k []) is
-      ∙ either_way (one.input == k) (λ e. at_it k e (eqb-true one.input k e)) (λ e. ahead k e);
-}
-  where
-    named_so : List Need
-    named_so = with_all (get_or old one.input []) one.named
-
-    at_it : (k : ℕ) → (one.input == k) ≡ true → one.input ≡ k → get_or (slice_set old one.input named_so) k [] ≡ with_uses k (get_or old k []) (one ∷ [])
-    at_it k e same =
-        ap (λ j. get_or (slice_set old one.input named_so) j []) (sym same)
-        ∙ get_or-set_same old one.input named_so [] (omega (arith, below, within))
-        ∙ ap (λ j. with_all (get_or old j []) one.named) same
-        ∙ sym (same_one one k (get_or old k []) e)
-
-    ahead : (k : ℕ) → (one.input == k) ≡ false → get_or (slice_set old one.input named_so) k [] ≡ with_uses k (get_or old k []) (one ∷ [])
-    ahead k e =
-        get_or-set_other old one.input k named_so [] (λ same. not_both (sym ((Decides-eqb one.input k).1 (sym same)) ∙ e))
-        ∙ sym (other_one one k (get_or old k []) e)
-      where
-        not_both : true ≡ false → ⊥
-        not_both = λ h. absurd (cc)
 
 -- ---- the nodes in turn
 

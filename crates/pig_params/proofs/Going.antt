@@ -14,10 +14,6 @@ pub record Going (whole left : Outcome) (old new : Made) : Type 0 where
   pub is : whole ≡ behind done left
   pub puts : Puts done old new
 
-behind_nothing : (o : Outcome) → behind [] o ≡ o
-behind_nothing (Ok text) = refl
-behind_nothing (Err offset) = refl
-
 behind_behind : (first second : List ℕ) (o : Outcome) → behind first (behind second o) ≡ behind (first ++ second) o
 behind_behind first second (Ok text) = ap Ok (sym (append_assoc first second text))
 behind_behind first second (Err offset) = refl
@@ -26,15 +22,8 @@ pub both_nothing : (o : Outcome) → both o (Ok []) ≡ o
 both_nothing (Ok text) = ap Ok (append-nil text)
 both_nothing (Err offset) = refl
 
-puts_nothing : (m : Made) → Puts [] m m
-puts_nothing m front made = subst (λ text. IsMade text m) (sym (append-nil front)) made
-
 pub puts_both : (first second : List ℕ) (old mid new : Made) → Puts first old mid → Puts second mid new → Puts (first ++ second) old new
 puts_both first second old mid new p q front made = subst (λ text. IsMade text new) (append_assoc front first second) (q (front ++ first) (p front made))
-
--- nothing is put yet
-pub going_from : (o : Outcome) (m : Made) → Going o o m m
-going_from o m = record { done = []; is = sym (behind_nothing o); puts = puts_nothing m }
 
 -- one part more is put
 pub going_on : (whole part next : Outcome) (old mid new : Made) → Going whole (both part next) old mid → PutsOutcome part mid new → Going whole next old new

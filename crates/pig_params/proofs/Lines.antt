@@ -11,7 +11,7 @@ use Rattle.pig_params.specs.Substitution.{Named, Outcome, both, joined_by_lf, li
 use Rattle.pig_params.specs.declared.faults.ParamFault.{ParamFault}
 use Rattle.pig_params.specs.declared.known.Known.{Known}
 use Rattle.pig_params.specs.declared.making.Made.{Made}
-use Rattle.pig_params.proofs.Going.{Going, cause_of_last, cause_of_part, going_ends, going_from, going_on}
+use Rattle.pig_params.proofs.Going.{Going, cause_of_last, cause_of_part, going_ends, going_on}
 use Rattle.pig_params.proofs.Looking.{known_value}
 use Rattle.pig_params.proofs.Parts.{going_at}
 use Rattle.pig_params.proofs.Splitting.{IsCut, cut, uncut}
@@ -26,9 +26,6 @@ pub record GoingOn (given : List Named) (script : List ℕ) (at : ℕ) (left : L
   pub start : at ≡ start_behind above
   pub values : AreValues given above k
   pub going : Going (substituted given script) (lines_put given above left) old new
-
-pub first_lines : (given : List Named) (script : List ℕ) (k : Known) (m : Made) → AreValues given [] k → GoingOn given script 0 script k m m
-first_lines given script k m values = record { above = []; start = refl; values = values; going = going_from (substituted given script) m }
 
 -- a list of parts is not empty
 pub split_some : (c : ℕ) (bs : List ℕ) → (first : List ℕ) × (more : List (List ℕ)) × (slice_split (is_byte c) bs ≡ first ∷ more)

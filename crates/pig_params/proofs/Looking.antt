@@ -32,10 +32,6 @@ pub or_else_in_turn : {A : Type 0} (a b c : Option A) → or_else a (or_else b c
 or_else_in_turn (Some x) b c = refl
 or_else_in_turn None b c = refl
 
-pub or_else_none : {A : Type 0} (a : Option A) → or_else a None ≡ a
-or_else_none (Some x) = refl
-or_else_none None = refl
-
 -- a value that is set stands before all that there was
 pub or_else_set : {A : Type 0} (same : Bool) (value : A) (a b : Option A)
     → (if same then Some value else or_else a b) ≡ or_else (if same then Some value else a) b

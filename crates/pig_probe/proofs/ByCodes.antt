@@ -149,12 +149,6 @@ module _ (start b new : Begun) (fill : Option ℕ) (row : Row) (made : List Row)
       ∙ ap (λ rows. and_row (row ++ nulls width) (whole_rows rows)) (append-nil start.rows)
       ∙ (λ i. and_rows (or_alone (sym kept i) row (sym nothing i)) start)
 
-pub joined_stay : (start b : Begun) (fill : Option ℕ) (row : Row) (made : List Row) → b ≡ and_rows made start → ((width : ℕ) → fill ≡ Some width → length b.rows ≡ length start.rows → ⊥)
-    → b ≡ and_rows (or_alone fill row made) start
-joined_stay start b None row made were some = were
-joined_stay start b (Some width) row (x ∷ made) were some = were
-joined_stay start b (Some width) row [] were some = absurd (some width refl (ap (λ c. length c.rows) were ∙ ap length (append-nil start.rows)))
-
 -- what a test of lent codes for being none tells
 pub none_are : {R : Type 0} (items : R → List ℕ) (b : Bool) (all : List R) (ms : List Row) → b ≡ (length all == 0) → map items all ≡ map inner_code ms → b ≡ is_empty ms
 none_are items b [] [] is are = is
