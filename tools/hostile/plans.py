@@ -2,7 +2,7 @@
 
 import os
 
-from trial import Case, over
+from trial import WANTING, Case, over
 from scripts import checked, one
 
 TASKS = b"pig: too large: tasks\n"
@@ -76,6 +76,21 @@ def blocks():
     yield one("branches_4000", f"SPLIT a INTO {branches}; r = UNION s1, s3999;", [b"1", b"3999"], inputs=b"1\n3999\n2\n")
 
 
+def groups():
+    """Conditions that take the keys of the GROUPs that they pass: up to 2,048 levels, and 2 to the 20 nodes."""
+    def keyed(key, count):
+        return "r = FILTER a BY true;" + f"r = GROUP r BY {key}; r = FOREACH r GENERATE group AS x;" * count
+
+    deep = f"CASE {' '.join(f'WHEN {n} == 0 THEN {n}' for n in range(1, 1001))} ELSE x END"
+    yield one("groups_12_by_doubled_keys", keyed("x + x", 12) + "r = FILTER r BY x > 4096;", [b"8192"], inputs=b"1\n2\n")
+    yield one("groups_30_by_doubled_keys", keyed("x + x", 30) + "r = FILTER r BY x > 0;", None, status=9, printed=WANTING,
+              why="as one expression the condition would have 2 to the 30 fields")
+    yield one("groups_400_by_negated_keys", keyed("-x", 400) + "r = FILTER r BY x > 1;", [b"2"], inputs=b"1\n2\n")
+    yield one("groups_2_by_keys_of_1000_levels", keyed(deep, 2) + "r = FILTER r BY x > 1;", [b"2"], inputs=b"1\n2\n")
+    yield one("groups_3_by_keys_of_1000_levels", keyed(deep, 3) + "r = FILTER r BY x > 1;", None, status=9, printed=WANTING,
+              why="the condition would nest 3,001 levels")
+
+
 def nested():
     def bags(n):
         inner = b"{(1),(2)}"
@@ -119,5 +134,6 @@ def cases():
     yield from filters()
     yield from unions()
     yield from blocks()
+    yield from groups()
     yield from nested()
     yield from widths()
