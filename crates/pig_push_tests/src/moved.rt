@@ -622,18 +622,17 @@ fn groups<R: Abort>(rt: &R, alloc: Global, count: u32, twice: bool) -> Plan {
     plan
 }
 
-/// The node on which all of them stand, once the conditions have moved: a FILTER or not.
-fn is_pushed<R: Abort>(rt: &R, count: u32, twice: bool) -> bool {
-    let Ok(pushed) = push(rt.alloc(), groups(rt, rt.alloc(), count, twice)) else {
+/// Whether the condition passes all of them.
+fn is_pushed<R: Abort>(rt: &R, alloc: Global, count: u32, twice: bool) -> bool {
+    let Ok(pushed) = push(alloc, groups(rt, alloc, count, twice)) else {
         return false;
     };
-    matches!(
-        pushed.nodes().get(2),
-        Some(Node {
-            op: NodeOp::Filter { .. },
-            ..
-        })
-    )
+    let lowest = match pushed.nodes().get(2) {
+        Some(node) => matches!(node.op, NodeOp::Filter { .. }),
+        None => false,
+    };
+    drop(pushed);
+    lowest
 }
 
 // A condition takes the key of each GROUP that it passes: a level deeper each, or twice as large. Past
@@ -641,8 +640,8 @@ fn is_pushed<R: Abort>(rt: &R, count: u32, twice: bool) -> bool {
 // no memory.
 #[test]
 fn conditions_grow_up_to_a_bound(rt: HostRuntime) {
-    assert!(rt; is_pushed(&rt, 2_048, false));
-    assert!(rt; !is_pushed(&rt, 2_049, false));
-    assert!(rt; is_pushed(&rt, 12, true));
-    assert!(rt; !is_pushed(&rt, 20, true));
+    assert!(rt; is_pushed(&rt, rt.alloc(), 2_048, false));
+    assert!(rt; !is_pushed(&rt, rt.alloc(), 2_049, false));
+    assert!(rt; is_pushed(&rt, rt.alloc(), 12, true));
+    assert!(rt; !is_pushed(&rt, rt.alloc(), 20, true));
 }
