@@ -601,7 +601,7 @@ fn groups<R: Abort>(rt: &R, alloc: Global, count: u32, twice: bool) -> Plan {
     add_fitting(rt, &mut plan, Node { op, statement });
     let op = made(rt, alloc, 0, is_there(rt, alloc, 0));
     add_fitting(rt, &mut plan, Node { op, statement });
-    let mut last = 1;
+    let mut last: u32 = 1;
     for _ in 0..count {
         let key = if twice {
             doubled(rt, alloc)
@@ -610,14 +610,14 @@ fn groups<R: Abort>(rt: &R, alloc: Global, count: u32, twice: bool) -> Plan {
         };
         let op = grouped(rt, alloc, last, key);
         add_fitting(rt, &mut plan, Node { op, statement });
-        let op = made(rt, alloc, last + 1, TExpr::Field(0));
+        let op = made(rt, alloc, last.saturating_add(1), TExpr::Field(0));
         add_fitting(rt, &mut plan, Node { op, statement });
-        last += 2;
+        last = last.saturating_add(2);
     }
     let cond = TExpr::Field(0);
     let op = NodeOp::Filter { input: last, cond };
     add_fitting(rt, &mut plan, Node { op, statement });
-    let op = store(rt, alloc, last + 1, "p");
+    let op = store(rt, alloc, last.saturating_add(1), "p");
     add_fitting(rt, &mut plan, Node { op, statement });
     plan
 }
