@@ -9,6 +9,7 @@ use Rattle.pig_words.specs.declared.words.Command.{Command}
 use Rattle.pig_words.specs.declared.words.Verb.{Verb}
 use Rattle.pig_words.specs.declared.words.Verb.TheVariants as verbs
 use Rattle.pig_words.specs.CommandWords.{Given, Gives, finished, operand, joined, apart, dashes, operand_last, IsBare, IsCommand, IsCount, IsSet, IsOptionWord, Makes, Setting, Workers, Reducers, Split, Attempts, Word, is_same, nothing_given, verb_word, with_value}
+use Rattle.pig_words.specs.Limits.{most_attempts, most_demo, most_reducers, most_split, usual_attempts, usual_reducers, usual_split, usual_workers}
 use Rattle.pig_words.specs.declared.words.Numbers.{Numbers}
 use Rattle.pig_words.specs.ClapWords.{AreRead, AreValues, number_at, numbers_at, setting_at, takes}
 use Rattle.pig_words.proofs.Options.{each}
@@ -34,13 +35,13 @@ takes_count : (v : Verb) (word : Word) → takes v word ≡ true → v ≡ verbs
 takes_count verbs.Run word t e = cc
 takes_count verbs.Explain word t e = cc
 takes_count verbs.Check word t e = cc
-takes_count verbs.Demo word t e = go (number_at 100000 word) refl t
+takes_count verbs.Demo word t e = go (number_at most_demo word) refl t
   where
-    go : (o : Option ℕ) → number_at 100000 word ≡ o → is_some o ≡ true → IsCount word
+    go : (o : Option ℕ) → number_at most_demo word ≡ o → is_some o ≡ true → IsCount word
     go None f t = absurd (true≢false (sym t))
     go (Some n) f t =
-        let s = number_set word 0 100000 n f in
-        record { value = s.0; some = subst (λ k. 1 ≤ k) s.1.0 s.1.1; few = subst (λ k. k ≤ 100000) s.1.0 s.1.2 }
+        let s = number_set word 0 most_demo n f in
+        record { value = s.0; some = subst (λ k. 1 ≤ k) s.1.0 s.1.1; few = subst (λ k. k ≤ most_demo) s.1.0 s.1.2 }
 
 count_taken : (v : Verb) (word : Word) → (v ≡ verbs.Demo → IsCount word) → takes v word ≡ true
 count_taken verbs.Run word h = refl
@@ -48,18 +49,18 @@ count_taken verbs.Explain word h = refl
 count_taken verbs.Check word h = refl
 count_taken verbs.Demo word h =
     let count = h refl in
-    ap is_some (set_number word 0 100000 (digits_value 10 word) count.value (refl, count.some, count.few))
+    ap is_some (set_number word 0 most_demo (digits_value 10 word) count.value (refl, count.some, count.few))
 
 -- what the numbers are read from makes the command
 pub made : (hosts : ℕ) (v : Verb) (g : Given) (word : Word) (n : Numbers) (params : List Param) → takes v word ≡ true → g.operand ≡ Some word → numbers_at hosts g ≡ Some n
     → AreValues g × Makes hosts g (record { verb = v; operand = word; workers = n.workers; reducers = n.reducers; split = n.split; attempts = n.attempts; params = params })
 unfolding numbers_at
 made hosts v g word n params t o e =
-    let parts = each_some (setting_at (min 4 hosts) hosts (g.values Workers)) (setting_at 4 256 (g.values Reducers)) (setting_at 1048576 67108864 (g.values Split)) (setting_at 4 16 (g.values Attempts)) n e in
-    let workers = setting_set (g.values Workers) (min 4 hosts) hosts n.workers parts.0 in
-    let reducers = setting_set (g.values Reducers) 4 256 n.reducers parts.1 in
-    let split = setting_set (g.values Split) 1048576 67108864 n.split parts.2 in
-    let attempts = setting_set (g.values Attempts) 4 16 n.attempts parts.3 in (
+    let parts = each_some (setting_at (min usual_workers hosts) hosts (g.values Workers)) (setting_at usual_reducers most_reducers (g.values Reducers)) (setting_at usual_split most_split (g.values Split)) (setting_at usual_attempts most_attempts (g.values Attempts)) n e in
+    let workers = setting_set (g.values Workers) (min usual_workers hosts) hosts n.workers parts.0 in
+    let reducers = setting_set (g.values Reducers) usual_reducers most_reducers n.reducers parts.1 in
+    let split = setting_set (g.values Split) usual_split most_split n.split parts.2 in
+    let attempts = setting_set (g.values Attempts) usual_attempts most_attempts n.attempts parts.3 in (
       each (λ s. (v : Word) → g.values s ≡ Some v → IsOptionWord v) (workers.1, (reducers.1, (split.1, (attempts.1, tt)))),
       record { operand = o; workers = workers.0; reducers = reducers.0; split = split.0; attempts = attempts.0; count = takes_count v word t },
     )
@@ -69,10 +70,10 @@ pub numbers_of_made : (hosts : ℕ) (g : Given) (c : Command) → AreValues g �
 unfolding numbers_at
 numbers_of_made hosts g c values m =
     rw (
-      set_setting (g.values Workers) (min 4 hosts) hosts c.workers (values Workers) m.workers,
-      set_setting (g.values Reducers) 4 256 c.reducers (values Reducers) m.reducers,
-      set_setting (g.values Split) 1048576 67108864 c.split (values Split) m.split,
-      set_setting (g.values Attempts) 4 16 c.attempts (values Attempts) m.attempts,
+      set_setting (g.values Workers) (min usual_workers hosts) hosts c.workers (values Workers) m.workers,
+      set_setting (g.values Reducers) usual_reducers most_reducers c.reducers (values Reducers) m.reducers,
+      set_setting (g.values Split) usual_split most_split c.split (values Split) m.split,
+      set_setting (g.values Attempts) usual_attempts most_attempts c.attempts (values Attempts) m.attempts,
     ) refl
 
 pub taken_of_made : (hosts : ℕ) (g : Given) (c : Command) (word : Word) → g.operand ≡ Some word → Makes hosts g c → takes c.verb word ≡ true
@@ -106,10 +107,10 @@ set_once (Some word) default most n m h k = h.0 ∙ sym k.0
 pub made_once : (hosts : ℕ) (g : Given) (c d : Command) → c.verb ≡ d.verb → c.params ≡ d.params → Makes hosts g c → Makes hosts g d → c ≡ d
 made_once hosts g c d v p m n =
     let o : c.operand ≡ d.operand = ap (λ (x : Option Word). unwrap_or x c.operand) (sym m.operand ∙ n.operand) in
-    let w = set_once (g.values Workers) (min 4 hosts) hosts c.workers d.workers m.workers n.workers in
-    let r = set_once (g.values Reducers) 4 256 c.reducers d.reducers m.reducers n.reducers in
-    let s = set_once (g.values Split) 1048576 67108864 c.split d.split m.split n.split in
-    let t = set_once (g.values Attempts) 4 16 c.attempts d.attempts m.attempts n.attempts in
+    let w = set_once (g.values Workers) (min usual_workers hosts) hosts c.workers d.workers m.workers n.workers in
+    let r = set_once (g.values Reducers) usual_reducers most_reducers c.reducers d.reducers m.reducers n.reducers in
+    let s = set_once (g.values Split) usual_split most_split c.split d.split m.split n.split in
+    let t = set_once (g.values Attempts) usual_attempts most_attempts c.attempts d.attempts m.attempts n.attempts in
     λ i. record { verb = v i; operand = o i; workers = w i; reducers = r i; split = s i; attempts = t i; params = p i }
 
 one_bare : (hosts : ℕ) (words : List Word) (c d : Command) → c.params ≡ d.params → IsBare hosts words c → IsBare hosts words d → c ≡ d

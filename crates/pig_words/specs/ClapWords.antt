@@ -7,6 +7,7 @@ use Rattle.clap.specs.Words.{App, Rule, new_app, new_rule, with_rule}
 use Rattle.clap.specs.Simple.{on_top}
 use Rattle.clap.specs.declared.builder.action.ArgAction.TheVariants.{Set}
 use Rattle.pig_words.specs.CommandWords.{Given, Gives, IsOptionWord, Setting, Workers, Reducers, Split, Attempts, Word, name_of, nothing_given}
+use Rattle.pig_words.specs.Limits.{most_attempts, most_demo, most_reducers, most_split, usual_attempts, usual_reducers, usual_split, usual_workers}
 use Rattle.pig_words.specs.declared.words.Found.{Found}
 use Rattle.pig_words.specs.declared.words.Numbers.{Numbers}
 use Rattle.pig_words.specs.declared.words.Verb.{Verb}
@@ -66,13 +67,13 @@ setting_at default most (Some word) = number_at most word
 -- the numbers that the options set
 unfoldable pub numbers_at : ℕ → Given → Option Numbers
 numbers_at hosts g = do
-  workers ← setting_at (min 4 hosts) hosts (g.values Workers)
-  reducers ← setting_at 4 256 (g.values Reducers)
-  split ← setting_at 1048576 67108864 (g.values Split)
-  attempts ← setting_at 4 16 (g.values Attempts)
+  workers ← setting_at (min usual_workers hosts) hosts (g.values Workers)
+  reducers ← setting_at usual_reducers most_reducers (g.values Reducers)
+  split ← setting_at usual_split most_split (g.values Split)
+  attempts ← setting_at usual_attempts most_attempts (g.values Attempts)
   Some (record { workers = workers; reducers = reducers; split = split; attempts = attempts })
 
 -- `demo` takes a count
 abbrev pub takes : Verb → Word → Bool
-takes verbs.Demo word = is_some (number_at 100000 word)
+takes verbs.Demo word = is_some (number_at most_demo word)
 takes _ word = true

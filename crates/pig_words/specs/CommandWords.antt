@@ -6,6 +6,7 @@ use Rattle.std.specs.Str.{bytes_eq}
 use Rattle.std.specs.Str.Parse.{digits_value}
 use Rattle.pig_params.specs.Given.{named_of}
 use Rattle.pig_params.specs.ParamWords.{taken}
+use Rattle.pig_words.specs.Limits.{most_attempts, most_demo, most_reducers, most_split, usual_attempts, usual_reducers, usual_split, usual_workers}
 use Rattle.pig_words.specs.declared.words.Command.{Command}
 use Rattle.pig_words.specs.declared.words.Verb.{Verb}
 use Rattle.pig_words.specs.declared.words.Verb.TheVariants as verbs
@@ -93,15 +94,15 @@ IsSet (Some value) default most n = (n ≡ digits_value 10 value) × (1 ≤ n) �
 pub record IsCount (word : Word) : Type 0 where
   pub value : IsOptionWord word
   pub some : 1 ≤ digits_value 10 word
-  pub few : digits_value 10 word ≤ 100000
+  pub few : digits_value 10 word ≤ most_demo
 
 -- What was given makes the command, where there are so many hosts.
 pub record Makes (hosts : ℕ) (given : Given) (c : Command) : Type 0 where
   pub operand : given.operand ≡ Some c.operand
-  pub workers : IsSet (given.values Workers) (min 4 hosts) hosts c.workers
-  pub reducers : IsSet (given.values Reducers) 4 256 c.reducers
-  pub split : IsSet (given.values Split) 1048576 67108864 c.split
-  pub attempts : IsSet (given.values Attempts) 4 16 c.attempts
+  pub workers : IsSet (given.values Workers) (min usual_workers hosts) hosts c.workers
+  pub reducers : IsSet (given.values Reducers) usual_reducers most_reducers c.reducers
+  pub split : IsSet (given.values Split) usual_split most_split c.split
+  pub attempts : IsSet (given.values Attempts) usual_attempts most_attempts c.attempts
   pub count : c.verb ≡ verbs.Demo → IsCount c.operand
 
 -- The words without parameters are the command: its verb, and words that give what makes it.

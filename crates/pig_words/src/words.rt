@@ -19,6 +19,24 @@ use std::alloc::{AllocError, Global};
 /// The most digits of a value.
 const MOST_DIGITS: usize = 9;
 
+// What the options set where they are not given, and at most.
+const WORKERS: u32 = 4;
+
+const REDUCERS: u32 = 4;
+
+const MOST_REDUCERS: u32 = 256;
+
+const SPLIT: u32 = 1_048_576;
+
+const MOST_SPLIT: u32 = 67_108_864;
+
+const ATTEMPTS: u32 = 4;
+
+const MOST_ATTEMPTS: u32 = 16;
+
+// The largest number that `demo` takes.
+const MOST_DEMO: u32 = 100_000;
+
 /// What is to be done.
 #[derive(Debug, Clone, Copy, PartialEq, Eq, Drop)]
 pub enum Verb {
@@ -247,10 +265,10 @@ fn first_verb(words: &Words) -> Option<Verb>
 fn read_numbers(found: &Found, hosts: u32) -> Option<Numbers>
     ensures { result ≡ numbers_at hosts (given_of found.now) }
 {
-    let workers = setting(found.workers, hosts.min(4), hosts)?;
-    let reducers = setting(found.reducers, 4, 256)?;
-    let split = setting(found.split, 1_048_576, 67_108_864)?;
-    let attempts = setting(found.attempts, 4, 16)?;
+    let workers = setting(found.workers, hosts.min(WORKERS), hosts)?;
+    let reducers = setting(found.reducers, REDUCERS, MOST_REDUCERS)?;
+    let split = setting(found.split, SPLIT, MOST_SPLIT)?;
+    let attempts = setting(found.attempts, ATTEMPTS, MOST_ATTEMPTS)?;
     Some(Numbers {
         workers,
         reducers,
@@ -264,7 +282,7 @@ fn takes(verb: Verb, operand: &str) -> bool
     ensures { result ≡ takes verb operand.now }
 {
     match verb {
-        Verb::Demo => number(operand, 100_000).is_some(),
+        Verb::Demo => number(operand, MOST_DEMO).is_some(),
         _ => true,
     }
 }
