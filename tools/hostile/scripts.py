@@ -94,11 +94,29 @@ def steps():
     yield one("steps_1024", projections(1024), [b"{(1),(2)}"], **bag)
     yield one("steps_1025", projections(1025), None, status=9, printed=WANTING, why="at most 1,024 steps of one expression", **bag)
     yield one("steps_11000", projections(11_000), None, status=9, printed=WANTING, why="at most 1,024 steps of one expression", **bag)
+    yield from deepest(bag)
     yield one("block_100000", f"r = FOREACH a {{ {'x=b;' * 100_000} GENERATE COUNT(x); }};", [b"2"], **bag)
     yield one("block_100000_in_turn", f"r = FOREACH a {{ x=b; {'x=x;' * 99_999} GENERATE COUNT(x); }};", [b"2"], **bag)
     yield one("block_10000_distinct", f"r = FOREACH a {{ x=b; {'x=DISTINCT x;' * 10_000} GENERATE COUNT(x); }};", [b"2"], **bag)
     yield one("block_10000_unused", f"r = FOREACH a {{ {''.join(f'x{k}=ORDER b BY x;' for k in range(10_000))} GENERATE COUNT(b); }};",
               [b"2"], **bag)
+
+
+def deepest(bag):
+    """The deepest trees: 1,024 steps within 64 brackets, where each thread has 2 MiB of stack."""
+    around = "(false OR true AND NOT 1 == 1 + 2 * -(int)"
+
+    def whens(n):
+        return f"r = FOREACH a GENERATE {around * 63}CASE {'WHEN x > 1 THEN 1 ' * n}ELSE 0 END{' ? 1 : 0)' * 63};"
+
+    def projections(n):
+        return f"r = FOREACH a GENERATE {'(' * 64}b{'.x' * n}{')' * 64};"
+
+    few = {"stack": 2}
+    yield one("deepest_whens", whens(1024), [b"0"], **few)
+    yield one("deepest_whens_and_one", whens(1025), None, status=9, printed=WANTING, **few)
+    yield one("deepest_steps", projections(1024), [b"{(1),(2)}"], **bag, **few)
+    yield one("deepest_steps_and_one", projections(1025), None, status=9, printed=WANTING, **bag, **few)
 
 
 def fields():

@@ -36,6 +36,7 @@ class Case:
     file_size: int | None = None
     seconds: float = 10  # of the clock, or, on a busy machine, of the processors
     mib: int = 1024  # of address space
+    stack: float | None = None  # MiB that the first thread has; the others have 2 MiB
     why: str = ""  # of the status where it is not plain, and of limits other than those above
 
 
@@ -49,8 +50,10 @@ class Run:
     ended: bool
 
 
-def limits(mib, file_size=None):
+def limits(mib, file_size=None, stack=None):
     def before():
+        if stack is not None:
+            resource.setrlimit(resource.RLIMIT_STACK, (int(stack * MIB),) * 2)
         if mib is not None:
             resource.setrlimit(resource.RLIMIT_AS, (int(mib * MIB),) * 2)
         if file_size is not None:
@@ -58,14 +61,14 @@ def limits(mib, file_size=None):
     return before
 
 
-def run(program, words, place, mib=None, seconds=100, console=None, file_size=None):
+def run(program, words, place, mib=None, seconds=100, console=None, file_size=None, stack=None):
     """Runs the program in a folder, with so much address space; a status above 128 is a signal."""
     with tempfile.NamedTemporaryFile() as figures, tempfile.TemporaryFile() as out, tempfile.TemporaryFile() as err:
         began = time.monotonic()
         timed = ["/usr/bin/time", "-q", "-f", "%M %U %S", "-o", figures.name, program, *words]
         process = subprocess.Popen(timed, cwd=place, stdin=subprocess.DEVNULL, stdout=open(console, "wb") if console else out,
                                    stderr=err, start_new_session=True, restore_signals=False,
-                                   preexec_fn=limits(mib, file_size))
+                                   preexec_fn=limits(mib, file_size, stack))
         try:
             status, ended = process.wait(seconds), True
         except subprocess.TimeoutExpired:
@@ -161,7 +164,7 @@ def tried(program, case, left=None):
         make({b"script.pig": case.script, **case.inputs}, place)
         before = set(place.rglob("*"))
         words = [case.verb, *case.options, case.named]
-        told = run(program, words, place, case.mib, 10 * case.seconds, case.console, case.file_size)
+        told = run(program, words, place, case.mib, 10 * case.seconds, case.console, case.file_size, case.stack)
         off = list(faults(case, place, before, told))
         if left is not None:
             left.extend(marked(path) for path in outputs(place, before, case.stored))

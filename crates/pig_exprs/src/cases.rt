@@ -6,6 +6,7 @@ ghost use Rattle.pig_exprs.specs.Reader.{forms, Gives, repeat};
 ghost use Rattle.pig_exprs.specs.ExprReader.{when_at, when_turn, first_when, last_at, cases_at};
 
 use crate::limits::Limits;
+use crate::operands::long_texts;
 use crate::reading::{ParseFault, Rule, Turning, before, behind_word, beside};
 use crate::trees::{chain_of, choose, compare};
 use crate::word;
@@ -80,6 +81,7 @@ impl<R: Rule<Tree = Expr>> Turning for WhenTurns<'_, R> {
 // The value behind ELSE, or NULL, and END.
 #[derive(Drop)]
 struct Last<'r, R> {
+    limits: &'r Limits,
     rule: &'r R,
 }
 
@@ -93,7 +95,10 @@ impl<R: Rule<Tree = Expr>> Rule for Last<'_, R> {
     #[tactic(auto, unfolding(crate::specs::ExprReader::last_at))]
     fn read<'a>(&self, tokens: &'a [Token]) -> Result<(Expr, &'a [Token]), ParseFault> {
         match tokens {
-            [word!(End), rest @ ..] => Ok((Expr::Null, rest)),
+            [word!(End), rest @ ..] => {
+                self.limits.node();
+                Ok((Expr::Null, rest))
+            }
             [word!(Else), rest @ ..] => {
                 let (a, rest) = self.rule.read(rest)?;
                 behind_word(a, Keyword::End, rest)
@@ -129,31 +134,46 @@ impl<R: Rule<Tree = Expr>> Rule for Cases<'_, R> {
             rule: self.rule,
         };
         let ((first, others), rest) = before(first, &turns, Whens::new(self.alloc), rest)?;
-        let ((whens, default), rest) = beside((first, others), &Last { rule: self.rule }, rest)?;
+        let last = Last {
+            limits: self.limits,
+            rule: self.rule,
+        };
+        let ((whens, default), rest) = beside((first, others), &last, rest)?;
         Ok(((whens, default), rest))
     }
 }
 
 // The choice of the first value whose condition holds, and of `default` where none does.
-fn choice_of(alloc: Global, whens: Whens, default: Expr) -> Result<Expr, AllocError>
+fn choice_of(
+    alloc: Global,
+    limits: &Limits,
+    whens: Whens,
+    default: Expr,
+) -> Result<Expr, AllocError>
     ensures { IfOk result (λ e. e ≡ choice_of whens default) }
 {
     let mut whens = whens;
     let mut tree = default;
     'whens: while let Some((test, value)) = whens.pop() {
-        tree = choose(alloc, test, value, tree)?;
+        tree = choose(alloc, limits, test, value, tree)?;
     }
     Ok(tree)
 }
 
 // The choice of the first WHEN and the others.
 #[tactic(auto, unfolding(crate::specs::Grammar::choice_of))]
-pub fn choice(alloc: Global, first: When, others: Whens, default: Expr) -> Result<Expr, AllocError>
+pub fn choice(
+    alloc: Global,
+    limits: &Limits,
+    first: When,
+    others: Whens,
+    default: Expr,
+) -> Result<Expr, AllocError>
     ensures { IfOk result (λ e. e ≡ choice_of (first ∷ others) default) }
 {
-    let rest = choice_of(alloc, others, default)?;
+    let rest = choice_of(alloc, limits, others, default)?;
     let (test, value) = first;
-    choose(alloc, test, value, rest)
+    choose(alloc, limits, test, value, rest)
 }
 
 // An operand that several values are compared with, and the tokens that it was read from.
@@ -169,7 +189,8 @@ pub struct Operand<'r, 't, R> {
 }
 
 impl<R: Rule<Tree = Expr>> Operand<'_, '_, R> {
-    // The operand once more, whose steps stand only once in the expression. That it is not there can't be.
+    // The operand once more, whose steps stand only once in the expression. Copies within it are nodes of this one. That it
+    // is not there can't be.
     fn again(&self) -> Result<Expr, AllocError>
         requires ready { R.ready self.now.rule.now }
         requires read { option_map (λ p. p.0)
@@ -177,15 +198,24 @@ impl<R: Rule<Tree = Expr>> Operand<'_, '_, R> {
         ensures { IfOk result (λ a. a ≡ self.now.tree) }
     {
         let steps = self.limits.steps_from(0);
+        let copied = self.limits.copied();
+        let made = self.limits.made();
         match self.rule.read(self.tokens) {
             Ok((again, rest)) => {
                 self.limits.steps_from(steps);
-                self.limits
-                    .copy(self.tokens.len().saturating_sub(rest.len()))?;
+                self.count(rest.len(), copied, made)?;
                 Ok(again)
             }
             Err(_) => Err(AllocError),
         }
+    }
+
+    // Counts a copy behind which so many tokens are left. So many nodes were copied before it, and made.
+    fn count(&self, left: usize, copied: u64, made: u64) -> Result<(), AllocError> {
+        let (read, _) = self.tokens.split_at(self.tokens.len().saturating_sub(left));
+        self.limits.nodes(long_texts(read));
+        self.limits.forget_copies(copied);
+        self.limits.copy(self.limits.made().saturating_sub(made))
     }
 
     // The comparison with a value.
@@ -196,7 +226,7 @@ impl<R: Rule<Tree = Expr>> Operand<'_, '_, R> {
         ensures { IfOk result (λ a. a ≡ equals self.now.tree value) }
     {
         let again = self.again()?;
-        compare(self.alloc, Rel::Eq, again, value)
+        compare(self.alloc, self.limits, Rel::Eq, again, value)
     }
 
     // The comparisons with each of the values, as links of a chain of OR.
@@ -239,9 +269,14 @@ impl<R: Rule<Tree = Expr>> Operand<'_, '_, R> {
         ensures { IfOk result (λ a. a ≡ is_among self.entry.tree first others) }
     {
         let links = self.links(others)?;
-        let Operand { alloc, tree, .. } = self;
-        let first = compare(alloc, Rel::Eq, tree, first)?;
-        chain_of(alloc, first, links)
+        let Operand {
+            alloc,
+            limits,
+            tree,
+            ..
+        } = self;
+        let first = compare(alloc, limits, Rel::Eq, tree, first)?;
+        chain_of(alloc, limits, first, links)
     }
 
     // The choice of the first WHEN whose value the operand equals.
@@ -253,9 +288,14 @@ impl<R: Rule<Tree = Expr>> Operand<'_, '_, R> {
             (λ a. a ≡ choice_of (compared self.entry.tree (first ∷ others)) default) }
     {
         let others = self.compared(others)?;
-        let Operand { alloc, tree, .. } = self;
+        let Operand {
+            alloc,
+            limits,
+            tree,
+            ..
+        } = self;
         let (value, result) = first;
-        let test = compare(alloc, Rel::Eq, tree, value)?;
-        choice(alloc, (test, result), others, default)
+        let test = compare(alloc, limits, Rel::Eq, tree, value)?;
+        choice(alloc, limits, (test, result), others, default)
     }
 }

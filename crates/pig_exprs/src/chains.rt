@@ -3,6 +3,7 @@ ghost use Rattle.pig_exprs.specs.Grammar.{Forms, chain_op};
 ghost use Rattle.pig_exprs.specs.Reader.{forms, Gives};
 ghost use Rattle.pig_exprs.specs.ExprReader.{level_of, link_turn, chain_at};
 
+use crate::limits::Limits;
 use crate::reading::{ParseFault, Rule, Turning, before};
 use crate::trees::chain_of;
 use pig_syntax::{Expr, Keyword, Link, Links, Symbol, Token, TokenForm};
@@ -71,6 +72,7 @@ impl<R: Rule<Tree = Expr>> Turning for Linking<'_, R> {
 #[tactic(auto, unfolding(crate::specs::ExprReader::chain_at))]
 pub fn chained<'a, R: Rule<Tree = Expr>>(
     alloc: Global,
+    limits: &Limits,
     chain: Chain,
     rule: &R,
     tokens: &'a [Token],
@@ -81,6 +83,6 @@ pub fn chained<'a, R: Rule<Tree = Expr>>(
     let (first, rest) = rule.read(tokens)?;
     let linking = Linking { chain, rule };
     let ((first, links), rest) = before(first, &linking, Links::new(alloc), rest)?;
-    let whole = chain_of(alloc, first, links)?;
+    let whole = chain_of(alloc, limits, first, links)?;
     Ok((whole, rest))
 }

@@ -174,7 +174,7 @@ impl<R: Rule<Tree = Expr>> Grammar<'_, R> {
             [symbol!(CloseParen), rest @ ..] => Ok((first, rest)),
             [symbol!(Question), rest @ ..] => {
                 let ((first, (yes, no)), rest) = self.both(first, rest)?;
-                let choice = choose(self.alloc, first, yes, no)?;
+                let choice = choose(self.alloc, self.limits, first, yes, no)?;
                 Ok((choice, rest))
             }
             _ => {
@@ -190,6 +190,7 @@ impl<R: Rule<Tree = Expr>> Grammar<'_, R> {
         requires { R.ready self.now.inner }
         ensures { Gives (call_at (R.finds self.now.inner) name.now (forms tokens.now)) result }
     {
+        self.limits.node();
         match tokens {
             [symbol!(CloseParen), rest @ ..] => {
                 let name = name.copy(self.alloc)?;
@@ -213,7 +214,7 @@ impl<R: Rule<Tree = Expr>> Grammar<'_, R> {
     {
         let (cases, rest) = self.cases().read(tokens)?;
         let ((first, others), default) = cases;
-        let tree = choice(self.alloc, first, others, default)?;
+        let tree = choice(self.alloc, self.limits, first, others, default)?;
         Ok((tree, rest))
     }
 
@@ -273,7 +274,7 @@ impl<R: Rule<Tree = Expr>> Grammar<'_, R> {
                 let (first, rest) = self.inner.read(rest)?;
                 self.paren(first, rest)
             }
-            _ => simple(self.alloc, tokens),
+            _ => simple(self.alloc, self.limits, tokens),
         }
     }
 
@@ -316,6 +317,8 @@ impl<R: Rule<Tree = Expr>> Grammar<'_, R> {
         ensures { Gives (cast_at MOST_NESTED (R.finds self.now.inner) (forms tokens.now)) result }
     {
         let (to, rest) = cast_type(self.alloc, tokens, MOST_NESTED)?;
+        self.limits
+            .nodes(tokens.len().saturating_sub(rest.len()).saturating_add(1));
         let (to, rest) = closed(to, rest)?;
         let ((to, a), rest) = self.and_post(to, rest)?;
         Ok((Expr::Cast { to, a }, rest))
@@ -347,6 +350,7 @@ impl<R: Rule<Tree = Expr>> Grammar<'_, R> {
     {
         match tokens {
             [symbol!(Minus), rest @ ..] => {
+                self.limits.node();
                 let (a, rest) = self.casted(rest)?;
                 let a = Boxed::new(self.alloc, a)?;
                 Ok((Expr::Minus(a), rest))
@@ -363,6 +367,7 @@ impl<R: Rule<Tree = Expr>> Grammar<'_, R> {
     {
         chained(
             self.alloc,
+            self.limits,
             Chain::Product,
             &Signed { grammar: self },
             tokens,
@@ -375,7 +380,13 @@ impl<R: Rule<Tree = Expr>> Grammar<'_, R> {
         requires { R.ready self.now.inner }
         ensures { Gives (sum_at MOST_NESTED (R.finds self.now.inner) (forms tokens.now)) result }
     {
-        chained(self.alloc, Chain::Sum, &Products { grammar: self }, tokens)
+        chained(
+            self.alloc,
+            self.limits,
+            Chain::Sum,
+            &Products { grammar: self },
+            tokens,
+        )
     }
 
     // What is kept, and operands of `+` and `-`.
@@ -436,13 +447,13 @@ impl<R: Rule<Tree = Expr>> Grammar<'_, R> {
     {
         match null_test(tokens) {
             Some((not, rest)) => {
-                let test = is_null(self.alloc, a, not)?;
+                let test = is_null(self.alloc, self.limits, a, not)?;
                 Ok((test, rest))
             }
             None => match comparison_ahead(tokens) {
                 Some((op, rest)) => {
                     let ((a, b), rest) = self.and_sum(a, rest)?;
-                    let whole = compare(self.alloc, op, a, b)?;
+                    let whole = compare(self.alloc, self.limits, op, a, b)?;
                     Ok((whole, rest))
                 }
                 None => match in_ahead(tokens) {
@@ -471,6 +482,7 @@ impl<R: Rule<Tree = Expr>> Grammar<'_, R> {
     {
         match tokens {
             [word!(Not), rest @ ..] => {
+                self.limits.node();
                 let (a, rest) = self.comp(rest)?;
                 let a = Boxed::new(self.alloc, a)?;
                 Ok((Expr::Not(a), rest))
@@ -485,7 +497,13 @@ impl<R: Rule<Tree = Expr>> Grammar<'_, R> {
         requires { R.ready self.now.inner }
         ensures { Gives (conj_at MOST_NESTED (R.finds self.now.inner) (forms tokens.now)) result }
     {
-        chained(self.alloc, Chain::And, &Negations { grammar: self }, tokens)
+        chained(
+            self.alloc,
+            self.limits,
+            Chain::And,
+            &Negations { grammar: self },
+            tokens,
+        )
     }
 
     // Operands of OR.
@@ -496,6 +514,7 @@ impl<R: Rule<Tree = Expr>> Grammar<'_, R> {
     {
         chained(
             self.alloc,
+            self.limits,
             Chain::Or,
             &Conjunctions { grammar: self },
             tokens,

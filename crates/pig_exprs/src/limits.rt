@@ -5,8 +5,11 @@ use std::cell::Cell;
 /// each WHEN of a CASE.
 pub const MOST_STEPS: u32 = 1_024;
 
-/// At most this many tokens of one script may be read as copies of the operands of IN and CASE. A tree has no more
-/// nodes than it was read from tokens.
+/// The copies of the operands of IN and CASE have at most this many nodes in one script.
+///
+/// A node is an operator, a choice, a call, a literal, a field, or a field that a projection takes. A cast's type counts by
+/// its tokens, and a text by its length, once for 64 bytes, so that copies of what is long take no more memory than
+/// others.
 pub const MOST_COPIED: u64 = 1_048_576;
 
 /// What a script has taken of the limits that no bracket sets. What is more is want of memory, which may come at any
@@ -14,6 +17,7 @@ pub const MOST_COPIED: u64 = 1_048_576;
 #[derive(Drop)]
 pub struct Limits {
     steps: Cell<u32>,
+    made: Cell<u64>,
     copied: Cell<u64>,
 }
 
@@ -22,6 +26,7 @@ impl Limits {
     pub fn new() -> Limits {
         Limits {
             steps: Cell::new(0),
+            made: Cell::new(0),
             copied: Cell::new(0),
         }
     }
@@ -43,19 +48,34 @@ impl Limits {
         Ok(())
     }
 
-    /// The tokens that were read as copies so far.
+    /// One more node of a tree.
+    pub fn node(&self) {
+        self.nodes(1);
+    }
+
+    /// So many nodes more.
+    pub fn nodes(&self, more: usize) {
+        self.made.set(self.made.get().saturating_add(more as u64));
+    }
+
+    /// The nodes of all trees so far.
+    pub fn made(&self) -> u64 {
+        self.made.get()
+    }
+
+    /// The nodes of copies so far.
     pub fn copied(&self) -> u64 {
         self.copied.get()
     }
 
-    /// Forgets the copies of what was read in vain.
+    /// Counts copies from this number on, where what was read behind it was read in vain, or is counted as a whole.
     pub fn forget_copies(&self, copied: u64) {
         self.copied.set(copied);
     }
 
-    /// A copy that was read from so many tokens.
-    pub fn copy(&self, tokens: usize) -> Result<(), AllocError> {
-        let copied = self.copied.get().saturating_add(tokens as u64);
+    /// A copy of so many nodes.
+    pub fn copy(&self, nodes: u64) -> Result<(), AllocError> {
+        let copied = self.copied.get().saturating_add(nodes);
         if copied > MOST_COPIED {
             return Err(AllocError);
         }

@@ -28,9 +28,14 @@ fn literal(alloc: Global, token: &Token) -> Result<Option<Expr>, AllocError>
 
 // A literal or a field.
 #[tactic(auto, unfolding(crate::specs::ExprReader::simple_at))]
-pub fn simple(alloc: Global, tokens: &[Token]) -> Result<(Expr, &[Token]), ParseFault>
+pub fn simple<'a>(
+    alloc: Global,
+    limits: &Limits,
+    tokens: &'a [Token],
+) -> Result<(Expr, &'a [Token]), ParseFault>
     ensures { Gives (simple_at (forms tokens.now)) result }
 {
+    limits.node();
     match tokens {
         [first, rest @ ..] => match literal(alloc, first)? {
             Some(literal) => Ok((literal, rest)),
@@ -63,15 +68,41 @@ impl Turning for Stepping<'_> {
             [symbol!(Dot), rest @ ..] => {
                 self.limits.step()?;
                 let (step, rest) = selection(self.alloc, rest)?;
+                self.limits.nodes(fields_of(&step));
                 Ok(Some((step, rest)))
             }
             [symbol!(Hash), form!(Text(key)), rest @ ..] => {
                 self.limits.step()?;
+                self.limits.node();
                 let key = key.copy(self.alloc)?;
                 Ok(Some((PostStep::Look(key), rest)))
             }
             _ => Ok(None),
         }
+    }
+}
+
+// The number of fields that a projection takes.
+fn fields_of(step: &PostStep) -> usize {
+    match step {
+        PostStep::Project { fields, .. } => fields.len(),
+        PostStep::Look(_) => 0,
+    }
+}
+
+// The nodes that texts and names among the tokens count for, as copies take memory for each.
+pub fn long_texts(tokens: &[Token]) -> usize {
+    let mut nodes: usize = 0;
+    for token in tokens {
+        nodes = nodes.saturating_add(long_text(&token.form));
+    }
+    nodes
+}
+
+fn long_text(form: &TokenForm) -> usize {
+    match form {
+        TokenForm::Text(text) | TokenForm::Ident(text) => text.len() / 64,
+        _ => 0,
     }
 }
 

@@ -163,55 +163,53 @@ fn bounds_steps_without_brackets(rt: HostRuntime) {
     }
 }
 
-// An operand of 1,024 tokens may be copied 1,024 times in one script, and no more; what is tried in vain doesn't count.
+// An operand of 1,024 nodes may be copied 1,024 times in one script, and no more; one of 128 nodes, as a text of 8,191 bytes
+// counts, 8,192 times. What is tried in vain doesn't count.
 #[test]
 fn bounds_copies(rt: HostRuntime) {
-    let cases: [((&str, &str, &str, &str, &str), &str); 4] = [
+    let sum = " + b";
+    let cases: [((&str, &str, &str, &str, &str), usize, &str); 6] = [
         (
-            (
-                "x = FILTER a BY - b",
-                " + b",
-                " IN (1, 1, 1",
-                ", 1, 1",
-                ");",
-            ),
+            ("x = FILTER a BY b", sum, " IN (1, 1, 1", ", 1", ");"),
+            1_022,
             "trees",
         ),
         (
-            (
-                "x = FILTER a BY - b",
-                " + b",
-                " IN (1, 1, 1, 1",
-                ", 1, 1",
-                ");",
-            ),
+            ("x = FILTER a BY b", sum, " IN (1, 1, 1, 1", ", 1", ");"),
+            1_022,
+            "memory",
+        ),
+        (
+            ("x = FILTER a BY 'b", "b", "' IN (1, 1, 1", ", 1", ");"),
+            8_190,
+            "trees",
+        ),
+        (
+            ("x = FILTER a BY 'b", "b", "' IN (1, 1, 1, 1", ", 1", ");"),
+            8_190,
             "memory",
         ),
         (
             (
-                "x = FILTER a BY b IN (1, 1); x = FILTER a BY - b",
-                " + b",
-                " IN (1, 1, 1",
-                ", 1, 1",
+                "x = FILTER a BY b IN (1, 1); x = FILTER a BY 'b",
+                "b",
+                "' IN (1, 1, 1",
+                ", 1",
                 ");",
             ),
+            8_190,
             "memory",
         ),
         (
-            (
-                "x = GROUP a BY (- b",
-                " + b",
-                " IN (1, 1, 1",
-                ", 1, 1",
-                "), c);",
-            ),
+            ("x = GROUP a BY ('b", "b", "' IN (1, 1, 1", ", 1", "), c);"),
+            8_190,
             "trees",
         ),
     ];
-    for (parts, wanted) in cases {
-        let script = nested(&rt, rt.alloc(), parts, 511);
+    for (parts, times, wanted) in cases {
+        let script = nested(&rt, rt.alloc(), parts, times);
         let end = ended(&rt, rt.alloc(), script.as_str());
-        assert_eq!(rt; end, wanted, "{script}");
+        assert_eq!(rt; end, wanted, "{times} times: {script}");
     }
 }
 
