@@ -10,7 +10,6 @@ use crate::state::{Addition, Progress, next_number};
 use crate::statements::assigned;
 use pig_plan::NodeOp;
 use pig_relations::{Relation, TypedOp};
-use pig_schema::copy_schema;
 use pig_syntax::Expr;
 use pig_typed::TExpr;
 use pig_typing::TypeFault;
@@ -31,7 +30,7 @@ pub fn assert(
 {
     let next = next_number(&state.plan)?;
     let relation = state.relations.find(from)?;
-    let cond = condition(alloc, &relation.columns, cond)?;
+    let cond = condition(alloc, relation.columns.get()?, cond)?;
     Ok(asserted(alloc, next, from, relation, cond, message)?)
 }
 
@@ -47,7 +46,7 @@ fn asserted(
         ≡ asserted next alias.now (relation_tree relation.now) (typed cond) message.now) }
 {
     let message = copy_message(alloc, message)?;
-    let columns = copy_schema(alloc, &relation.columns)?;
+    let columns = relation.columns.share()?;
     let input = relation.node;
     let op = NodeOp::Assert {
         input,

@@ -7,6 +7,7 @@ ghost use Rattle.pig_check.specs.Statements.{statement_of};
 ghost use Rattle.pig_check.specs.Views.{StepTells, TellsState, fault_at, state_tree};
 
 use crate::faults::CheckFault;
+use crate::lasting::Lasting;
 use crate::state::{Progress, behind, extend};
 use crate::statements::statement;
 use pig_plan::Plan;
@@ -44,13 +45,14 @@ fn script(alloc: Global, stmts: &[Stmt]) -> Result<Progress, CheckFault>
     requires formed { All StmtFormed stmts.now }
     ensures { TellsState (script_of 1 nothing_yet stmts.now) result }
 {
+    let lasting = Lasting::of(alloc, stmts)?;
     let mut state = Progress {
         relations: Relations::new(alloc),
         plan: Plan::empty(alloc),
     };
     let mut number = 1;
     for stmt in stmts {
-        match step(alloc, &mut state, number, stmt) {
+        match step(alloc, &mut state, &lasting, number, stmt) {
             Ok(()) => {}
             Err(fault) => return Err(fault),
         }
@@ -59,18 +61,25 @@ fn script(alloc: Global, stmts: &[Stmt]) -> Result<Progress, CheckFault>
     Ok(state)
 }
 
-fn step(alloc: Global, state: &mut Progress, number: u32, stmt: &Stmt) -> Result<(), CheckFault>
+fn step(
+    alloc: Global,
+    state: &mut Progress,
+    lasting: &Lasting,
+    number: u32,
+    stmt: &Stmt,
+) -> Result<(), CheckFault>
     requires sound { IsSound number (state_tree state.old) }
     requires formed { StmtFormed stmt.now }
     ensures told { StepTells number (state_tree state.old)
         (statement_of (state_tree state.old) stmt.now) (state_tree state.new) result }
     ensures sound { OnOk result (IsSound (number + 1) (state_tree state.new)) }
 {
+    let ended = lasting.ended_by(alloc, number, stmt)?;
     let addition = match statement(alloc, state, stmt) {
         Ok(addition) => addition,
         Err(fault) => return Err(at(number, fault)),
     };
-    extend(state, number, addition)?;
+    extend(state, number, addition, ended.as_slice())?;
     Ok(())
 }
 

@@ -16,7 +16,7 @@ use crate::state::{Addition, Progress, behind, next_number};
 use crate::statements::given_one;
 use pig_cube::{expand, is_in, other_positions};
 use pig_plan::{KeyedInput, NodeOp};
-use pig_relations::{Relation, Relations, cube_columns};
+use pig_relations::{Relation, Relations, SharedSchema, cube_columns};
 use pig_schema::{Field, Schema, copy_field};
 use pig_syntax::{FieldRef, FieldRefs};
 use pig_typed::{TExpr, TExprs};
@@ -71,6 +71,7 @@ fn cubed(
     ops.push(foreach(alloc, &typed, rollup)?)?;
     ops.push(group(alloc, &typed, next)?)?;
     let TypedCube { columns, .. } = typed;
+    let columns = SharedSchema::new(alloc, columns)?;
     let given = given_one(alloc, alias, behind(next)?, columns)?;
     Ok(Addition { ops, given })
 }
@@ -127,7 +128,7 @@ fn type_cube(
     ensures told { Tells cube_tree (cube_of (aliases_of relations.now) from.now dims.now) result }
 {
     let relation = relations.find(from)?;
-    let dims = dimensions(alloc, &relation.columns, dims)?;
+    let dims = dimensions(alloc, relation.columns.get()?, dims)?;
     let cube = typed_cube(alloc, relation, dims)?;
     within_limits(alloc, cube)
 }
@@ -136,8 +137,9 @@ fn typed_cube(alloc: Global, relation: &Relation, dims: Positions) -> Result<Typ
     ensures { Tells cube_tree (Ok (typed_cube (relation_tree relation.now) dims)) result }
 {
     let node = relation.node;
-    let width = narrow(relation.columns.len())?;
-    let columns = group_columns(alloc, &relation.columns, width, dims.as_slice())?;
+    let columns = relation.columns.get()?;
+    let width = narrow(columns.len())?;
+    let columns = group_columns(alloc, columns, width, dims.as_slice())?;
     Ok(TypedCube {
         node,
         dims,

@@ -14,6 +14,7 @@ mod checking;
 mod cubes;
 mod faults;
 mod functions;
+mod lasting;
 mod laws;
 mod operators;
 mod paths;

@@ -109,7 +109,7 @@ fn loaded(alloc: Global, path: Text, delim: Delim, columns: Schema) -> Result<Ty
         delim,
         columns: read,
     };
-    Ok(TypedOp { op, columns })
+    TypedOp::new(alloc, op, columns)
 }
 
 fn columns_read(alloc: Global, columns: &[Field]) -> Result<Columns, AllocError>
@@ -145,8 +145,8 @@ pub fn filter(
     ensures { Tells op_tree (filter_of (aliases_of relations.now) from.now cond.now) result }
 {
     let relation = relations.find(from)?;
-    let columns = copy_schema(alloc, &relation.columns)?;
-    let cond = condition(alloc, &relation.columns, cond)?;
+    let columns = relation.columns.share()?;
+    let cond = condition(alloc, relation.columns.get()?, cond)?;
     let input = relation.node;
     let op = NodeOp::Filter { input, cond };
     Ok(TypedOp { op, columns })
@@ -178,23 +178,27 @@ pub fn foreach(
         result }
 {
     let relation = relations.find(from)?;
-    let typed = type_foreach(alloc, steps.as_slice(), items.as_slice(), &relation.columns)?;
+    let typed = type_foreach(
+        alloc,
+        steps.as_slice(),
+        items.as_slice(),
+        relation.columns.get()?,
+    )?;
     let input = relation.node;
     let op = NodeOp::Foreach {
         input,
         block: typed.block,
     };
-    let columns = typed.columns;
-    Ok(TypedOp { op, columns })
+    Ok(TypedOp::new(alloc, op, typed.columns)?)
 }
 
 /// DISTINCT.
 #[tactic(auto, unfolding(crate::specs::Operators::distinct_of))]
-pub fn distinct(alloc: Global, relations: &Relations, from: &Text) -> Result<TypedOp, TypeFault>
+pub fn distinct(relations: &Relations, from: &Text) -> Result<TypedOp, TypeFault>
     ensures { Tells op_tree (distinct_of (aliases_of relations.now) from.now) result }
 {
     let relation = relations.find(from)?;
-    let columns = copy_schema(alloc, &relation.columns)?;
+    let columns = relation.columns.share()?;
     let input = relation.node;
     let op = NodeOp::Distinct { input };
     Ok(TypedOp { op, columns })
@@ -211,8 +215,8 @@ pub fn order(
     ensures { Tells op_tree (order_of (aliases_of relations.now) from.now keys.now) result }
 {
     let relation = relations.find(from)?;
-    let columns = copy_schema(alloc, &relation.columns)?;
-    let keys = sort_keys(alloc, keys, &relation.columns)?;
+    let columns = relation.columns.share()?;
+    let keys = sort_keys(alloc, keys, relation.columns.get()?)?;
     let input = relation.node;
     let op = NodeOp::Order { input, keys };
     Ok(TypedOp { op, columns })
@@ -220,16 +224,11 @@ pub fn order(
 
 /// LIMIT.
 #[tactic(auto, unfolding(crate::specs::Operators::limit_of))]
-pub fn limit(
-    alloc: Global,
-    relations: &Relations,
-    from: &Text,
-    count: u64,
-) -> Result<TypedOp, TypeFault>
+pub fn limit(relations: &Relations, from: &Text, count: u64) -> Result<TypedOp, TypeFault>
     ensures { Tells op_tree (limit_of (aliases_of relations.now) from.now count) result }
 {
     let relation = relations.find(from)?;
-    let columns = copy_schema(alloc, &relation.columns)?;
+    let columns = relation.columns.share()?;
     let input = relation.node;
     let op = NodeOp::Limit { input, count };
     Ok(TypedOp { op, columns })
@@ -247,12 +246,12 @@ pub fn rank(
     ensures { Tells op_tree (rank_of (aliases_of relations.now) from.now keys.now dense) result }
 {
     let relation = relations.find(from)?;
-    let keys = sort_keys(alloc, keys, &relation.columns)?;
-    let columns = rank_columns(alloc, from, &relation.columns)?;
+    let keys = sort_keys(alloc, keys, relation.columns.get()?)?;
+    let columns = rank_columns(alloc, from, relation.columns.get()?)?;
     row_within_limits(alloc, &columns)?;
     let input = relation.node;
     let op = NodeOp::Rank { input, keys, dense };
-    Ok(TypedOp { op, columns })
+    Ok(TypedOp::new(alloc, op, columns)?)
 }
 
 // The rank of a row of the input with this alias, and then copies of the input's columns.

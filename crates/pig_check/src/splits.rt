@@ -11,8 +11,8 @@ ghost use Rattle.pig_check.specs.Views.{added_tree, state_tree};
 use crate::operators::condition;
 use crate::state::{Addition, GivenRelations, NodeOps, Progress, behind, next_number};
 use pig_plan::NodeOp;
-use pig_relations::{Named, Relation};
-use pig_schema::{Schema, copy_schema};
+use pig_relations::{Named, Relation, SharedSchema};
+use pig_schema::Schema;
 use pig_syntax::{Branch, Branches};
 use pig_typed::{TExpr, TExprs, TLink, TLinks, copy_expr};
 use pig_typing::TypeFault;
@@ -33,7 +33,7 @@ pub fn split(
 {
     let next = next_number(&state.plan)?;
     let relation = state.relations.find(from)?;
-    let conds = conditions(alloc, &relation.columns, branches.as_slice())?;
+    let conds = conditions(alloc, relation.columns.get()?, branches.as_slice())?;
     Ok(split_into(alloc, next, relation, branches, otherwise, conds)?)
 }
 
@@ -144,7 +144,7 @@ fn or_links(alloc: Global, conds: &[TExpr]) -> Result<TLinks, AllocError>
 fn given(
     alloc: Global,
     next: u32,
-    columns: &Schema,
+    columns: &SharedSchema,
     branches: &[Branch],
     otherwise: &Option<Text>,
 ) -> Result<GivenRelations, AllocError>
@@ -164,12 +164,17 @@ fn given(
     Ok(given)
 }
 
-fn named(alloc: Global, alias: &Text, node: u32, columns: &Schema) -> Result<Named, AllocError>
+fn named(
+    alloc: Global,
+    alias: &Text,
+    node: u32,
+    columns: &SharedSchema,
+) -> Result<Named, AllocError>
     ensures { IfOk result (λ n. aliases_of (n ∷ [])
         ≡ relations_from node (schema_tree columns.now) (alias.now ∷ [])) }
 {
     let alias = alias.copy(alloc)?;
-    let columns = copy_schema(alloc, columns)?;
+    let columns = columns.share()?;
     let relation = Relation { node, columns };
     Ok(Named { alias, relation })
 }

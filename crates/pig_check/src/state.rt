@@ -8,7 +8,7 @@ ghost use Rattle.pig_check.specs.Views.{added_tree, state_tree};
 use pig_plan::{Node, NodeOp, Plan};
 use pig_relations::{Named, Relations};
 use pig_typing::TypeFault;
-use pig_value::Seq;
+use pig_value::{Seq, Text};
 use std::alloc::AllocError;
 
 /// Operators of nodes that are not yet in a plan.
@@ -50,15 +50,30 @@ pub fn behind(number: u32) -> Result<u32, AllocError>
     }
 }
 
-/// Adds to the state what a statement of this number adds.
-pub fn extend(state: &mut Progress, statement: u32, addition: Addition) -> Result<(), AllocError>
+/// Adds to the state what a statement of this number adds. The columns of what these aliases mean behind it can go.
+pub fn extend(
+    state: &mut Progress,
+    statement: u32,
+    addition: Addition,
+    ended: &[&Text],
+) -> Result<(), AllocError>
     requires { AllFit statement (plan_of state.old.plan) (map op_of addition.ops) }
     ensures { OnOk result (state_tree state.new
         ≡ after statement (state_tree state.old) (added_tree addition)) }
 {
     let Addition { ops, given } = addition;
     add_all(&mut state.plan, statement, ops)?;
-    put_all(&mut state.relations, given)
+    put_all(&mut state.relations, given)?;
+    let_go_all(&mut state.relations, ended)
+}
+
+fn let_go_all(relations: &mut Relations, aliases: &[&Text]) -> Result<(), AllocError>
+    ensures { relations.new ≡ relations.old }
+{
+    for alias in aliases {
+        relations.let_go(*alias)?;
+    }
+    Ok(())
 }
 
 fn add_all(plan: &mut Plan, statement: u32, ops: NodeOps) -> Result<(), AllocError>

@@ -13,8 +13,9 @@ use crate::splits::split;
 use crate::state::{Addition, GivenRelations, Progress, next_number};
 use crate::stores::store;
 use crate::unions::union;
-use pig_relations::{Named, Relation, TypedOp, type_group, type_group_all, type_join};
-use pig_schema::Schema;
+use pig_relations::{
+    Named, Relation, SharedSchema, TypedOp, type_group, type_group_all, type_join,
+};
 use pig_syntax::{Op, Stmt};
 use pig_typing::{CheckKind, TypeFault};
 use pig_value::{Seq, Text};
@@ -104,7 +105,7 @@ pub fn given_one(
     alloc: Global,
     alias: &Text,
     node: u32,
-    columns: Schema,
+    columns: SharedSchema,
 ) -> Result<GivenRelations, AllocError>
     ensures { IfOk result (λ given. aliases_of given
         ≡ (alias.now, record { node = node; columns = schema_tree columns }) ∷ []) }
@@ -132,9 +133,9 @@ fn operator(alloc: Global, state: &Progress, op: &Op) -> Result<TypedOp, TypeFau
             side,
             using,
         } => type_join(alloc, relations, inputs.as_slice(), *side, using),
-        Op::Distinct { from } => distinct(alloc, relations, from),
+        Op::Distinct { from } => distinct(relations, from),
         Op::Order { from, keys } => order(alloc, relations, from, keys),
-        Op::Limit { from, count } => limit(alloc, relations, from, *count),
+        Op::Limit { from, count } => limit(relations, from, *count),
         Op::Rank { from, keys, dense } => rank(alloc, relations, from, keys, *dense),
         // Nodes may stand before that of a UNION, and one stands before that of a CUBE.
         Op::Union { .. } | Op::Cube { .. } => Err(TypeFault::Refused(CheckKind::Unsupported)),

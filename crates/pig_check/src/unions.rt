@@ -10,7 +10,7 @@ ghost use Rattle.pig_check.specs.Views.{added_tree, state_tree};
 use crate::state::{Addition, NodeOps, Progress, behind, next_number};
 use crate::statements::given_one;
 use pig_plan::NodeOp;
-use pig_relations::{TypedUnion, UnionInput, UnionInputs, type_union};
+use pig_relations::{SharedSchema, TypedUnion, UnionInput, UnionInputs, type_union};
 use pig_syntax::Names;
 use pig_typing::TypeFault;
 use pig_value::{Numbers, Seq, Text};
@@ -38,6 +38,7 @@ fn united(alloc: Global, next: u32, alias: &Text, typed: TypedUnion) -> Result<A
 {
     let TypedUnion { inputs, columns } = typed;
     let Widened { ops, inputs, node } = all_inputs(alloc, next, inputs)?;
+    let columns = SharedSchema::new(alloc, columns)?;
     let given = given_one(alloc, alias, node, columns)?;
     let mut ops = ops;
     ops.push(NodeOp::Union { inputs })?;

@@ -53,6 +53,8 @@ const SCRIPTS: &str = "\
 2 Unsupported: a = LOAD 'a' AS (x:int); DUMP a;\n\
 fine: a = LOAD 'o' AS (x:int); STORE a INTO '/o'; STORE a INTO 'op'; b = LOAD 'o/' AS (x:int);\n\
 fine: a = LOAD '/d/i.gzip' USING PigStorage() AS (x:int); STORE a INTO 'd/o' USING PigStorage('\\t');\n\
+fine: a = LOAD 'i' AS (x:int); b = DISTINCT a; a = LIMIT b 1; c = FILTER b BY x == 1; SPLIT b INTO d IF x == 1, e OTHERWISE; u = UNION d, e; g = GROUP c BY x, a BY x; STORE u INTO 'o'; STORE g INTO 'p';\n\
+6 UnknownField: a = LOAD 'i' AS (x:int); b = ORDER a BY x; a = RANK b BY x; b = FOREACH a GENERATE rank_b; ASSERT a BY x > 0; c = FILTER b BY x == 1;\n\
 fine: ;; a = LOAD 'i' AS (x:int);";
 
 #[test]

@@ -1,7 +1,7 @@
 -- The index of aliases: what it tells is what an alias means, also behind one more statement.
 use Rattle.std.proofs.Common.{◌≡◌, ◌∙◌, ◌<◌, ℕ, zero, suc, List, [], ◌∷◌, ◌++◌, length, refl, sym, ap, Bool, true, false, arith}
-use Rattle.std.specs.Prelude.{Option, Some, None, IfSome, slice_get, if◌then◌else◌}
-use Rattle.std.specs.Option.{option_map}
+use Rattle.std.specs.Prelude.{Option, Some, None, IfSome, slice_get, slice_set, if◌then◌else◌}
+use Rattle.std.specs.Option.{option_map, unwrap_or}
 use Rattle.std.specs.Str.{bytes_eq}
 use Rattle.std.proofs.lemmas.Cmp.{nat_list_eq_equiv}
 use Rattle.pig_typing.specs.Columns.{later_or}
@@ -65,3 +65,9 @@ index_behind given n old new h e name = by (bytes_eq name n.alias) refl
     by false w =
         let at : new name ≡ old name = e name ∙ ap (λ b. if b then Some (length given) else old name) w in
         rw (at) (earlier given n (old name) (h name).1 ∙ (h name).0 ∙ sym (means false w), within given n (old name) (h name).1)
+
+-- what stands at a place, put there again, changes nothing
+pub put_back : {X : Type 0} (xs : List X) (p : ℕ) (x y : X) → Some x ≡ slice_get xs p → y ≡ x → slice_set xs p y ≡ xs
+put_back [] p x y at is = refl
+put_back (z ∷ xs) zero x y at is = ap (λ first. first ∷ xs) (is ∙ ap (λ found. unwrap_or found x) at)
+put_back (z ∷ xs) (suc p) x y at is = ap (λ rest. z ∷ rest) (put_back xs p x y at is)

@@ -1,7 +1,7 @@
 -- Aliases, kinds together, and the columns of operators, computed.
 use Rattle.std.specs.Prelude.{◌≡◌, ℕ, true, false, List, [], ◌∷◌, codes, Some, None, refl}
 use Rattle.std.specs.declared.result.Result.TheVariants.{Ok, Err}
-use Rattle.pig_value.specs.Trees.{KindTree, k_int, k_long, k_chars, k_bag, k_tuple, kinds_of}
+use Rattle.pig_value.specs.Trees.{KindTree, k_int, k_long, k_chars, k_bag, kinds_of}
 use Rattle.pig_value.specs.declared.operators.Side.TheVariants as side
 use Rattle.pig_schema.specs.FieldTrees.{FieldTree, a_field, no_inner, inner_of}
 use Rattle.pig_syntax.specs.ExprTrees.{e_field, no_exprs, more_exprs}

@@ -1,6 +1,6 @@
 -- What stands together: each kind is that of the whole, or an int where that is long. So what is widened has the kind of the whole.
 use Rattle.std.proofs.Common.{◌≡◌, List, [], ◌∷◌, map, refl, ap, subst, Bool, true, false}
-use Rattle.std.specs.Prelude.{⊤, Option, Some, None, if◌then◌else◌}
+use Rattle.std.specs.Prelude.{Option, Some, None, if◌then◌else◌}
 use Rattle.std.specs.Option.{option_and_then, option_map}
 use Rattle.pig_value.specs.Kinds.{has_bag_or_map, kind_eq}
 use Rattle.pig_value.specs.Trees.{KindTree, k_int, k_long}

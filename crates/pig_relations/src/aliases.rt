@@ -1,26 +1,26 @@
-ghost use Rattle.std.specs.Prelude.{◌≡◌, ◌++◌, ℕ, List, [], ◌∷◌, Some, OnOk, OnErr, string_bytes, if◌then◌else◌};
+ghost use Rattle.std.specs.Prelude.{◌≡◌, ◌++◌, ℕ, List, [], ◌∷◌, Some, IfOk, OnOk, OnErr, string_bytes, if◌then◌else◌};
 ghost use Rattle.std.specs.Str.{bytes_eq};
 ghost use Rattle.std.specs.Option.{option_map};
 ghost use Rattle.indexmap.specs.IndexMap.{get_by_text};
 ghost use Rattle.pig_typing.specs.Results.{Tells};
 ghost use Rattle.pig_relations.specs.Aliases.{IsIndex, aliases_of, relation_at, relation_of, relation_tree};
 
+use crate::shared::SharedSchema;
 use indexmap::IndexMap;
-use pig_schema::Schema;
 use pig_typing::{CheckKind, TypeFault};
 use pig_value::{Seq, Text};
 use std::alloc::{AllocError, Global};
 use std::marker::Model;
 
 /// A relation: the number of its node in the plan, and its columns.
-#[derive(Debug, Drop)]
+#[derive(Drop)]
 pub struct Relation {
     pub node: u32,
-    pub columns: Schema,
+    pub columns: SharedSchema,
 }
 
 /// A relation with the alias that a statement gives it.
-#[derive(Debug, Drop)]
+#[derive(Drop)]
 pub struct Named {
     pub alias: Text,
     pub relation: Relation,
@@ -68,12 +68,14 @@ impl Relations {
         }
     }
 
-    /// Gives the alias to a relation. Where memory is wanting the aliases stay as they were.
+    /// Gives the alias to a relation, and lets the columns go of what it meant before. Where memory is wanting the aliases stay
+    /// as they were.
     pub fn put(&mut self, alias: &Text, relation: Relation) -> Result<(), AllocError>
         ensures ok { OnOk result (aliases_of self.new ≡ aliases_of self.old
             ++ (alias.now, relation_tree relation) ∷ []) }
         ensures err { OnErr result (self.new ≡ self.old) }
     {
+        self.let_go(alias)?;
         let alias = alias.copy(self.alloc)?;
         note(
             self.alloc,
@@ -81,6 +83,16 @@ impl Relations {
             &mut self.latest,
             Named { alias, relation },
         )
+    }
+
+    /// Lets the columns go of the relation that an alias means, which nothing is to ask for any more.
+    pub fn let_go(&mut self, alias: &Text) -> Result<(), AllocError>
+        ensures { self.new ≡ self.old }
+    {
+        if let Some(place) = self.latest.get(alias.as_str()) {
+            let_go_at(self.alloc, &mut self.given, *place)?;
+        }
+        Ok(())
     }
 
     /// The relation that an alias means: that of its latest statement.
@@ -107,6 +119,29 @@ impl Relations {
             None => Err(TypeFault::Refused(CheckKind::UnknownAlias)),
         }
     }
+}
+
+// Lets the columns go of the relation at a place.
+fn let_go_at(alloc: Global, given: &mut Seq<Named>, place: usize) -> Result<(), AllocError>
+    ensures { given.new ≡ given.old }
+{
+    let gone = match given.get(place) {
+        Some(named) => without_columns(alloc, named)?,
+        None => return Ok(()),
+    };
+    given.replace(place, gone);
+    Ok(())
+}
+
+// The relation, with columns that are told and not kept.
+fn without_columns(alloc: Global, named: &Named) -> Result<Named, AllocError>
+    ensures { IfOk result (λ n. n ≡ named.now) }
+{
+    let alias = named.alias.copy(alloc)?;
+    let columns = named.relation.columns.let_go()?;
+    let node = named.relation.node;
+    let relation = Relation { node, columns };
+    Ok(Named { alias, relation })
 }
 
 // Adds a relation to the list, and its place to the index.

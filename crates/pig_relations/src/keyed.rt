@@ -130,7 +130,7 @@ fn type_input<'a>(
     let relation = relations.find(form.from)?;
     let locals = Locals::new(alloc);
     let scope = Scope {
-        columns: &relation.columns,
+        columns: relation.columns.get()?,
         locals: &locals,
     };
     let keys = type_keys(alloc, form.keys, &scope)?;

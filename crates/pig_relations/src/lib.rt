@@ -12,6 +12,7 @@ mod columns;
 mod keyed;
 mod laws;
 mod operators;
+mod shared;
 mod together;
 mod unions;
 
@@ -22,4 +23,5 @@ pub use laws::{
     unions_give_their_columns, unions_have_one_typing,
 };
 pub use operators::{TypedOp, cube_columns, type_group, type_group_all, type_join};
+pub use shared::SharedSchema;
 pub use unions::{TypedUnion, UnionInput, UnionInputs, type_union};

@@ -8,7 +8,7 @@ ghost use Rattle.pig_typing.specs.Results.{IfRefused, Tells};
 ghost use Rattle.pig_typing.specs.Written.{with_name};
 ghost use Rattle.pig_relations.specs.Aliases.{aliases_of, relation_tree};
 ghost use Rattle.pig_relations.specs.Keyed.{group_form, join_form};
-ghost use Rattle.pig_relations.specs.Operators.{Groups, GroupsAll, GroupsAllNot, GroupsNot, Joins, JoinsNot, columns_under, cube_columns, first_keys, group_all_columns, group_all_of, group_column, group_columns, group_of, group_op, join_columns, join_of, join_op, joined_by, limited_op, may_replicate, op_tree, sided, without};
+ghost use Rattle.pig_relations.specs.Operators.{Groups, GroupsAll, GroupsAllNot, GroupsNot, Joins, JoinsNot, bag_column, columns_under, cube_columns, first_keys, group_all_columns, group_all_of, group_column, group_columns, group_of, group_op, join_columns, join_of, join_op, joined_by, limited_op, may_replicate, op_tree, sided, without};
 ghost use Rattle.pig_relations.specs.Together.{of_kinds};
 ghost use Rattle.pig_relations.specs.Views.{input_tree, keyable_tree};
 
@@ -17,6 +17,7 @@ use crate::columns::{all_under, bag_column, group_name, named, tuple};
 use crate::keyed::{
     Keyable, TypedInput, group_forms, join_forms, key_columns, keyed_inputs, type_keyed,
 };
+use crate::shared::SharedSchema;
 use crate::together::of_kinds;
 use pig_plan::NodeOp;
 use pig_schema::{Field, Schema, copy_field};
@@ -26,10 +27,21 @@ use pig_value::{Kind, Seq, Side, Text, failed};
 use std::alloc::{AllocError, Global};
 
 /// The operator of a node, and the columns of its rows.
-#[derive(Debug, Drop)]
+#[derive(Drop)]
 pub struct TypedOp {
     pub op: NodeOp,
-    pub columns: Schema,
+    pub columns: SharedSchema,
+}
+
+impl TypedOp {
+    /// An operator whose columns are no other relation's.
+    pub fn new(alloc: Global, op: NodeOp, columns: Schema) -> Result<TypedOp, AllocError>
+        ensures op { IfOk result (λ t. t.op ≡ op) }
+        ensures columns { IfOk result (λ t. t.columns ≡ columns) }
+    {
+        let columns = SharedSchema::new(alloc, columns)?;
+        Ok(TypedOp { op, columns })
+    }
 }
 
 /// The typing of a GROUP or COGROUP over the aliases so far.
@@ -233,7 +245,7 @@ fn limited_op(alloc: Global, op: NodeOp, columns: Schema) -> Result<TypedOp, Typ
     ensures { Tells op_tree (limited_op (op_of op) (schema_tree columns)) result }
 {
     match row_within_limits(alloc, &columns) {
-        Ok(()) => Ok(TypedOp { op, columns }),
+        Ok(()) => Ok(TypedOp::new(alloc, op, columns)?),
         Err(fault) => failed((op, columns), fault),
     }
 }
@@ -263,9 +275,17 @@ fn group_columns(alloc: Global, inputs: &[TypedInput], kinds: &[Kind]) -> Result
     let mut columns = Seq::with_capacity(alloc, inputs.len())?;
     columns.push(group_column(alloc, inputs, kinds)?)?;
     for input in inputs {
-        columns.push(bag_column(alloc, input.alias, &input.relation.columns)?)?;
+        columns.push(bag_of(alloc, input.alias, input.relation)?)?;
     }
     Ok(columns)
+}
+
+// The bag of a relation's rows.
+fn bag_of(alloc: Global, alias: &Text, relation: &Relation) -> Result<Field, AllocError>
+    ensures { IfOk result (λ f. named_tree f
+        ≡ bag_column alias.now (schema_tree relation.now.columns)) }
+{
+    bag_column(alloc, alias, relation.columns.get()?)
 }
 
 // The column of the key, by the names of the first input's keys.
@@ -314,7 +334,7 @@ fn group_all_columns(alloc: Global, alias: &Text, relation: &Relation) -> Result
         kind: Kind::Chararray,
         inner: Seq::new(alloc),
     })?;
-    columns.push(bag_column(alloc, alias, &relation.columns)?)?;
+    columns.push(bag_of(alloc, alias, relation)?)?;
     Ok(columns)
 }
 
@@ -382,6 +402,6 @@ fn with_input(alloc: Global, columns: Schema, input: &TypedInput) -> Result<Sche
         alloc,
         columns,
         input.alias,
-        input.relation.columns.as_slice(),
+        input.relation.columns.get()?.as_slice(),
     )
 }

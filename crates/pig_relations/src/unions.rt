@@ -141,9 +141,15 @@ fn column_rows<'a>(
 {
     let mut rows = Vec::with_capacity(alloc, inputs.len())?;
     for input in inputs {
-        rows.push(columns(alloc, input.columns.as_slice())?)?;
+        rows.push(input_columns(alloc, input)?)?;
     }
     Ok(rows)
+}
+
+fn input_columns<'a>(alloc: Global, input: &'a Relation) -> Result<Vec<&'a Field>, AllocError>
+    ensures { IfOk result (λ row. fields_seen row.items ≡ schema_tree input.now.columns) }
+{
+    columns(alloc, input.columns.get()?.as_slice())
 }
 
 fn columns<'a>(alloc: Global, fields: &'a [Field]) -> Result<Vec<&'a Field>, AllocError>
@@ -173,7 +179,7 @@ fn union_columns(alloc: Global, inputs: &[&Relation], kinds: &[Kind]) -> Result<
 {
     match inputs {
         [first, ..] => {
-            let row = columns(alloc, first.columns.as_slice())?;
+            let row = input_columns(alloc, first)?;
             of_kinds(alloc, kinds, row.as_slice())
         }
         [] => of_kinds(alloc, kinds, &[]),
@@ -200,7 +206,7 @@ fn union_input(alloc: Global, input: &Relation, kinds: &[Kind]) -> Result<UnionI
     ensures { Tells union_input_tree (Ok (union_input (map kind_tree kinds.now)
         (relation_tree input.now))) result }
 {
-    let widening = widening(alloc, input.columns.as_slice(), kinds)?;
+    let widening = widening(alloc, input.columns.get()?.as_slice(), kinds)?;
     Ok(UnionInput {
         node: input.node,
         widening,
