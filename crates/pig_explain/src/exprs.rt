@@ -1,13 +1,13 @@
 //! The texts of typed expressions.
 ghost use Rattle.std.specs.Prelude.{◌≡◌, ◌++◌, [], map, codes, decimal, OnOk};
-ghost use Rattle.pig_typed.specs.Typed.{args_of, link_of, links_of, typed};
+ghost use Rattle.pig_typed.specs.Typed.{args_of, link_of, links_of, typed, x_call};
 ghost use Rattle.pig_explain.specs.ExprTexts.{args_text, chain_text, expr_text, links_text, null_text, positions_text, rel_text};
 ghost use Rattle.pig_explain.specs.Joins.{joined};
 
 use crate::kinds::put_kind;
 use crate::puts::{put, put_bool, put_field, put_int, put_local, put_long, put_number, put_quoted};
 use pig_typed::{TExpr, TLink};
-use pig_value::{Boxed, ChainOp, Rel};
+use pig_value::{Boxed, ChainOp, Function, Rel};
 use std::alloc::AllocError;
 
 #[cycle(expr)]
@@ -52,12 +52,7 @@ pub fn put_expr(e: &TExpr, out: &mut Vec<u8>) -> Result<(), AllocError>
             put_within(b"", a, b"#", out)?;
             put_quoted(key, out)
         }
-        TExpr::Call { function, args } => {
-            put(function.name().as_bytes(), out)?;
-            put(b"(", out)?;
-            put_args(args.as_slice(), out)?;
-            put(b")", out)
-        }
+        TExpr::Call { function, args } => put_call(*function, args.as_slice(), out),
     }
 }
 
@@ -87,6 +82,17 @@ fn put_links(links: &[TLink], out: &mut Vec<u8>) -> Result<(), AllocError>
         put_expr(&link.a, out)?;
     }
     Ok(())
+}
+
+#[cycle(expr)]
+fn put_call(function: Function, args: &[TExpr], out: &mut Vec<u8>) -> Result<(), AllocError>
+    ensures { OnOk result (out.new.items
+        ≡ out.old.items ++ expr_text (x_call function (args_of (map typed args.now)))) }
+{
+    put(function.name().as_bytes(), out)?;
+    put(b"(", out)?;
+    put_args(args, out)?;
+    put(b")", out)
 }
 
 // Arguments with a comma and a space between each two.

@@ -3,7 +3,9 @@ ghost use Rattle.std.specs.Prelude.{◌≡◌, ◌++◌, [], map, codes, OnOk, i
 ghost use Rattle.std.specs.List.{flat_map};
 ghost use Rattle.std.specs.Option.{option_map};
 ghost use Rattle.pig_plan.specs.Nodes.{op_at};
-ghost use Rattle.pig_plan.specs.Plans.{keyed_of, op_of, plan_of};
+ghost use Rattle.pig_plan.specs.Plans.{keyed_of, op_of, p_foreach, p_join, p_load, p_rank, p_store, plan_of};
+ghost use Rattle.pig_typed.specs.Typed.{block_typed, typed};
+ghost use Rattle.pig_explain.specs.ExprTexts.{expr_text};
 ghost use Rattle.pig_explain.specs.NodeTexts.{input_text, inputs_text, keyed_text, node_line, node_text, number_text, on_input, op_line, plan_text, side_text};
 
 use crate::blocks::{put_block, put_sort_keys};
@@ -12,7 +14,8 @@ use crate::kinds::put_columns;
 use crate::numbering::place;
 use crate::puts::{put, put_hex, put_number, put_quoted};
 use pig_plan::{KeyedInput, Node, NodeOp};
-use pig_value::Side;
+use pig_typed::{Block, SortKey, TExpr};
+use pig_value::{Column, Delim, Side, Text};
 use std::alloc::AllocError;
 
 /// Nodes by their numbers, a line for each.
@@ -80,21 +83,9 @@ fn put_op(order: &[usize], op: &NodeOp, out: &mut Vec<u8>) -> Result<(), AllocEr
             path,
             delim,
             columns,
-        } => {
-            put(b"LOAD ", out)?;
-            put_quoted(path, out)?;
-            put(b" ", out)?;
-            put_hex(*delim, out)?;
-            put_columns(columns.as_slice(), out)
-        }
-        NodeOp::Filter { input, cond } => {
-            put_on(b"FILTER ", order, *input, b" ", out)?;
-            put_expr(cond, out)
-        }
-        NodeOp::Foreach { input, block } => {
-            put_on(b"FOREACH ", order, *input, b"", out)?;
-            put_block(block, out)
-        }
+        } => put_load(path, *delim, columns.as_slice(), out),
+        NodeOp::Filter { input, cond } => put_condition(b"FILTER ", order, *input, cond, out),
+        NodeOp::Foreach { input, block } => put_foreach(order, *input, block, out),
         NodeOp::GroupAll { input } => put_on(b"GROUP ", order, *input, b" ALL", out),
         NodeOp::Group { inputs } => {
             put(b"GROUP", out)?;
@@ -104,11 +95,7 @@ fn put_op(order: &[usize], op: &NodeOp, out: &mut Vec<u8>) -> Result<(), AllocEr
             inputs,
             side,
             replicated,
-        } => {
-            put(b"JOIN", out)?;
-            put_inputs(order, side_word(*side), inputs.as_slice(), out)?;
-            put(replicated_word(*replicated), out)
-        }
+        } => put_join(order, inputs.as_slice(), *side, *replicated, out),
         NodeOp::Union { inputs } => {
             put(b"UNION", out)?;
             put_places(order, inputs.as_slice(), out)
@@ -122,22 +109,104 @@ fn put_op(order: &[usize], op: &NodeOp, out: &mut Vec<u8>) -> Result<(), AllocEr
             put_on(b"LIMIT ", order, *input, b" ", out)?;
             put_number(*count, out)
         }
-        NodeOp::Store { input, path, delim } => {
-            put_on(b"STORE ", order, *input, b" ", out)?;
-            put_quoted(path, out)?;
-            put(b" ", out)?;
-            put_hex(*delim, out)
-        }
+        NodeOp::Store { input, path, delim } => put_store(order, *input, path, *delim, out),
         NodeOp::Assert { input, cond, .. } => {
-            put_on(b"ASSERT ", order, *input, b" ", out)?;
-            put_expr(cond, out)
+            put_condition(b"ASSERT ", order, *input, cond, out)
         }
         NodeOp::Rank { input, keys, dense } => {
-            put_on(b"RANK ", order, *input, b" ", out)?;
-            put_sort_keys(keys.as_slice(), out)?;
-            put(dense_word(*dense), out)
+            put_rank(order, *input, keys.as_slice(), *dense, out)
         }
     }
+}
+
+fn put_load(
+    path: &Text,
+    delim: Delim,
+    columns: &[Column],
+    out: &mut Vec<u8>,
+) -> Result<(), AllocError>
+    ensures { OnOk result (out.new.items
+        ≡ out.old.items ++ node_text [] (p_load path.now delim columns.now)) }
+{
+    put(b"LOAD ", out)?;
+    put_quoted(path, out)?;
+    put(b" ", out)?;
+    put_hex(delim, out)?;
+    put_columns(columns, out)
+}
+
+fn put_foreach(
+    order: &[usize],
+    input: u32,
+    block: &Block,
+    out: &mut Vec<u8>,
+) -> Result<(), AllocError>
+    ensures { OnOk result (out.new.items
+        ≡ out.old.items ++ node_text order.now (p_foreach input (block_typed block.now))) }
+{
+    put_on(b"FOREACH ", order, input, b"", out)?;
+    put_block(block, out)
+}
+
+fn put_join(
+    order: &[usize],
+    inputs: &[KeyedInput],
+    side: Side,
+    replicated: bool,
+    out: &mut Vec<u8>,
+) -> Result<(), AllocError>
+    ensures { OnOk result (out.new.items
+        ≡ out.old.items ++ node_text order.now (p_join (map keyed_of inputs.now) side replicated)) }
+{
+    put(b"JOIN", out)?;
+    put_inputs(order, side_word(side), inputs, out)?;
+    put(replicated_word(replicated), out)
+}
+
+fn put_store(
+    order: &[usize],
+    input: u32,
+    path: &Text,
+    delim: Delim,
+    out: &mut Vec<u8>,
+) -> Result<(), AllocError>
+    ensures { OnOk result (out.new.items
+        ≡ out.old.items ++ node_text order.now (p_store input path.now delim)) }
+{
+    put_on(b"STORE ", order, input, b" ", out)?;
+    put_quoted(path, out)?;
+    put(b" ", out)?;
+    put_hex(delim, out)
+}
+
+fn put_rank(
+    order: &[usize],
+    input: u32,
+    keys: &[SortKey],
+    dense: bool,
+    out: &mut Vec<u8>,
+) -> Result<(), AllocError>
+    ensures { OnOk result (out.new.items
+        ≡ out.old.items ++ node_text order.now (p_rank input keys.now dense)) }
+{
+    put_on(b"RANK ", order, input, b" ", out)?;
+    put_sort_keys(keys, out)?;
+    put(dense_word(dense), out)
+}
+
+// A word, the number of an input, and a condition on its rows.
+fn put_condition(
+    word: &[u8],
+    order: &[usize],
+    input: u32,
+    cond: &TExpr,
+    out: &mut Vec<u8>,
+) -> Result<(), AllocError>
+    ensures { OnOk result (out.new.items ≡ out.old.items
+        ++ on_input word.now order.now input (codes " " ++ expr_text (typed cond.now))) }
+{
+    put_on(word, order, input, b" ", out)?;
+    put_expr(cond, out)
 }
 
 // A word, the number of an input, and what stands behind it.

@@ -13,6 +13,9 @@ decreases-put_within l = 3 * goal.size-put_within l + 1
 abbrev pub decreases-put_links : goal.decreases-put_links
 decreases-put_links l = 3 * goal.size-put_links l + 1
 
+abbrev pub decreases-put_call : goal.decreases-put_call
+decreases-put_call l = 3 * goal.size-put_call l + 2
+
 abbrev pub decreases-put_args : goal.decreases-put_args
 decreases-put_args l = 3 * goal.size-put_args l + 1
 
