@@ -1,10 +1,9 @@
--- The text of an earlier wave's rows, as a task of a STORE hands it on.
+-- The rows of an earlier wave, as a task hands on what its path chooses of them.
 use Rattle.std.proofs.Common.{◌≡◌, ℕ, Bool, List, [], length, refl, sym, ◌∙◌, ap, subst, Option, Some}
 use Rattle.std.specs.Option.{option_map_or}
 use Rattle.std.specs.Ordering.{nat_cmp}
 use Rattle.pig_value.specs.declared.inputs.Input.{Input}
 use Rattle.pig_value.specs.Sorts.{sort}
-use Rattle.pig_value.specs.Texts.{rows_text}
 use Rattle.pig_value.specs.Trees.{Tree}
 use Rattle.pig_plan.specs.Asserts.{unmet_on}
 use Rattle.pig_plan.specs.Nodes.{Entering, op_at}
@@ -12,12 +11,12 @@ use Rattle.pig_plan.specs.Plans.{Plan, PlanOp}
 use Rattle.pig_plan.specs.Steps.{AreFoldMarks, Folding, through}
 use Rattle.pig_stream.specs.Stepping.{marked_folding}
 use Rattle.pig_physical.specs.Combining.{folds}
-use Rattle.pig_physical.specs.Outs.{Form, Outs, o_bytes, rows_at}
+use Rattle.pig_physical.specs.Outs.{Outs, rows_at}
 use Rattle.pig_physical.specs.Stages.{MapTask, Stages}
 use Rattle.pig_physical.specs.Values.{part_lines, part_rows}
 use Rattle.pig_physical.specs.declared.parts.Part.{Part}
 use Rattle.pig_physical.specs.declared.parts.Part.TheVariants as parts
-use Rattle.pig_map.specs.Choosing.{Chooses, chosen_rows}
+use Rattle.pig_map.specs.Choosing.{AreLent, Chooses, chosen_rows}
 use Rattle.pig_map.specs.Making.{AreFrom, HasRun, MayGive}
 use Rattle.pig_map.specs.declared.choosing.Chosen.{Chosen}
 
@@ -39,19 +38,25 @@ abbrev pub AssertsByMarks : Type 0
 AssertsByMarks = (folding : Folding) (folded : List Bool) → AreFoldMarks folding folded → (plan : Plan) (path : List ℕ) (rows : List (List Tree))
     → unmet_on folding plan path rows ≡ unmet_on (marked_folding folded) plan path rows
 
--- the text of what a path chooses is that of its task's rows
-pub lent_run : (s : Stages) (told : Option (List Input)) (outs : Outs) (t : MapTask) (way : Entering) → t.way ≡ way → (folded : List Bool) → AreFoldMarks (folds s.plan) folded
+-- what a path chooses of rows of its part
+pub are_lent : (s : Stages) (told : Option (List Input)) (outs : Outs) (t : MapTask) (way : Entering) → t.way ≡ way → (folded : List Bool) → AreFoldMarks (folds s.plan) folded
     → RowsByMarks → AssertsByMarks → (c : Chosen) → Chooses (marked_folding folded) s.plan way.path.nodes c → (rows : List (List Tree))
-    → AreFrom s told outs way.path.source t.part rows 0 → (delim : ℕ) (text : List ℕ) (form : Form) (lines : ℕ) (unmet : List ℕ) → text ≡ rows_text delim (chosen_rows c rows)
-    → form ≡ o_bytes text → lines ≡ 0 → unmet ≡ [] → HasRun s told outs t (λ rows. form ≡ o_bytes (rows_text delim rows)) lines unmet
-lent_run s told outs t way is_way folded marks by_rows by_asserts c chooses rows from delim text form lines unmet is form_is none_read none_unmet =
+    → AreFrom s told outs way.path.source t.part rows 0 → AreLent s told outs t rows c
+are_lent s told outs t way is_way folded marks by_rows by_asserts c chooses rows from =
     let nodes : t.way.path.nodes ≡ way.path.nodes = ap (λ w. w.path.nodes) is_way in
     let source : way.path.source ≡ t.way.path.source = ap (λ w. w.path.source) (sym is_way) in
     record {
-      rows = rows;
-      from = subst (AreFrom s told outs t.way.path.source t.part rows) (sym none_read) (subst (λ k. AreFrom s told outs k t.part rows 0) source from);
-      taken = form_is ∙ ap o_bytes (is ∙ ap (rows_text delim) (sym (ap (λ ns. through (folds s.plan) s.plan ns rows) nodes
-          ∙ (by_rows (folds s.plan) folded marks s.plan way.path.nodes rows ∙ chooses.rows rows))));
-      unmet_are = none_unmet ∙ ap (sort nat_cmp) (sym (ap (λ ns. unmet_on (folds s.plan) s.plan ns rows) nodes
-          ∙ (by_asserts (folds s.plan) folded marks s.plan way.path.nodes rows ∙ chooses.asserts rows)));
+      from = subst (λ k. AreFrom s told outs k t.part rows 0) source from;
+      chosen = ap (λ ns. through (folds s.plan) s.plan ns rows) nodes ∙ (by_rows (folds s.plan) folded marks s.plan way.path.nodes rows ∙ chooses.rows rows);
+      asserts = ap (λ ns. unmet_on (folds s.plan) s.plan ns rows) nodes ∙ (by_asserts (folds s.plan) folded marks s.plan way.path.nodes rows ∙ chooses.asserts rows);
     }
+
+-- what becomes of what is chosen becomes of the task's rows
+pub lent_run : (s : Stages) (told : Option (List Input)) (outs : Outs) (t : MapTask) (c : Chosen) (rows : List (List Tree)) → AreLent s told outs t rows c
+    → (after : List (List Tree) → Type 0) (lines : ℕ) (unmet : List ℕ) → after (chosen_rows c rows) → lines ≡ 0 → unmet ≡ [] → HasRun s told outs t after lines unmet
+lent_run s told outs t c rows lent after lines unmet taken none_read none_unmet = record {
+  rows = rows;
+  from = subst (AreFrom s told outs t.way.path.source t.part rows) (sym none_read) lent.from;
+  taken = subst after (sym lent.chosen) taken;
+  unmet_are = none_unmet ∙ ap (sort nat_cmp) (sym lent.asserts);
+}

@@ -1,6 +1,7 @@
 -- The fields that a path chooses of its source's rows.
 use Rattle.std.specs.Prelude.{◌≡◌, ℕ, List, [], ◌∷◌, map, Option, Some, None}
 use Rattle.std.specs.Borrow.{Bor}
+use Rattle.pig_value.specs.declared.inputs.Input.{Input}
 use Rattle.pig_value.specs.Trees.{Tree, at}
 use Rattle.pig_keycode.specs.Keys.{fields_at}
 use Rattle.pig_typed.specs.Blocks.{item_lists}
@@ -9,6 +10,10 @@ use Rattle.pig_plan.specs.Asserts.{not_met, not_met_at, unmet_on}
 use Rattle.pig_plan.specs.Plans.{Plan, PlanOp}
 use Rattle.pig_plan.specs.Steps.{Folding, node_step, step_rows, through}
 use Rattle.pig_packed_text.specs.SeenTexts.{placed}
+use Rattle.pig_physical.specs.Combining.{folds}
+use Rattle.pig_physical.specs.Outs.{Outs}
+use Rattle.pig_physical.specs.Stages.{MapTask, Stages}
+use Rattle.pig_map.specs.Making.{AreFrom}
 use Rattle.pig_map.specs.declared.choosing.Chosen.{Chosen}
 use Rattle.pig_map.specs.declared.choosing.Chosen.TheVariants as chosen
 
@@ -39,3 +44,9 @@ pub record ChoosesAt (folding : Folding) (plan : Plan) (k : ℕ) (before next : 
 pub record Chooses (folding : Folding) (plan : Plan) (path : List ℕ) (c : Chosen) : Type 0 where
   pub rows : (rows : List (List Tree)) → through folding plan path rows ≡ chosen_rows c rows
   pub asserts : (rows : List (List Tree)) → unmet_on folding plan path rows ≡ []
+
+-- the rows of a task's part, of no lines; its path only chooses of them, and has no ASSERT
+pub record AreLent (s : Stages) (told : Option (List Input)) (outs : Outs) (t : MapTask) (rows : List (List Tree)) (c : Chosen) : Type 0 where
+  pub from : AreFrom s told outs t.way.path.source t.part rows 0
+  pub chosen : through (folds s.plan) s.plan t.way.path.nodes rows ≡ chosen_rows c rows
+  pub asserts : unmet_on (folds s.plan) s.plan t.way.path.nodes rows ≡ []

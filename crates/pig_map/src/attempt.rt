@@ -26,7 +26,7 @@ ghost use Rattle.pig_map.specs.Making.{FormBy, HasMade, HasRun, attempt_fault_of
 ghost use Rattle.pig_map.specs.declared.attempt.Handing.TheVariants as handings;
 
 use crate::first::FirstPacked;
-use crate::lent::lent_text;
+use crate::lent::{lent_first, lent_text};
 use crate::parts::{operator, take_part};
 use crate::unmet::ascending;
 use pig_fitting::{loads_fit, map_forms_fit, parts_fit};
@@ -178,6 +178,9 @@ fn first_out<H: Host, S: Stop>(
     ensures begun { H.begun host.new ≡ H.begun host.old }
     ensures cause { HasCause (H.faults host.old) (H.faults host.new) result }
 {
+    if let Some(out) = lent_first(alloc, stages, task, prior, count)? {
+        return Ok(Some(out));
+    }
     let mut sink = FirstPacked::new(alloc, count);
     let Some(ran) = run(alloc, stages, task, prior, host, block, stop, &mut sink)? else {
         return Ok(None);

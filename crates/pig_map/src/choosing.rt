@@ -143,6 +143,7 @@ fn then_op(
     match op {
         NodeOp::Foreach { input, block } => then_foreach(alloc, *input, block, folded, chosen),
         NodeOp::Union { .. } => Ok(Some(chosen)),
+        NodeOp::Store { .. } => Ok(Some(chosen)),
         _ => Ok(None),
     }
 }
