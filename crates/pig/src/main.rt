@@ -8,20 +8,17 @@
 ghost use Rattle.std.specs.Prelude.{◌≡◌, IfOk, vec_len};
 
 use pig_files::{FileDepot, FileHost, StdConsole};
-use pig_run::pig_main;
+use pig_run::{RunFault, pig_main};
 use pig_value::{Text, Words};
 use std::alloc::AllocError;
 use std::env;
 use std::io::ErrorKind;
 use std::process::ExitCode;
 
-/// As many hosts as the program makes.
+// As many hosts as the program makes.
 const HOSTS: usize = 16;
 
-/// The status where memory is wanting.
-const OUT_OF_MEMORY: u8 = 9;
-
-/// The real devices.
+// The real devices.
 #[derive(Drop)]
 struct Devices {
     depot: FileDepot<HostRuntime>,
@@ -46,7 +43,7 @@ impl Devices {
     }
 }
 
-/// The program's words without its name; none where they are not all text.
+// The program's words without its name; none where they are not all text.
 fn words(rt: &HostRuntime) -> Result<Words, AllocError> {
     let alloc = rt.alloc();
     let mut words = Words::new(alloc);
@@ -73,6 +70,6 @@ fn main(rt: HostRuntime) -> ExitCode {
             let outcome = pig_main(&rt, alloc, &words, &mut depot, &mut hosts, &mut console);
             ExitCode::from(outcome.status)
         }
-        _ => ExitCode::from(OUT_OF_MEMORY),
+        _ => ExitCode::from(RunFault::OutOfMemory.status()),
     }
 }

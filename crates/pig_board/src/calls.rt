@@ -19,20 +19,20 @@ use crate::rule::{
 use atomic_table::{Closed, Table};
 use std::alloc::{AllocError, Global};
 
-// The words of each task, behind the first one, and where among them stand how many of its attempts
-// were begun, how many of them failed, and which one won.
+// So many words stand for each task, behind the first word of all.
 const TASK_WORDS: usize = 3;
 
+// Which of them tells how many attempts were begun, how many failed, and which one won.
 const BEGUN: usize = 1;
 
 const FAILURES: usize = 2;
 
 const WINNER: usize = 3;
 
-/// The room of a board's first pass.
+// The room of a board's first pass.
 const FULL_ROOM: u64 = 2_147_483_648;
 
-/// A pass that has failed so often in a row begins no attempt, unless it is firm.
+// A pass that has failed so often in a row begins no attempt, unless it is firm.
 const ASIDE_LIMIT: u32 = 3;
 
 impl Pass {
@@ -274,7 +274,7 @@ impl Board {
     }
 }
 
-/// The attempt that a winner's word names.
+// The attempt that a winner's word names.
 fn winner_in(word: u64) -> Option<u32>
     requires { word ≤ 2 ^ 31 }
     ensures { result ≡ winner_of word }
@@ -286,7 +286,7 @@ fn winner_in(word: u64) -> Option<u32>
     }
 }
 
-/// The word `i` of a closed table.
+// The word `i` of a closed table.
 fn word_at(closed: &Closed<(), Global>, i: usize) -> u64
     requires { IsFull closed.now.words × (i < slots_len closed.now.words) }
     ensures { result ≡ slice_index (slots_items closed.now.words) i }
@@ -294,7 +294,7 @@ fn word_at(closed: &Closed<(), Global>, i: usize) -> u64
     closed.word(i)
 }
 
-/// The end of task `t` that the words of a closed table tell.
+// The end of task `t` that the words of a closed table tell.
 fn end_at(closed: &Closed<(), Global>, t: u32) -> TaskEnd
     requires few { t < 65536 }
     requires whole { IsFull closed.now.words × (winner_word t < slots_len closed.now.words) }

@@ -6,7 +6,7 @@ ghost use Rattle.pig_board.specs.Told.{DrawTold, BeginTold, CommitTold, FailTold
 use crate::view::View;
 use atomic_table::{Join, Play, Split, TableRule};
 
-/// The rule of a board's table, whose key is the number of tasks.
+// The rule of a board's table, whose key is the number of tasks.
 pub struct Rule;
 
 impl TableRule<(), View, u32> for Rule {

@@ -26,10 +26,6 @@ use Rattle.pig_collect.proofs.Heading.{last_tasks, stores_rise}
 
 -- ---- one output more
 
-own_none : (k : ℕ) (tasks : List Task) → own_front k tasks [] ≡ []
-own_none k [] = refl
-own_none k (task ∷ tasks) = refl
-
 pub own_next : (k at : ℕ) (tasks : List Task) (out : Out) (old new : List Out) (bytes : List ℕ) (own all : List (List ℕ))
     → option_map_or (is_for k) (slice_get tasks at) false ≡ true → old ≡ out ∷ new → bytes ≡ bytes_in (form_of out.form)
     → all ≡ own ++ own_front k (drop at tasks) (map out_of old) → all ≡ (own ++ bytes ∷ []) ++ own_front k (drop (at + 1) tasks) (map out_of new)

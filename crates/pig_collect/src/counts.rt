@@ -7,7 +7,7 @@ ghost use Rattle.pig_collect.specs.Tallies.{wave_lines};
 use pig_physical::Out;
 use pig_value::OutList;
 
-/// The number of lines that tasks read, modulo 2 to the 64.
+// The number of lines that tasks read, modulo 2 to the 64.
 pub fn lines_in(outs: &[OutList<Out>]) -> u64
     ensures { result ≡ lines_in (outs_of outs.now) % 2 ^ 64 }
 {

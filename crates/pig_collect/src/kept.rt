@@ -16,7 +16,7 @@ use pig_plan::{Node, NodeOp, Plan, live_numbers};
 use pig_value::{Kept, KeptList, OutList, Rows};
 use std::alloc::{AllocError, Global};
 
-/// What each live bare LIMIT kept, in order: the rows of its last wave.
+// What each live bare LIMIT kept, in order: the rows of its last wave.
 pub fn kept(alloc: Global, plan: &Plan, outs: &[OutList<Out>]) -> Result<KeptList, AllocError>
     ensures { IfOk result (λ kept. AreOutputs (plan_of plan.now) (outs_of outs.now) kept) }
 {

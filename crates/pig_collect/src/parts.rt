@@ -22,7 +22,7 @@ use pig_value::{Blob, Blobs, OutList};
 use std::alloc::{AllocError, Global};
 use std::vec::IntoIter;
 
-/// The parts of each STORE, without a copy, in the order of its tasks.
+// The parts of each STORE, without a copy, in the order of its tasks.
 pub fn store_parts(
     alloc: Global,
     stages: &Stages,

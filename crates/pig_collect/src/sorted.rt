@@ -8,7 +8,7 @@ ghost use Rattle.pig_collect.specs.Keeping.{sorted_list};
 use pig_plan::{Node, NodeOp};
 use std::alloc::{AllocError, Global};
 
-/// Of each node whether it is sorted: an ORDER, or an ASSERT on a sorted node.
+// Of each node whether it is sorted: an ORDER, or an ASSERT on a sorted node.
 pub fn sorted_nodes(alloc: Global, nodes: &[Node]) -> Result<Vec<bool>, AllocError>
     ensures { IfOk result (λ sorted. sorted.items ≡ sorted_list (plan_of nodes.now)) }
 {
@@ -30,7 +30,7 @@ fn sorts(op: &NodeOp, sorted: &[bool]) -> bool
     }
 }
 
-/// Whether a node is marked; one that is not among them is none.
+// Whether a node is marked; one that is not among them is none.
 pub fn is_marked(marks: &[bool], node: u32) -> bool
     ensures { result ≡ at_place false marks.now node }
 {

@@ -8,7 +8,7 @@ ghost use Rattle.pig_collect.specs.Tallies.{least_of, lesser};
 use pig_physical::Out;
 use pig_value::OutList;
 
-/// The least statement of an ASSERT that some task's rows don't meet.
+// The least statement of an ASSERT that some task's rows don't meet.
 pub fn least_unmet(outs: &[OutList<Out>]) -> Option<u32>
     ensures { result ≡ least_of (all_unmet (outs_of outs.now)) }
 {

@@ -279,16 +279,3 @@ one_more_cut plan at parts reducers front heads waves next n head wave cut size 
           let size = length-append waves (wave ∷ []) in
           last w x (omega (arith, past, below, size)) found
     ]
-
--- one more feed
-pub fed_ways : (plan : Plan) (before after : List Entering) (feed : Feed) (feeds : List Feed) (all : List Entering) → after ≡ before ++ ways_on plan feed
-    → before ++ flat_map (ways_on plan) (feed ∷ feeds) ≡ all → after ++ flat_map (ways_on plan) feeds ≡ all
-fed_ways plan before after feed feeds all adds so_far =
-    ap (λ ws. ws ++ flat_map (ways_on plan) feeds) adds ∙ append_assoc before (ways_on plan feed) (flat_map (ways_on plan) feeds) ∙ so_far
-
-pub fed_on : (parts : ℕ → List Part) (plan : Plan) (w n m : ℕ) (before after : List declared.Task) (feed : Feed) (feeds : List Feed) (all : List declared.Task)
-    → after ≡ before ++ tasks_along parts feed.node w n (ways_on plan feed) → m ≡ n + length (ways_on plan feed)
-    → before ++ tasks_fed parts plan w n (feed ∷ feeds) ≡ all → after ++ tasks_fed parts plan w m feeds ≡ all
-fed_on parts plan w n m before after feed feeds all adds is so_far =
-    (λ i. adds i ++ tasks_fed parts plan w (is i) feeds)
-    ∙ append_assoc before (tasks_along parts feed.node w n (ways_on plan feed)) (tasks_fed parts plan w (n + length (ways_on plan feed)) feeds) ∙ so_far

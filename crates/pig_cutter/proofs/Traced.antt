@@ -12,9 +12,7 @@ use Rattle.pig_plan.proofs.Unfolds.{length-results}
 use Rattle.pig_plan.specs.Nodes.{Entering, Path, and_then, inputs_of, is_source, op_at, paths_of, ways}
 use Rattle.pig_plan.specs.Plans.{Plan, PlanNode, PlanOp}
 use Rattle.pig_plan.specs.Valid.{IsPlan}
-use Rattle.pig_cutter.specs.Feeds.{ways_on}
 use Rattle.pig_cutter.specs.Traces.{behind}
-use Rattle.pig_cutter.specs.declared.feeding.Feed.{Feed}
 
 -- the last of numbers stands first when they are turned
 pub turned_last : (xs : List ℕ) (x : ℕ) → reverse (xs ++ x ∷ []) ≡ x ∷ reverse xs
@@ -60,9 +58,6 @@ module _ (plan : Plan) (input : ℕ) (rest : List ℕ) where
   traced_none k past before =
       let size = length-results (λ j node. ways j node.op) [] plan in
       sym (append-nil before) ∙ ap (λ o. before ++ map (behind input rest) (unwrap_or o [])) (sym (slice_get_past _ k (omega (arith, size, past))))
-
-pub traced_whole : (plan : Plan) (feed : Feed) → map (behind feed.input []) (paths_of plan feed.from) ≡ ways_on plan feed
-traced_whole plan feed = whole feed.input (paths_of plan feed.from)
 
 -- a node by its operator
 pub node_by : (plan : Plan) (k : ℕ) (o : PlanOp) → op_at plan k ≡ Some o → (node : PlanNode) × ((slice_get plan k ≡ Some node) × (node.op ≡ o))

@@ -15,8 +15,8 @@ use pig_plan::{Node, NodeOp};
 use pig_value::Text;
 use std::alloc::{AllocError, Global};
 
-/// In how many parts the rows of each node come, in order. Each UNION may double them, so they are counted up to a limit:
-/// no plan is refused for a number that doesn't fit.
+// In how many parts the rows of each node come, in order. Each UNION may double them, so they are counted up to a limit:
+// no plan is refused for a number that doesn't fit.
 pub fn counts(
     alloc: Global,
     nodes: &[Node],
@@ -117,7 +117,7 @@ fn count_plainly(
     Ok(sum_up_to(inputs.as_slice(), counts, limit))
 }
 
-/// What was counted of nodes, together, up to a limit.
+// What was counted of nodes, together, up to a limit.
 pub fn sum_up_to(numbers: &[u32], counts: &[u64], limit: u64) -> u64
     ensures { result ≡ min limit (sum_by (at_place 0 counts.now) numbers.now) }
 {
@@ -130,7 +130,7 @@ pub fn sum_up_to(numbers: &[u32], counts: &[u64], limit: u64) -> u64
     sum
 }
 
-/// What was counted of the node of a number.
+// What was counted of the node of a number.
 pub fn count_at(counts: &[u64], number: usize) -> u64
     ensures { result ≡ at_place 0 counts.now number }
 {

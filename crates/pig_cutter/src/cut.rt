@@ -19,10 +19,10 @@ use pig_plan::{Plan, live_marks, live_numbers};
 use std::alloc::{AllocError, Global};
 use thiserror::Error;
 
-/// The most that a wave may count: its tasks that are no reduce tasks, and its ways.
+// The most that a wave may count: its tasks that are no reduce tasks, and its ways.
 const MOST: u32 = 65_536;
 
-/// One more than that: no source that is listed has as many parts.
+// One more than that: no source that is listed has as many parts.
 const LIMIT: u64 = 65_537;
 
 /// Why a plan is not cut.

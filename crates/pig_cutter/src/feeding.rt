@@ -12,7 +12,7 @@ use pig_value::{Numbers, Seq};
 use std::alloc::{AllocError, Global};
 use std::slice;
 
-/// The rows of a node that come to an input of another one, or that a STORE stores.
+// The rows of a node that come to an input of another one, or that a STORE stores.
 #[derive(Clone, Copy, Drop)]
 pub struct Feed {
     pub node: u32,
@@ -22,7 +22,7 @@ pub struct Feed {
 
 pub type Feeds = Seq<Feed>;
 
-/// Whose rows the tasks of a wave read, in order; `stores` are the live STOREs.
+// Whose rows the tasks of a wave read, in order; `stores` are the live STOREs.
 pub fn feeds(
     alloc: Global,
     nodes: &[Node],
@@ -37,7 +37,7 @@ pub fn feeds(
     }
 }
 
-/// The operator of the node of a number.
+// The operator of the node of a number.
 pub fn operator(nodes: &[Node], number: u32) -> Option<&NodeOp>
     ensures { option_map (λ op. op_of op.now) result ≡ op_at (plan_of nodes.now) number }
 {
@@ -84,7 +84,7 @@ fn behind_first(numbers: &[u32]) -> &[u32]
     }
 }
 
-/// The first of numbers, where there is one.
+// The first of numbers, where there is one.
 pub fn first_alone(numbers: &[u32]) -> &[u32]
     ensures { result.now ≡ take 1 numbers.now }
 {
@@ -113,7 +113,7 @@ fn feeds_from(alloc: Global, node: u32, first: u32, inputs: &[u32]) -> Result<Fe
     Ok(found)
 }
 
-/// The number behind another one, in 32 bits.
+// The number behind another one, in 32 bits.
 pub fn next(number: u32) -> Result<u32, AllocError>
     ensures { IfOk result (λ next. next ≡ number + 1) }
 {
@@ -145,7 +145,7 @@ fn own_feed(store: u32) -> Feed
     }
 }
 
-/// The STOREs among nodes.
+// The STOREs among nodes.
 pub fn stores(alloc: Global, nodes: &[Node], numbers: &[usize]) -> Result<Numbers, AllocError>
     ensures { IfOk result (λ found. found ≡ filter (is_store_in (plan_of nodes.now)) numbers.now) }
 {

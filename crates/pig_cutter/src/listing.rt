@@ -20,8 +20,8 @@ use pig_plan::{Node, NodeOp};
 use pig_value::Lengths;
 use std::alloc::{AllocError, Global};
 
-/// What waves are listed from: the nodes, the live STOREs, how many parts each node has, up to a limit, what these are read
-/// from, and the numbers of bytes of a split and of reducers.
+// What waves are listed from: the nodes, the live STOREs, how many parts each node has, up to a limit, what these are read
+// from, and the numbers of bytes of a split and of reducers.
 #[derive(Drop)]
 pub struct Listing<'p> {
     pub nodes: &'p [Node],
@@ -32,7 +32,7 @@ pub struct Listing<'p> {
     pub reducers: u32,
 }
 
-/// The waves of these heads, in order.
+// The waves of these heads, in order.
 pub fn waves(alloc: Global, listing: &Listing, heads: &[WaveHead]) -> Result<Waves, AllocError>
     requires valid { IsPlan (plan_of listing.now.nodes.now) }
     requires split { 0 < listing.now.split }

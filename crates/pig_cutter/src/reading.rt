@@ -13,19 +13,19 @@ use pig_plan::{Node, NodeOp};
 use pig_value::{Lengths, Text};
 use std::alloc::{AllocError, Global};
 
-/// What the parts of a node are read from.
+// What the parts of a node are read from.
 #[derive(Clone, Copy, Drop)]
 pub enum Source<'p> {
-    /// An input that has no piece.
+    // An input that has no piece.
     Nothing,
-    /// Pieces of these lengths, split by split.
+    // Pieces of these lengths, split by split.
     Splits(&'p Lengths),
-    /// The outputs of a wave, so many.
+    // The outputs of a wave, so many.
     Outputs { wave: u32, count: u64 },
 }
 
-/// Of each node, in order, what its parts are read from. `marks` tell which nodes are live: these have waves; `counts`, how
-/// many parts each node has.
+// Of each node, in order, what its parts are read from. `marks` tell which nodes are live: these have waves; `counts`, how
+// many parts each node has.
 pub fn sources<'p>(
     alloc: Global,
     nodes: &[Node],
@@ -123,7 +123,7 @@ fn outputs<'p>(op: &NodeOp, wave: u32, count: u64) -> Result<Source<'p>, AllocEr
     Ok(Source::Outputs { wave, count })
 }
 
-/// How many partitions a node has that brings rows together: a LIMIT one, others one for each reducer.
+// How many partitions a node has that brings rows together: a LIMIT one, others one for each reducer.
 pub fn reduce_count(op: &NodeOp, reducers: u32) -> u32
     ensures { result ≡ reduce_count reducers (op_of op.now) }
 {

@@ -14,7 +14,7 @@ use pig_plan::{Node, NodeOp};
 use pig_value::Numbers;
 use std::alloc::{AllocError, Global};
 
-/// Adds the ways on which the rows of a feed come.
+// Adds the ways on which the rows of a feed come.
 pub fn add_ways(
     alloc: Global,
     nodes: &[Node],

@@ -54,7 +54,7 @@ fn weigh_source(count: u64, limit: u64) -> u64
     limit.min(count.saturating_add(1))
 }
 
-/// Whether one of these waves counts more than the most.
+// Whether one of these waves counts more than the most.
 pub fn is_any_over(
     alloc: Global,
     listing: &Listing,

@@ -13,7 +13,7 @@ use Rattle.pig_physical.specs.Outs.{Outs, TaskOut, o_bytes, outs_at}
 use Rattle.pig_physical.specs.declared.outputs.Out.{Out}
 use Rattle.pig_physical.specs.declared.outputs.OutForm.TheVariants as OutForm
 use Rattle.pig_physical.specs.Stages.{Stages, Task, first_wave, heads, t_map, t_rank, t_reduce, tasks_in, tasks_of}
-use Rattle.pig_driver.specs.Left.{AreLastLooks, AtLeast, HaveAllLooked, HaveGone, HaveLooked, HaveMarked, IsChosen, IsNamedIn, bare, bared_at, bared_first, bared_where}
+use Rattle.pig_driver.specs.Left.{AreLastLooks, AtLeast, HaveAllLooked, HaveGone, HaveLooked, HaveMarked, IsNamedIn, bare, bared_at, bared_first, bared_where}
 use Rattle.pig_driver.specs.Left.{copies_by, copies_in, copies_of, looked, named_wave, note_in, notes_in, set_look}
 use Rattle.pig_driver.proofs.Copies.{probe_is}
 use Rattle.pig_driver.proofs.Standing.{TaskStands, tasks_stand}
@@ -131,12 +131,6 @@ marked_next s n olds h =
       last = below n (λ v less is. set_keeps end v n end olds (omega arith) (h.last v less is)) (λ is. set_here end n end olds (omega arith));
     }
 
-pub unmarked_next : (s : Stages) (n : ℕ) (olds : List ℕ) → ¬ IsChosen s n → n + 1 < length (heads s.plan) → HaveMarked s n olds → HaveMarked s (n + 1) olds
-unmarked_next s n olds other before h = record {
-  chosen = below n h.chosen (λ is. absurd (other is));
-  last = below n h.last (λ is. absurd (let last = is in omega (arith, last, before)));
-}
-
 pub looked_still : (s : Stages) (i : ℕ) (lasts : List ℕ) → HaveAllLooked s lasts → HaveAllLooked s (slice_set lasts i (length (heads s.plan)))
 looked_still s i lasts h = λ w v less named. set_keeps w v i (length (heads s.plan)) lasts (omega (arith, less)) (h w v less named)
 
@@ -187,9 +181,6 @@ pub record HaveGoneTo (lasts : List ℕ) (w n : ℕ) (old new : Outs) : Type 0 w
   pub gone : (v : ℕ) → v < n → slice_get lasts v ≡ Some w → outs_at new v ≡ map bare (outs_at old v)
   pub later : (v : ℕ) → n ≤ v → outs_at new v ≡ outs_at old v
   pub stay : (v : ℕ) → slice_get lasts v ≢ Some w → outs_at new v ≡ outs_at old v
-
-pub gone_none : (lasts : List ℕ) (w : ℕ) (outs : Outs) → HaveGoneTo lasts w 0 outs outs
-gone_none lasts w outs = record { notes = refl; gone = λ v less e. absurd (omega (arith, less)); later = λ v over. refl; stay = λ v other. refl }
 
 pub gone_one : (lasts : List ℕ) (w n : ℕ) (old mid : Outs) → slice_get lasts n ≡ Some w → HaveGoneTo lasts w n old mid → HaveGoneTo lasts w (n + 1) old (bared_at n mid)
 gone_one lasts w n old mid is h = record {

@@ -16,8 +16,8 @@ use pig_plan::{Node, NodeOp};
 use pig_value::OutList;
 use std::alloc::{AllocError, Global};
 
-/// The outputs of a wave as the next one asks for them: where the wave sorts, its runs are cut into slices, one for each
-/// reducer.
+// The outputs of a wave as the next one asks for them: where the wave sorts, its runs are cut into slices, one for each
+// reducer.
 pub fn between(
     alloc: Global,
     stages: &Stages,

@@ -12,7 +12,7 @@ ghost use Rattle.pig_driver.specs.Handing.{entries_in, handed_by, handed_in, han
 use pig_physical::{Out, OutForm, OutRuns, Stages, Task};
 use pig_plan::{Node, NodeOp};
 
-/// The number of entries that the map tasks of a wave handed on, modulo 2 to the 64.
+// The number of entries that the map tasks of a wave handed on, modulo 2 to the 64.
 pub fn handed_in(stages: &Stages, wave: u32, outs: &[Out]) -> u64
     requires { wave < length (heads (staged stages.now).plan) }
     ensures { result ≡ handed_in (staged stages.now).plan

@@ -13,8 +13,8 @@ use pig_plan::{Node, NodeOp};
 use pig_value::{Blob, OutList};
 use std::alloc::{AllocError, Global};
 
-/// Of each wave the last one that looks at its outputs; the number of waves where these are looked at behind all
-/// waves, or not at all.
+// Of each wave the last one that looks at its outputs; the number of waves where these are looked at behind all
+// waves, or not at all.
 pub fn last_looks(alloc: Global, stages: &Stages) -> Result<Vec<u32>, AllocError>
     ensures { IfOk result (λ lasts. AreLastLooks (staged stages.now) lasts.items) }
 {
@@ -145,7 +145,7 @@ fn is_limit(nodes: &[Node], number: usize) -> bool
     }
 }
 
-/// Lets go what the tasks handed on that this wave is the last to look at.
+// Lets go what the tasks handed on that this wave is the last to look at.
 pub fn let_go(alloc: Global, lasts: &[u32], wave: u32, outs: &mut Outs)
     ensures { HaveGone lasts.now wave (outs_of outs.old) (outs_of outs.new) }
 {

@@ -10,14 +10,14 @@ use pig_runs::{CutPoints, Run, Runs, cuts};
 use pig_value::{Numbers, OutList, Seq};
 use std::alloc::{AllocError, Global};
 
-/// What a task handed on beside its run.
+// What a task handed on beside its run.
 #[derive(Drop)]
 pub struct Note {
     pub lines: u64,
     pub unmet: Numbers,
 }
 
-/// The runs of tasks, and what they handed on beside these.
+// The runs of tasks, and what they handed on beside these.
 #[derive(Drop)]
 struct Taken {
     runs: Runs,

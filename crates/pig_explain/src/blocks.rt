@@ -10,7 +10,7 @@ use pig_typed::{Block, BlockItem, BlockStep, SortKey, TExpr};
 use pig_value::Dir;
 use std::alloc::AllocError;
 
-/// What a FOREACH has behind its input: nested steps, and items.
+// What a FOREACH has behind its input: nested steps, and items.
 pub fn put_block(block: &Block, out: &mut Vec<u8>) -> Result<(), AllocError>
     ensures { OnOk result (out.new.items ≡ out.old.items ++ block_text (block_typed block.now)) }
 {
@@ -95,7 +95,7 @@ fn put_item(item: &BlockItem, out: &mut Vec<u8>) -> Result<(), AllocError>
     }
 }
 
-/// Sort keys with a comma and a space between each two.
+// Sort keys with a comma and a space between each two.
 pub fn put_sort_keys(keys: &[SortKey], out: &mut Vec<u8>) -> Result<(), AllocError>
     ensures { OnOk result (out.new.items ≡ out.old.items ++ sort_keys_text keys.now) }
 {

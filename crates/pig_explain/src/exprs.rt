@@ -110,7 +110,7 @@ fn put_args(args: &[TExpr], out: &mut Vec<u8>) -> Result<(), AllocError>
     Ok(())
 }
 
-/// Keys with a comma between each two.
+// Keys with a comma between each two.
 pub fn put_keys(keys: &[TExpr], out: &mut Vec<u8>) -> Result<(), AllocError>
     ensures { OnOk result (out.new.items
         ≡ out.old.items ++ joined [] (codes ",") (map expr_text (map typed keys.now))) }

@@ -51,7 +51,7 @@ fn put_kinds(kinds: &[Kind], out: &mut Vec<u8>) -> Result<(), AllocError>
     Ok(())
 }
 
-/// Columns, each behind a space.
+// Columns, each behind a space.
 pub fn put_columns(columns: &[Column], out: &mut Vec<u8>) -> Result<(), AllocError>
     ensures { OnOk result (out.new.items
         ≡ out.old.items ++ joined (codes " ") (codes " ") (map column_text columns.now)) }

@@ -18,7 +18,7 @@ use pig_typed::{Block, SortKey, TExpr};
 use pig_value::{Column, Delim, Side, Text};
 use std::alloc::AllocError;
 
-/// Nodes by their numbers, a line for each.
+// Nodes by their numbers, a line for each.
 pub fn put_plan(nodes: &[Node], order: &[usize], out: &mut Vec<u8>) -> Result<(), AllocError>
     ensures { OnOk result (out.new.items
         ≡ out.old.items ++ plan_text (plan_of nodes.now) order.now) }
@@ -68,7 +68,7 @@ fn put_line(
     put(b"\n", out)
 }
 
-/// The number that a node is printed by.
+// The number that a node is printed by.
 pub fn put_place(order: &[usize], number: usize, out: &mut Vec<u8>) -> Result<(), AllocError>
     ensures { OnOk result (out.new.items ≡ out.old.items ++ number_text order.now number) }
 {

@@ -9,7 +9,7 @@ use pig_plan::{Node, NodeOp, Plan};
 use pig_value::Numbers;
 use std::alloc::{AllocError, Global};
 
-/// The number that a node is printed by: its place in the order of what is printed.
+// The number that a node is printed by: its place in the order of what is printed.
 pub fn place(order: &[usize], number: usize) -> usize
     ensures { result ≡ place order.now number }
 {
@@ -25,7 +25,7 @@ fn position_of(order: &[usize], number: usize) -> Option<usize>
     order.iter().position(|n| *n == number)
 }
 
-/// The nodes that STOREs reach in post-order, from the STOREs in turn.
+// The nodes that STOREs reach in post-order, from the STOREs in turn.
 pub fn post_order(alloc: Global, plan: &Plan) -> Result<Vec<usize>, AllocError>
     ensures { IfOk result (λ order. order.items ≡ post_order (plan_of plan.now)) }
 {

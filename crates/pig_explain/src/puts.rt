@@ -46,7 +46,7 @@ pub fn put_bool(truth: bool, out: &mut Vec<u8>) -> Result<(), AllocError>
     }
 }
 
-/// The field of a row at a position.
+// The field of a row at a position.
 pub fn put_field(position: u32, out: &mut Vec<u8>) -> Result<(), AllocError>
     ensures { OnOk result (out.new.items ≡ out.old.items ++ field_text position) }
 {
@@ -54,7 +54,7 @@ pub fn put_field(position: u32, out: &mut Vec<u8>) -> Result<(), AllocError>
     put_number(u64::from(position), out)
 }
 
-/// The value of a nested step, by its number.
+// The value of a nested step, by its number.
 pub fn put_local(number: u64, out: &mut Vec<u8>) -> Result<(), AllocError>
     ensures { OnOk result (out.new.items ≡ out.old.items ++ local_text number) }
 {
@@ -62,7 +62,7 @@ pub fn put_local(number: u64, out: &mut Vec<u8>) -> Result<(), AllocError>
     put_number(number, out)
 }
 
-/// A text as a token, with its escapes.
+// A text as a token, with its escapes.
 pub fn put_quoted(text: &Text, out: &mut Vec<u8>) -> Result<(), AllocError>
     ensures { OnOk result (out.new.items ≡ out.old.items ++ quoted text.now) }
 {
@@ -93,7 +93,7 @@ fn put_byte(byte: u8, out: &mut Vec<u8>) -> Result<(), AllocError>
     put(&[byte], out)
 }
 
-/// A delimiter as two hexadecimal digits.
+// A delimiter as two hexadecimal digits.
 pub fn put_hex(delim: Delim, out: &mut Vec<u8>) -> Result<(), AllocError>
     ensures { OnOk result (out.new.items ≡ out.old.items ++ hex delim) }
 {

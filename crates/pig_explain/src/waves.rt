@@ -8,7 +8,7 @@ use crate::puts::{put, put_number};
 use pig_physical::{WaveHead, WaveKind};
 use std::alloc::AllocError;
 
-/// Waves in turn, a line for each. `order` tells by which numbers their nodes are printed.
+// Waves in turn, a line for each. `order` tells by which numbers their nodes are printed.
 pub fn put_waves(order: &[usize], heads: &[WaveHead], out: &mut Vec<u8>) -> Result<(), AllocError>
     ensures { OnOk result (out.new.items ≡ out.old.items ++ waves_text order.now 0 heads.now) }
 {

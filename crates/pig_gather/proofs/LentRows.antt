@@ -24,7 +24,7 @@ use Rattle.pig_operators.specs.Groups.{first_key, rows_at}
 use Rattle.pig_operators.proofs.Adding.{rows_next}
 use Rattle.pig_operators.proofs.Between.{between_none}
 use Rattle.pig_gather.specs.Fields.{item_code, items_code}
-use Rattle.pig_gather.proofs.FieldCodes.{items_more, nothing_more}
+use Rattle.pig_gather.proofs.FieldCodes.{items_more}
 
 module _ (run : InDirections) (at : ℕ) (p : Packed) (is : option_map (packed run.dirs) (slice_get run.entries at) ≡ Some p) where
   pub key_lent : run.dirs ≡ [] → p.key ≡ code (first_key run at)
@@ -73,9 +73,6 @@ pub none_between_rows : (run : InDirections) (at : ℕ) → rows_at run at at �
 none_between_rows run at = ap (map (λ e. e.row)) (between_none at run.entries)
 
 -- ---- items of a bag
-
-pub no_items : (run : InDirections) (at : ℕ) (b : Begun) → b ≡ and_bytes (items_code (rows_at run at at)) b
-no_items run at b = nothing_more b ∙ ap (λ rows. and_bytes (items_code rows) b) (sym (none_between_rows run at))
 
 pub item_more : (run : InDirections) (from at : ℕ) (e : Entry) (start b new : Begun) → from ≤ at → at < length run.entries → slice_get run.entries at ≡ Some e
     → b ≡ and_bytes (items_code (rows_at run from at)) start → new ≡ and_bytes (item_code e.row) b → new ≡ and_bytes (items_code (rows_at run from (at + 1))) start

@@ -1,7 +1,7 @@
 -- Fields that are chosen, item by item and node by node.
-use Rattle.std.proofs.Common.{◌≡◌, ◌<◌, ℕ, Bool, true, false, if◌then◌else◌, List, [], ◌∷◌, ◌++◌, get_or, length, map, slice_get, Option, Some, None, refl, sym, ◌∙◌, ap, append-nil, arith}
+use Rattle.std.proofs.Common.{◌≡◌, ◌<◌, ℕ, List, [], ◌∷◌, ◌++◌, length, map, slice_get, Option, Some, None, refl, sym, ◌∙◌, ap, append-nil, arith}
 use Rattle.std.proofs.lemmas.List.{append_assoc, map-append}
-use Rattle.std.specs.Option.{is_some, option_map, option_map_or}
+use Rattle.std.specs.Option.{option_map, option_map_or}
 use Rattle.pig_value.specs.Trees.{Tree, at}
 use Rattle.pig_keycode.specs.Keys.{fields_at}
 use Rattle.pig_typed.specs.Blocks.{foreach_all, item_lists}
@@ -10,9 +10,8 @@ use Rattle.pig_typed.specs.Typed.{TypedBlock, TypedItem}
 use Rattle.pig_value.proofs.list_laws.Listing.{some_same}
 use Rattle.pig_plan.specs.Asserts.{not_met, unmet_on}
 use Rattle.pig_plan.specs.Nodes.{op_at}
-use Rattle.pig_plan.specs.Plans.{Plan, PlanNode, PlanOp, p_foreach}
-use Rattle.pig_plan.specs.Steps.{Folding, node_step, step_rows, through}
-use Rattle.pig_stream.specs.Stepping.{any_block, marked_folding}
+use Rattle.pig_plan.specs.Plans.{Plan, PlanNode, PlanOp}
+use Rattle.pig_plan.specs.Steps.{Folding, step_rows, through}
 use Rattle.pig_map.specs.Choosing.{Chooses, ChoosesAt, ChoosesBy, PlaceIs, chosen_rows}
 use Rattle.pig_map.specs.declared.choosing.Chosen.{Chosen}
 
@@ -23,9 +22,6 @@ made items row locals = product (map (λ item. item_lists item row locals) items
 abbrev pub AreLeft : List TypedItem → List ℕ → List TypedItem → Type 0
 AreLeft items places left = (row locals more : List Tree) → made left row locals ≡ more ∷ [] → made items row locals ≡ (fields_at places row ++ more) ∷ []
 
-pub none_chosen : (items : List TypedItem) → AreLeft items [] items
-none_chosen items row locals more h = h
-
 first_made : (item : TypedItem) (items : List TypedItem) (place : ℕ) (row locals more : List Tree) → PlaceIs place item → made items row locals ≡ more ∷ []
     → made (item ∷ items) row locals ≡ (at place row ∷ more) ∷ []
 first_made item items place row locals more is h =
@@ -34,12 +30,6 @@ first_made item items place row locals more is h =
 fields_more : (places : List ℕ) (place : ℕ) (row more : List Tree) → fields_at places row ++ at place row ∷ more ≡ fields_at (places ++ place ∷ []) row ++ more
 fields_more places place row more =
     sym (append_assoc (fields_at places row) (at place row ∷ []) more) ∙ ap (λ l. l ++ more) (sym (map-append (λ p. at p row) places (place ∷ [])))
-
-pub one_chosen : (items left : List TypedItem) (places news : List ℕ) (item : TypedItem) (rest : List TypedItem) (place : ℕ) → left ≡ item ∷ rest → news ≡ places ++ place ∷ []
-    → PlaceIs place item → AreLeft items places left → AreLeft items news rest
-one_chosen items left places news item rest place is pushed place_is h row locals more made_rest =
-    h row locals (at place row ∷ more) (ap (λ l. made l row locals) is ∙ first_made item rest place row locals more place_is made_rest)
-    ∙ (ap (λ l. l ∷ []) (fields_more places place row more) ∙ ap (λ ps. (fields_at ps row ++ more) ∷ []) (sym pushed))
 
 none_left : {X Y : Type 0} (f : X → Y) (xs : List X) → length xs < 1 → map f xs ≡ []
 none_left f [] h = refl
@@ -56,15 +46,6 @@ pub block_chosen : (block : TypedBlock) (places : List ℕ) → block.steps ≡ 
 block_chosen block places none is [] = refl
 block_chosen block places none is (row ∷ rows) =
     ap (λ l. l ++ foreach_all block rows) (is row _) ∙ ap (λ l. fields_at places row ∷ l) (block_chosen block places none is rows)
-
--- a FOREACH on a node that folds hands its rows on, another makes its own
-pub marked_step : (folded : List Bool) (input : ℕ) (block : TypedBlock) (rows : List (List Tree)) → get_or folded input false ≡ true
-    → step_rows (marked_folding folded) (p_foreach input block) rows ≡ rows
-marked_step folded input block rows e = ap (λ b. if is_some (if b then Some any_block else None) then rows else foreach_all block rows) e
-
-pub unmarked_step : (folded : List Bool) (input : ℕ) (block : TypedBlock) (rows : List (List Tree)) → get_or folded input false ≡ false
-    → step_rows (marked_folding folded) (p_foreach input block) rows ≡ foreach_all block rows
-unmarked_step folded input block rows e = ap (λ b. if is_some (if b then Some any_block else None) then rows else foreach_all block rows) e
 
 -- ---- nodes
 
@@ -89,14 +70,6 @@ pub begun : (folding : Folding) (plan : Plan) (path : List ℕ) (c : Chosen) →
 begun folding plan path c same = record {
   rows = λ rows. ap (through folding plan path) (sym (same rows));
   asserts = λ rows. ap (unmet_on folding plan path) (sym (same rows));
-}
-
-pub one_node : (folding : Folding) (plan : Plan) (path left : List ℕ) (c next : Chosen) (k : ℕ) (rest : List ℕ) → left ≡ k ∷ rest → ChoosesAt folding plan k c next
-    → IsOnWay folding plan path c left → IsOnWay folding plan path next rest
-one_node folding plan path left c next k rest is at_node h = record {
-  rows = λ rows. h.rows rows ∙ (ap (λ l. through folding plan l (chosen_rows c rows)) is ∙ ap (through folding plan rest) (at_node.rows rows));
-  asserts = λ rows. h.asserts rows ∙ (ap (λ l. unmet_on folding plan l (chosen_rows c rows)) is
-      ∙ (ap (λ l. l ++ unmet_on folding plan rest (node_step folding plan k (chosen_rows c rows))) (at_node.asserts (chosen_rows c rows)) ∙ ap (unmet_on folding plan rest) (at_node.rows rows)));
 }
 
 pub all_nodes : (folding : Folding) (plan : Plan) (path left : List ℕ) (c : Chosen) → left ≡ [] → IsOnWay folding plan path c left → Chooses folding plan path c

@@ -206,10 +206,6 @@ past [] (suc i) h = refl
 past (x ∷ xs) zero h = absurd (omega (arith, h))
 past (x ∷ xs) (suc i) h = past xs i (omega (arith, h))
 
-pub rows_past : (place : ℕ) (tasks : List Task) (outs : List TaskOut) (at : ℕ) (made all : Rows) → length tasks ≤ at
-    → made ++ rows_for place (drop at tasks) (drop at outs) ≡ all → made ≡ all
-rows_past place tasks outs at made all over so_far = sym (append-nil made) ∙ ap (λ ts. made ++ rows_for place ts (drop at outs)) (sym (past tasks at over)) ∙ so_far
-
 none_over : (place : ℕ) (tasks : List Task) → rows_for place tasks [] ≡ []
 none_over place [] = refl
 none_over place (task ∷ tasks) = refl

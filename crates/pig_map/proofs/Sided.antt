@@ -13,8 +13,6 @@ use Rattle.pig_value.specs.Orders.{bag_of}
 use Rattle.pig_value.specs.Trees.{Tree, v_null}
 use Rattle.pig_value.proofs.list_laws.Indexing.{get_map}
 use Rattle.pig_value.proofs.list_laws.Listing.{each-map, each_weaker, some_same}
-use Rattle.pig_typed.specs.Typed.{typed}
-use Rattle.pig_typed.specs.declared.exprs.TExpr.{TExpr}
 use Rattle.pig_plan.specs.ByKey.{entries_of_input, gathered, join_of, key_of, outer_of}
 use Rattle.pig_plan.specs.Entries.{entries_of}
 use Rattle.pig_plan.specs.Meaning.{width_at}
@@ -22,13 +20,13 @@ use Rattle.pig_plan.specs.Nodes.{inputs_of, op_at, paths_of}
 use Rattle.pig_plan.specs.Operators.{keys_of}
 use Rattle.pig_plan.specs.Plans.{Keyed, Plan, PlanNode, PlanOp, p_load, p_filter, p_foreach, p_group_all, p_group, p_join, p_union, p_distinct, p_order, p_limit, p_store, p_assert, p_rank}
 use Rattle.pig_plan.specs.Valid.{IsPlan}
-use Rattle.pig_probe.specs.Probing.{HasProbed, SidesSeen, probed_by}
-use Rattle.pig_physical.specs.Outs.{Form, Outs, o_rows, outs_at}
+use Rattle.pig_probe.specs.Probing.{SidesSeen, probed_by}
+use Rattle.pig_physical.specs.Outs.{Outs, outs_at}
 use Rattle.pig_physical.specs.Stages.{MapTask, Stages, enters_first, first_wave, heads, is_replicated, map_tasks, t_map, tasks_in, waves_of, ways_into}
 use Rattle.pig_physical.specs.declared.waves.WaveHead.{WaveHead}
 use Rattle.pig_physical.specs.declared.waves.WaveKind.{WaveKind}
 use Rattle.pig_physical.specs.declared.waves.WaveKind.TheVariants as kinds
-use Rattle.pig_physical.specs.Values.{AreAsBag, handed_entries, probed_rows}
+use Rattle.pig_physical.specs.Values.{handed_entries, probed_rows}
 use Rattle.pig_waves.proofs.Among.{Among}
 use Rattle.pig_waves.proofs.Heads.{probes_at}
 use Rattle.pig_waves.proofs.Joining.{by_side, is_joined}
@@ -260,15 +258,3 @@ is_copied s w node within kind is = by_head (slice_get (heads s.plan) w) refl ki
         → option_map (λ head. head.node) found ≡ Some node → IsCopied s node (w - 1)
     by_head None e a b = absurd (cc)
     by_head (Some head) e a b = by_own head e (some_same head.kind kinds.Probe a) (some_same head.node node b) (head_is s.plan head (record { at = w; is = e }))
-
--- ---- what is handed on
-
--- joined rows behind none are the JOIN, as a bag
-pub joined_form : (s : Stages) (outs : Outs) (k : ℕ) (o : PlanOp) (keys keys_new : List TExpr) (sides sides_new : SidesSeen) (none rows made : Rows) (form : Form)
-    → AreSidesOf s outs k o sides → first_keys o ≡ Some (map typed keys) → none ≡ [] → HasProbed keys sides none rows keys_new sides_new made → form ≡ o_rows made
-    → AreAsBag (probed_rows s outs k o rows) form
-joined_form s outs k o keys keys_new sides sides_new none rows made form are its empty probed is = record {
-  made = made;
-  is = is;
-  bag = ap bag_of (probed.rows_are ∙ ap (λ front. front ++ probed_by sides (map typed keys) rows) empty) ∙ are (map typed keys) its rows;
-}

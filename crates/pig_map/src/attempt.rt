@@ -40,22 +40,22 @@ use pig_typed::TExprs;
 use pig_value::{Blob, Delim, Numbers};
 use std::alloc::{AllocError, Global};
 
-/// How many lines came, and the statements of the ASSERTs that are not met.
+// How many lines came, and the statements of the ASSERTs that are not met.
 #[derive(Drop)]
 struct Ran {
     lines: u64,
     unmet: Numbers,
 }
 
-/// What a task of a node hands on.
+// What a task of a node hands on.
 #[derive(Clone, Copy, Drop)]
 pub enum Handing {
     Text(Delim),
     First(u64),
     Runs,
-    /// Rows of a further input of a replicated JOIN.
+    // Rows of a further input of a replicated JOIN.
     Copied,
-    /// Rows of its first one, joined with the copies.
+    // Rows of its first one, joined with the copies.
     Joined,
 }
 
@@ -188,7 +188,7 @@ fn first_out<H: Host, S: Stop>(
     Ok(Some(out_with(OutForm::Rows(sink.finish()), ran)))
 }
 
-/// A task's rows, in order.
+// A task's rows, in order.
 pub fn rows_out<H: Host, S: Stop>(
     alloc: Global,
     stages: &Stages,

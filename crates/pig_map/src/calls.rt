@@ -17,7 +17,7 @@ use pig_outside::{AttemptFault, Host};
 use pig_physical::{MapTask, Out, Outs, Stages};
 use std::alloc::Global;
 
-/// So many bytes are read at once.
+// So many bytes are read at once.
 const BLOCK: u32 = 65_536;
 
 /// As [`map_attempt`], in blocks of 65,536 bytes.

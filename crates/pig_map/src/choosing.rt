@@ -16,7 +16,7 @@ use pig_plan::{Node, NodeOp};
 use pig_typed::{Block, BlockItem, TExpr};
 use std::alloc::{AllocError, Global};
 
-/// The fields of rows: all of them, or those at places.
+// The fields of rows: all of them, or those at places.
 #[derive(Drop)]
 pub enum Chosen {
     All,
@@ -24,7 +24,7 @@ pub enum Chosen {
 }
 
 impl Chosen {
-    /// The places, where these are not all.
+    // The places, where these are not all.
     pub fn places(&self) -> Option<&[u32]>
         ensures { PlacesAre self.now result }
     {
@@ -174,7 +174,7 @@ fn then_node(
     }
 }
 
-/// The fields that a path chooses of its source's rows, where it does nothing else.
+// The fields that a path chooses of its source's rows, where it does nothing else.
 pub fn chosen_on(
     alloc: Global,
     nodes: &[Node],

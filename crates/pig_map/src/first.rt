@@ -9,16 +9,16 @@ use pig_stream::{PackedRows, Sink};
 use pig_value::Tuple;
 use std::alloc::{AllocError, Global};
 
-/// Packed rows that take the first rows, up to a limit.
+// Packed rows that take the first rows, up to a limit.
 #[derive(Drop)]
 pub struct FirstPacked {
     pub rows: PackedRows,
-    /// So many more may come.
+    // So many more may come.
     pub left: u64,
 }
 
 impl FirstPacked {
-    /// No rows, which takes no memory.
+    // No rows, which takes no memory.
     pub fn new(alloc: Global, limit: u64) -> FirstPacked
         ensures rows { result.rows ≡ [] }
         ensures left { result.left ≡ limit }
@@ -29,7 +29,7 @@ impl FirstPacked {
         }
     }
 
-    /// The rows.
+    // The rows.
     pub fn finish(self) -> Packed
         ensures { result ≡ self.rows }
     {

@@ -103,7 +103,7 @@ fn rows_with(alloc: Global, rows: Packed) -> Out
     out_of_form(alloc, OutForm::Rows(rows))
 }
 
-/// What a STORE's task hands on, where its rows are those of an earlier wave or some of their fields: no row is made of values.
+// What a STORE's task hands on, where its rows are those of an earlier wave or some of their fields: no row is made of values.
 pub fn lent_text(
     alloc: Global,
     stages: &Stages,
@@ -148,8 +148,8 @@ fn first_chosen(
     }
 }
 
-/// What a LIMIT's task hands on, where its rows are those of an earlier wave: the codes of the first, and no other row is
-/// looked at.
+// What a LIMIT's task hands on, where its rows are those of an earlier wave: the codes of the first, and no other row is
+// looked at.
 pub fn lent_first(
     alloc: Global,
     stages: &Stages,

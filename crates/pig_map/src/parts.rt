@@ -77,7 +77,7 @@ fn block_for(split: Split, block: u32) -> u32
     }
 }
 
-/// The operator of the node of a number.
+// The operator of the node of a number.
 pub fn operator<'p>(stages: &'p Stages, number: u32) -> Option<&'p NodeOp>
     ensures op { option_map (λ op. op_of op.now) result ≡ op_at (staged stages.now).plan number }
     ensures literals { IfSome result (λ op. OpLiteralsAre IsValue (op_of op.now)) }
@@ -166,7 +166,7 @@ fn take_rows<K: Sink>(
     Ok(())
 }
 
-/// The rows of an output, where it holds such.
+// The rows of an output, where it holds such.
 pub fn rows_of(prior: &Outs, wave: u32, at: u32) -> Option<&Packed>
     ensures { option_map_or (λ rows. rows.now) result [] ≡ rows_at (outs_of prior.now) wave at }
 {
@@ -186,8 +186,8 @@ fn rows_in(outs: &[Out], at: usize) -> Option<&Packed>
     }
 }
 
-/// Takes the rows of a part of a source through steps into what takes them. None: the stop told that the task is won. Answers
-/// how many lines came.
+// Takes the rows of a part of a source through steps into what takes them. None: the stop told that the task is won. Answers
+// how many lines came.
 pub fn take_part<H: Host, S: Stop, K: Sink>(
     alloc: Global,
     stages: &Stages,

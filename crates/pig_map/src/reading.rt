@@ -16,7 +16,7 @@ use pig_stream::{Batch, Lines, Sink, Steps, Window, drive};
 use pig_value::{Columns, Delim, Text};
 use std::alloc::{AllocError, Global};
 
-/// A piece of an input, the number of its bytes, and how many of these are read at once.
+// A piece of an input, the number of its bytes, and how many of these are read at once.
 #[derive(Clone, Copy, Drop)]
 pub struct Piece<'p> {
     pub path: &'p str,
@@ -25,7 +25,7 @@ pub struct Piece<'p> {
     pub block: u32,
 }
 
-/// A LOAD: the path of its input, and how lines are made rows.
+// A LOAD: the path of its input, and how lines are made rows.
 #[derive(Clone, Copy, Drop)]
 pub struct Load<'p> {
     pub path: &'p Text,
@@ -33,9 +33,9 @@ pub struct Load<'p> {
     pub columns: &'p Columns,
 }
 
-/// Takes the rows of the lines that start in a split through steps into what takes them, and answers how many lines came. None:
-/// the stop told that the task is won. Between two blocks it is asked. No block is longer than the piece says, or lies behind the
-/// piece, and no byte is read twice.
+// Takes the rows of the lines that start in a split through steps into what takes them, and answers how many lines came. None:
+// the stop told that the task is won. Between two blocks it is asked. No block is longer than the piece says, or lies behind the
+// piece, and no byte is read twice.
 pub fn take_lines<H: Host, S: Stop, K: Sink>(
     alloc: Global,
     host: &mut H,

@@ -5,7 +5,7 @@ ghost use Rattle.pig_value.specs.Sorts.{sort};
 
 use pig_value::{Numbers, Seq};
 
-/// The numbers, ascending, each as often as before.
+// The numbers, ascending, each as often as before.
 pub fn ascending(numbers: Numbers) -> Numbers
     ensures { result ≡ sort nat_cmp numbers }
 {

@@ -236,9 +236,6 @@ head_sends = declared_send head_type.the_type (wave_kind.the_send, (search senda
 wave_sends : IsSend wave_type.the_row
 wave_sends = declared_send wave_type.the_type (head_sends, (search (sendable, seq.the_send, way_sends), (search (sendable, seq.the_send, task_sends), tt)))
 
-size_sends : IsSend size_type.the_row
-size_sends = declared_send size_type.the_type (text.the_send, (search (sendable, seq.the_send), tt))
-
 way_shared : IsSync way_type.the_row
 way_shared = declared_sync way_type.the_type (search sendable, (declared_sync path_type.the_type (search sendable, (search (sendable, seq.the_sync), tt)), tt))
 

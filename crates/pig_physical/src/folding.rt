@@ -89,7 +89,7 @@ fn user_of(naming: Naming) -> Option<usize>
     }
 }
 
-/// The block that a node folds into, where it folds.
+// The block that a node folds into, where it folds.
 pub fn block_folded<'p>(nodes: &'p [Node], folders: &Folders, number: usize) -> Option<&'p Block>
     requires { AreFolders (plan_of nodes.now) folders.now }
     ensures { option_map (λ b. block_typed b.now) result ≡ folds (plan_of nodes.now) number }
@@ -109,8 +109,8 @@ fn user_at(users: &[Option<usize>], number: usize) -> Option<usize>
     }
 }
 
-/// Whether the map tasks of a node combine: those of a DISTINCT, and those of a GROUP that folds. `namings` tell how often
-/// live nodes name each node.
+// Whether the map tasks of a node combine: those of a DISTINCT, and those of a GROUP that folds. `namings` tell how often
+// live nodes name each node.
 pub fn combines(
     alloc: Global,
     nodes: &[Node],

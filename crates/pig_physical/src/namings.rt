@@ -12,7 +12,7 @@ use pig_plan::Node;
 use pig_value::Numbers;
 use std::alloc::{AllocError, Global};
 
-/// How often nodes name a node, and the one that does where it is one.
+// How often nodes name a node, and the one that does where it is one.
 #[derive(Clone, Copy, Drop)]
 pub enum Naming {
     Never,
@@ -20,7 +20,7 @@ pub enum Naming {
     Often,
 }
 
-/// Of each node, in order, how often these nodes name it.
+// Of each node, in order, how often these nodes name it.
 pub fn namings(alloc: Global, nodes: &[Node], users: &[usize]) -> Result<Vec<Naming>, AllocError>
     requires valid { IsPlan (plan_of nodes.now) }
     requires live { users.now ≡ live (plan_of nodes.now) }
@@ -110,7 +110,7 @@ fn and_named(user: usize, naming: Naming) -> Naming
     }
 }
 
-/// How often a node is named.
+// How often a node is named.
 pub fn naming_at(namings: &[Naming], number: usize) -> Naming
     ensures { result ≡ get_or namings.now number Namings.Never }
 {

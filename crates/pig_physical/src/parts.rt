@@ -16,6 +16,7 @@ pub struct Way {
     pub path: Path,
 }
 
+/// Ways, in turn.
 pub type Ways = Seq<Way>;
 
 /// What a task reads.
@@ -56,4 +57,5 @@ pub enum Task {
     Rank(ReduceTask),
 }
 
+/// Tasks, in turn.
 pub type Tasks = Seq<Task>;

@@ -4,7 +4,7 @@ use crate::outputs::{Out, Outs};
 use crate::slicing::SlicedRun;
 use pig_plan::Plan;
 
-/// Outputs may be shared and handed to other threads.
+// Outputs may be shared and handed to other threads.
 fn crosses<T: Send + Sync>() {}
 
 /// Shows that what tasks hand on is `Send` and `Sync`.
@@ -14,7 +14,7 @@ pub fn outputs_cross_threads() {
     crosses::<Outs>();
 }
 
-/// A thing may be shared and handed to other threads.
+// A thing may be shared and handed to other threads.
 fn is_shared<T: Send + Sync>(_thing: &T) {}
 
 /// Shows that a plan and its stages are `Send` and `Sync`.

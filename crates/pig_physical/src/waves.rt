@@ -26,4 +26,5 @@ pub struct WaveHead {
     pub combine: bool,
 }
 
+/// The heads of waves, in turn.
 pub type WaveHeads = Seq<WaveHead>;

@@ -13,14 +13,14 @@ use pig_outside::Host;
 use std::alloc::{AllocError, Global};
 use std::thread::{Threads, join_mut};
 
-/// Some of the hosts, and the pass for them.
+// Some of the hosts, and the pass for them.
 #[derive(Drop)]
 struct Half<'a, H> {
     pass: Option<Pass>,
     hosts: &'a mut [H],
 }
 
-/// Takes the pass.
+// Takes the pass.
 fn taken<H: Host>(half: &mut Half<'_, H>) -> Option<Pass>
     ensures pass { result ≡ half.old.pass }
     ensures hosts { half.new.hosts.now ≡ half.old.hosts.now }
@@ -29,7 +29,7 @@ fn taken<H: Host>(half: &mut Half<'_, H>) -> Option<Pass>
     half.pass.take()
 }
 
-/// Joins what two workers have.
+// Joins what two workers have.
 pub fn merge<O: Drop>(
     board: &Board,
     left: Worker<O>,
@@ -63,7 +63,7 @@ pub fn merge<O: Drop>(
     })
 }
 
-/// Runs the workers of one half.
+// Runs the workers of one half.
 #[cycle(halves)]
 fn run_half<R: Threads + Sync, W: Work + Sync, H: Host + Send>(
     rt: &R,
@@ -90,7 +90,7 @@ fn run_half<R: Threads + Sync, W: Work + Sync, H: Host + Send>(
     run_crew(rt, alloc, work, wave, limit, board, pass, depth, half.hosts)
 }
 
-/// Runs the workers of two halves beside each other.
+// Runs the workers of two halves beside each other.
 #[cycle(halves)]
 fn run_both<R: Threads + Sync, W: Work + Sync, H: Host + Send>(
     rt: &R,
@@ -155,7 +155,7 @@ fn run_both<R: Threads + Sync, W: Work + Sync, H: Host + Send>(
     )
 }
 
-/// Runs a worker on each of the hosts. They are halved at most `depth` times, and the pass with them.
+// Runs a worker on each of the hosts. They are halved at most `depth` times, and the pass with them.
 #[cycle(halves)]
 pub fn run_crew<R: Threads + Sync, W: Work + Sync, H: Host + Send>(
     rt: &R,

@@ -10,7 +10,7 @@ use pig_value::{OutList, Seq};
 use std::alloc::{AllocError, Global};
 use std::collections::LinkedList;
 
-/// An empty place for each of so many tasks.
+// An empty place for each of so many tasks.
 pub fn places<O: Drop>(alloc: Global, tasks: usize) -> Result<Vec<Option<O>>, AllocError>
     ensures { IfOk result (λ v. vec_len v ≡ tasks) }
 {
@@ -21,7 +21,7 @@ pub fn places<O: Drop>(alloc: Global, tasks: usize) -> Result<Vec<Option<O>>, Al
     Ok(places)
 }
 
-/// Puts each output at the place of its task.
+// Puts each output at the place of its task.
 fn place<W: Work>(
     work: &W,
     places: &mut Vec<Option<W::Out>>,
@@ -38,7 +38,7 @@ fn place<W: Work>(
     }
 }
 
-/// The outputs in the order of their tasks. `list` has room for them.
+// The outputs in the order of their tasks. `list` has room for them.
 pub fn gather<W: Work>(
     work: &W,
     mut places: Vec<Option<W::Out>>,

@@ -8,7 +8,7 @@ ghost use Rattle.pig_pool.specs.Workers.{beside, Held};
 use pig_board::{Board, Pass};
 use pig_outside::Stop;
 
-/// Asks the board, and notes the winner on the pass.
+// Asks the board, and notes the winner on the pass.
 pub struct TaskStop<'a> {
     pub task: u32,
     pub board: &'a Board,

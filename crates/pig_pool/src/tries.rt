@@ -16,20 +16,20 @@ use pig_outside::{AttemptFault, Host, Stop};
 use std::alloc::{AllocError, Global};
 use std::collections::LinkedList;
 
-/// What came of a try.
+// What came of a try.
 #[derive(Clone, Copy, Drop)]
 pub enum Tried {
-    /// The task has a winner, this attempt or another.
+    // The task has a winner, this attempt or another.
     Won,
-    /// The attempt failed, and may be made again.
+    // The attempt failed, and may be made again.
     Failed,
-    /// The task has failed too often.
+    // The task has failed too often.
     GivenUp,
-    /// The attempt failed, as those before it, and the worker is put aside.
+    // The attempt failed, as those before it, and the worker is put aside.
     Aside,
 }
 
-/// Makes attempt `attempt` at task `t` on the host.
+// Makes attempt `attempt` at task `t` on the host.
 fn make_attempt<W: Work, H: Host, S: Stop>(
     work: &W,
     wave: u32,
@@ -56,7 +56,7 @@ fn make_attempt<W: Work, H: Host, S: Stop>(
     work.attempt(t, host, stop)
 }
 
-/// Makes an attempt that may ask the board whether its task is won.
+// Makes an attempt that may ask the board whether its task is won.
 fn try_attempt<W: Work, H: Host>(
     work: &W,
     wave: u32,
@@ -96,8 +96,8 @@ fn try_attempt<W: Work, H: Host>(
     ended
 }
 
-/// Offers the output of an attempt: it is kept where the attempt wins, and else dropped at once. The answer is whether
-/// it has won. Memory is taken before the offer.
+// Offers the output of an attempt: it is kept where the attempt wins, and else dropped at once. The answer is whether
+// it has won. Memory is taken before the offer.
 fn offer<O: Drop>(
     board: &Board,
     pass: &mut Pass,
@@ -127,7 +127,7 @@ fn offer<O: Drop>(
     Ok(false)
 }
 
-/// Ends an attempt that stopped, since its task is won: it comes late.
+// Ends an attempt that stopped, since its task is won: it comes late.
 fn end_late(board: &Board, pass: &mut Pass, t: u32, attempt: u32)
     requires board { OnBoard board.now pass.old }
     requires under_way { has_open t attempt (view_of pass.old) ≡ true }
@@ -141,7 +141,7 @@ fn end_late(board: &Board, pass: &mut Pass, t: u32, attempt: u32)
     }
 }
 
-/// Ends an attempt that failed.
+// Ends an attempt that failed.
 fn end_failed(board: &Board, pass: &mut Pass, t: u32, limit: u32) -> Tried
     requires board { OnBoard board.now pass.old }
     requires under_way { has_open_of t (view_of pass.old) ≡ true }
@@ -162,7 +162,7 @@ fn end_failed(board: &Board, pass: &mut Pass, t: u32, limit: u32) -> Tried
     }
 }
 
-/// Tries task `t` once, unless it has a winner or has failed too often.
+// Tries task `t` once, unless it has a winner or has failed too often.
 pub fn try_once<W: Work, H: Host>(
     work: &W,
     wave: u32,

@@ -22,7 +22,7 @@ use std::alloc::{AllocError, Global};
 use std::collections::LinkedList;
 use std::thread::Threads;
 
-/// The hosts of a wave are halved so often at most.
+// The hosts of a wave are halved so often at most.
 const DEPTH: u32 = 8;
 
 /// What a wave gives: the outputs of its tasks, in order, what stands of each task, and how many rounds it took.
@@ -50,7 +50,7 @@ impl From<AllocError> for WaveFault {
     }
 }
 
-/// Whether every task has a winner.
+// Whether every task has a winner.
 fn is_won(end: &JobEnd) -> bool
     ensures { MatchBool result (AllWon end.now) (HasUnwon end.now) }
 {
@@ -62,7 +62,7 @@ fn is_won(end: &JobEnd) -> bool
     true
 }
 
-/// The least task that has failed so often.
+// The least task that has failed so often.
 fn given_up(end: &JobEnd, limit: u32) -> Option<u32>
     requires { 0 < limit }
     ensures { MatchOption result
@@ -77,7 +77,7 @@ fn given_up(end: &JobEnd, limit: u32) -> Option<u32>
     None
 }
 
-/// Ends the wave: closes the board, and puts the outputs in order.
+// Ends the wave: closes the board, and puts the outputs in order.
 fn finish<W: Work>(
     work: &W,
     board: Board,
@@ -125,7 +125,7 @@ fn finish<W: Work>(
     Err(WaveFault::TaskFailed { task, end })
 }
 
-/// Whether some task has failed so often.
+// Whether some task has failed so often.
 fn sees_limit(board: &Board, pass: &mut Pass, tasks: u32, limit: u32) -> bool
     requires board { OnBoard board.now pass.old }
     requires count { tasks ≡ tasks_of board.now }
@@ -143,7 +143,7 @@ fn sees_limit(board: &Board, pass: &mut Pass, tasks: u32, limit: u32) -> bool
     false
 }
 
-/// Whether every task has a winner.
+// Whether every task has a winner.
 fn sees_all_won(board: &Board, pass: &mut Pass, tasks: u32) -> bool
     requires board { OnBoard board.now pass.old }
     requires count { tasks ≡ tasks_of board.now }
@@ -160,7 +160,7 @@ fn sees_all_won(board: &Board, pass: &mut Pass, tasks: u32) -> bool
     true
 }
 
-/// Whether the work is done: every task has a winner, or one has failed so often. Where it is not, no task has.
+// Whether the work is done: every task has a winner, or one has failed so often. Where it is not, no task has.
 fn is_done(board: &Board, pass: &mut Pass, tasks: u32, limit: u32) -> bool
     requires board { OnBoard board.now pass.old }
     requires count { tasks ≡ tasks_of board.now }
@@ -176,7 +176,7 @@ fn is_done(board: &Board, pass: &mut Pass, tasks: u32, limit: u32) -> bool
     sees_all_won(board, pass, tasks)
 }
 
-/// What is left of the rounds of a wave: the pass, the outputs, and how many there were.
+// What is left of the rounds of a wave: the pass, the outputs, and how many there were.
 #[derive(Drop)]
 struct Rounds<O> {
     pass: Pass,
@@ -184,7 +184,7 @@ struct Rounds<O> {
     count: u32,
 }
 
-/// Cuts three quarters of the room from a pass, for a second round. All entries stay with the first.
+// Cuts three quarters of the room from a pass, for a second round. All entries stay with the first.
 fn cut(board: &Board, pass: &mut Pass) -> Pass
     requires board { OnBoard board.now pass.old }
     ensures board { OnBoard board.now pass.new }
@@ -200,7 +200,7 @@ fn cut(board: &Board, pass: &mut Pass) -> Pass
     given
 }
 
-/// Runs a second round on a pass that is made firm, in which no worker is put aside.
+// Runs a second round on a pass that is made firm, in which no worker is put aside.
 fn run_again<R: Threads + Sync, W: Work + Sync, H: Host + Send>(
     rt: &R,
     alloc: Global,
@@ -233,7 +233,7 @@ fn run_again<R: Threads + Sync, W: Work + Sync, H: Host + Send>(
     merge(board, worker, again)
 }
 
-/// Runs the workers in a round, and in a second one where all were put aside and the work is not done.
+// Runs the workers in a round, and in a second one where all were put aside and the work is not done.
 fn run_rounds<R: Threads + Sync, W: Work + Sync, H: Host + Send>(
     rt: &R,
     alloc: Global,

@@ -24,6 +24,7 @@ pub trait Work {
     /// Which inputs a host must have.
     ghost suits: { Self → Option (List Input) → Type 0 };
 
+    /// How many tasks the wave has.
     fn tasks(&self) -> u32
         ensures { result ≡ count self.now };
 

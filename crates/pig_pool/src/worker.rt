@@ -14,8 +14,8 @@ use pig_outside::Host;
 use std::alloc::{AllocError, Global};
 use std::collections::LinkedList;
 
-/// What a worker has: its pass, the outputs with which it won, each with its task, and whether it was put aside. Of
-/// workers that were joined, each was.
+// What a worker has: its pass, the outputs with which it won, each with its task, and whether it was put aside. Of
+// workers that were joined, each was.
 #[derive(Drop)]
 pub struct Worker<O> {
     pub pass: Pass,
@@ -23,14 +23,14 @@ pub struct Worker<O> {
     pub is_aside: bool,
 }
 
-/// Where a worker's course has led.
+// Where a worker's course has led.
 #[derive(Clone, Copy, Drop)]
 pub enum Course {
-    /// It may go on.
+    // It may go on.
     On,
-    /// A task has failed too often.
+    // A task has failed too often.
     Over,
-    /// The worker is put aside.
+    // The worker is put aside.
     Aside,
 }
 
@@ -42,7 +42,7 @@ impl Course {
     }
 }
 
-/// Tries task `t` until it has a winner.
+// Tries task `t` until it has a winner.
 fn try_task<W: Work, H: Host>(
     work: &W,
     wave: u32,
@@ -81,7 +81,7 @@ fn try_task<W: Work, H: Host>(
     }
 }
 
-/// Draws tasks and tries them, until none is left.
+// Draws tasks and tries them, until none is left.
 fn try_drawn<W: Work, H: Host>(
     work: &W,
     wave: u32,
@@ -119,7 +119,7 @@ fn try_drawn<W: Work, H: Host>(
     Ok(Course::On)
 }
 
-/// Goes once through all tasks, which are all drawn, and tries each without a winner.
+// Goes once through all tasks, which are all drawn, and tries each without a winner.
 fn try_rest<W: Work, H: Host>(
     work: &W,
     wave: u32,
@@ -158,7 +158,7 @@ fn try_rest<W: Work, H: Host>(
     Ok(Course::On)
 }
 
-/// Goes the whole course on one host: first the tasks that are drawn, then those without a winner.
+// Goes the whole course on one host: first the tasks that are drawn, then those without a winner.
 fn try_all<W: Work, H: Host>(
     work: &W,
     wave: u32,
@@ -193,7 +193,7 @@ fn try_all<W: Work, H: Host>(
     }
 }
 
-/// Works through the tasks on one host.
+// Works through the tasks on one host.
 pub fn run_worker<W: Work, H: Host>(
     alloc: Global,
     work: &W,

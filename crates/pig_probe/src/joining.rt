@@ -15,9 +15,9 @@ use pig_replicated::Lookup;
 use pig_value::Value;
 use std::alloc::AllocError;
 
-/// Adds the joinings of the row that is begun with one match of each side, the first side slowest.
-///
-/// Where there is none and `fill` is so many fields, the row followed by that many nulls.
+// Adds the joinings of the row that is begun with one match of each side, the first side slowest.
+//
+// Where there is none and `fill` is so many fields, the row followed by that many nulls.
 pub fn add_probed(
     sides: &[Lookup],
     fill: Option<u32>,

@@ -7,7 +7,7 @@ ghost use Rattle.pig_replicated.specs.Holding.{key_in};
 use pig_typed::TExpr;
 use pig_value::{Tuple, Value, field_at};
 
-/// The key of a row where it stands, which it does where the one key expression is a field that the row has.
+// The key of a row where it stands, which it does where the one key expression is a field that the row has.
 pub fn standing_key<'r>(keys: &[TExpr], row: &'r Tuple) -> Option<&'r Value>
     ensures { IfSome result (λ key. tree key.now ≡ key_in (map typed keys.now) (row_tree row.now)) }
 {

@@ -11,7 +11,7 @@ use pig_packed::PackedBuilder;
 use pig_value::{Dir, Value};
 use std::alloc::AllocError;
 
-/// Begins a row by these fields, in place of what was begun.
+// Begins a row by these fields, in place of what was begun.
 pub fn begin_row(fields: &[Value], front: &mut Vec<u8>) -> Result<(), AllocError>
     ensures { OnOk result (front.new.items ≡ begun_code (row_tree fields.now)) }
 {
@@ -30,7 +30,7 @@ fn add_field(field: &Value, front: &mut Vec<u8>) -> Result<(), AllocError>
     encode(field, Dir::Asc, front)
 }
 
-/// Adds so many nulls to a row that is begun.
+// Adds so many nulls to a row that is begun.
 pub fn add_nulls(front: &mut Vec<u8>, count: u32) -> Result<(), AllocError>
     ensures { OnOk result (front.new.items ≡ front.old.items ++ inner_code (nulls count)) }
 {
@@ -40,7 +40,7 @@ pub fn add_nulls(front: &mut Vec<u8>, count: u32) -> Result<(), AllocError>
     Ok(())
 }
 
-/// Adds bytes.
+// Adds bytes.
 pub fn add_bytes(front: &mut Vec<u8>, more: &[u8]) -> Result<(), AllocError>
     ensures { OnOk result (front.new.items ≡ front.old.items ++ more.now) }
 {
@@ -48,7 +48,7 @@ pub fn add_bytes(front: &mut Vec<u8>, more: &[u8]) -> Result<(), AllocError>
     Ok(())
 }
 
-/// Adds the row that is begun, which stays begun.
+// Adds the row that is begun, which stays begun.
 pub fn add_row(front: &mut Vec<u8>, built: &mut PackedBuilder) -> Result<(), AllocError>
     requires front { IsBegun front.old.items }
     requires none_begun { built.old.begun ≡ [] }

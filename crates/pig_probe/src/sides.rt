@@ -22,7 +22,7 @@ pub struct Sides {
     fill: Option<u32>,
 }
 
-/// Where the code of a key and the row that is begun are written.
+// Where the code of a key and the row that is begun are written.
 #[derive(Drop)]
 pub(crate) struct Room {
     pub(crate) key: Vec<u8>,
@@ -65,7 +65,7 @@ impl Sides {
         Sides { lookups, fill }
     }
 
-    /// Adds what a row of the first input, which has these keys, gives.
+    // Adds what a row of the first input, which has these keys, gives.
     pub(crate) fn add_joined(
         &self,
         alloc: Global,

@@ -10,7 +10,7 @@ use Rattle.pig_typed.specs.declared.blocks.BlockItem.{BlockItem}
 use Rattle.pig_plan.proofs.Marking.{range_more}
 use Rattle.pig_cuts.specs.Cuts.{NodeCut}
 use Rattle.pig_cuts.specs.Fits.{fit, fit_args, fit_links}
-use Rattle.pig_cuts.specs.Plans.{behind, going, spans, staying, whole_field}
+use Rattle.pig_cuts.specs.Plans.{behind, spans, staying, whole_field}
 use Rattle.pig_cuts.specs.declared.kept.KeptField.{KeptField}
 use Rattle.pig_prune.specs.Pruned.{fit_link}
 
@@ -25,10 +25,6 @@ args_fit cuts own (e ∷ es) = ap (λ more. more_args (fit cuts own e) more) (ar
 pub none_staying : {X : Type 0} (marks : List Bool) → ◌≡◌ {A = List X} (staying marks []) []
 none_staying [] = refl
 none_staying (mark ∷ marks) = refl
-
-pub none_going : {X : Type 0} (marks : List Bool) → ◌≡◌ {A = List X} (going marks []) []
-none_going [] = refl
-none_going (mark ∷ marks) = refl
 
 -- one number more of a range
 pub range_on : (begun old new : List ℕ) (first n : ℕ) → old ≡ begun ++ range_with_len first n → new ≡ old ++ (first + n) ∷ [] → new ≡ begun ++ range_with_len first (n + 1)
@@ -49,10 +45,6 @@ behind_on begun old new first n so_far is =
 pub none_stays : {X Y : Type 0} (f : Y → X) (marks : List Bool) (left : List Y) → length left < 1 → ◌≡◌ {A = List X} (staying marks (map f left)) []
 none_stays f marks [] h = none_staying marks
 none_stays f marks (y ∷ left) h = absurd (omega (arith, h))
-
-pub none_goes : {X Y : Type 0} (f : Y → X) (marks : List Bool) (left : List Y) → length left < 1 → ◌≡◌ {A = List X} (going marks (map f left)) []
-none_goes f marks [] h = none_going marks
-none_goes f marks (y ∷ left) h = absurd (omega (arith, h))
 
 pub made_whole : {X : Type 0} (marks : List Bool) (left made all : List X) → length left < 1 → made ++ staying marks left ≡ all → made ≡ all
 made_whole marks [] made all h is = sym (append-nil made) ∙ ap (λ xs. made ++ xs) (sym (none_staying marks)) ∙ is

@@ -74,9 +74,6 @@ own_is p valid k v stands =
 
 -- ---- all nodes, fitted
 
-pub none_fitted : (p : Plan) → IsCutTo p [] 0
-none_fitted p = record { size = refl; each = λ k v below. absurd (omega (arith, below)) }
-
 pub all_fitted : (p q : Plan) → IsCutTo p q (length p) → IsCutBy (marks_of p) (cuts_of p) p q
 all_fitted p q done = record {
   size = done.size;

@@ -16,12 +16,12 @@ use pig_typed::BlockItem;
 use pig_value::{Numbers, Seq};
 use std::alloc::{AllocError, Global};
 
-/// The fields that are kept of a node's rows.
+// The fields that are kept of a node's rows.
 pub type KeptFields = Seq<KeptField>;
-/// What is left of a node's rows; none where they stay as they are.
+// What is left of a node's rows; none where they stay as they are.
 pub type Cut = Option<KeptFields>;
 
-/// What is left of an operator's rows, by what is left of those of the nodes before.
+// What is left of an operator's rows, by what is left of those of the nodes before.
 pub fn own_cut(
     alloc: Global,
     plan: &Plan,
@@ -74,7 +74,7 @@ fn items_cut(alloc: Global, marks: &[bool], items: &[BlockItem]) -> Result<Cut, 
     Ok(Some(whole_fields(alloc, numbers.as_slice())?))
 }
 
-/// The positions of what the items give that stay.
+// The positions of what the items give that stay.
 fn item_numbers(alloc: Global, marks: &[bool], items: &[BlockItem]) -> Result<Numbers, AllocError>
     ensures { IfOk result (λ numbers. numbers
         ≡ flat_map (λ span. span) (staying marks.now (spans 0 (map item_typed items.now)))) }
@@ -94,7 +94,7 @@ fn item_numbers(alloc: Global, marks: &[bool], items: &[BlockItem]) -> Result<Nu
     Ok(numbers)
 }
 
-/// Adds so many numbers from the first one on.
+// Adds so many numbers from the first one on.
 fn add_range(first: u32, count: u32, numbers: &mut Numbers) -> Result<(), AllocError>
     ensures { OnOk result (numbers.new ≡ numbers.old ++ range_with_len first count) }
 {
@@ -158,7 +158,7 @@ fn group_cut(alloc: Global, cuts: &[Cut], inputs: &[u32]) -> Result<Cut, AllocEr
     Ok(Some(kept))
 }
 
-/// Adds the bags of inputs, which stand behind the key.
+// Adds the bags of inputs, which stand behind the key.
 fn add_bags(cuts: &[Cut], inputs: &[u32], kept: &mut KeptFields) -> Result<(), AllocError>
     ensures { OnOk result (kept.new
         ≡ kept.old ++ bags_kept (cut_at cuts.now) 1 inputs.now) }
@@ -174,7 +174,7 @@ fn add_bags(cuts: &[Cut], inputs: &[u32], kept: &mut KeptFields) -> Result<(), A
     Ok(())
 }
 
-/// The number of a node as that by whose rows a bag's are cut, where they are.
+// The number of a node as that by whose rows a bag's are cut, where they are.
 fn like_of(cuts: &[Cut], node: u32) -> Option<u32>
     ensures { result ≡ option_map (λ kept. node) (cut_at cuts.now node) }
 {
@@ -204,7 +204,7 @@ fn join_cut(alloc: Global, plan: &Plan, cuts: &[Cut], inputs: &[u32]) -> Result<
     Ok(Some(kept))
 }
 
-/// How many fields the rows of a node have.
+// How many fields the rows of a node have.
 fn width(plan: &Plan, node: u32) -> Result<u32, AllocError>
     ensures { IfOk result (λ width. width ≡ width_at (plan_of plan.now) node) }
 {
@@ -214,7 +214,7 @@ fn width(plan: &Plan, node: u32) -> Result<u32, AllocError>
     }
 }
 
-/// Adds the fields of an input of a JOIN, which stand behind those of the inputs before it.
+// Adds the fields of an input of a JOIN, which stand behind those of the inputs before it.
 fn add_side(
     cuts: &[Cut],
     node: u32,

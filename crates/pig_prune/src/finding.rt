@@ -12,7 +12,7 @@ use pig_cuts::KeptField;
 use pig_typed::TExpr;
 use std::alloc::AllocError;
 
-/// The fields that are kept of a node's rows, where not all are.
+// The fields that are kept of a node's rows, where not all are.
 pub fn cut_of(cuts: &[Cut], node: u32) -> Option<&KeptFields>
     ensures { option_copied result ≡ cut_at cuts.now node }
 {
@@ -22,8 +22,8 @@ pub fn cut_of(cuts: &[Cut], node: u32) -> Option<&KeptFields>
     }
 }
 
-/// How a field of a node's rows is left: not at all, whole, or as a bag of rows that are cut as
-/// those of a node.
+// How a field of a node's rows is left: not at all, whole, or as a bag of rows that are cut as
+// those of a node.
 pub fn left_of(cuts: &[Cut], node: u32, position: u32) -> Option<Option<u32>>
     ensures { result ≡ left_of (cut_at cuts.now node) position }
 {
@@ -46,7 +46,7 @@ fn left_among(kept: &[KeptField], position: u32) -> Option<Option<u32>>
     None
 }
 
-/// The position of a field among those that are left of a node's rows.
+// The position of a field among those that are left of a node's rows.
 pub fn place_of(cuts: &[Cut], node: u32, position: u32) -> Result<u32, AllocError>
     ensures { IfOk result (λ place. place ≡ place_of (cut_at cuts.now node) position) }
 {
@@ -72,7 +72,7 @@ fn place_among(kept: &[KeptField], position: u32) -> Result<u32, AllocError>
     Ok(place)
 }
 
-/// Whether all of these nodes have all of their fields.
+// Whether all of these nodes have all of their fields.
 pub fn are_whole(cuts: &[Cut], nodes: &[u32]) -> bool
     ensures { result ≡ are_whole (cut_at cuts.now) nodes.now }
 {
@@ -86,14 +86,14 @@ pub fn are_whole(cuts: &[Cut], nodes: &[u32]) -> bool
     true
 }
 
-/// Whether not all fields of a node's rows are left.
+// Whether not all fields of a node's rows are left.
 fn is_cut(cuts: &[Cut], node: u32) -> bool
     ensures { result ≡ is_some (cut_at cuts.now node) }
 {
     cut_of(cuts, node).is_some()
 }
 
-/// How an operand is left that is a plain field of a node's rows.
+// How an operand is left that is a plain field of a node's rows.
 pub fn left_of_operand(cuts: &[Cut], node: u32, e: &TExpr) -> Option<Option<u32>>
     ensures { result ≡ left_of_field (cut_at cuts.now node) (field_of (typed e.now)) }
 {

@@ -11,7 +11,7 @@ use pig_typed::{TExpr, TExprs, TLink, TLinks, copy_positions};
 use pig_value::{Boxed, Positions, Rel, Seq, copy_kind};
 use std::alloc::{AllocError, Global};
 
-/// An expression over what is left of a node's rows.
+// An expression over what is left of a node's rows.
 #[cycle(fit_expr)]
 pub fn fit_expr(alloc: Global, cuts: &[Cut], node: u32, e: &TExpr) -> Result<TExpr, AllocError>
     ensures { IfOk result (λ c. typed c
@@ -132,7 +132,7 @@ fn fit_project(
     Ok(TExpr::Project { a, fields, single })
 }
 
-/// Columns of a bag that is left so, at their new positions.
+// Columns of a bag that is left so, at their new positions.
 fn fit_columns(
     alloc: Global,
     cuts: &[Cut],
@@ -200,7 +200,7 @@ fn fit_args(alloc: Global, cuts: &[Cut], node: u32, args: &TExprs) -> Result<TEx
     Ok(Seq::from_vec(made))
 }
 
-/// Keys over what is left of a node's rows.
+// Keys over what is left of a node's rows.
 pub fn fit_keys(
     alloc: Global,
     cuts: &[Cut],

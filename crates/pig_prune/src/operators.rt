@@ -12,8 +12,8 @@ use pig_plan::{KeyedInput, KeyedInputs, NodeOp};
 use pig_typed::{Block, BlockItem, BlockItems, BlockStep, BlockSteps, copy_expr, copy_keys};
 use std::alloc::{AllocError, Global};
 
-/// Brings an operator onto what is left of its inputs' rows; of a LOAD the marked columns stay, of
-/// a FOREACH the marked items.
+// Brings an operator onto what is left of its inputs' rows; of a LOAD the marked columns stay, of
+// a FOREACH the marked items.
 pub fn fit_op(
     alloc: Global,
     cuts: &[Cut],

@@ -47,7 +47,7 @@ fn pruned(alloc: Global, plan: &Plan) -> Result<Plan, AllocError>
     Ok(made)
 }
 
-/// The plan whose LOADs and FOREACHs keep what is needed.
+// The plan whose LOADs and FOREACHs keep what is needed.
 fn cut_plan(alloc: Global, plan: &Plan) -> Result<Plan, AllocError>
     requires { EachLives (plan_of plan.now) }
     ensures { IfOk result (λ q. IsCutBy (marks_of (plan_of plan.now)) (cuts_of (plan_of plan.now))
@@ -58,7 +58,7 @@ fn cut_plan(alloc: Global, plan: &Plan) -> Result<Plan, AllocError>
     build(alloc, plan, marks.as_slice(), cuts.as_slice())
 }
 
-/// Of each node which of its columns or items stay.
+// Of each node which of its columns or items stay.
 fn marks_of(alloc: Global, plan: &Plan) -> Result<Vec<Marks>, AllocError>
     ensures { IfOk result (λ marks. marks.items
         ≡ map (marks_of (plan_of plan.now)) (range_with_len 0 (length plan.now))) }
@@ -114,7 +114,7 @@ fn load_marks(alloc: Global, need: &[Need], width: usize) -> Result<Marks, Alloc
     column_marks(alloc, need, width)
 }
 
-/// What is left of the rows of each node.
+// What is left of the rows of each node.
 fn cuts_of(alloc: Global, plan: &Plan, marks: &[Marks]) -> Result<Vec<Cut>, AllocError>
     requires { marks.now ≡ map (marks_of (plan_of plan.now)) (range_with_len 0 (length plan.now)) }
     ensures { IfOk result (λ cuts. cuts.items ≡ cuts_of (plan_of plan.now)) }
@@ -129,7 +129,7 @@ fn cuts_of(alloc: Global, plan: &Plan, marks: &[Marks]) -> Result<Vec<Cut>, Allo
     Ok(cuts)
 }
 
-/// What is left of the rows of the next node.
+// What is left of the rows of the next node.
 fn cut_next(
     alloc: Global,
     plan: &Plan,
@@ -147,7 +147,7 @@ fn cut_next(
     }
 }
 
-/// The fitted nodes as a plan.
+// The fitted nodes as a plan.
 fn build(alloc: Global, plan: &Plan, marks: &[Marks], cuts: &[Cut]) -> Result<Plan, AllocError>
     requires lives { EachLives (plan_of plan.now) }
     requires marks { marks.now
@@ -164,7 +164,7 @@ fn build(alloc: Global, plan: &Plan, marks: &[Marks], cuts: &[Cut]) -> Result<Pl
     Ok(made)
 }
 
-/// Adds the node at a place, fitted. It looks at nothing that goes, and so it is valid then.
+// Adds the node at a place, fitted. It looks at nothing that goes, and so it is valid then.
 fn add_fitted(
     alloc: Global,
     nodes: &[Node],
@@ -199,7 +199,7 @@ fn add_node(made: &mut Plan, node: Node) -> Result<(), AllocError>
     Ok(())
 }
 
-/// A node over what is left of its inputs' rows.
+// A node over what is left of its inputs' rows.
 fn fitted_node(alloc: Global, cuts: &[Cut], marks: &[bool], node: &Node) -> Result<Node, AllocError>
     ensures { IfOk result (λ made. node_of made ≡ record {
       op = fit_op (cut_at cuts.now) marks.now (op_of node.now.op);
@@ -211,7 +211,7 @@ fn fitted_node(alloc: Global, cuts: &[Cut], marks: &[bool], node: &Node) -> Resu
     Ok(made)
 }
 
-/// A plan is valid.
+// A plan is valid.
 fn known_plan(plan: &Plan)
     ensures { IsPlan (plan_of plan.now) }
 {

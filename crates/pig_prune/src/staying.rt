@@ -5,7 +5,7 @@ ghost use Rattle.pig_prune.specs.Pruned.{next_marks, next_stays};
 use pig_value::{Column, Columns, Numbers, copy_kind};
 use std::alloc::{AllocError, Global};
 
-/// Whether all marks are set.
+// Whether all marks are set.
 pub fn all_stay(marks: &[bool]) -> bool
     ensures { result ≡ all_stay marks.now }
 {
@@ -19,7 +19,7 @@ pub fn all_stay(marks: &[bool]) -> bool
     true
 }
 
-/// The columns that stay; those that no mark is left for do.
+// The columns that stay; those that no mark is left for do.
 pub fn staying_columns(
     alloc: Global,
     marks: &[bool],
@@ -50,7 +50,7 @@ fn copy_column(alloc: Global, column: &Column) -> Result<Column, AllocError>
     })
 }
 
-/// The numbers that stay.
+// The numbers that stay.
 pub fn staying_numbers(
     alloc: Global,
     marks: &[bool],
@@ -71,7 +71,7 @@ pub fn staying_numbers(
     Ok(made)
 }
 
-/// Whether the next element stays.
+// Whether the next element stays.
 pub fn is_next(marks: &[bool]) -> bool
     ensures { result ≡ next_stays marks.now }
 {
@@ -81,7 +81,7 @@ pub fn is_next(marks: &[bool]) -> bool
     }
 }
 
-/// The marks behind the next one.
+// The marks behind the next one.
 pub fn behind(marks: &[bool]) -> &[bool]
     ensures { result.now ≡ next_marks marks.now }
 {

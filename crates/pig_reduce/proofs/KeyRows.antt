@@ -45,9 +45,6 @@ module _ (bytes : List ℕ) (key : Tree) (h : IsCodeOf bytes key) where
 pub tuple_whole : (bytes : List ℕ) → IsSomeCode bytes → tagged bytes ≡ true → IsWhole bytes
 tuple_whole bytes some is = ∥∥₁_map some (λ k. (key_row k.0, tuple_code bytes k.0 k.1 is))
 
-pub none_whole : IsWhole (6 ∷ 0 ∷ [])
-none_whole = ∣ ([], record { is = refl; value = tt }) ∣₁
-
 -- ---- the keys of a run
 
 pub keys_are : (es : List Entry) → keys_to_come (record { dirs = []; entries = es }) 0 ≡ map key_row (distinct tree_cmp (map (λ e. e.key) es))

@@ -38,7 +38,7 @@ use Rattle.pig_waves.proofs.Places.{range_at}
 use Rattle.pig_waves.specs.Laws.{ranks}
 use Rattle.pig_fitting.specs.Laws.{RankFormFits}
 use Rattle.pig_fitting.proofs.Standing.{OfPartition, ranks_alone, ranks_at}
-use Rattle.pig_reduce.specs.Made.{AreStartsBy, IsStartBy, IsStartIn, IsStartOf, is_dense, rows_out}
+use Rattle.pig_reduce.specs.Made.{AreStartsBy, IsStartBy, IsStartIn, IsStartOf, rows_out}
 
 abbrev Rows : Type 0
 Rows = List (List Tree)
@@ -101,24 +101,6 @@ one_unpacked rows at found new row here so_far is =
 
 -- ---- an operator that ranks
 
-pub rank_form : (o : PlanOp) (outs : List TaskOut) (p : ℕ) (keys : List SortKey) (made : Rows) → ranks o ≡ true → sort_keys o ≡ Some keys
-    → (AreSorted keys (all_rows outs) → made ≡ ranked_among keys (is_dense o) (all_rows outs) (rows_of_part outs p)) → IsRankForm o outs p (o_rows made)
-rank_form (p_rank input ks dense) outs p keys made h is ranked = λ order.
-    let same : ks ≡ keys = some_same ks keys is in
-    ap o_rows (ranked (order keys is) ∙ ap (λ found. ranked_among found dense (all_rows outs) (rows_of_part outs p)) (sym same))
-rank_form (p_load path delim columns) outs p keys made h is ranked = absurd (true≢false (sym h))
-rank_form (p_filter input test) outs p keys made h is ranked = absurd (true≢false (sym h))
-rank_form (p_foreach input block) outs p keys made h is ranked = absurd (true≢false (sym h))
-rank_form (p_group_all input) outs p keys made h is ranked = absurd (true≢false (sym h))
-rank_form (p_group inputs) outs p keys made h is ranked = absurd (true≢false (sym h))
-rank_form (p_join inputs side replicated) outs p keys made h is ranked = absurd (true≢false (sym h))
-rank_form (p_union inputs) outs p keys made h is ranked = absurd (true≢false (sym h))
-rank_form (p_distinct input) outs p keys made h is ranked = absurd (true≢false (sym h))
-rank_form (p_order input ks) outs p keys made h is ranked = absurd (true≢false (sym h))
-rank_form (p_limit input count) outs p keys made h is ranked = absurd (true≢false (sym h))
-rank_form (p_store input path delim) outs p keys made h is ranked = absurd (true≢false (sym h))
-rank_form (p_assert input test message) outs p keys made h is ranked = absurd (true≢false (sym h))
-
 -- one that ranks has keys
 pub has_keys : (o : PlanOp) → ranks o ≡ true → sort_keys o ≡ None → ⊥
 has_keys (p_rank input keys dense) h none = absurd (cc)
@@ -160,11 +142,6 @@ module _ (s : Stages) (outs : Outs) (t : ReduceTask) (task : IsTaskOf s (t.wave 
   rank_fits law valid has found is made longs out out_is =
       subst (Fits s (t_rank t)) (sym out_is)
       (law s valid (t.wave + 1) task.at t task.stands outs has made (subst (λ list. AreBehindLongs (rows_of_part list t.part) made) is longs))
-
--- a rank task's node is there
-pub rank_there : (s : Stages) (t : ReduceTask) → IsTaskOf s (t.wave + 1) (declared.Rank t) → op_at s.plan t.node ≡ None → ⊥
-rank_there s t task none =
-    let own = ranks_at s t (t.wave + 1) task.at task.stands in let wrong = sym none ∙ own.at in absurd (cc)
 
 -- ---- what is told of partitions
 

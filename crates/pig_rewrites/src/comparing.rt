@@ -10,8 +10,8 @@ use pig_reach::{Store, live_paths, stores};
 use pig_value::{Delim, Text};
 use std::alloc::{AllocError, Global};
 
-/// Whether two plans have the same STOREs in turn, but for where their relations stand, and read
-/// the same inputs.
+// Whether two plans have the same STOREs in turn, but for where their relations stand, and read
+// the same inputs.
 pub fn show_alike(alloc: Global, plan: &Plan, other: &Plan) -> Result<bool, AllocError>
     ensures ends { IfOk result (λ same. IsTrue same
         → ends_of (plan_of other.now) ≡ ends_of (plan_of plan.now)) }
@@ -128,7 +128,7 @@ fn is_same_bool(mark: bool, other: bool) -> bool
     mark == other
 }
 
-/// Of each node whether it is a list.
+// Of each node whether it is a list.
 fn list_marks(alloc: Global, plan: &Plan) -> Result<Vec<bool>, AllocError>
     ensures { IfOk result (λ marks. marks.items ≡ list_marks (plan_of plan.now)) }
 {
@@ -137,7 +137,7 @@ fn list_marks(alloc: Global, plan: &Plan) -> Result<Vec<bool>, AllocError>
     marks_over(alloc, nodes, sorted.as_slice())
 }
 
-/// Of each node whether it is a list, by which are sorted.
+// Of each node whether it is a list, by which are sorted.
 fn marks_over(alloc: Global, nodes: &[Node], sorted: &[bool]) -> Result<Vec<bool>, AllocError>
     ensures { IfOk result (λ marks. marks.items
         ≡ marks_over (at_place false sorted.now) (plan_of nodes.now)) }
@@ -150,7 +150,7 @@ fn marks_over(alloc: Global, nodes: &[Node], sorted: &[bool]) -> Result<Vec<bool
     Ok(listed)
 }
 
-/// Of each node whether it is sorted.
+// Of each node whether it is sorted.
 fn sorted_marks(alloc: Global, nodes: &[Node]) -> Result<Vec<bool>, AllocError>
     ensures { IfOk result (λ marks. marks.items ≡ sorted_marks (plan_of nodes.now)) }
 {
@@ -184,7 +184,7 @@ fn sorts(op: &NodeOp, sorted: &[bool]) -> bool
     }
 }
 
-/// The mark of a node; one that is not among them has none.
+// The mark of a node; one that is not among them has none.
 fn mark_at(marks: &[bool], node: u32) -> bool
     ensures { result ≡ at_place false marks.now node }
 {

@@ -47,7 +47,7 @@ fn copied(alloc: Global, plan: &Plan) -> Result<Plan, AllocError>
     Ok(copy)
 }
 
-/// Adds a node, which fits, since the plan is valid that it comes from.
+// Adds a node, which fits, since the plan is valid that it comes from.
 fn push_node(copy: &mut Plan, node: Node) -> Result<(), AllocError>
     ensures { OnOk result (plan_of copy.new ≡ plan_of copy.old ++ node_of node ∷ []) }
 {
@@ -58,7 +58,7 @@ fn push_node(copy: &mut Plan, node: Node) -> Result<(), AllocError>
     Ok(())
 }
 
-/// A plan is valid.
+// A plan is valid.
 fn known_plan(plan: &Plan)
     ensures { IsPlan (plan_of plan.now) }
 {

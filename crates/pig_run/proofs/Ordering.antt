@@ -42,10 +42,6 @@ some_none m old new same = record { paths = []; asked = asked_nothing old new sa
 
 -- ---- looking
 
-pub looks_none : (result : Result Prepared RunFault) → IfOk result (λ _. ⊥) → (old new : Option (List DepotCall)) → new ≡ old → LooksUp result old new
-looks_none (Ok p) h old new same = absurd h
-looks_none (Err f) h old new same = record { inputs = []; outputs = []; asked = asked_nothing old new same; whole = tt }
-
 pub looks_inputs : (result : Result Prepared RunFault) → IfOk result (λ _. ⊥) → (old new : Option (List DepotCall)) → AsksSome method.Pieces old new → LooksUp result old new
 looks_inputs (Ok p) h old new some = absurd h
 looks_inputs (Err f) h old new some = record {

@@ -1,5 +1,5 @@
 -- What is due of the words and the shelf, stage by stage in the order of the refusals, and what the depot is asked for it.
-use Rattle.std.specs.Prelude.{◌≡◌, ◌<◌, ◌≤◌, ◌+◌, ◌^◌, ℕ, zero, suc, Bool, true, false, List, [], ◌∷◌, ◌++◌, length, map, Option, Some, None, is_none, unwrap_or, if◌then◌else◌}
+use Rattle.std.specs.Prelude.{◌≡◌, ◌<◌, ◌≤◌, ◌+◌, ℕ, zero, suc, Bool, true, false, List, [], ◌∷◌, ◌++◌, length, map, Option, Some, None, is_none, unwrap_or, if◌then◌else◌}
 use Rattle.std.specs.List.{find, sum_by}
 use Rattle.pig_outside.specs.Calls.{DepotCall}
 use Rattle.pig_outside.specs.declared.failing.Method.{Method}
@@ -21,6 +21,7 @@ use Rattle.pig_words.specs.declared.words.Command.{Command}
 use Rattle.pig_words.specs.declared.words.Verb.{Verb}
 use Rattle.pig_words.specs.declared.words.Verb.TheVariants as verbs
 use Rattle.pig_run.specs.declared.outcome.TooLarge.TheVariants as large
+use Rattle.pig_run.specs.Limits.{most_input, most_script}
 use Rattle.pig_run.specs.Reading.{Faulty, IsFound, Prints, Refuses, Run, Runs, Typed, Verdict, Wants}
 use Rattle.pig_run.specs.Refusals.{Refusal, no_command, no_input, no_script, output_there, too_large}
 use Rattle.pig_run.specs.Texts.{ok_text}
@@ -61,7 +62,7 @@ IsNoDemo line = (command : Command) → ¬ IsDemo line command
 
 -- how many bytes are asked for at most: of a script one more than it may have
 abbrev pub most_asked : Method → Option ℕ
-most_asked method.Script = Some (2 ^ 20 + 1)
+most_asked method.Script = Some (most_script + 1)
 most_asked m = None
 
 abbrev pub call : Method → List ℕ → DepotCall
@@ -138,10 +139,10 @@ OutputsDue command shelf plan = Looks (λ dir. has_dir dir shelf) output_there m
 abbrev pub size_of : Shelf → List ℕ → ℕ
 size_of shelf path = sum_by length (unwrap_or (pieces_of path shelf.inputs) [])
 
--- the inputs have at most 67,108,864 bytes in all
+-- the inputs are not too long in all
 pub data SizeDue (command : Command) (shelf : Shelf) (plan : Plan) : List DepotCall → Verdict → Type 0 where
-  too_big : 2 ^ 26 < sum_by (size_of shelf) (live_paths plan) → SizeDue command shelf plan [] (Refuses (too_large large.Input))
-  small : {asked : List DepotCall} {verdict : Verdict} → sum_by (size_of shelf) (live_paths plan) ≤ 2 ^ 26
+  too_big : most_input < sum_by (size_of shelf) (live_paths plan) → SizeDue command shelf plan [] (Refuses (too_large large.Input))
+  small : {asked : List DepotCall} {verdict : Verdict} → sum_by (size_of shelf) (live_paths plan) ≤ most_input
       → OutputsDue command shelf plan asked verdict → SizeDue command shelf plan asked verdict
 
 abbrev pub is_missing : Shelf → List ℕ → Bool

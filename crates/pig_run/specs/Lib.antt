@@ -3,6 +3,7 @@ pub mod Decided
 pub mod Demonstration
 pub mod Due
 pub mod Ends
+pub mod Limits
 pub mod Looking
 pub mod Orderly
 pub mod Outputs

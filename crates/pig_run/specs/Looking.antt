@@ -13,6 +13,7 @@ use Rattle.pig_run.specs.declared.looking.Prepared.{Prepared}
 use Rattle.pig_run.specs.declared.outcome.RunFault.{RunFault}
 use Rattle.pig_run.specs.declared.outcome.RunFault.TheVariants as fault
 use Rattle.pig_run.specs.Due.{Line}
+use Rattle.pig_run.specs.Limits.{most_script}
 use Rattle.pig_run.specs.Steps.{IsLookFault}
 
 abbrev pub line_given : CommandLine → Line
@@ -28,7 +29,7 @@ pub record IsRead (most : ℕ) (o : Option (List ℕ)) (bytes : List ℕ) : Type
 
 -- its bytes are read, or there is none
 abbrev pub LooksForScript : {T : Type 0} → List ℕ → Shelf → (T → List ℕ) → Result T RunFault → Type 0
-LooksForScript path s bytes_of result = MatchResult result (λ x. IsRead 1048576 (script_of path s) (bytes_of x))
+LooksForScript path s bytes_of result = MatchResult result (λ x. IsRead most_script (script_of path s) (bytes_of x))
     (λ found. ((found ≡ fault.NoScript) × (script_of path s ≡ None)) ⊎ IsLookFault found)
 
 -- ---- inputs

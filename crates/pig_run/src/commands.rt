@@ -26,7 +26,7 @@ use pig_words::Verb;
 use std::alloc::Global;
 use std::thread::Threads;
 
-/// Reads the words, and does what they say.
+// Reads the words, and does what they say.
 pub fn run<R: Threads + Sync, D: Depot, H: Host + Send>(
     rt: &R,
     alloc: Global,
@@ -65,7 +65,7 @@ pub fn run<R: Threads + Sync, D: Depot, H: Host + Send>(
     }
 }
 
-/// What hosts tell of their inputs is of bytes.
+// What hosts tell of their inputs is of bytes.
 fn inputs_are_of_bytes<H: Host>(hosts: &[H])
     ensures { AllByRecursion (λ inputs. ForSome inputs AreOfBytes) (map H.inputs hosts.now) }
 {

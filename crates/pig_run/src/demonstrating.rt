@@ -25,7 +25,7 @@ use pig_words::{Command, Verb};
 use std::alloc::{AllocError, Global};
 use std::thread::Threads;
 
-/// The number of visits that a command asks for.
+// The number of visits that a command asks for.
 fn visits_of(command: &Command) -> u32
     requires { IsCount command.now.operand }
     ensures { result ≡ visits_of command.now }
@@ -36,7 +36,7 @@ fn visits_of(command: &Command) -> u32
     visits
 }
 
-/// The run of the demonstration's script, with the numbers of a command and no parameters.
+// The run of the demonstration's script, with the numbers of a command and no parameters.
 fn script_run(alloc: Global, command: &Command) -> Result<Command, AllocError>
     ensures { IfOk result (λ run. run ≡ script_run command.now) }
 {
@@ -51,7 +51,7 @@ fn script_run(alloc: Global, command: &Command) -> Result<Command, AllocError>
     })
 }
 
-/// What is answered of how the run ended badly.
+// What is answered of how the run ended badly.
 fn demo_fault(fault: &RunFault) -> RunFault
     ensures answer { Some result ≡ demo_answer (Some fault.now) }
     ensures kind { IsDemoFault result }
@@ -67,7 +67,7 @@ fn demo_fault(fault: &RunFault) -> RunFault
     }
 }
 
-/// The text of what the run has stored, and of its numbers.
+// The text of what the run has stored, and of its numbers.
 fn print_top(alloc: Global, depot: &OwnDepot, progress: &Progress) -> Result<Blob, RunFault>
     ensures { MatchResult result
         (λ text. text ≡ demo_text (depot_shelf depot.now) (counts_in progress.now) None)
@@ -77,7 +77,7 @@ fn print_top(alloc: Global, depot: &OwnDepot, progress: &Progress) -> Result<Blo
     Ok(Blob::from_vec(text))
 }
 
-/// Runs the script of the demonstration over devices of its own, and answers the text of what it stored.
+// Runs the script of the demonstration over devices of its own, and answers the text of what it stored.
 pub fn demonstrate<R: Threads + Sync>(
     rt: &R,
     alloc: Global,

@@ -44,7 +44,7 @@ fn stages_fault(fault: StagesFault) -> RunFault
     }
 }
 
-/// Runs the waves of stages on hosts.
+// Runs the waves of stages on hosts.
 fn run_waves<R: Threads + Sync, H: Host + Send>(
     rt: &R,
     alloc: Global,
@@ -76,7 +76,7 @@ fn run_waves<R: Threads + Sync, H: Host + Send>(
     }
 }
 
-/// That no STORE's delimiter is an LF, as its type says.
+// That no STORE's delimiter is an LF, as its type says.
 fn know_delimiters(stores: &[Store])
     ensures { AllByRecursion (λ store. store.delim ≢ 10) stores.now }
 {
@@ -85,7 +85,7 @@ fn know_delimiters(stores: &[Store])
     }
 }
 
-/// What the waves of stages give to store, for a checked plan whose ASSERTs have their messages. In `progress` stands how far they came, what was kept, and the numbers.
+// What the waves of stages give to store, for a checked plan whose ASSERTs have their messages. In `progress` stands how far they came, what was kept, and the numbers.
 pub fn find<R: Threads + Sync, H: Host + Send>(
     rt: &R,
     alloc: Global,
@@ -140,7 +140,7 @@ pub fn find<R: Threads + Sync, H: Host + Send>(
     }
 }
 
-/// The fault of an ASSERT that is not met, whose message is said behind its line.
+// The fault of an ASSERT that is not met, whose message is said behind its line.
 fn fail_assert(alloc: Global, plan: &Plan, statement: u32, progress: &mut Progress) -> RunFault
     ensures { HasFailedAssert (plan_of plan.now) statement progress.old progress.new result }
 {
@@ -154,7 +154,7 @@ fn fail_assert(alloc: Global, plan: &Plan, statement: u32, progress: &mut Progre
     }
 }
 
-/// What is said of an ASSERT behind its line.
+// What is said of an ASSERT behind its line.
 fn message_said(alloc: Global, plan: &Plan, statement: u32) -> Result<Vec<u8>, AllocError>
     ensures { IfOk result (λ text. text.items
         ≡ said (assert_message (plan_of plan.now) statement)) }

@@ -2,7 +2,7 @@ ghost use Rattle.std.specs.Prelude.{◌≤◌};
 
 use pig_value::Words;
 
-/// The words of a command line, of a program with so many hosts.
+// The words of a command line, of a program with so many hosts.
 #[derive(Drop)]
 pub struct CommandLine<'a> {
     pub words: &'a Words,

@@ -7,6 +7,7 @@ ghost use Rattle.pig_reach.specs.Reach.{live_paths, stores_of};
 ghost use Rattle.pig_words.specs.CommandWords.{IsCommand};
 ghost use Rattle.pig_words.specs.declared.words.Command.{Command};
 ghost use Rattle.pig_run.specs.Due.{CommandDue, HasWords, InputsDue, OutputsDue, ScriptDue, SizeDue, TasksDue, call, given_by};
+ghost use Rattle.pig_run.specs.Limits.{most_input};
 ghost use Rattle.pig_run.specs.Looking.{HasSize, IsAbsentIn, IsPrepared, IsReady, LooksForInput, LooksForOutput, LooksForScript, LooksForSize, line_given, total_of};
 ghost use Rattle.pig_run.specs.Orderly.{AsksAll, AsksSome, LooksUp};
 ghost use Rattle.pig_run.specs.Reading.{IsOfScript};
@@ -28,10 +29,10 @@ use pig_value::{Lengths, Text, WordFault};
 use pig_words::{Command, read_words};
 use std::alloc::Global;
 
-/// The limit on the inputs that a run reads, in bytes.
+// The limit on the inputs that a run reads, in bytes.
 const MOST_INPUT: u64 = 67_108_864;
 
-/// The fault that an error of the depot is, in the commit of that STORE or before.
+// The fault that an error of the depot is, in the commit of that STORE or before.
 pub fn depot_fault(error: OutsideError, store: Option<u32>) -> RunFault
     ensures { result ≡ depot_fault_of error store }
 {
@@ -41,7 +42,7 @@ pub fn depot_fault(error: OutsideError, store: Option<u32>) -> RunFault
     }
 }
 
-/// The command that the words are.
+// The command that the words are.
 pub fn read_command(alloc: Global, line: &CommandLine) -> Result<Command, RunFault>
     ensures found { IfOk result (λ command. IsCommand line.now.hosts line.now.words.now command) }
     ensures usage { IfErr result (λ f. ((f ≡ fault.Usage) × (¬ HasWords (line_given line.now)))
@@ -54,7 +55,7 @@ pub fn read_command(alloc: Global, line: &CommandLine) -> Result<Command, RunFau
     }
 }
 
-/// The bytes of the script at a path, or more than the limit of them where it is longer.
+// The bytes of the script at a path, or more than the limit of them where it is longer.
 fn script_bytes<D: Depot>(alloc: Global, depot: &mut D, path: &str) -> Result<Vec<u8>, RunFault>
     ensures told { ForSome (D.shelf depot.old) (λ s. LooksForScript path.now s
         (λ bytes. bytes.items) result) }
@@ -73,7 +74,7 @@ fn script_bytes<D: Depot>(alloc: Global, depot: &mut D, path: &str) -> Result<Ve
     }
 }
 
-/// The plan of the script that a command names.
+// The plan of the script that a command names.
 pub fn load_script<D: Depot>(
     alloc: Global,
     depot: &mut D,
@@ -96,7 +97,7 @@ pub fn load_script<D: Depot>(
     read_script(alloc, script.as_slice(), &command.params)
 }
 
-/// The lengths of the pieces of the input at a path.
+// The lengths of the pieces of the input at a path.
 fn find_input<D: Depot>(alloc: Global, depot: &mut D, path: &Text) -> Result<Lengths, RunFault>
     ensures told { ForSome (D.shelf depot.old) (λ s. LooksForInput path.now s result) }
     ensures fault { IfErr result IsPlanFault }
@@ -115,7 +116,7 @@ fn find_input<D: Depot>(alloc: Global, depot: &mut D, path: &Text) -> Result<Len
     }
 }
 
-/// Adds the size of the input at a path.
+// Adds the size of the input at a path.
 fn add_size<D: Depot>(
     alloc: Global,
     depot: &mut D,
@@ -139,7 +140,7 @@ fn add_size<D: Depot>(
     Ok(())
 }
 
-/// The inputs of a plan, each path once, in the order of the statements.
+// The inputs of a plan, each path once, in the order of the statements.
 fn find_inputs<D: Depot>(alloc: Global, depot: &mut D, plan: &Plan) -> Result<Sizes, RunFault>
     ensures told { ForSome (D.shelf depot.old) (λ s. (command : Command)
         → Step (InputsDue command s (plan_of plan.now))
@@ -164,7 +165,7 @@ fn find_inputs<D: Depot>(alloc: Global, depot: &mut D, plan: &Plan) -> Result<Si
     Ok(sizes)
 }
 
-/// The sum of lengths, as far as it can be counted.
+// The sum of lengths, as far as it can be counted.
 fn length_sum(lengths: &Lengths) -> u64
     ensures { result ≡ min (sum_by (λ n. n) lengths.now) (2 ^ 64 - 1) }
 {
@@ -177,7 +178,7 @@ fn length_sum(lengths: &Lengths) -> u64
     sum
 }
 
-/// The sum of the lengths of inputs, as far as it can be counted.
+// The sum of the lengths of inputs, as far as it can be counted.
 fn size_sum(sizes: &Sizes) -> u64
     ensures { result ≡ min (total_of sizes.now) (2 ^ 64 - 1) }
 {
@@ -190,10 +191,10 @@ fn size_sum(sizes: &Sizes) -> u64
     sum
 }
 
-/// Refuses inputs that are too large in all.
+// Refuses inputs that are too large in all.
 fn check_size(sizes: &Sizes) -> Result<(), RunFault>
-    ensures { MatchResult result (λ _. total_of sizes.now ≤ 2 ^ 26)
-        (λ f. (f ≡ fault.TooLarge large.Input) × (2 ^ 26 < total_of sizes.now)) }
+    ensures { MatchResult result (λ _. total_of sizes.now ≤ most_input)
+        (λ f. (f ≡ fault.TooLarge large.Input) × (most_input < total_of sizes.now)) }
 {
     if size_sum(sizes) > MOST_INPUT {
         return Err(RunFault::TooLarge {
@@ -203,7 +204,7 @@ fn check_size(sizes: &Sizes) -> Result<(), RunFault>
     Ok(())
 }
 
-/// Refuses an output that is there.
+// Refuses an output that is there.
 fn check_output<D: Depot>(alloc: Global, depot: &mut D, dir: &Text) -> Result<(), RunFault>
     ensures told { ForSome (D.shelf depot.old) (λ s. LooksForOutput dir.now s result) }
     ensures fault { IfErr result IsPlanFault }
@@ -222,7 +223,7 @@ fn check_output<D: Depot>(alloc: Global, depot: &mut D, dir: &Text) -> Result<()
     }
 }
 
-/// Refuses the first output that is there.
+// Refuses the first output that is there.
 fn check_outputs<D: Depot>(alloc: Global, depot: &mut D, stores: &Stores) -> Result<(), RunFault>
     ensures told { ForSome (D.shelf depot.old) (λ s. (command : Command) (plan : List PlanNode)
         → stores.now ≡ stores_of plan → Step (OutputsDue command s plan)
@@ -243,8 +244,8 @@ fn check_outputs<D: Depot>(alloc: Global, depot: &mut D, stores: &Stores) -> Res
     Ok(())
 }
 
-/// A plan that may be cut into tasks: the checked plan, and that which it was rewritten to. Its inputs are there, and the
-/// directories of its STOREs are not.
+// A plan that may be cut into tasks: the checked plan, and that which it was rewritten to. Its inputs are there, and the
+// directories of its STOREs are not.
 #[derive(Drop)]
 pub struct Prepared {
     pub checked: Plan,
@@ -253,7 +254,7 @@ pub struct Prepared {
     pub stores: Stores,
 }
 
-/// A checked plan as what it is rewritten to.
+// A checked plan as what it is rewritten to.
 fn rewritten(alloc: Global, checked: Plan, sizes: Sizes) -> Result<Prepared, RunFault>
     requires of_script { IsOfScript (plan_of checked) }
     requires paths { map (λ size. size.path) sizes ≡ live_paths (plan_of checked) }
@@ -274,7 +275,7 @@ fn rewritten(alloc: Global, checked: Plan, sizes: Sizes) -> Result<Prepared, Run
     })
 }
 
-/// What is to be cut of a plan, where nothing stands in its way.
+// What is to be cut of a plan, where nothing stands in its way.
 pub fn prepare<D: Depot>(alloc: Global, depot: &mut D, plan: Plan) -> Result<Prepared, RunFault>
     requires of_script { IsOfScript (plan_of plan) }
     ensures told { ForSome (D.shelf depot.old) (λ s. (command : Command)

@@ -7,74 +7,54 @@ use pig_driver::JobEnds;
 use pig_typing::CheckKind;
 use pig_value::{KeptList, Text};
 use std::alloc::{AllocError, AllocFailed};
-use thiserror::Error;
 
 /// Why a run did not end well.
-#[derive(Debug, Drop, Error)]
+#[derive(Debug, Drop)]
 pub enum RunFault {
     /// The words are no command: `run`, `explain` or `check` and the path of one script, or `demo` and a number, and options.
-    #[error("usage")]
     Usage,
     /// The depot has no such script.
-    #[error("no script")]
     NoScript,
     /// At this offset of the script as it was read, the first such, a name has no value, or a `%declare` or `%default`
     /// begins that isn't whole.
-    #[error("offset {offset}: parameter")]
     Param { offset: u64 },
     /// At this offset of the script with the values of parameters in it, the first such, no token begins.
-    #[error("offset {offset}: no token")]
     Lex { offset: u64 },
     /// The statement of this number, counted from 1, is the first that is off the grammar.
-    #[error("statement {statement}: syntax")]
     Syntax { statement: u32 },
     /// The statement of this number is the first without a typing, and the condition of this kind holds there.
-    #[error("statement {statement}: {kind:?}")]
     Check { statement: u32, kind: CheckKind },
     /// The depot has no input at the path of a LOAD that a STORE reaches, the first such.
-    #[error("no input")]
     NoInput { path: Text },
     /// The depot has the directory of a STORE already, of the first such.
-    #[error("output exists")]
     OutputExists { dir: Text },
     /// The depot failed, and has counted it; `store` is the number of the STORE whose directory was being
     /// made, from 1, and none before.
-    #[error("storage failed")]
     DepotFault { store: Option<u32> },
     /// A wave failed: this task has failed so often, as the hosts have counted, and a task has no winner.
-    #[error("wave {wave} task {task} failed {failed} times")]
     TaskFailed { wave: u32, task: u32, failed: u32 },
     /// The ASSERT of the statement of this number is the first that is not met.
-    #[error("statement {statement}: assert failed")]
     AssertFailed { statement: u32 },
     /// Memory was wanting.
-    #[error("out of memory")]
     OutOfMemory,
     /// The console failed at the text of a run that stored all, and has counted it.
-    #[error("the console failed")]
     ConsoleFault,
     /// A counted size passes its limit.
-    #[error("too large: {which}")]
     TooLarge { which: TooLarge },
 }
 
 /// What passes its limit.
-#[derive(Debug, Clone, Copy, PartialEq, Eq, Drop, Error)]
+#[derive(Debug, Clone, Copy, PartialEq, Eq, Drop)]
 pub enum TooLarge {
     /// The script has more than 1,048,576 bytes, as it was read or with the values of parameters in it.
-    #[error("script")]
     Script,
     /// The script has more than 4,096 statements, empty ones included.
-    #[error("statements")]
     Statements,
     /// More than 64 brackets are open at a token of a statement.
-    #[error("depth")]
     Depth,
     /// The inputs that a STORE reaches have more than 67,108,864 bytes in all.
-    #[error("input")]
     Input,
     /// A wave of the plan has more than 65,536 tasks that read, and ways to them.
-    #[error("tasks")]
     Tasks,
 }
 

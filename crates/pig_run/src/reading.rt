@@ -4,6 +4,7 @@ ghost use Rattle.pig_parser.specs.Parsing.{IsShallow};
 ghost use Rattle.pig_syntax.specs.Formed.{StmtFormed};
 ghost use Rattle.pig_syntax.specs.Tokens.{HoldsNoLf};
 ghost use Rattle.pig_plan.specs.Plans.{plan_of};
+ghost use Rattle.pig_run.specs.Limits.{most_script, most_statements};
 ghost use Rattle.pig_run.specs.Reading.{IsChecked, IsParsed, IsMeasured, IsLexed, IsFilled, IsFound, IsOfScript};
 ghost use Rattle.pig_params.specs.Given.{named_of};
 ghost use Rattle.pig_run.specs.Steps.{IsReadFault, TellsPlan};
@@ -19,23 +20,23 @@ use pig_syntax::{
 };
 use std::alloc::Global;
 
-/// The limit on the length of a script, in bytes.
+// The limit on the length of a script, in bytes.
 pub const MOST_SCRIPT: u64 = 1_048_576;
 
-/// The limit on the number of its statements.
+// The limit on the number of its statements.
 const MOST_STATEMENTS: usize = 4096;
 
-/// The limit on the number of brackets that are open at once.
+// The limit on the number of brackets that are open at once.
 const MOST_DEPTH: u32 = 64;
 
-/// The plan of a script, and the number of its statements.
+// The plan of a script, and the number of its statements.
 #[derive(Drop)]
 pub struct Checked {
     pub plan: Plan,
     pub statements: u64,
 }
 
-/// The plan of trees.
+// The plan of trees.
 fn plan_of_trees(alloc: Global, statements: &Stmts) -> Result<Checked, RunFault>
     requires { All StmtFormed statements.now }
     ensures told { TellsPlan (IsChecked statements.now) result }
@@ -54,11 +55,11 @@ fn plan_of_trees(alloc: Global, statements: &Stmts) -> Result<Checked, RunFault>
     }
 }
 
-/// The plan of the trees of statements.
+// The plan of the trees of statements.
 fn plan_of_statements(alloc: Global, tokens: &Tokens, pieces: &Pieces) -> Result<Checked, RunFault>
     requires statements { AreStatements tokens.now pieces.now }
     requires few { length tokens.now < 2 ^ 32 }
-    requires few_statements { length pieces.now ≤ 4096 }
+    requires few_statements { length pieces.now ≤ most_statements }
     requires texts { All (λ token. HoldsNoLf token.form) tokens.now }
     requires shallow { All (IsShallow tokens.now) pieces.now }
     ensures told { TellsPlan (IsParsed tokens.now pieces.now) result }
@@ -72,7 +73,7 @@ fn plan_of_statements(alloc: Global, tokens: &Tokens, pieces: &Pieces) -> Result
     }
 }
 
-/// Whether the brackets of a statement nest at most 64 deep.
+// Whether the brackets of a statement nest at most 64 deep.
 fn is_shallow(tokens: &Tokens, piece: &Piece) -> bool
     requires within { IsWithin tokens.now piece.now }
     requires few { length tokens.now < 2 ^ 32 }
@@ -81,7 +82,7 @@ fn is_shallow(tokens: &Tokens, piece: &Piece) -> bool
     depth(tokens, piece) <= MOST_DEPTH
 }
 
-/// Whether the brackets of each statement nest at most 64 deep.
+// Whether the brackets of each statement nest at most 64 deep.
 fn are_shallow(tokens: &Tokens, pieces: &Pieces) -> bool
     requires statements { AreStatements tokens.now pieces.now }
     requires few { length tokens.now < 2 ^ 32 }
@@ -98,7 +99,7 @@ fn are_shallow(tokens: &Tokens, pieces: &Pieces) -> bool
     true
 }
 
-/// The plan of the statements, where there are not too many and none nests too deep.
+// The plan of the statements, where there are not too many and none nests too deep.
 fn plan_of_pieces(alloc: Global, tokens: &Tokens, pieces: &Pieces) -> Result<Checked, RunFault>
     requires statements { AreStatements tokens.now pieces.now }
     requires few { length tokens.now < 2 ^ 32 }
@@ -120,9 +121,9 @@ fn plan_of_pieces(alloc: Global, tokens: &Tokens, pieces: &Pieces) -> Result<Che
     plan_of_statements(alloc, tokens, pieces)
 }
 
-/// The plan of the tokens of a script.
+// The plan of the tokens of a script.
 fn plan_of_script(alloc: Global, script: &[u8]) -> Result<Checked, RunFault>
-    requires { length script.now ≤ 2 ^ 20 }
+    requires { length script.now ≤ most_script }
     ensures told { TellsPlan (IsLexed script.now) result }
     ensures of_script { IfOk result (λ c. IsOfScript (plan_of c.plan)) }
     ensures fault { IfErr result IsReadFault }
@@ -138,7 +139,7 @@ fn plan_of_script(alloc: Global, script: &[u8]) -> Result<Checked, RunFault>
     }
 }
 
-/// The plan of a script with the values of parameters in it.
+// The plan of a script with the values of parameters in it.
 fn plan_of_filled(alloc: Global, script: &[u8], params: &Params) -> Result<Checked, RunFault>
     ensures told { TellsPlan (IsFilled (map named_of params.now) script.now) result }
     ensures of_script { IfOk result (λ c. IsOfScript (plan_of c.plan)) }
@@ -154,7 +155,7 @@ fn plan_of_filled(alloc: Global, script: &[u8], params: &Params) -> Result<Check
     }
 }
 
-/// The plan of a script with these parameters, or the first refusal that it meets.
+// The plan of a script with these parameters, or the first refusal that it meets.
 pub fn read_script(alloc: Global, script: &[u8], params: &Params) -> Result<Checked, RunFault>
     ensures told { TellsPlan (IsFound (map named_of params.now) script.now) result }
     ensures of_script { IfOk result (λ c. IsOfScript (plan_of c.plan)) }

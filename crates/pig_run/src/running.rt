@@ -38,7 +38,7 @@ use pig_words::{Command, Verb};
 use std::alloc::Global;
 use std::thread::Threads;
 
-/// The number of lines of all directories, modulo 2 to the 64.
+// The number of lines of all directories, modulo 2 to the 64.
 fn line_sum(notes: &Notes) -> u64
     ensures { result ≡ sum_by (λ note. note.lines) notes.now % 2 ^ 64 }
 {
@@ -51,7 +51,7 @@ fn line_sum(notes: &Notes) -> u64
     sum
 }
 
-/// The numbers of a run that has come to its end.
+// The numbers of a run that has come to its end.
 pub fn counts_of(progress: &Progress) -> Counts
     ensures { result ≡ counts_in progress.now }
 {
@@ -62,7 +62,7 @@ pub fn counts_of(progress: &Progress) -> Counts
     }
 }
 
-/// Runs stages, stores what they give, and answers the text of what was done.
+// Runs stages, stores what they give, and answers the text of what was done.
 fn carry_out<R: Threads + Sync, D: Depot, H: Host + Send>(
     rt: &R,
     alloc: Global,
@@ -116,7 +116,7 @@ fn carry_out<R: Threads + Sync, D: Depot, H: Host + Send>(
     Ok(Blob::from_vec(text))
 }
 
-/// The stages that a plan is cut into, where no wave has too many tasks.
+// The stages that a plan is cut into, where no wave has too many tasks.
 fn cut<'p>(alloc: Global, command: &Command, prepared: &'p Prepared) -> Result<Stages<'p>, RunFault>
     requires { 0 < command.now.split }
     ensures stages { IfOk result (λ stages. stages ≡ cut_of prepared.now.plan prepared.now.sizes
@@ -143,7 +143,7 @@ fn cut<'p>(alloc: Global, command: &Command, prepared: &'p Prepared) -> Result<S
     }
 }
 
-/// Cuts a plan into tasks, runs these, and stores what they give.
+// Cuts a plan into tasks, runs these, and stores what they give.
 fn perform<R: Threads + Sync, D: Depot, H: Host + Send>(
     rt: &R,
     alloc: Global,
@@ -176,7 +176,7 @@ fn perform<R: Threads + Sync, D: Depot, H: Host + Send>(
     carry_out(rt, alloc, depot, hosts, prepared, &stages, limit, progress)
 }
 
-/// Looks for what stands in the way of a plan, and runs it.
+// Looks for what stands in the way of a plan, and runs it.
 fn run_plan<R: Threads + Sync, D: Depot, H: Host + Send>(
     rt: &R,
     alloc: Global,
@@ -207,7 +207,7 @@ fn run_plan<R: Threads + Sync, D: Depot, H: Host + Send>(
     perform(rt, alloc, depot, hosts, command, &prepared, progress)
 }
 
-/// Runs a plan on the first hosts, as many as the command says.
+// Runs a plan on the first hosts, as many as the command says.
 fn run_on_crew<R: Threads + Sync, D: Depot, H: Host + Send>(
     rt: &R,
     alloc: Global,
@@ -238,7 +238,7 @@ fn run_on_crew<R: Threads + Sync, D: Depot, H: Host + Send>(
     run_plan(rt, alloc, depot, crew, command, plan, progress)
 }
 
-/// The text of a script that was checked, of so many statements.
+// The text of a script that was checked, of so many statements.
 fn print_check(alloc: Global, statements: u64) -> Result<Blob, RunFault>
     ensures { MatchResult result (λ text. text ≡ ok_text statements) (λ f. f ≡ fault.OutOfMemory) }
 {
@@ -246,7 +246,7 @@ fn print_check(alloc: Global, statements: u64) -> Result<Blob, RunFault>
     Ok(Blob::from_vec(text))
 }
 
-/// The text of a plan as it was checked and as it was rewritten, and of its waves.
+// The text of a plan as it was checked and as it was rewritten, and of its waves.
 fn print_explain(alloc: Global, plan: &Plan) -> Result<Blob, RunFault>
     requires of_script { IsOfScript (plan_of plan.now) }
     ensures { MatchResult result
@@ -260,14 +260,14 @@ fn print_explain(alloc: Global, plan: &Plan) -> Result<Blob, RunFault>
     Ok(Blob::from_vec(text))
 }
 
-/// A command, and the script that it names, which was checked.
+// A command, and the script that it names, which was checked.
 #[derive(Drop)]
 struct Request {
     command: Command,
     checked: Checked,
 }
 
-/// Does with a script that was checked what the command says.
+// Does with a script that was checked what the command says.
 fn obey<R: Threads + Sync, D: Depot, H: Host + Send>(
     rt: &R,
     alloc: Global,
@@ -305,7 +305,7 @@ fn obey<R: Threads + Sync, D: Depot, H: Host + Send>(
     }
 }
 
-/// Reads the script that a command names, and does with it what the command says.
+// Reads the script that a command names, and does with it what the command says.
 pub fn run_script<R: Threads + Sync, D: Depot, H: Host + Send>(
     rt: &R,
     alloc: Global,

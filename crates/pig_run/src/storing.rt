@@ -14,8 +14,8 @@ use pig_commit::{CommitFault, StorePart, StoreParts, commit_stores};
 use pig_outside::Depot;
 use std::alloc::{AllocError, Global};
 
-/// The directories that are to be made, each with the number of its lines. Parts that 32 bits don't count are answered as want of
-/// memory; no wave has so many tasks.
+// The directories that are to be made, each with the number of its lines. Parts that 32 bits don't count are answered as want of
+// memory; no wave has so many tasks.
 pub fn note_all(alloc: Global, parts: &StoreParts) -> Result<Notes, AllocError>
     ensures notes { IfOk result (λ notes. notes ≡ map note_of parts.now) }
     ensures few { IfOk result (λ _. AllByRecursion HasFewParts parts.now) }
@@ -52,7 +52,7 @@ fn commit_fault(fault: CommitFault) -> RunFault
     }
 }
 
-/// Makes the directory of each STORE in turn, and marks it.
+// Makes the directory of each STORE in turn, and marks it.
 pub fn store_all<D: Depot>(depot: &mut D, parts: &StoreParts) -> Result<(), RunFault>
     requires absent { ForSome (D.shelf depot.old) (AreAbsent parts.now) }
     requires apart { AreApart parts.now }

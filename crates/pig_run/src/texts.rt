@@ -15,7 +15,7 @@ use pig_typing::CheckKind;
 use pig_value::{Blob, Text};
 use std::alloc::{AllocError, Global};
 
-/// The parts of a line, joined, with an LF behind them.
+// The parts of a line, joined, with an LF behind them.
 fn line_of_parts(
     alloc: Global,
     first: &[u8],
@@ -34,7 +34,7 @@ fn line_of_parts(
     Ok(line)
 }
 
-/// A line of a number between two parts.
+// A line of a number between two parts.
 fn number_line(
     alloc: Global,
     before: &[u8],
@@ -49,7 +49,7 @@ fn number_line(
     line_of_parts(alloc, before, buffer.format(number).as_bytes(), behind, end)
 }
 
-/// The name of a kind of refusal.
+// The name of a kind of refusal.
 fn kind_name(kind: CheckKind) -> &'static str
     ensures { result.now ≡ kind_name kind }
 {
@@ -73,7 +73,7 @@ fn kind_name(kind: CheckKind) -> &'static str
     }
 }
 
-/// The name of what is too large.
+// The name of what is too large.
 fn large_name(which: TooLarge) -> &'static str
     ensures { result.now ≡ large_name which }
 {
@@ -86,7 +86,7 @@ fn large_name(which: TooLarge) -> &'static str
     }
 }
 
-/// A line of one part, or of two.
+// A line of one part, or of two.
 fn line_of(alloc: Global, first: &[u8], second: &[u8]) -> Result<Vec<u8>, AllocError>
     ensures { IfOk result (λ line. line.items ≡ first.now ++ second.now ++ 10 ∷ []) }
 {
@@ -96,7 +96,7 @@ fn line_of(alloc: Global, first: &[u8], second: &[u8]) -> Result<Vec<u8>, AllocE
 const USAGE: &str = "usage: pig run|explain|check SCRIPT | demo N \
     [--workers N] [--reducers N] [--split BYTES] [--attempts N]";
 
-/// The text of a fault, with what is said behind its line.
+// The text of a fault, with what is said behind its line.
 pub fn fault_bytes(alloc: Global, fault: &RunFault, said: &[u8]) -> Result<Vec<u8>, AllocError>
     ensures { IfOk result (λ text. text.items ≡ fault_text said.now fault.now) }
 {
@@ -139,14 +139,14 @@ pub fn fault_bytes(alloc: Global, fault: &RunFault, said: &[u8]) -> Result<Vec<u
     }
 }
 
-/// A line that ends with a path.
+// A line that ends with a path.
 fn path_line(alloc: Global, first: &[u8], path: &Text, said: &[u8]) -> Result<Vec<u8>, AllocError>
     ensures { IfOk result (λ line. line.items ≡ (first.now ++ path.now) ++ said.now ++ 10 ∷ []) }
 {
     line_of_parts(alloc, first, path.as_bytes(), said, b"")
 }
 
-/// The text of a statement without a typing.
+// The text of a statement without a typing.
 fn check_bytes(
     alloc: Global,
     statement: u32,
@@ -167,7 +167,7 @@ fn check_bytes(
     Ok(line)
 }
 
-/// The text of a task that failed.
+// The text of a task that failed.
 fn task_bytes(
     alloc: Global,
     wave: u32,
@@ -190,7 +190,7 @@ fn task_bytes(
     Ok(line)
 }
 
-/// Adds a number.
+// Adds a number.
 fn add_digits(out: &mut Vec<u8>, number: u32) -> Result<(), AllocError>
     ensures { OnOk result (out.new.items ≡ out.old.items ++ decimal number) }
 {
@@ -199,7 +199,7 @@ fn add_digits(out: &mut Vec<u8>, number: u32) -> Result<(), AllocError>
     Ok(())
 }
 
-/// The text of a depot's fault.
+// The text of a depot's fault.
 fn depot_bytes(alloc: Global, store: Option<u32>, said: &[u8]) -> Result<Vec<u8>, AllocError>
     ensures { IfOk result (λ text. text.items ≡ fault_text said.now (fault.DepotFault store)) }
 {
@@ -218,14 +218,14 @@ fn depot_bytes(alloc: Global, store: Option<u32>, said: &[u8]) -> Result<Vec<u8>
     }
 }
 
-/// The text of a script that was checked, of so many statements.
+// The text of a script that was checked, of so many statements.
 pub fn ok_bytes(alloc: Global, statements: u64) -> Result<Vec<u8>, AllocError>
     ensures { IfOk result (λ text. text.items ≡ ok_text statements) }
 {
     number_line(alloc, b"ok ", statements, b"", b"")
 }
 
-/// Adds a part, a number and the byte behind it.
+// Adds a part, a number and the byte behind it.
 fn add_number(out: &mut Vec<u8>, before: &[u8], number: u64, behind: u8) -> Result<(), AllocError>
     ensures { OnOk result (out.new.items
         ≡ out.old.items ++ before.now ++ decimal number ++ behind ∷ []) }
@@ -237,7 +237,7 @@ fn add_number(out: &mut Vec<u8>, before: &[u8], number: u64, behind: u8) -> Resu
     Ok(())
 }
 
-/// Adds the line of a STORE.
+// Adds the line of a STORE.
 fn add_stored(out: &mut Vec<u8>, dir: &[u8], lines: u64) -> Result<(), AllocError>
     ensures { OnOk result (out.new.items ≡ out.old.items ++ stored_line dir.now lines) }
 {
@@ -246,7 +246,7 @@ fn add_stored(out: &mut Vec<u8>, dir: &[u8], lines: u64) -> Result<(), AllocErro
     add_number(out, b" ", lines, 10)
 }
 
-/// Adds the last line of a run.
+// Adds the last line of a run.
 fn add_done(out: &mut Vec<u8>, counts: &Counts) -> Result<(), AllocError>
     ensures { OnOk result (out.new.items ≡ out.old.items ++ done_line counts.now) }
 {
@@ -255,7 +255,7 @@ fn add_done(out: &mut Vec<u8>, counts: &Counts) -> Result<(), AllocError>
     add_number(out, b"", counts.stored, 10)
 }
 
-/// The text of a run that made these directories.
+// The text of a run that made these directories.
 pub fn done_bytes(alloc: Global, notes: &Notes, counts: &Counts) -> Result<Vec<u8>, AllocError>
     ensures { IfOk result (λ text. text.items
         ≡ flat_map noted_line notes.now ++ done_line counts.now) }
@@ -270,7 +270,7 @@ pub fn done_bytes(alloc: Global, notes: &Notes, counts: &Counts) -> Result<Vec<u
     Ok(out)
 }
 
-/// Adds parts, one after the other.
+// Adds parts, one after the other.
 fn add_parts(out: &mut Vec<u8>, parts: &[Blob]) -> Result<(), AllocError>
     ensures { OnOk result (out.new.items ≡ out.old.items ++ joined parts.now) }
 {
@@ -282,7 +282,7 @@ fn add_parts(out: &mut Vec<u8>, parts: &[Blob]) -> Result<(), AllocError>
     Ok(())
 }
 
-/// The text of what stands in a directory, if it is there, and of numbers.
+// The text of what stands in a directory, if it is there, and of numbers.
 pub fn top_bytes(
     alloc: Global,
     top: Option<&DirState>,

@@ -25,10 +25,10 @@ use pig_value::{Blob, KeptList, Words};
 use std::alloc::Global;
 use std::thread::Threads;
 
-/// The text of want of memory, which takes none.
+// The text of want of memory, which takes none.
 const NO_MEMORY: &str = "pig: out of memory\n";
 
-/// Prints the text of what was found, and answers what it then is.
+// Prints the text of what was found, and answers what it then is.
 fn show<C: Console>(console: &mut C, text: &[u8], found: Option<RunFault>) -> Option<RunFault>
     ensures shown { Shown text.now
         (record { text = C.text console.old; faults = C.faults console.old })
@@ -42,7 +42,7 @@ fn show<C: Console>(console: &mut C, text: &[u8], found: Option<RunFault>) -> Op
     }
 }
 
-/// The answer where the console failed.
+// The answer where the console failed.
 fn unshown(found: Option<RunFault>) -> RunFault
     ensures { result ≡ unshown found }
 {
@@ -52,7 +52,7 @@ fn unshown(found: Option<RunFault>) -> RunFault
     }
 }
 
-/// Prints the text of a fault, with what is said behind its line, and answers what it then is.
+// Prints the text of a fault, with what is said behind its line, and answers what it then is.
 fn show_fault<C: Console>(
     alloc: Global,
     console: &mut C,
@@ -70,7 +70,7 @@ fn show_fault<C: Console>(
     }
 }
 
-/// Prints the text of how a run ended, and answers what it then is.
+// Prints the text of how a run ended, and answers what it then is.
 fn show_end<C: Console>(
     alloc: Global,
     console: &mut C,
@@ -89,7 +89,7 @@ fn show_end<C: Console>(
     }
 }
 
-/// The exit status of an answer.
+// The exit status of an answer.
 fn status(fault: &Option<RunFault>) -> u8
     ensures { result ≡ status_of fault.now }
 {
@@ -99,7 +99,7 @@ fn status(fault: &Option<RunFault>) -> u8
     }
 }
 
-/// The numbers of an answer, by those of the run.
+// The numbers of an answer, by those of the run.
 fn counts_shown(fault: &Option<RunFault>, counts: Counts) -> Counts
     ensures { result ≡ counts_shown fault.now counts }
 {
@@ -109,7 +109,7 @@ fn counts_shown(fault: &Option<RunFault>, counts: Counts) -> Counts
     }
 }
 
-/// Whether a run ended with an ASSERT that is not met.
+// Whether a run ended with an ASSERT that is not met.
 fn is_unmet(end: &Result<Blob, RunFault>) -> bool
     ensures { result ≡ is_unmet (found_in end.now) }
 {
@@ -119,7 +119,7 @@ fn is_unmet(end: &Result<Blob, RunFault>) -> bool
     }
 }
 
-/// Whether memory was wanting.
+// Whether memory was wanting.
 fn is_wanting(fault: &Option<RunFault>) -> bool
     ensures { result ≡ is_wanting fault.now }
 {
@@ -129,14 +129,14 @@ fn is_wanting(fault: &Option<RunFault>) -> bool
     }
 }
 
-/// Whether memory was wanting for saying which ASSERT is not met.
+// Whether memory was wanting for saying which ASSERT is not met.
 fn is_hidden(unmet: bool, fault: &Option<RunFault>) -> bool
     ensures { result ≡ (unmet && is_wanting fault.now) }
 {
     unmet && is_wanting(fault)
 }
 
-/// What the bare LIMITs kept, where it stands and is not hidden.
+// What the bare LIMITs kept, where it stands and is not hidden.
 fn kept_shown(alloc: Global, hidden: bool, stands: bool, kept: KeptList) -> KeptList
     ensures { result ≡ if hidden then [] else (if stands then kept else []) }
 {

@@ -15,15 +15,15 @@ use pig_typed::{SortKey, TExpr};
 use pig_value::{Text, Tuple, Value, copy, field_at};
 use std::alloc::{AllocError, Global};
 
-/// How rows come under their keys.
+// How rows come under their keys.
 pub enum Keying<'p> {
-    /// All under one key.
+    // All under one key.
     One(Value),
-    /// Each under the value of an expression, or under the tuple of several.
+    // Each under the value of an expression, or under the tuple of several.
     By(&'p [TExpr]),
-    /// Each under its fields to sort by.
+    // Each under its fields to sort by.
     Fields(&'p [SortKey]),
-    /// Each under itself.
+    // Each under itself.
     Row,
 }
 
@@ -37,8 +37,8 @@ impl Drop for Keying<'_> {
     }
 }
 
-/// How the rows of an operator's input come under their keys. Where the operator has none, all stand
-/// under null.
+// How the rows of an operator's input come under their keys. Where the operator has none, all stand
+// under null.
 pub fn keying_of<'p>(alloc: Global, op: &'p NodeOp, input: u32) -> Result<Keying<'p>, AllocError>
     ensures { IfOk result (λ keying. (row : List Tree) → key_by keying row
         ≡ key_at (op_of op.now) input row) }
@@ -77,7 +77,7 @@ fn keys_of_input<'p>(inputs: &'p [KeyedInput], input: u32) -> Keying<'p>
     }
 }
 
-/// Adds a row under its key, which is evaluated once.
+// Adds a row under its key, which is evaluated once.
 pub fn add_row(
     alloc: Global,
     keying: &Keying,

@@ -19,16 +19,16 @@ use pig_typed::{Block, SortKeys};
 use pig_value::Dirs;
 use std::alloc::{AllocError, Global};
 
-/// Where the parts of a key come from, of rows that are combined.
+// Where the parts of a key come from, of rows that are combined.
 #[derive(Drop)]
 pub enum Combining<'b> {
-    /// The row of a DISTINCT.
+    // The row of a DISTINCT.
     Row,
-    /// The block that a GROUP folds into.
+    // The block that a GROUP folds into.
     Block(&'b Block),
 }
 
-/// What is held of no rows of an operator's input, for so many partitions.
+// What is held of no rows of an operator's input, for so many partitions.
 pub fn parts_for(
     alloc: Global,
     op: &NodeOp,

@@ -15,8 +15,8 @@ use pig_runs::{KeysBuilder, RunBuilder, Runs, part_of, part_of_row};
 use pig_value::{Tuple, Value, copy_row};
 use std::alloc::{AllocError, Global};
 
-/// What is held of rows, by the partition of their keys: the rows; where they are combined a table;
-/// or the keys, where these are all that is handed on. All but one of the lists are empty.
+// What is held of rows, by the partition of their keys: the rows; where they are combined a table;
+// or the keys, where these are all that is handed on. All but one of the lists are empty.
 #[derive(Drop)]
 pub struct Parts {
     pub count: u32,
@@ -26,7 +26,7 @@ pub struct Parts {
 }
 
 impl Parts {
-    /// Adds a row under its key, in the partition of the key.
+    // Adds a row under its key, in the partition of the key.
     pub fn add(&mut self, key: &Value, input: u32, row: &Tuple) -> Result<(), AllocError>
         requires key { IsValue (tree key.now) }
         requires fits { FitsIn self.old.runs.items (tree key.now) }
@@ -45,7 +45,7 @@ impl Parts {
         add_to_keys(&mut self.keys, part, key)
     }
 
-    /// Adds a row under itself, in the partition of that key. Among keys it is not copied.
+    // Adds a row under itself, in the partition of that key. Among keys it is not copied.
     pub fn add_row(&mut self, alloc: Global, input: u32, row: &Tuple) -> Result<(), AllocError>
         requires fits { FitsIn self.old.runs.items (v_tuple (fields_of (row_tree row.now))) }
         requires row { IsRow (row_tree row.now) }
@@ -70,7 +70,7 @@ impl Parts {
         self.count > 0 && !self.keys.is_empty()
     }
 
-    /// The sorted runs of what is held. A refusal gives it up.
+    // The sorted runs of what is held. A refusal gives it up.
     pub fn finish(self, alloc: Global) -> Result<Runs, AllocError>
         ensures { (cuts : Option (List TypedCut)) (sorting : Option (List SortKey)) (n : ℕ)
             (entries : List Entry) → Hold cuts sorting n entries (held_in self)

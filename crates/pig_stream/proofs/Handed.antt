@@ -1,5 +1,5 @@
 -- What a window's bytes become as more are handed in and lines are given out.
-use Rattle.std.specs.Prelude.{◌≡◌, ◌<◌, ◌≤◌, ◌+◌, ◌-◌, ℕ, zero, suc, Bool, true, false, List, [], ◌∷◌, ◌++◌, length, take, drop, refl}
+use Rattle.std.specs.Prelude.{◌≡◌, ◌<◌, ◌≤◌, ◌+◌, ◌-◌, ℕ, Bool, true, false, List, [], ◌∷◌, ◌++◌, length, take, drop, refl}
 use Rattle.std.proofs.Common.{ap, sym, subst, ◌∙◌, arith, cond, inl, inr, append-nil, append_assoc, true≢false}
 use Rattle.std.proofs.lemmas.List.{drop-append-le, drop-drop, length-append, length-drop, take_all}
 use Rattle.std.specs.Str.Lines.{strip_carriage_return}
@@ -9,31 +9,18 @@ use Rattle.pig_value.specs.Lines.{lines_within}
 use Rattle.pig_value.specs.Trees.{Tree}
 use Rattle.pig_storage.specs.NextLine.{line_end}
 use Rattle.pig_stream.specs.declared.window.Found.{Found}
-use Rattle.pig_stream.specs.Ranges.{IsDry, Reading, bytes_left, first_byte, lf_in, lines_coming, rows_of_lines}
+use Rattle.pig_stream.specs.Ranges.{IsDry, Reading, bytes_left, lf_in, lines_coming, rows_of_lines}
 use Rattle.pig_stream.specs.Seeking.{IsFound}
 use Rattle.pig_stream.proofs.Ranged.{lf_from, lf_not_before, line_held, line_last, none_within, skip_found, skip_on}
 
 abbrev from_of : Bool → ℕ
 from_of skips = cond skips 1 0
 
--- ---- a range, before any byte
-
-pub from_the_first : (from to : ℕ) (bytes : List ℕ) → from ≡ 0 → lines_within 0 to (drop (first_byte from) bytes) ≡ lines_within from to bytes
-from_the_first zero to bytes is = refl
-from_the_first (suc n) to bytes is = absurd (omega (arith, is))
-
 -- ---- more bytes
 
 -- what stands behind a place
 pub rest_is : (xs seen : List ℕ) (n : ℕ) → seen ≡ xs → take (length seen - n) (drop n seen) ≡ drop n xs
 rest_is xs seen n is = take_all (length seen - n) (drop n seen) (let e = length-drop n seen in omega arith) ∙ ap (drop n) is
-
-pub held_more : (r : Reading) (block later : List ℕ) → r.ended ≡ false → r.skips ≡ false
-    → lines_coming (record { held = r.held ++ block; limit = r.limit; skips = false; ended = r.ended }) later ≡ lines_coming r (block ++ later)
-held_more r block later going told =
-    (λ i. lines_within 0 r.limit ((r.held ++ block) ++ cond (going i) [] later))
-    ∙ ap (lines_within 0 r.limit) (append_assoc r.held block later)
-    ∙ sym (λ i. lines_within (from_of (told i)) r.limit (r.held ++ cond (going i) [] (block ++ later)))
 
 pub skipped_to : (r : Reading) (block later : List ℕ) (at : ℕ) → r.ended ≡ false → r.skips ≡ true → r.held ≡ [] → at ≡ lf_in block → at < length block
     → lines_coming (record { held = drop (at + 1) block; limit = r.limit - (at + 1); skips = false; ended = r.ended }) later ≡ lines_coming r (block ++ later)

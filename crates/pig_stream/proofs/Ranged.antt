@@ -75,9 +75,6 @@ shifted n a b bs h = all_between (length bs) bs n a b (omega arith) h ∙ sym (l
 pub none_within : (a : ℕ) (bs : List ℕ) → lines_within a 0 bs ≡ []
 none_within a bs = ap (map (λ (l : ℕ × List ℕ). l.1)) (none_late a 0 0 (stored_lines bs) (omega arith))
 
-pub none_of_none : (a b : ℕ) → lines_within a b [] ≡ []
-none_of_none a b = refl
-
 abbrev behind : List ℕ → List ℕ
 behind bs = drop (lf_in bs + 1) bs
 
@@ -167,10 +164,6 @@ skip_on limit xs ys past = elim (cases_lt (length xs) limit) [
     ahead (suc n) place h =
         let none : suc n - (lf_in (xs ++ ys) + 1) ≡ 0 = omega (arith, place, h) in
         skipped (suc n) (xs ++ ys) (omega arith) ∙ ap (λ m. lines_within 0 m (behind (xs ++ ys))) none ∙ none_within 0 (behind (xs ++ ys))
-
--- no lines of no bytes; and a range that ends before the first line that is told
-pub skip_nothing : (limit : ℕ) → lines_within 1 limit [] ≡ []
-skip_nothing limit = refl
 
 -- ---- a range of a piece, of the bytes from the one before it on
 

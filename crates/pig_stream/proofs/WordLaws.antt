@@ -1,7 +1,7 @@
 -- The words of a text, and the blocks that make them.
 use Rattle.std.proofs.Common.{◌≡◌, ◌<◌, ◌≤◌, ◌+◌, ◌-◌, ℕ, List, [], ◌∷◌, length, take, drop, get_or, map, refl, sym, ap, ◌∙◌, subst, arith, true≢false}
-use Rattle.std.specs.Prelude.{◌==◌, true, false, Option, Some, nat_lt, slice_get, slice_range, slice_set, if◌then◌else◌}
-use Rattle.std.specs.List.{flat_map, position_or_len}
+use Rattle.std.specs.Prelude.{◌==◌, true, false, Option, Some, nat_lt, slice_get, slice_range, slice_set}
+use Rattle.std.specs.List.{position_or_len}
 use Rattle.std.specs.Option.{option_map}
 use Rattle.std.specs.Ordering.{ordering_then}
 use Rattle.std.specs.Str.{IsUtf8, IsCharBoundary}
@@ -16,17 +16,15 @@ use Rattle.std.proofs.lemmas.Str.{IsCharBoundary-before_ascii, IsCharBoundary-af
 use Rattle.pig_value.specs.Functions.{is_separator, text_in}
 use Rattle.pig_value.specs.Orders.{row_cmp, text_cmp}
 use Rattle.pig_value.specs.Trees.{at, or_null, tree, Tree, v_null, v_bool, v_int, v_long, v_chars, v_bytes, v_tuple, v_bag, v_listed, v_map}
-use Rattle.pig_value.specs.declared.functions.Function.TheVariants as f
 use Rattle.pig_value.specs.declared.values.Value.{Value}
 use Rattle.pig_value.proofs.TreeLaws.{at_map, tuples_back}
 use Rattle.pig_value.proofs.list_laws.Bags.{either_way}
 use Rattle.pig_typed.specs.declared.blocks.Block.{Block}
 use Rattle.pig_typed.specs.declared.blocks.BlockItem.{BlockItem}
-use Rattle.pig_typed.specs.Blocks.{flattened, foreach_all, item_lists, steps_values}
-use Rattle.pig_typed.specs.Evaluation.{ev}
+use Rattle.pig_typed.specs.Blocks.{item_lists, steps_values}
 use Rattle.pig_typed.specs.Products.{joined, product}
-use Rattle.pig_typed.specs.Typed.{block_typed, item_typed, step_typed, typed, TypedBlock, more_args, no_args, x_call, x_field}
-use Rattle.pig_stream.specs.WordRows.{MakesWords, pieces, rows_words, text_words, word_row, word_rows}
+use Rattle.pig_typed.specs.Typed.{block_typed, item_typed, step_typed}
+use Rattle.pig_stream.specs.WordRows.{MakesWords, pieces, text_words, word_row, word_rows}
 
 -- ---- blocks
 
@@ -45,12 +43,6 @@ makes_words block item n none one is row =
     (λ i. product (map (λ it. item_lists it row (steps_values (map step_typed (none i)) row [])) (map item_typed (one i))))
     ∙ before_none (item_lists (item_typed item) row [])
     ∙ is row
-
-pub item_words : (item : BlockItem) (n : ℕ) → item.flatten ≡ true → item.width ≡ 1 → typed item.value ≡ x_call f.Tokenize (more_args (x_field n) no_args) → (row : List Tree) → item_lists (item_typed item) row [] ≡ word_rows (at n row)
-item_words item n flat one is row = λ i. if flat i then flattened (one i) (ev (is i) row []) else ((ev (is i) row [] ∷ []) ∷ [])
-
-pub words_of_all : (block : TypedBlock) (n : ℕ) (rows : List (List Tree)) → MakesWords block n → rows_words n rows ≡ foreach_all block rows
-words_of_all block n rows is = λ i. flat_map (λ row. sym (is row) i) rows
 
 -- ---- rows
 

@@ -127,7 +127,7 @@ impl Batch {
     }
 }
 
-/// What the block generates of the rows, in the place of other rows; words in their memory.
+// What the block generates of the rows, in the place of other rows; words in their memory.
 fn put_generated(
     alloc: Global,
     block: &Block,

@@ -16,9 +16,9 @@ use pig_value::{Columns, Delim, Rows, Seq, Text, Tuple, Value};
 use std::alloc::{AllocError, Global};
 use std::marker::Model;
 
-/// Rows in a list that may hold others behind them, whose memory serves for rows that come.
-///
-/// Contracts see the rows.
+// Rows in a list that may hold others behind them, whose memory serves for rows that come.
+//
+// Contracts see the rows.
 #[derive(Drop)]
 pub struct Buffer {
     rows: Vec<Tuple>,
@@ -50,7 +50,7 @@ impl Buffer {
         }
     }
 
-    /// Rows that were made, without a copy.
+    // Rows that were made, without a copy.
     pub fn of(rows: Rows) -> Buffer
         ensures { result ≡ rows_tree rows }
     {
@@ -59,21 +59,21 @@ impl Buffer {
         Buffer { rows, count }
     }
 
-    /// The rows.
+    // The rows.
     pub fn as_slice(&self) -> &[Tuple]
         ensures { rows_tree result.now ≡ self.now }
     {
         &self.rows[..self.count]
     }
 
-    /// Leaves no rows, and their memory.
+    // Leaves no rows, and their memory.
     pub fn clear(&mut self)
         ensures { self.new ≡ [] }
     {
         self.count = 0;
     }
 
-    /// Adds a row behind the others.
+    // Adds a row behind the others.
     pub fn push(&mut self, row: Tuple) -> Result<(), AllocError>
         ensures { OnOk result (self.new ≡ self.old ++ row_tree row ∷ []) }
     {
@@ -86,7 +86,7 @@ impl Buffer {
         Ok(())
     }
 
-    /// Adds the row of a line at these columns, in the memory of a row that stood there before.
+    // Adds the row of a line at these columns, in the memory of a row that stood there before.
     pub fn push_line(
         &mut self,
         alloc: Global,
@@ -105,7 +105,7 @@ impl Buffer {
         Ok(())
     }
 
-    /// A row for each word of a field of other rows, in the memory of the rows that stood here before.
+    // A row for each word of a field of other rows, in the memory of the rows that stood here before.
     pub fn put_words(&mut self, alloc: Global, rows: &[Tuple], field: u32) -> Result<(), AllocError>
         ensures { OnOk result (self.new ≡ rows_words field (rows_tree rows.now)) }
     {
@@ -143,7 +143,7 @@ impl Buffer {
         Ok(())
     }
 
-    /// Adds a row of one text, in the memory of a row that stood there before.
+    // Adds a row of one text, in the memory of a row that stood there before.
     fn push_text(&mut self, alloc: Global, text: &str) -> Result<(), AllocError>
         ensures { OnOk result (self.new ≡ self.old ++ word_row text.now ∷ []) }
     {
@@ -155,7 +155,7 @@ impl Buffer {
         Ok(())
     }
 
-    /// FILTER: the rows of which the condition is true, in their order. The others stay behind them.
+    // FILTER: the rows of which the condition is true, in their order. The others stay behind them.
     pub fn keep(&mut self, alloc: Global, cond: &TExpr) -> Result<(), AllocError>
         ensures { OnOk result (self.new ≡ filter_rows (typed cond.now) self.old) }
     {
@@ -172,7 +172,7 @@ fn null_row(alloc: Global) -> Result<Tuple, AllocError>
     Ok(row)
 }
 
-/// The row of one text in the place of another row.
+// The row of one text in the place of another row.
 fn text_row_over(alloc: Global, text: &str, row: &mut Tuple) -> Result<(), AllocError>
     ensures { OnOk result (row_tree row.new ≡ word_row text.now) }
 {
@@ -194,7 +194,7 @@ fn text_row(alloc: Global, text: &str) -> Result<Tuple, AllocError>
     Ok(row)
 }
 
-/// A text in the memory of another one, where there is one.
+// A text in the memory of another one, where there is one.
 fn text_over(alloc: Global, text: &str, old: Value) -> Result<Value, AllocError>
     ensures { IfOk result (λ v. tree v ≡ v_chars text.now) }
 {
@@ -214,7 +214,7 @@ fn refilled(old: Text, text: &str) -> Result<Text, AllocError>
     Ok(Text::from_string(string))
 }
 
-/// Brings those of the first rows of which the condition is true to the front, and counts them.
+// Brings those of the first rows of which the condition is true to the front, and counts them.
 fn kept(
     alloc: Global,
     cond: &TExpr,
@@ -236,7 +236,7 @@ fn kept(
     Ok(front)
 }
 
-/// Moves a row behind those that are kept, where the condition is true of it.
+// Moves a row behind those that are kept, where the condition is true of it.
 fn moved(
     alloc: Global,
     cond: &TExpr,
@@ -260,7 +260,7 @@ fn moved(
     Ok(front + 1)
 }
 
-/// Whether the condition is true of all rows.
+// Whether the condition is true of all rows.
 pub fn all_pass(alloc: Global, cond: &TExpr, rows: &[Tuple]) -> Result<bool, AllocError>
     ensures { IfOk result (λ b. b ≡ list_all (passes (typed cond.now)) (rows_tree rows.now)) }
 {

@@ -161,8 +161,8 @@ fn mark(marks: &mut Vec<bool>, at: usize, value: bool)
     }
 }
 
-/// Takes a batch through a node, and answers whether that is an ASSERT which some row does not meet, of this batch or, where
-/// it is known, of one before.
+// Takes a batch through a node, and answers whether that is an ASSERT which some row does not meet, of this batch or, where
+// it is known, of one before.
 fn step(
     alloc: Global,
     nodes: &[Node],
@@ -225,7 +225,7 @@ fn operate(
     }
 }
 
-/// The statements of the nodes that are marked.
+// The statements of the nodes that are marked.
 fn marked_of(
     alloc: Global,
     nodes: &[Node],

@@ -11,7 +11,7 @@ use pig_packed::Packed;
 use pig_value::Tuple;
 use std::alloc::{AllocError, Global};
 
-/// So many rows stand in a batch.
+// So many rows stand in a batch.
 const BATCH_ROWS: usize = 256;
 
 /// The rows of packed rows, from the first on.
@@ -22,6 +22,7 @@ pub struct Unpacked<'p> {
 }
 
 impl<'p> Unpacked<'p> {
+    /// The rows, from the first on.
     pub fn of(rows: &'p Packed) -> Unpacked<'p>
         ensures { rows_left result ≡ rows.now }
     {

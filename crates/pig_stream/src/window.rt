@@ -14,7 +14,7 @@ use pig_value::{Columns, Delim, known_bytes};
 use std::alloc::{AllocError, Global};
 use std::marker::Model;
 
-/// So many rows stand in a batch.
+// So many rows stand in a batch.
 const BATCH_ROWS: usize = 256;
 
 /// The lines that start in a range of the bytes of a piece, which are handed in one block after another: from the byte before
@@ -341,14 +341,14 @@ impl Window {
     }
 }
 
-/// Where a line ends, and where the one behind it begins, of bytes.
+// Where a line ends, and where the one behind it begins, of bytes.
 #[derive(Clone, Copy, Drop)]
 struct Found {
     end: usize,
     next: usize,
 }
 
-/// The place of the first LF, or the end of the bytes.
+// The place of the first LF, or the end of the bytes.
 fn place_of_lf(bytes: &[u8]) -> usize
     ensures is { result ≡ lf_in bytes.now }
     ensures within { result ≤ length bytes.now }
@@ -359,7 +359,7 @@ fn place_of_lf(bytes: &[u8]) -> usize
     }
 }
 
-/// The bytes without the one CR at their end.
+// The bytes without the one CR at their end.
 fn without_cr(line: &[u8]) -> &[u8]
     ensures { result.now ≡ strip_carriage_return line.now }
 {
@@ -369,7 +369,7 @@ fn without_cr(line: &[u8]) -> &[u8]
     }
 }
 
-/// Takes so many bytes off the front.
+// Takes so many bytes off the front.
 fn remove_front(bytes: &mut Vec<u8>, count: usize)
     requires { count ≤ length bytes.old.items }
     ensures { bytes.new.items ≡ drop count bytes.old.items }

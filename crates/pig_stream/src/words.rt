@@ -18,7 +18,7 @@ use pig_value::{Function, Text, Tuple, Value};
 use std::alloc::AllocError;
 use std::cmp::Ordering;
 
-/// The field of which a block makes the words, where it makes nothing else.
+// The field of which a block makes the words, where it makes nothing else.
 pub fn words_field(block: &Block) -> Option<u32>
     ensures { IfSome result (MakesWords (block_typed block.now)) }
 {
@@ -79,7 +79,7 @@ fn field_of(e: &TExpr) -> Option<u32>
     }
 }
 
-/// The text in a field of a row, where there is one.
+// The text in a field of a row, where there is one.
 pub fn text_at(row: &Tuple, field: u32) -> Option<&Text>
     ensures { text_words (option_copied result) ≡ word_rows (at field (row_tree row.now)) }
 {
@@ -98,7 +98,7 @@ fn text_of(value: &Value) -> Option<&Text>
     }
 }
 
-/// Puts the words of a text in the place of others, in the order of their bag.
+// Puts the words of a text in the place of others, in the order of their bag.
 pub fn put_words<'r>(text: &'r Text, words: &mut Vec<&'r str>) -> Result<(), AllocError>
     ensures { OnOk result (texts_rows words.new.items ≡ bag_of (piece_rows (pieces text.now))) }
 {
@@ -121,7 +121,7 @@ fn order_words(a: &str, b: &str) -> Ordering
     a.cmp(b)
 }
 
-/// Adds the words of a text as they stand in it.
+// Adds the words of a text as they stand in it.
 fn cut_words<'r>(text: &'r str, words: &mut Vec<&'r str>) -> Result<(), AllocError>
     ensures { OnOk result (texts_rows words.new.items
         ≡ texts_rows words.old.items ++ piece_rows (pieces text.now)) }
@@ -134,7 +134,7 @@ fn cut_words<'r>(text: &'r str, words: &mut Vec<&'r str>) -> Result<(), AllocErr
     add_word(rest, words)
 }
 
-/// The piece before the first separator, and what stands behind that.
+// The piece before the first separator, and what stands behind that.
 fn cut(text: &str) -> Option<(&str, &str)>
     ensures split { MatchOption result (pieces text.now ≡ text.now ∷ [])
         (λ p. pieces text.now ≡ p.0.now ∷ pieces p.1.now) }
@@ -148,7 +148,7 @@ fn cut(text: &str) -> Option<(&str, &str)>
     Some((&text[..end], &text[end + 1..]))
 }
 
-/// The place of the first separator, or the end where there is none.
+// The place of the first separator, or the end where there is none.
 fn piece_end(bytes: &[u8]) -> usize
     ensures is { result ≡ position_or_len is_separator bytes.now }
     ensures within { result ≤ length bytes.now }

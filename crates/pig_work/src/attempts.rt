@@ -18,10 +18,10 @@ use pig_rank::Starts;
 use pig_reduce::{rank_attempt, reduce_attempt};
 use std::alloc::{AllocError, Global};
 
-/// How many bytes an attempt reads at most at a time.
+// How many bytes an attempt reads at most at a time.
 const BLOCK: u32 = 65_536;
 
-/// Attempts the task at a place of a wave, where all that its tasks name stands.
+// Attempts the task at a place of a wave, where all that its tasks name stands.
 pub(crate) fn attempt_at<H: Host, S: Stop>(
     alloc: Global,
     stages: &Stages,
