@@ -8,6 +8,7 @@ use std::alloc::{AllocError, Global};
 
 /// A function of the rows of a bag that is made of parts: each row gives one, and parts are merged.
 pub trait Algebraic {
+    /// What is kept of rows that were folded.
     type Part: Drop;
 
     /// A part as a value.

@@ -14,7 +14,7 @@ use pig_value::{Dir, Function, Tuple, Value, field_at, order};
 use std::alloc::{AllocError, Global};
 use std::cmp::Ordering;
 
-/// What an algebraic function gives of one value, where none stands for null.
+// What an algebraic function gives of one value, where none stands for null.
 fn of_one(alloc: Global, function: Function, field: Option<&Value>) -> Result<Value, AllocError>
     ensures { IfOk result (λ v. tree v ≡ column_tree function (field_tree field.entry ∷ [])) }
 {
@@ -24,7 +24,7 @@ fn of_one(alloc: Global, function: Function, field: Option<&Value>) -> Result<Va
     }
 }
 
-/// What a function gives of one row.
+// What a function gives of one row.
 pub fn of_row(alloc: Global, function: Function, row: &Tuple) -> Result<Value, AllocError>
     ensures { IfOk result (λ v. tree v ≡ initial_part function (row_tree row.now)) }
 {
@@ -41,7 +41,7 @@ fn looked_at(function: Function, row: &Tuple) -> Option<&Value>
     }
 }
 
-/// What two parts of a function give together.
+// What two parts of a function give together.
 pub fn merged(function: Function, a: Value, b: Value) -> Value
     ensures { tree result ≡ merge_parts function (tree a) (tree b) }
 {
@@ -62,7 +62,7 @@ fn only_field(row: &Tuple) -> Option<&Value>
     }
 }
 
-/// The sum of two numbers, either of which may be null.
+// The sum of two numbers, either of which may be null.
 fn added(a: Value, b: Value) -> Value
     ensures { tree result ≡ merge_parts Sum (tree a) (tree b) }
 {
@@ -73,7 +73,7 @@ fn added(a: Value, b: Value) -> Value
     }
 }
 
-/// Of two values the first in the direction; null stands for none.
+// Of two values the first in the direction; null stands for none.
 fn better(dir: Dir, a: Value, b: Value) -> Value
     ensures { tree result
         ≡ or_null_tree (first_of dir (part_found (tree a)) (part_found (tree b))) }
@@ -85,7 +85,7 @@ fn better(dir: Dir, a: Value, b: Value) -> Value
     }
 }
 
-/// The first of two parts that is no null.
+// The first of two parts that is no null.
 pub fn either(a: Value, b: Value) -> Value
     ensures { tree result ≡ either_part (tree a) (tree b) }
 {

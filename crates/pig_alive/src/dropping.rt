@@ -27,7 +27,7 @@ pub fn without_dead(alloc: Global, plan: &Plan) -> Result<Plan, AllocError>
     Ok(made)
 }
 
-/// Of each node how many live ones stand before it.
+// Of each node how many live ones stand before it.
 fn ranks(alloc: Global, plan: &Plan, live: &[bool]) -> Result<Vec<u32>, AllocError>
     requires { live.now ≡ live_list (plan_of plan.now) }
     ensures { IfOk result (λ table. table.items ≡ ranks (plan_of plan.now)) }
@@ -42,7 +42,7 @@ fn ranks(alloc: Global, plan: &Plan, live: &[bool]) -> Result<Vec<u32>, AllocErr
     Ok(table)
 }
 
-/// A count with one more where the place is marked.
+// A count with one more where the place is marked.
 fn with_mark(live: &[bool], place: usize, count: u32) -> Result<u32, AllocError>
     ensures { IfOk result (λ more.
         more ≡ (if get_or live.now place false then count + 1 else count)) }
@@ -62,7 +62,7 @@ fn mark_at(live: &[bool], place: usize) -> bool
     }
 }
 
-/// The live nodes over the inputs that a table has in the place of their own.
+// The live nodes over the inputs that a table has in the place of their own.
 fn live_nodes(alloc: Global, plan: &Plan, live: &[bool], table: &[u32]) -> Result<Plan, AllocError>
     requires live { live.now ≡ live_list (plan_of plan.now) }
     requires table { table.now ≡ ranks (plan_of plan.now) }
@@ -76,7 +76,7 @@ fn live_nodes(alloc: Global, plan: &Plan, live: &[bool], table: &[u32]) -> Resul
     Ok(made)
 }
 
-/// Adds the node at a place where it is live.
+// Adds the node at a place where it is live.
 fn add_live(
     alloc: Global,
     nodes: &[Node],
@@ -100,7 +100,7 @@ fn add_live(
     push_node(made, node)
 }
 
-/// Adds a node. Each one fits, since it is of the kinds that it had; that is tested and not proved.
+// Adds a node. Each one fits, since it is of the kinds that it had; that is tested and not proved.
 fn push_node(made: &mut Plan, node: Node) -> Result<(), AllocError>
     ensures { OnOk result (plan_of made.new ≡ plan_of made.old ++ node_of node ∷ []) }
 {
@@ -111,7 +111,7 @@ fn push_node(made: &mut Plan, node: Node) -> Result<(), AllocError>
     Ok(())
 }
 
-/// A plan is valid.
+// A plan is valid.
 fn known_plan(plan: &Plan)
     ensures { IsPlan (plan_of plan.now) }
 {

@@ -16,14 +16,14 @@ use pig_typing::{CheckKind, Scope, TypeFault, TypedExpr, type_reference, type_st
 use pig_value::{Boxed, Kind};
 use std::alloc::{AllocError, Global};
 
-/// A typed bag, and its column.
+// A typed bag, and its column.
 #[derive(Drop)]
 pub struct TypedBag {
     pub expr: Boxed<TExpr>,
     pub column: Boxed<Field>,
 }
 
-/// The bag of a nested step.
+// The bag of a nested step.
 #[tactic(auto, unfolding(crate::specs::Bags::bag_of))]
 pub fn bag(alloc: Global, from: &BagRef, scope: &Scope) -> Result<TypedBag, TypeFault>
     ensures { Tells bag_tree (bag_of (place_of scope.now) from.now) result }
@@ -83,7 +83,7 @@ fn boxed(alloc: Global, typed: TypedExpr) -> Result<TypedBag, AllocError>
     Ok(TypedBag { expr, column })
 }
 
-/// The columns of the bag's tuples.
+// The columns of the bag's tuples.
 pub fn inside(bag: &TypedBag) -> &Schema
     ensures { schema_tree result.now ≡ columns_in (bag_tree bag.now) }
 {

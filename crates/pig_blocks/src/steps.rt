@@ -19,14 +19,14 @@ use pig_typing::{Local, Locals, Scope, TypeFault, type_condition};
 use pig_value::{Boxed, Seq, Text};
 use std::alloc::{AllocError, Global};
 
-/// A typed step, and the column that its bag has.
+// A typed step, and the column that its bag has.
 #[derive(Drop)]
 pub struct Made {
     pub step: BlockStep,
     pub column: Boxed<Field>,
 }
 
-/// The typed steps so far, and what stands behind them.
+// The typed steps so far, and what stands behind them.
 #[derive(Drop)]
 pub struct Stepped<'a> {
     pub steps: BlockSteps,
@@ -34,7 +34,7 @@ pub struct Stepped<'a> {
     pub locals: Locals,
 }
 
-/// The steps of a nested block over a row of these columns, in turn: each sees the row and the steps before it.
+// The steps of a nested block over a row of these columns, in turn: each sees the row and the steps before it.
 #[tactic(auto, unfolding(crate::specs::Steps::steps_of))]
 pub fn all_steps<'a>(
     alloc: Global,

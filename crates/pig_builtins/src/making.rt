@@ -9,7 +9,7 @@ ghost use Rattle.pig_value.specs.Trees.{rows_tree, row_tree, tree, v_null};
 use pig_value::{Blob, Rows, Seq, Text, Tuple, Value, bag, copy, copy_row};
 use std::alloc::{AllocError, Global};
 
-/// CONCAT.
+// CONCAT.
 #[tactic(auto, using(crate::proofs::Joined::concat_few, crate::proofs::Joined::concat_texts, crate::proofs::Joined::concat_bytes, crate::proofs::Joined::concat_none))]
 pub fn concat(alloc: Global, args: &[Value]) -> Result<Value, AllocError>
     ensures { IfOk result (λ v. tree v ≡ concat_tree (row_tree args.now)) }
@@ -74,7 +74,7 @@ fn bytes_of(v: &Value) -> Option<&Blob>
     }
 }
 
-/// TOTUPLE.
+// TOTUPLE.
 #[tactic(auto, using(crate::proofs::Trees::tuple_made))]
 pub fn to_tuple(alloc: Global, args: &Tuple) -> Result<Value, AllocError>
     ensures { IfOk result (λ v. tree v ≡ totuple_tree (row_tree args.now)) }
@@ -86,7 +86,7 @@ pub fn to_tuple(alloc: Global, args: &Tuple) -> Result<Value, AllocError>
     }
 }
 
-/// TOBAG.
+// TOBAG.
 #[tactic(auto, using(crate::proofs::Joined::tobag_some, crate::proofs::Joined::tobag_none))]
 pub fn to_bag(alloc: Global, width: Option<u32>, args: &[Value]) -> Result<Value, AllocError>
     ensures { IfOk result (λ v. tree v ≡ tobag_tree width (row_tree args.now)) }

@@ -7,7 +7,7 @@ ghost use Rattle.pig_value.specs.Trees.{rows_tree, tree, v_bool};
 
 use pig_value::{Rows, Value};
 
-/// The rows of a bag, also of a listed one.
+// The rows of a bag, also of a listed one.
 #[tactic(auto, using(crate::proofs::Trees::bag_rows, crate::proofs::Trees::listed_rows))]
 pub fn rows_of(v: &Value) -> Option<&Rows>
     ensures { option_map (λ rows. rows_tree rows.now) result
@@ -19,7 +19,7 @@ pub fn rows_of(v: &Value) -> Option<&Rows>
     }
 }
 
-/// SIZE.
+// SIZE.
 #[tactic(auto, using(crate::proofs::Trees::tuple_size, crate::proofs::Trees::bag_size, crate::proofs::Trees::listed_size, crate::proofs::Trees::map_size))]
 pub fn size(v: &Value) -> Value
     ensures { tree result ≡ size_tree (tree v.now ∷ []) }
@@ -35,7 +35,7 @@ pub fn size(v: &Value) -> Value
     }
 }
 
-/// IsEmpty.
+// IsEmpty.
 #[tactic(auto, using(crate::proofs::Trees::bag_is_empty, crate::proofs::Trees::listed_is_empty, crate::proofs::Trees::map_is_empty))]
 pub fn is_empty(v: &Value) -> Value
     ensures { tree result ≡ isempty_tree (tree v.now ∷ []) }
@@ -47,7 +47,7 @@ pub fn is_empty(v: &Value) -> Value
     }
 }
 
-/// ABS.
+// ABS.
 pub fn abs(v: &Value) -> Value
     ensures { tree result ≡ abs_tree (tree v.now ∷ []) }
 {
@@ -73,7 +73,7 @@ fn long_magnitude(n: i64) -> i64
     n.wrapping_abs()
 }
 
-/// The number of characters of a text.
+// The number of characters of a text.
 pub fn characters(text: &str) -> usize
     ensures { result ≡ length (chars text.now) }
 {

@@ -12,7 +12,7 @@ use bstr::ByteSlice;
 use pig_value::{Text, Value};
 use std::alloc::{AllocError, Global};
 
-/// STARTSWITH.
+// STARTSWITH.
 pub fn starts_with(text: &Text, front: &Text) -> Value
     ensures { tree result ≡ startswith_tree (v_chars text.now ∷ v_chars front.now ∷ []) }
 {
@@ -25,7 +25,7 @@ fn begins(text: &str, front: &str) -> bool
     text.as_bytes().starts_with_str(front.as_bytes())
 }
 
-/// ENDSWITH.
+// ENDSWITH.
 pub fn ends_with(text: &Text, end: &Text) -> Value
     ensures { tree result ≡ endswith_tree (v_chars text.now ∷ v_chars end.now ∷ []) }
 {
@@ -38,7 +38,7 @@ fn ends(text: &str, end: &str) -> bool
     text.as_bytes().ends_with_str(end.as_bytes())
 }
 
-/// INDEXOF.
+// INDEXOF.
 pub fn index_of(text: &Text, wanted: &Text) -> Value
     ensures { tree result ≡ indexof_tree (v_chars text.now ∷ v_chars wanted.now ∷ []) }
 {
@@ -72,7 +72,7 @@ fn place_of(text: &str, wanted: &str) -> Option<usize>
     }
 }
 
-/// SUBSTRING.
+// SUBSTRING.
 pub fn substring(alloc: Global, text: &Text, start: i32, stop: i32) -> Result<Value, AllocError>
     ensures { IfOk result (λ v. tree v
         ≡ substring_tree (v_chars text.now ∷ v_int start ∷ v_int stop ∷ [])) }

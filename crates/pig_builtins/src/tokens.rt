@@ -12,7 +12,7 @@ use std::alloc::{AllocError, Global};
 // The bytes that TOKENIZE cuts at.
 const SEPARATORS: &[u8] = b" \",()*";
 
-/// TOKENIZE.
+// TOKENIZE.
 #[tactic(auto, using(crate::proofs::Trees::bag_made))]
 pub fn tokenize(alloc: Global, text: &Text) -> Result<Value, AllocError>
     ensures { IfOk result (λ v. tree v ≡ tokenize_tree (v_chars text.now ∷ [])) }

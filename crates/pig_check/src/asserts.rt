@@ -16,7 +16,7 @@ use pig_typing::TypeFault;
 use pig_value::Text;
 use std::alloc::{AllocError, Global};
 
-/// ASSERT, which gives its alias anew with the columns that it had.
+// ASSERT, which gives its alias anew with the columns that it had.
 #[tactic(auto, unfolding(crate::specs::Statements::assert_of))]
 pub fn assert(
     alloc: Global,

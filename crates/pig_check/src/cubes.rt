@@ -26,8 +26,8 @@ use std::alloc::{AllocError, Global};
 
 const MOST_DIMENSIONS: usize = 8;
 
-/// CUBE or ROLLUP: a FOREACH that makes a row for each chosen set of the dimensions, and the GROUP of these rows by the
-/// dimensions.
+// CUBE or ROLLUP: a FOREACH that makes a row for each chosen set of the dimensions, and the GROUP of these rows by the
+// dimensions.
 #[tactic(auto, unfolding(crate::specs::Cubes::cube_at))]
 pub fn cube(
     alloc: Global,
@@ -45,8 +45,8 @@ pub fn cube(
     Ok(cubed(alloc, next, alias, rollup, typed)?)
 }
 
-/// The node of the input, the positions of the dimensions in its rows, how many fields these have, and the columns of the
-/// groups.
+// The node of the input, the positions of the dimensions in its rows, how many fields these have, and the columns of the
+// groups.
 #[derive(Drop)]
 pub struct TypedCube {
     pub node: u32,

@@ -6,12 +6,12 @@ use pig_syntax::Func;
 use pig_typing::{CheckKind, TypeFault};
 use pig_value::{Delim, Text};
 
-/// The delimiter that a storage function names: the tab where none is written.
-///
-/// # Errors
-///
-/// UnknownFunction where it is not PigStorage, WrongArguments where it has more than one argument, or one that is no
-/// delimiter.
+// The delimiter that a storage function names: the tab where none is written.
+//
+// # Errors
+//
+// UnknownFunction where it is not PigStorage, WrongArguments where it has more than one argument, or one that is no
+// delimiter.
 #[tactic(auto, unfolding(crate::specs::Functions::delimiter_by))]
 pub fn delimiter(func: &Option<Func>) -> Result<Delim, TypeFault>
     ensures { Tells (λ d. d) (delimiter_by func.now) result }

@@ -3,16 +3,16 @@ use pig_value::Text;
 use std::alloc::{AllocError, Global};
 use std::collections::HashMap;
 
-/// The last statement that names each alias. The columns of what no later statement names can go.
-///
-/// No contract speaks of it: to ask for columns that are gone is want of memory.
+// The last statement that names each alias. The columns of what no later statement names can go.
+//
+// No contract speaks of it: to ask for columns that are gone is want of memory.
 #[derive(Drop)]
 pub struct Lasting {
     last: HashMap<String, u32>,
 }
 
 impl Lasting {
-    /// That of these statements, which are numbered from 1.
+    // That of these statements, which are numbered from 1.
     pub fn of(alloc: Global, stmts: &[Stmt]) -> Result<Lasting, AllocError> {
         let mut last = HashMap::new(alloc);
         let mut number: u32 = 0;
@@ -23,7 +23,7 @@ impl Lasting {
         Ok(Lasting { last })
     }
 
-    /// The aliases that a statement names or gives, and that no later one names.
+    // The aliases that a statement names or gives, and that no later one names.
     pub fn ended_by<'s>(
         &self,
         alloc: Global,

@@ -28,7 +28,7 @@ use pig_typing::{
 use pig_value::{Column, Columns, Delim, Kind, Seq, Text, copy_kind};
 use std::alloc::{AllocError, Global};
 
-/// LOAD.
+// LOAD.
 #[tactic(auto, unfolding(crate::specs::Operators::load_of))]
 pub fn load(
     alloc: Global,
@@ -64,7 +64,7 @@ fn not_stored(plan: &Plan, path: Text) -> Result<Text, TypeFault>
     }
 }
 
-/// Whether the path collides with that of a STORE among the nodes.
+// Whether the path collides with that of a STORE among the nodes.
 pub fn is_stored(plan: &Plan, path: &Text) -> bool
     ensures { result ≡ is_stored path.now (plan_of plan.now) }
 {
@@ -134,7 +134,7 @@ fn column_at(alloc: Global, position: u32, column: &Field) -> Result<Column, All
     Ok(Column { position, kind })
 }
 
-/// FILTER.
+// FILTER.
 #[tactic(auto, unfolding(crate::specs::Operators::filter_of))]
 pub fn filter(
     alloc: Global,
@@ -152,7 +152,7 @@ pub fn filter(
     Ok(TypedOp { op, columns })
 }
 
-/// The typing of a condition over a row of these columns.
+// The typing of a condition over a row of these columns.
 pub fn condition(alloc: Global, columns: &Schema, cond: &Expr) -> Result<TExpr, TypeFault>
     ensures { Tells typed (condition_on (row_of (schema_tree columns.now)) (expr_form cond.now))
         result }
@@ -165,7 +165,7 @@ pub fn condition(alloc: Global, columns: &Schema, cond: &Expr) -> Result<TExpr, 
     type_condition(alloc, cond, &scope)
 }
 
-/// FOREACH.
+// FOREACH.
 #[tactic(auto, unfolding(crate::specs::Operators::block_of))]
 pub fn foreach(
     alloc: Global,
@@ -192,7 +192,7 @@ pub fn foreach(
     Ok(TypedOp::new(alloc, op, typed.columns)?)
 }
 
-/// DISTINCT.
+// DISTINCT.
 #[tactic(auto, unfolding(crate::specs::Operators::distinct_of))]
 pub fn distinct(relations: &Relations, from: &Text) -> Result<TypedOp, TypeFault>
     ensures { Tells op_tree (distinct_of (aliases_of relations.now) from.now) result }
@@ -204,7 +204,7 @@ pub fn distinct(relations: &Relations, from: &Text) -> Result<TypedOp, TypeFault
     Ok(TypedOp { op, columns })
 }
 
-/// ORDER.
+// ORDER.
 #[tactic(auto, unfolding(crate::specs::Operators::order_of))]
 pub fn order(
     alloc: Global,
@@ -222,7 +222,7 @@ pub fn order(
     Ok(TypedOp { op, columns })
 }
 
-/// LIMIT.
+// LIMIT.
 #[tactic(auto, unfolding(crate::specs::Operators::limit_of))]
 pub fn limit(relations: &Relations, from: &Text, count: u64) -> Result<TypedOp, TypeFault>
     ensures { Tells op_tree (limit_of (aliases_of relations.now) from.now count) result }
@@ -234,7 +234,7 @@ pub fn limit(relations: &Relations, from: &Text, count: u64) -> Result<TypedOp, 
     Ok(TypedOp { op, columns })
 }
 
-/// RANK.
+// RANK.
 #[tactic(auto, unfolding(crate::specs::Operators::rank_of))]
 pub fn rank(
     alloc: Global,

@@ -8,12 +8,12 @@ use pig_typing::{CheckKind, TypeFault};
 use pig_value::Text;
 use std::alloc::Global;
 
-/// The path of a text, without a slash at its end.
-///
-/// # Errors
-///
-/// Unsupported where a component is empty, `.` or `..` or holds a byte of a pattern, so also for the empty path, and
-/// Compressed where the path has the ending of compressed files.
+// The path of a text, without a slash at its end.
+//
+// # Errors
+//
+// Unsupported where a component is empty, `.` or `..` or holds a byte of a pattern, so also for the empty path, and
+// Compressed where the path has the ending of compressed files.
 #[tactic(auto, unfolding(crate::specs::Paths::path_of))]
 pub fn path(alloc: Global, text: &Text) -> Result<Text, TypeFault>
     ensures { Tells (λ path. path) (path_of text.now) result }
@@ -106,7 +106,7 @@ fn ends_so(path: &str, ending: &str) -> bool
     path.ends_with(ending)
 }
 
-/// Whether two paths are equal, or the components of one begin with those of the other.
+// Whether two paths are equal, or the components of one begin with those of the other.
 pub fn collide(path: &str, other: &str) -> bool
     ensures { result ≡ collide path.now other.now }
 {

@@ -19,7 +19,7 @@ use pig_typing::TypeFault;
 use pig_value::{Boxed, ChainOp, Seq, Text};
 use std::alloc::{AllocError, Global};
 
-/// SPLIT.
+// SPLIT.
 #[tactic(auto, unfolding(crate::specs::Splits::split_of))]
 pub fn split(
     alloc: Global,

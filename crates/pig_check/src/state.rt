@@ -11,26 +11,26 @@ use pig_typing::TypeFault;
 use pig_value::{Seq, Text};
 use std::alloc::AllocError;
 
-/// Operators of nodes that are not yet in a plan.
+// Operators of nodes that are not yet in a plan.
 pub type NodeOps = Seq<NodeOp>;
-/// Relations with their aliases.
+// Relations with their aliases.
 pub type GivenRelations = Seq<Named>;
 
-/// What stands before a statement: the relations that aliases mean, and the nodes so far.
+// What stands before a statement: the relations that aliases mean, and the nodes so far.
 #[derive(Drop)]
 pub struct Progress {
     pub relations: Relations,
     pub plan: Plan,
 }
 
-/// What a statement adds: the operators of its nodes in turn, and the relations that it gives.
+// What a statement adds: the operators of its nodes in turn, and the relations that it gives.
 #[derive(Drop)]
 pub struct Addition {
     pub ops: NodeOps,
     pub given: GivenRelations,
 }
 
-/// The number of the next node. No plan has more nodes than a u32 counts.
+// The number of the next node. No plan has more nodes than a u32 counts.
 pub fn next_number(plan: &Plan) -> Result<u32, TypeFault>
     ensures { Tells (λ n. n) (Ok (length plan.now)) result }
 {
@@ -40,7 +40,7 @@ pub fn next_number(plan: &Plan) -> Result<u32, TypeFault>
     }
 }
 
-/// The next number.
+// The next number.
 pub fn behind(number: u32) -> Result<u32, AllocError>
     ensures { IfOk result (λ next. next ≡ number + 1) }
 {
@@ -50,7 +50,7 @@ pub fn behind(number: u32) -> Result<u32, AllocError>
     }
 }
 
-/// Adds to the state what a statement of this number adds. The columns of what these aliases mean behind it can go.
+// Adds to the state what a statement of this number adds. The columns of what these aliases mean behind it can go.
 pub fn extend(
     state: &mut Progress,
     statement: u32,

@@ -21,11 +21,11 @@ use pig_typing::{CheckKind, TypeFault};
 use pig_value::{Seq, Text};
 use std::alloc::{AllocError, Global};
 
-/// What a statement adds to what stands before it.
-///
-/// # Errors
-///
-/// `Refused` exactly where the statement has no typing, with a kind whose condition holds.
+// What a statement adds to what stands before it.
+//
+// # Errors
+//
+// `Refused` exactly where the statement has no typing, with a kind whose condition holds.
 #[tactic(auto, unfolding(crate::specs::Statements::statement_of))]
 pub fn statement(alloc: Global, state: &Progress, stmt: &Stmt) -> Result<Addition, TypeFault>
     ensures { Tells added_tree (statement_of (state_tree state.now) stmt.now) result }
@@ -84,7 +84,7 @@ fn node(alloc: Global, state: &Progress, alias: &Text, op: &Op) -> Result<Additi
     Ok(assigned(alloc, next, alias, typed)?)
 }
 
-/// The node of an operator, and the relation that it makes.
+// The node of an operator, and the relation that it makes.
 pub fn assigned(
     alloc: Global,
     next: u32,
@@ -100,7 +100,7 @@ pub fn assigned(
     Ok(Addition { ops, given })
 }
 
-/// The relation of these columns at a node, with its alias.
+// The relation of these columns at a node, with its alias.
 pub fn given_one(
     alloc: Global,
     alias: &Text,

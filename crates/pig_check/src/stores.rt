@@ -17,7 +17,7 @@ use pig_typing::{CheckKind, TypeFault};
 use pig_value::{Delim, Seq, Text};
 use std::alloc::{AllocError, Global};
 
-/// STORE.
+// STORE.
 #[tactic(auto, unfolding(crate::specs::Statements::store_of))]
 pub fn store(
     alloc: Global,

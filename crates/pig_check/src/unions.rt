@@ -16,7 +16,7 @@ use pig_typing::TypeFault;
 use pig_value::{Numbers, Seq, Text};
 use std::alloc::{AllocError, Global};
 
-/// UNION, with a FOREACH before it for each input that widens.
+// UNION, with a FOREACH before it for each input that widens.
 #[tactic(auto, unfolding(crate::specs::Unions::union_at))]
 pub fn union(
     alloc: Global,
@@ -45,7 +45,7 @@ fn united(alloc: Global, next: u32, alias: &Text, typed: TypedUnion) -> Result<A
     Ok(Addition { ops, given })
 }
 
-/// The nodes before a UNION, the numbers of its inputs, and its own number.
+// The nodes before a UNION, the numbers of its inputs, and its own number.
 #[derive(Drop)]
 pub struct Widened {
     pub ops: NodeOps,

@@ -9,16 +9,16 @@ use smallvec::SmallVec;
 use std::alloc::{AllocError, Global};
 use std::hash::{Hash, Hasher};
 
-/// So many bytes of a name stand in the table itself.
+// So many bytes of a name stand in the table itself.
 const INLINE: usize = 24;
 
-/// What a key is found by, as a table keeps it: its text or its code.
+// What a key is found by, as a table keeps it: its text or its code.
 #[derive(Debug, Drop)]
 pub struct KeyName {
     pub bytes: SmallVec<u8, INLINE>,
 }
 
-/// A name that is looked for among those.
+// A name that is looked for among those.
 #[derive(Clone, Copy, Drop)]
 pub struct Sought<'c> {
     pub bytes: &'c [u8],

@@ -5,10 +5,10 @@ ghost use Rattle.pig_combine.specs.Names.{is_plain, name};
 
 use pig_value::Value;
 
-/// The last byte that a code begins with.
+// The last byte that a code begins with.
 const LAST_TAG: u8 = 9;
 
-/// The bytes that a key is found by, where they are those of its own text.
+// The bytes that a key is found by, where they are those of its own text.
 pub fn plain_text(key: &Value) -> Option<&[u8]>
     ensures found { IfSome result (λ text. text.now ≡ name (tree key.now)) }
     ensures none { result ≡ None → name (tree key.now) ≡ code (tree key.now) }

@@ -21,7 +21,7 @@ use std::alloc::{AllocError, Global};
 use std::cmp::Ordering;
 
 impl Tally {
-    /// The tally of a cut in no rows.
+    // The tally of a cut in no rows.
     pub fn start(cut: &Cut) -> Tally
         ensures told { told result ≡ found_by [] (cut_typed cut.now) }
         ensures held { IsHeld result }
@@ -49,7 +49,7 @@ impl Tally {
         }
     }
 
-    /// The tally with one more row, where the row changes it.
+    // The tally with one more row, where the row changes it.
     pub fn next(&self, alloc: Global, cut: &Cut, row: &Tuple) -> Result<Option<Tally>, AllocError>
         ensures told { (rows : List (List Tree)) → told self.now ≡ found_by rows (cut_typed cut.now)
             → IfOk result (λ next. told_next self.now next
@@ -82,7 +82,7 @@ impl Tally {
         }
     }
 
-    /// Puts a change, if there is one, in the tally's place.
+    // Puts a change, if there is one, in the tally's place.
     pub fn settle(&mut self, next: Option<Tally>)
         ensures told { told self.new ≡ told_next self.old next }
         ensures held { IsHeld self.old → IsHeldNext next → IsHeld self.new }

@@ -3,9 +3,9 @@ use pig_value::{Boxed, Tuple, Value, copy};
 use smallvec::SmallVec;
 use std::alloc::{AllocError, Global};
 
-/// What is found so far for a cut in the rows of a key.
-///
-/// It takes two words: what takes more stands in a box, and what may be missing is a form of its own.
+// What is found so far for a cut in the rows of a key.
+//
+// It takes two words: what takes more stands in a box, and what may be missing is a form of its own.
 #[derive(Debug)]
 pub enum Tally {
     /// Nothing: the item is made of the key alone.
@@ -24,13 +24,13 @@ pub enum Tally {
     Other,
 }
 
-/// So many tallies stand in the group itself, beside its key.
+// So many tallies stand in the group itself, beside its key.
 const INLINE: usize = 3;
 
-/// The tally of each cut.
+// The tally of each cut.
 pub type Tallies = SmallVec<Tally, INLINE>;
 
-/// A key with the tally of each cut.
+// A key with the tally of each cut.
 #[derive(Debug, Drop)]
 pub struct Group {
     pub key: Value,
@@ -68,7 +68,7 @@ impl Tally {
     ghost use Rattle.pig_value.specs.Valid.{IsRow, IsValue};
     ghost use Rattle.pig_combine.specs.Tallies.{IsHeld, part_told, told};
 
-    /// Adds the part that the tally gives, if any, to a row.
+    // Adds the part that the tally gives, if any, to a row.
     pub fn push_part(&self, alloc: Global, key: &Value, row: &mut Tuple) -> Result<(), AllocError>
         ensures part { OnOk result (row_tree row.new
             ≡ row_tree row.old ++ part_told (tree key.now) (told self.now)) }

@@ -27,7 +27,7 @@ pub enum CommitFault {
     OutOfMemory,
 }
 
-/// The fault that an error of the depot is, at the STORE of a statement.
+// The fault that an error of the depot is, at the STORE of a statement.
 pub fn commit_fault(error: OutsideError, statement: u32) -> CommitFault
     ensures { result ≡ fault_of statement error }
 {

@@ -33,7 +33,7 @@ pub fn expand(
     })
 }
 
-/// FLATTEN of the bag of a tuple for each set.
+// FLATTEN of the bag of a tuple for each set.
 fn flat_item(alloc: Global, dims: &Positions, sets: &Sets) -> Result<BlockItem, AllocError>
     requires { length dims.now < 2 ^ 32 }
     ensures { IfOk result (λ item. item_typed item ≡ flat_item dims.now sets.now) }
@@ -76,7 +76,7 @@ fn slots(alloc: Global, dims: &Positions, set: &Positions) -> Result<TExprs, All
     Ok(slots)
 }
 
-/// A dimension in the tuple of a set.
+// A dimension in the tuple of a set.
 fn slot(alloc: Global, set: &Positions, position: u32) -> Result<TExpr, AllocError>
     ensures { IfOk result (λ e. typed e ≡ slot set.now position) }
 {
@@ -87,7 +87,7 @@ fn slot(alloc: Global, set: &Positions, position: u32) -> Result<TExpr, AllocErr
     }
 }
 
-/// The field, or the text `unknown` where it is null.
+// The field, or the text `unknown` where it is null.
 fn known_field(alloc: Global, position: u32) -> Result<TExpr, AllocError>
     ensures { IfOk result (λ e. typed e ≡ known_field position) }
 {
@@ -99,7 +99,7 @@ fn known_field(alloc: Global, position: u32) -> Result<TExpr, AllocError>
     Ok(TExpr::Choose { cond, yes, no })
 }
 
-/// A null of kind chararray.
+// A null of kind chararray.
 fn null_text(alloc: Global) -> Result<TExpr, AllocError>
     ensures { IfOk result (λ e. typed e ≡ null_text) }
 {
@@ -108,7 +108,7 @@ fn null_text(alloc: Global) -> Result<TExpr, AllocError>
     Ok(TExpr::Cast { to, a })
 }
 
-/// The other fields, each as it is.
+// The other fields, each as it is.
 fn plain_items(alloc: Global, dims: &Positions, width: u32) -> Result<BlockItems, AllocError>
     ensures { IfOk result (λ items. map item_typed items
         ≡ map plain_item (other_positions dims.now width)) }

@@ -5,7 +5,7 @@ ghost use Rattle.pig_cube.specs.Dimensions.{AreDimensions, AreDistinct, chosen_s
 use pig_value::{Positions, Seq};
 use std::alloc::{AllocError, Global};
 
-/// Sets of dimensions, by their positions.
+// Sets of dimensions, by their positions.
 pub type Sets = Seq<Positions>;
 
 const MOST_DIMENSIONS: usize = 8;
@@ -85,7 +85,7 @@ pub fn other_positions(alloc: Global, dims: &[u32], width: u32) -> Result<Positi
     Ok(others)
 }
 
-/// The sets that CUBE or ROLLUP chooses of the dimensions.
+// The sets that CUBE or ROLLUP chooses of the dimensions.
 pub fn chosen_sets(alloc: Global, dims: &[u32], rollup: bool) -> Result<Sets, AllocError>
     ensures { IfOk result (λ sets. sets ≡ chosen_sets rollup dims.now) }
 {
@@ -107,7 +107,7 @@ fn prefixes(alloc: Global, positions: &[u32]) -> Result<Sets, AllocError>
     Ok(sets)
 }
 
-/// The first positions.
+// The first positions.
 fn prefix(alloc: Global, positions: &[u32], count: usize) -> Result<Positions, AllocError>
     requires { count ≤ length positions.now }
     ensures { IfOk result (λ prefix. prefix ≡ take count positions.now) }
@@ -115,7 +115,7 @@ fn prefix(alloc: Global, positions: &[u32], count: usize) -> Result<Positions, A
     copied(alloc, &positions[..count])
 }
 
-/// All subsets, by those of the positions behind the first: each with the first in front, and each as it is.
+// All subsets, by those of the positions behind the first: each with the first in front, and each as it is.
 fn subsets(alloc: Global, positions: &[u32]) -> Result<Sets, AllocError>
     ensures { IfOk result (λ sets. sets ≡ subsets positions.now) }
 {

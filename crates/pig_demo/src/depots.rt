@@ -26,7 +26,7 @@ const SCRIPT: &str = "v = LOAD 'visits' AS (user:chararray, page:chararray, time
     top = LIMIT o 10;\n\
     STORE top INTO 'top';\n";
 
-/// The script, alone.
+// The script, alone.
 fn demo_scripts(alloc: Global) -> Result<Sources, AllocError>
     ensures { IfOk result (λ scripts. scripts
         ≡ record { path = script_path; bytes = demo_script } ∷ []) }

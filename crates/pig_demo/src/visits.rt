@@ -6,7 +6,7 @@ use itoa::Buffer;
 use pig_value::{Blob, Blobs, Input, Inputs, Text};
 use std::alloc::{AllocError, Global};
 
-/// Adds a field: its letter, its number and the byte behind it.
+// Adds a field: its letter, its number and the byte behind it.
 fn add_field(out: &mut Vec<u8>, letter: &[u8], number: u64, behind: u8) -> Result<(), AllocError>
     ensures { OnOk result (out.new.items
         ≡ out.old.items ++ visit_field letter.now number behind) }
@@ -18,7 +18,7 @@ fn add_field(out: &mut Vec<u8>, letter: &[u8], number: u64, behind: u8) -> Resul
     Ok(())
 }
 
-/// Adds the line of a visit, by its number.
+// Adds the line of a visit, by its number.
 fn add_visit(out: &mut Vec<u8>, number: u64) -> Result<(), AllocError>
     requires { number < 2 ^ 32 }
     ensures { OnOk result (out.new.items ≡ out.old.items ++ visit_line number) }
@@ -28,7 +28,7 @@ fn add_visit(out: &mut Vec<u8>, number: u64) -> Result<(), AllocError>
     add_field(out, b"", number % 86_400, b'\n')
 }
 
-/// The lines of so many visits.
+// The lines of so many visits.
 fn visit_lines(alloc: Global, count: u32) -> Result<Vec<u8>, AllocError>
     ensures { IfOk result (λ lines. lines.items ≡ visit_lines count) }
 {
@@ -39,7 +39,7 @@ fn visit_lines(alloc: Global, count: u32) -> Result<Vec<u8>, AllocError>
     Ok(lines)
 }
 
-/// The input `visits`, in one piece of so many lines.
+// The input `visits`, in one piece of so many lines.
 pub fn demo_inputs(alloc: Global, count: u32) -> Result<Inputs, AllocError>
     ensures { IfOk result (λ inputs. inputs ≡ demo_inputs count) }
 {

@@ -11,7 +11,7 @@ use pig_builtins::{apply_column, apply_one};
 use pig_value::{Function, Positions, Rows, Value};
 use std::alloc::{AllocError, Global};
 
-/// A function of one argument, of a projection. Of a bag nothing is projected: the rows are read in place.
+// A function of one argument, of a projection. Of a bag nothing is projected: the rows are read in place.
 pub fn apply_projected(
     alloc: Global,
     function: Function,

@@ -11,7 +11,7 @@ use pig_typed::TExpr;
 use pig_value::{Rel, Text, Tuple, Value, order};
 use std::cmp::Ordering;
 
-/// A comparison of two values.
+// A comparison of two values.
 pub fn compared(op: Rel, a: &Value, b: &Value) -> Option<bool>
     ensures { result ≡ compare_truth op (tree a.now) (tree b.now) }
 {
@@ -22,8 +22,8 @@ pub fn compared(op: Rel, a: &Value, b: &Value) -> Option<bool>
     }
 }
 
-/// A comparison of two expressions, where one is a field or a local and the other is such or a literal; no
-/// value is made of the literal.
+// A comparison of two expressions, where one is a field or a local and the other is such or a literal; no
+// value is made of the literal.
 pub fn compare_peeked(
     op: Rel,
     a: &TExpr,
@@ -44,7 +44,7 @@ pub fn compare_peeked(
     }
 }
 
-/// A comparison of a value with a literal, or with a field or a local that is there.
+// A comparison of a value with a literal, or with a field or a local that is there.
 pub fn compare_beside(
     op: Rel,
     v: &Value,

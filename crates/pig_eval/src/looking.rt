@@ -88,9 +88,9 @@ fn literal<'a>(alloc: Global, text: &Text) -> Result<Seen<'a>, AllocError>
     Ok(Seen::Made(Value::Chars(text.copy(alloc)?)))
 }
 
-/// The truth of an expression: none where it is null or no boolean.
-///
-/// Comparisons, AND, OR and NOT make no value on the way, and AND and OR end where the answer is known.
+// The truth of an expression: none where it is null or no boolean.
+//
+// Comparisons, AND, OR and NOT make no value on the way, and AND and OR end where the answer is known.
 #[cycle(look)]
 pub fn truth<'a>(
     alloc: Global,

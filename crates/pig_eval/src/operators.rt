@@ -9,7 +9,7 @@ ghost use Rattle.pig_eval.specs.Truths.{chain_truth, is_logical as is_logical_op
 
 use pig_value::{ChainOp, Value};
 
-/// True, false or unknown, which a null is and whatever is no boolean.
+// True, false or unknown, which a null is and whatever is no boolean.
 pub fn truth_value(v: &Value) -> Option<bool>
     ensures { result ≡ truth_of (tree v.now) }
 {
@@ -19,7 +19,7 @@ pub fn truth_value(v: &Value) -> Option<bool>
     }
 }
 
-/// The boolean of a truth, null where it is unknown.
+// The boolean of a truth, null where it is unknown.
 pub fn boolean(truth: Option<bool>) -> Value
     ensures { tree result ≡ truth_tree truth }
 {
@@ -51,7 +51,7 @@ pub fn or(a: Option<bool>, b: Option<bool>) -> Option<bool>
     }
 }
 
-/// The truth of an operator of a chain.
+// The truth of an operator of a chain.
 pub fn joined(op: ChainOp, a: Option<bool>, b: Option<bool>) -> Option<bool>
     ensures { result ≡ chain_truth op a b }
 {
@@ -62,7 +62,7 @@ pub fn joined(op: ChainOp, a: Option<bool>, b: Option<bool>) -> Option<bool>
     }
 }
 
-/// Whether an operator is AND or OR.
+// Whether an operator is AND or OR.
 pub fn is_logical(op: ChainOp) -> bool
     ensures { result ≡ is_logical_op op }
 {
@@ -73,7 +73,7 @@ pub fn is_logical(op: ChainOp) -> bool
     }
 }
 
-/// Whether a value is no null.
+// Whether a value is no null.
 pub fn is_present(v: &Value) -> bool
     ensures { result ≡ is_present_of (tree v.now) }
 {
@@ -83,7 +83,7 @@ pub fn is_present(v: &Value) -> bool
     }
 }
 
-/// An operator of a chain.
+// An operator of a chain.
 pub fn step(op: ChainOp, a: &Value, b: &Value) -> Value
     ensures { tree result ≡ chain_tree op (tree a.now) (tree b.now) }
 {
@@ -186,7 +186,7 @@ fn long_remainder(x: i64, y: i64) -> Option<i64>
     Some(x.wrapping_rem(y))
 }
 
-/// Unary minus.
+// Unary minus.
 pub fn minus(v: &Value) -> Value
     ensures { tree result ≡ minus_tree (tree v.now) }
 {

@@ -10,7 +10,7 @@ use crate::seen::{Seen, copied, lent_or_null};
 use pig_value::{Pairs, Positions, Rows, Seq, Text, Tuple, Value, bag, field_at};
 use std::alloc::{AllocError, Global};
 
-/// A projection; the one field of a lent tuple is lent.
+// A projection; the one field of a lent tuple is lent.
 pub fn project<'a>(
     alloc: Global,
     seen: Seen<'a>,
@@ -55,7 +55,7 @@ fn lent_field<'a>(v: &'a Value, fields: &Positions, single: bool) -> Option<Seen
     }
 }
 
-/// A projection with memory of its own: of a tuple a field or a tuple, of a bag a bag.
+// A projection with memory of its own: of a tuple a field or a tuple, of a bag a bag.
 #[tactic(auto, using(crate::proofs::Projections::of_tuple, crate::proofs::Projections::of_bag, crate::proofs::Projections::of_listed))]
 pub fn projected(
     alloc: Global,
@@ -140,7 +140,7 @@ fn pick_rows(alloc: Global, rows: &Rows, fields: &Positions) -> Result<Rows, All
     Ok(Seq::from_vec(made))
 }
 
-/// What a map has under a key; of a lent map it is lent.
+// What a map has under a key; of a lent map it is lent.
 pub fn look_up<'a>(alloc: Global, seen: Seen<'a>, key: &Text) -> Result<Seen<'a>, AllocError>
     ensures { IfOk result (λ s. seen_tree s ≡ look_tree key.now (seen_tree seen.entry)) }
 {

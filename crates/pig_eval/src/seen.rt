@@ -57,7 +57,7 @@ pub fn owned(alloc: Global, seen: Seen) -> Result<Value, AllocError>
     }
 }
 
-/// The value that was looked for, null where there is none.
+// The value that was looked for, null where there is none.
 pub fn lent_or_null<'a>(found: Option<&'a Value>) -> Seen<'a>
     ensures { seen_tree result ≡ field_tree found.entry }
 {
@@ -67,7 +67,7 @@ pub fn lent_or_null<'a>(found: Option<&'a Value>) -> Seen<'a>
     }
 }
 
-/// A copy of the value that was looked for, null where there is none.
+// A copy of the value that was looked for, null where there is none.
 pub fn copied(alloc: Global, found: Option<&Value>) -> Result<Value, AllocError>
     ensures { IfOk result (λ v. tree v ≡ field_tree found.entry) }
 {
@@ -77,7 +77,7 @@ pub fn copied(alloc: Global, found: Option<&Value>) -> Result<Value, AllocError>
     }
 }
 
-/// The value of an expression that is a field or a local which is there.
+// The value of an expression that is a field or a local which is there.
 pub fn peek<'a>(e: &TExpr, row: &'a Tuple, locals: &'a Tuple) -> Option<&'a Value>
     ensures { MatchOption result ⊤ (λ v. tree v.now
         ≡ ev (typed e.now) (row_tree row.now) (row_tree locals.now)) }

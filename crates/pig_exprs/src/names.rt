@@ -73,7 +73,7 @@ impl Turning for Parting {
     }
 }
 
-/// A name: parts with `::` between, where GROUP is the part `group` and CUBE the part `cube`.
+// A name: parts with `::` between, where GROUP is the part `group` and CUBE the part `cube`.
 #[tactic(auto, unfolding(crate::specs::Reader::name_at))]
 pub fn name(alloc: Global, tokens: &[Token]) -> Result<(Text, &[Token]), ParseFault>
     ensures { Gives (name_at (forms tokens.now)) result }

@@ -28,6 +28,7 @@ impl From<AllocError> for ParseFault {
 
 /// A rule of the grammar that the members of a list stand by.
 pub trait Rule {
+    /// What a member is read as.
     type Tree: Drop;
 
     /// What the rule needs of its parts.
@@ -44,6 +45,7 @@ pub trait Rule {
 
 /// The turns of a list: what goes on with it, and what ends it.
 pub trait Turning {
+    /// What a member is read as.
     type Tree: Drop;
 
     /// What a turn needs of its parts.
@@ -58,7 +60,7 @@ pub trait Turning {
         ensures { Turns (finds self.now (forms tokens.now)) result };
 }
 
-// A list of one.
+/// A list of one.
 pub fn one<T: Drop>(alloc: Global, first: T) -> Result<Seq<T>, AllocError>
     ensures { IfOk result (λ all. all ≡ first ∷ []) }
 {
@@ -270,7 +272,7 @@ pub fn before<'a, K: Drop, T: Turning>(
     Ok(((kept, elements), rest))
 }
 
-/// What is kept, and the members of a list behind a first one, each behind a comma.
+// What is kept, and the members of a list behind a first one, each behind a comma.
 pub fn other_members<'a, K: Drop, R: Rule>(
     alloc: Global,
     kept: K,

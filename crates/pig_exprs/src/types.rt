@@ -240,7 +240,7 @@ fn type_tree(
     .any_type(tokens)
 }
 
-/// A type that begins with a word, as in a cast, whose brackets nest less deep than `depth`.
+// A type that begins with a word, as in a cast, whose brackets nest less deep than `depth`.
 pub fn cast_type(
     alloc: Global,
     tokens: &[Token],

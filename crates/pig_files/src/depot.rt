@@ -38,7 +38,7 @@ impl<R: Files + AllocGlobal + Clone + Drop> FileDepot<R> {
         }
     }
 
-    /// A call is told.
+    // A call is told.
     fn tell(&mut self, method: Method, path: &str)
         ensures calls { self.new.history.calls
             ≡ and_call method path.now self.old.history.calls }
@@ -107,7 +107,7 @@ impl<R: Files + AllocGlobal + Clone + Drop> Depot for FileDepot<R> {
     }
 }
 
-/// Appends the first `most` bytes of a file. False: there is none.
+// Appends the first `most` bytes of a file. False: there is none.
 fn read_front<R: Files>(
     rt: &R,
     alloc: Global,
@@ -131,7 +131,7 @@ fn read_front<R: Files>(
     Ok(true)
 }
 
-/// The lengths of the pieces at a path: a file is one piece, and a folder has its files. None: nothing is there.
+// The lengths of the pieces at a path: a file is one piece, and a folder has its files. None: nothing is there.
 fn piece_lengths<R: Files + AllocGlobal + Clone + Drop>(
     rt: &R,
     alloc: Global,
@@ -153,7 +153,7 @@ fn piece_lengths<R: Files + AllocGlobal + Clone + Drop>(
     Ok(Some(lengths))
 }
 
-/// Makes a folder that isn't there, and its missing parents.
+// Makes a folder that isn't there, and its missing parents.
 fn make_folder<R: Files>(rt: &R, dir: &str) -> io::Result<()> {
     if let Some((parent, _)) = dir.rsplit_once('/') {
         if !parent.is_empty() {
@@ -163,7 +163,7 @@ fn make_folder<R: Files>(rt: &R, dir: &str) -> io::Result<()> {
     fs::create_dir(rt, dir)
 }
 
-/// Writes the file of a part.
+// Writes the file of a part.
 fn write_part<R: Files>(
     rt: &R,
     alloc: Global,
@@ -175,7 +175,7 @@ fn write_part<R: Files>(
     fs::write(rt, path.as_str(), bytes)
 }
 
-/// Writes the empty file that marks a whole folder.
+// Writes the empty file that marks a whole folder.
 fn write_marker<R: Files>(rt: &R, alloc: Global, dir: &str) -> io::Result<()> {
     let path = format!(in alloc; "{dir}/_SUCCESS")?;
     fs::write(rt, path.as_str(), b"".as_slice())

@@ -5,7 +5,7 @@ ghost use Rattle.pig_outside.specs.Counts.{all_faults, stores_failed};
 use pig_outside::{FaultCounts, OutsideError};
 use std::io::{self, ErrorKind};
 
-/// The answer to an error of the system. Each but want of memory is counted.
+// The answer to an error of the system. Each but want of memory is counted.
 pub fn answer(faults: &mut FaultCounts, error: io::Error) -> OutsideError
     ensures later { all_faults faults.old ≤ all_faults faults.new }
     ensures failed { result ≡ OutsideError.Failed → all_faults faults.old < all_faults faults.new }
@@ -19,7 +19,7 @@ pub fn answer(faults: &mut FaultCounts, error: io::Error) -> OutsideError
     faults.fail()
 }
 
-/// The same where a directory was being made.
+// The same where a directory was being made.
 pub fn answer_store(faults: &mut FaultCounts, error: io::Error) -> OutsideError
     ensures later { all_faults faults.old ≤ all_faults faults.new }
     ensures failed { result ≡ OutsideError.Failed → all_faults faults.old < all_faults faults.new }
@@ -33,7 +33,7 @@ pub fn answer_store(faults: &mut FaultCounts, error: io::Error) -> OutsideError
     faults.fail_store()
 }
 
-/// Whether the error says that nothing stands at the path.
+// Whether the error says that nothing stands at the path.
 pub fn is_absent(error: &io::Error) -> bool {
     matches!(error.kind(), ErrorKind::NotFound | ErrorKind::NotADirectory)
 }

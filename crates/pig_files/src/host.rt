@@ -24,14 +24,14 @@ pub struct FileHost<R: Files<File = File> + AllocGlobal + Clone + Drop> {
     history: History,
 }
 
-/// A folder that was listed.
+// A folder that was listed.
 #[derive(Drop)]
 struct Folder {
     path: Text,
     pieces: Vec<FolderPiece>,
 }
 
-/// An open piece.
+// An open piece.
 #[derive(Drop)]
 struct OpenPiece {
     path: Text,
@@ -55,7 +55,7 @@ impl<R: Files<File = File> + AllocGlobal + Clone + Drop> FileHost<R> {
         }
     }
 
-    /// Fills the buffer from a piece, which is opened where it isn't open.
+    // Fills the buffer from a piece, which is opened where it isn't open.
     fn read_piece(&mut self, path: &str, piece: u32, from: u64, into: &mut [u8]) -> io::Result<()>
         ensures faults { all_faults self.new.faults ≡ all_faults self.old.faults }
         ensures begun { self.new.history ≡ self.old.history }
@@ -103,8 +103,8 @@ impl<R: Files<File = File> + AllocGlobal + Clone + Drop> Host for FileHost<R> {
     }
 }
 
-/// Opens a piece: the file itself, or that one of a folder's pieces. What is neither a file nor a folder is not
-/// opened, since a pipe would be waited for.
+// Opens a piece: the file itself, or that one of a folder's pieces. What is neither a file nor a folder is not
+// opened, since a pipe would be waited for.
 fn open_piece<R: Files<File = File> + AllocGlobal + Clone + Drop>(
     rt: &R,
     alloc: Global,
@@ -123,13 +123,13 @@ fn open_piece<R: Files<File = File> + AllocGlobal + Clone + Drop>(
     Ok(OpenPiece { path, piece, file })
 }
 
-/// Opens what is a file.
+// Opens what is a file.
 fn open_file<R: Files<File = File>>(rt: &R, path: &str) -> io::Result<File> {
     file_length(&fs::metadata(rt, path)?)?;
     fs::open(rt, path)
 }
 
-/// The path of a folder's piece. The folder is listed where it was not yet.
+// The path of a folder's piece. The folder is listed where it was not yet.
 fn piece_path<R: Files + AllocGlobal + Clone + Drop>(
     rt: &R,
     alloc: Global,

@@ -17,7 +17,7 @@ pub use host::FileHost;
 
 fn crosses<T: Send>() {}
 
-/// Shows that a host over files is `Send`, since workers are handed it.
+// Shows that a host over files is `Send`, since workers are handed it.
 fn hosts_cross_threads() {
     crosses::<FileHost<HostRuntime>>();
 }

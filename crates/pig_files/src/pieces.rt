@@ -4,10 +4,10 @@ use std::fs;
 use std::io::{self, ErrorKind};
 use std::rt::Files;
 
-/// How a compressed file's name ends.
+// How a compressed file's name ends.
 const COMPRESSED: [&str; 4] = [".gz", ".bz2", ".lzo", ".zst"];
 
-/// The length of a file. A pipe, a device or a folder has none, and is an error.
+// The length of a file. A pipe, a device or a folder has none, and is an error.
 pub fn file_length(found: &fs::Metadata) -> io::Result<u64> {
     if !found.is_file() {
         return Err(io::Error::from(ErrorKind::InvalidInput));
@@ -15,16 +15,16 @@ pub fn file_length(found: &fs::Metadata) -> io::Result<u64> {
     Ok(found.len())
 }
 
-/// A piece of a folder.
+// A piece of a folder.
 #[derive(Drop)]
 pub struct FolderPiece {
     pub name: String,
     pub length: u64,
 }
 
-/// A folder's pieces in ascending byte order of names: its files, without subfolders and without those whose names
-/// begin with `_` or `.`. A name that isn't text, one of a compressed file, a link to nothing, a pipe and a device
-/// are errors.
+// A folder's pieces in ascending byte order of names: its files, without subfolders and without those whose names
+// begin with `_` or `.`. A name that isn't text, one of a compressed file, a link to nothing, a pipe and a device
+// are errors.
 pub fn list_pieces<R: Files + AllocGlobal + Clone + Drop>(
     rt: &R,
     alloc: Global,

@@ -9,10 +9,10 @@ use crate::{Attempt, Event, Fate, Status, Task};
 use std::alloc::{AllocError, Global};
 use std::marker::Model;
 
-/// So much may be drawn, begun and failed in one job, all together.
+// So much may be drawn, begun and failed in one job, all together.
 const STEP_LIMIT: u32 = 2_147_483_648;
 
-/// A worker with so many failed attempts may be put aside.
+// A worker with so many failed attempts may be put aside.
 const ASIDE_LIMIT: usize = 3;
 
 /// Why a step was refused. The job is then as it was.

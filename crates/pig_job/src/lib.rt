@@ -36,12 +36,14 @@ pub enum Fate {
 }
 
 impl Fate {
+    /// Whether it has not ended.
     pub fn is_unended(self) -> bool
         ensures { result ≡ is_unended self }
     {
         matches!(self, Fate::Unended)
     }
 
+    /// Whether it ended as a failure.
     pub fn has_failed(self) -> bool
         ensures { result ≡ has_failed self }
     {
@@ -75,6 +77,7 @@ pub struct Task {
 }
 
 impl Task {
+    /// Whether one of its attempts was committed.
     pub fn has_winner(&self) -> bool
         ensures { result ≡ has_winner self.now }
     {

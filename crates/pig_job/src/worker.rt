@@ -47,14 +47,14 @@ impl Worker {
         self.tried.iter().any(|x| x.fate.is_unended())
     }
 
-    /// How many of this worker's attempts have failed.
+    // How many of this worker's attempts have failed.
     pub fn failures(&self) -> usize
         ensures { result ≡ count_by (λ x. has_failed x.fate) self.now.tried }
     {
         self.tried.iter().filter(|x| x.fate.has_failed()).count()
     }
 
-    /// Whether the attempt `number` at `task` is this worker's, and under way.
+    // Whether the attempt `number` at `task` is this worker's, and under way.
     pub fn holds(&self, task: u32, number: u32) -> bool
         ensures { result ≡ list_any (is_open task number) self.now.tried }
     {
@@ -89,7 +89,7 @@ impl Worker {
         self.tried.iter().position(|x| x.is_open(task, number))
     }
 
-    /// Ends the attempt `number` at `task` in `fate`, if it is this worker's and under way.
+    // Ends the attempt `number` at `task` in `fate`, if it is this worker's and under way.
     pub fn settle(&mut self, task: u32, number: u32, fate: Fate)
         ensures { self.new ≡ settled self.old task number fate }
     {

@@ -20,15 +20,6 @@ use Rattle.pig_map.specs.Choosing.{AreLent, Chooses, chosen_rows}
 use Rattle.pig_map.specs.Making.{AreFrom, HasRun, MayGive}
 use Rattle.pig_map.specs.declared.choosing.Chosen.{Chosen}
 
--- the rows of an output of an earlier wave are those of the part
-pub lent_from : (s : Stages) (told : Option (List Input)) (outs : Outs) (source : ℕ) (o : PlanOp) → op_at s.plan source ≡ Some o → (wave at : ℕ) (rows : List (List Tree))
-    → rows ≡ rows_at outs wave at → AreFrom s told outs source (parts.Output wave at) rows 0
-lent_from s told outs source o is wave at rows same = record {
-  rows_are = λ inputs reads. same ∙ sym (ap (λ p. option_map_or (part_rows inputs outs (parts.Output wave at)) p []) is);
-  lines_are = λ inputs reads. sym (ap (λ p. length (option_map_or (part_lines inputs (parts.Output wave at)) p [])) is);
-  given = subst (λ p. MayGive outs (parts.Output wave at) p rows) (sym is) same;
-}
-
 -- what marks of folding nodes stand for
 abbrev pub RowsByMarks : Type 0
 RowsByMarks = (folding : Folding) (folded : List Bool) → AreFoldMarks folding folded → (plan : Plan) (path : List ℕ) (rows : List (List Tree))

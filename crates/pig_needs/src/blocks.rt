@@ -10,7 +10,7 @@ use crate::{Need, NeedList};
 use pig_typed::{Block, BlockItem, BlockStep, TExpr, TLink};
 use std::alloc::{AllocError, Global};
 
-/// What a block names of a row, where so much is needed of what it makes.
+// What a block names of a row, where so much is needed of what it makes.
 pub fn block_names(alloc: Global, own: &[Need], block: &Block) -> Result<NeedList, AllocError>
     ensures { IfOk result (λ found. found ≡ block_names own.now (block_typed block.now)) }
 {
@@ -26,7 +26,7 @@ pub fn block_names(alloc: Global, own: &[Need], block: &Block) -> Result<NeedLis
     Ok(found)
 }
 
-/// Adds what nested steps name.
+// Adds what nested steps name.
 fn add_steps(steps: &[BlockStep], found: &mut NeedList) -> Result<(), AllocError>
     ensures { OnOk result (found.new ≡ found.old
         ++ flat_map (λ step. whole_fields (step_bag step)) (map step_typed steps.now)) }
@@ -39,7 +39,7 @@ fn add_steps(steps: &[BlockStep], found: &mut NeedList) -> Result<(), AllocError
     Ok(())
 }
 
-/// The bag that a nested step goes through.
+// The bag that a nested step goes through.
 fn bag_of_step(step: &BlockStep) -> &TExpr
     ensures { typed result.now ≡ step_bag (step_typed step.now) }
 {
@@ -52,7 +52,7 @@ fn bag_of_step(step: &BlockStep) -> &TExpr
     }
 }
 
-/// Adds what the items that stay name.
+// Adds what the items that stay name.
 fn add_items(
     alloc: Global,
     own: &[Need],
@@ -77,7 +77,7 @@ fn add_items(
     Ok(())
 }
 
-/// Adds what the value of an item names.
+// Adds what the value of an item names.
 fn add_value(steps: &[BlockStep], e: &TExpr, found: &mut NeedList) -> Result<(), AllocError>
     ensures { OnOk result (found.new
         ≡ found.old ++ value_names (map step_typed steps.now) (typed e.now)) }
@@ -88,7 +88,7 @@ fn add_value(steps: &[BlockStep], e: &TExpr, found: &mut NeedList) -> Result<(),
     add_whole_fields(e, found)
 }
 
-/// Adds each field that an expression mentions, as a whole.
+// Adds each field that an expression mentions, as a whole.
 #[cycle(add_whole_fields)]
 fn add_whole_fields(e: &TExpr, found: &mut NeedList) -> Result<(), AllocError>
     ensures { OnOk result (found.new ≡ found.old ++ map field (fields_in (typed e.now))) }

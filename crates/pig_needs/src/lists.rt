@@ -36,7 +36,7 @@ pub struct Use {
     pub named: NeedList,
 }
 
-/// Whether an entry is there.
+// Whether an entry is there.
 pub fn is_needed(need: Need, list: &[Need]) -> bool
     ensures { result ≡ is_needed need list.now }
 {
@@ -67,7 +67,7 @@ fn is_same_part(a: Part, b: Part) -> bool
     }
 }
 
-/// Adds entries, each of which then stands once.
+// Adds entries, each of which then stands once.
 pub fn add_all(alloc: Global, list: &mut NeedList, more: &[Need]) -> Result<(), AllocError>
     ensures { OnOk result (list.new ≡ with_all list.old more.now) }
 {

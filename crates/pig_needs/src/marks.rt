@@ -39,7 +39,7 @@ pub fn item_marks(alloc: Global, need: &[Need], items: &[BlockItem]) -> Result<M
     Ok(marks)
 }
 
-/// Whether an item stays that gives the field at a position: a FLATTEN does, and else its field is named.
+// Whether an item stays that gives the field at a position: a FLATTEN does, and else its field is named.
 pub fn stays(named: &[bool], first: u32, flatten: bool) -> bool
     ensures { result ≡ (flatten || get_or named.now first false) }
 {
@@ -55,7 +55,7 @@ fn mark_at(marks: &[bool], place: u32) -> bool
     }
 }
 
-/// The positions that are named.
+// The positions that are named.
 pub fn named_marks(alloc: Global, need: &[Need]) -> Result<Marks, AllocError>
     ensures { IfOk result (λ marks. AreNamed need.now marks) }
 {
@@ -86,7 +86,7 @@ fn make_room(marks: &mut Marks, place: usize) -> Result<(), AllocError>
     Ok(())
 }
 
-/// The entries of a need, to be found at once: of each part the positions of which it is needed.
+// The entries of a need, to be found at once: of each part the positions of which it is needed.
 pub fn index_of(alloc: Global, need: &[Need]) -> Result<Vec<Marks>, AllocError>
     ensures { IfOk result (λ index. IsIndex need.now index.items) }
 {
@@ -99,7 +99,7 @@ pub fn index_of(alloc: Global, need: &[Need]) -> Result<Vec<Marks>, AllocError>
     Ok(index)
 }
 
-/// Whether an entry is there.
+// Whether an entry is there.
 pub fn has_entry(index: &[Marks], need: Need) -> bool
     ensures { result ≡ has_entry index.now need }
 {

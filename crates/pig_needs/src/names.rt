@@ -9,7 +9,7 @@ use pig_typed::{TExpr, TLink};
 use pig_value::Function;
 use std::alloc::AllocError;
 
-/// Adds what an expression names of a row.
+// Adds what an expression names of a row.
 #[cycle(add_names)]
 pub fn add_names(e: &TExpr, found: &mut NeedList) -> Result<(), AllocError>
     ensures { OnOk result (found.new ≡ found.old ++ names_in (typed e.now)) }
@@ -76,7 +76,7 @@ fn add_arg_names(args: &[TExpr], found: &mut NeedList) -> Result<(), AllocError>
     Ok(())
 }
 
-/// Adds what keys name.
+// Adds what keys name.
 pub fn add_key_names(keys: &[TExpr], found: &mut NeedList) -> Result<(), AllocError>
     ensures { OnOk result (found.new ≡ found.old ++ key_names (map typed keys.now)) }
 {
@@ -88,7 +88,7 @@ pub fn add_key_names(keys: &[TExpr], found: &mut NeedList) -> Result<(), AllocEr
     Ok(())
 }
 
-/// Adds columns of the bag at a position.
+// Adds columns of the bag at a position.
 fn add_columns(position: u32, columns: &[u32], found: &mut NeedList) -> Result<(), AllocError>
     ensures { OnOk result (found.new ≡ found.old ++ map (column_of position) columns.now) }
 {
@@ -101,7 +101,7 @@ fn add_columns(position: u32, columns: &[u32], found: &mut NeedList) -> Result<(
     Ok(())
 }
 
-/// A whole field.
+// A whole field.
 pub fn whole_field(position: u32) -> Need
     ensures { result ≡ whole_field position }
 {
@@ -109,7 +109,7 @@ pub fn whole_field(position: u32) -> Need
     Need { position, part }
 }
 
-/// The position of the field that an expression is.
+// The position of the field that an expression is.
 fn field_of(e: &TExpr) -> Option<u32>
     ensures { result ≡ field_of (typed e.now) }
 {
@@ -119,7 +119,7 @@ fn field_of(e: &TExpr) -> Option<u32>
     }
 }
 
-/// What a function counts by, where it is one that counts a field.
+// What a function counts by, where it is one that counts a field.
 fn counted(function: Function, args: &[TExpr]) -> Option<Need>
     ensures { result ≡ counted function (only_field (args_of (map typed args.now))) }
 {

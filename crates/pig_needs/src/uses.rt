@@ -13,7 +13,7 @@ use pig_plan::{KeyedInput, NodeOp, Plan};
 use pig_typed::TExpr;
 use std::alloc::{AllocError, Global};
 
-/// What an operator names of each of its inputs, where so much is needed of its own rows.
+// What an operator names of each of its inputs, where so much is needed of its own rows.
 pub fn uses_of(alloc: Global, plan: &Plan, own: &[Need], op: &NodeOp) -> Result<Uses, AllocError>
     ensures { IfOk result (λ uses.
         uses ≡ uses_of (width_at (plan_of plan.now)) own.now (op_of op.now)) }
@@ -41,7 +41,7 @@ pub fn uses_of(alloc: Global, plan: &Plan, own: &[Need], op: &NodeOp) -> Result<
     }
 }
 
-/// The use of one input.
+// The use of one input.
 fn only(alloc: Global, input: u32, named: NeedList) -> Result<Uses, AllocError>
     ensures { IfOk result (λ uses. uses ≡ record { input = input; named = named } ∷ []) }
 {
@@ -50,7 +50,7 @@ fn only(alloc: Global, input: u32, named: NeedList) -> Result<Uses, AllocError>
     Ok(uses)
 }
 
-/// How many fields the rows of a node have.
+// How many fields the rows of a node have.
 fn width(plan: &Plan, node: u32) -> Result<u32, AllocError>
     ensures { IfOk result (λ width. width ≡ width_at (plan_of plan.now) node) }
 {
@@ -60,7 +60,7 @@ fn width(plan: &Plan, node: u32) -> Result<u32, AllocError>
     }
 }
 
-/// All fields of the rows of one input.
+// All fields of the rows of one input.
 fn whole(alloc: Global, plan: &Plan, input: u32) -> Result<Uses, AllocError>
     ensures { IfOk result (λ uses. uses ≡ whole_use (width_at (plan_of plan.now)) input ∷ []) }
 {
@@ -78,7 +78,7 @@ fn all_fields(alloc: Global, width: u32) -> Result<NeedList, AllocError>
     Ok(found)
 }
 
-/// What is needed of rows of which some pass a condition.
+// What is needed of rows of which some pass a condition.
 fn tested(alloc: Global, own: &[Need], cond: &TExpr) -> Result<NeedList, AllocError>
     ensures { IfOk result (λ found. found ≡ own.now ++ names_in (typed cond.now)) }
 {
@@ -99,7 +99,7 @@ fn copied(alloc: Global, own: &[Need]) -> Result<NeedList, AllocError>
     Ok(found)
 }
 
-/// What is needed of the rows in the bag at a position.
+// What is needed of the rows in the bag at a position.
 fn bag_names(alloc: Global, width: u32, bag: u32, own: &[Need]) -> Result<NeedList, AllocError>
     ensures { IfOk result (λ found. found ≡ bag_names width bag own.now) }
 {
@@ -149,7 +149,7 @@ fn column_named(part: Part) -> Option<Need>
     }
 }
 
-/// The uses of a GROUP's inputs, whose bags stand behind the key.
+// The uses of a GROUP's inputs, whose bags stand behind the key.
 fn group_uses(
     alloc: Global,
     plan: &Plan,
@@ -192,7 +192,7 @@ fn group_use(
     })
 }
 
-/// The uses of a JOIN's inputs, whose fields stand side by side.
+// The uses of a JOIN's inputs, whose fields stand side by side.
 fn join_uses(
     alloc: Global,
     plan: &Plan,
@@ -236,7 +236,7 @@ fn join_use(
     })
 }
 
-/// Adds what is needed of so many fields from the first of them on.
+// Adds what is needed of so many fields from the first of them on.
 fn add_within(first: u32, size: u32, own: &[Need], found: &mut NeedList) -> Result<(), AllocError>
     ensures { OnOk result (found.new ≡ found.old ++ filter_map (within first size) own.now) }
 {

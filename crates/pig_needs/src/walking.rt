@@ -22,7 +22,7 @@ pub fn needs(alloc: Global, plan: &Plan) -> Result<Vec<NeedList>, AllocError>
     walked(alloc, plan)
 }
 
-/// The nodes are gone through from the last to the first: what is needed of a node is known once all behind it are done.
+// The nodes are gone through from the last to the first: what is needed of a node is known once all behind it are done.
 fn walked(alloc: Global, plan: &Plan) -> Result<Vec<NeedList>, AllocError>
     ensures { IfOk result (λ found. AreNeedsFrom (plan_of plan.now) 0 found.items) }
 {
@@ -57,7 +57,7 @@ fn walk_node(
     use_inputs(alloc, plan, node, number, found)
 }
 
-/// Nothing is needed as yet.
+// Nothing is needed as yet.
 fn no_needs(alloc: Global, plan: &Plan) -> Result<Vec<NeedList>, AllocError>
     ensures { IfOk result (λ found.
         AreNeedsFrom (plan_of plan.now) (length plan.now) found.items) }
@@ -75,7 +75,7 @@ fn empty_lists(alloc: Global, count: usize) -> Result<Vec<NeedList>, AllocError>
     Ok(found)
 }
 
-/// An empty need is replaced by the first field.
+// An empty need is replaced by the first field.
 fn complete(alloc: Global, found: &mut Vec<NeedList>, number: usize) -> Result<(), AllocError>
     requires { number < length found.old.items }
     ensures own { OnOk result (found.new.items
@@ -91,7 +91,7 @@ fn complete(alloc: Global, found: &mut Vec<NeedList>, number: usize) -> Result<(
     Ok(())
 }
 
-/// Adds what a node names of the nodes before it.
+// Adds what a node names of the nodes before it.
 fn use_inputs(
     alloc: Global,
     plan: &Plan,
@@ -125,7 +125,7 @@ fn add_uses(
     Ok(())
 }
 
-/// Adds what is named of a node before the one of a number; it names no other.
+// Adds what is named of a node before the one of a number; it names no other.
 fn add_use(
     alloc: Global,
     use_of: &Use,

@@ -61,7 +61,7 @@ fn is_same_as_next(rows: &[Tuple]) -> bool
     }
 }
 
-/// A copy of each row once, sorted. Only the rows that are kept are copied.
+// A copy of each row once, sorted. Only the rows that are kept are copied.
 pub fn copied_once(alloc: Global, rows: &Rows) -> Result<Rows, AllocError>
     ensures { IfOk result (λ made. rows_tree made ≡ distinct row_cmp (rows_tree rows.now)) }
 {

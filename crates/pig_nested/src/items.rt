@@ -13,7 +13,7 @@ use pig_typed::{BlockItem, BlockItems, TExpr};
 use pig_value::{Rows, Seq, Tuple, Value};
 use std::alloc::{AllocError, Global};
 
-/// All joinings of what the items give on a row, the first item varying slowest.
+// All joinings of what the items give on a row, the first item varying slowest.
 pub fn rows_of_items(
     alloc: Global,
     items: &BlockItems,

@@ -7,10 +7,10 @@ ghost use Rattle.pig_nested.specs.Joinings.{joining_rows};
 use pig_value::{Rows, Seq, Tuple, Value, copy};
 use std::alloc::{AllocError, Global};
 
-/// Rows that go on with the same fields: each of `rows` with `tail` behind it. `room` is how many fields a whole row
-/// is to have.
-///
-/// What has one list alone goes into `tail`, so that a row is copied again only where a bag has several tuples for it.
+// Rows that go on with the same fields: each of `rows` with `tail` behind it. `room` is how many fields a whole row
+// is to have.
+//
+// What has one list alone goes into `tail`, so that a row is copied again only where a bag has several tuples for it.
 #[derive(Drop)]
 pub struct Joining {
     pub rows: Rows,
@@ -18,7 +18,7 @@ pub struct Joining {
     pub room: usize,
 }
 
-/// One row without fields, as a joining.
+// One row without fields, as a joining.
 pub fn starting(alloc: Global, room: usize) -> Result<Joining, AllocError>
     ensures { IfOk result (λ made. joining_rows made ≡ [] ∷ []) }
 {
@@ -27,14 +27,14 @@ pub fn starting(alloc: Global, room: usize) -> Result<Joining, AllocError>
     Ok(Joining { rows, tail, room })
 }
 
-/// One row without fields.
+// One row without fields.
 pub fn one_empty(alloc: Global) -> Result<Rows, AllocError>
     ensures { IfOk result (λ made. rows_tree made ≡ [] ∷ []) }
 {
     only(alloc, Seq::new(alloc))
 }
 
-/// The rows before each list that FLATTEN of a value gives.
+// The rows before each list that FLATTEN of a value gives.
 pub fn with_flattened(
     alloc: Global,
     joining: Joining,
@@ -53,7 +53,7 @@ pub fn with_flattened(
     }
 }
 
-/// The rows with a value behind each.
+// The rows with a value behind each.
 pub fn with_value(joining: Joining, v: Value) -> Result<Joining, AllocError>
     ensures { IfOk result (λ made. joining_rows made
         ≡ joined (joining_rows joining) ((tree v ∷ []) ∷ [])) }
@@ -175,7 +175,7 @@ fn add_nulls(row: &mut Tuple, width: u32) -> Result<(), AllocError>
     Ok(())
 }
 
-/// The whole rows.
+// The whole rows.
 pub fn finished(alloc: Global, joining: Joining) -> Result<Rows, AllocError>
     ensures { IfOk result (λ made. rows_tree made ≡ joining_rows joining) }
 {

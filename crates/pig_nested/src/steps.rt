@@ -15,7 +15,7 @@ use pig_typed::{BlockStep, BlockSteps, SortKeys, TExpr};
 use pig_value::{Rows, Seq, Tuple, Value, copy_row};
 use std::alloc::{AllocError, Global};
 
-/// The values of a block's steps on a row, each on the values of the steps before it.
+// The values of a block's steps on a row, each on the values of the steps before it.
 pub fn values_of_steps(alloc: Global, steps: &BlockSteps, row: &Tuple) -> Result<Tuple, AllocError>
     ensures { IfOk result (λ made. row_tree made
         ≡ steps_values (map step_typed steps.now) (row_tree row.now) []) }

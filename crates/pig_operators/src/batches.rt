@@ -14,10 +14,10 @@ use pig_value::Rows;
 use std::alloc::{AllocError, Global};
 use std::marker::Model;
 
-/// A batch takes no further row or group where it has so many rows.
+// A batch takes no further row or group where it has so many rows.
 const BATCH_ROWS: usize = 512;
 
-/// A batch with a row takes no further group where its groups have so many entries, whose rows stand in memory.
+// A batch with a row takes no further group where its groups have so many entries, whose rows stand in memory.
 const BATCH_ENTRIES: usize = 4_096;
 
 /// The rows of an operator by key over the entries of a run, some groups at a time.

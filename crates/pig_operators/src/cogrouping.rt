@@ -11,7 +11,7 @@ use pig_runs::Run;
 use pig_value::{Rows, Seq, Tuple, Value, copy};
 use std::alloc::{AllocError, Global};
 
-/// Adds the rows of COGROUP of a group: a key that holds a null groups apart for each input.
+// Adds the rows of COGROUP of a group: a key that holds a null groups apart for each input.
 pub fn add_cogrouped(
     alloc: Global,
     key: Value,

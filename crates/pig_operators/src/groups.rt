@@ -9,10 +9,10 @@ use pig_runs::Run;
 use pig_value::{Rows, Seq, Tuple};
 use std::alloc::{AllocError, Global};
 
-/// Lists of rows.
+// Lists of rows.
 pub type Bags = Seq<Rows>;
 
-/// The place behind the entries that have the key of the one at a place.
+// The place behind the entries that have the key of the one at a place.
 pub fn group_end(run: &Run, from: usize) -> usize
     requires { from < length run.now.entries }
     ensures { IsGroup run.now from result }
@@ -26,7 +26,7 @@ pub fn group_end(run: &Run, from: usize) -> usize
     count
 }
 
-/// The place behind the entries of an input, of those from a place up to another.
+// The place behind the entries of an input, of those from a place up to another.
 pub fn input_end(run: &Run, from: usize, end: usize, input: usize) -> usize
     requires order { from ≤ end }
     requires within { end ≤ length run.now.entries }
@@ -40,7 +40,7 @@ pub fn input_end(run: &Run, from: usize, end: usize, input: usize) -> usize
     end
 }
 
-/// The rows of the entries from a place up to another.
+// The rows of the entries from a place up to another.
 pub fn rows_between(alloc: Global, run: &Run, from: usize, end: usize) -> Result<Rows, AllocError>
     requires order { from ≤ end }
     requires within { end ≤ length run.now.entries }
@@ -53,7 +53,7 @@ pub fn rows_between(alloc: Global, run: &Run, from: usize, end: usize) -> Result
     Ok(rows)
 }
 
-/// The bags of the first inputs' rows in a group, one for each of so many inputs.
+// The bags of the first inputs' rows in a group, one for each of so many inputs.
 pub fn bags(
     alloc: Global,
     run: &Run,
@@ -76,7 +76,7 @@ pub fn bags(
     Ok(bags)
 }
 
-/// The bag of the first input's rows in a group.
+// The bag of the first input's rows in a group.
 pub fn first_bag(alloc: Global, run: &Run, from: usize, end: usize) -> Result<Rows, AllocError>
     requires group { IsGroup run.now from end }
     requires sorted { ∥ Ascends (run_cmp run.now.dirs) run.now.entries ∥₁ }
@@ -86,7 +86,7 @@ pub fn first_bag(alloc: Global, run: &Run, from: usize, end: usize) -> Result<Ro
     rows_between(alloc, run, from, next)
 }
 
-/// Whether a group has one entry of each input, so that nothing repeats where its rows are joined.
+// Whether a group has one entry of each input, so that nothing repeats where its rows are joined.
 pub fn has_one_each(run: &Run, from: usize, end: usize, inputs: usize) -> bool
     requires order { from ≤ end }
     requires within { end ≤ length run.now.entries }
@@ -103,7 +103,7 @@ pub fn has_one_each(run: &Run, from: usize, end: usize, inputs: usize) -> bool
     true
 }
 
-/// The fields of the rows of the entries from a place up to another, in one row.
+// The fields of the rows of the entries from a place up to another, in one row.
 pub fn one_row(alloc: Global, run: &Run, from: usize, end: usize) -> Result<Tuple, AllocError>
     requires order { from ≤ end }
     requires within { end ≤ length run.now.entries }

@@ -11,7 +11,7 @@ use pig_runs::Run;
 use pig_value::{Rows, Seq, Tuple, copy};
 use std::alloc::{AllocError, Global};
 
-/// Adds the rows of a group's inputs, joined. One row of each is joined without a copy.
+// Adds the rows of a group's inputs, joined. One row of each is joined without a copy.
 pub fn add_partners(
     alloc: Global,
     run: &Run,

@@ -12,7 +12,7 @@ use pig_runs::Run;
 use pig_value::{Rows, Side, Tuple, Value};
 use std::alloc::{AllocError, Global};
 
-/// Adds the rows of an outer JOIN of a group.
+// Adds the rows of an outer JOIN of a group.
 pub fn add_outer(
     alloc: Global,
     key: &Value,

@@ -21,7 +21,7 @@ pub struct DirState {
     pub marked: bool,
 }
 
-/// A directory under its path.
+// A directory under its path.
 #[derive(Debug, Drop)]
 pub struct Directory {
     pub path: Text,

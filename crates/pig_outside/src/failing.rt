@@ -6,7 +6,7 @@ ghost use Rattle.pig_outside.specs.Failing.{fault_count, store_fault_count, call
 use crate::{FaultCounts, OutsideError};
 use pig_value::Seq;
 
-/// How many methods there are.
+// How many methods there are.
 const METHODS: usize = Method::Write as usize + 1;
 
 /// A method of a device.
@@ -33,8 +33,8 @@ pub struct Call {
 /// Calls, in any order.
 pub type Calls = Seq<Call>;
 
-/// The calls that are to fail, the calls of each method and of all so far, and the failures so far. Of the calls that
-/// are to fail some are listed; one may be given, and one from which each fails, by their numbers over all methods.
+// The calls that are to fail, the calls of each method and of all so far, and the failures so far. Of the calls that
+// are to fail some are listed; one may be given, and one from which each fails, by their numbers over all methods.
 #[derive(Debug, Drop)]
 pub struct Failing {
     calls: Calls,
@@ -46,7 +46,7 @@ pub struct Failing {
 }
 
 impl Failing {
-    /// No call was made yet.
+    // No call was made yet.
     pub fn new(calls: Calls) -> Failing
         ensures { IsUncalled calls result }
     {
@@ -60,36 +60,36 @@ impl Failing {
         }
     }
 
-    /// From this call on, counted from 1 over all methods, each call is to fail.
+    // From this call on, counted from 1 over all methods, each call is to fail.
     pub fn fail_from(&mut self, number: u64)
         ensures { self.new ≡ fails_from number self.old }
     {
         self.from = Some(number);
     }
 
-    /// This call, counted from 1 over all methods, is to fail.
+    // This call, counted from 1 over all methods, is to fail.
     pub fn fail_once(&mut self, number: u64)
         ensures { self.new ≡ fails_once number self.old }
     {
         self.once = Some(number);
     }
 
-    /// How often the method was called.
+    // How often the method was called.
     pub fn made(&self, method: Method) -> u64
         ensures { result ≡ calls_made method self.now }
     {
         self.made[method as usize]
     }
 
-    /// How often a call has failed.
+    // How often a call has failed.
     pub fn faults(&self) -> u64
         ensures { result ≡ fault_count self.now }
     {
         self.faults.all()
     }
 
-    /// One more call of the method is made. Failed: it is one of those that are to fail. Out of memory: it is one of
-    /// them, and the count of failures can't go on.
+    // One more call of the method is made. Failed: it is one of those that are to fail. Out of memory: it is one of
+    // them, and the count of failures can't go on.
     pub fn call(&mut self, method: Method) -> Result<(), OutsideError>
         ensures due { EndsAsDue method self.old self.new result }
         ensures cause { HasConsoleCause (fault_count self.old) (fault_count self.new) result }
@@ -108,7 +108,7 @@ impl Failing {
         })
     }
 
-    /// Whether the last call of the method was to fail.
+    // Whether the last call of the method was to fail.
     fn is_due(&self, method: Method) -> bool
         ensures { IsTrue result ↔ IsDue method self.now }
     {
@@ -122,7 +122,7 @@ impl Failing {
     }
 }
 
-/// Counts one more call of the method.
+// Counts one more call of the method.
 fn count(made: &mut [u64; METHODS], method: Method)
     ensures made { count_of method made.new ≡ min (count_of method made.old + 1) (2 ^ 64 - 1) }
     ensures others { (m : Method) → m ≢ method → count_of m made.new ≡ count_of m made.old }
@@ -131,7 +131,7 @@ fn count(made: &mut [u64; METHODS], method: Method)
     made[place] = made[place].saturating_add(1);
 }
 
-/// Whether the call is one of these.
+// Whether the call is one of these.
 fn is_listed(calls: &[Call], method: Method, number: u64) -> bool
     ensures { IsTrue result ↔ IsListed method number calls.now }
 {
@@ -140,7 +140,7 @@ fn is_listed(calls: &[Call], method: Method, number: u64) -> bool
         .any(|call| call.method == method && call.number == number)
 }
 
-/// Whether all calls are to fail from one on that is at most this one.
+// Whether all calls are to fail from one on that is at most this one.
 fn is_behind(from: Option<u64>, number: u64) -> bool
     ensures { IsTrue result ↔ IsBehind from number }
 {
@@ -150,7 +150,7 @@ fn is_behind(from: Option<u64>, number: u64) -> bool
     }
 }
 
-/// Whether this is the one call that is to fail.
+// Whether this is the one call that is to fail.
 fn is_it(once: Option<u64>, number: u64) -> bool
     ensures { IsTrue result ↔ once ≡ Some number }
 {

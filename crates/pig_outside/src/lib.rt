@@ -42,7 +42,7 @@ pub use stop::Stop;
 
 fn crosses<T: Send>() {}
 
-/// Shows that what workers are handed and hand back is `Send`: hosts, and their errors.
+// Shows that what workers are handed and hand back is `Send`: hosts, and their errors.
 fn hosts_cross_threads() {
     crosses::<MemoryHost>();
     crosses::<Failed>();

@@ -8,11 +8,11 @@ use crate::Source;
 use crate::contents::Directory;
 use pig_value::Input;
 
-/// What stands under a path.
+// What stands under a path.
 pub trait Named {
     ghost name: { Self → List ℕ };
 
-    /// Its path.
+    // Its path.
     fn name(&self) -> &str
         ensures { result.now ≡ name self.now };
 }
@@ -41,14 +41,14 @@ impl Named for Directory {
     }
 }
 
-/// The first of that path.
+// The first of that path.
 pub fn find<'a, T: Named>(items: &'a [T], path: &str) -> Option<&'a T>
     ensures { option_copied result ≡ entry_named T.name path.now items.now }
 {
     items.iter().find(|item| item.name() == path)
 }
 
-/// The place of the first of that path.
+// The place of the first of that path.
 pub fn place<T: Named>(items: &[T], path: &str) -> Option<usize>
     ensures { result ≡ place_of T.name path.now items.now }
 {

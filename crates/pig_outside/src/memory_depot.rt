@@ -66,7 +66,7 @@ impl MemoryDepot {
         self.failing.fail_once(number);
     }
 
-    /// A call is made, and fails where it is to fail.
+    // A call is made, and fails where it is to fail.
     fn call(&mut self, method: Method, path: &str) -> Result<(), OutsideError>
         ensures shelf { depot_shelf self.new ≡ depot_shelf self.old }
         ensures calls { depot_calls self.new ≡ and_call method path.now (depot_calls self.old) }
@@ -226,7 +226,7 @@ impl Depot for MemoryDepot {
     }
 }
 
-/// Appends the first `most` bytes, or all where there are fewer.
+// Appends the first `most` bytes, or all where there are fewer.
 fn append_front(bytes: &[u8], most: u64, into: &mut Vec<u8>) -> Result<(), AllocError>
     ensures ok { OnOk result (into.new.items ≡ into.old.items ++ take most bytes.now) }
     ensures err { OnErr result (into.new.items ≡ into.old.items) }
@@ -235,7 +235,7 @@ fn append_front(bytes: &[u8], most: u64, into: &mut Vec<u8>) -> Result<(), Alloc
     into.extend_from_slice(&bytes[..count])
 }
 
-/// The lengths of the pieces.
+// The lengths of the pieces.
 fn lengths(alloc: Global, pieces: &[Blob]) -> Result<Lengths, AllocError>
     ensures { IfOk result (λ l. l ≡ lengths_of pieces.now) }
 {
@@ -246,7 +246,7 @@ fn lengths(alloc: Global, pieces: &[Blob]) -> Result<Lengths, AllocError>
     Ok(Seq::from_vec(lengths))
 }
 
-/// Makes an empty directory behind the others.
+// Makes an empty directory behind the others.
 fn add_dir(alloc: Global, dirs: &mut Vec<Directory>, dir: &str) -> Result<(), OutsideError>
     ensures ok { OnOk result (dirs.new.items ≡ dirs.old.items
         ++ record { path = dir.now; state = open_state [] } ∷ []) }
@@ -264,7 +264,7 @@ fn add_dir(alloc: Global, dirs: &mut Vec<Directory>, dir: &str) -> Result<(), Ou
     Ok(())
 }
 
-/// Appends a part in that directory.
+// Appends a part in that directory.
 fn add_part(
     alloc: Global,
     dirs: &mut Vec<Directory>,
@@ -283,7 +283,7 @@ fn add_part(
     Ok(())
 }
 
-/// Sets the marker of that directory.
+// Sets the marker of that directory.
 fn mark(dirs: &mut Vec<Directory>, dir: &str)
     requires { IsOpenIn dir.now (parts_in dir.now dirs.old.items) dirs.old.items }
     ensures { dirs.new.items ≡ set_dir dir.now
@@ -293,7 +293,7 @@ fn mark(dirs: &mut Vec<Directory>, dir: &str)
     dirs[at].state.marked = true;
 }
 
-/// The place of a directory that is there.
+// The place of a directory that is there.
 fn existing(dirs: &[Directory], dir: &str) -> usize
     requires { IsSome (state_of dir.now dirs.now) }
     ensures { IsPlace dir.now dirs.now result }

@@ -116,7 +116,7 @@ impl Host for MemoryHost {
     }
 }
 
-/// Fills the buffer from that piece.
+// Fills the buffer from that piece.
 fn read_range(inputs: &[Input], path: &str, piece: u32, from: u64, into: &mut [u8])
     requires { HasRange path.now piece from (length into.old) inputs.now }
     ensures { into.new ≡ range_of path.now piece from (length into.old) inputs.now }
@@ -128,7 +128,7 @@ fn read_range(inputs: &[Input], path: &str, piece: u32, from: u64, into: &mut [u
     into.copy_from_slice(&bytes.as_slice()[start..start + into.len()]);
 }
 
-/// That piece of the input.
+// That piece of the input.
 fn find_piece<'a>(inputs: &'a [Input], path: &str, piece: u32) -> Option<&'a Blob>
     ensures { option_copied result ≡ piece_of path.now piece inputs.now }
 {

@@ -1,7 +1,7 @@
 use crate::builder::PackedBuilder;
 use crate::rows::Packed;
 
-/// Packed rows may be shared and handed to other threads.
+// Packed rows may be shared and handed to other threads.
 fn crosses<T: Send + Sync>() {}
 
 /// Shows that packed rows, also those that are not finished, are `Send` and `Sync`.

@@ -12,7 +12,7 @@ use pig_value::Value;
 use std::alloc::AllocError;
 use std::mem;
 
-/// Bytes that grow by what they are told, until memory is wanting.
+// Bytes that grow by what they are told, until memory is wanting.
 struct TextBuffer {
     bytes: Vec<u8>,
     wants: bool,
@@ -112,7 +112,7 @@ fn write_more_places(
     Ok(())
 }
 
-/// Appends all fields, with the delimiter between each two.
+// Appends all fields, with the delimiter between each two.
 pub fn write_fields(fields: &[Seen], delim: u8, out: &mut Vec<u8>) -> Result<(), AllocError>
     ensures { OnOk result (out.new.items ≡ out.old.items
         ++ join_with_byte delim (map seen_text fields.now)) }
@@ -125,7 +125,7 @@ pub fn write_fields(fields: &[Seen], delim: u8, out: &mut Vec<u8>) -> Result<(),
     Ok(())
 }
 
-/// Appends the fields at places, with the delimiter between each two.
+// Appends the fields at places, with the delimiter between each two.
 pub fn write_places(
     fields: &[Seen],
     places: &[u32],

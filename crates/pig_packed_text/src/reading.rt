@@ -20,7 +20,7 @@ const BYTES: u8 = 5;
 
 const ITEM: u8 = 1;
 
-/// A field of a row: the bytes of a text, which are lent, or another value.
+// A field of a row: the bytes of a text, which are lent, or another value.
 #[derive(Drop)]
 pub enum Seen<'c> {
     Text(&'c [u8]),
@@ -125,7 +125,7 @@ fn next_field(rest: &[u8]) -> Option<&[u8]>
     }
 }
 
-/// The fields of a row, in the place of others.
+// The fields of a row, in the place of others.
 pub fn read_fields<'c>(
     alloc: Global,
     code: &'c [u8],

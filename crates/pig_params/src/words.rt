@@ -11,7 +11,7 @@ use crate::{Param, Params};
 use pig_value::{Seq, Text, WordFault, Words};
 use std::alloc::{AllocError, Global};
 
-/// The most parameters that words may give.
+// The most parameters that words may give.
 const MOST_PARAMS: usize = 64;
 
 /// What is taken of the words of a command line.

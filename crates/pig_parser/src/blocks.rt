@@ -103,7 +103,7 @@ fn value<'a>(
     ))
 }
 
-/// Items as members of a list.
+// Items as members of a list.
 #[derive(Drop)]
 pub struct ItemRule<'l> {
     pub alloc: Global,
@@ -248,7 +248,7 @@ impl Turning for StepTurns<'_> {
     }
 }
 
-/// The steps of a block.
+// The steps of a block.
 #[tactic(auto, unfolding(crate::specs::StatementReader::steps_at))]
 pub fn steps<'a>(
     alloc: Global,

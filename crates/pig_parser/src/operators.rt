@@ -384,7 +384,7 @@ fn rank(alloc: Global, tokens: &[Token]) -> Result<(Op, &[Token]), ParseFault>
     }
 }
 
-/// What a relation is made by.
+// What a relation is made by.
 #[tactic(auto, unfolding(crate::specs::StatementReader::op_at))]
 pub fn operator<'a>(
     alloc: Global,

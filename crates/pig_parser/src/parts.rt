@@ -16,7 +16,7 @@ use pig_syntax::{
 use pig_value::{Dir, Seq, Text};
 use std::alloc::Global;
 
-/// The members, where they are two at least.
+// The members, where they are two at least.
 #[tactic(auto, unfolding(crate::specs::StatementReader::several))]
 pub fn several<T: Drop>(members: Seq<T>) -> Result<Seq<T>, ParseFault>
     ensures { GivesFound (several members) result }
@@ -27,7 +27,7 @@ pub fn several<T: Drop>(members: Seq<T>) -> Result<Seq<T>, ParseFault>
     }
 }
 
-/// Expressions as members of a list.
+// Expressions as members of a list.
 #[derive(Drop)]
 pub struct ExpressionRule<'l> {
     pub alloc: Global,
@@ -66,8 +66,8 @@ fn key_list<'a>(
     }
 }
 
-/// Keys: one expression, or several in parentheses. Parentheses may also be those of the one expression,
-/// so it is tried first.
+// Keys: one expression, or several in parentheses. Parentheses may also be those of the one expression,
+// so it is tried first.
 #[tactic(auto, unfolding(crate::specs::StatementReader::keys_at))]
 pub fn keys<'a>(
     alloc: Global,
@@ -123,7 +123,7 @@ impl Rule for OrderFieldRule {
     }
 }
 
-/// What is kept, and the keys of an ORDER.
+// What is kept, and the keys of an ORDER.
 #[tactic(auto, unfolding(crate::specs::StatementReader::order_keys_at))]
 pub fn order_keys<K: Drop>(
     alloc: Global,
@@ -170,7 +170,7 @@ impl Rule for TextRule {
     }
 }
 
-/// Names of relations as members of a list.
+// Names of relations as members of a list.
 #[derive(Drop)]
 pub struct IdentRule {
     pub alloc: Global,
@@ -221,7 +221,7 @@ fn func(alloc: Global, tokens: &[Token]) -> Result<(Func, &[Token]), ParseFault>
     }
 }
 
-/// The storage function behind USING, where one stands.
+// The storage function behind USING, where one stands.
 #[tactic(auto, unfolding(crate::specs::StatementReader::using_func_at))]
 pub fn using_func(alloc: Global, tokens: &[Token]) -> Result<(Option<Func>, &[Token]), ParseFault>
     ensures { Gives (using_func_at (forms tokens.now)) result }
@@ -235,7 +235,7 @@ pub fn using_func(alloc: Global, tokens: &[Token]) -> Result<(Option<Func>, &[To
     }
 }
 
-/// The text behind USING, where one stands.
+// The text behind USING, where one stands.
 #[tactic(auto, unfolding(crate::specs::StatementReader::using_text_at))]
 pub fn using_text(alloc: Global, tokens: &[Token]) -> Result<(Option<Text>, &[Token]), ParseFault>
     ensures { Gives (using_text_at (forms tokens.now)) result }
@@ -249,7 +249,7 @@ pub fn using_text(alloc: Global, tokens: &[Token]) -> Result<(Option<Text>, &[To
     }
 }
 
-/// The tokens behind PARALLEL and its number, where they stand.
+// The tokens behind PARALLEL and its number, where they stand.
 #[tactic(auto, unfolding(crate::specs::StatementReader::after_parallel))]
 pub fn after_parallel(tokens: &[Token]) -> &[Token]
     ensures { forms result.now ≡ after_parallel (forms tokens.now) }
@@ -271,7 +271,7 @@ fn count_of(token: &Token) -> Option<u64>
     }
 }
 
-/// What is kept, and a count of tuples.
+// What is kept, and a count of tuples.
 #[tactic(auto, unfolding(crate::specs::StatementReader::count_at))]
 pub fn count<K: Drop>(kept: K, tokens: &[Token]) -> Result<((K, u64), &[Token]), ParseFault>
     ensures kept { IfOk result (λ r. r.0.0 ≡ kept) }

@@ -277,7 +277,7 @@ fn ended(tree: Stmt, rest: &[Token]) -> Result<Stmt, ParseFault>
     }
 }
 
-/// The tree of a statement's tokens.
+// The tree of a statement's tokens.
 #[tactic(auto, unfolding(crate::specs::StatementReader::statement_at))]
 pub fn statement(alloc: Global, limits: &Limits, tokens: &[Token]) -> Result<Stmt, ParseFault>
     ensures { GivesFound (statement_at MOST_NESTED (forms tokens.now)) result }

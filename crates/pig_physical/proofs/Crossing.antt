@@ -26,8 +26,10 @@ use Rattle.pig_plan.specs.contracts.nodes.KeyedInput as keyed_type
 use Rattle.pig_plan.specs.contracts.nodes.NodeOp as op_type
 use Rattle.pig_plan.specs.contracts.nodes.Node as node_type
 use Rattle.pig_plan.specs.contracts.given.Given as given_type
+use Rattle.pig_plan.specs.contracts.shared.SharedKinds as shared_type
 use Rattle.pig_plan.specs.contracts.plan.Plan as plan_type
 use Rattle.std.proofs.alloc.Global.TheSendSync as heap
+use Rattle.std.proofs.sync.Arc.TheSendSync as arc
 use Rattle.std.proofs.vec.Vec.TheSendSync as vec
 use Rattle.std.proofs.Crossing as freeing
 use Rattle.pig_physical.specs.contracts.parts.Path as path_type
@@ -200,11 +202,19 @@ nodes_send = search (sendable, seq.the_send, node_sends)
 pub nodes_shared : IsSync (seq_type.the_row node_type.the_row)
 nodes_shared = search (sendable, seq.the_sync, node_shared)
 
+kinds_send : IsSend shared_type.the_row
+kinds_send =
+    search (sendable, declared_send, as_row_send, arc.the_send, heap.the_send, heap.the_sync, freeing.frees, seq.the_send, seq.the_sync, kind_sends, kind_shared) depth 9
+
+kinds_shared : IsSync shared_type.the_row
+kinds_shared =
+    search (sendable, declared_sync, as_row_sync, arc.the_sync, heap.the_send, heap.the_sync, freeing.frees, seq.the_send, seq.the_sync, kind_sends, kind_shared) depth 9
+
 pub given_sends : IsSend given_type.the_row
-given_sends = variants_send given_type.enum ((search (sendable, seq.the_send, kind_sends), tt), (tt, tt))
+given_sends = variants_send given_type.enum ((kinds_send, tt), (tt, tt))
 
 pub given_shared : IsSync given_type.the_row
-given_shared = variants_sync given_type.enum ((search (sendable, seq.the_sync, kind_shared), tt), (tt, tt))
+given_shared = variants_sync given_type.enum ((kinds_shared, tt), (tt, tt))
 
 pub plan_sends : IsSend plan_type.the_row
 plan_sends = search (sendable, declared_send, as_row_send, heap.the_send, freeing.frees, vec.the_send, given_sends, nodes_send) depth 9

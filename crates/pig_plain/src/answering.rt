@@ -71,7 +71,7 @@ pub fn answer(alloc: Global, plan: &Plan, inputs: &Inputs) -> Result<Answers, Al
     Ok(Answers { kept, stores })
 }
 
-/// What stands after the nodes before one: their rows, what was kept, and what is stored.
+// What stands after the nodes before one: their rows, what was kept, and what is stored.
 #[derive(Drop)]
 struct Running<'p> {
     table: Vec<Relation<'p>>,
@@ -80,7 +80,7 @@ struct Running<'p> {
 }
 
 impl<'p> Running<'p> {
-    /// Goes on by one node.
+    // Goes on by one node.
     fn take_on(
         &mut self,
         alloc: Global,
@@ -109,7 +109,7 @@ impl<'p> Running<'p> {
         self.put(Relation::Standing(Rows::new(alloc)))
     }
 
-    /// Goes on by a live node.
+    // Goes on by a live node.
     fn take_live(
         &mut self,
         alloc: Global,
@@ -142,7 +142,7 @@ impl<'p> Running<'p> {
         }
     }
 
-    /// The rows stand for later nodes.
+    // The rows stand for later nodes.
     fn put(&mut self, made: Relation<'p>) -> Result<(), AllocError>
         ensures table { OnOk result (self.new.table.items
             ≡ self.old.table.items ++ made.entry ∷ []) }
@@ -153,7 +153,7 @@ impl<'p> Running<'p> {
         Ok(())
     }
 
-    /// The rows of a STORE are looked at by no node.
+    // The rows of a STORE are looked at by no node.
     fn put_stored(&mut self, alloc: Global, made: Relation<'p>) -> Result<(), AllocError>
         ensures table { OnOk result (self.new.table.items
             ≡ self.old.table.items ++ no_rows ∷ []) }
@@ -166,7 +166,7 @@ impl<'p> Running<'p> {
         self.put(Relation::Standing(Rows::new(alloc)))
     }
 
-    /// The rows of a bare LIMIT stand, and copies are kept.
+    // The rows of a bare LIMIT stand, and copies are kept.
     fn put_kept(
         &mut self,
         alloc: Global,
@@ -191,7 +191,7 @@ impl<'p> Running<'p> {
     }
 }
 
-/// What becomes of the rows of a live node.
+// What becomes of the rows of a live node.
 enum Kind {
     /// A STORE's are stored.
     Stored,
@@ -211,7 +211,7 @@ fn kind_of(op: &NodeOp, sorted: &[bool]) -> Kind
     }
 }
 
-/// A LIMIT on no sorted node is bare.
+// A LIMIT on no sorted node is bare.
 fn kind_of_limit(sorted: &[bool], input: u32) -> Kind
     ensures { result ≡ limit_kind (at_place false sorted.now input) }
 {

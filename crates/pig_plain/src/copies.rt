@@ -4,7 +4,7 @@ ghost use Rattle.pig_value.specs.Trees.{rows_tree};
 use pig_value::{Rows, Tuple, copy_row};
 use std::alloc::{AllocError, Global};
 
-/// Copies of rows, in order.
+// Copies of rows, in order.
 pub fn copied(alloc: Global, rows: &[Tuple]) -> Result<Rows, AllocError>
     ensures { IfOk result (λ made. rows_tree made ≡ rows_tree rows.now) }
 {
@@ -13,7 +13,7 @@ pub fn copied(alloc: Global, rows: &[Tuple]) -> Result<Rows, AllocError>
     Ok(made)
 }
 
-/// Adds copies of rows behind others.
+// Adds copies of rows behind others.
 pub fn add_copies(alloc: Global, rows: &[Tuple], made: &mut Rows) -> Result<(), AllocError>
     ensures { OnOk result (rows_tree made.new ≡ rows_tree made.old ++ rows_tree rows.now) }
 {

@@ -10,7 +10,7 @@ use pig_typed::{Block, TExpr};
 use pig_value::{Rows, Tuple, copy_row};
 use std::alloc::{AllocError, Global};
 
-/// FILTER of rows that others use too: copies of those of which the condition is true.
+// FILTER of rows that others use too: copies of those of which the condition is true.
 pub fn passing_copies(alloc: Global, cond: &TExpr, rows: &[Tuple]) -> Result<Rows, AllocError>
     ensures { IfOk result (λ kept. rows_tree kept
         ≡ filter_rows (typed cond.now) (rows_tree rows.now)) }
@@ -32,7 +32,7 @@ fn copy_passing(alloc: Global, cond: &TExpr, row: &Tuple, kept: &mut Rows) -> Re
     kept.push(copy_row(alloc, row)?)
 }
 
-/// FILTER of rows that no other uses: those of which the condition is true.
+// FILTER of rows that no other uses: those of which the condition is true.
 pub fn passing(alloc: Global, cond: &TExpr, rows: Rows) -> Result<Rows, AllocError>
     ensures { IfOk result (λ kept. rows_tree kept
         ≡ filter_rows (typed cond.now) (rows_tree rows)) }
@@ -54,7 +54,7 @@ fn keep_passing(alloc: Global, cond: &TExpr, row: Tuple, kept: &mut Rows) -> Res
     kept.push(row)
 }
 
-/// FOREACH: what the block generates of each row.
+// FOREACH: what the block generates of each row.
 pub fn generated(alloc: Global, block: &Block, rows: &[Tuple]) -> Result<Rows, AllocError>
     ensures { IfOk result (λ made. rows_tree made
         ≡ foreach_all (block_typed block.now) (rows_tree rows.now)) }

@@ -27,9 +27,9 @@ use pig_typed::TExpr;
 use pig_value::{Dirs, Rows, Side};
 use std::alloc::{AllocError, Global};
 
-/// GROUP ALL: one row with the bag of all rows, or none.
-///
-/// Here and below, rows whose last use this is are let go when the run holds them, before it is sorted.
+// GROUP ALL: one row with the bag of all rows, or none.
+//
+// Here and below, rows whose last use this is are let go when the run holds them, before it is sorted.
 pub fn all_grouped<'p>(
     alloc: Global,
     table: &mut Vec<Relation<'p>>,
@@ -51,7 +51,7 @@ pub fn all_grouped<'p>(
     Ok(groups(alloc, Gathering::Group, builder))
 }
 
-/// The rows of an operator by key over the entries of a builder are made where they are used.
+// The rows of an operator by key over the entries of a builder are made where they are used.
 fn groups<'p>(alloc: Global, how: Gathering, builder: RunBuilder) -> Relation<'p>
     requires { builder.dirs ≡ [] }
     ensures { relation_rows result
@@ -61,7 +61,7 @@ fn groups<'p>(alloc: Global, how: Gathering, builder: RunBuilder) -> Relation<'p
     Relation::Coming(Walk::of_groups(alloc, groups))
 }
 
-/// Rows under one key.
+// Rows under one key.
 fn all_entries(alloc: Global, seen: Seen) -> Result<RunBuilder, AllocError>
     requires { AreRows (seen_rows seen) }
     ensures { IfOk result (λ builder. builder
@@ -88,7 +88,7 @@ fn add_all_seen(alloc: Global, seen: Seen, builder: &mut RunBuilder) -> Result<(
     }
 }
 
-/// Here and below, rows that come go batch by batch into the run, and are let go.
+// Here and below, rows that come go batch by batch into the run, and are let go.
 fn add_all_coming(
     alloc: Global,
     walk: &mut Walk,
@@ -108,7 +108,7 @@ fn add_all_coming(
     }
 }
 
-/// GROUP and COGROUP.
+// GROUP and COGROUP.
 pub fn grouped<'p>(
     alloc: Global,
     inputs: &[KeyedInput],
@@ -128,7 +128,7 @@ pub fn grouped<'p>(
     brought(alloc, how, inputs, table, ends, number)
 }
 
-/// JOIN.
+// JOIN.
 pub fn joined<'p>(
     alloc: Global,
     plan: &Plan,
@@ -153,7 +153,7 @@ pub fn joined<'p>(
     }
 }
 
-/// The rows of the inputs' entries, brought together.
+// The rows of the inputs' entries, brought together.
 fn brought<'p>(
     alloc: Global,
     how: Gathering,
@@ -176,7 +176,7 @@ fn brought<'p>(
     Ok(groups(alloc, how, builder))
 }
 
-/// The entries of all inputs, each row under its key.
+// The entries of all inputs, each row under its key.
 fn entries(
     alloc: Global,
     inputs: &[KeyedInput],
@@ -205,7 +205,7 @@ fn entries(
     Ok(builder)
 }
 
-/// Whether this is a node's last use, and none of the inputs that are still to be used here is the node.
+// Whether this is a node's last use, and none of the inputs that are still to be used here is the node.
 fn is_last_of(ends: &[usize], input: u32, number: usize, rest: &[KeyedInput]) -> bool
     ensures last { result ≡ true → get_or ends.now input 0 ≡ number + 1 }
     ensures named { result ≡ true → list_any (λ i. i == input)
@@ -228,7 +228,7 @@ fn is_named(inputs: &[KeyedInput], node: u32) -> bool
     false
 }
 
-/// The number of the next input, which an entry has room for.
+// The number of the next input, which an entry has room for.
 fn next_number(number: u32) -> Result<u32, AllocError>
     ensures { IfOk result (λ next. next ≡ number + 1) }
 {

@@ -9,7 +9,7 @@ use crate::walking::Walk;
 use pig_value::{Blob, Columns, Delim, Input, Text};
 use std::alloc::Global;
 
-/// LOAD: the rows of all lines of all pieces of an input, in order. No line is read yet.
+// LOAD: the rows of all lines of all pieces of an input, in order. No line is read yet.
 pub fn loaded<'p>(
     alloc: Global,
     inputs: &'p [Input],
@@ -22,7 +22,7 @@ pub fn loaded<'p>(
     Walk::of(alloc, pieces_of(inputs, path.as_str()), delim, columns)
 }
 
-/// The pieces of the input of a path, and none where there is no such input.
+// The pieces of the input of a path, and none where there is no such input.
 fn pieces_of<'a>(inputs: &'a [Input], path: &str) -> &'a [Blob]
     ensures { result.now ≡ pieces_under inputs.now path.now }
 {

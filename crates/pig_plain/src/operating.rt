@@ -17,11 +17,11 @@ use pig_plan::{NodeOp, Plan};
 use pig_value::Input;
 use std::alloc::{AllocError, Global};
 
-/// What a node's operator gives of the rows of the nodes before it, as they come; a LIMIT gives the first of them.
-///
-/// The rows of LOAD, GROUP, COGROUP, JOIN and ORDER, and of FILTER and FOREACH on them, are made where they are used. `ends`
-/// has one more than the number of each node's last use: rows that are used here for the last time are taken where that saves
-/// a copy.
+// What a node's operator gives of the rows of the nodes before it, as they come; a LIMIT gives the first of them.
+//
+// The rows of LOAD, GROUP, COGROUP, JOIN and ORDER, and of FILTER and FOREACH on them, are made where they are used. `ends`
+// has one more than the number of each node's last use: rows that are used here for the last time are taken where that saves
+// a copy.
 pub fn found<'p>(
     alloc: Global,
     plan: &Plan,

@@ -19,7 +19,7 @@ use pig_value::{Rows, Tuple, Value, copy, copy_row, field_at};
 use std::alloc::{AllocError, Global};
 use std::cmp::Ordering;
 
-/// RANK: each row behind its rank.
+// RANK: each row behind its rank.
 pub fn ranked<'p>(
     alloc: Global,
     table: &mut Vec<Relation<'p>>,
@@ -65,7 +65,7 @@ fn ranked_coming(
     ranked_rows(alloc, rows.as_slice(), keys, dense)
 }
 
-/// Of each row the rank is found by its keys, among all rows sorted.
+// Of each row the rank is found by its keys, among all rows sorted.
 fn ranked_rows(
     alloc: Global,
     rows: &[Tuple],
@@ -83,7 +83,7 @@ fn ranked_rows(
     Ok(made)
 }
 
-/// Rows sorted by keys, and the same rows, each behind its rank.
+// Rows sorted by keys, and the same rows, each behind its rank.
 #[derive(Drop)]
 struct Known {
     sorted: Rows,
@@ -125,7 +125,7 @@ fn ranked_row(
     Ok(made)
 }
 
-/// The rank of a row, which is that of any row with its keys.
+// The rank of a row, which is that of any row with its keys.
 fn rank(alloc: Global, known: &Known, keys: &SortKeys, row: &Tuple) -> Result<Value, AllocError>
     ensures { (dense : Bool) (rows : List (List Tree)) → AreKnown keys.now dense rows known.now
         → IfOk result (λ v. tree v ≡ rank_of keys.now dense rows (row_tree row.now)) }
@@ -146,7 +146,7 @@ fn row_at(rows: &[Tuple], place: usize) -> Option<&Tuple>
     rows.get(place)
 }
 
-/// The place of a row that has the keys of a row.
+// The place of a row that has the keys of a row.
 fn place_of(sorted: &[Tuple], keys: &SortKeys, row: &Tuple) -> Option<usize>
     ensures { IfSome result (λ place. ForSome (slice_get (rows_tree sorted.now) place)
         (λ other. sort_keys_cmp keys.now other (row_tree row.now) ≡ Equal)) }
@@ -164,7 +164,7 @@ fn order_of(keys: &SortKeys, other: &Tuple, row: &Tuple) -> Ordering
     compare_by_keys(keys, other, row)
 }
 
-/// Copies of the fields that keys name; one that the row lacks is null.
+// Copies of the fields that keys name; one that the row lacks is null.
 pub fn key_values(alloc: Global, keys: &SortKeys, row: &Tuple) -> Result<Tuple, AllocError>
     ensures { IfOk result (λ made. row_tree made ≡ key_fields keys.now (row_tree row.now)) }
 {

@@ -10,10 +10,10 @@ use pig_storage::{line_row, next_line};
 use pig_value::{Blob, Columns, Delim, Rows};
 use std::alloc::{AllocError, Global};
 
-/// So many lines are read at once.
+// So many lines are read at once.
 const BATCH_LINES: usize = 256;
 
-/// The lines of pieces that are not read yet, and the columns at which they are rows.
+// The lines of pieces that are not read yet, and the columns at which they are rows.
 #[derive(Drop)]
 pub struct Lines<'p> {
     /// What is left of the piece that is read.
@@ -37,7 +37,7 @@ impl<'p> Lines<'p> {
         }
     }
 
-    /// The next line, and none where all are read.
+    // The next line, and none where all are read.
     fn next(&mut self) -> Option<&'p [u8]>
         ensures line { IfSome result (λ line. lines_left self.old
             ≡ line.now ∷ lines_left self.new) }
@@ -62,7 +62,7 @@ impl<'p> Lines<'p> {
         }
     }
 
-    /// The rows of the next lines, and none only where all are read.
+    // The rows of the next lines, and none only where all are read.
     pub fn next_rows(&mut self, alloc: Global) -> Result<Rows, AllocError>
         ensures rows { IfOk result (λ rows. rows_left self.old
             ≡ rows_tree rows ++ rows_left self.new) }
@@ -79,7 +79,7 @@ impl<'p> Lines<'p> {
     }
 }
 
-/// Where rows come from.
+// Where rows come from.
 pub enum Source<'p> {
     /// Lines that are not read yet.
     Read(Lines<'p>),

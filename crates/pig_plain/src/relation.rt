@@ -7,14 +7,14 @@ use crate::walking::Walk;
 use pig_value::{Rows, Tuple};
 use std::alloc::{AllocError, Global};
 
-/// The rows of a relation: as they stand, or as they will come.
+// The rows of a relation: as they stand, or as they will come.
 #[derive(Drop)]
 pub enum Relation<'p> {
     Standing(Rows),
     Coming(Walk<'p>),
 }
 
-/// The rows of a relation, to be gone through once.
+// The rows of a relation, to be gone through once.
 #[derive(Drop)]
 pub enum Seen<'t, 'p> {
     Whole(&'t [Tuple]),
@@ -22,7 +22,7 @@ pub enum Seen<'t, 'p> {
 }
 
 impl<'p> Relation<'p> {
-    /// The rows, all of them made.
+    // The rows, all of them made.
     pub fn into_rows(self, alloc: Global) -> Result<Rows, AllocError>
         ensures { IfOk result (λ rows. rows_tree rows ≡ relation_rows self.entry) }
     {
@@ -33,9 +33,9 @@ impl<'p> Relation<'p> {
     }
 }
 
-/// All rows of a walk.
-///
-/// Here and below, a walk is borrowed where it is gone through, so that its owner alone lets it go, by one call.
+// All rows of a walk.
+//
+// Here and below, a walk is borrowed where it is gone through, so that its owner alone lets it go, by one call.
 pub fn collected(alloc: Global, walk: Walk) -> Result<Rows, AllocError>
     ensures { IfOk result (λ rows. rows_tree rows ≡ coming walk.entry) }
 {
@@ -47,7 +47,7 @@ pub fn collected(alloc: Global, walk: Walk) -> Result<Rows, AllocError>
     Ok(rows)
 }
 
-/// Adds all rows of a walk behind others.
+// Adds all rows of a walk behind others.
 pub fn add_coming(alloc: Global, walk: &mut Walk, made: &mut Rows) -> Result<(), AllocError>
     ensures { OnOk result (rows_tree made.new ≡ rows_tree made.old ++ coming walk.old) }
 {
@@ -60,7 +60,7 @@ pub fn add_coming(alloc: Global, walk: &mut Walk, made: &mut Rows) -> Result<(),
     }
 }
 
-/// Adds copies of rows that stand behind others, or those that come.
+// Adds copies of rows that stand behind others, or those that come.
 pub fn add_seen(alloc: Global, seen: Seen, made: &mut Rows) -> Result<(), AllocError>
     ensures { OnOk result (rows_tree made.new ≡ rows_tree made.old ++ seen_rows seen.entry) }
 {

@@ -8,7 +8,7 @@ use crate::walking::Walk;
 use pig_plan::{KeyedInput, NodeOp};
 use std::alloc::{AllocError, Global};
 
-/// The rows of a node to keep: its own where this is their last use, and else the same once more.
+// The rows of a node to keep: its own where this is their last use, and else the same once more.
 pub fn own_input<'p>(
     alloc: Global,
     table: &mut Vec<Relation<'p>>,
@@ -26,7 +26,7 @@ pub fn own_input<'p>(
     own_relation(alloc, table, input, last)
 }
 
-/// The walk of a node whose last use this is. Of another node the rows stand from now on.
+// The walk of a node whose last use this is. Of another node the rows stand from now on.
 pub fn take_input<'p>(
     alloc: Global,
     table: &mut Vec<Relation<'p>>,
@@ -45,7 +45,7 @@ pub fn take_input<'p>(
     take_coming(alloc, table, input, last)
 }
 
-/// Whether this is a node's last use.
+// Whether this is a node's last use.
 pub fn is_last(ends: &[usize], input: u32, number: usize) -> bool
     ensures { result ≡ (get_or ends.now input 0 == number + 1) }
 {
@@ -55,7 +55,7 @@ pub fn is_last(ends: &[usize], input: u32, number: usize) -> bool
     }
 }
 
-/// Lets the rows of a node's inputs go that no later node looks at.
+// Lets the rows of a node's inputs go that no later node looks at.
 pub fn release_inputs(
     alloc: Global,
     table: &mut Vec<Relation>,
@@ -73,7 +73,7 @@ pub fn release_inputs(
     Ok(())
 }
 
-/// Lets go the rows of inputs by key that no later node looks at.
+// Lets go the rows of inputs by key that no later node looks at.
 pub fn release_keyed(
     alloc: Global,
     table: &mut Vec<Relation>,
@@ -112,7 +112,7 @@ fn release_each(
     }
 }
 
-/// Lets go the rows of a node that no later node looks at.
+// Lets go the rows of a node that no later node looks at.
 pub fn release(alloc: Global, table: &mut Vec<Relation>, ends: &[usize], number: usize, input: u32)
     requires values { AreValues table.old.items }
     ensures size { length table.new.items ≡ length table.old.items }

@@ -17,9 +17,9 @@ use pig_typed::{Block, TExpr};
 use pig_value::{Rows, Tuple};
 use std::alloc::{AllocError, Global};
 
-/// FILTER: the rows themselves where this is their last use, and else copies.
-///
-/// Here and in FOREACH a step is added to rows that are still to come.
+// FILTER: the rows themselves where this is their last use, and else copies.
+//
+// Here and in FOREACH a step is added to rows that are still to come.
 pub fn filtered<'p>(
     alloc: Global,
     cond: &'p TExpr,
@@ -57,7 +57,7 @@ fn passing_own<'p>(
     }
 }
 
-/// FOREACH: what the block generates of each row, of rows that come as they come.
+// FOREACH: what the block generates of each row, of rows that come as they come.
 pub fn foreached<'p>(
     alloc: Global,
     block: &'p Block,
@@ -92,7 +92,7 @@ fn generated_seen<'p>(
     }
 }
 
-/// UNION: the rows of all inputs.
+// UNION: the rows of all inputs.
 pub fn united<'p>(
     alloc: Global,
     table: &mut Vec<Relation<'p>>,
@@ -117,7 +117,7 @@ pub fn united<'p>(
     Ok(Relation::Standing(made))
 }
 
-/// Whether this is a node's last use, and it is not among those that are still to be used here.
+// Whether this is a node's last use, and it is not among those that are still to be used here.
 fn is_last_of(ends: &[usize], input: u32, number: usize, rest: &[u32]) -> bool
     ensures last { result ≡ true → get_or ends.now input 0 ≡ number + 1 }
     ensures named { result ≡ true → list_any (λ i. i == input) rest.now ≡ false }
@@ -157,7 +157,7 @@ fn add_input(
     add_seen(alloc, seen, made)
 }
 
-/// LIMIT: the first rows.
+// LIMIT: the first rows.
 pub fn limited<'p>(
     alloc: Global,
     table: &mut Vec<Relation<'p>>,
@@ -200,7 +200,7 @@ fn first_coming(alloc: Global, walk: &mut Walk, count: u64) -> Result<Rows, Allo
     Ok(Rows::from_vec(rows))
 }
 
-/// The rows of the first batches: at least so many, or all.
+// The rows of the first batches: at least so many, or all.
 fn begun(alloc: Global, walk: &mut Walk, count: usize) -> Result<Rows, AllocError>
     ensures { IfOk result (λ made. take count (rows_tree made)
         ≡ take count (coming walk.old)) }
@@ -216,7 +216,7 @@ fn begun(alloc: Global, walk: &mut Walk, count: usize) -> Result<Rows, AllocErro
     Ok(made)
 }
 
-/// Copies of the first rows.
+// Copies of the first rows.
 fn first_copies(alloc: Global, rows: &[Tuple], count: u64) -> Result<Rows, AllocError>
     ensures { IfOk result (λ made. rows_tree made ≡ take count (rows_tree rows.now)) }
 {

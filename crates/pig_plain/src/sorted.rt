@@ -7,7 +7,7 @@ ghost use Rattle.pig_plain.specs.Operating.{sorted_list};
 use pig_plan::{NodeOp, Nodes};
 use std::alloc::{AllocError, Global};
 
-/// Of each node whether it is sorted: an ORDER, or an ASSERT on a sorted node.
+// Of each node whether it is sorted: an ORDER, or an ASSERT on a sorted node.
 pub fn sorted_nodes(alloc: Global, nodes: &Nodes) -> Result<Vec<bool>, AllocError>
     ensures { IfOk result (λ sorted. sorted.items ≡ sorted_list (plan_of nodes.now)) }
 {
@@ -29,7 +29,7 @@ fn sorts(op: &NodeOp, sorted: &[bool]) -> bool
     }
 }
 
-/// Whether a node is marked; one that is not among them is none.
+// Whether a node is marked; one that is not among them is none.
 pub fn is_marked(marks: &[bool], node: u32) -> bool
     ensures { result ≡ at_place false marks.now node }
 {

@@ -21,10 +21,10 @@ use pig_typed::SortKeys;
 use pig_value::{Dirs, Rows, Seq, Tuple, Value};
 use std::alloc::{AllocError, Global};
 
-/// ORDER: rows by their keys, each in its direction, and then by the order of rows.
-///
-/// They are sorted as bytes. The rows themselves are let go before, where this is their last use, and
-/// made anew where they are used.
+// ORDER: rows by their keys, each in its direction, and then by the order of rows.
+//
+// They are sorted as bytes. The rows themselves are let go before, where this is their last use, and
+// made anew where they are used.
 pub fn in_order<'p>(
     alloc: Global,
     keys: &SortKeys,
@@ -49,7 +49,7 @@ pub fn in_order<'p>(
     Ok(Relation::Coming(Walk::of_ordered(alloc, rows)))
 }
 
-/// Rows under their fields to sort by, in the directions of the keys.
+// Rows under their fields to sort by, in the directions of the keys.
 fn sort_entries(
     alloc: Global,
     keys: &SortKeys,
@@ -152,7 +152,7 @@ fn add_sorting(
     builder.add(&key, 0, row)
 }
 
-/// DISTINCT: each row once, in ascending order.
+// DISTINCT: each row once, in ascending order.
 pub fn each_once<'p>(
     alloc: Global,
     table: &mut Vec<Relation<'p>>,
@@ -171,7 +171,7 @@ pub fn each_once<'p>(
     Ok(Relation::Standing(rows))
 }
 
-/// The rows of a relation once each. A row is let go as soon as a run holds it.
+// The rows of a relation once each. A row is let go as soon as a run holds it.
 fn once(alloc: Global, relation: Relation) -> Result<Rows, AllocError>
     requires { AreRows (relation_rows relation) }
     ensures { IfOk result (λ made. rows_tree made
@@ -181,7 +181,7 @@ fn once(alloc: Global, relation: Relation) -> Result<Rows, AllocError>
     distinct_keys(alloc, builder.finish())
 }
 
-/// Rows under themselves.
+// Rows under themselves.
 fn row_entries(alloc: Global, relation: Relation) -> Result<RunBuilder, AllocError>
     requires { AreRows (relation_rows relation) }
     ensures { IfOk result (λ builder. builder

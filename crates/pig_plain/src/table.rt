@@ -12,7 +12,7 @@ use pig_value::{Rows, Tuple};
 use std::alloc::{AllocError, Global};
 use std::mem;
 
-/// The rows of a node that stand.
+// The rows of a node that stand.
 pub fn rows_at<'t>(table: &'t [Relation], node: u32) -> &'t [Tuple]
     ensures { rows_tree result.now ≡ standing_rows table.now node }
 {
@@ -22,7 +22,7 @@ pub fn rows_at<'t>(table: &'t [Relation], node: u32) -> &'t [Tuple]
     }
 }
 
-/// The rows of a node, to be gone through: those of the walk that was taken, or else those that stand.
+// The rows of a node, to be gone through: those of the walk that was taken, or else those that stand.
 pub fn seen_at<'t, 'p>(
     table: &'t [Relation<'p>],
     node: u32,
@@ -36,7 +36,7 @@ pub fn seen_at<'t, 'p>(
     }
 }
 
-/// The walk of a node, taken where this is its last use. Otherwise the rows stand from now on.
+// The walk of a node, taken where this is its last use. Otherwise the rows stand from now on.
 pub fn take_coming<'p>(
     alloc: Global,
     table: &mut Vec<Relation<'p>>,
@@ -57,7 +57,7 @@ pub fn take_coming<'p>(
     Ok(None)
 }
 
-/// Takes the walk of a node, and leaves rows that stand.
+// Takes the walk of a node, and leaves rows that stand.
 fn take_walk<'p>(alloc: Global, table: &mut Vec<Relation<'p>>, node: u32) -> Option<Walk<'p>>
     ensures rows { taken_rows result table.new.items node ≡ table_rows table.old.items node }
     ensures size { length table.new.items ≡ length table.old.items }
@@ -73,7 +73,7 @@ fn take_walk<'p>(alloc: Global, table: &mut Vec<Relation<'p>>, node: u32) -> Opt
     }
 }
 
-/// The rows of a node to keep: its own where this is the last use, and else copies.
+// The rows of a node to keep: its own where this is the last use, and else copies.
 pub fn own_relation<'p>(
     alloc: Global,
     table: &mut Vec<Relation<'p>>,
@@ -94,7 +94,7 @@ pub fn own_relation<'p>(
     Ok(Relation::Standing(rows))
 }
 
-/// Takes the rows of a node, of which none are left.
+// Takes the rows of a node, of which none are left.
 #[tactic(auto, using(crate::proofs::Tables::taken_is, crate::proofs::Tables::others_stand, crate::proofs::Tables::none_past, crate::proofs::Tables::values_stand))]
 pub fn take_relation<'p>(alloc: Global, table: &mut Vec<Relation<'p>>, node: u32) -> Relation<'p>
     ensures rows { relation_rows result ≡ table_rows table.old.items node }
@@ -110,7 +110,7 @@ pub fn take_relation<'p>(alloc: Global, table: &mut Vec<Relation<'p>>, node: u32
     mem::replace(&mut table[at], Relation::Standing(Rows::new(alloc)))
 }
 
-/// Makes the rows of a node that do not stand yet.
+// Makes the rows of a node that do not stand yet.
 pub fn settle(alloc: Global, table: &mut Vec<Relation>, node: u32) -> Result<(), AllocError>
     ensures rows { OnOk result (standing_rows table.new.items node
         ≡ table_rows table.old.items node) }
@@ -124,7 +124,7 @@ pub fn settle(alloc: Global, table: &mut Vec<Relation>, node: u32) -> Result<(),
     Ok(())
 }
 
-/// Puts rows where those of a node were taken.
+// Puts rows where those of a node were taken.
 fn put_rows(table: &mut Vec<Relation>, node: u32, rows: Rows)
     ensures { table.new.items ≡ slice_set table.old.items node (Standing rows) }
 {

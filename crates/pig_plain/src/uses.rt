@@ -8,14 +8,14 @@ ghost use Rattle.pig_plain.specs.Uses.{AreLate, AreUses, names_one, raised};
 use pig_plan::{Node, NodeOp, Plan, live_marks};
 use std::alloc::{AllocError, Global};
 
-/// Of each node whether it is live, and one more than the number of the last live node that names it, or 0.
+// Of each node whether it is live, and one more than the number of the last live node that names it, or 0.
 #[derive(Drop)]
 pub struct Uses {
     pub live: Vec<bool>,
     pub ends: Vec<usize>,
 }
 
-/// The uses of a plan's nodes.
+// The uses of a plan's nodes.
 pub fn uses_of(alloc: Global, plan: &Plan) -> Result<Uses, AllocError>
     ensures { IfOk result (λ uses. AreUses (plan_of plan.now) uses.live.items uses.ends.items) }
 {
@@ -26,7 +26,7 @@ pub fn uses_of(alloc: Global, plan: &Plan) -> Result<Uses, AllocError>
     Ok(Uses { live, ends })
 }
 
-/// The ends of nodes' uses by live nodes.
+// The ends of nodes' uses by live nodes.
 fn last_uses(alloc: Global, nodes: &[Node], live: &[bool]) -> Result<Vec<usize>, AllocError>
     requires valid { IsPlan (plan_of nodes.now) }
     requires live { live.now ≡ live_marks (plan_of nodes.now) }
@@ -57,7 +57,7 @@ fn no_ends(alloc: Global, count: usize) -> Result<Vec<usize>, AllocError>
     Ok(vec![in alloc; 0; count]?)
 }
 
-/// Raises what stands at each of a live node's inputs to one more than its number.
+// Raises what stands at each of a live node's inputs to one more than its number.
 fn raise_where(
     alloc: Global,
     ends: &mut Vec<usize>,
@@ -105,7 +105,7 @@ fn raise_all(ends: &mut Vec<usize>, inputs: &[u32], end: usize)
 }
 
 impl Uses {
-    /// Whether a node is live.
+    // Whether a node is live.
     pub fn is_live(&self, number: usize) -> bool
         ensures { result ≡ get_or self.now.live.items number false }
     {

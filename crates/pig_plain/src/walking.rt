@@ -12,7 +12,7 @@ use pig_typed::{Block, TExpr};
 use pig_value::{Blob, Column, Columns, Delim, Rows};
 use std::alloc::{AllocError, Global};
 
-/// What is made of each row of a list.
+// What is made of each row of a list.
 #[derive(Drop)]
 pub enum RowStep<'p> {
     /// The rows of which the condition is true.
@@ -21,7 +21,7 @@ pub enum RowStep<'p> {
     Foreach(&'p Block),
 }
 
-/// Rows that are made as they are asked for: those of a source, taken through the steps.
+// Rows that are made as they are asked for: those of a source, taken through the steps.
 pub struct Walk<'p> {
     source: Source<'p>,
     steps: Vec<RowStep<'p>>,
@@ -37,7 +37,7 @@ impl Drop for Walk<'_> {
 }
 
 impl<'p> Walk<'p> {
-    /// The rows of the lines of pieces, at these columns.
+    // The rows of the lines of pieces, at these columns.
     pub fn of(alloc: Global, pieces: &'p [Blob], delim: Delim, columns: &'p Columns) -> Walk<'p>
         ensures { coming result ≡ map (row_of columns.now delim) (flat_map lines pieces.now) }
     {
@@ -46,7 +46,7 @@ impl<'p> Walk<'p> {
         Walk { source, steps }
     }
 
-    /// The rows of the groups of a run.
+    // The rows of the groups of a run.
     pub fn of_groups(alloc: Global, groups: Gatherer) -> Walk<'p>
         ensures { coming result ≡ groups }
     {
@@ -55,7 +55,7 @@ impl<'p> Walk<'p> {
         Walk { source, steps }
     }
 
-    /// The rows of ORDER over a run.
+    // The rows of ORDER over a run.
     pub fn of_ordered(alloc: Global, rows: Orderer) -> Walk<'p>
         ensures { coming result ≡ rows }
     {
@@ -64,7 +64,7 @@ impl<'p> Walk<'p> {
         Walk { source, steps }
     }
 
-    /// One step more behind the others.
+    // One step more behind the others.
     pub fn then(self, step: RowStep<'p>) -> Result<Walk<'p>, AllocError>
         ensures { IfOk result (λ walk. coming walk ≡ step_rows step.entry (coming self.entry)) }
     {
@@ -73,7 +73,7 @@ impl<'p> Walk<'p> {
         Ok(walk)
     }
 
-    /// The next rows, and none only where no more come.
+    // The next rows, and none only where no more come.
     pub fn next_batch(&mut self, alloc: Global) -> Result<Rows, AllocError>
         ensures rows { IfOk result (λ rows. coming self.old ≡ rows_tree rows ++ coming self.new) }
         ensures end { IfOk result (λ rows. rows_tree rows ≡ [] → coming self.new ≡ []) }
@@ -90,7 +90,7 @@ impl<'p> Walk<'p> {
         }
     }
 
-    /// The next rows of the source, and none only where no more come.
+    // The next rows of the source, and none only where no more come.
     fn next_rows(&mut self, alloc: Global) -> Result<Rows, AllocError>
         ensures rows { IfOk result (λ rows. source_rows self.old.source
             ≡ rows_tree rows ++ source_rows self.new.source) }
@@ -106,7 +106,7 @@ impl<'p> Walk<'p> {
     }
 }
 
-/// Rows, taken through the steps one after another.
+// Rows, taken through the steps one after another.
 fn stepped(alloc: Global, steps: &[RowStep], rows: Rows) -> Result<Rows, AllocError>
     ensures { IfOk result (λ made. rows_tree made ≡ steps_rows steps.now (rows_tree rows)) }
 {

@@ -1,14 +1,14 @@
 -- GROUP ALL, GROUP, COGROUP and JOIN in one word: what is made of each key and the bags of the rows that have it.
-use Rattle.std.specs.Prelude.{◌≡◌, ◌+◌, ℕ, Bool, true, false, List, [], ◌∷◌, ◌++◌, map, codes, Option, Some, slice_get, refl}
-use Rattle.std.proofs.Common.{ap, sym, ◌∙◌, arith, append-nil, suc, zero, true≢false}
+use Rattle.std.specs.Prelude.{◌≡◌, ◌+◌, ℕ, Bool, true, List, [], ◌∷◌, ◌++◌, map, Some, slice_get, refl}
+use Rattle.std.proofs.Common.{ap, sym, ◌∙◌, arith, append-nil, suc, true≢false}
 use Rattle.std.specs.List.{flat_map}
 use Rattle.std.specs.Option.{option_map_or}
 use Rattle.pig_value.specs.declared.operators.Side.{Side}
 use Rattle.pig_value.specs.declared.operators.Side.TheVariants as side
-use Rattle.pig_value.specs.Gathering.{Entry, with_key}
+use Rattle.pig_value.specs.Gathering.{Entry}
 use Rattle.pig_value.specs.Orders.{bag_of, tree_cmp}
 use Rattle.pig_value.specs.Sorts.{distinct}
-use Rattle.pig_value.specs.Trees.{Tree, v_chars, v_null}
+use Rattle.pig_value.specs.Trees.{Tree, v_null}
 use Rattle.pig_plan.specs.ByKey.{entries_of_input, gathered, key_of, outer_of}
 use Rattle.pig_plan.specs.Entries.{entries_of, from_inputs, is_by_key, key_entries, made_by}
 use Rattle.pig_plan.specs.Operators.{Setting, join_rows, keyed_entries, keys_of, operator_rows}

@@ -7,7 +7,6 @@ use Rattle.std.proofs.lemmas.Bool.{ne_eqb}
 use Rattle.std.proofs.lemmas.Bool.Decides.{Decides-eqb}
 use Rattle.std.proofs.lemmas.List.Elements.{filter-append}
 use Rattle.std.proofs.Math.Nat.{eq-or-lt_of_le}
-use Rattle.std.proofs.lemmas.List.{drop_all}
 use Rattle.std.proofs.lemmas.Option.{slice_get-get_or, slice_get-map}
 use Rattle.pig_value.proofs.list_laws.Indexing.{dropped}
 use Rattle.pig_plan.specs.declared.nodes.Node.{Node}
@@ -23,15 +22,6 @@ unmarked : (n k : ℕ) → get_or (replicate n false) k false ≡ false
 unmarked zero k = refl
 unmarked (suc n) zero = refl
 unmarked (suc n) (suc k) = unmarked n k
-
--- behind the last node nothing is marked
-pub none_marked : (plan : Plan) (n : ℕ) (marks : List Bool) → n ≡ length plan → length marks ≡ n → marks ≡ replicate n false → AreMarks plan n marks
-none_marked plan n marks same size none = record {
-  size = size ∙ same;
-  behind = λ k from below. absurd (omega (arith, same, from, below));
-  before = λ k below. ap (λ bs. get_or bs k false) none ∙ unmarked n k
-      ∙ ap (λ nodes. is_used k n nodes) (sym (drop_all n plan (let e : length plan ≤ n = omega (arith, same) in e)));
-}
 
 and_swapped : (a b : Bool) → (a && b) ≡ (b && a)
 and_swapped true true = refl

@@ -6,7 +6,7 @@ use Rattle.pig_value.specs.declared.operators.Side.TheVariants as side
 use Rattle.pig_typed.specs.Typed.{Typed, TypedBlock, TypedItem, x_bool, x_int, x_field, x_chain, x_compare, no_links, more_links}
 use Rattle.pig_plan.specs.Conjuncts.{conjuncts}
 use Rattle.pig_plan.specs.Moves.{Move, moves}
-use Rattle.pig_plan.specs.Plans.{Keyed, PlanOp, p_filter, p_foreach, p_group, p_join, p_union, p_distinct, p_limit}
+use Rattle.pig_plan.specs.Plans.{Keyed, PlanOp, p_foreach, p_group, p_join, p_union, p_limit}
 
 -- `$n > 2`
 abbrev above : ℕ → Typed

@@ -1,8 +1,7 @@
 -- The paths that are counted are those that there are, up to the limit.
-use Rattle.std.specs.Prelude.{◌≡◌, ◌<◌, ◌≤◌, ◌+◌, ℕ, zero, suc, Bool, true, false, List, [], ◌∷◌, ◌++◌, length, map, min, Option, Some, None, slice_get, refl, if◌then◌else◌}
+use Rattle.std.specs.Prelude.{◌≡◌, ◌<◌, ◌+◌, ℕ, zero, suc, Bool, true, false, List, [], ◌∷◌, length, map, min, Some, slice_get, refl}
 use Rattle.std.proofs.Common.{ap, sym, ◌∙◌, arith, cond}
 use Rattle.std.specs.List.{AllByRecursion, flat_map, range_with_len, sum_by}
-use Rattle.std.specs.Option.{unwrap_or}
 use Rattle.std.proofs.lemmas.List.{length-append, length-map}
 use Rattle.std.proofs.lemmas.List.Sums.{sum_by-cons}
 use Rattle.pig_value.proofs.list_laws.Indexing.{some_at}
@@ -11,7 +10,7 @@ use Rattle.pig_plan.proofs.Lower.{names_lower}
 use Rattle.pig_plan.proofs.Paths.{paths_of_node}
 use Rattle.pig_plan.proofs.Unfolds.{length-results, result_is}
 use Rattle.pig_plan.specs.Counts.{counts_of, path_counts, ways_up_to}
-use Rattle.pig_plan.specs.Nodes.{Path, and_then, inputs_of, is_source, paths_of, ways}
+use Rattle.pig_plan.specs.Nodes.{Path, and_then, inputs_of, is_source, paths_of}
 use Rattle.pig_plan.specs.Plans.{Plan, PlanNode, PlanOp}
 use Rattle.pig_plan.specs.Results.{at_place}
 use Rattle.pig_plan.specs.Valid.{IsPlan}

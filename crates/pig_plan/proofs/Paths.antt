@@ -1,6 +1,6 @@
 -- The paths of a node are those of its inputs, each with the node behind it, and the paths that enter a node are those of its inputs.
 use Rattle.std.specs.Prelude.{◌≡◌, ◌<◌, ◌+◌, ℕ, List, [], ◌∷◌, ◌++◌, map, Some, slice_get, refl}
-use Rattle.std.proofs.Common.{ap, sym, ◌∙◌, cond}
+use Rattle.std.proofs.Common.{ap, ◌∙◌, cond}
 use Rattle.std.specs.List.{AllByRecursion, flat_map}
 use Rattle.std.proofs.lemmas.List.{map-append}
 use Rattle.pig_plan.proofs.Lower.{names_lower}

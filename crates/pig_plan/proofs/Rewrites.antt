@@ -1,15 +1,14 @@
 -- A plan means the same as itself, both ways and onwards; and that live nodes stay the same is shown node by node.
-use Rattle.std.specs.Prelude.{◌≡◌, ◌<◌, ◌≤◌, ℕ, zero, suc, Bool, true, false, List, Some, slice_get}
+use Rattle.std.specs.Prelude.{◌≡◌, ◌<◌, ℕ, zero, suc, Bool, true, false, List, Some, slice_get}
 use Rattle.std.proofs.Common.{arith}
 use Rattle.pig_value.specs.declared.inputs.Input.{Input}
 use Rattle.pig_value.specs.declared.outcomes.Kept.{Kept}
 use Rattle.pig_value.proofs.list_laws.Indexing.{some_at}
 use Rattle.pig_plan.proofs.Meanings.{live_within}
-use Rattle.pig_plan.specs.Meaning.{IsKept}
 use Rattle.pig_plan.specs.Nodes.{is_live}
 use Rattle.pig_plan.specs.Plans.{Plan, PlanNode}
 use Rattle.pig_plan.specs.Renumbered.{IsSame}
-use Rattle.pig_plan.specs.Rewrites.{Fails, FailsBy, Goes, SameMeaning, Stores}
+use Rattle.pig_plan.specs.Rewrites.{FailsBy, Goes, SameMeaning}
 
 pub same_itself : (p : Plan) → SameMeaning p p
 same_itself p = record {
@@ -24,9 +23,6 @@ same_itself p = record {
       stores = λ path delim rows listed s. s;
       fails = λ statement f. record { first = statement; no_later = omega arith; fails = f };
     }
-
-pub same_back : (p q : Plan) → SameMeaning p q → SameMeaning q p
-same_back p q same = record { kept_on = same.kept_back; kept_back = same.kept_on; goes = same.comes; comes = same.goes }
 
 goes_on : (p q r : Plan) (inputs : List Input) (kept : List Kept) → Goes p q inputs kept → Goes q r inputs kept → Goes p r inputs kept
 goes_on p q r inputs kept first then_on = record {

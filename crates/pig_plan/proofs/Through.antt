@@ -1,9 +1,8 @@
 -- Rows on their way through nodes that work row by row: what comes to a node on all its paths is the node's step on what comes to its
 -- inputs, so that it is what the node means where the sources' rows are what these mean.
-use Rattle.std.specs.Prelude.{◌≡◌, ◌<◌, ◌≤◌, ◌+◌, ℕ, zero, suc, Bool, true, false, List, [], ◌∷◌, ◌++◌, length, map, Option, Some, slice_get, refl}
-use Rattle.std.proofs.Common.{inl, inr, ap, sym, ◌∙◌, arith, append-nil, append_assoc, cond, true≢false}
+use Rattle.std.specs.Prelude.{◌≡◌, ◌<◌, ◌≤◌, ℕ, zero, suc, Bool, true, false, List, [], ◌∷◌, ◌++◌, length, map, Option, Some, slice_get, refl}
+use Rattle.std.proofs.Common.{inl, inr, ap, sym, ◌∙◌, arith, append-nil, cond, true≢false}
 use Rattle.std.specs.List.{AllByRecursion, flat_map}
-use Rattle.std.specs.List.Sorted.{IsPermutation}
 use Rattle.std.specs.Option.{is_some, option_map, option_map_or}
 use Rattle.std.proofs.lemmas.Bool.{cases_Bool}
 use Rattle.std.proofs.lemmas.List.Elements.{filter-append}
@@ -13,7 +12,7 @@ use Rattle.pig_value.specs.declared.inputs.Input.{Input}
 use Rattle.pig_value.specs.declared.outcomes.Kept.{Kept}
 use Rattle.pig_value.specs.Orders.{bag_of, row_cmp}
 use Rattle.pig_value.specs.Trees.{Tree}
-use Rattle.pig_value.proofs.OrderLaws.{row_total, row_same}
+use Rattle.pig_value.proofs.OrderLaws.{row_total}
 use Rattle.pig_value.proofs.list_laws.Bags.{bag_once}
 use Rattle.pig_value.proofs.list_laws.Indexing.{some_at}
 use Rattle.pig_value.proofs.list_laws.Listing.{each_weaker}

@@ -99,6 +99,10 @@ is_join s replicated n = n == 2 && not replicated
 abbrev pub are_alike : RowKinds → List RowKinds → Bool
 are_alike first others = list_all (λ other. kinds_eq (kinds_of first) (kinds_of other)) others
 
+-- each of these is a relation, and of such kinds
+abbrev pub are_all_alike : Before → RowKinds → List ℕ → Bool
+are_all_alike before first others = option_map_or (are_alike first) (all_of before others) false
+
 abbrev pub union_kinds : List RowKinds → Option RowKinds
 union_kinds [] = None
 union_kinds (first ∷ others) = only_if (nat_lt 0 (length others) && are_alike first others) (Some first)

@@ -1,5 +1,5 @@
 -- The nodes of a plan at other numbers in another one, as they stand once nodes are taken out or become one.
-use Rattle.std.specs.Prelude.{◌≡◌, ◌≤◌, ℕ, Bool, true, List, map, Some, slice_get}
+use Rattle.std.specs.Prelude.{◌≡◌, ◌≤◌, ℕ, true, List, map, Some, slice_get}
 use Rattle.std.specs.List.Sorted.{IsPermutation}
 use Rattle.pig_value.specs.declared.inputs.Input.{Input}
 use Rattle.pig_value.specs.declared.outcomes.Kept.{Kept}

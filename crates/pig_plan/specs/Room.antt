@@ -1,5 +1,5 @@
 -- A plan with room for one node at a place: a node that reads nothing stands there, and those from there on have the next numbers.
-use Rattle.std.specs.Prelude.{ℕ, zero, suc, List, [], map}
+use Rattle.std.specs.Prelude.{ℕ, zero, suc, [], map}
 use Rattle.std.specs.List.{insert}
 use Rattle.pig_plan.specs.Plans.{Plan, PlanNode, p_load}
 use Rattle.pig_plan.specs.Renumbered.{renamed}

@@ -1,22 +1,23 @@
 ghost use Rattle.std.specs.Prelude.{◌≡◌, map, not, IfOk};
 ghost use Rattle.std.specs.Option.{option_map};
 ghost use Rattle.std.specs.List.{list_all};
-ghost use Rattle.pig_value.specs.FieldReader.{all_of};
 ghost use Rattle.pig_value.specs.Trees.{kind_tree};
 ghost use Rattle.pig_typed.specs.Typed.{block_typed, typed};
 ghost use Rattle.pig_plan.specs.Given.{before_of, kinds_of_given};
-ghost use Rattle.pig_plan.specs.NodeKinds.{are_alike, foreach_gives, group_all_gives, group_gives, is_join, join_gives, load_gives};
-ghost use Rattle.pig_plan.specs.NodeKinds.{node_gives, order_gives, rank_gives, same_gives, store_gives, tested_gives, union_gives, union_kinds};
+ghost use Rattle.pig_plan.specs.NodeKinds.{are_all_alike, foreach_gives, group_all_gives, group_gives, is_join, join_gives, load_gives};
+ghost use Rattle.pig_plan.specs.NodeKinds.{node_gives, order_gives, rank_gives, store_gives, tested_gives, union_gives};
 ghost use Rattle.pig_plan.specs.Plans.{keyed_of, op_of};
 
-use crate::given::{Given, column_kinds, columns_ascend, is_condition, rows_before, sorts_by};
+use crate::given::{
+    Given, column_kinds, columns_ascend, is_condition, rows_before, rows_of, same_rows, sorts_by,
+};
 use crate::keyed::{group_row, joined_row, keyed_rows};
 use crate::{KeyedInput, KeyedInputs, NodeOp};
 use pig_typed::{Block, SortKeys, TExpr, block_kinds};
-use pig_value::{Columns, Kind, Kinds, Numbers, Seq, Side, copy_kind, copy_kinds, same_kinds};
+use pig_value::{Columns, Kind, Kinds, Numbers, Side, copy_kind, copy_kinds, same_kinds};
 use std::alloc::{AllocError, Global};
 
-/// What a node gives behind these, or None where it is not valid there as to its inputs and kinds.
+// What a node gives behind these, or None where it is not valid there as to its inputs and kinds.
 pub fn given(alloc: Global, before: &[Given], op: &NodeOp) -> Result<Option<Given>, AllocError>
     ensures { IfOk result (λ g. option_map kinds_of_given g
         ≡ node_gives (before_of before.now) (op_of op.now)) }
@@ -32,10 +33,10 @@ pub fn given(alloc: Global, before: &[Given], op: &NodeOp) -> Result<Option<Give
             side,
             replicated,
         } => join(alloc, before, inputs, *side, *replicated),
-        NodeOp::Union { inputs } => union(alloc, before, inputs),
-        NodeOp::Distinct { input } => same(alloc, before, *input),
-        NodeOp::Order { input, keys } => order(alloc, before, *input, keys),
-        NodeOp::Limit { input, .. } => same(alloc, before, *input),
+        NodeOp::Union { inputs } => union(before, inputs),
+        NodeOp::Distinct { input } => same_rows(before, *input),
+        NodeOp::Order { input, keys } => order(before, *input, keys),
+        NodeOp::Limit { input, .. } => same_rows(before, *input),
         NodeOp::Store { input, .. } => Ok(store(before, *input)),
         NodeOp::Assert { input, cond, .. } => tested(alloc, before, *input, cond),
         NodeOp::Rank { input, keys, .. } => rank(alloc, before, *input, keys),
@@ -48,7 +49,8 @@ fn load(alloc: Global, columns: &Columns) -> Result<Option<Given>, AllocError>
     if !columns_ascend(columns.as_slice()) {
         return Ok(None);
     }
-    Ok(Some(Given::Rows(column_kinds(alloc, columns.as_slice())?)))
+    let kinds = column_kinds(alloc, columns.as_slice())?;
+    rows_of(alloc, kinds)
 }
 
 fn tested(
@@ -66,7 +68,7 @@ fn tested(
     if !is_condition(alloc, row, cond)? {
         return Ok(None);
     }
-    Ok(Some(Given::Rows(copy_kinds(alloc, row.as_slice())?)))
+    same_rows(before, input)
 }
 
 fn foreach(
@@ -84,7 +86,7 @@ fn foreach(
     let Some(kinds) = block_kinds(alloc, block, row)? else {
         return Ok(None);
     };
-    Ok(Some(Given::Rows(kinds)))
+    rows_of(alloc, kinds)
 }
 
 fn group_all(alloc: Global, before: &[Given], input: u32) -> Result<Option<Given>, AllocError>
@@ -97,7 +99,7 @@ fn group_all(alloc: Global, before: &[Given], input: u32) -> Result<Option<Given
     let mut kinds = Kinds::new(alloc);
     kinds.push(Kind::Chararray)?;
     kinds.push(Kind::Bag(copy_kinds(alloc, row.as_slice())?))?;
-    Ok(Some(Given::Rows(kinds)))
+    rows_of(alloc, kinds)
 }
 
 fn group(alloc: Global, before: &[Given], inputs: &KeyedInputs) -> Result<Option<Given>, AllocError>
@@ -107,7 +109,8 @@ fn group(alloc: Global, before: &[Given], inputs: &KeyedInputs) -> Result<Option
     let Some(found) = keyed_rows(alloc, before, inputs)? else {
         return Ok(None);
     };
-    Ok(Some(Given::Rows(group_row(alloc, found.as_slice())?)))
+    let row = group_row(alloc, found.as_slice())?;
+    rows_of(alloc, row)
 }
 
 fn join(
@@ -127,10 +130,11 @@ fn join(
     if !joins {
         return Ok(None);
     }
-    Ok(Some(Given::Rows(joined_row(alloc, found.as_slice())?)))
+    let row = joined_row(alloc, found.as_slice())?;
+    rows_of(alloc, row)
 }
 
-/// Whether so many inputs may be joined so: a side other than INNER has just two, and a replicated join is INNER or LEFT.
+// Whether so many inputs may be joined so: a side other than INNER has just two, and a replicated join is INNER or LEFT.
 fn is_side(side: Side, replicated: bool, inputs: usize) -> bool
     ensures { result ≡ is_join side replicated inputs }
 {
@@ -154,59 +158,34 @@ fn none_is_inner(inputs: &[KeyedInput]) -> bool
     true
 }
 
-fn union(alloc: Global, before: &[Given], inputs: &Numbers) -> Result<Option<Given>, AllocError>
+// The rows of a UNION are of the kinds of its first input's.
+fn union(before: &[Given], inputs: &Numbers) -> Result<Option<Given>, AllocError>
     ensures { IfOk result (λ g. option_map kinds_of_given g
         ≡ union_gives (before_of before.now) inputs.now) }
 {
-    let Some(found) = each_relation(alloc, before, inputs)? else {
+    let [first, others @ ..] = inputs.as_slice() else {
         return Ok(None);
     };
-    let Some(row) = common_kinds(alloc, found.as_slice())? else {
+    let Some(row) = rows_before(before, *first) else {
         return Ok(None);
     };
-    Ok(Some(Given::Rows(row)))
-}
-
-fn each_relation(
-    alloc: Global,
-    before: &[Given],
-    inputs: &Numbers,
-) -> Result<Option<Seq<Kinds>>, AllocError>
-    ensures { IfOk result (λ found. option_map (map (map kind_tree)) found
-        ≡ all_of (before_of before.now) inputs.now) }
-{
-    let mut found = Vec::with_capacity(alloc, inputs.len())?;
-    for input in inputs.as_slice() {
-        match rows_before(before, *input) {
-            Some(row) => found.push(copy_kinds(alloc, row.as_slice())?)?,
-            None => return Ok(None),
-        }
+    let united = !others.is_empty() && all_alike(before, row, others);
+    if !united {
+        return Ok(None);
     }
-    Ok(Some(Seq::from_vec(found)))
+    same_rows(before, *first)
 }
 
-fn common_kinds(alloc: Global, found: &[Kinds]) -> Result<Option<Kinds>, AllocError>
-    ensures { IfOk result (λ row. option_map (map kind_tree) row
-        ≡ union_kinds (map (map kind_tree) found.now)) }
-{
-    match found {
-        [first, others @ ..] => {
-            let unite = !others.is_empty() && all_same(first, others);
-            if !unite {
-                return Ok(None);
-            }
-            Ok(Some(copy_kinds(alloc, first.as_slice())?))
-        }
-        [] => Ok(None),
-    }
-}
-
-fn all_same(row: &Kinds, others: &[Kinds]) -> bool
-    ensures { result ≡ are_alike (map kind_tree row.now) (map (map kind_tree) others.now) }
+// Whether each of these nodes is a relation, of rows of these kinds.
+fn all_alike(before: &[Given], row: &Kinds, others: &[u32]) -> bool
+    ensures { result ≡ are_all_alike (before_of before.now) (map kind_tree row.now) others.now }
 {
     let mut left = others;
     while let [other, rest @ ..] = left {
-        if !same_kinds(row.as_slice(), other.as_slice()) {
+        let Some(found) = rows_before(before, *other) else {
+            return false;
+        };
+        if !same_kinds(row.as_slice(), found.as_slice()) {
             return false;
         }
         left = rest;
@@ -214,18 +193,7 @@ fn all_same(row: &Kinds, others: &[Kinds]) -> bool
     true
 }
 
-fn same(alloc: Global, before: &[Given], input: u32) -> Result<Option<Given>, AllocError>
-    ensures { IfOk result (λ g. option_map kinds_of_given g
-        ≡ same_gives (before_of before.now) input) }
-{
-    let Some(row) = rows_before(before, input) else {
-        return Ok(None);
-    };
-    Ok(Some(Given::Rows(copy_kinds(alloc, row.as_slice())?)))
-}
-
 fn order(
-    alloc: Global,
     before: &[Given],
     input: u32,
     keys: &SortKeys,
@@ -239,7 +207,7 @@ fn order(
     if !sorts_by(row, keys) {
         return Ok(None);
     }
-    Ok(Some(Given::Rows(copy_kinds(alloc, row.as_slice())?)))
+    same_rows(before, input)
 }
 
 fn store(before: &[Given], input: u32) -> Option<Given>
@@ -271,5 +239,5 @@ fn rank(
     for kind in row.as_slice() {
         kinds.push(copy_kind(alloc, kind)?)?;
     }
-    Ok(Some(Given::Rows(Kinds::from_vec(kinds))))
+    rows_of(alloc, Kinds::from_vec(kinds))
 }

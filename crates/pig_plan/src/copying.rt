@@ -178,7 +178,7 @@ fn copy_keyed(alloc: Global, inputs: &KeyedInputs) -> Result<KeyedInputs, AllocE
     Ok(Seq::from_vec(made))
 }
 
-/// A copy of numbers.
+// A copy of numbers.
 pub fn copy_numbers(alloc: Global, numbers: &[u32]) -> Result<Numbers, AllocError>
     ensures { IfOk result (λ c. c ≡ numbers.now) }
 {

@@ -28,7 +28,7 @@ fn count_paths(alloc: Global, nodes: &[Node], limit: u64) -> Result<Vec<u64>, Al
     Ok(counts)
 }
 
-/// How many paths a node has, by those of the nodes before it.
+// How many paths a node has, by those of the nodes before it.
 fn ways_up_to(alloc: Global, op: &NodeOp, counts: &[u64], limit: u64) -> Result<u64, AllocError>
     ensures { IfOk result (λ count. count
         ≡ ways_up_to limit (op_of op.now) (at_place 0 counts.now)) }

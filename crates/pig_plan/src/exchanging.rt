@@ -13,8 +13,8 @@ use pig_value::{Kinds, same_kinds};
 use std::alloc::{AllocError, Global};
 use std::mem;
 
-/// Whether the node may stand at any place among nodes of which none has a later statement than
-/// `latest`, where it does as to its inputs and kinds: so it is where it can be no twin.
+// Whether the node may stand at any place among nodes of which none has a later statement than
+// `latest`, where it does as to its inputs and kinds: so it is where it can be no twin.
 pub fn may_stand(node: &Node, latest: u32) -> bool
     ensures yes { result ≡ true → MayStand latest (node_of node.now) }
     ensures no { result ≡ false → MayStand latest (node_of node.now) → ⊥ }
@@ -28,8 +28,8 @@ fn may_be_twin(op: &NodeOp) -> bool
     matches!(op, NodeOp::Limit { .. } | NodeOp::Assert { .. })
 }
 
-/// Puts what the lower node gives in the place of what is given there, where the upper one gives
-/// over it what is given at its number. Otherwise, or where memory is wanting, all stays.
+// Puts what the lower node gives in the place of what is given there, where the upper one gives
+// over it what is given at its number. Otherwise, or where memory is wanting, all stays.
 pub fn exchange_given(
     alloc: Global,
     given: &mut Vec<Given>,
@@ -54,7 +54,7 @@ pub fn exchange_given(
     put_where(alloc, given, low, first, high, upper)
 }
 
-/// What an operator gives at a number, over what is given before it.
+// What an operator gives at a number, over what is given before it.
 fn given_at(
     alloc: Global,
     given: &[Given],
@@ -68,7 +68,7 @@ fn given_at(
     crate::checking::given(alloc, &given[..number as usize], op)
 }
 
-/// Puts what is given in another place, where an operator then gives what is given at its number.
+// Puts what is given in another place, where an operator then gives what is given at its number.
 fn put_where(
     alloc: Global,
     given: &mut Vec<Given>,
@@ -102,7 +102,7 @@ fn put_where(
     }
 }
 
-/// Whether an operator gives at a number what is given there.
+// Whether an operator gives at a number what is given there.
 fn gives_there(alloc: Global, given: &[Given], number: u32, op: &NodeOp) -> Result<bool, AllocError>
     requires { number < length given.now }
     ensures yes { IfOk result (λ b. b ≡ true → GivesThere given.now number (op_of op.now)) }
@@ -119,23 +119,23 @@ fn are_same(a: &Given, b: &Given) -> bool
     ensures no { result ≡ false → kinds_of_given a.now ≡ kinds_of_given b.now → ⊥ }
 {
     match a {
-        Given::Rows(kinds) => are_rows_of(b, kinds),
+        Given::Rows(kinds) => are_rows_of(b, kinds.get()),
         Given::Nothing => matches!(b, Given::Nothing),
     }
 }
 
-/// Whether rows of these kinds are given.
+// Whether rows of these kinds are given.
 fn are_rows_of(given: &Given, kinds: &Kinds) -> bool
     ensures yes { result ≡ true → kinds_of_given given.now ≡ Some (map kind_tree kinds.now) }
     ensures no { result ≡ false → kinds_of_given given.now ≡ Some (map kind_tree kinds.now) → ⊥ }
 {
     match given {
-        Given::Rows(found) => same_kinds(kinds.as_slice(), found.as_slice()),
+        Given::Rows(found) => same_kinds(kinds.as_slice(), found.get().as_slice()),
         Given::Nothing => false,
     }
 }
 
-/// Puts two nodes in the place of two others.
+// Puts two nodes in the place of two others.
 pub fn put_two(nodes: &mut Nodes, low: u32, lower: Node, high: u32, upper: Node)
     requires low { low < length nodes.old }
     requires high { high < length nodes.old }

@@ -15,14 +15,14 @@ use pig_typed::{TExpr, TExprs, kind_of};
 use pig_value::{Kind, Kinds, copy_kind, copy_kinds, holds_bag_or_map, same_kinds};
 use std::alloc::{AllocError, Global};
 
-/// The kinds of the rows of an input by key, and of its keys.
+// The kinds of the rows of an input by key, and of its keys.
 #[derive(Debug, Drop)]
 pub struct KeyedRows<'p> {
     pub row: &'p Kinds,
     pub keys: Kinds,
 }
 
-/// The kinds of the inputs by key, where each has a relation and keys of one kind with the first one's.
+// The kinds of the inputs by key, where each has a relation and keys of one kind with the first one's.
 pub fn keyed_rows<'p>(
     alloc: Global,
     before: &'p [Given],
@@ -139,7 +139,7 @@ fn all_like(keys: &Kinds, others: &[KeyedRows]) -> bool
     true
 }
 
-/// The kinds of the rows of GROUP and COGROUP: that of the key, and of each input's bag.
+// The kinds of the rows of GROUP and COGROUP: that of the key, and of each input's bag.
 pub fn group_row(alloc: Global, found: &[KeyedRows]) -> Result<Kinds, AllocError>
     ensures { IfOk result (λ kinds. map kind_tree kinds ≡ group_kinds (map keyed_row found.now)) }
 {
@@ -162,7 +162,7 @@ fn key_row(alloc: Global, keys: &Kinds) -> Result<Kind, AllocError>
     }
 }
 
-/// The kinds of the rows of a JOIN: those of its inputs in turn.
+// The kinds of the rows of a JOIN: those of its inputs in turn.
 pub fn joined_row(alloc: Global, found: &[KeyedRows]) -> Result<Kinds, AllocError>
     ensures { IfOk result (λ kinds. map kind_tree kinds
         ≡ flat_map (λ input. input.row) (map keyed_row found.now)) }

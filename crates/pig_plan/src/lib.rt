@@ -14,6 +14,7 @@ mod naming;
 mod nodes;
 mod plan;
 mod rooming;
+mod shared;
 mod valued;
 mod written;
 

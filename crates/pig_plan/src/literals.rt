@@ -9,7 +9,7 @@ use crate::written::{block_writes_line_end, writes_line_end};
 use crate::{KeyedInput, NodeOp};
 use pig_typed::TExpr;
 
-/// Whether a text that is written out in the node's expressions holds a line end.
+// Whether a text that is written out in the node's expressions holds a line end.
 pub fn op_writes_line_end(op: &NodeOp) -> bool
     ensures { result ≡ op_writes_lf (op_of op.now) }
 {

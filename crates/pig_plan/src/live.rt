@@ -27,7 +27,7 @@ pub fn live_numbers(alloc: Global, plan: &Plan) -> Result<Vec<usize>, AllocError
     Ok(numbers)
 }
 
-/// Adds the number of a node where it is marked.
+// Adds the number of a node where it is marked.
 fn keep_marked(numbers: &mut Vec<usize>, marks: &[bool], number: usize) -> Result<(), AllocError>
     requires { number < length marks.now }
     ensures { OnOk result (numbers.new.items
@@ -40,8 +40,8 @@ fn keep_marked(numbers: &mut Vec<usize>, marks: &[bool], number: usize) -> Resul
     Ok(())
 }
 
-/// Of each node whether a STORE reaches it. They are gone through from the last to the first, since a node is live where a
-/// live node behind it names it.
+// Of each node whether a STORE reaches it. They are gone through from the last to the first, since a node is live where a
+// live node behind it names it.
 fn mark_live(alloc: Global, nodes: &[Node]) -> Result<Vec<bool>, AllocError>
     requires { IsPlan (plan_of nodes.now) }
     ensures { IfOk result (λ marks. AreMarks (plan_of nodes.now) 0 marks.items) }
@@ -57,7 +57,7 @@ fn mark_live(alloc: Global, nodes: &[Node]) -> Result<Vec<bool>, AllocError>
     Ok(marks)
 }
 
-/// Marks the inputs of a node where it is live; marked it is where a live node behind it names it.
+// Marks the inputs of a node where it is live; marked it is where a live node behind it names it.
 fn mark(marks: &mut Vec<bool>, number: usize, is_store: bool, inputs: &[u32])
     requires within { number < length marks.old.items }
     requires lower { AllByRecursion (λ i. i < number) inputs.now }
@@ -70,7 +70,7 @@ fn mark(marks: &mut Vec<bool>, number: usize, is_store: bool, inputs: &[u32])
     mark_inputs(marks, inputs);
 }
 
-/// Whether a node is live, where it is marked as soon as a live node names it.
+// Whether a node is live, where it is marked as soon as a live node names it.
 fn is_alive(is_store: bool, marks: &[bool], number: usize) -> bool
     requires { number < length marks.now }
     ensures { result ≡ (is_store || get_or marks.now number false) }
@@ -78,7 +78,7 @@ fn is_alive(is_store: bool, marks: &[bool], number: usize) -> bool
     is_store || marks[number]
 }
 
-/// Marks each of the inputs.
+// Marks each of the inputs.
 fn mark_inputs(marks: &mut Vec<bool>, inputs: &[u32])
     requires { AllByRecursion (λ i. i < length marks.old.items) inputs.now }
     ensures size { length marks.new.items ≡ length marks.old.items }

@@ -18,6 +18,7 @@ use crate::exchanging::{exchange_given, may_stand, put_two};
 use crate::given::{Given, rows_before};
 use crate::literals::op_writes_line_end;
 use crate::rooming::roomy;
+use crate::shared::SharedKinds;
 use crate::valued::know_literals;
 use crate::{Node, NodeOp, Nodes};
 use pig_value::Kinds;
@@ -142,7 +143,8 @@ impl Plan {
             latest,
         } = self;
         let nodes = roomy(alloc, nodes, at)?;
-        given.insert(at as usize, Given::Rows(Kinds::new(alloc)))?;
+        let none = SharedKinds::new(alloc, Kinds::new(alloc))?;
+        given.insert(at as usize, Given::Rows(none))?;
         Ok(Plan {
             alloc,
             nodes,
@@ -187,8 +189,8 @@ impl Plan {
     }
 }
 
-/// Adds what a node gives behind `count` others, and answers the node's number; where memory is wanting, nothing is
-/// added.
+// Adds what a node gives behind `count` others, and answers the node's number; where memory is wanting, nothing is
+// added.
 fn give(alloc: Global, count: usize, given: &mut Vec<Given>, op: &NodeOp) -> Result<u32, AllocError>
     ensures ok { OnOk result (map kinds_of_given given.new.items
         ≡ map kinds_of_given given.old.items
@@ -206,7 +208,7 @@ fn give(alloc: Global, count: usize, given: &mut Vec<Given>, op: &NodeOp) -> Res
     Ok(number)
 }
 
-/// Adds the node behind the others; where memory is wanting, what it gives is taken back.
+// Adds the node behind the others; where memory is wanting, what it gives is taken back.
 fn push_or_take_back(
     nodes: &mut Nodes,
     given: &mut Vec<Given>,
@@ -227,8 +229,8 @@ fn push_or_take_back(
     }
 }
 
-/// Whether another LIMIT, for a LIMIT, or another ASSERT, for an ASSERT, has the node's statement, where no node has a
-/// later one than `latest`: so nodes that come in the order of their statements need no look at the others.
+// Whether another LIMIT, for a LIMIT, or another ASSERT, for an ASSERT, has the node's statement, where no node has a
+// later one than `latest`: so nodes that come in the order of their statements need no look at the others.
 fn has_twin(nodes: &[Node], latest: u32, node: &Node) -> bool
     requires { AreUpTo latest (plan_of nodes.now) }
     ensures { result ≡ list_any (is_twin (node_of node.now)) (plan_of nodes.now) }

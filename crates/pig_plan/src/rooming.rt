@@ -8,7 +8,7 @@ use pig_typed::copy_exprs;
 use pig_value::{Columns, Delim, Numbers, Seq, Text};
 use std::alloc::{AllocError, Global};
 
-/// The nodes with room for one more at a place.
+// The nodes with room for one more at a place.
 pub fn roomy(alloc: Global, nodes: Nodes, at: u32) -> Result<Nodes, AllocError>
     requires { at < length nodes }
     ensures { IfOk result (λ made. plan_of made ≡ roomy at (plan_of nodes)) }
@@ -30,7 +30,7 @@ pub fn no_rows(alloc: Global) -> Result<NodeOp, AllocError>
     })
 }
 
-/// The nodes over inputs at the numbers that these have then.
+// The nodes over inputs at the numbers that these have then.
 fn all_renamed(alloc: Global, nodes: Nodes, at: u32) -> Result<Vec<Node>, AllocError>
     ensures { IfOk result (λ made. plan_of made.items
         ≡ map (renamed (past at)) (plan_of nodes)) }
@@ -72,7 +72,7 @@ fn rename_inputs(alloc: Global, op: &mut NodeOp, at: u32) -> Result<(), AllocErr
     Ok(())
 }
 
-/// A number, with one more from a place on.
+// A number, with one more from a place on.
 fn past(at: u32, number: u32) -> Result<u32, AllocError>
     ensures { IfOk result (λ n. n ≡ past at number) }
 {

@@ -11,8 +11,8 @@ use crate::{KeyedInput, NodeOp};
 use pig_typed::{Block, BlockItem, BlockStep, TExpr, TLink};
 use pig_value::Boxed;
 
-/// What a node writes out are values: numbers in range, and texts of UTF-8. Their types say so, at each literal; the
-/// walk brings it together.
+// What a node writes out are values: numbers in range, and texts of UTF-8. Their types say so, at each literal; the
+// walk brings it together.
 pub fn know_literals(op: &NodeOp)
     ensures { OpLiteralsAre IsValue (op_of op.now) }
 {

@@ -6,7 +6,7 @@ ghost use Rattle.pig_typed.specs.Typed.{args_of, block_typed, item_typed, link_o
 use pig_typed::{Block, BlockItem, BlockStep, TExpr, TLink};
 use pig_value::{Boxed, Text};
 
-/// Whether a text that is written out in the expression holds a line end.
+// Whether a text that is written out in the expression holds a line end.
 #[cycle(written)]
 pub fn writes_line_end(e: &TExpr) -> bool
     ensures { result ≡ writes_lf (typed e.now) }
@@ -71,7 +71,7 @@ fn any_writes(args: &[TExpr]) -> bool
     false
 }
 
-/// Whether a text that is written out in the block holds a line end.
+// Whether a text that is written out in the block holds a line end.
 pub fn block_writes_line_end(block: &Block) -> bool
     ensures { result ≡ block_writes_lf (block_typed block.now) }
 {

@@ -1,7 +1,7 @@
--- Conditions that move nest no deeper than they did, but for one chain, or no deeper than is let past a GROUP.
-use Rattle.std.specs.Prelude.{◌≡◌, ◌≤◌, ◌+◌, ◌-◌, ◌⊎◌, not, max, ℕ, zero, suc, Bool, true, false, List, [], ◌∷◌, ◌++◌, map, Option, Some, None, slice_get, slice_set, Err, IfOk, Ok, Result, ⊤, refl}
-use Rattle.std.proofs.Common.{ap, sym, ◌∙◌, subst, arith, cond, inl, inr}
-use Rattle.std.specs.List.{AllByRecursion, filter}
+-- Conditions that move nest no deeper than they did, but for one chain, or, where a GROUP has a key that nests, no deeper than is let past it.
+use Rattle.std.specs.Prelude.{◌≡◌, ◌≤◌, ◌+◌, ◌-◌, ◌⊎◌, not, ◌||◌, max, ℕ, zero, suc, Bool, true, false, List, [], ◌∷◌, ◌++◌, map, Option, Some, None, slice_get, slice_set, Err, IfOk, Ok, Result, ⊤, nat_lt, if◌then◌else◌, refl}
+use Rattle.std.proofs.Common.{ap, sym, ◌∙◌, subst, arith, cond, inl, inr, true≢false}
+use Rattle.std.specs.List.{AllByRecursion, filter, list_any}
 use Rattle.std.specs.Option.{option_map}
 use Rattle.std.specs.declared.alloc.AllocError.{AllocError}
 use Rattle.std.proofs.lemmas.Option.{none-some}
@@ -20,7 +20,7 @@ use Rattle.pig_plan.specs.Plans.{Keyed, Plan, PlanNode, PlanOp, p_load, p_filter
 use Rattle.pig_plan.specs.Renumbered.{rename, renamed}
 use Rattle.pig_plan.specs.Room.{idle, past, roomy}
 use Rattle.pig_push.specs.declared.joining.Spot.{Spot}
-use Rattle.pig_push.specs.Depths.{NestUpTo, arg_depth, depth, filter_depth, link_depth, most_levels}
+use Rattle.pig_push.specs.Depths.{NestUpTo, arg_depth, depth, filter_depth, key_levels, key_nests, link_depth, most_levels, one_nests}
 use Rattle.pig_push.specs.Pushed.{AreMoves, IsCleared, IsMove, IsPushed, IsSplit, IsUnited, and_links, at_spot, chained, chained_where, conjoined, filter_as, filter_on, filtered, from_key, high_of, low_of, none, one_more, one_room, one_split, one_union, put_from, spot_for}
 use Rattle.pig_push.proofs.Chains.{IsConjunct, chained_back, conjuncts_kept, each_conjunct}
 use Rattle.pig_push.proofs.Keeps.{node_with}
@@ -95,9 +95,6 @@ module _ (f : ℕ → Typed) (most : ℕ) (each : (n : ℕ) → depth (f n) ≤ 
     args_deeper (more_args e args) = let x = put_deeper e in let y = args_deeper args in omega (arith, x, y)
 
 -- ---- conjuncts nest no deeper than their condition
-
-abbrev Under : ℕ → Typed → Type 0
-Under most e = depth e ≤ most
 
 mutual
   conjuncts_under : (most : ℕ) (e : Typed) → depth e ≤ most → AllByRecursion (λ c. depth c ≤ most) (conjuncts e)
@@ -202,8 +199,10 @@ record IsShallow (most : ℕ) (c : Typed) : Type 0 where
   whole : depth c ≤ most + 1
   each : AllByRecursion (λ e. depth e ≤ most) (conjuncts c)
 
+-- A condition is shallow, and what takes it deeper takes it so far at most.
 abbrev ShallowOp : ℕ → PlanOp → Type 0
 ShallowOp most (p_filter input c) = IsShallow most c
+ShallowOp most (p_group inputs) = key_nests (p_group inputs) ≡ true → most_levels ≤ most
 ShallowOp most o = ⊤
 
 abbrev ShallowPlan : ℕ → Plan → Type 0
@@ -235,25 +234,63 @@ shallow_at : (most : ℕ) (o : Option Spot) (c : Typed) → IsShallow most c →
 shallow_at most None c h = h
 shallow_at most (Some spot) c h = shallow_put most (λ n. n - spot.first) c h
 
-shallow_low : (most : ℕ) → most_levels ≤ most → (width : ℕ → ℕ) (o : PlanOp) (c : Typed) → ((inputs : List Keyed) → o ≡ p_group inputs → filter_depth (low_of width o c) ≤ most_levels)
-    → IsShallow most c → ShallowOp most (low_of width o c)
-shallow_low most le width (p_filter x first) c nests h = tt
-shallow_low most le width (p_distinct x) c nests h = h
-shallow_low most le width (p_foreach x block) c nests h = shallow_put most _ c h
-shallow_low most le width (p_load path delim columns) c nests h = h
-shallow_low most le width (p_group_all input) c nests h = h
-shallow_low most le width (p_group []) c nests h = h
-shallow_low most le width (p_group (keyed ∷ [])) c nests h =
-    let own = nests (keyed ∷ []) refl in
-    record { whole = omega (arith, le, own); each = conjuncts_under most (put (from_key keyed.keys) c) (omega (arith, le, own)) }
-shallow_low most le width (p_group (a ∷ b ∷ inputs)) c nests h = h
-shallow_low most le width (p_join inputs side replicated) c nests h = shallow_at most (spot_for width inputs c) c h
-shallow_low most le width (p_union inputs) c nests h = h
-shallow_low most le width (p_order input keys) c nests h = h
-shallow_low most le width (p_limit input count) c nests h = h
-shallow_low most le width (p_store input path delim) c nests h = h
-shallow_low most le width (p_assert input test message) c nests h = h
-shallow_low most le width (p_rank input keys dense) c nests h = h
+-- an expression that nests nothing
+flat_depth : (n : ℕ) → nat_lt 0 n ≡ false → n ≡ 0
+flat_depth zero h = refl
+flat_depth (suc n) h = absurd (true≢false h)
+
+flat_leaf : (e : Typed) → nat_lt 0 (depth e) ≡ false → conjuncts e ≡ e ∷ []
+flat_leaf (x_chain first links) h = absurd (true≢false h)
+flat_leaf (x_compare r a b) h = refl
+flat_leaf (x_is_null a negated) h = refl
+flat_leaf (x_not a) h = refl
+flat_leaf (x_minus a) h = refl
+flat_leaf (x_choose test a b) h = refl
+flat_leaf (x_cast to a) h = refl
+flat_leaf (x_project a ns single) h = refl
+flat_leaf (x_look a key) h = refl
+flat_leaf (x_call function args) h = refl
+flat_leaf x_null h = refl
+flat_leaf (x_bool b) h = refl
+flat_leaf (x_int z) h = refl
+flat_leaf (x_long z) h = refl
+flat_leaf (x_chars text) h = refl
+flat_leaf (x_field n) h = refl
+flat_leaf (x_local n) h = refl
+
+-- a key that nests nothing takes a condition no deeper, and one that does so far at most
+shallow_key : (most : ℕ) (key c : Typed) → (nat_lt 0 (depth key) ≡ true → most_levels ≤ most) → depth (put (λ n. key) c) ≤ most_levels → IsShallow most c → IsShallow most (put (λ n. key) c)
+shallow_key most key c far nests h = either_way (nat_lt 0 (depth key))
+(λ deep. let le = far deep in record { whole = omega (arith, le, nests); each = conjuncts_under most (put (λ n. key) c) (omega (arith, le, nests)) })
+(λ flat.
+let none : depth key ≡ 0 = flat_depth (depth key) flat in
+record {
+  whole = subst (λ n. n ≤ most + 1) (sym (put_depth (λ n. key) (λ n. none) c)) h.whole;
+  each = put_under (λ n. key) (λ n. none) (λ n. flat_leaf key flat) most c h.each;
+})
+
+shallow_keys : (most : ℕ) (keys : List Typed) (c : Typed) → (one_nests keys ≡ true → most_levels ≤ most) → depth (put (from_key keys) c) ≤ most_levels → IsShallow most c → IsShallow most (put (from_key keys) c)
+shallow_keys most [] c far nests h = shallow_put most (λ n. n) c h
+shallow_keys most (key ∷ []) c far nests h = shallow_key most key c far nests h
+shallow_keys most (a ∷ b ∷ keys) c far nests h = shallow_put most (λ n. n) c h
+
+shallow_low : (most : ℕ) (width : ℕ → ℕ) (o : PlanOp) (c : Typed) → ((inputs : List Keyed) → o ≡ p_group inputs → filter_depth (low_of width o c) ≤ most_levels)
+    → ShallowOp most o → IsShallow most c → ShallowOp most (low_of width o c)
+shallow_low most width (p_filter x first) c nests own h = tt
+shallow_low most width (p_distinct x) c nests own h = h
+shallow_low most width (p_foreach x block) c nests own h = shallow_put most _ c h
+shallow_low most width (p_load path delim columns) c nests own h = h
+shallow_low most width (p_group_all input) c nests own h = h
+shallow_low most width (p_group []) c nests own h = h
+shallow_low most width (p_group (keyed ∷ [])) c nests own h = shallow_keys most keyed.keys c own (nests (keyed ∷ []) refl) h
+shallow_low most width (p_group (a ∷ b ∷ inputs)) c nests own h = h
+shallow_low most width (p_join inputs side replicated) c nests own h = shallow_at most (spot_for width inputs c) c h
+shallow_low most width (p_union inputs) c nests own h = h
+shallow_low most width (p_order input keys) c nests own h = h
+shallow_low most width (p_limit input count) c nests own h = h
+shallow_low most width (p_store input path delim) c nests own h = h
+shallow_low most width (p_assert input test message) c nests own h = h
+shallow_low most width (p_rank input keys dense) c nests own h = h
 
 shallow_high : (most : ℕ) (width : ℕ → ℕ) (i : ℕ) (o : PlanOp) (c : Typed) → ShallowOp most o → IsShallow most c → ShallowOp most (high_of width i o c)
 shallow_high most width i (p_filter x first) c own h = shallow_both most first c own h
@@ -261,9 +298,9 @@ shallow_high most width i (p_distinct x) c own h = tt
 shallow_high most width i (p_foreach x block) c own h = tt
 shallow_high most width i (p_load path delim columns) c own h = tt
 shallow_high most width i (p_group_all input) c own h = tt
-shallow_high most width i (p_group []) c own h = tt
-shallow_high most width i (p_group (keyed ∷ [])) c own h = tt
-shallow_high most width i (p_group (a ∷ b ∷ inputs)) c own h = tt
+shallow_high most width i (p_group []) c own h = own
+shallow_high most width i (p_group (keyed ∷ [])) c own h = own
+shallow_high most width i (p_group (a ∷ b ∷ inputs)) c own h = own
 shallow_high most width i (p_join inputs side replicated) c own h = tt
 shallow_high most width i (p_union inputs) c own h = tt
 shallow_high most width i (p_order input keys) c own h = tt
@@ -278,7 +315,9 @@ shallow_renamed most f (p_distinct x) h = tt
 shallow_renamed most f (p_foreach x block) h = tt
 shallow_renamed most f (p_load path delim columns) h = tt
 shallow_renamed most f (p_group_all input) h = tt
-shallow_renamed most f (p_group inputs) h = tt
+shallow_renamed most f (p_group []) h = h
+shallow_renamed most f (p_group (keyed ∷ [])) h = h
+shallow_renamed most f (p_group (a ∷ b ∷ inputs)) h = h
 shallow_renamed most f (p_join inputs side replicated) h = tt
 shallow_renamed most f (p_union inputs) h = tt
 shallow_renamed most f (p_order input keys) h = tt
@@ -315,13 +354,13 @@ shallow_room most k p h j w at = by_from (insert_from idle k j (map (renamed (pa
 
 -- ---- moves
 
-move_shallow : (most : ℕ) → most_levels ≤ most → (p q : Plan) (i k : ℕ) → IsMove p q i k → ShallowPlan most p → ShallowPlan most q
-move_shallow most le p q i k m h =
+move_shallow : (most : ℕ) (p q : Plan) (i k : ℕ) → IsMove p q i k → ShallowPlan most p → ShallowPlan most q
+move_shallow most p q i k m h =
     let c : IsShallow most m.can.cond = h k (node_with (p_filter i m.can.cond) m.can.statement) m.can.above in
     let o : ShallowOp most m.can.below.op = h i m.can.below m.can.stands in
     subst (ShallowPlan most) (sym m.is)
     (shallow_set most (slice_set p i (node_with (low_of _ m.can.below.op m.can.cond) m.can.statement)) k (node_with (high_of _ i m.can.below.op m.can.cond) m.can.below.statement)
-    (shallow_set most p i (node_with (low_of _ m.can.below.op m.can.cond) m.can.statement) h (shallow_low most le _ m.can.below.op m.can.cond m.nests c))
+    (shallow_set most p i (node_with (low_of _ m.can.below.op m.can.cond) m.can.statement) h (shallow_low most _ m.can.below.op m.can.cond m.nests o c))
     (shallow_high most _ i m.can.below.op m.can.cond o c))
 
 split_shallow : (most : ℕ) (p q : Plan) (k : ℕ) → IsSplit p q k → ShallowPlan most p → ShallowPlan most q
@@ -344,27 +383,27 @@ union_shallow most p q i k s h =
     (shallow_set most (slice_set begun i idle) k (node_with (p_union (map (filtered s.first s.each) s.inputs)) s.own)
     (shallow_set most begun i idle (shallow_from most s.first s.cond s.statement s.each p c h) tt) tt)
 
-moves_shallow : (most : ℕ) → most_levels ≤ most → (p r : Plan) → AreMoves p r → ShallowPlan most p → ShallowPlan most r
-moves_shallow most le p _ none h = h
-moves_shallow most le p _ (one_more q r i k before valid move) h = move_shallow most le q r i k move (moves_shallow most le p q before h)
-moves_shallow most le p _ (one_room q r k before valid within is) h = subst (ShallowPlan most) (sym is) (shallow_room most k q (moves_shallow most le p q before h))
-moves_shallow most le p _ (one_union q r i k before valid union) h = union_shallow most q r i k union (moves_shallow most le p q before h)
-moves_shallow most le p _ (one_split q r k before room valid split) h = split_shallow most q r k split (moves_shallow most le p q before h)
+moves_shallow : (most : ℕ) (p r : Plan) → AreMoves p r → ShallowPlan most p → ShallowPlan most r
+moves_shallow most p _ none h = h
+moves_shallow most p _ (one_more q r i k before valid move) h = move_shallow most q r i k move (moves_shallow most p q before h)
+moves_shallow most p _ (one_room q r k before valid within is) h = subst (ShallowPlan most) (sym is) (shallow_room most k q (moves_shallow most p q before h))
+moves_shallow most p _ (one_union q r i k before valid union) h = union_shallow most q r i k union (moves_shallow most p q before h)
+moves_shallow most p _ (one_split q r k before room valid split) h = split_shallow most q r k split (moves_shallow most p q before h)
 
-begun_op : (most : ℕ) (o : PlanOp) → filter_depth o ≤ most → ShallowOp most o
-begun_op most (p_filter x c) h = record { whole = omega (arith, h); each = conjuncts_under most c h }
-begun_op most (p_distinct x) h = tt
-begun_op most (p_foreach x block) h = tt
-begun_op most (p_load path delim columns) h = tt
-begun_op most (p_group_all input) h = tt
-begun_op most (p_group inputs) h = tt
-begun_op most (p_join inputs side replicated) h = tt
-begun_op most (p_union inputs) h = tt
-begun_op most (p_order input keys) h = tt
-begun_op most (p_limit input count) h = tt
-begun_op most (p_store input path delim) h = tt
-begun_op most (p_assert input test message) h = tt
-begun_op most (p_rank input keys dense) h = tt
+begun_op : (most : ℕ) (o : PlanOp) → (key_nests o ≡ true → most_levels ≤ most) → filter_depth o ≤ most → ShallowOp most o
+begun_op most (p_filter x c) far h = record { whole = omega (arith, h); each = conjuncts_under most c h }
+begun_op most (p_distinct x) far h = tt
+begun_op most (p_foreach x block) far h = tt
+begun_op most (p_load path delim columns) far h = tt
+begun_op most (p_group_all input) far h = tt
+begun_op most (p_group inputs) far h = far
+begun_op most (p_join inputs side replicated) far h = tt
+begun_op most (p_union inputs) far h = tt
+begun_op most (p_order input keys) far h = tt
+begun_op most (p_limit input count) far h = tt
+begun_op most (p_store input path delim) far h = tt
+begun_op most (p_assert input test message) far h = tt
+begun_op most (p_rank input keys dense) far h = tt
 
 ended_op : (most : ℕ) (o : PlanOp) → ShallowOp most o → filter_depth o ≤ most + 1
 ended_op most (p_filter x c) h = h.whole
@@ -381,21 +420,35 @@ ended_op most (p_store input path delim) h = omega arith
 ended_op most (p_assert input test message) h = omega arith
 ended_op most (p_rank input keys dense) h = omega arith
 
-cleared_shallow : (most : ℕ) (p q : Plan) → IsCleared p q → NestUpTo most p → ShallowPlan most q
-cleared_shallow most p q c h n w at =
+-- a plan's levels reach as far as each of its keys takes a condition
+any_at : {X : Type 0} (test : X → Bool) (xs : List X) (n : ℕ) (x : X) → slice_get xs n ≡ Some x → test x ≡ true → list_any test xs ≡ true
+any_at test [] n x at is = absurd (none-some x at)
+any_at test (y ∷ ys) zero x at is = ap (λ b. b || list_any test ys) (ap test (some_same y x at) ∙ is)
+any_at test (y ∷ ys) (suc n) x at is = ap (λ b. test y || b) (any_at test ys n x at is) ∙ or_true (test y)
+  where
+    or_true : (b : Bool) → (b || true) ≡ true
+    or_true true = refl
+    or_true false = refl
+
+levels_at : (p : Plan) (n : ℕ) (v : PlanNode) (most : ℕ) → slice_get p n ≡ Some v → key_levels p ≤ most → key_nests v.op ≡ true → most_levels ≤ most
+levels_at p n v most at far nests =
+    subst (λ b. (if b then most_levels else 0) ≤ most) (any_at (λ u. key_nests u.op) p n v at nests) far
+
+cleared_shallow : (most : ℕ) (p q : Plan) → IsCleared p q → key_levels p ≤ most → NestUpTo most p → ShallowPlan most q
+cleared_shallow most p q c keys h n w at =
     let within = slice_get_within q n w at in
     let long = c.size in
     let found = some_at p n (omega (arith, within, long)) in
     either_way (is_live p n)
-    (λ alive. subst (λ v. ShallowOp most v.op) (some_same found.0 w (sym (c.lives n found.0 found.1 alive) ∙ at)) (begun_op most found.0.op (h n found.0 found.1)))
+    (λ alive. subst (λ v. ShallowOp most v.op) (some_same found.0 w (sym (c.lives n found.0 found.1 alive) ∙ at)) (begun_op most found.0.op (levels_at p n found.0 most found.1 keys) (h n found.0 found.1)))
     (λ dead. subst (ShallowOp most) (sym (c.dead n w at dead)) tt)
 
-pub pushed_shallow : (p r : Plan) → IsPushed p r → (most : ℕ) → NestUpTo most p → NestUpTo (max most most_levels + 1) r
+pub pushed_shallow : (p r : Plan) → IsPushed p r → (most : ℕ) → NestUpTo most p → NestUpTo (max most (key_levels p) + 1) r
 pushed_shallow p r pushed most h n v at =
-    let far : ℕ = max most most_levels in
+    let far : ℕ = max most (key_levels p) in
     let up : NestUpTo far p = λ k u there. let own = h k u there in omega (arith, own) in
-    ended_op far v.op (moves_shallow far (omega arith) pushed.cleared r pushed.moves (cleared_shallow far p pushed.cleared pushed.clears up) n v at)
+    ended_op far v.op (moves_shallow far pushed.cleared r pushed.moves (cleared_shallow far p pushed.cleared pushed.clears (omega arith) up) n v at)
 
-pub shallow_pushed : (r : Result (List Node) AllocError) (p : Plan) → IfOk r (λ m. IsPushed p (plan_of m)) → IfOk r (λ m. (most : ℕ) → NestUpTo most p → NestUpTo (max most most_levels + 1) (plan_of m))
+pub shallow_pushed : (r : Result (List Node) AllocError) (p : Plan) → IfOk r (λ m. IsPushed p (plan_of m)) → IfOk r (λ m. (most : ℕ) → NestUpTo most p → NestUpTo (max most (key_levels p) + 1) (plan_of m))
 shallow_pushed (Ok m) p pushed = pushed_shallow p (plan_of m) pushed
 shallow_pushed (Err e) p pushed = tt

@@ -162,9 +162,6 @@ cond_of o = x_null
 pub same_cond : (x y : ℕ) (c d : Typed) → p_filter x c ≡ p_filter y d → c ≡ d
 same_cond x y c d h = ap cond_of h
 
-pub filter_joined : (more : List Typed) (x : ℕ) (c d : Typed) (o : PlanOp) → o ≡ p_filter x c → d ≡ all_conjoined c more → p_filter x d ≡ with_all more o
-filter_joined more x c d o is joins = ap (p_filter x) joins ∙ sym (with_filter more x c) ∙ ap (with_all more) (sym is)
-
 pub more_held : (old new : List TExpr) (x : TExpr) (c : Typed) → new ≡ old ++ x ∷ [] → typed x ≡ c → map typed new ≡ map typed old ++ c ∷ []
 more_held old new x c is same = ap (map typed) is ∙ map-append typed old (x ∷ []) ∙ ap (λ d. map typed old ++ d ∷ []) same
 

@@ -59,13 +59,6 @@ args_put f (e ∷ es) = ap (λ more. more_args (put f e) more) (args_put f es)
 
 -- ---- clearing
 
-pub cleared_none : (p : Plan) → IsClearedTo p [] 0
-cleared_none p = record {
-  size = refl;
-  lives = λ n v below. absurd (omega (arith, below));
-  dead = λ n w there. absurd (none-some w (sym (slice_get_past [] n (omega arith)) ∙ there));
-}
-
 -- what stands in a list with one element more
 pub data Stands {X : Type 0} (xs : List X) (x : X) (n : ℕ) (y : X) : Type 0 where
   before : slice_get xs n ≡ Some y → Stands xs x n y
@@ -150,10 +143,6 @@ none_there nodes k h i m = none-some (node_with (p_filter i m.cond) m.statement)
 abbrev pub is_filter : PlanOp → Bool
 is_filter (p_filter input c) = true
 is_filter o = false
-
-pub no_filter : (nodes : List Node) (k : ℕ) (x : Node) → slice_get nodes k ≡ Some x → is_filter (node_of x).op ≡ false → NoMove nodes k
-no_filter nodes k x at h i m =
-    true≢false (sym (ap (λ v. is_filter v.op) (some_same (node_of x) (node_with (p_filter i m.cond) m.statement) (sym (node_there nodes k x at) ∙ m.above))) ∙ h)
 
 abbrev input_of : PlanOp → ℕ
 input_of (p_filter input c) = input

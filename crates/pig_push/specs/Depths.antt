@@ -1,7 +1,8 @@
 -- How deep conditions nest.
-use Rattle.std.specs.Prelude.{◌≡◌, ◌≤◌, max, ℕ, suc, Some, slice_get}
+use Rattle.std.specs.Prelude.{◌≡◌, ◌≤◌, max, ℕ, suc, Bool, false, List, [], ◌∷◌, Some, nat_lt, slice_get, if◌then◌else◌}
+use Rattle.std.specs.List.{list_any}
 use Rattle.pig_typed.specs.Typed.{Typed, TypedArgs, TypedLinks, x_chain, x_compare, x_is_null, x_not, x_minus, x_choose, x_cast, x_project, x_look, x_call, no_links, more_links, no_args, more_args}
-use Rattle.pig_plan.specs.Plans.{Plan, PlanNode, PlanOp, p_filter}
+use Rattle.pig_plan.specs.Plans.{Plan, PlanNode, PlanOp, p_filter, p_group}
 
 abbrev mutual
   pub depth : Typed → ℕ
@@ -36,3 +37,17 @@ NestUpTo most p = (n : ℕ) (v : PlanNode) → slice_get p n ≡ Some v → filt
 -- So far a condition may nest that has the key of a GROUP in it.
 abbrev pub most_levels : ℕ
 most_levels = 2048
+
+-- There is one key, and it is no column and no constant.
+abbrev pub one_nests : List Typed → Bool
+one_nests (key ∷ []) = nat_lt 0 (depth key)
+one_nests keys = false
+
+-- a GROUP of one input by such a key, which conditions may take the place of its group
+abbrev pub key_nests : PlanOp → Bool
+key_nests (p_group (input ∷ [])) = one_nests input.keys
+key_nests o = false
+
+-- How deep the keys of a plan's GROUPs may take a condition: only a key that nests itself takes it deeper.
+abbrev pub key_levels : Plan → ℕ
+key_levels p = if list_any (λ v. key_nests v.op) p then most_levels else 0

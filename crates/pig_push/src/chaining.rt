@@ -7,7 +7,7 @@ use pig_typed::{TExpr, TExprs, TLink, TLinks, copy_expr};
 use pig_value::{Boxed, ChainOp};
 use std::alloc::{AllocError, Global};
 
-/// Both conditions as one chain: the conjuncts of the first, and behind them those of the second.
+// Both conditions as one chain: the conjuncts of the first, and behind them those of the second.
 pub fn conjoined(alloc: Global, first: &TExpr, more: &TExpr) -> Result<TExpr, AllocError>
     ensures { IfOk result (λ c. typed c ≡ conjoined (typed first.now) (typed more.now)) }
 {
@@ -17,7 +17,7 @@ pub fn conjoined(alloc: Global, first: &TExpr, more: &TExpr) -> Result<TExpr, Al
     chained(alloc, all)
 }
 
-/// Copies of the conjuncts of a condition, in their order.
+// Copies of the conjuncts of a condition, in their order.
 pub fn conjuncts(alloc: Global, e: &TExpr) -> Result<TExprs, AllocError>
     ensures { IfOk result (λ all. map typed all ≡ conjuncts (typed e.now)) }
 {
@@ -26,7 +26,7 @@ pub fn conjuncts(alloc: Global, e: &TExpr) -> Result<TExprs, AllocError>
     Ok(all)
 }
 
-/// Conditions as one.
+// Conditions as one.
 pub fn chained(alloc: Global, conditions: TExprs) -> Result<TExpr, AllocError>
     ensures { IfOk result (λ c. typed c ≡ chained (map typed conditions)) }
 {
@@ -42,7 +42,7 @@ pub fn chained(alloc: Global, conditions: TExprs) -> Result<TExpr, AllocError>
     linked(alloc, first, rest)
 }
 
-/// A chain, where it has links.
+// A chain, where it has links.
 fn linked(alloc: Global, first: TExpr, rest: TLinks) -> Result<TExpr, AllocError>
     ensures { IfOk result (λ c. typed c ≡ linked (typed first) (links_of (map link_of rest))) }
 {
@@ -53,7 +53,7 @@ fn linked(alloc: Global, first: TExpr, rest: TLinks) -> Result<TExpr, AllocError
     Ok(TExpr::Chain { first, rest })
 }
 
-/// Adds copies of the conjuncts of a condition to a list.
+// Adds copies of the conjuncts of a condition to a list.
 #[cycle(add_conjuncts)]
 pub fn add_conjuncts(alloc: Global, e: &TExpr, into: &mut TExprs) -> Result<(), AllocError>
     ensures { OnOk result (map typed into.new ≡ map typed into.old ++ conjuncts (typed e.now)) }
@@ -96,7 +96,7 @@ fn add_copy(alloc: Global, e: &TExpr, into: &mut TExprs) -> Result<(), AllocErro
     Ok(())
 }
 
-/// Whether each link of a chain is an AND.
+// Whether each link of a chain is an AND.
 pub fn all_and(links: &[TLink]) -> bool
     ensures { result ≡ all_and (links_of (map link_of links.now)) }
 {

@@ -7,8 +7,8 @@ ghost use Rattle.pig_push.specs.Pushed.{IsCleared, IsNext};
 use pig_plan::{Node, Plan, copy_node, live_marks, no_rows};
 use std::alloc::{AllocError, Global};
 
-/// The plan in which each node that no STORE reaches reads nothing, so that what reads a node is
-/// live.
+// The plan in which each node that no STORE reaches reads nothing, so that what reads a node is
+// live.
 pub fn cleared(alloc: Global, plan: &Plan) -> Result<Plan, AllocError>
     ensures { IfOk result (λ q. IsCleared (plan_of plan.now) (plan_of q)) }
 {
@@ -22,7 +22,7 @@ pub fn cleared(alloc: Global, plan: &Plan) -> Result<Plan, AllocError>
     Ok(made)
 }
 
-/// A copy of the node at a place where it is live, and else one that reads nothing.
+// A copy of the node at a place where it is live, and else one that reads nothing.
 fn next_node(alloc: Global, nodes: &[Node], live: &[bool], own: usize) -> Result<Node, AllocError>
     requires live { live.now ≡ live_list (plan_of nodes.now) }
     ensures { IfOk result (λ c. IsNext (plan_of nodes.now) own (node_of c)) }
@@ -40,7 +40,7 @@ fn next_node(alloc: Global, nodes: &[Node], live: &[bool], own: usize) -> Result
     })
 }
 
-/// Adds a node. Each one fits, since it is of the kinds that it had; that is tested and not proved.
+// Adds a node. Each one fits, since it is of the kinds that it had; that is tested and not proved.
 pub fn push_node(made: &mut Plan, node: Node) -> Result<(), AllocError>
     ensures { OnOk result (plan_of made.new ≡ plan_of made.old ++ node_of node ∷ []) }
 {
@@ -51,7 +51,7 @@ pub fn push_node(made: &mut Plan, node: Node) -> Result<(), AllocError>
     Ok(())
 }
 
-/// A plan is valid.
+// A plan is valid.
 pub fn known_plan(plan: &Plan)
     ensures { IsPlan (plan_of plan.now) }
 {

@@ -6,26 +6,26 @@ use pig_typed::{TExpr, TLink};
 use pig_value::Boxed;
 use std::alloc::AllocError;
 
-/// How far an expression goes: the levels that it nests, and its nodes.
+// How far an expression goes: the levels that it nests, and its nodes.
 #[derive(Debug, Clone, Copy, Drop)]
 pub struct Extent {
     pub levels: u32,
     pub nodes: u32,
 }
 
-/// One node, with nothing in it.
+// One node, with nothing in it.
 const LEAF: Extent = Extent {
     levels: 0,
     nodes: 1,
 };
-/// No node at all.
+// No node at all.
 const NOTHING: Extent = Extent {
     levels: 0,
     nodes: 0,
 };
 
 impl Extent {
-    /// Both beside one another.
+    // Both beside one another.
     fn beside(self, other: Extent) -> Result<Extent, AllocError>
         ensures { IfOk result (λ both. both.levels ≡ max self.levels other.levels) }
     {
@@ -36,7 +36,7 @@ impl Extent {
         })
     }
 
-    /// This within one node more.
+    // This within one node more.
     fn within(self) -> Result<Extent, AllocError>
         ensures { IfOk result (λ all. all.levels ≡ self.levels + 1) }
     {
@@ -46,7 +46,7 @@ impl Extent {
     }
 }
 
-/// How far an expression goes. One that goes further than is counted here has no memory.
+// How far an expression goes. One that goes further than is counted here has no memory.
 #[cycle(extent_of)]
 pub fn extent_of(e: &TExpr) -> Result<Extent, AllocError>
     ensures { IfOk result (λ x. x.levels ≡ depth (typed e.now)) }

@@ -6,7 +6,7 @@ use pig_typed::{TExpr, TLink};
 use pig_value::{Boxed, Numbers};
 use std::alloc::{AllocError, Global};
 
-/// The columns that an expression names, in their order.
+// The columns that an expression names, in their order.
 pub fn fields(alloc: Global, e: &TExpr) -> Result<Numbers, AllocError>
     ensures { IfOk result (λ found. found ≡ fields_in (typed e.now)) }
 {

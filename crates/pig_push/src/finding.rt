@@ -18,8 +18,8 @@ use pig_typed::{TExpr, TLink};
 use pig_value::Side;
 use std::alloc::{AllocError, Global};
 
-/// The number of the last FILTER of which a conjunct may pass below the operator that it alone reads,
-/// where there is one. So FILTERs become one before they pass what they stand on.
+// The number of the last FILTER of which a conjunct may pass below the operator that it alone reads,
+// where there is one. So FILTERs become one before they pass what they stand on.
 pub fn find_part(
     alloc: Global,
     plan: &Plan,
@@ -40,15 +40,15 @@ pub fn find_part(
     Ok(None)
 }
 
-/// How many nodes there are, as a number of a node.
+// How many nodes there are, as a number of a node.
 fn number_of_nodes(plan: &Plan) -> Result<u32, AllocError>
     ensures { IfOk result (λ n. n ≡ length plan.now) }
 {
     u32::try_from(plan.nodes().len()).map_err(|_| AllocError)
 }
 
-/// Whether a FILTER stands at a number of which a conjunct may pass below the operator that it alone
-/// reads.
+// Whether a FILTER stands at a number of which a conjunct may pass below the operator that it alone
+// reads.
 pub fn may_part(
     alloc: Global,
     plan: &Plan,
@@ -75,8 +75,8 @@ pub fn may_part(
     Ok(is_lone(counts, *input))
 }
 
-/// The number of the operator below which the FILTER at a number may pass as a whole, where there is
-/// one.
+// The number of the operator below which the FILTER at a number may pass as a whole, where there is
+// one.
 pub fn below(
     alloc: Global,
     plan: &Plan,
@@ -107,7 +107,7 @@ pub fn below(
     Ok(Some(*input))
 }
 
-/// Whether one of the conjuncts of a condition may pass below an operator.
+// Whether one of the conjuncts of a condition may pass below an operator.
 fn some_pass(alloc: Global, plan: &Plan, op: &NodeOp, cond: &TExpr) -> Result<bool, AllocError>
     ensures { IfOk result (λ b. b
         ≡ some_pass (width_at (plan_of plan.now)) (op_of op.now) (typed cond.now)) }
@@ -134,7 +134,7 @@ pub fn is_union(op: &NodeOp) -> bool
     matches!(op, NodeOp::Union { .. })
 }
 
-/// Whether the FILTER at a number stands on a UNION.
+// Whether the FILTER at a number stands on a UNION.
 pub fn stands_on_union(plan: &Plan, number: u32) -> bool
     ensures { result ≡ stands_on_union (plan_of plan.now) number }
 {
@@ -151,7 +151,7 @@ pub fn stands_on_union(plan: &Plan, number: u32) -> bool
     is_union(&under.op)
 }
 
-/// Whether any condition may pass below such an operator.
+// Whether any condition may pass below such an operator.
 fn is_ever_passed(op: &NodeOp) -> bool
     ensures { result ≡ false → (width : ℕ → ℕ) (cond : Typed)
         → may_pass width (op_of op.now) cond ≡ false }
@@ -166,7 +166,7 @@ fn is_ever_passed(op: &NodeOp) -> bool
     }
 }
 
-/// Whether one of the conjuncts of a condition may, by itself.
+// Whether one of the conjuncts of a condition may, by itself.
 #[cycle(one_passes)]
 fn one_passes(alloc: Global, plan: &Plan, op: &NodeOp, cond: &TExpr) -> Result<bool, AllocError>
     ensures { IfOk result (λ b. b
@@ -208,7 +208,7 @@ fn one_link_passes(
     Ok(false)
 }
 
-/// Whether a condition may pass below an operator, and each of its conjuncts.
+// Whether a condition may pass below an operator, and each of its conjuncts.
 fn all_pass(alloc: Global, plan: &Plan, op: &NodeOp, cond: &TExpr) -> Result<bool, AllocError>
     ensures { IfOk result (λ b. b
         ≡ all_pass (width_at (plan_of plan.now)) (op_of op.now) (typed cond.now)) }
@@ -226,7 +226,7 @@ fn all_pass(alloc: Global, plan: &Plan, op: &NodeOp, cond: &TExpr) -> Result<boo
     each_passes(alloc, plan, op, cond)
 }
 
-/// Whether each of the conjuncts of a condition may, by itself.
+// Whether each of the conjuncts of a condition may, by itself.
 #[cycle(each_passes)]
 fn each_passes(alloc: Global, plan: &Plan, op: &NodeOp, cond: &TExpr) -> Result<bool, AllocError>
     ensures { IfOk result (λ b. b
@@ -268,7 +268,7 @@ fn each_link_passes(
     Ok(true)
 }
 
-/// Whether a condition may pass below an operator, by the operator alone.
+// Whether a condition may pass below an operator, by the operator alone.
 pub fn may_pass(alloc: Global, plan: &Plan, op: &NodeOp, cond: &TExpr) -> Result<bool, AllocError>
     ensures { IfOk result (λ b. b
         ≡ may_pass (width_at (plan_of plan.now)) (op_of op.now) (typed cond.now)) }

@@ -5,7 +5,7 @@ ghost use Rattle.pig_push.specs.Pushed.{each_arg, each_field, each_link, is_hand
 
 use pig_typed::{BlockItem, TExpr, TLink};
 
-/// Whether each column that an expression names is handed on by an item.
+// Whether each column that an expression names is handed on by an item.
 #[cycle(hands_all)]
 pub fn hands_all(items: &[BlockItem], e: &TExpr) -> bool
     ensures { result ≡ each_field (is_handed (map item_typed items.now)) (typed e.now) }
@@ -72,8 +72,8 @@ fn hands(items: &[BlockItem], n: u32) -> bool
     plain_at(items, n).is_some()
 }
 
-/// The column that an item hands on, by the position of what it makes. An item under FLATTEN makes
-/// as many as its width, and hands on none.
+// The column that an item hands on, by the position of what it makes. An item under FLATTEN makes
+// as many as its width, and hands on none.
 pub fn plain_at(items: &[BlockItem], n: u32) -> Option<u32>
     ensures { result ≡ plain_at (map item_typed items.now) n }
 {

@@ -9,8 +9,8 @@ use pig_typed::copy_exprs;
 use pig_value::Side;
 use std::alloc::{AllocError, Global};
 
-/// An input of a JOIN: its place among the inputs, its number, and its first column in the joined
-/// rows.
+// An input of a JOIN: its place among the inputs, its number, and its first column in the joined
+// rows.
 #[derive(Debug, Clone, Copy, Drop)]
 pub struct Spot {
     pub place: u32,
@@ -18,7 +18,7 @@ pub struct Spot {
     pub first: u32,
 }
 
-/// The input of a JOIN whose columns have all of these, where there is one.
+// The input of a JOIN whose columns have all of these, where there is one.
 pub fn find_spot(
     plan: &Plan,
     inputs: &[KeyedInput],
@@ -47,7 +47,7 @@ pub fn find_spot(
     Ok(None)
 }
 
-/// How many columns the rows of a node have.
+// How many columns the rows of a node have.
 fn width(plan: &Plan, node: u32) -> Result<u32, AllocError>
     ensures { IfOk result (λ n. n ≡ width_at (plan_of plan.now) node) }
 {
@@ -70,8 +70,8 @@ fn are_within(fields: &[u32], first: u32, end: u32) -> bool
     true
 }
 
-/// Whether the rows of this input all stand among the joined ones, or else with nulls for the
-/// other side.
+// Whether the rows of this input all stand among the joined ones, or else with nulls for the
+// other side.
 pub fn is_open(side: Side, spot: &Option<Spot>) -> bool
     ensures { result ≡ is_open side spot.now }
 {
@@ -92,7 +92,7 @@ fn opens(side: Side, place: u32) -> bool
     }
 }
 
-/// The inputs with another node at one place.
+// The inputs with another node at one place.
 pub fn over_at(
     alloc: Global,
     inputs: &[KeyedInput],

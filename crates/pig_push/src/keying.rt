@@ -10,14 +10,14 @@ use crate::putting::{Instead, put};
 use pig_typed::TExpr;
 use std::alloc::{AllocError, Global};
 
-/// Where the bag stands in the rows of a GROUP of one input. Its key stands before it.
+// Where the bag stands in the rows of a GROUP of one input. Its key stands before it.
 const BAG: u32 = 1;
-/// So many levels a condition may nest that passed a GROUP, as workers evaluate it on stacks of two MiB.
+// So many levels a condition may nest that passed a GROUP, as workers evaluate it on stacks of two MiB.
 const MOST_LEVELS: u32 = 2_048;
-/// So many nodes it may have.
+// So many nodes it may have.
 const MOST_NODES: u64 = 1 << 20;
 
-/// Whether there is one key, and a condition on the groups names no bag of theirs.
+// Whether there is one key, and a condition on the groups names no bag of theirs.
 pub fn hands_key(alloc: Global, keys: &[TExpr], cond: &TExpr) -> Result<bool, AllocError>
     ensures { IfOk result (λ b. b ≡ hands_key (map typed keys.now) (typed cond.now)) }
 {
@@ -41,7 +41,7 @@ fn names_bag(fields: &[u32]) -> bool
     false
 }
 
-/// A condition with the one key in the place of the group.
+// A condition with the one key in the place of the group.
 pub fn put_key(alloc: Global, keys: &[TExpr], cond: &TExpr) -> Result<TExpr, AllocError>
     ensures is { IfOk result (λ c. typed c
         ≡ put (from_key (map typed keys.now)) (typed cond.now)) }
@@ -53,7 +53,7 @@ pub fn put_key(alloc: Global, keys: &[TExpr], cond: &TExpr) -> Result<TExpr, All
     put_bounded(alloc, key, cond)
 }
 
-/// A condition with the key in the place of each column, where it goes not too far so.
+// A condition with the key in the place of each column, where it goes not too far so.
 fn put_bounded(alloc: Global, key: &TExpr, cond: &TExpr) -> Result<TExpr, AllocError>
     ensures is { IfOk result (λ c. typed c
         ≡ put (from_key (typed key.now ∷ [])) (typed cond.now)) }
@@ -64,8 +64,8 @@ fn put_bounded(alloc: Global, key: &TExpr, cond: &TExpr) -> Result<TExpr, AllocE
     put(alloc, Instead::Key(key), cond)
 }
 
-/// Nothing, where a condition that mentions the group so often goes not too far with the key in its place. Else there is
-/// no memory, as `x + x` for `x` in thirty GROUPs in turn makes 2 to the 30 of one mention.
+// Nothing, where a condition that mentions the group so often goes not too far with the key in its place. Else there is
+// no memory, as `x + x` for `x` in thirty GROUPs in turn makes 2 to the 30 of one mention.
 fn bounded(mentions: usize, key: &TExpr, cond: &TExpr) -> Result<(), AllocError>
     ensures { OnOk result (depth (typed cond.now) + depth (typed key.now) ≤ most_levels) }
 {

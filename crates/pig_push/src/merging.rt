@@ -17,14 +17,14 @@ use pig_value::Seq;
 use std::alloc::{AllocError, Global};
 use std::mem;
 
-/// A node, and the conditions that its own is to be joined with.
+// A node, and the conditions that its own is to be joined with.
 #[derive(Drop)]
 pub struct Held {
     node: Node,
     more: TExprs,
 }
 
-/// The plan in which each FILTER that stands on a FILTER that it alone reads is one with it.
+// The plan in which each FILTER that stands on a FILTER that it alone reads is one with it.
 pub fn merged(alloc: Global, plan: Plan) -> Result<Plan, AllocError>
     ensures { IfOk result (λ q. GoesOn (plan_of plan) (plan_of q)) }
 {
@@ -39,7 +39,7 @@ pub fn merged(alloc: Global, plan: Plan) -> Result<Plan, AllocError>
     planned(alloc, nodes)
 }
 
-/// The nodes, each with no further condition.
+// The nodes, each with no further condition.
 fn held_nodes(alloc: Global, nodes: Nodes) -> Result<Seq<Held>, AllocError>
     ensures { IfOk result (λ held. plan_held held ≡ plan_of nodes) }
 {
@@ -51,7 +51,7 @@ fn held_nodes(alloc: Global, nodes: Nodes) -> Result<Seq<Held>, AllocError>
     Ok(held)
 }
 
-/// Makes the FILTER at a place one with that which it stands on, where it alone reads this.
+// Makes the FILTER at a place one with that which it stands on, where it alone reads this.
 fn merge_at(
     alloc: Global,
     readers: &[ReadCount],
@@ -66,7 +66,7 @@ fn merge_at(
     merge(alloc, held, low as usize, high)
 }
 
-/// The number of the FILTER that the one at a place stands on and alone reads.
+// The number of the FILTER that the one at a place stands on and alone reads.
 fn filter_below(readers: &[ReadCount], held: &[Held], high: usize) -> Option<u32>
     ensures { MatchOption result ⊤ (λ low. OnFilter readers.now held.now low high) }
 {
@@ -88,7 +88,7 @@ fn filter_below(readers: &[ReadCount], held: &[Held], high: usize) -> Option<u32
     Some(*input)
 }
 
-/// Puts both FILTERs at the upper place, and what reads nothing at the lower one.
+// Puts both FILTERs at the upper place, and what reads nothing at the lower one.
 fn merge(alloc: Global, held: &mut Seq<Held>, low: usize, high: usize) -> Result<(), AllocError>
     ensures { OnOk result (AreOver held.old held.new low high) }
 {
@@ -105,7 +105,7 @@ fn merge(alloc: Global, held: &mut Seq<Held>, low: usize, high: usize) -> Result
     Ok(())
 }
 
-/// A node that reads nothing.
+// A node that reads nothing.
 fn idle(alloc: Global, statement: u32) -> Result<Held, AllocError>
     ensures { IfOk result (λ h. held_as h ≡ gone_as statement) }
 {
@@ -115,7 +115,7 @@ fn idle(alloc: Global, statement: u32) -> Result<Held, AllocError>
     Ok(Held { node, more })
 }
 
-/// The lower FILTER with the condition of the upper one.
+// The lower FILTER with the condition of the upper one.
 fn over(under: Held, above: Held) -> Result<Held, AllocError>
     ensures { IfOk result (λ both. IsOver under above both) }
 {
@@ -125,7 +125,7 @@ fn over(under: Held, above: Held) -> Result<Held, AllocError>
     Ok(Held { node, more })
 }
 
-/// The condition of a FILTER.
+// The condition of a FILTER.
 fn condition(held: Held) -> Result<TExpr, AllocError>
     ensures { IfOk result (λ c. (input : ℕ) (cond : Typed)
         → op_of held.node.op ≡ p_filter input cond → typed c ≡ cond) }
@@ -134,7 +134,7 @@ fn condition(held: Held) -> Result<TExpr, AllocError>
     taken(&mut node.op)
 }
 
-/// Takes the condition out of a FILTER, which is let go.
+// Takes the condition out of a FILTER, which is let go.
 fn taken(op: &mut NodeOp) -> Result<TExpr, AllocError>
     ensures { IfOk result (λ c. (input : ℕ) (cond : Typed)
         → op_of op.old ≡ p_filter input cond → typed c ≡ cond) }
@@ -145,7 +145,7 @@ fn taken(op: &mut NodeOp) -> Result<TExpr, AllocError>
     }
 }
 
-/// The nodes, each with its conditions as one.
+// The nodes, each with its conditions as one.
 fn joined_nodes(alloc: Global, held: Seq<Held>) -> Result<Nodes, AllocError>
     ensures { IfOk result (λ nodes. plan_of nodes ≡ plan_held held) }
 {
@@ -165,7 +165,7 @@ fn joined_node(alloc: Global, held: Held) -> Result<Node, AllocError>
     Ok(node)
 }
 
-/// Joins the condition of a FILTER with others. Nothing else is held with any; that is tested.
+// Joins the condition of a FILTER with others. Nothing else is held with any; that is tested.
 fn join(alloc: Global, op: &mut NodeOp, more: &TExprs) -> Result<(), AllocError>
     ensures { OnOk result (op_of op.new ≡ with_all (map typed more.now) (op_of op.old)) }
 {
@@ -181,7 +181,7 @@ fn join(alloc: Global, op: &mut NodeOp, more: &TExprs) -> Result<(), AllocError>
     }
 }
 
-/// A condition and others as one chain.
+// A condition and others as one chain.
 fn all_conjoined(alloc: Global, cond: &TExpr, more: &TExprs) -> Result<TExpr, AllocError>
     ensures { IfOk result (λ c. typed c
         ≡ all_conjoined (typed cond.now) (map typed more.now)) }
@@ -194,7 +194,7 @@ fn all_conjoined(alloc: Global, cond: &TExpr, more: &TExprs) -> Result<TExpr, Al
     chained(alloc, all)
 }
 
-/// Adds copies of the conjuncts of conditions to a list.
+// Adds copies of the conjuncts of conditions to a list.
 fn add_all(alloc: Global, conditions: &[TExpr], into: &mut TExprs) -> Result<(), AllocError>
     ensures { OnOk result (map typed into.new
         ≡ map typed into.old ++ flat_map conjuncts (map typed conditions.now)) }

@@ -16,7 +16,7 @@ use pig_typed::{TExpr, copy_block, copy_expr, copy_exprs};
 use pig_value::Side;
 use std::alloc::{AllocError, Global};
 
-/// The plan in which the FILTER at a number and the operator that it stands on changed places.
+// The plan in which the FILTER at a number and the operator that it stands on changed places.
 pub fn moved(alloc: Global, plan: Plan, low: u32, high: u32) -> Result<Plan, AllocError>
     requires { CanMove (plan_of plan) low high }
     ensures { IfOk result (λ q. IsMove (plan_of plan) (plan_of q) low high) }
@@ -30,7 +30,7 @@ pub fn moved(alloc: Global, plan: Plan, low: u32, high: u32) -> Result<Plan, All
     Ok(next)
 }
 
-/// The nodes as a plan.
+// The nodes as a plan.
 pub fn planned(alloc: Global, nodes: Nodes) -> Result<Plan, AllocError>
     ensures { IfOk result (λ q. plan_of q ≡ plan_of nodes) }
 {
@@ -41,7 +41,7 @@ pub fn planned(alloc: Global, nodes: Nodes) -> Result<Plan, AllocError>
     Ok(made)
 }
 
-/// What stands at the two numbers then. Each operator keeps its statement.
+// What stands at the two numbers then. Each operator keeps its statement.
 fn new_nodes(alloc: Global, plan: &Plan, low: u32, high: u32) -> Result<(Node, Node), AllocError>
     ensures { IfOk result (λ new. AreNew (plan_of plan.now) low high
         (node_of new.0) (node_of new.1)) }
@@ -64,7 +64,7 @@ fn new_nodes(alloc: Global, plan: &Plan, low: u32, high: u32) -> Result<(Node, N
     Ok((lower, upper))
 }
 
-/// What stands at the lower number.
+// What stands at the lower number.
 fn low_op(alloc: Global, plan: &Plan, op: &NodeOp, cond: &TExpr) -> Result<NodeOp, AllocError>
     ensures is { IfOk result (λ o. op_of o
         ≡ low_of (width_at (plan_of plan.now)) (op_of op.now) (typed cond.now)) }
@@ -133,7 +133,7 @@ fn below_join(
     })
 }
 
-/// What stands at the upper number, over the lower one.
+// What stands at the upper number, over the lower one.
 fn high_op(
     alloc: Global,
     plan: &Plan,
@@ -171,7 +171,7 @@ fn high_op(
     }
 }
 
-/// The groups over another input.
+// The groups over another input.
 fn groups_over(
     alloc: Global,
     plan: &Plan,
@@ -196,7 +196,7 @@ fn groups_over(
     Ok(NodeOp::Group { inputs })
 }
 
-/// The inputs of a JOIN, with another node at the place whose columns the condition names.
+// The inputs of a JOIN, with another node at the place whose columns the condition names.
 fn inputs_over(
     alloc: Global,
     plan: &Plan,

@@ -8,7 +8,7 @@ use pig_typed::{BlockItem, TExpr, TExprs, TLink, TLinks, copy_expr, copy_positio
 use pig_value::{Boxed, Rel, Seq, copy_kind};
 use std::alloc::{AllocError, Global};
 
-/// What stands in the place of the columns of a condition that passes an operator.
+// What stands in the place of the columns of a condition that passes an operator.
 #[derive(Clone, Copy, Drop)]
 pub enum Instead<'a> {
     /// The columns that the items of a FOREACH hand on.
@@ -19,7 +19,7 @@ pub enum Instead<'a> {
     Key(&'a TExpr),
 }
 
-/// What stands in the place of one column.
+// What stands in the place of one column.
 fn put_column(alloc: Global, instead: Instead, n: u32) -> Result<TExpr, AllocError>
     ensures { IfOk result (λ c. typed c ≡ instead_of instead.entry n) }
 {
@@ -30,7 +30,7 @@ fn put_column(alloc: Global, instead: Instead, n: u32) -> Result<TExpr, AllocErr
     }
 }
 
-/// An expression with others in the place of its columns.
+// An expression with others in the place of its columns.
 #[cycle(put)]
 pub fn put(alloc: Global, instead: Instead, e: &TExpr) -> Result<TExpr, AllocError>
     ensures { IfOk result (λ c. typed c

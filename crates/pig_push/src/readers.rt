@@ -8,7 +8,7 @@ ghost use Rattle.pig_push.specs.declared.readers.ReadCount.TheVariants as Read;
 use pig_plan::{NodeOp, Plan};
 use std::alloc::{AllocError, Global};
 
-/// How many nodes read a node, and which one does where it is one.
+// How many nodes read a node, and which one does where it is one.
 #[derive(Clone, Copy, Drop)]
 pub enum ReadCount {
     Never,
@@ -16,7 +16,7 @@ pub enum ReadCount {
     Often,
 }
 
-/// Of each node, in order, how many nodes read it.
+// Of each node, in order, how many nodes read it.
 pub fn readers(alloc: Global, plan: &Plan) -> Result<Vec<ReadCount>, AllocError>
     ensures { IfOk result (λ found. AreReaders (plan_of plan.now) found.items) }
 {
@@ -57,7 +57,7 @@ fn note_all(user: u32, inputs: &[u32], found: &mut Vec<ReadCount>) -> Result<(),
     Ok(())
 }
 
-/// Notes a reader of a node. Each node reads nodes before it; that is tested and not proved.
+// Notes a reader of a node. Each node reads nodes before it; that is tested and not proved.
 fn note_one(user: u32, input: u32, found: &mut Vec<ReadCount>) -> Result<(), AllocError>
     ensures { OnOk result ((k : ℕ) → get_or found.new.items k Read.Never ≡ (if input == k
         then noted user (get_or found.old.items k Read.Never)
@@ -90,7 +90,7 @@ fn once_more(other: u32, user: u32) -> ReadCount
     ReadCount::Often
 }
 
-/// Whether no two nodes read a node.
+// Whether no two nodes read a node.
 pub fn is_lone(found: &[ReadCount], number: u32) -> bool
     ensures { result ≡ not (is_shared found.now number) }
 {

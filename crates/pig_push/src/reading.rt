@@ -5,7 +5,7 @@ ghost use Rattle.pig_plan.specs.Plans.{keyed_of, node_of, op_of, plan_of};
 
 use pig_plan::{KeyedInput, Node, NodeOp};
 
-/// Whether no node but one reads a node.
+// Whether no node but one reads a node.
 pub fn is_only_use(nodes: &[Node], number: u32, user: u32) -> bool
     ensures yes { IsTrue result → IsOnlyUse (plan_of nodes.now) number user }
     ensures no { IsOnlyUse (plan_of nodes.now) number user → IsTrue result }
@@ -24,7 +24,7 @@ fn is_other_use(node: &Node, other: usize, number: u32, user: u32) -> bool
     other != user as usize && reads(&node.op, number)
 }
 
-/// Whether an operator reads a node.
+// Whether an operator reads a node.
 pub fn reads(op: &NodeOp, number: u32) -> bool
     ensures { result ≡ names (op_of op.now) number }
 {

@@ -5,8 +5,8 @@ ghost use Rattle.pig_plan.specs.Room.{roomy};
 use pig_plan::Plan;
 use std::alloc::AllocError;
 
-/// The plan with room for one node at a place: it reads nothing, and those behind it have other
-/// numbers.
+// The plan with room for one node at a place: it reads nothing, and those behind it have other
+// numbers.
 pub fn roomy(plan: Plan, at: u32) -> Result<Plan, AllocError>
     ensures plan { IfOk result (λ q. plan_of q ≡ roomy at (plan_of plan)) }
     ensures within { IfOk result (λ q. at < length plan) }

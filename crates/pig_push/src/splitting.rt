@@ -15,7 +15,7 @@ use pig_plan::{Node, NodeOp, Plan};
 use pig_typed::{TExpr, TExprs};
 use std::alloc::{AllocError, Global};
 
-/// The two parts of a FILTER: the conjuncts that may pass below its input together, and the others.
+// The two parts of a FILTER: the conjuncts that may pass below its input together, and the others.
 struct FilterParts {
     input: u32,
     statement: u32,
@@ -23,8 +23,8 @@ struct FilterParts {
     high: TExpr,
 }
 
-/// The plan in which the FILTER at a number is two, one on the other: at the number stand the
-/// conjuncts that may pass below its input together, and behind it the others.
+// The plan in which the FILTER at a number is two, one on the other: at the number stand the
+// conjuncts that may pass below its input together, and behind it the others.
 pub fn split(alloc: Global, plan: Plan, number: u32) -> Result<Plan, AllocError>
     ensures { IfOk result (λ q. IsParted (plan_of plan) (plan_of q) number) }
 {
@@ -76,7 +76,7 @@ fn parts(alloc: Global, plan: &Plan, number: u32) -> Result<FilterParts, AllocEr
     })
 }
 
-/// The place to which the first of the conditions goes that may pass.
+// The place to which the first of the conditions goes that may pass.
 fn first_place(
     alloc: Global,
     plan: &Plan,
@@ -93,7 +93,7 @@ fn first_place(
     Ok(0)
 }
 
-/// The place among a JOIN's inputs to which a condition goes.
+// The place among a JOIN's inputs to which a condition goes.
 fn place(alloc: Global, plan: &Plan, op: &NodeOp, cond: &TExpr) -> Result<Option<u32>, AllocError> {
     let NodeOp::Join { inputs, .. } = op else {
         return Ok(None);
@@ -103,7 +103,7 @@ fn place(alloc: Global, plan: &Plan, op: &NodeOp, cond: &TExpr) -> Result<Option
     Ok(spot.map(|found| found.place))
 }
 
-/// The conditions that may pass to a place, and the others, both in their order.
+// The conditions that may pass to a place, and the others, both in their order.
 fn parted(
     alloc: Global,
     plan: &Plan,
@@ -127,7 +127,7 @@ fn parted(
     Ok((low, high))
 }
 
-/// Adds a condition to one of two lists.
+// Adds a condition to one of two lists.
 fn push_where(
     passes: bool,
     cond: TExpr,
@@ -145,7 +145,7 @@ fn push_where(
     high.push(cond)
 }
 
-/// Whether a condition may pass below an operator, and below a JOIN to one place.
+// Whether a condition may pass below an operator, and below a JOIN to one place.
 fn passes_at(
     alloc: Global,
     plan: &Plan,

@@ -15,12 +15,12 @@ use crate::uniting::united;
 use pig_plan::{NodeOp, Plan};
 use std::alloc::{AllocError, Global};
 
-/// More steps than any sweep has.
+// More steps than any sweep has.
 const MOST_STEPS: u64 = 1 << 40;
-/// What a FILTER is made into.
+// What a FILTER is made into.
 const PARTS: u32 = 2;
 
-/// A plan while FILTERs move, and how many nodes read each of its own.
+// A plan while FILTERs move, and how many nodes read each of its own.
 #[derive(Drop)]
 pub struct Sweep {
     plan: Plan,
@@ -30,7 +30,7 @@ pub struct Sweep {
     left: u32,
 }
 
-/// The plan in which the FILTERs up to a number went as far as they may, one after another.
+// The plan in which the FILTERs up to a number went as far as they may, one after another.
 pub fn swept(
     alloc: Global,
     plan: Plan,
@@ -62,7 +62,7 @@ fn into_plan(sweep: Sweep) -> Plan
     plan
 }
 
-/// The next step: the FILTER at a number goes on, or else the number before is looked at.
+// The next step: the FILTER at a number goes on, or else the number before is looked at.
 fn stepped(alloc: Global, sweep: Sweep, at: u32) -> Result<Sweep, AllocError>
     requires sound { AreSound (plan_of sweep.plan) sweep.counts.items }
     ensures { IfOk result (λ s. StepsOn (plan_of sweep.plan) (plan_of s.plan) s.counts.items) }
@@ -80,7 +80,7 @@ fn stepped(alloc: Global, sweep: Sweep, at: u32) -> Result<Sweep, AllocError>
     advanced(alloc, plan, counts, at, left)
 }
 
-/// Goes on with the number before.
+// Goes on with the number before.
 fn next_before(plan: Plan, counts: Vec<ReadCount>, left: u32) -> Sweep
     ensures plan { result.plan ≡ plan }
     ensures counts { result.counts.items ≡ counts.items }
@@ -93,8 +93,8 @@ fn next_before(plan: Plan, counts: Vec<ReadCount>, left: u32) -> Sweep
     }
 }
 
-/// The FILTER at a number passes below the operator that it stands on, or as many of its conjuncts
-/// as go there together.
+// The FILTER at a number passes below the operator that it stands on, or as many of its conjuncts
+// as go there together.
 fn advanced(
     alloc: Global,
     plan: Plan,
@@ -115,7 +115,7 @@ fn advanced(
     in_part(alloc, plan, at, left)
 }
 
-/// The FILTER passes as a whole. It goes on from where it stands then.
+// The FILTER passes as a whole. It goes on from where it stands then.
 fn passed(
     alloc: Global,
     plan: Plan,
@@ -141,7 +141,7 @@ fn passed(
     })
 }
 
-/// The lower number where a FILTER stands there, and else the upper one.
+// The lower number where a FILTER stands there, and else the upper one.
 fn filter_of(plan: &Plan, low: u32, high: u32) -> u32 {
     match plan.nodes().get(low as usize) {
         Some(node) if matches!(&node.op, NodeOp::Filter { .. }) => low,
@@ -149,8 +149,8 @@ fn filter_of(plan: &Plan, low: u32, high: u32) -> u32 {
     }
 }
 
-/// What is known of readers once the nodes at two numbers changed places: what both read then, two
-/// do.
+// What is known of readers once the nodes at two numbers changed places: what both read then, two
+// do.
 fn counted_on(
     counts: Vec<ReadCount>,
     plan: &Plan,
@@ -171,7 +171,7 @@ fn counted_on(
     Ok(new)
 }
 
-/// The node that a FILTER and another operator read, where there is one.
+// The node that a FILTER and another operator read, where there is one.
 fn shared_input(lower: &NodeOp, upper: &NodeOp) -> Result<Option<u32>, AllocError>
     ensures { IfOk result (λ found. MatchOption found
         (NotBoth (op_of lower.now) (op_of upper.now))
@@ -184,7 +184,7 @@ fn shared_input(lower: &NodeOp, upper: &NodeOp) -> Result<Option<u32>, AllocErro
     }
 }
 
-/// A number, where an operator reads the node of it.
+// A number, where an operator reads the node of it.
 fn where_read(input: u32, op: &NodeOp) -> Option<u32>
     ensures { result ≡ where_read input (op_of op.now) }
 {
@@ -207,7 +207,7 @@ fn with_often(counts: Vec<ReadCount>, input: u32) -> Result<Vec<ReadCount>, Allo
     Ok(new)
 }
 
-/// The FILTER passes below a UNION. All numbers up to the FILTERs on its inputs are looked at.
+// The FILTER passes below a UNION. All numbers up to the FILTERs on its inputs are looked at.
 fn below_union(alloc: Global, plan: Plan, at: u32, left: u32) -> Result<Sweep, AllocError>
     ensures { IfOk result (λ s. StepsOn (plan_of plan) (plan_of s.plan) s.counts.items) }
 {
@@ -225,7 +225,7 @@ fn below_union(alloc: Global, plan: Plan, at: u32, left: u32) -> Result<Sweep, A
     })
 }
 
-/// The FILTER is made two, and the lower one passes. The other one is looked at again.
+// The FILTER is made two, and the lower one passes. The other one is looked at again.
 fn in_part(alloc: Global, plan: Plan, at: u32, left: u32) -> Result<Sweep, AllocError>
     ensures { IfOk result (λ s. StepsOn (plan_of plan) (plan_of s.plan) s.counts.items) }
 {
@@ -239,7 +239,7 @@ fn in_part(alloc: Global, plan: Plan, at: u32, left: u32) -> Result<Sweep, Alloc
     Ok(sweep)
 }
 
-/// The plan in which the FILTER is two.
+// The plan in which the FILTER is two.
 fn parted(alloc: Global, plan: Plan, number: u32) -> Result<Plan, AllocError>
     ensures { IfOk result (λ q. GoesOn (plan_of plan) (plan_of q)) }
 {

@@ -13,8 +13,8 @@ use pig_typed::{TExpr, copy_expr};
 use pig_value::Numbers;
 use std::alloc::{AllocError, Global};
 
-/// A FILTER on a UNION: the UNION's number and statement, the numbers that FILTERs on its inputs
-/// will have, and the FILTER's condition and statement.
+// A FILTER on a UNION: the UNION's number and statement, the numbers that FILTERs on its inputs
+// will have, and the FILTER's condition and statement.
 struct OverUnion {
     low: u32,
     own: u32,
@@ -23,8 +23,8 @@ struct OverUnion {
     statement: u32,
 }
 
-/// The plan in which the FILTER at a number has passed below the UNION that it stands on, to each
-/// distinct input.
+// The plan in which the FILTER at a number has passed below the UNION that it stands on, to each
+// distinct input.
 pub fn united(alloc: Global, plan: Plan, number: u32) -> Result<Plan, AllocError>
     ensures { IfOk result (λ q. GoesOn (plan_of plan) (plan_of q)) }
 {
@@ -35,7 +35,7 @@ pub fn united(alloc: Global, plan: Plan, number: u32) -> Result<Plan, AllocError
     over_each(alloc, room, number, high, each.as_slice())
 }
 
-/// The inputs of the UNION that the FILTER at a number stands on, each once.
+// The inputs of the UNION that the FILTER at a number stands on, each once.
 fn distinct_inputs(alloc: Global, plan: &Plan, number: u32) -> Result<Numbers, AllocError> {
     let nodes = plan.nodes().as_slice();
     let Some(above) = nodes.get(number as usize) else {
@@ -64,7 +64,7 @@ fn push_new(numbers: &mut Numbers, n: u32) -> Result<(), AllocError> {
     numbers.push(n)
 }
 
-/// The plan with room for so many nodes at a number.
+// The plan with room for so many nodes at a number.
 fn with_room_for(plan: Plan, number: u32, count: u32) -> Result<Plan, AllocError>
     ensures { IfOk result (λ q. GoesOn (plan_of plan) (plan_of q)) }
 {
@@ -83,7 +83,7 @@ fn with_one(plan: Plan, number: u32) -> Result<Plan, AllocError>
     Ok(room)
 }
 
-/// The plan in which FILTERs on the inputs stand from a number on, and the UNION goes over those.
+// The plan in which FILTERs on the inputs stand from a number on, and the UNION goes over those.
 fn over_each(
     alloc: Global,
     plan: Plan,
@@ -117,8 +117,8 @@ fn over_each(
     Ok(next)
 }
 
-/// The plan in which FILTERs of one condition on each of these nodes stand in the place of those
-/// from a number on, below the node at another number.
+// The plan in which FILTERs of one condition on each of these nodes stand in the place of those
+// from a number on, below the node at another number.
 fn with_filters(
     alloc: Global,
     plan: Plan,
@@ -142,8 +142,8 @@ fn with_filters(
     Ok(made)
 }
 
-/// The FILTER stands where nothing is read, so it and the node above it, which stays as it is, may
-/// stand in the place of two others. That there is such a place is tested.
+// The FILTER stands where nothing is read, so it and the node above it, which stays as it is, may
+// stand in the place of two others. That there is such a place is tested.
 fn with_filter(
     alloc: Global,
     plan: Plan,
@@ -168,7 +168,7 @@ fn with_filter(
     Ok(next)
 }
 
-/// A copy of the node at a number above another one that no node reads.
+// A copy of the node at a number above another one that no node reads.
 fn node_above(alloc: Global, plan: &Plan, number: u32, high: u32) -> Result<Node, AllocError>
     ensures { IfOk result (λ node. IsAbove (plan_of plan.now) number high (node_of node)) }
 {
@@ -186,8 +186,8 @@ fn node_above(alloc: Global, plan: &Plan, number: u32, high: u32) -> Result<Node
     Ok(copied)
 }
 
-/// The FILTER at a number and the UNION that it stands on, where there is room for FILTERs on its
-/// inputs from another number on. There always is, since it was made; that is tested.
+// The FILTER at a number and the UNION that it stands on, where there is room for FILTERs on its
+// inputs from another number on. There always is, since it was made; that is tested.
 fn over_union(
     alloc: Global,
     plan: &Plan,
@@ -237,7 +237,7 @@ fn has_room(each: &[u32], first: u32, high: u32) -> bool
     }
 }
 
-/// Whether the nodes from a number on, one for each, read nothing and are read by none.
+// Whether the nodes from a number on, one for each, read nothing and are read by none.
 fn are_free(nodes: &[Node], first: u32, each: &[u32]) -> bool
     ensures { IsTrue result → (j n : ℕ) → slice_get each.now j ≡ Some n
         → IsFree (plan_of nodes.now) (first + j) }
@@ -253,7 +253,7 @@ fn are_free(nodes: &[Node], first: u32, each: &[u32]) -> bool
     true
 }
 
-/// The number that stands so far behind another.
+// The number that stands so far behind another.
 fn number_at(first: u32, offset: usize) -> Option<u32>
     ensures { MatchOption result ⊤ (λ n. n ≡ first + offset) }
 {
@@ -294,7 +294,7 @@ fn is_unread(nodes: &[Node], number: u32) -> bool
     true
 }
 
-/// Whether each number stands once, and among the others.
+// Whether each number stands once, and among the others.
 fn are_once(each: &[u32], inputs: &[u32]) -> bool
     ensures { IsTrue result → (j n : ℕ) → slice_get each.now j ≡ Some n
         → (place_in each.now n ≡ j) × (list_any (λ m. m == n) inputs.now ≡ true) }
@@ -321,7 +321,7 @@ fn is_once(each: &[u32], inputs: &[u32], index: usize) -> bool
     holds(inputs, *n)
 }
 
-/// The first place of a number, or how many there are.
+// The first place of a number, or how many there are.
 fn place_in(numbers: &[u32], n: u32) -> usize
     ensures { result ≡ place_in numbers.now n }
 {
@@ -337,7 +337,7 @@ fn place_in(numbers: &[u32], n: u32) -> usize
     place
 }
 
-/// The numbers of the FILTERs on the inputs of a UNION.
+// The numbers of the FILTERs on the inputs of a UNION.
 fn numbers(alloc: Global, first: u32, each: &[u32], inputs: &[u32]) -> Result<Numbers, AllocError>
     ensures numbers { IfOk result (λ made. made ≡ map (filtered first each.now) inputs.now) }
     ensures whole { IfOk result (λ made.

@@ -50,7 +50,7 @@ fn ranked_behind<'r>(
     Ok(ranked)
 }
 
-/// A copy of a row behind a rank.
+// A copy of a row behind a rank.
 fn behind_rank(alloc: Global, rank: u64, row: &Tuple) -> Result<Tuple, AllocError>
     ensures { IfOk result (λ made. row_tree made ≡ long_of (pos rank) ∷ row_tree row.now) }
 {
@@ -63,7 +63,7 @@ fn behind_rank(alloc: Global, rank: u64, row: &Tuple) -> Result<Tuple, AllocErro
     Ok(made)
 }
 
-/// The long of the same 64 bits.
+// The long of the same 64 bits.
 #[tactic(auto, using(crate::proofs::Words::long_number))]
 fn as_long(number: u64) -> i64
     ensures { result ≡ int_wrap w64 (pos number) }

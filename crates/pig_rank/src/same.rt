@@ -19,7 +19,7 @@ pub(crate) fn goes_on(last: Option<&Tuple>, row: &Tuple, keys: &SortKeys) -> boo
     }
 }
 
-/// Whether two rows have the same value in each field to sort by, whatever its direction.
+// Whether two rows have the same value in each field to sort by, whatever its direction.
 fn have_same_key(a: &Tuple, b: &Tuple, keys: &[SortKey]) -> bool
     ensures { result ≡ list_all (has_same_field (row_tree a.now) (row_tree b.now)) keys.now }
 {

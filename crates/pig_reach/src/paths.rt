@@ -20,7 +20,7 @@ pub fn live_paths(alloc: Global, plan: &Plan) -> Result<Texts, AllocError>
     Ok(paths)
 }
 
-/// Adds the path of the node of a number.
+// Adds the path of the node of a number.
 fn add_path_at(
     alloc: Global,
     nodes: &[Node],
@@ -35,7 +35,7 @@ fn add_path_at(
     }
 }
 
-/// Adds the path of a LOAD where it is not there yet.
+// Adds the path of a LOAD where it is not there yet.
 fn add_path(alloc: Global, node: &Node, paths: &mut Texts) -> Result<(), AllocError>
     ensures { OnOk result (paths.new ≡ with_path paths.old (node_of node.now)) }
 {
@@ -55,7 +55,7 @@ fn add_new(alloc: Global, path: &Text, paths: &mut Texts) -> Result<(), AllocErr
     paths.push(path)
 }
 
-/// Whether a path is one of these.
+// Whether a path is one of these.
 fn is_among(path: &Text, paths: &Texts) -> bool
     ensures { result ≡ is_among path.now paths.now }
 {

@@ -28,7 +28,7 @@ pub fn lines_read(alloc: Global, plan: &Plan, inputs: &Inputs) -> Result<u64, Al
     Ok(count)
 }
 
-/// How many lines are read for the node of a number.
+// How many lines are read for the node of a number.
 fn read_for(alloc: Global, nodes: &[Node], number: usize, flows: &[u64]) -> Result<u64, AllocError>
     ensures { IfOk result (λ count. count
         ≡ uses_in (plan_of nodes.now) number (at_place 0 flows.now)) }
@@ -39,7 +39,7 @@ fn read_for(alloc: Global, nodes: &[Node], number: usize, flows: &[u64]) -> Resu
     }
 }
 
-/// Of each node how many lines come to it.
+// Of each node how many lines come to it.
 fn flows(alloc: Global, nodes: &[Node], inputs: &[Input]) -> Result<Vec<u64>, AllocError>
     ensures { IfOk result (λ flows. flows.items ≡ flows_of inputs.now (plan_of nodes.now)) }
 {
@@ -53,7 +53,7 @@ fn flows(alloc: Global, nodes: &[Node], inputs: &[Input]) -> Result<Vec<u64>, Al
     Ok(flows)
 }
 
-/// How many lines come to a node, by those that come to the nodes before it.
+// How many lines come to a node, by those that come to the nodes before it.
 fn comes_to(alloc: Global, op: &NodeOp, inputs: &[Input], flows: &[u64]) -> Result<u64, AllocError>
     ensures { IfOk result (λ count. count
         ≡ comes_to inputs.now (op_of op.now) (at_place 0 flows.now)) }
@@ -69,7 +69,7 @@ fn comes_to(alloc: Global, op: &NodeOp, inputs: &[Input], flows: &[u64]) -> Resu
     }
 }
 
-/// How many lines are read for a node: by a boundary node those that come to its inputs, by a STORE its own.
+// How many lines are read for a node: by a boundary node those that come to its inputs, by a STORE its own.
 fn uses_at(alloc: Global, op: &NodeOp, number: usize, flows: &[u64]) -> Result<u64, AllocError>
     ensures { IfOk result (λ count. count
         ≡ uses_at number (op_of op.now) (at_place 0 flows.now)) }
@@ -95,7 +95,7 @@ fn flow_at(flows: &[u64], number: usize) -> u64
     }
 }
 
-/// How many lines come to the inputs of a node together.
+// How many lines come to the inputs of a node together.
 fn come_from(alloc: Global, op: &NodeOp, flows: &[u64]) -> Result<u64, AllocError>
     ensures { IfOk result (λ count. count ≡ come_from (op_of op.now) (at_place 0 flows.now)) }
 {
@@ -115,7 +115,7 @@ fn flow_sum(numbers: &[u32], flows: &[u64]) -> u64
     sum
 }
 
-/// The number of lines of the input at a path; none where there is no such input.
+// The number of lines of the input at a path; none where there is no such input.
 fn loaded_lines(inputs: &[Input], path: &Text) -> u64
     ensures { result ≡ length (flat_map lines (pieces_of inputs.now path.now)) % 2 ^ 64 }
 {
@@ -129,7 +129,7 @@ fn loaded_lines(inputs: &[Input], path: &Text) -> u64
     0
 }
 
-/// The number of lines of pieces.
+// The number of lines of pieces.
 fn lines_in(pieces: &[Blob]) -> u64
     ensures { result ≡ length (flat_map lines pieces.now) % 2 ^ 64 }
 {
@@ -142,7 +142,7 @@ fn lines_in(pieces: &[Blob]) -> u64
     count
 }
 
-/// The number of lines of a piece.
+// The number of lines of a piece.
 fn line_count(bytes: &[u8]) -> u64
     ensures { result ≡ length (lines bytes.now) % 2 ^ 64 }
 {

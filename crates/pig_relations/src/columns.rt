@@ -9,14 +9,14 @@ use pig_schema::{Field, Schema, copy_schema, kinds};
 use pig_value::{Kind, Kinds, Text, copy_kind};
 use std::alloc::{AllocError, Global};
 
-/// The name of a key's column.
+// The name of a key's column.
 pub fn group_name(alloc: Global) -> Result<Text, AllocError>
     ensures { IfOk result (λ name. name ≡ codes "group") }
 {
     Text::from_str(alloc, "group")
 }
 
-/// The column with a name.
+// The column with a name.
 pub fn named(name: Text, column: Field) -> Field
     ensures { named_tree result ≡ with_name name (named_tree column) }
 {
@@ -28,7 +28,7 @@ pub fn named(name: Text, column: Field) -> Field
     }
 }
 
-/// A tuple of these columns, without a name.
+// A tuple of these columns, without a name.
 pub fn tuple(alloc: Global, columns: Schema) -> Result<Field, AllocError>
     ensures { IfOk result (λ f. named_tree f ≡ of_fields k_tuple (schema_tree columns)) }
 {
@@ -40,7 +40,7 @@ pub fn tuple(alloc: Global, columns: Schema) -> Result<Field, AllocError>
     })
 }
 
-/// A bag of an input's rows, with the input's alias as its name.
+// A bag of an input's rows, with the input's alias as its name.
 pub fn bag_column(alloc: Global, alias: &Text, columns: &Schema) -> Result<Field, AllocError>
     ensures { IfOk result (λ f. named_tree f ≡ bag_column alias.now (schema_tree columns.now)) }
 {
@@ -60,8 +60,8 @@ fn column_kinds(alloc: Global, columns: &Schema) -> Result<Kinds, AllocError>
     kinds(alloc, columns)
 }
 
-/// The columns so far, and copies of an input's columns, each with the input's alias and `::` before its name, where it
-/// has one.
+// The columns so far, and copies of an input's columns, each with the input's alias and `::` before its name, where it
+// has one.
 pub fn all_under(
     alloc: Global,
     columns: Schema,

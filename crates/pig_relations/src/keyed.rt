@@ -21,7 +21,7 @@ use pig_typing::{CheckKind, Locals, Scope, TypeFault, TypedExpr, TypedExprs, typ
 use pig_value::{Kind, Kinds, Seq, Text};
 use std::alloc::{AllocError, Global};
 
-/// An input of an operator by key, as it is written.
+// An input of an operator by key, as it is written.
 #[derive(Clone, Copy, Drop)]
 pub struct InputForm<'a> {
     pub from: &'a Text,
@@ -29,7 +29,7 @@ pub struct InputForm<'a> {
     pub inner: bool,
 }
 
-/// An input, with the relation that its alias means and its typed keys.
+// An input, with the relation that its alias means and its typed keys.
 #[derive(Drop)]
 pub struct TypedInput<'a> {
     pub alias: &'a Text,
@@ -38,14 +38,14 @@ pub struct TypedInput<'a> {
     pub inner: bool,
 }
 
-/// Inputs, and the kinds that their keys have together.
+// Inputs, and the kinds that their keys have together.
 #[derive(Drop)]
 pub struct Keyable<'a> {
     pub inputs: Seq<TypedInput<'a>>,
     pub kinds: Kinds,
 }
 
-/// The inputs of a GROUP or COGROUP.
+// The inputs of a GROUP or COGROUP.
 pub fn group_forms<'a>(
     alloc: Global,
     inputs: &'a [GroupInput],
@@ -63,7 +63,7 @@ pub fn group_forms<'a>(
     Ok(forms)
 }
 
-/// The inputs of a JOIN.
+// The inputs of a JOIN.
 pub fn join_forms<'a>(
     alloc: Global,
     inputs: &'a [JoinInput],
@@ -81,11 +81,11 @@ pub fn join_forms<'a>(
     Ok(forms)
 }
 
-/// The typing of the inputs of an operator by key.
-///
-/// # Errors
-///
-/// UnknownAlias, what a key is refused for, or SchemaMismatch where the keys of the inputs do not agree.
+// The typing of the inputs of an operator by key.
+//
+// # Errors
+//
+// UnknownAlias, what a key is refused for, or SchemaMismatch where the keys of the inputs do not agree.
 #[tactic(auto, unfolding(crate::specs::Keyed::keyed_of))]
 pub fn type_keyed<'a>(
     alloc: Global,
@@ -174,7 +174,7 @@ fn key_rows<'a, 'b>(
     Ok(rows)
 }
 
-/// The columns of keys.
+// The columns of keys.
 pub fn key_columns<'a>(alloc: Global, keys: &'a [TypedExpr]) -> Result<Vec<&'a Field>, AllocError>
     ensures { IfOk result (λ columns. fields_seen columns.items
         ≡ map typed_column (map typed_tree keys.now)) }
@@ -186,7 +186,7 @@ pub fn key_columns<'a>(alloc: Global, keys: &'a [TypedExpr]) -> Result<Vec<&'a F
     Ok(columns)
 }
 
-/// The inputs as a plan has them: an int key that stands with a long is cast.
+// The inputs as a plan has them: an int key that stands with a long is cast.
 pub fn keyed_inputs(alloc: Global, keyable: Keyable) -> Result<KeyedInputs, AllocError>
     ensures { IfOk result (λ made. map plan_keyed made
         ≡ map (keyed (map kind_tree keyable.entry.kinds)) (map input_tree keyable.entry.inputs)) }

@@ -11,8 +11,8 @@ use pig_typed::TExpr;
 use pig_value::{Boxed, Kind, Kinds, Seq, Text, copy_kind, same_kind};
 use std::alloc::{AllocError, Global};
 
-/// The kinds that the columns of all inputs have together, place by place: none where they are not equally many, or
-/// of other kinds than int and long that differ.
+// The kinds that the columns of all inputs have together, place by place: none where they are not equally many, or
+// of other kinds than int and long that differ.
 pub fn all_together(alloc: Global, rows: &[Vec<&Field>]) -> Result<Option<Kinds>, AllocError>
     ensures { IfOk result (λ found. option_map (map kind_tree) found
         ≡ all_together (map (λ row. map tree_kind (fields_seen row.items)) rows.now)) }
@@ -103,7 +103,7 @@ fn int_with_long(kind: &Kind, other: &Kind) -> bool
     }
 }
 
-/// Whether what is of the first kind is cast to be of the second.
+// Whether what is of the first kind is cast to be of the second.
 pub fn widens(kind: &Kind, to: &Kind) -> bool
     ensures { result ≡ widens (kind_tree kind.now) (kind_tree to.now) }
 {
@@ -113,7 +113,7 @@ pub fn widens(kind: &Kind, to: &Kind) -> bool
     }
 }
 
-/// An expression of the first kind, cast where the second is wider.
+// An expression of the first kind, cast where the second is wider.
 pub fn widened(alloc: Global, kind: &Kind, to: &Kind, value: TExpr) -> Result<TExpr, AllocError>
     ensures { IfOk result (λ e. typed e
         ≡ widened (kind_tree kind.now) (kind_tree to.now) (typed value)) }
@@ -127,7 +127,7 @@ pub fn widened(alloc: Global, kind: &Kind, to: &Kind, value: TExpr) -> Result<TE
     }
 }
 
-/// Copies of the columns, with the kinds at their places.
+// Copies of the columns, with the kinds at their places.
 pub fn of_kinds(alloc: Global, kinds: &[Kind], columns: &[&Field]) -> Result<Schema, AllocError>
     ensures { IfOk result (λ s. schema_tree s
         ≡ of_kinds (map kind_tree kinds.now) (fields_seen columns.now)) }

@@ -16,14 +16,14 @@ use pig_value::{Rows, Tuple, Value, copy, copy_row, order, order_rows};
 use std::alloc::{AllocError, Global};
 use std::cmp::Ordering;
 
-/// A row of the input where it stands, with its key.
+// A row of the input where it stands, with its key.
 #[derive(Drop)]
 pub struct Held<'r> {
     pub key: Value,
     pub row: &'r Tuple,
 }
 
-/// The groups of rows, one for each key, in ascending order of the keys.
+// The groups of rows, one for each key, in ascending order of the keys.
 pub fn grouped(alloc: Global, keys: &[TExpr], rows: &[Tuple]) -> Result<Vec<Group>, AllocError>
     ensures rows { IfOk result (λ groups. held_in groups.items
         ≡ lookup_of (map typed keys.now) (rows_tree rows.now)) }

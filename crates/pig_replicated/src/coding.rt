@@ -9,10 +9,10 @@ use pig_keycode::encode;
 use pig_value::{Dir, Tuple, Value};
 use std::alloc::{AllocError, Global};
 
-/// The codes of rows, for each row those of its fields behind one another.
+// The codes of rows, for each row those of its fields behind one another.
 pub type RowCodes = Vec<Vec<u8>>;
 
-/// The codes of the groups' keys, in the order of the groups.
+// The codes of the groups' keys, in the order of the groups.
 pub fn key_codes(alloc: Global, groups: &[Group]) -> Result<IndexSet<Vec<u8>>, AllocError>
     ensures { IfOk result (λ codes. map (λ k. k.items) codes.keys ≡ map key_code groups.now) }
 {
@@ -40,7 +40,7 @@ fn code_of(alloc: Global, key: &Value) -> Result<Vec<u8>, AllocError>
     Ok(bytes)
 }
 
-/// The codes of the rows of each group.
+// The codes of the rows of each group.
 pub fn codes_of_groups(alloc: Global, groups: &[Group]) -> Result<Vec<RowCodes>, AllocError>
     ensures { IfOk result (λ codes. map (λ rows. map (λ row. row.items) rows.items) codes.items
         ≡ map row_codes groups.now) }

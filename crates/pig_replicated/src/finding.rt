@@ -13,7 +13,7 @@ use crate::groups::Group;
 use indexmap::IndexSet;
 use pig_value::{Value, order};
 
-/// The group of a key, which is compared where it stands.
+// The group of a key, which is compared where it stands.
 pub fn found<'g>(groups: &'g [Group], key: &Value) -> Option<&'g Group>
     requires { AreGrouped groups.now }
     ensures { MatchOption result (rows_under (tree key.now) (held_in groups.now) ≡ [])
@@ -83,7 +83,7 @@ fn has_key(group: &Group, key: &Value) -> bool
     order(&group.key, key).is_eq()
 }
 
-/// The codes of the rows of a key, by the code of the key.
+// The codes of the rows of a key, by the code of the key.
 pub fn coded_rows<'c>(
     groups: &[Group],
     places: &IndexSet<Vec<u8>>,

@@ -4,7 +4,7 @@ ghost use Rattle.pig_plan.specs.ByKey.{holds_null, one_holds_null};
 
 use pig_value::Value;
 
-/// Whether a key is null, or a tuple that holds a null at any depth.
+// Whether a key is null, or a tuple that holds a null at any depth.
 #[cycle(has_null)]
 pub fn has_null(key: &Value) -> bool
     ensures { result ≡ holds_null (tree key.now) }

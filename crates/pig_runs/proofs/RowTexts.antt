@@ -36,13 +36,6 @@ texts_of_fields (v ∷ vs) = ap (λ ts. text_of v ∷ ts) (texts_of_fields vs)
 pub tuple_hash : (row : List Tree) → hash_of (tuple_text (map text_of row)) ≡ hash_of (text_of (v_tuple (fields_of row)))
 tuple_hash row = ap (λ ts. hash_of (tuple_text ts)) (sym (texts_of_fields row))
 
--- between its brackets
-pub told_whole : (begun told close : ℕ) (text : List ℕ) → begun ≡ fold hash_step 0 (40 ∷ []) → told ≡ fold hash_step begun text → close ≡ fold hash_step told (41 ∷ [])
-    → close ≡ hash_of (40 ∷ (text ++ 41 ∷ []))
-told_whole begun told close text first then last =
-    last ∙ (ap (λ n. fold hash_step n (41 ∷ [])) (then ∙ ap (λ n. fold hash_step n text) first)
-    ∙ sym (fold-append hash_step (fold hash_step 0 (40 ∷ [])) text (41 ∷ [])))
-
 -- once the first of some fields is told
 pub begins : (fields : List Value) (first : Value) (h told : ℕ) → 1 ≤ length fields → first ≡ get_or fields 0 first → told ≡ fold hash_step h (text_of (tree first))
     → fold hash_step told (with_commas (map text_of (row_tree (take (length fields - 1) (drop 1 fields))))) ≡ fold hash_step h (join_with_byte 44 (map text_of (row_tree fields)))

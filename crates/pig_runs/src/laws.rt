@@ -31,7 +31,7 @@ pub fn run_laws()
         → Ascends (point_cmp ds) (cut_points n es) }
 {}
 
-/// Entries and runs may be shared and handed to other threads.
+// Entries and runs may be shared and handed to other threads.
 fn crosses<T: Send + Sync>() {}
 
 /// Shows that entries and runs are `Send` and `Sync`.

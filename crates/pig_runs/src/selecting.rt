@@ -10,7 +10,7 @@ use crate::run::{Run, Runs};
 use pig_value::Dirs;
 use std::alloc::{AllocError, Global};
 
-/// A search for an entry gives up after so many rounds, of which each leaves out half of the entries of a run.
+// A search for an entry gives up after so many rounds, of which each leaves out half of the entries of a run.
 const ROUNDS: u32 = 10_000;
 
 // An entry: the number of its run, and its place there.

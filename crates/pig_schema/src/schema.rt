@@ -61,7 +61,7 @@ fn copy_name(alloc: Global, name: &Option<Text>) -> Result<Option<Text>, AllocEr
     }
 }
 
-/// Schemas may be shared and handed to other threads.
+// Schemas may be shared and handed to other threads.
 fn crosses<T: Send + Sync>() {}
 
 /// Shows that schemas are `Send` and `Sync`.

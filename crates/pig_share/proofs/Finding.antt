@@ -102,14 +102,6 @@ module _ (p : Plan) (table : List ℕ) (i j : ℕ) (v w : PlanNode) (stands_i : 
 
 -- ---- the beginning, and the end
 
-pub so_far_none : (p : Plan) → IsSoFar p [] [] 0
-so_far_none p = record {
-  size = refl;
-  nodes = λ more. refl;
-  named = λ more k v below. absurd (omega (arith, below));
-  one = λ more j k v w below. absurd (omega (arith, below));
-}
-
 take_whole : (xs : Plan) (n : ℕ) → n ≡ length xs → take n xs ≡ xs
 take_whole [] zero h = refl
 take_whole [] (suc n) h = refl

@@ -6,7 +6,7 @@ use crate::exprs::{is_same_bool, is_same_expr};
 use pig_typed::{Block, BlockItem, BlockStep, SortKey, TExpr};
 use pig_value::Dir;
 
-/// Whether two blocks are the same.
+// Whether two blocks are the same.
 pub fn is_same_block(a: &Block, b: &Block) -> bool
     ensures { result ≡ same_block (block_typed a.now) (block_typed b.now) }
 {
@@ -75,7 +75,7 @@ fn is_same_item(a: &BlockItem, b: &BlockItem) -> bool
     is_same_expr(&a.value, &b.value) && (is_same_bool(a.flatten, b.flatten) && a.width == b.width)
 }
 
-/// Whether two lists of keys are the same.
+// Whether two lists of keys are the same.
 pub fn are_same_keys(a: &[TExpr], b: &[TExpr]) -> bool
     ensures { result ≡ same_all same_expr (map typed a.now) (map typed b.now) }
 {
@@ -94,7 +94,7 @@ pub fn are_same_keys(a: &[TExpr], b: &[TExpr]) -> bool
     other.is_empty()
 }
 
-/// Whether two lists of sort keys are the same.
+// Whether two lists of sort keys are the same.
 pub fn are_same_sort_keys(a: &[SortKey], b: &[SortKey]) -> bool
     ensures { result ≡ same_all same_key a.now b.now }
 {

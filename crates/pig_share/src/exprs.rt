@@ -5,7 +5,7 @@ ghost use Rattle.pig_share.specs.Same.{same_args, same_bool, same_chain, same_ex
 use pig_typed::{TExpr, TLink};
 use pig_value::{ChainOp, Function, Rel, same_kind};
 
-/// Whether two expressions are the same.
+// Whether two expressions are the same.
 #[cycle(same_expr)]
 pub fn is_same_expr(a: &TExpr, b: &TExpr) -> bool
     ensures { result ≡ same_expr (typed a.now) (typed b.now) }
@@ -114,21 +114,21 @@ fn are_same_args(a: &[TExpr], b: &[TExpr]) -> bool
     a.len() == b.len()
 }
 
-/// Whether two truth values are the same.
+// Whether two truth values are the same.
 pub fn is_same_bool(a: bool, b: bool) -> bool
     ensures { result ≡ same_bool a b }
 {
     if a { b } else { !b }
 }
 
-/// Whether two byte strings are the same.
+// Whether two byte strings are the same.
 pub fn is_same_bytes(a: &[u8], b: &[u8]) -> bool
     ensures { result ≡ bytes_eq a.now b.now }
 {
     a == b
 }
 
-/// Whether two lists of numbers are the same.
+// Whether two lists of numbers are the same.
 pub fn are_same_numbers(a: &[u32], b: &[u32]) -> bool
     ensures { result ≡ bytes_eq a.now b.now }
 {

@@ -12,7 +12,7 @@ use pig_plan::{KeyedInput, NodeOp};
 use pig_typed::{Block, BlockItem, BlockStep, SortKey, TExpr, TLink};
 use pig_value::{Column, Kind, Text};
 
-/// The hash of an operator: operators that are the same have the same one.
+// The hash of an operator: operators that are the same have the same one.
 pub fn hash_op(op: &NodeOp) -> u64
     ensures { result ≡ op_hash (op_of op.now) }
 {

@@ -5,7 +5,7 @@ ghost use Rattle.pig_share.specs.Same.{same_all, same_column};
 
 use pig_value::{Column, Kind};
 
-/// Whether two lists of columns are the same.
+// Whether two lists of columns are the same.
 pub fn are_same_columns(a: &[Column], b: &[Column]) -> bool
     ensures test { result ≡ same_all same_column a.now b.now }
     ensures same { IsTrue result → a.now ≡ b.now }

@@ -3,7 +3,7 @@ ghost use Rattle.pig_share.specs.Hashed.{all_hash, chain_number, dir_number, fla
 
 use pig_value::{ChainOp, Dir, Function, Rel, Side};
 
-/// A hash with a number mixed in.
+// A hash with a number mixed in.
 #[tactic(auto, unfolding(crate::specs::Hashed::mixed))]
 pub fn mix(h: u64, x: u64) -> u64
     ensures { result ≡ mixed h x }
@@ -18,14 +18,14 @@ fn spread_bits(n: u64) -> u64
     n ^ (n >> 32)
 }
 
-/// A truth value mixed in.
+// A truth value mixed in.
 pub fn mix_flag(h: u64, flag: bool) -> u64
     ensures { result ≡ flag_hash h flag }
 {
     if flag { mix(h, 1) } else { mix(h, 2) }
 }
 
-/// Bytes mixed in, and that they end.
+// Bytes mixed in, and that they end.
 pub fn mix_bytes(h: u64, bytes: &[u8]) -> u64
     ensures { result ≡ all_hash mixed h bytes.now }
 {
@@ -36,7 +36,7 @@ pub fn mix_bytes(h: u64, bytes: &[u8]) -> u64
     mix(made, 99)
 }
 
-/// Numbers mixed in, and that they end.
+// Numbers mixed in, and that they end.
 pub fn mix_numbers(h: u64, numbers: &[u32]) -> u64
     ensures { result ≡ all_hash mixed h numbers.now }
 {
@@ -103,7 +103,7 @@ fn mix_width(h: u64, width: Option<u32>) -> u64
     }
 }
 
-/// A function mixed in.
+// A function mixed in.
 pub fn mix_function(h: u64, function: Function) -> u64
     ensures { result ≡ function_hash h function }
 {

@@ -8,7 +8,7 @@ use crate::kinds::are_same_columns;
 use pig_plan::{KeyedInput, NodeOp};
 use pig_value::{Delim, Side, Text};
 
-/// Whether two operators are the same; a STORE is the same as none.
+// Whether two operators are the same; a STORE is the same as none.
 pub fn is_same_op(a: &NodeOp, b: &NodeOp) -> bool
     ensures test { result ≡ same_op (op_of a.now) (op_of b.now) }
     ensures columns { IsTrue result → columns_of (op_of a.now) ≡ columns_of (op_of b.now) }

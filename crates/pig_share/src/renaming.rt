@@ -38,7 +38,7 @@ fn rename_inputs(alloc: Global, op: &mut NodeOp, table: &[u32]) -> Result<(), Al
     Ok(())
 }
 
-/// What a table has at a place.
+// What a table has at a place.
 pub fn number_at(table: &[u32], number: u32) -> u32
     ensures { result ≡ at_of table.now number }
 {

@@ -17,7 +17,7 @@ use indexmap::IndexMap;
 use pig_plan::{Node, Plan, live_marks};
 use std::alloc::{AllocError, Global};
 
-/// By the hash of an operator, the first node with that hash, of those that are live and don't stay apart.
+// By the hash of an operator, the first node with that hash, of those that are live and don't stay apart.
 type Firsts = IndexMap<u64, u32>;
 
 /// A plan of the same meaning in which no two live nodes do the same to the same inputs. Bare LIMITs stay apart, since each
@@ -66,14 +66,14 @@ fn share_nodes(alloc: Global, plan: &Plan) -> Result<Plan, AllocError>
     Ok(made)
 }
 
-/// How many nodes there are, as a number of a node.
+// How many nodes there are, as a number of a node.
 fn number_of_nodes(nodes: &[Node]) -> Result<u32, AllocError>
     ensures { IfOk result (λ n. n ≡ length nodes.now) }
 {
     u32::try_from(nodes.len()).map_err(|_| AllocError)
 }
 
-/// Names the next node, and adds it over the inputs that stand for its own.
+// Names the next node, and adds it over the inputs that stand for its own.
 fn share_next(
     alloc: Global,
     nodes: &[Node],
@@ -113,7 +113,7 @@ fn share_next(
     Ok(())
 }
 
-/// The node at a place over the inputs that a table has in the place of its own.
+// The node at a place over the inputs that a table has in the place of its own.
 fn renamed_at(alloc: Global, nodes: &[Node], own: u32, table: &[u32]) -> Result<Node, AllocError>
     ensures { IfOk result (λ c. IsRenamedAt (plan_of nodes.now) table.now own (node_of c)) }
 {
@@ -123,7 +123,7 @@ fn renamed_at(alloc: Global, nodes: &[Node], own: u32, table: &[u32]) -> Result<
     }
 }
 
-/// Lists a node under the hash of its operator where it is live, doesn't stay apart, and none is listed there.
+// Lists a node under the hash of its operator where it is live, doesn't stay apart, and none is listed there.
 fn list_open(
     nodes: &[Node],
     live: &[bool],
@@ -157,8 +157,8 @@ fn list_first(hash: u64, own: u32, firsts: &mut Firsts) -> Result<(), AllocError
     }
 }
 
-/// The number by which a node is named: that of a node before it that does the same, or its own. Only where one is
-/// listed under the same hash can one do the same.
+// The number by which a node is named: that of a node before it that does the same, or its own. Only where one is
+// listed under the same hash can one do the same.
 fn number_of(
     nodes: &[Node],
     live: &[bool],
@@ -186,7 +186,7 @@ fn number_of(
     }
 }
 
-/// That of the first one with the same hash where it does the same; hashes of operators that differ are rarely the same.
+// That of the first one with the same hash where it does the same; hashes of operators that differ are rarely the same.
 fn number_from(
     nodes: &[Node],
     live: &[bool],
@@ -212,7 +212,7 @@ fn number_from(
     number_of_any(nodes, live, apart, table, made, node, own)
 }
 
-/// That of the first node before it that does the same, of all of them.
+// That of the first node before it that does the same, of all of them.
 fn number_of_any(
     nodes: &[Node],
     live: &[bool],
@@ -237,7 +237,7 @@ fn number_of_any(
     own
 }
 
-/// Whether the node at a place before another one does the same to the same inputs, and may be named in its place.
+// Whether the node at a place before another one does the same to the same inputs, and may be named in its place.
 fn does_same(
     nodes: &[Node],
     live: &[bool],
@@ -263,7 +263,7 @@ fn does_same(
     are_all(this_open, open, same)
 }
 
-/// Whether a node is live and does not stay apart.
+// Whether a node is live and does not stay apart.
 fn is_open(nodes: &[Node], live: &[bool], apart: &[bool], place: u32) -> bool
     requires live { live.now ≡ live_list (plan_of nodes.now) }
     requires apart { apart.now ≡ apart_list (plan_of nodes.now) }
@@ -297,7 +297,7 @@ fn mark_at(marks: &[bool], place: u32) -> bool
     }
 }
 
-/// Whether the node at a place has the same operator as another one.
+// Whether the node at a place has the same operator as another one.
 fn is_same_at(made: &[Node], place: u32, node: &Node) -> bool
     ensures test { (u : PlanNode) → slice_get (plan_of made.now) place ≡ Some u
         → result ≡ same_op u.op (node_of node.now).op }
@@ -310,7 +310,7 @@ fn is_same_at(made: &[Node], place: u32, node: &Node) -> bool
     }
 }
 
-/// Adds a node, which fits, since the plan is valid that it comes from.
+// Adds a node, which fits, since the plan is valid that it comes from.
 fn push_node(made: &mut Plan, node: Node) -> Result<(), AllocError>
     ensures { OnOk result (plan_of made.new ≡ plan_of made.old ++ node_of node ∷ []) }
 {
@@ -321,7 +321,7 @@ fn push_node(made: &mut Plan, node: Node) -> Result<(), AllocError>
     Ok(())
 }
 
-/// A plan is valid.
+// A plan is valid.
 fn known_plan(plan: &Plan)
     ensures { IsPlan (plan_of plan.now) }
 {

@@ -9,7 +9,7 @@ ghost use Rattle.pig_share.specs.Table.{apart_list, sorted_list};
 use pig_plan::{Node, NodeOp};
 use std::alloc::{AllocError, Global};
 
-/// Of each node whether it stays apart.
+// Of each node whether it stays apart.
 pub fn apart_nodes(alloc: Global, nodes: &[Node]) -> Result<Vec<bool>, AllocError>
     ensures { IfOk result (λ apart. apart.items ≡ apart_list (plan_of nodes.now)) }
 {
@@ -36,7 +36,7 @@ fn apart_among(
     Ok(apart)
 }
 
-/// Whether no node has an earlier statement than one before it.
+// Whether no node has an earlier statement than one before it.
 fn stand_in_order(nodes: &[Node]) -> bool
     ensures { result ≡ in_order (plan_of nodes.now) }
 {
@@ -50,7 +50,7 @@ fn stand_in_order(nodes: &[Node]) -> bool
     true
 }
 
-/// Of each node whether it is sorted: an ORDER, or an ASSERT on a sorted node.
+// Of each node whether it is sorted: an ORDER, or an ASSERT on a sorted node.
 fn sorted_nodes(alloc: Global, nodes: &[Node]) -> Result<Vec<bool>, AllocError>
     ensures { IfOk result (λ sorted. sorted.items ≡ sorted_list (plan_of nodes.now)) }
 {
@@ -72,7 +72,7 @@ fn sorts(op: &NodeOp, sorted: &[bool]) -> bool
     }
 }
 
-/// Whether a node is marked; one that is not among them is none.
+// Whether a node is marked; one that is not among them is none.
 fn is_marked(marks: &[bool], node: u32) -> bool
     ensures { result ≡ at_place false marks.now node }
 {
@@ -82,7 +82,7 @@ fn is_marked(marks: &[bool], node: u32) -> bool
     }
 }
 
-/// Whether an operator stays apart: a LIMIT on no sorted node, a STORE, an ASSERT among nodes that are not in order.
+// Whether an operator stays apart: a LIMIT on no sorted node, a STORE, an ASSERT among nodes that are not in order.
 fn stays_apart(op: &NodeOp, ordered: bool, sorted: &[bool]) -> bool
     ensures { result ≡ is_apart ordered (at_place false sorted.now) (op_of op.now) }
 {

@@ -21,7 +21,7 @@ use pig_typed::{TExpr, TExprs, kind_of};
 use pig_value::{Function, Kind, Kinds, Seq, Text, beside, copy_kind};
 use std::alloc::{AllocError, Global};
 
-/// How the arguments of a function are cast.
+// How the arguments of a function are cast.
 #[derive(Debug, Clone, Copy, PartialEq, Eq, Drop)]
 pub enum Casting {
     /// Bytearrays to chararrays.
@@ -31,11 +31,11 @@ pub enum Casting {
     AsItIs,
 }
 
-/// The function of a name.
-///
-/// # Errors
-///
-/// FloatType for AVG, which this profile leaves out, UnknownFunction for any other name that is no function's.
+// The function of a name.
+//
+// # Errors
+//
+// FloatType for AVG, which this profile leaves out, UnknownFunction for any other name that is no function's.
 #[tactic(auto, unfolding(crate::specs::Reader::function_of))]
 pub fn function(name: &str) -> Result<Function, TypeFault>
     ensures { Tells (λ f. f) (function_of name.now) result }
@@ -50,11 +50,11 @@ pub fn function(name: &str) -> Result<Function, TypeFault>
     }
 }
 
-/// The function, where it takes so many arguments.
-///
-/// # Errors
-///
-/// WrongArguments where it takes another number.
+// The function, where it takes so many arguments.
+//
+// # Errors
+//
+// WrongArguments where it takes another number.
 #[tactic(auto, unfolding(crate::specs::Reader::with_count))]
 pub fn with_count(count: usize, function: Function) -> Result<Function, TypeFault>
     ensures { Tells (λ f. f) (with_count count function) result }
@@ -81,12 +81,12 @@ fn allows(function: Function, count: usize) -> bool
     }
 }
 
-/// A function on arguments.
-///
-/// # Errors
-///
-/// TypeMismatch where it takes no arguments of their kinds, TooWide or TooDeep where what it gives is past the
-/// limits.
+// A function on arguments.
+//
+// # Errors
+//
+// TypeMismatch where it takes no arguments of their kinds, TooWide or TooDeep where what it gives is past the
+// limits.
 #[tactic(auto, unfolding(crate::specs::Reader::call_of))]
 pub fn call<'a>(
     alloc: Global,

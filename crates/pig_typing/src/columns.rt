@@ -12,7 +12,7 @@ use pig_typed::TExpr;
 use pig_value::{Boxed, Kind, Kinds, Seq, beside, copy_kind};
 use std::alloc::{AllocError, Global};
 
-/// A column that stands in the scope, such a one without its name, or one that was made.
+// A column that stands in the scope, such a one without its name, or one that was made.
 #[derive(Drop)]
 pub enum Column<'a> {
     Lent(&'a Field),
@@ -20,7 +20,7 @@ pub enum Column<'a> {
     Made(Boxed<Field>),
 }
 
-/// An expression as it is typed, and the column that it gives.
+// An expression as it is typed, and the column that it gives.
 #[derive(Drop)]
 pub struct Typing<'a> {
     pub expr: Boxed<TExpr>,
@@ -38,14 +38,14 @@ fn field<'b, 'a>(column: &'b Column<'a>) -> &'b Field
     }
 }
 
-/// The kind of a column.
+// The kind of a column.
 pub fn kind<'b, 'a>(column: &'b Column<'a>) -> &'b Kind
     ensures { kind_tree result.now ≡ tree_kind (column_seen column.now) }
 {
     &field(column).kind
 }
 
-/// The columns inside a column.
+// The columns inside a column.
 pub fn inner<'b, 'a>(column: &'b Column<'a>) -> &'b Schema
     ensures forms { inner_of (schema_tree result.now) ≡ tree_inner (column_seen column.now) }
     ensures list { schema_tree result.now ≡ inner_list (tree_inner (column_seen column.now)) }
@@ -53,7 +53,7 @@ pub fn inner<'b, 'a>(column: &'b Column<'a>) -> &'b Schema
     &field(column).inner
 }
 
-/// A column with memory of its own.
+// A column with memory of its own.
 pub fn owned(alloc: Global, column: Column) -> Result<Field, AllocError>
     ensures { IfOk result (λ f. named_tree f ≡ column_seen column.entry) }
 {
@@ -64,7 +64,7 @@ pub fn owned(alloc: Global, column: Column) -> Result<Field, AllocError>
     }
 }
 
-/// A copy of a column with memory of its own.
+// A copy of a column with memory of its own.
 pub fn copied(alloc: Global, column: &Column) -> Result<Field, AllocError>
     ensures { IfOk result (λ f. named_tree f ≡ column_seen column.now) }
 {
@@ -75,7 +75,7 @@ pub fn copied(alloc: Global, column: &Column) -> Result<Field, AllocError>
     }
 }
 
-/// What stands inside a column, with memory of its own.
+// What stands inside a column, with memory of its own.
 pub fn into_inner(alloc: Global, column: Column) -> Result<Schema, AllocError>
     ensures { IfOk result (λ s. inner_of (schema_tree s) ≡ tree_inner (column_seen column.entry)) }
 {
@@ -107,7 +107,7 @@ fn nameless(alloc: Global, field: &Field) -> Result<Field, AllocError>
     Ok(holding(kind, inner))
 }
 
-/// A column of a kind, without a name of its own or inside.
+// A column of a kind, without a name of its own or inside.
 pub fn unnamed(alloc: Global, kind: Kind) -> Result<Field, AllocError>
     ensures { IfOk result (λ f. named_tree f ≡ unnamed (kind_tree kind)) }
 {
@@ -145,7 +145,7 @@ fn each_unnamed(alloc: Global, kinds: &[Kind]) -> Result<Schema, AllocError>
     Ok(Seq::from_vec(made))
 }
 
-/// A column without a name of this kind, with these columns inside.
+// A column without a name of this kind, with these columns inside.
 pub fn holding(kind: Kind, inner: Schema) -> Field
     ensures { named_tree result ≡ a_field None (kind_tree kind) (inner_of (schema_tree inner)) }
 {
@@ -156,7 +156,7 @@ pub fn holding(kind: Kind, inner: Schema) -> Field
     }
 }
 
-/// A tuple of these columns, without a name.
+// A tuple of these columns, without a name.
 pub fn tuple(alloc: Global, columns: Schema) -> Result<Field, AllocError>
     ensures { IfOk result (λ f. named_tree f ≡ of_fields k_tuple (schema_tree columns)) }
 {
@@ -164,7 +164,7 @@ pub fn tuple(alloc: Global, columns: Schema) -> Result<Field, AllocError>
     Ok(holding(Kind::Tuple(kinds), columns))
 }
 
-/// A bag of tuples of these columns, without a name.
+// A bag of tuples of these columns, without a name.
 pub fn bag(alloc: Global, columns: Schema) -> Result<Field, AllocError>
     ensures { IfOk result (λ f. named_tree f ≡ of_fields k_bag (schema_tree columns)) }
 {
@@ -178,7 +178,7 @@ pub fn column_kinds(alloc: Global, columns: &Schema) -> Result<Kinds, AllocError
     kinds(alloc, columns)
 }
 
-/// An expression with a column that was made for it.
+// An expression with a column that was made for it.
 pub fn made<'a>(alloc: Global, form: TExpr, column: Field) -> Result<Typing<'a>, AllocError>
     ensures { IfOk result (λ p. typing_tree p ≡ typing (typed form) (named_tree column)) }
 {
@@ -197,7 +197,7 @@ fn with_column<'a>(
     Ok(Typing { expr, column })
 }
 
-/// An expression of a kind without names.
+// An expression of a kind without names.
 pub fn plain<'a>(alloc: Global, form: TExpr, kind: Kind) -> Result<Typing<'a>, AllocError>
     ensures { IfOk result (λ p. typing_tree p ≡ typing (typed form) (unnamed (kind_tree kind))) }
 {

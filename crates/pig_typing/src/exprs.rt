@@ -59,7 +59,7 @@ pub fn typed_expr(alloc: Global, e: &Expr, scope: &Scope) -> Result<TypedExpr, T
     in_memory(kept(alloc, typing))
 }
 
-/// A typing with memory of its own.
+// A typing with memory of its own.
 pub fn kept(alloc: Global, typing: Typing) -> Result<TypedExpr, AllocError>
     ensures { IfOk result (λ t. typed_tree t ≡ typing_tree typing.entry) }
 {

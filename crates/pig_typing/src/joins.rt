@@ -10,7 +10,7 @@ use pig_typed::TExpr;
 use pig_value::{Boxed, ChainOp, Kind, Rel, copy_kind, same_kind};
 use std::alloc::{AllocError, Global};
 
-/// What two operands are together: their kind, and which of them is cast to it.
+// What two operands are together: their kind, and which of them is cast to it.
 #[derive(Drop)]
 pub struct Join {
     pub kind: Kind,
@@ -24,7 +24,7 @@ fn together(kind: Kind, left: bool, right: bool) -> Join
     Join { kind, left, right }
 }
 
-/// Kinds that are alike up to int with long, or one of them a bytearray.
+// Kinds that are alike up to int with long, or one of them a bytearray.
 pub fn alike(alloc: Global, a: &Kind, b: &Kind) -> Result<Option<Join>, AllocError>
     ensures { IfOk result (λ found. option_map join_tree found
         ≡ alike (kind_tree a.now) (kind_tree b.now)) }
@@ -45,7 +45,7 @@ pub fn alike(alloc: Global, a: &Kind, b: &Kind) -> Result<Option<Join>, AllocErr
     }
 }
 
-/// Kinds that a comparison takes.
+// Kinds that a comparison takes.
 pub fn compared(alloc: Global, op: Rel, a: &Kind, b: &Kind) -> Result<Option<Join>, AllocError>
     ensures { IfOk result (λ found. option_map join_tree found
         ≡ compared op (kind_tree a.now) (kind_tree b.now)) }
@@ -99,7 +99,7 @@ fn ranged(kind: &Kind) -> bool
     }
 }
 
-/// Kinds that an operator of a chain takes.
+// Kinds that an operator of a chain takes.
 pub fn chained(op: ChainOp, a: &Kind, b: &Kind) -> Option<Join>
     ensures { option_map join_tree result ≡ chained op (kind_tree a.now) (kind_tree b.now) }
 {
@@ -134,7 +134,7 @@ fn conditions(a: &Kind, b: &Kind) -> Option<Join>
     Some(together(Kind::Boolean, left, right))
 }
 
-/// Whether a condition of a kind is cast, where it may be one.
+// Whether a condition of a kind is cast, where it may be one.
 pub fn condition(kind: &Kind) -> Option<bool>
     ensures { result ≡ condition (kind_tree kind.now) }
 {
@@ -145,7 +145,7 @@ pub fn condition(kind: &Kind) -> Option<bool>
     }
 }
 
-/// The kind of unary minus of a kind.
+// The kind of unary minus of a kind.
 pub fn minus(kind: &Kind) -> Option<Kind>
     ensures { option_map kind_tree result ≡ minus_kind (kind_tree kind.now) }
 {
@@ -156,7 +156,7 @@ pub fn minus(kind: &Kind) -> Option<Kind>
     }
 }
 
-/// Two operands as they are cast, and their kind together.
+// Two operands as they are cast, and their kind together.
 #[derive(Drop)]
 pub struct Operands {
     pub kind: Boxed<Kind>,
@@ -164,7 +164,7 @@ pub struct Operands {
     pub right: Boxed<TExpr>,
 }
 
-/// Two operands, each cast where it is to be.
+// Two operands, each cast where it is to be.
 pub fn cast_both(
     alloc: Global,
     join: Join,
@@ -181,7 +181,7 @@ pub fn cast_both(
     Ok(Operands { kind, left, right })
 }
 
-/// An expression, cast where it is to be.
+// An expression, cast where it is to be.
 pub fn cast_if(
     alloc: Global,
     is_cast: bool,

@@ -16,7 +16,7 @@ use pig_typed::TExpr;
 use pig_value::Boxed;
 use std::alloc::Global;
 
-/// A name or a position: the latest nested alias of the name, or else the field that is meant.
+// A name or a position: the latest nested alias of the name, or else the field that is meant.
 #[tactic(auto, unfolding(crate::specs::Reader::reference_of))]
 pub fn named<'a>(
     alloc: Global,

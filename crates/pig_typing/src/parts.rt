@@ -19,14 +19,14 @@ use pig_typed::TExpr;
 use pig_value::{Kind, Positions, Seq, Text, beside, copy_kind};
 use std::alloc::{AllocError, Global};
 
-/// A column that is taken, and its place.
+// A column that is taken, and its place.
 #[derive(Drop)]
 pub struct Pick {
     pub place: u32,
     pub column: Field,
 }
 
-/// Projections and look-ups behind an expression, in turn.
+// Projections and look-ups behind an expression, in turn.
 #[tactic(auto, unfolding(crate::specs::Parts::steps_of))]
 pub fn walk<'a>(
     alloc: Global,

@@ -16,7 +16,7 @@ use pig_params::{Params, Taken, take_params};
 use pig_value::{Text, WordFault, Words};
 use std::alloc::{AllocError, Global};
 
-/// The most digits of a value.
+// The most digits of a value.
 const MOST_DIGITS: usize = 9;
 
 // What the options set where they are not given, and at most.

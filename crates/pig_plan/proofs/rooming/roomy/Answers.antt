@@ -1,10 +1,8 @@
-use Rattle.std.proofs.Common.{rules, ◌≡◌, ◌∙◌, ◌<◌, ◌≤◌, ap, arith, length, map, sym}
-use Rattle.std.specs.Prelude.{refl}
+use Rattle.std.proofs.Common.{rules, ◌≡◌, arith, length, map}
 use Rattle.std.specs.List.{insert}
 use Rattle.std.specs.Vec.{vec_len}
-use Rattle.std.proofs.lemmas.List.{length-map}
 use Rattle.pig_plan.specs.declared.nodes.Node.{Node}
-use Rattle.pig_plan.specs.Plans.{node_of, op_of, plan_of}
+use Rattle.pig_plan.specs.Plans.{op_of, plan_of}
 use Rattle.pig_plan.specs.Renumbered.{renamed}
 use Rattle.pig_plan.specs.Room.{idle, past}
 use Rattle.pig_plan.proofs.Room.{made_roomy, idle_of, no_longer}

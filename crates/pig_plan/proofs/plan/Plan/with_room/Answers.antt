@@ -1,5 +1,4 @@
-use Rattle.std.proofs.Common.{rules, ◌≡◌, ◌<◌, ◌≤◌, arith, length, subst, sym}
-use Rattle.std.specs.Prelude.{refl}
+use Rattle.std.proofs.Common.{rules, ◌≡◌, ◌<◌, arith, length, subst, sym}
 use Rattle.std.specs.List.{insert}
 use Rattle.std.specs.Vec.{vec_len}
 use Rattle.pig_plan.specs.Plans.{plan_of}
@@ -20,6 +19,6 @@ pub invariant_of-result : goal.invariant_of-result
 invariant_of-result c =
     let within : c.args.at < length c.self.inside.nodes = subst (λ ns. c.args.at < length ns) (sym c.self.view_is) c.requires in
     let made : plan_of c.in_ok-nodes.nodes ≡ roomy c.args.at (plan_of c.self.inside.nodes) = search rules in
-    let first : Given = given.Rows c.new.result in
+    let first : Given = given.Rows c.in_ok-none.none in
     let all : c.insert.new.self.items ≡ insert c.self.inside.given.items c.args.at first = search rules in
     roomy_holds c.self.inside.nodes c.in_ok-nodes.nodes c.self.inside.given.items c.insert.new.self.items first c.self.inside.latest c.args.at c.self.invariant within made (search rules) all
