@@ -5,8 +5,8 @@ ghost use Rattle.pig_exprs.specs.Grammar.{equals, is_among, choice_of, compared}
 ghost use Rattle.pig_exprs.specs.Reader.{forms, Gives, repeat};
 ghost use Rattle.pig_exprs.specs.ExprReader.{when_at, when_turn, first_when, last_at, cases_at};
 
-use crate::limits::Limits;
-use crate::operands::long_texts;
+use crate::limits::{Limits, TreeSize};
+use crate::operands::bytes_of_texts;
 use crate::reading::{ParseFault, Rule, Turning, before, behind_word, beside};
 use crate::trees::{chain_of, choose, compare};
 use crate::word;
@@ -210,12 +210,12 @@ impl<R: Rule<Tree = Expr>> Operand<'_, '_, R> {
         }
     }
 
-    // Counts a copy behind which so many tokens are left. So many nodes were copied before it, and made.
-    fn count(&self, left: usize, copied: u64, made: u64) -> Result<(), AllocError> {
+    // Counts a copy behind which so many tokens are left. So much was copied before it, and made.
+    fn count(&self, left: usize, copied: TreeSize, made: TreeSize) -> Result<(), AllocError> {
         let (read, _) = self.tokens.split_at(self.tokens.len().saturating_sub(left));
-        self.limits.nodes(long_texts(read));
+        self.limits.texts(bytes_of_texts(read));
         self.limits.forget_copies(copied);
-        self.limits.copy(self.limits.made().saturating_sub(made))
+        self.limits.copy(self.limits.made().since(made))
     }
 
     // The comparison with a value.

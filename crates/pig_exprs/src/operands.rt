@@ -90,18 +90,18 @@ fn fields_of(step: &PostStep) -> usize {
     }
 }
 
-// The nodes that texts and names among the tokens count for, as copies take memory for each.
-pub fn long_texts(tokens: &[Token]) -> usize {
-    let mut nodes: usize = 0;
+// How long the texts and names among the tokens are together.
+pub fn bytes_of_texts(tokens: &[Token]) -> usize {
+    let mut bytes: usize = 0;
     for token in tokens {
-        nodes = nodes.saturating_add(long_text(&token.form));
+        bytes = bytes.saturating_add(bytes_of_text(&token.form));
     }
-    nodes
+    bytes
 }
 
-fn long_text(form: &TokenForm) -> usize {
+fn bytes_of_text(form: &TokenForm) -> usize {
     match form {
-        TokenForm::Text(text) | TokenForm::Ident(text) => text.len() / 64,
+        TokenForm::Text(text) | TokenForm::Ident(text) => text.len(),
         _ => 0,
     }
 }

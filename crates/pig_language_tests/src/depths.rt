@@ -163,8 +163,8 @@ fn bounds_steps_without_brackets(rt: HostRuntime) {
     }
 }
 
-// An operand of 1,024 nodes may be copied 1,024 times in one script, and no more; one of 128 nodes, as a text of 8,191 bytes
-// counts, 8,192 times. What is tried in vain doesn't count.
+// An operand of 1,024 nodes may be copied 1,024 times in one script, and no more, and a text of 8,192 bytes 8,192 times. What is tried
+// in vain doesn't count.
 #[test]
 fn bounds_copies(rt: HostRuntime) {
     let sum = " + b";
@@ -180,18 +180,18 @@ fn bounds_copies(rt: HostRuntime) {
             "memory",
         ),
         (
-            ("x = FILTER a BY 'b", "b", "' IN (1, 1, 1", ", 1", ");"),
+            ("x = FILTER a BY 'bb", "b", "' IN (1, 1, 1", ", 1", ");"),
             8_190,
             "trees",
         ),
         (
-            ("x = FILTER a BY 'b", "b", "' IN (1, 1, 1, 1", ", 1", ");"),
+            ("x = FILTER a BY 'bb", "b", "' IN (1, 1, 1, 1", ", 1", ");"),
             8_190,
             "memory",
         ),
         (
             (
-                "x = FILTER a BY b IN (1, 1); x = FILTER a BY 'b",
+                "x = FILTER a BY b IN (1, 1); x = FILTER a BY 'bb",
                 "b",
                 "' IN (1, 1, 1",
                 ", 1",
@@ -201,7 +201,7 @@ fn bounds_copies(rt: HostRuntime) {
             "memory",
         ),
         (
-            ("x = GROUP a BY ('b", "b", "' IN (1, 1, 1", ", 1", "), c);"),
+            ("x = GROUP a BY ('bb", "b", "' IN (1, 1, 1", ", 1", "), c);"),
             8_190,
             "trees",
         ),

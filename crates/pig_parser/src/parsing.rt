@@ -47,8 +47,8 @@ impl From<AllocError> for SyntaxFault {
 /// tokens behind the last `;` are off the grammar too, whatever they are. The brackets of each statement
 /// have to nest less deep than [`MOST_NESTED`](pig_exprs::MOST_NESTED), which [`depth`](pig_syntax::depth)
 /// tells. An expression in which more than [`MOST_STEPS`](pig_exprs::MOST_STEPS) steps nest without a
-/// bracket, and operands of IN and CASE that are copied more than [`MOST_COPIED`](pig_exprs::MOST_COPIED)
-/// lets be, are want of memory.
+/// bracket, and operands of IN and CASE that are copied more than [`MOST_COPIED`](pig_exprs::MOST_COPIED) and
+/// [`MOST_COPIED_BYTES`](pig_exprs::MOST_COPIED_BYTES) let be, are want of memory.
 ///
 /// Where the names and texts among the tokens hold no LF, as those of [`lex`](pig_syntax::lex) do, each tree
 /// is as the grammar gives it (`specs/Formed` of pig_syntax).

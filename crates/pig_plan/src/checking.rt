@@ -193,11 +193,7 @@ fn all_alike(before: &[Given], row: &Kinds, others: &[u32]) -> bool
     true
 }
 
-fn order(
-    before: &[Given],
-    input: u32,
-    keys: &SortKeys,
-) -> Result<Option<Given>, AllocError>
+fn order(before: &[Given], input: u32, keys: &SortKeys) -> Result<Option<Given>, AllocError>
     ensures { IfOk result (λ g. option_map kinds_of_given g
         ≡ order_gives (before_of before.now) input keys.now) }
 {

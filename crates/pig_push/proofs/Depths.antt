@@ -1,5 +1,5 @@
 -- Conditions that move nest no deeper than they did, but for one chain, or, where a GROUP has a key that nests, no deeper than is let past it.
-use Rattle.std.specs.Prelude.{◌≡◌, ◌≤◌, ◌+◌, ◌-◌, ◌⊎◌, not, ◌||◌, max, ℕ, zero, suc, Bool, true, false, List, [], ◌∷◌, ◌++◌, map, Option, Some, None, slice_get, slice_set, Err, IfOk, Ok, Result, ⊤, nat_lt, if◌then◌else◌, refl}
+use Rattle.std.specs.Prelude.{◌≡◌, ◌≤◌, ◌+◌, ◌-◌, ◌⊎◌, not, ◌||◌, max, ℕ, zero, suc, Bool, true, false, List, [], ◌∷◌, ◌++◌, map, Option, Some, None, slice_get, slice_set, Err, IfOk, Ok, Result, ⊤, if◌then◌else◌, refl}
 use Rattle.std.proofs.Common.{ap, sym, ◌∙◌, subst, arith, cond, inl, inr, true≢false}
 use Rattle.std.specs.List.{AllByRecursion, filter, list_any}
 use Rattle.std.specs.Option.{option_map}
@@ -20,7 +20,7 @@ use Rattle.pig_plan.specs.Plans.{Keyed, Plan, PlanNode, PlanOp, p_load, p_filter
 use Rattle.pig_plan.specs.Renumbered.{rename, renamed}
 use Rattle.pig_plan.specs.Room.{idle, past, roomy}
 use Rattle.pig_push.specs.declared.joining.Spot.{Spot}
-use Rattle.pig_push.specs.Depths.{NestUpTo, arg_depth, depth, filter_depth, key_levels, key_nests, link_depth, most_levels, one_nests}
+use Rattle.pig_push.specs.Depths.{NestUpTo, arg_depth, depth, filter_depth, key_levels, key_nests, link_depth, most_levels, nests, one_nests}
 use Rattle.pig_push.specs.Pushed.{AreMoves, IsCleared, IsMove, IsPushed, IsSplit, IsUnited, and_links, at_spot, chained, chained_where, conjoined, filter_as, filter_on, filtered, from_key, high_of, low_of, none, one_more, one_room, one_split, one_union, put_from, spot_for}
 use Rattle.pig_push.proofs.Chains.{IsConjunct, chained_back, conjuncts_kept, each_conjunct}
 use Rattle.pig_push.proofs.Keeps.{node_with}
@@ -235,11 +235,11 @@ shallow_at most None c h = h
 shallow_at most (Some spot) c h = shallow_put most (λ n. n - spot.first) c h
 
 -- an expression that nests nothing
-flat_depth : (n : ℕ) → nat_lt 0 n ≡ false → n ≡ 0
+flat_depth : (n : ℕ) → nests n ≡ false → n ≡ 0
 flat_depth zero h = refl
 flat_depth (suc n) h = absurd (true≢false h)
 
-flat_leaf : (e : Typed) → nat_lt 0 (depth e) ≡ false → conjuncts e ≡ e ∷ []
+flat_leaf : (e : Typed) → nests (depth e) ≡ false → conjuncts e ≡ e ∷ []
 flat_leaf (x_chain first links) h = absurd (true≢false h)
 flat_leaf (x_compare r a b) h = refl
 flat_leaf (x_is_null a negated) h = refl
@@ -259,20 +259,24 @@ flat_leaf (x_field n) h = refl
 flat_leaf (x_local n) h = refl
 
 -- a key that nests nothing takes a condition no deeper, and one that does so far at most
-shallow_key : (most : ℕ) (key c : Typed) → (nat_lt 0 (depth key) ≡ true → most_levels ≤ most) → depth (put (λ n. key) c) ≤ most_levels → IsShallow most c → IsShallow most (put (λ n. key) c)
-shallow_key most key c far nests h = either_way (nat_lt 0 (depth key))
-(λ deep. let le = far deep in record { whole = omega (arith, le, nests); each = conjuncts_under most (put (λ n. key) c) (omega (arith, le, nests)) })
-(λ flat.
-let none : depth key ≡ 0 = flat_depth (depth key) flat in
-record {
-  whole = subst (λ n. n ≤ most + 1) (sym (put_depth (λ n. key) (λ n. none) c)) h.whole;
-  each = put_under (λ n. key) (λ n. none) (λ n. flat_leaf key flat) most c h.each;
-})
+shallow_key : (most : ℕ) (key c : Typed) → (nests (depth key) ≡ true → most_levels ≤ most) → depth (put (λ n. key) c) ≤ most_levels → IsShallow most c → IsShallow most (put (λ n. key) c)
+shallow_key most key c far up_to h = either_way (nests (depth key)) deeper no_deeper
+  where
+    deeper : nests (depth key) ≡ true → IsShallow most (put (λ n. key) c)
+    deeper deep = let le = far deep in record { whole = omega (arith, le, up_to); each = conjuncts_under most (put (λ n. key) c) (omega (arith, le, up_to)) }
+
+    no_deeper : nests (depth key) ≡ false → IsShallow most (put (λ n. key) c)
+    no_deeper flat =
+        let none : depth key ≡ 0 = flat_depth (depth key) flat in
+        record {
+          whole = subst (λ n. n ≤ most + 1) (sym (put_depth (λ n. key) (λ n. none) c)) h.whole;
+          each = put_under (λ n. key) (λ n. none) (λ n. flat_leaf key flat) most c h.each;
+        }
 
 shallow_keys : (most : ℕ) (keys : List Typed) (c : Typed) → (one_nests keys ≡ true → most_levels ≤ most) → depth (put (from_key keys) c) ≤ most_levels → IsShallow most c → IsShallow most (put (from_key keys) c)
-shallow_keys most [] c far nests h = shallow_put most (λ n. n) c h
-shallow_keys most (key ∷ []) c far nests h = shallow_key most key c far nests h
-shallow_keys most (a ∷ b ∷ keys) c far nests h = shallow_put most (λ n. n) c h
+shallow_keys most [] c far up_to h = shallow_put most (λ n. n) c h
+shallow_keys most (key ∷ []) c far up_to h = shallow_key most key c far up_to h
+shallow_keys most (a ∷ b ∷ keys) c far up_to h = shallow_put most (λ n. n) c h
 
 shallow_low : (most : ℕ) (width : ℕ → ℕ) (o : PlanOp) (c : Typed) → ((inputs : List Keyed) → o ≡ p_group inputs → filter_depth (low_of width o c) ≤ most_levels)
     → ShallowOp most o → IsShallow most c → ShallowOp most (low_of width o c)

@@ -1,5 +1,5 @@
 -- How deep conditions nest.
-use Rattle.std.specs.Prelude.{◌≡◌, ◌≤◌, max, ℕ, suc, Bool, false, List, [], ◌∷◌, Some, nat_lt, slice_get, if◌then◌else◌}
+use Rattle.std.specs.Prelude.{◌≡◌, ◌≤◌, max, ℕ, zero, suc, Bool, false, true, List, [], ◌∷◌, Some, slice_get, if◌then◌else◌}
 use Rattle.std.specs.List.{list_any}
 use Rattle.pig_typed.specs.Typed.{Typed, TypedArgs, TypedLinks, x_chain, x_compare, x_is_null, x_not, x_minus, x_choose, x_cast, x_project, x_look, x_call, no_links, more_links, no_args, more_args}
 use Rattle.pig_plan.specs.Plans.{Plan, PlanNode, PlanOp, p_filter, p_group}
@@ -38,12 +38,17 @@ NestUpTo most p = (n : ℕ) (v : PlanNode) → slice_get p n ≡ Some v → filt
 abbrev pub most_levels : ℕ
 most_levels = 2048
 
--- There is one key, and it is no column and no constant.
+-- Columns and constants, of which the depth is 0, nest nothing.
+abbrev pub nests : ℕ → Bool
+nests zero = false
+nests (suc levels) = true
+
+-- there is one key, and it nests
 abbrev pub one_nests : List Typed → Bool
-one_nests (key ∷ []) = nat_lt 0 (depth key)
+one_nests (key ∷ []) = nests (depth key)
 one_nests keys = false
 
--- a GROUP of one input by such a key, which conditions may take the place of its group
+-- a GROUP of one input by such a key, which stands in the place of the group in conditions that pass
 abbrev pub key_nests : PlanOp → Bool
 key_nests (p_group (input ∷ [])) = one_nests input.keys
 key_nests o = false
