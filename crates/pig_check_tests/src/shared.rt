@@ -9,6 +9,7 @@ ghost use Rattle.pig_syntax.specs.Cutting.{IsWithin};
 use pig_check::{CheckFault, check};
 use pig_parser::parse;
 use pig_plan::{Node, Plan};
+use pig_shown_tests::plain;
 use pig_syntax::{Pieces, Tokens, cut, depth, lex, statements_lie_within};
 use pig_typing::CheckKind;
 use std::alloc::Global;
@@ -97,37 +98,4 @@ pub fn node_shown<R: Abort>(rt: &R, alloc: Global, node: &Node) -> String {
     let (statement, op) = (node.statement, &node.op);
     let shown = format!(in alloc; "{statement}: {op:?}").expect(rt, "memory");
     plain(rt, alloc, shown.as_str())
-}
-
-// A mark for each name of this kind, whose brace is to go.
-fn replaced<R: Abort>(rt: &R, alloc: Global, shown: &str, name: &str) -> String {
-    shown.replace(alloc, name, "\u{1}").expect(rt, "memory")
-}
-
-// Shown trees without the names of lists, boxes and texts, and with `'` for `"`.
-fn plain<R: Abort>(rt: &R, alloc: Global, shown: &str) -> String {
-    let shown = replaced(rt, alloc, shown, "Seq { items: ");
-    let shown = replaced(rt, alloc, shown.as_str(), "Text { text: ");
-    let shown = replaced(rt, alloc, shown.as_str(), "Boxed { inner: ");
-    let mut hidden = Vec::new(alloc);
-    let mut text = String::new(alloc);
-    for c in shown.chars() {
-        match c {
-            '\u{1}' => hidden.push(true).expect(rt, "memory"),
-            '{' => {
-                hidden.push(false).expect(rt, "memory");
-                text.push(c).expect(rt, "memory");
-            }
-            '}' => {
-                if hidden.pop() == Some(true) {
-                    text.pop();
-                } else {
-                    text.push(c).expect(rt, "memory");
-                }
-            }
-            '"' => text.push('\'').expect(rt, "memory"),
-            _ => text.push(c).expect(rt, "memory"),
-        }
-    }
-    text
 }

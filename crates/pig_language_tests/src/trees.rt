@@ -2,6 +2,7 @@
 //! which statement is the first that is off the grammar.
 use crate::reading::{Answer, counted, parsed};
 use pig_parser::SyntaxFault;
+use pig_shown_tests::plain;
 use pig_syntax::Stmts;
 use std::alloc::Global;
 use std::process::Abort;
@@ -454,42 +455,6 @@ a = LOAD 'in' AS (k:int, v:chararray); r = RANK a BY k DESC; d = RANK a BY k DES
 a = LOAD 'in' AS (s:chararray, t:chararray, n:int); o = FOREACH a GENERATE SIZE(s), SUBSTRING(s,1,3), SUBSTRING(s,3,9), INDEXOF(t,'na'), INDEXOF(t,'x'), ABS(n), STARTSWITH(t,'ba'), ENDSWITH(t,'ba'), CONCAT(s,t); => 2\n\
 a = LOAD 'in' AS (m:map[]); o = FOREACH a GENERATE (int)m#'a' + 1, m#'zz', (m#'b' == 'x' ? 'yes' : 'no'); => 2\n\
 v = LOAD 'visits' AS (user:chararray, page:chararray, time:int); g = GROUP v BY user; c = FOREACH g GENERATE group, COUNT(v) AS n, SUM(v.time) AS t; o = ORDER c BY n DESC, $0; top = LIMIT o 10; STORE top INTO 'top';  => 6";
-
-// Shown trees without the names of lists, boxes and texts, and with `'` for `"`.
-fn plain<R: Abort>(rt: &R, alloc: Global, shown: &str) -> String {
-    let shown = shown.replace(alloc, "Seq { items: ", "\u{1}");
-    let shown = shown.expect(rt, "memory");
-    let shown = shown.replace(alloc, "Text { text: ", "\u{1}");
-    let shown = shown.expect(rt, "memory");
-    let shown = shown.replace(alloc, "Boxed { inner: ", "\u{1}");
-    let shown = shown.expect(rt, "memory");
-    without_names(rt, alloc, shown.as_str())
-}
-
-// The same without the brackets that a `\u{1}` opens.
-fn without_names<R: Abort>(rt: &R, alloc: Global, shown: &str) -> String {
-    let mut hidden = Vec::new(alloc);
-    let mut text = String::new(alloc);
-    for c in shown.chars() {
-        match c {
-            '\u{1}' => hidden.push(true).expect(rt, "memory"),
-            '{' => {
-                hidden.push(false).expect(rt, "memory");
-                text.push(c).expect(rt, "memory");
-            }
-            '}' => {
-                if hidden.pop() == Some(true) {
-                    text.pop();
-                } else {
-                    text.push(c).expect(rt, "memory");
-                }
-            }
-            '"' => text.push('\'').expect(rt, "memory"),
-            _ => text.push(c).expect(rt, "memory"),
-        }
-    }
-    text
-}
 
 fn shown_trees<R: Abort>(rt: &R, alloc: Global, trees: &Stmts) -> String {
     let shown = format!(in alloc; "{trees:?}").expect(rt, "memory");

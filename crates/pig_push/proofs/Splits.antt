@@ -4,7 +4,7 @@ use Rattle.std.specs.Prelude.{map}
 use Rattle.std.proofs.Common.{ap, sym, ◌∙◌, subst, arith, cond, true≢false, inl, inr}
 use Rattle.std.specs.List.{filter, list_all}
 use Rattle.std.proofs.lemmas.Bool.{eq-eqb, eqb-true}
-use Rattle.std.proofs.lemmas.List.{length-map}
+use Rattle.std.proofs.lemmas.List.{length-map, map-set}
 use Rattle.std.proofs.lemmas.Option.{slice_get_within}
 use Rattle.pig_value.proofs.list_laws.Bags.{either_way}
 use Rattle.pig_value.proofs.list_laws.Indexing.{some_at}
@@ -215,11 +215,6 @@ module _ (p q : Plan) (valid : IsPlan p) (k : ℕ) (valid_r : IsPlan (roomy k p)
 
 -- ---- what the code makes
 
-pub map_set : {X Y : Type 0} (f : X → Y) (xs : List X) (i : ℕ) (y : X) → map f (slice_set xs i y) ≡ slice_set (map f xs) i (f y)
-map_set f [] i y = refl
-map_set f (x ∷ xs) zero y = refl
-map_set f (x ∷ xs) (suc i) y = ap (λ ys. f x ∷ ys) (map_set f xs i y)
-
 -- the room that was made is read by none, so the FILTER's parts may stand there and above it
 pub room_unread : (plan room : List Node) (k m : ℕ) → k < length plan → plan_of room ≡ roomy k (plan_of plan) → IsOnlyUse (plan_of room) k m
 room_unread plan room k m within is = λ n v stands name.
@@ -238,7 +233,7 @@ parted plan room made k upper under over input statement c d parts room_is valid
     statement = statement;
     test = parts.test;
     above = parts.above;
-    is = ap plan_of is ∙ map_set node_of (slice_set room k under) upper over ∙ ap (λ xs. slice_set xs upper (node_of over)) (map_set node_of room k under)
+    is = ap plan_of is ∙ map-set node_of (slice_set room k under) upper over ∙ ap (λ xs. slice_set xs upper (node_of over)) (map-set node_of room k under)
         ∙ (λ i. slice_set (slice_set (room_is i) k (low_is i)) (next i) (high_is i))
         ∙ (λ i. slice_set (slice_set (roomy k (plan_of plan)) k (node_with (p_filter input (parts.low_is i)) statement)) (k + 1) (node_with (p_filter k (parts.high_is i)) statement));
   };

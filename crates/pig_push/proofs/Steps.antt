@@ -9,7 +9,7 @@ use Rattle.std.specs.declared.alloc.AllocError.{AllocError}
 use Rattle.std.specs.List.{list_all, list_any}
 use Rattle.std.specs.Option.{option_map}
 use Rattle.std.proofs.lemmas.Bool.{eq-eqb, eqb-true}
-use Rattle.std.proofs.lemmas.List.{length-append, length-map, map-append}
+use Rattle.std.proofs.lemmas.List.{length-append, length-map, map-append, map-set}
 use Rattle.std.proofs.lemmas.List.FromFn.{get_or-map-range_with_len}
 use Rattle.std.proofs.lemmas.Option.{get_or_from_slice_get, none-some, slice_get_past, slice_get_within}
 use Rattle.pig_value.proofs.list_laws.Elementwise.{get-behind}
@@ -236,16 +236,11 @@ none_at_all nodes end whole never i k m =
 
 -- ---- a move
 
-map_set : {X Y : Type 0} (f : X → Y) (xs : List X) (i : ℕ) (y : X) → map f (slice_set xs i y) ≡ slice_set (map f xs) i (f y)
-map_set f [] i y = refl
-map_set f (x ∷ xs) zero y = refl
-map_set f (x ∷ xs) (suc i) y = ap (λ ys. f x ∷ ys) (map_set f xs i y)
-
 pub is_move : (nodes made : List Node) (i k : ℕ) (low high : Node) → CanMove (plan_of nodes) i k → AreNew (plan_of nodes) i k (node_of low) (node_of high) → made ≡ slice_set (slice_set nodes i low) k high
     → IsMove (plan_of nodes) (plan_of made) i k
 is_move nodes made i k low high can new is = record {
   can = can;
-  is = ap plan_of is ∙ map_set node_of (slice_set nodes i low) k high ∙ ap (λ xs. slice_set xs k (node_of high)) (map_set node_of nodes i low)
+  is = ap plan_of is ∙ map-set node_of (slice_set nodes i low) k high ∙ ap (λ xs. slice_set xs k (node_of high)) (map-set node_of nodes i low)
       ∙ (λ j. slice_set (slice_set (plan_of nodes) i (new.low_is can.below can.cond can.statement can.stands can.above j)) k (new.high_is can.below can.cond can.statement can.stands can.above j));
   nests = λ inputs e. subst (λ v. filter_depth v.op ≤ most_levels) (new.low_is can.below can.cond can.statement can.stands can.above) (new.nests can.below inputs can.stands e);
 }

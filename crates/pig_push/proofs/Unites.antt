@@ -2,7 +2,7 @@
 use Rattle.std.specs.Prelude.{◌≡◌, ◌<◌, ◌≤◌, ◌+◌, ℕ, false, List, map, length, Some, slice_get, slice_set, refl}
 use Rattle.std.proofs.Common.{ap, sym, ◌∙◌, subst, arith, inl, inr, true≢false}
 use Rattle.std.proofs.Math.Nat.{eq-or-lt_of_le}
-use Rattle.std.proofs.lemmas.List.{length-map}
+use Rattle.std.proofs.lemmas.List.{length-map, map-set}
 use Rattle.std.proofs.lemmas.Option.{slice_get_within}
 use Rattle.pig_value.proofs.list_laws.Listing.{some_same}
 use Rattle.pig_typed.specs.Typed.{Typed}
@@ -13,7 +13,6 @@ use Rattle.pig_plan.specs.Plans.{Plan, PlanNode, node_of, p_union, plan_of}
 use Rattle.pig_plan.specs.Room.{idle}
 use Rattle.pig_push.specs.Pushed.{CanUniteAs, IsAbove, IsUnited, filter_on, put_from}
 use Rattle.pig_push.proofs.Keeps.{node_with}
-use Rattle.pig_push.proofs.Splits.{map_set}
 use Rattle.pig_push.proofs.Steps.{node_there}
 
 pub one_number_more : (P : ℕ → Type 0) (end : ℕ) → ((j : ℕ) → j < end → P j) → P end → (j : ℕ) → j < end + 1 → P j
@@ -42,14 +41,14 @@ none_above nodes seen number k same none n v stands name = absurd (true≢false 
 pub one_set : (nodes new : List Node) (number input statement : ℕ) (x : Node) (c d : Typed) → new ≡ slice_set nodes number x → node_of x ≡ filter_on d statement input → d ≡ c
     → plan_of new ≡ slice_set (plan_of nodes) number (filter_on c statement input)
 one_set nodes new number input statement x c d is x_is same =
-    ap plan_of is ∙ map_set node_of nodes number x ∙ ap (slice_set (plan_of nodes) number) (x_is ∙ ap (λ e. filter_on e statement input) same)
+    ap plan_of is ∙ map-set node_of nodes number x ∙ ap (slice_set (plan_of nodes) number) (x_is ∙ ap (λ e. filter_on e statement input) same)
 
 -- the FILTER stands there, and the node above it as it stood
 pub filter_put : (plan new : List Node) (number high input statement : ℕ) (x above : Node) (c d : Typed) → IsAbove (plan_of plan) number high (node_of above)
     → new ≡ slice_set (slice_set plan number x) high above → node_of x ≡ filter_on d statement input → d ≡ c → plan_of new ≡ slice_set (plan_of plan) number (filter_on c statement input)
 filter_put plan new number high input statement x above c d stays is x_is same =
     let higher = stays.higher in
-    ap plan_of is ∙ map_set node_of (slice_set plan number x) high above
+    ap plan_of is ∙ map-set node_of (slice_set plan number x) high above
     ∙ ap (λ xs. slice_set xs high (node_of above)) (one_set plan (slice_set plan number x) number input statement x c d refl x_is same)
     ∙ set_same (slice_set (plan_of plan) number (filter_on c statement input)) high (node_of above)
     (set_other (plan_of plan) number high (filter_on c statement input) (λ e. omega (arith, higher, e)) ∙ stays.stands)
@@ -65,7 +64,7 @@ is_united plan filters made next low high first own statement each numbers c x y
   own = own;
   statement = statement;
   can = u.can;
-  is = made_is ∙ ap plan_of is ∙ map_set node_of (slice_set filters low x) high y ∙ ap (λ xs. slice_set xs high (node_of y)) (map_set node_of filters low x)
+  is = made_is ∙ ap plan_of is ∙ map-set node_of (slice_set filters low x) high y ∙ ap (λ xs. slice_set xs high (node_of y)) (map-set node_of filters low x)
       ∙ (λ i. slice_set (slice_set (filters_are i) low (x_is i)) high (y_is i))
       ∙ ap (λ ns. slice_set (slice_set (put_from first (map (filter_on c statement) each) (plan_of plan)) low idle) high (node_with (p_union ns) own)) u.are;
 }

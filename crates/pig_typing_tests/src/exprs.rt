@@ -3,8 +3,9 @@
 // Trees end by `drop`: one call is cheap to prove, and a tree that dies by name is taken apart variant by variant.
 use crate::shared::{
     add, add_fields, call, call_long, call_part, call_two, cast_look, choose, columns,
-    equal_fields, equal_long, field, locals, looked_equal, not, part, plain, shown_fault, to_float,
+    equal_fields, equal_long, field, locals, looked_equal, not, part, shown_fault, to_float,
 };
+use pig_shown_tests::plain;
 use pig_syntax::{Expr, FieldRef};
 use pig_typing::{Scope, TypedExpr, type_expr};
 use std::alloc::Global;

@@ -1,8 +1,9 @@
 //! What no clause says of `type_items`: that items of each form are typed with ample memory, or refused with the kind
 //! that is due.
 // Trees end by `drop`: one call is cheap to prove, and a tree that dies by name is taken apart variant by variant.
-use crate::shared::{columns, field, locals, plain, push, shown_fault, text};
+use crate::shared::{columns, field, locals, push, shown_fault, text};
 use pig_schema::{Field, Schema};
+use pig_shown_tests::plain;
 use pig_syntax::{AsNames, Expr, FieldTree, Item, Items, TypeTree};
 use pig_typed::BlockItem;
 use pig_typing::{Generated, Scope, type_items};
