@@ -14,6 +14,7 @@ pub mod Steps
 pub mod Table
 pub mod Keyed
 pub mod Depths
+mod DepthSamples
 pub mod Nesting
 pub mod Unions
 pub mod Unites
