@@ -1,5 +1,5 @@
 -- When two operators are the same, decided by going through both.
-use Rattle.std.specs.Prelude.{ℕ, ◌==◌, Bool, true, false, ◌&&◌, not, List, [], ◌∷◌, Option, Some, None, if◌then◌else◌, bytes_eq}
+use Rattle.std.specs.Prelude.{◌≡◌, IsTrue, ℕ, ◌==◌, Bool, true, false, ◌&&◌, not, List, [], ◌∷◌, Option, Some, None, if◌then◌else◌, bytes_eq}
 use Rattle.std.specs.Ordering.{int_eq}
 use Rattle.pig_value.specs.declared.functions.Function.{Function}
 use Rattle.pig_value.specs.declared.functions.Function.TheVariants as function
@@ -166,3 +166,7 @@ same_op _ _ = false
 abbrev pub columns_of : PlanOp → List Column
 columns_of (p_load path delim columns) = columns
 columns_of o = []
+
+-- what is said of two operators: the test, and that the same ones read the same columns
+abbrev pub IsSame : PlanOp → PlanOp → Bool → Type 0
+IsSame o p c = (c ≡ same_op o p) × (IsTrue c → columns_of o ≡ columns_of p)

@@ -1,81 +1,144 @@
 ghost use Rattle.std.specs.Prelude.{◌≡◌, ◌&&◌, map, bytes_eq};
-ghost use Rattle.pig_typed.specs.Typed.{args_of, link_of, links_of, typed};
+ghost use Rattle.pig_value.specs.Trees.{kind_tree};
+ghost use Rattle.pig_typed.specs.Typed.{args_of, link_of, links_of, typed, x_call, x_cast, x_chain, x_choose, x_compare, x_is_null, x_look, x_project};
 ghost use Rattle.pig_share.specs.Same.{same_args, same_bool, same_chain, same_expr, same_function, same_links, same_rel, same_width};
 
-use pig_typed::{TExpr, TLink};
-use pig_value::{ChainOp, Function, Rel, same_kind};
+use pig_typed::{TExpr, TExprs, TLink, TLinks};
+use pig_value::{ChainOp, Function, Kind, Positions, Rel, Text, same_kind};
 
 // Whether two expressions are the same.
 #[cycle(same_expr)]
 pub fn is_same_expr(a: &TExpr, b: &TExpr) -> bool
     ensures { result ≡ same_expr (typed a.now) (typed b.now) }
 {
-    match (a, b) {
-        (TExpr::Null, TExpr::Null) => true,
-        (TExpr::Bool(m), TExpr::Bool(n)) => is_same_bool(*m, *n),
-        (TExpr::Int(m), TExpr::Int(n)) => *m == *n,
-        (TExpr::Long(m), TExpr::Long(n)) => *m == *n,
-        (TExpr::Chars(m), TExpr::Chars(n)) => is_same_bytes(m.as_bytes(), n.as_bytes()),
-        (TExpr::Field(m), TExpr::Field(n)) => *m == *n,
-        (TExpr::Local(m), TExpr::Local(n)) => *m == *n,
-        (TExpr::Chain { first: a, rest: m }, TExpr::Chain { first: b, rest: n }) => {
-            is_same_expr(a.get(), b.get()) && are_same_links(m.as_slice(), n.as_slice())
+    match a {
+        TExpr::Null => matches!(b, TExpr::Null),
+        TExpr::Bool(m) => matches!(b, TExpr::Bool(n) if is_same_bool(*m, *n)),
+        TExpr::Int(m) => matches!(b, TExpr::Int(n) if *m == *n),
+        TExpr::Long(m) => matches!(b, TExpr::Long(n) if *m == *n),
+        TExpr::Chars(m) =>
+            matches!(b, TExpr::Chars(n) if is_same_bytes(m.as_bytes(), n.as_bytes())),
+        TExpr::Field(m) => matches!(b, TExpr::Field(n) if *m == *n),
+        TExpr::Local(m) => matches!(b, TExpr::Local(n) if *m == *n),
+        TExpr::Chain { first, rest } => is_same_chained(rest, first.get(), b),
+        TExpr::Compare { op, a, b: c } => is_same_compare(*op, a.get(), c.get(), b),
+        TExpr::IsNull { a, not } => is_same_null_test(a.get(), *not, b),
+        TExpr::Not(a) => matches!(b, TExpr::Not(b) if is_same_expr(a.get(), b.get())),
+        TExpr::Minus(a) => matches!(b, TExpr::Minus(b) if is_same_expr(a.get(), b.get())),
+        TExpr::Choose { cond, yes, no } => is_same_choice(cond.get(), yes.get(), no.get(), b),
+        TExpr::Cast { to, a } => is_same_cast(to, a.get(), b),
+        TExpr::Project { a, fields, single } => { is_same_projection(a.get(), fields, *single, b) }
+        TExpr::Look { a, key } => is_same_look_up(a.get(), key, b),
+        TExpr::Call { function, args } => is_same_call(*function, args, b),
+    }
+}
+
+// One function for each form that holds others and more: its parts against an expression of any form.
+
+#[cycle(same_expr)]
+fn is_same_chained(rest: &TLinks, first: &TExpr, other: &TExpr) -> bool
+    ensures { result ≡ same_expr
+        (x_chain (typed first.now) (links_of (map link_of rest.now)))
+        (typed other.now) }
+{
+    match other {
+        TExpr::Chain { first: f, rest: r } => {
+            is_same_expr(first, f.get()) && are_same_links(rest.as_slice(), r.as_slice())
         }
-        (TExpr::Compare { op: r, a, b: c }, TExpr::Compare { op: s, a: b, b: d }) => {
-            is_same_rel(*r, *s)
-                && (is_same_expr(a.get(), b.get()) && is_same_expr(c.get(), d.get()))
+        _ => false,
+    }
+}
+
+#[cycle(same_expr)]
+fn is_same_compare(op: Rel, a: &TExpr, b: &TExpr, other: &TExpr) -> bool
+    ensures { result ≡ same_expr (x_compare op (typed a.now) (typed b.now)) (typed other.now) }
+{
+    match other {
+        TExpr::Compare { op: r, a: c, b: d } => {
+            is_same_rel(op, *r) && (is_same_expr(a, c.get()) && is_same_expr(b, d.get()))
         }
-        (TExpr::IsNull { a, not: m }, TExpr::IsNull { a: b, not: n }) => {
-            is_same_expr(a.get(), b.get()) && is_same_bool(*m, *n)
+        _ => false,
+    }
+}
+
+#[cycle(same_expr)]
+fn is_same_null_test(a: &TExpr, not: bool, other: &TExpr) -> bool
+    ensures { result ≡ same_expr (x_is_null (typed a.now) not) (typed other.now) }
+{
+    match other {
+        TExpr::IsNull { a: b, not: n } => { is_same_expr(a, b.get()) && is_same_bool(not, *n) }
+        _ => false,
+    }
+}
+
+#[cycle(same_expr)]
+fn is_same_choice(cond: &TExpr, yes: &TExpr, no: &TExpr, other: &TExpr) -> bool
+    ensures { result ≡ same_expr
+        (x_choose (typed cond.now) (typed yes.now) (typed no.now))
+        (typed other.now) }
+{
+    match other {
+        TExpr::Choose {
+            cond: c,
+            yes: y,
+            no: n,
+        } => {
+            is_same_expr(cond, c.get()) && (is_same_expr(yes, y.get()) && is_same_expr(no, n.get()))
         }
-        (TExpr::Not(a), TExpr::Not(b)) => is_same_expr(a.get(), b.get()),
-        (TExpr::Minus(a), TExpr::Minus(b)) => is_same_expr(a.get(), b.get()),
-        (
-            TExpr::Choose {
-                cond: t,
-                yes: a,
-                no: c,
-            },
-            TExpr::Choose {
-                cond: u,
-                yes: b,
-                no: d,
-            },
-        ) => {
-            is_same_expr(t.get(), u.get())
-                && (is_same_expr(a.get(), b.get()) && is_same_expr(c.get(), d.get()))
+        _ => false,
+    }
+}
+
+#[cycle(same_expr)]
+fn is_same_cast(to: &Kind, a: &TExpr, other: &TExpr) -> bool
+    ensures { result ≡ same_expr (x_cast (kind_tree to.now) (typed a.now)) (typed other.now) }
+{
+    match other {
+        TExpr::Cast { to: k, a: b } => same_kind(to, k) && is_same_expr(a, b.get()),
+        _ => false,
+    }
+}
+
+#[cycle(same_expr)]
+fn is_same_projection(a: &TExpr, fields: &Positions, single: bool, other: &TExpr) -> bool
+    ensures { result ≡ same_expr (x_project (typed a.now) fields.now single) (typed other.now) }
+{
+    match other {
+        TExpr::Project {
+            a: b,
+            fields: f,
+            single: s,
+        } => {
+            is_same_expr(a, b.get())
+                && (are_same_numbers(fields.as_slice(), f.as_slice()) && is_same_bool(single, *s))
         }
-        (TExpr::Cast { to: k, a }, TExpr::Cast { to: l, a: b }) => {
-            same_kind(k, l) && is_same_expr(a.get(), b.get())
+        _ => false,
+    }
+}
+
+#[cycle(same_expr)]
+fn is_same_look_up(a: &TExpr, key: &Text, other: &TExpr) -> bool
+    ensures { result ≡ same_expr (x_look (typed a.now) key.now) (typed other.now) }
+{
+    match other {
+        TExpr::Look { a: b, key: k } => {
+            is_same_expr(a, b.get()) && is_same_bytes(key.as_bytes(), k.as_bytes())
         }
-        (
-            TExpr::Project {
-                a,
-                fields: m,
-                single: s,
-            },
-            TExpr::Project {
-                a: b,
-                fields: n,
-                single: t,
-            },
-        ) => {
-            is_same_expr(a.get(), b.get())
-                && (are_same_numbers(m.as_slice(), n.as_slice()) && is_same_bool(*s, *t))
-        }
-        (TExpr::Look { a, key: m }, TExpr::Look { a: b, key: n }) => {
-            is_same_expr(a.get(), b.get()) && is_same_bytes(m.as_bytes(), n.as_bytes())
-        }
-        (
-            TExpr::Call {
-                function: f,
-                args: m,
-            },
-            TExpr::Call {
-                function: g,
-                args: n,
-            },
-        ) => { is_same_function(*f, *g) && are_same_args(m.as_slice(), n.as_slice()) }
+        _ => false,
+    }
+}
+
+#[cycle(same_expr)]
+fn is_same_call(function: Function, args: &TExprs, other: &TExpr) -> bool
+    ensures { result ≡ same_expr
+        (x_call function (args_of (map typed args.now)))
+        (typed other.now) }
+{
+    match other {
+        TExpr::Call {
+            function: f,
+            args: a,
+        } => { is_same_function(function, *f) && are_same_args(args.as_slice(), a.as_slice()) }
         _ => false,
     }
 }

@@ -1,16 +1,16 @@
 ghost use Rattle.std.specs.Prelude.{◌≡◌, map};
 ghost use Rattle.pig_value.specs.Trees.{kind_tree, kinds_of};
 ghost use Rattle.pig_typed.specs.Typed.{args_of, block_typed, item_typed, link_of, links_of, step_typed, typed};
-ghost use Rattle.pig_plan.specs.Plans.{keyed_of, op_of};
+ghost use Rattle.pig_plan.specs.Plans.{keyed_of, op_of, p_join, p_load};
 ghost use Rattle.pig_share.specs.Hashed.{all_hash, args_hash, block_hash, column_hash, expr_hash, item_hash, keyed_hash, kind_hash, kinds_hash, links_hash, message_hash, op_hash, sort_key_hash, step_hash};
 
 use crate::mixing::{
     chain_number, dir_number, mix, mix_bytes, mix_flag, mix_function, mix_numbers, rel_number,
     side_number,
 };
-use pig_plan::{KeyedInput, NodeOp};
+use pig_plan::{KeyedInput, KeyedInputs, NodeOp};
 use pig_typed::{Block, BlockItem, BlockStep, SortKey, TExpr, TLink};
-use pig_value::{Column, Kind, Text};
+use pig_value::{Column, Columns, Delim, Kind, Side, Text};
 
 // The hash of an operator: operators that are the same have the same one.
 pub fn hash_op(op: &NodeOp) -> u64
@@ -21,10 +21,7 @@ pub fn hash_op(op: &NodeOp) -> u64
             path,
             delim,
             columns,
-        } => {
-            let read = mix_bytes(mix(0, 1), path.as_bytes());
-            mix_columns(mix(read, u64::from(delim.byte())), columns.as_slice())
-        }
+        } => hash_load(path, *delim, columns),
         NodeOp::Filter { input, cond } => mix_expr(mix(mix(0, 2), u64::from(*input)), cond),
         NodeOp::Foreach { input, block } => mix_block(mix(mix(0, 3), u64::from(*input)), block),
         NodeOp::GroupAll { input } => mix(mix(0, 4), u64::from(*input)),
@@ -33,10 +30,7 @@ pub fn hash_op(op: &NodeOp) -> u64
             inputs,
             side,
             replicated,
-        } => {
-            let sided = mix(mix(0, 6), side_number(*side));
-            mix_inputs(mix_flag(sided, *replicated), inputs.as_slice())
-        }
+        } => hash_join(inputs, *side, *replicated),
         NodeOp::Union { inputs } => mix_numbers(mix(0, 7), inputs.as_slice()),
         NodeOp::Distinct { input } => mix(mix(0, 8), u64::from(*input)),
         NodeOp::Order { input, keys } => {
@@ -57,6 +51,20 @@ pub fn hash_op(op: &NodeOp) -> u64
             mix_sort_keys(mix_flag(named, *dense), keys.as_slice())
         }
     }
+}
+
+fn hash_load(path: &Text, delim: Delim, columns: &Columns) -> u64
+    ensures { result ≡ op_hash (p_load path.now delim columns.now) }
+{
+    let read = mix_bytes(mix(0, 1), path.as_bytes());
+    mix_columns(mix(read, u64::from(delim.byte())), columns.as_slice())
+}
+
+fn hash_join(inputs: &KeyedInputs, side: Side, replicated: bool) -> u64
+    ensures { result ≡ op_hash (p_join (map keyed_of inputs.now) side replicated) }
+{
+    let sided = mix(mix(0, 6), side_number(side));
+    mix_inputs(mix_flag(sided, replicated), inputs.as_slice())
 }
 
 fn mix_message(h: u64, message: &Option<Text>) -> u64
