@@ -168,5 +168,5 @@ columns_of (p_load path delim columns) = columns
 columns_of o = []
 
 -- what is said of two operators: the test, and that the same ones read the same columns
-abbrev pub IsSame : PlanOp → PlanOp → Bool → Type 0
-IsSame o p c = (c ≡ same_op o p) × (IsTrue c → columns_of o ≡ columns_of p)
+abbrev pub SaysSame : PlanOp → PlanOp → Bool → Type 0
+SaysSame o p c = (c ≡ same_op o p) × (IsTrue c → columns_of o ≡ columns_of p)

@@ -1,7 +1,7 @@
 ghost use Rattle.std.specs.Prelude.{◌≡◌, ◌==◌, IsTrue, map};
 ghost use Rattle.pig_typed.specs.Typed.{block_typed, typed};
 ghost use Rattle.pig_plan.specs.Plans.{keyed_of, op_of, p_assert, p_distinct, p_filter, p_foreach, p_group, p_group_all, p_join, p_limit, p_load, p_order, p_rank, p_union};
-ghost use Rattle.pig_share.specs.Same.{IsSame, columns_of, same_all, same_keyed, same_message, same_op, same_side};
+ghost use Rattle.pig_share.specs.Same.{SaysSame, columns_of, same_all, same_keyed, same_message, same_op, same_side};
 
 use crate::blocks::{are_same_keys, are_same_sort_keys, is_same_block};
 use crate::exprs::{are_same_numbers, is_same_bool, is_same_bytes, is_same_expr};
@@ -47,7 +47,7 @@ pub fn is_same_op(a: &NodeOp, b: &NodeOp) -> bool
 // One function for each operator: what it holds, against an operator of any form.
 
 fn is_same_load(path: &Text, delim: Delim, columns: &Columns, other: &NodeOp) -> bool
-    ensures { IsSame (p_load path.now delim columns.now) (op_of other.now) result }
+    ensures { SaysSame (p_load path.now delim columns.now) (op_of other.now) result }
 {
     match other {
         NodeOp::Load {
@@ -63,7 +63,7 @@ fn is_same_load(path: &Text, delim: Delim, columns: &Columns, other: &NodeOp) ->
 }
 
 fn is_same_filter(input: u32, cond: &TExpr, other: &NodeOp) -> bool
-    ensures { IsSame (p_filter input (typed cond.now)) (op_of other.now) result }
+    ensures { SaysSame (p_filter input (typed cond.now)) (op_of other.now) result }
 {
     match other {
         NodeOp::Filter { input: i, cond: c } => input == *i && is_same_expr(cond, c),
@@ -72,7 +72,7 @@ fn is_same_filter(input: u32, cond: &TExpr, other: &NodeOp) -> bool
 }
 
 fn is_same_foreach(input: u32, block: &Block, other: &NodeOp) -> bool
-    ensures { IsSame (p_foreach input (block_typed block.now)) (op_of other.now) result }
+    ensures { SaysSame (p_foreach input (block_typed block.now)) (op_of other.now) result }
 {
     match other {
         NodeOp::Foreach { input: i, block: c } => input == *i && is_same_block(block, c),
@@ -81,7 +81,7 @@ fn is_same_foreach(input: u32, block: &Block, other: &NodeOp) -> bool
 }
 
 fn is_same_group_all(input: u32, other: &NodeOp) -> bool
-    ensures { IsSame (p_group_all input) (op_of other.now) result }
+    ensures { SaysSame (p_group_all input) (op_of other.now) result }
 {
     match other {
         NodeOp::GroupAll { input: i } => input == *i,
@@ -90,7 +90,7 @@ fn is_same_group_all(input: u32, other: &NodeOp) -> bool
 }
 
 fn is_same_group(inputs: &KeyedInputs, other: &NodeOp) -> bool
-    ensures { IsSame (p_group (map keyed_of inputs.now)) (op_of other.now) result }
+    ensures { SaysSame (p_group (map keyed_of inputs.now)) (op_of other.now) result }
 {
     match other {
         NodeOp::Group { inputs: i } => are_same_inputs(inputs.as_slice(), i.as_slice()),
@@ -99,7 +99,7 @@ fn is_same_group(inputs: &KeyedInputs, other: &NodeOp) -> bool
 }
 
 fn is_same_join(inputs: &KeyedInputs, side: Side, replicated: bool, other: &NodeOp) -> bool
-    ensures { IsSame (p_join (map keyed_of inputs.now) side replicated) (op_of other.now) result }
+    ensures { SaysSame (p_join (map keyed_of inputs.now) side replicated) (op_of other.now) result }
 {
     match other {
         NodeOp::Join {
@@ -116,7 +116,7 @@ fn is_same_join(inputs: &KeyedInputs, side: Side, replicated: bool, other: &Node
 }
 
 fn is_same_union(inputs: &Numbers, other: &NodeOp) -> bool
-    ensures { IsSame (p_union inputs.now) (op_of other.now) result }
+    ensures { SaysSame (p_union inputs.now) (op_of other.now) result }
 {
     match other {
         NodeOp::Union { inputs: i } => are_same_numbers(inputs.as_slice(), i.as_slice()),
@@ -125,7 +125,7 @@ fn is_same_union(inputs: &Numbers, other: &NodeOp) -> bool
 }
 
 fn is_same_distinct(input: u32, other: &NodeOp) -> bool
-    ensures { IsSame (p_distinct input) (op_of other.now) result }
+    ensures { SaysSame (p_distinct input) (op_of other.now) result }
 {
     match other {
         NodeOp::Distinct { input: i } => input == *i,
@@ -134,7 +134,7 @@ fn is_same_distinct(input: u32, other: &NodeOp) -> bool
 }
 
 fn is_same_order(input: u32, keys: &SortKeys, other: &NodeOp) -> bool
-    ensures { IsSame (p_order input keys.now) (op_of other.now) result }
+    ensures { SaysSame (p_order input keys.now) (op_of other.now) result }
 {
     match other {
         NodeOp::Order { input: i, keys: k } => {
@@ -145,7 +145,7 @@ fn is_same_order(input: u32, keys: &SortKeys, other: &NodeOp) -> bool
 }
 
 fn is_same_limit(input: u32, count: u64, other: &NodeOp) -> bool
-    ensures { IsSame (p_limit input count) (op_of other.now) result }
+    ensures { SaysSame (p_limit input count) (op_of other.now) result }
 {
     match other {
         NodeOp::Limit { input: i, count: c } => input == *i && count == *c,
@@ -154,7 +154,7 @@ fn is_same_limit(input: u32, count: u64, other: &NodeOp) -> bool
 }
 
 fn is_same_assert(input: u32, cond: &TExpr, message: &Option<Text>, other: &NodeOp) -> bool
-    ensures { IsSame (p_assert input (typed cond.now) message.now) (op_of other.now) result }
+    ensures { SaysSame (p_assert input (typed cond.now) message.now) (op_of other.now) result }
 {
     match other {
         NodeOp::Assert {
@@ -167,7 +167,7 @@ fn is_same_assert(input: u32, cond: &TExpr, message: &Option<Text>, other: &Node
 }
 
 fn is_same_rank(input: u32, keys: &SortKeys, dense: bool, other: &NodeOp) -> bool
-    ensures { IsSame (p_rank input keys.now dense) (op_of other.now) result }
+    ensures { SaysSame (p_rank input keys.now dense) (op_of other.now) result }
 {
     match other {
         NodeOp::Rank {
