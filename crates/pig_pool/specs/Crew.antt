@@ -6,7 +6,7 @@ use Rattle.pig_board.specs.declared.board.Board.{Board}
 use Rattle.pig_board.specs.declared.board.Pass.{Pass}
 use Rattle.pig_board.specs.declared.view.View.{View}
 use Rattle.pig_board.specs.View.{steps_of, fails_of, all_fails}
-use Rattle.pig_board.specs.Pass.{tasks_of, view_of, is_firm, OnBoard}
+use Rattle.pig_board.specs.Pass.{view_of, is_firm, OnBoard}
 use Rattle.pig_board.specs.Laws.{NotesStay}
 use Rattle.pig_outside.specs.Calls.{Attempt}
 use Rattle.pig_pool.specs.Begins.{Turn, turn_begins, turn_lost, CrewTells, crew_tells, Rise}
@@ -58,13 +58,6 @@ pub record IsEnded {O : Type 0} (is_right : ℕ → O → Type 0) (limit n wave 
   pub rested : Rested limit n (is_firm p) (view_of q) aside
   pub rose : Rose aside x.faults y.faults
   pub room : Spends (worker_cost * 2 ^ depth) (view_of p) (view_of q)
-
--- a board for the tasks of a wave, and a limit, that a crew can work with
-pub record FitsCrew (count number : ℕ) (b : Board) (wave limit : ℕ) : Type 0 where
-  pub tasks : tasks_of b ≡ count
-  pub few : tasks_of b ≤ 65536
-  pub limited : limit ≤ 16
-  pub wave_is : number ≡ wave
 
 -- so many hosts at most as halvings suffice for, and each suits
 pub record AreHosts {H : Type 0} (suits : H → Type 0) (depth : ℕ) (hosts : List H) : Type 0 where

@@ -4,8 +4,9 @@ ghost use Rattle.std.specs.Prelude.{◌≡◌, ◌+◌, ◌*◌, ◌++◌, ◌&&
 ghost use Rattle.std.specs.Thread.{IsSync, IsSend};
 ghost use Rattle.pig_board.specs.View.{both};
 ghost use Rattle.pig_board.specs.Pass.{tasks_of, view_of, is_firm, OnBoard};
-ghost use Rattle.pig_pool.specs.Crew.{AreHosts, EndsAs, FitsCrew, Holds, HostsStay, IsReady};
+ghost use Rattle.pig_pool.specs.Crew.{AreHosts, EndsAs, Holds, HostsStay, IsReady};
 
+use crate::shared::Shared;
 use crate::work::Work;
 use crate::worker::{Worker, run_worker};
 use pig_board::{Board, Pass};
@@ -68,18 +69,16 @@ pub fn merge<O: Drop>(
 fn run_half<R: Threads + Sync, W: Work + Sync, H: Host + Send>(
     rt: &R,
     alloc: Global,
-    work: &W,
-    wave: u32,
-    limit: u32,
-    board: &Board,
+    shared: &Shared<'_, W>,
     depth: u32,
     half: &mut Half<'_, H>,
 ) -> Result<Worker<W::Out>, AllocError>
-    requires fits { FitsCrew (W.count work.now) (W.wave work.now) board.now wave limit }
-    requires ready { Holds half.old.pass (IsReady board.now depth) }
-    requires hosts { AreHosts (λ h. W.suits work.now (H.inputs h)) depth half.old.hosts.now }
+    requires ready { Holds half.old.pass (IsReady shared.now.board.now depth) }
+    requires hosts { AreHosts (λ h. W.suits shared.now.work.now (H.inputs h)) depth
+        half.old.hosts.now }
     ensures ended { IfOk result (λ r. Holds half.old.pass (λ p. EndsAs
-        (W.right work.now) limit (tasks_of board.now) wave board.now depth
+        (W.right shared.now.work.now) shared.now.limit (tasks_of shared.now.board.now)
+        shared.now.wave shared.now.board.now depth
         H.faults H.begun p half.old.hosts.now half.new.hosts.now r)) }
     ensures stay { HostsStay H.faults H.inputs half.old.hosts.now half.new.hosts.now }
     ensures same_reference { half.new.hosts.ghost_name ≡ half.old.hosts.ghost_name }
@@ -87,7 +86,7 @@ fn run_half<R: Threads + Sync, W: Work + Sync, H: Host + Send>(
     let Some(pass) = taken(half) else {
         unreachable!();
     };
-    run_crew(rt, alloc, work, wave, limit, board, pass, depth, half.hosts)
+    run_crew(rt, alloc, shared, pass, depth, half.hosts)
 }
 
 // Runs the workers of two halves beside each other.
@@ -95,10 +94,7 @@ fn run_half<R: Threads + Sync, W: Work + Sync, H: Host + Send>(
 fn run_both<R: Threads + Sync, W: Work + Sync, H: Host + Send>(
     rt: &R,
     alloc: Global,
-    work: &W,
-    wave: u32,
-    limit: u32,
-    board: &Board,
+    shared: &Shared<'_, W>,
     depth: u32,
     left: &mut Half<'_, H>,
     right: &mut Half<'_, H>,
@@ -106,16 +102,19 @@ fn run_both<R: Threads + Sync, W: Work + Sync, H: Host + Send>(
     Result<Worker<W::Out>, AllocError>,
     Result<Worker<W::Out>, AllocError>,
 )
-    requires fits { FitsCrew (W.count work.now) (W.wave work.now) board.now wave limit }
-    requires left_ready { Holds left.old.pass (IsReady board.now depth) }
-    requires right_ready { Holds right.old.pass (IsReady board.now depth) }
-    requires left_hosts { AreHosts (λ h. W.suits work.now (H.inputs h)) depth left.old.hosts.now }
-    requires right_hosts { AreHosts (λ h. W.suits work.now (H.inputs h)) depth right.old.hosts.now }
+    requires left_ready { Holds left.old.pass (IsReady shared.now.board.now depth) }
+    requires right_ready { Holds right.old.pass (IsReady shared.now.board.now depth) }
+    requires left_hosts { AreHosts (λ h. W.suits shared.now.work.now (H.inputs h)) depth
+        left.old.hosts.now }
+    requires right_hosts { AreHosts (λ h. W.suits shared.now.work.now (H.inputs h)) depth
+        right.old.hosts.now }
     ensures left_ended { IfOk result.0 (λ r. Holds left.old.pass (λ p. EndsAs
-        (W.right work.now) limit (tasks_of board.now) wave board.now depth
+        (W.right shared.now.work.now) shared.now.limit (tasks_of shared.now.board.now)
+        shared.now.wave shared.now.board.now depth
         H.faults H.begun p left.old.hosts.now left.new.hosts.now r)) }
     ensures right_ended { IfOk result.1 (λ r. Holds right.old.pass (λ p. EndsAs
-        (W.right work.now) limit (tasks_of board.now) wave board.now depth
+        (W.right shared.now.work.now) shared.now.limit (tasks_of shared.now.board.now)
+        shared.now.wave shared.now.board.now depth
         H.faults H.begun p right.old.hosts.now right.new.hosts.now r)) }
     ensures left_stay { HostsStay H.faults H.inputs left.old.hosts.now left.new.hosts.now }
     ensures right_stay { HostsStay H.faults H.inputs right.old.hosts.now right.new.hosts.now }
@@ -126,32 +125,34 @@ fn run_both<R: Threads + Sync, W: Work + Sync, H: Host + Send>(
         rt,
         &mut || -> Result<Worker<W::Out>, AllocError>
             requires sync { IsSync R.row × IsSync W.row × IsSend H.row × IsSend W.Out.row }
-            requires fits { FitsCrew (W.count work.now) (W.wave work.now) board.now wave limit }
-            requires ready { Holds left.now.pass (IsReady board.now depth) }
-            requires hosts { AreHosts (λ h. W.suits work.now (H.inputs h)) depth
+            requires ready { Holds left.now.pass (IsReady shared.now.board.now depth) }
+            requires hosts { AreHosts (λ h. W.suits shared.now.work.now (H.inputs h)) depth
                 left.now.hosts.now }
             ensures ended { IfOk result (λ r. Holds left.entry.now.pass (λ p. EndsAs
-                (W.right work.entry.now) limit (tasks_of board.entry.now) wave board.entry.now depth
+                (W.right shared.entry.now.work.now) shared.entry.now.limit
+                (tasks_of shared.entry.now.board.now) shared.entry.now.wave
+                shared.entry.now.board.now depth
                 H.faults H.begun p left.entry.now.hosts.now left.exit.now.hosts.now r)) }
             ensures stay { HostsStay H.faults H.inputs
                 left.entry.now.hosts.now left.exit.now.hosts.now }
             ensures same_reference { left.exit.now.hosts.ghost_name
                 ≡ left.entry.now.hosts.ghost_name }
-        { run_half(rt, alloc, work, wave, limit, board, depth, left) },
+        { run_half(rt, alloc, shared, depth, left) },
         &mut || -> Result<Worker<W::Out>, AllocError>
             requires sync { IsSync R.row × IsSync W.row × IsSend H.row × IsSend W.Out.row }
-            requires fits { FitsCrew (W.count work.now) (W.wave work.now) board.now wave limit }
-            requires ready { Holds right.now.pass (IsReady board.now depth) }
-            requires hosts { AreHosts (λ h. W.suits work.now (H.inputs h)) depth
+            requires ready { Holds right.now.pass (IsReady shared.now.board.now depth) }
+            requires hosts { AreHosts (λ h. W.suits shared.now.work.now (H.inputs h)) depth
                 right.now.hosts.now }
             ensures ended { IfOk result (λ r. Holds right.entry.now.pass (λ p. EndsAs
-                (W.right work.entry.now) limit (tasks_of board.entry.now) wave board.entry.now depth
+                (W.right shared.entry.now.work.now) shared.entry.now.limit
+                (tasks_of shared.entry.now.board.now) shared.entry.now.wave
+                shared.entry.now.board.now depth
                 H.faults H.begun p right.entry.now.hosts.now right.exit.now.hosts.now r)) }
             ensures stay { HostsStay H.faults H.inputs
                 right.entry.now.hosts.now right.exit.now.hosts.now }
             ensures same_reference { right.exit.now.hosts.ghost_name
                 ≡ right.entry.now.hosts.ghost_name }
-        { run_half(rt, alloc, work, wave, limit, board, depth, right) },
+        { run_half(rt, alloc, shared, depth, right) },
     )
 }
 
@@ -160,27 +161,24 @@ fn run_both<R: Threads + Sync, W: Work + Sync, H: Host + Send>(
 pub fn run_crew<R: Threads + Sync, W: Work + Sync, H: Host + Send>(
     rt: &R,
     alloc: Global,
-    work: &W,
-    wave: u32,
-    limit: u32,
-    board: &Board,
+    shared: &Shared<'_, W>,
     pass: Pass,
     depth: u32,
     hosts: &mut [H],
 ) -> Result<Worker<W::Out>, AllocError>
-    requires fits { FitsCrew (W.count work.now) (W.wave work.now) board.now wave limit }
-    requires ready { IsReady board.now depth pass }
-    requires hosts { AreHosts (λ h. W.suits work.now (H.inputs h)) depth hosts.old }
+    requires ready { IsReady shared.now.board.now depth pass }
+    requires hosts { AreHosts (λ h. W.suits shared.now.work.now (H.inputs h)) depth hosts.old }
     ensures ended { IfOk result (EndsAs
-        (W.right work.now) limit (tasks_of board.now) wave board.now depth
+        (W.right shared.now.work.now) shared.now.limit (tasks_of shared.now.board.now)
+        shared.now.wave shared.now.board.now depth
         H.faults H.begun pass hosts.old hosts.new) }
     ensures stay { HostsStay H.faults H.inputs hosts.old hosts.new }
 {
     if hosts.len() == 1 {
-        return run_worker(alloc, work, wave, limit, board, pass, &mut hosts[0]);
+        return run_worker(alloc, shared, pass, &mut hosts[0]);
     }
     let mut kept = pass;
-    let given = board.split(&mut kept);
+    let given = shared.board.split(&mut kept);
     let below = depth - 1;
     let (front, back) = hosts.split_at_mut(hosts.len() / 2);
     let mut left = Half {
@@ -191,9 +189,7 @@ pub fn run_crew<R: Threads + Sync, W: Work + Sync, H: Host + Send>(
         pass: Some(given),
         hosts: back,
     };
-    let (one, two) = run_both(
-        rt, alloc, work, wave, limit, board, below, &mut left, &mut right,
-    );
+    let (one, two) = run_both(rt, alloc, shared, below, &mut left, &mut right);
     // What is left of both halves is taken apart, so that the hosts are given back before anything is dropped.
     let Half {
         pass: _kept,
@@ -203,5 +199,5 @@ pub fn run_crew<R: Threads + Sync, W: Work + Sync, H: Host + Send>(
         pass: _given,
         hosts: _back,
     } = right;
-    merge(board, one?, two?)
+    merge(shared.board, one?, two?)
 }

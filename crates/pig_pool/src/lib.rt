@@ -14,6 +14,7 @@
 
 mod crew;
 mod outputs;
+mod shared;
 mod stops;
 mod tries;
 mod wave;

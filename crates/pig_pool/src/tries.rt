@@ -8,6 +8,7 @@ ghost use Rattle.pig_outside.specs.Calls.{and_attempt};
 ghost use Rattle.pig_pool.specs.Begins.{tells};
 ghost use Rattle.pig_pool.specs.Workers.{Works, HasRoom, IsFailed, FailedAs, IsTried, Stands, beside};
 
+use crate::shared::Shared;
 use crate::stops::TaskStop;
 use crate::work::Work;
 use crate::worker::Worker;
@@ -31,63 +32,59 @@ pub enum Tried {
 
 // Makes attempt `attempt` at task `t` on the host.
 fn make_attempt<W: Work, H: Host, S: Stop>(
-    work: &W,
-    wave: u32,
+    shared: &Shared<'_, W>,
     t: u32,
     attempt: u32,
     host: &mut H,
     stop: &mut S,
 ) -> Result<Option<W::Out>, AttemptFault>
-    requires task { t < W.count work.now }
-    requires wave { W.wave work.now ≡ wave }
-    requires suits { W.suits work.now (H.inputs host.old) }
-    ensures right { IfOk result (λ o. IfSome o (W.right work.now t)) }
+    requires task { t < tasks_of shared.now.board.now }
+    requires suits { W.suits shared.now.work.now (H.inputs host.old) }
+    ensures right { IfOk result (λ o. IfSome o (W.right shared.now.work.now t)) }
     ensures stopped { IfOk result (λ o. IfNone o (S.won stop.new)) }
     ensures kept { S.kept stop.new ≡ S.kept stop.old }
     ensures inputs { H.inputs host.new ≡ H.inputs host.old }
     ensures begun { H.begun host.new
-        ≡ option_map (and_attempt wave t attempt (H.faults host.old)) (H.begun host.old) }
+        ≡ option_map (and_attempt shared.now.wave t attempt (H.faults host.old))
+        (H.begun host.old) }
     ensures later { H.faults host.old ≤ H.faults host.new }
     ensures lost { IsErrOf result AttemptFault.Lost → H.faults host.old < H.faults host.new }
 {
-    if let Err(_) = host.begin(wave, t, attempt) {
+    if let Err(_) = host.begin(shared.wave, t, attempt) {
         return Err(AttemptFault::Lost);
     }
-    work.attempt(t, host, stop)
+    shared.work.attempt(t, host, stop)
 }
 
 // Makes an attempt that may ask the board whether its task is won.
 fn try_attempt<W: Work, H: Host>(
-    work: &W,
-    wave: u32,
-    board: &Board,
+    shared: &Shared<'_, W>,
     pass: &mut Pass,
     t: u32,
     attempt: u32,
     host: &mut H,
 ) -> Result<Option<W::Out>, AttemptFault>
-    requires board { OnBoard board.now pass.old }
-    requires below { t < tasks_of board.now }
-    requires task { t < W.count work.now }
-    requires wave { W.wave work.now ≡ wave }
-    requires suits { W.suits work.now (H.inputs host.old) }
-    ensures board { OnBoard board.now pass.new }
+    requires board { OnBoard shared.now.board.now pass.old }
+    requires task { t < tasks_of shared.now.board.now }
+    requires suits { W.suits shared.now.work.now (H.inputs host.old) }
+    ensures board { OnBoard shared.now.board.now pass.new }
     ensures view { beside t (view_of pass.new) ≡ beside t (view_of pass.old) }
     ensures firm { is_firm pass.new ≡ is_firm pass.old }
-    ensures right { IfOk result (λ o. IfSome o (W.right work.now t)) }
+    ensures right { IfOk result (λ o. IfSome o (W.right shared.now.work.now t)) }
     ensures stopped { IfOk result (λ o. IfNone o (knows_winner t (view_of pass.new) ≡ true)) }
     ensures inputs { H.inputs host.new ≡ H.inputs host.old }
     ensures begun { H.begun host.new
-        ≡ option_map (and_attempt wave t attempt (H.faults host.old)) (H.begun host.old) }
+        ≡ option_map (and_attempt shared.now.wave t attempt (H.faults host.old))
+        (H.begun host.old) }
     ensures later { H.faults host.old ≤ H.faults host.new }
     ensures lost { IsErrOf result AttemptFault.Lost → H.faults host.old < H.faults host.new }
 {
     let mut stop = TaskStop {
         task: t,
-        board,
+        board: shared.board,
         pass,
     };
-    let ended = make_attempt(work, wave, t, attempt, host, &mut stop);
+    let ended = make_attempt(shared, t, attempt, host, &mut stop);
     let TaskStop {
         task: _,
         board: _,
@@ -164,31 +161,32 @@ fn end_failed(board: &Board, pass: &mut Pass, t: u32, limit: u32) -> Tried
 
 // Tries task `t` once, unless it has a winner or has failed too often.
 pub fn try_once<W: Work, H: Host>(
-    work: &W,
-    wave: u32,
-    limit: u32,
-    board: &Board,
+    shared: &Shared<'_, W>,
     worker: &mut Worker<W::Out>,
     t: u32,
     host: &mut H,
 ) -> Result<Tried, AllocError>
-    requires count { tasks_of board.now ≡ W.count work.now }
-    requires task { t < tasks_of board.now }
-    requires stands { Stands (W.right work.now) limit board.now worker.old.pass worker.old.outputs }
+    requires task { t < tasks_of shared.now.board.now }
+    requires stands { Stands (W.right shared.now.work.now) shared.now.limit shared.now.board.now
+        worker.old.pass worker.old.outputs }
     requires drawn { t < (view_of worker.old.pass).known }
-    requires room { HasRoom 1 (limit * tasks_of board.now) (view_of worker.old.pass) }
+    requires room { HasRoom 1 (shared.now.limit * tasks_of shared.now.board.now)
+        (view_of worker.old.pass) }
     requires may { may_begin worker.old.pass ≡ true }
-    requires wave { W.wave work.now ≡ wave }
-    requires suits { W.suits work.now (H.inputs host.old) }
-    ensures stands { Stands (W.right work.now) limit board.now worker.new.pass worker.new.outputs }
+    requires suits { W.suits shared.now.work.now (H.inputs host.old) }
+    ensures stands { Stands (W.right shared.now.work.now) shared.now.limit shared.now.board.now
+        worker.new.pass worker.new.outputs }
     ensures firm { is_firm worker.new.pass ≡ is_firm worker.old.pass }
-    ensures works { OnOk result (Works wave (view_of worker.old.pass) (view_of worker.new.pass)
+    ensures works { OnOk result (Works shared.now.wave
+        (view_of worker.old.pass) (view_of worker.new.pass)
         (tells (H.faults host.old) (H.begun host.old))
         (tells (H.faults host.new) (H.begun host.new))) }
-    ensures tried { IfOk result (IsTried limit t worker.old.pass worker.new.pass) }
+    ensures tried { IfOk result (IsTried shared.now.limit t worker.old.pass worker.new.pass) }
     ensures inputs { H.inputs host.new ≡ H.inputs host.old }
     ensures later { H.faults host.old ≤ H.faults host.new }
 {
+    let board = shared.board;
+    let limit = shared.limit;
     if let Some(_) = board.closed(&mut worker.pass, t) {
         return Ok(Tried::Won);
     }
@@ -196,7 +194,7 @@ pub fn try_once<W: Work, H: Host>(
         return Ok(Tried::GivenUp);
     }
     let attempt = board.begin(&mut worker.pass, t);
-    match try_attempt(work, wave, board, &mut worker.pass, t, attempt, host) {
+    match try_attempt(shared, &mut worker.pass, t, attempt, host) {
         Ok(Some(output)) => {
             offer(
                 board,

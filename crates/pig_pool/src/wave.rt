@@ -7,12 +7,13 @@ ghost use Rattle.pig_board.specs.Pass.{tasks_of, view_of, is_firm, OnBoard};
 ghost use Rattle.pig_board.specs.End.{end_of};
 ghost use Rattle.pig_pool.specs.Begins.{crew_tells};
 ghost use Rattle.pig_pool.specs.Workers.{HasWon, IsDone, IsBelow, KnowsAll, Looks, saw_limit, again_room};
-ghost use Rattle.pig_pool.specs.Crew.{AreHosts, CrewWorks, FitsCrew, HostsStay};
+ghost use Rattle.pig_pool.specs.Crew.{AreHosts, CrewWorks, HostsStay};
 ghost use Rattle.pig_pool.specs.Wave.{AreOutputs, IsWonWave, AllWon, HasUnwon, IsLeast, HasFailed, IsRounds, AreBegun, FaultBegun, EndsAt, FaultEndsAt, failures_in, failures_of};
 ghost use Rattle.pig_pool.specs.declared.wave.WaveFault.TheVariants.{OutOfMemory};
 
 use crate::crew::{merge, run_crew};
 use crate::outputs::{gather, places};
+use crate::shared::Shared;
 use crate::work::Work;
 use crate::worker::Worker;
 use pig_board::{Board, JobEnd, Pass};
@@ -204,64 +205,61 @@ fn cut(board: &Board, pass: &mut Pass) -> Pass
 fn run_again<R: Threads + Sync, W: Work + Sync, H: Host + Send>(
     rt: &R,
     alloc: Global,
-    work: &W,
-    wave: u32,
-    limit: u32,
-    board: &Board,
+    shared: &Shared<'_, W>,
     worker: Worker<W::Out>,
     hosts: &mut [H],
 ) -> Result<Worker<W::Out>, AllocError>
-    requires board { OnBoard board.now worker.pass }
+    requires board { OnBoard shared.now.board.now worker.pass }
     requires alone { IsAlone (view_of worker.pass) }
     requires streak { aside_limit ≤ (view_of worker.pass).streak }
     requires room { again_room ≤ (view_of worker.pass).room }
-    requires won { HasWon (W.right work.now) (view_of worker.pass) worker.outputs }
-    requires fits { FitsCrew (W.count work.now) (W.wave work.now) board.now wave limit }
-    requires hosts { AreHosts (λ h. W.suits work.now (H.inputs h)) 8 hosts.old }
-    ensures board { IfOk result (λ r. OnBoard board.now r.pass) }
-    ensures works { IfOk result (λ r. CrewWorks wave (view_of worker.pass) (view_of r.pass)
+    requires won { HasWon (W.right shared.now.work.now) (view_of worker.pass) worker.outputs }
+    requires hosts { AreHosts (λ h. W.suits shared.now.work.now (H.inputs h)) 8 hosts.old }
+    ensures board { IfOk result (λ r. OnBoard shared.now.board.now r.pass) }
+    ensures works { IfOk result (λ r. CrewWorks shared.now.wave
+        (view_of worker.pass) (view_of r.pass)
         (crew_tells (map H.faults hosts.old) (map H.begun hosts.old))
         (crew_tells (map H.faults hosts.new) (map H.begun hosts.new))) }
-    ensures won { IfOk result (λ r. HasWon (W.right work.now) (view_of r.pass) r.outputs) }
-    ensures done { IfOk result (λ r. IsDone limit (tasks_of board.now) (view_of r.pass)) }
+    ensures won { IfOk result (λ r. HasWon (W.right shared.now.work.now)
+        (view_of r.pass) r.outputs) }
+    ensures done { IfOk result (λ r. IsDone shared.now.limit (tasks_of shared.now.board.now)
+        (view_of r.pass)) }
     ensures stay { HostsStay H.faults H.inputs hosts.old hosts.new }
 {
     let mut worker = worker;
     worker.pass.firm();
-    let given = cut(board, &mut worker.pass);
-    let again = run_crew(rt, alloc, work, wave, limit, board, given, DEPTH, hosts)?;
-    merge(board, worker, again)
+    let given = cut(shared.board, &mut worker.pass);
+    let again = run_crew(rt, alloc, shared, given, DEPTH, hosts)?;
+    merge(shared.board, worker, again)
 }
 
 // Runs the workers in a round, and in a second one where all were put aside and the work is not done.
 fn run_rounds<R: Threads + Sync, W: Work + Sync, H: Host + Send>(
     rt: &R,
     alloc: Global,
-    work: &W,
-    wave: u32,
-    limit: u32,
-    board: &Board,
+    shared: &Shared<'_, W>,
     pass: Pass,
     hosts: &mut [H],
 ) -> Result<Rounds<W::Out>, AllocError>
-    requires board { OnBoard board.now pass }
+    requires board { OnBoard shared.now.board.now pass }
     requires fresh { view_of pass ≡ fresh }
     requires firm { is_firm pass ≡ false }
-    requires fits { FitsCrew (W.count work.now) (W.wave work.now) board.now wave limit }
-    requires hosts { AreHosts (λ h. W.suits work.now (H.inputs h)) 8 hosts.old }
-    ensures board { IfOk result (λ r. OnBoard board.now r.pass) }
-    ensures works { IfOk result (λ r. CrewWorks wave (view_of pass) (view_of r.pass)
+    requires hosts { AreHosts (λ h. W.suits shared.now.work.now (H.inputs h)) 8 hosts.old }
+    ensures board { IfOk result (λ r. OnBoard shared.now.board.now r.pass) }
+    ensures works { IfOk result (λ r. CrewWorks shared.now.wave (view_of pass) (view_of r.pass)
         (crew_tells (map H.faults hosts.old) (map H.begun hosts.old))
         (crew_tells (map H.faults hosts.new) (map H.begun hosts.new))) }
-    ensures won { IfOk result (λ r. HasWon (W.right work.now) (view_of r.pass) r.outputs) }
-    ensures done { IfOk result (λ r. IsDone limit (tasks_of board.now) (view_of r.pass)) }
+    ensures won { IfOk result (λ r. HasWon (W.right shared.now.work.now)
+        (view_of r.pass) r.outputs) }
+    ensures done { IfOk result (λ r. IsDone shared.now.limit (tasks_of shared.now.board.now)
+        (view_of r.pass)) }
     ensures rounds { IfOk result (λ r. IsRounds r.count
         (map H.faults hosts.old) (map H.faults hosts.new)) }
     ensures stay { HostsStay H.faults H.inputs hosts.old hosts.new }
 {
-    let mut worker = run_crew(rt, alloc, work, wave, limit, board, pass, DEPTH, hosts)?;
-    let tasks = work.tasks();
-    let over = is_done(board, &mut worker.pass, tasks, limit);
+    let mut worker = run_crew(rt, alloc, shared, pass, DEPTH, hosts)?;
+    let tasks = shared.work.tasks();
+    let over = is_done(shared.board, &mut worker.pass, tasks, shared.limit);
     if !worker.is_aside || over {
         let Worker { pass, outputs, .. } = worker;
         return Ok(Rounds {
@@ -270,7 +268,7 @@ fn run_rounds<R: Threads + Sync, W: Work + Sync, H: Host + Send>(
             count: 1,
         });
     }
-    let ended = run_again(rt, alloc, work, wave, limit, board, worker, hosts)?;
+    let ended = run_again(rt, alloc, shared, worker, hosts)?;
     let Worker { pass, outputs, .. } = ended;
     Ok(Rounds {
         pass,
@@ -321,6 +319,12 @@ pub fn run_wave<R: Threads + Sync, W: Work + Sync, H: Host + Send>(
     let places = places(alloc, tasks as usize)?;
     let list = Vec::with_capacity(alloc, tasks as usize)?;
     let (board, pass) = Board::open(alloc, tasks)?;
-    let rounds = run_rounds(rt, alloc, work, wave, limit, &board, pass, hosts)?;
+    let shared = Shared {
+        work,
+        board: &board,
+        wave,
+        limit,
+    };
+    let rounds = run_rounds(rt, alloc, &shared, pass, hosts)?;
     finish(work, board, rounds, limit, places, list)
 }

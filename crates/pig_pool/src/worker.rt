@@ -7,9 +7,10 @@ ghost use Rattle.pig_pool.specs.Begins.{tells};
 ghost use Rattle.pig_pool.specs.Workers.{Works, HasWon, HasRoom, Spends, Stands, KnowsAll, Went, Rested, was_aside, worker_cost};
 ghost use Rattle.pig_pool.specs.Crew.{IsReady};
 
+use crate::shared::Shared;
 use crate::tries::{Tried, try_once};
 use crate::work::Work;
-use pig_board::{Board, Pass};
+use pig_board::Pass;
 use pig_outside::Host;
 use std::alloc::{AllocError, Global};
 use std::collections::LinkedList;
@@ -44,35 +45,34 @@ impl Course {
 
 // Tries task `t` until it has a winner.
 fn try_task<W: Work, H: Host>(
-    work: &W,
-    wave: u32,
-    limit: u32,
-    board: &Board,
+    shared: &Shared<'_, W>,
     worker: &mut Worker<W::Out>,
     t: u32,
     host: &mut H,
 ) -> Result<Course, AllocError>
-    requires count { tasks_of board.now ≡ W.count work.now }
-    requires task { t < tasks_of board.now }
-    requires stands { Stands (W.right work.now) limit board.now worker.old.pass worker.old.outputs }
+    requires task { t < tasks_of shared.now.board.now }
+    requires stands { Stands (W.right shared.now.work.now) shared.now.limit shared.now.board.now
+        worker.old.pass worker.old.outputs }
     requires drawn { t < (view_of worker.old.pass).known }
-    requires room { HasRoom 1 (limit * tasks_of board.now) (view_of worker.old.pass) }
+    requires room { HasRoom 1 (shared.now.limit * tasks_of shared.now.board.now)
+        (view_of worker.old.pass) }
     requires may { may_begin worker.old.pass ≡ true }
-    requires wave { W.wave work.now ≡ wave }
-    requires suits { W.suits work.now (H.inputs host.old) }
-    ensures stands { Stands (W.right work.now) limit board.now worker.new.pass worker.new.outputs }
+    requires suits { W.suits shared.now.work.now (H.inputs host.old) }
+    ensures stands { Stands (W.right shared.now.work.now) shared.now.limit shared.now.board.now
+        worker.new.pass worker.new.outputs }
     ensures firm { is_firm worker.new.pass ≡ is_firm worker.old.pass }
-    ensures works { OnOk result (Works wave (view_of worker.old.pass) (view_of worker.new.pass)
+    ensures works { OnOk result (Works shared.now.wave
+        (view_of worker.old.pass) (view_of worker.new.pass)
         (tells (H.faults host.old) (H.begun host.old))
         (tells (H.faults host.new) (H.begun host.new))) }
-    ensures tried { IfOk result (Went limit worker.new.pass
+    ensures tried { IfOk result (Went shared.now.limit worker.new.pass
         (knows_winner t (view_of worker.new.pass) ≡ true)) }
     ensures room { OnOk result (Spends 1 (view_of worker.old.pass) (view_of worker.new.pass)) }
     ensures inputs { H.inputs host.new ≡ H.inputs host.old }
     ensures later { H.faults host.old ≤ H.faults host.new }
 {
     loop {
-        match try_once(work, wave, limit, board, worker, t, host)? {
+        match try_once(shared, worker, t, host)? {
             Tried::Won => return Ok(Course::On),
             Tried::GivenUp => return Ok(Course::Over),
             Tried::Aside => return Ok(Course::Aside),
@@ -83,34 +83,32 @@ fn try_task<W: Work, H: Host>(
 
 // Draws tasks and tries them, until none is left.
 fn try_drawn<W: Work, H: Host>(
-    work: &W,
-    wave: u32,
-    limit: u32,
-    board: &Board,
+    shared: &Shared<'_, W>,
     worker: &mut Worker<W::Out>,
     host: &mut H,
 ) -> Result<Course, AllocError>
-    requires count { tasks_of board.now ≡ W.count work.now }
-    requires stands { Stands (W.right work.now) limit board.now worker.old.pass worker.old.outputs }
-    requires room { HasRoom (3 * tasks_of board.now + 2) (limit * tasks_of board.now)
-        (view_of worker.old.pass) }
+    requires stands { Stands (W.right shared.now.work.now) shared.now.limit shared.now.board.now
+        worker.old.pass worker.old.outputs }
+    requires room { HasRoom (3 * tasks_of shared.now.board.now + 2)
+        (shared.now.limit * tasks_of shared.now.board.now) (view_of worker.old.pass) }
     requires may { may_begin worker.old.pass ≡ true }
-    requires wave { W.wave work.now ≡ wave }
-    requires suits { W.suits work.now (H.inputs host.old) }
-    ensures stands { Stands (W.right work.now) limit board.now worker.new.pass worker.new.outputs }
+    requires suits { W.suits shared.now.work.now (H.inputs host.old) }
+    ensures stands { Stands (W.right shared.now.work.now) shared.now.limit shared.now.board.now
+        worker.new.pass worker.new.outputs }
     ensures firm { is_firm worker.new.pass ≡ is_firm worker.old.pass }
-    ensures works { OnOk result (Works wave (view_of worker.old.pass) (view_of worker.new.pass)
+    ensures works { OnOk result (Works shared.now.wave
+        (view_of worker.old.pass) (view_of worker.new.pass)
         (tells (H.faults host.old) (H.begun host.old))
         (tells (H.faults host.new) (H.begun host.new))) }
-    ensures drawn { IfOk result (Went limit worker.new.pass
-        (tasks_of board.now ≤ (view_of worker.new.pass).known)) }
-    ensures room { OnOk result (Spends (2 * tasks_of board.now + 1)
+    ensures drawn { IfOk result (Went shared.now.limit worker.new.pass
+        (tasks_of shared.now.board.now ≤ (view_of worker.new.pass).known)) }
+    ensures room { OnOk result (Spends (2 * tasks_of shared.now.board.now + 1)
         (view_of worker.old.pass) (view_of worker.new.pass)) }
     ensures inputs { H.inputs host.new ≡ H.inputs host.old }
     ensures later { H.faults host.old ≤ H.faults host.new }
 {
-    while let Some(t) = board.draw(&mut worker.pass) {
-        match try_task(work, wave, limit, board, worker, t, host)? {
+    while let Some(t) = shared.board.draw(&mut worker.pass) {
+        match try_task(shared, worker, t, host)? {
             Course::On => {}
             Course::Over => return Ok(Course::Over),
             Course::Aside => return Ok(Course::Aside),
@@ -121,35 +119,33 @@ fn try_drawn<W: Work, H: Host>(
 
 // Goes once through all tasks, which are all drawn, and tries each without a winner.
 fn try_rest<W: Work, H: Host>(
-    work: &W,
-    wave: u32,
-    limit: u32,
-    board: &Board,
+    shared: &Shared<'_, W>,
     worker: &mut Worker<W::Out>,
     host: &mut H,
 ) -> Result<Course, AllocError>
-    requires count { tasks_of board.now ≡ W.count work.now }
-    requires stands { Stands (W.right work.now) limit board.now worker.old.pass worker.old.outputs }
-    requires drawn { tasks_of board.now ≤ (view_of worker.old.pass).known }
-    requires room { HasRoom (tasks_of board.now + 1) (limit * tasks_of board.now)
-        (view_of worker.old.pass) }
+    requires stands { Stands (W.right shared.now.work.now) shared.now.limit shared.now.board.now
+        worker.old.pass worker.old.outputs }
+    requires drawn { tasks_of shared.now.board.now ≤ (view_of worker.old.pass).known }
+    requires room { HasRoom (tasks_of shared.now.board.now + 1)
+        (shared.now.limit * tasks_of shared.now.board.now) (view_of worker.old.pass) }
     requires may { may_begin worker.old.pass ≡ true }
-    requires wave { W.wave work.now ≡ wave }
-    requires suits { W.suits work.now (H.inputs host.old) }
-    ensures stands { Stands (W.right work.now) limit board.now worker.new.pass worker.new.outputs }
+    requires suits { W.suits shared.now.work.now (H.inputs host.old) }
+    ensures stands { Stands (W.right shared.now.work.now) shared.now.limit shared.now.board.now
+        worker.new.pass worker.new.outputs }
     ensures firm { is_firm worker.new.pass ≡ is_firm worker.old.pass }
-    ensures works { OnOk result (Works wave (view_of worker.old.pass) (view_of worker.new.pass)
+    ensures works { OnOk result (Works shared.now.wave
+        (view_of worker.old.pass) (view_of worker.new.pass)
         (tells (H.faults host.old) (H.begun host.old))
         (tells (H.faults host.new) (H.begun host.new))) }
-    ensures all { IfOk result (Went limit worker.new.pass
-        (KnowsAll (tasks_of board.now) (view_of worker.new.pass))) }
-    ensures room { OnOk result (Spends (tasks_of board.now)
+    ensures all { IfOk result (Went shared.now.limit worker.new.pass
+        (KnowsAll (tasks_of shared.now.board.now) (view_of worker.new.pass))) }
+    ensures room { OnOk result (Spends (tasks_of shared.now.board.now)
         (view_of worker.old.pass) (view_of worker.new.pass)) }
     ensures inputs { H.inputs host.new ≡ H.inputs host.old }
     ensures later { H.faults host.old ≤ H.faults host.new }
 {
-    for t in 0..work.tasks() {
-        match try_task(work, wave, limit, board, worker, t, host)? {
+    for t in 0..shared.work.tasks() {
+        match try_task(shared, worker, t, host)? {
             Course::On => {}
             Course::Over => return Ok(Course::Over),
             Course::Aside => return Ok(Course::Aside),
@@ -160,34 +156,32 @@ fn try_rest<W: Work, H: Host>(
 
 // Goes the whole course on one host: first the tasks that are drawn, then those without a winner.
 fn try_all<W: Work, H: Host>(
-    work: &W,
-    wave: u32,
-    limit: u32,
-    board: &Board,
+    shared: &Shared<'_, W>,
     worker: &mut Worker<W::Out>,
     host: &mut H,
 ) -> Result<Course, AllocError>
-    requires count { tasks_of board.now ≡ W.count work.now }
-    requires stands { Stands (W.right work.now) limit board.now worker.old.pass worker.old.outputs }
-    requires room { HasRoom (3 * tasks_of board.now + 2) (limit * tasks_of board.now)
-        (view_of worker.old.pass) }
+    requires stands { Stands (W.right shared.now.work.now) shared.now.limit shared.now.board.now
+        worker.old.pass worker.old.outputs }
+    requires room { HasRoom (3 * tasks_of shared.now.board.now + 2)
+        (shared.now.limit * tasks_of shared.now.board.now) (view_of worker.old.pass) }
     requires may { may_begin worker.old.pass ≡ true }
-    requires wave { W.wave work.now ≡ wave }
-    requires suits { W.suits work.now (H.inputs host.old) }
-    ensures stands { Stands (W.right work.now) limit board.now worker.new.pass worker.new.outputs }
+    requires suits { W.suits shared.now.work.now (H.inputs host.old) }
+    ensures stands { Stands (W.right shared.now.work.now) shared.now.limit shared.now.board.now
+        worker.new.pass worker.new.outputs }
     ensures firm { is_firm worker.new.pass ≡ is_firm worker.old.pass }
-    ensures works { OnOk result (Works wave (view_of worker.old.pass) (view_of worker.new.pass)
+    ensures works { OnOk result (Works shared.now.wave
+        (view_of worker.old.pass) (view_of worker.new.pass)
         (tells (H.faults host.old) (H.begun host.old))
         (tells (H.faults host.new) (H.begun host.new))) }
-    ensures all { IfOk result (Went limit worker.new.pass
-        (KnowsAll (tasks_of board.now) (view_of worker.new.pass))) }
-    ensures room { OnOk result (Spends (3 * tasks_of board.now + 1)
+    ensures all { IfOk result (Went shared.now.limit worker.new.pass
+        (KnowsAll (tasks_of shared.now.board.now) (view_of worker.new.pass))) }
+    ensures room { OnOk result (Spends (3 * tasks_of shared.now.board.now + 1)
         (view_of worker.old.pass) (view_of worker.new.pass)) }
     ensures inputs { H.inputs host.new ≡ H.inputs host.old }
     ensures later { H.faults host.old ≤ H.faults host.new }
 {
-    match try_drawn(work, wave, limit, board, worker, host)? {
-        Course::On => try_rest(work, wave, limit, board, worker, host),
+    match try_drawn(shared, worker, host)? {
+        Course::On => try_rest(shared, worker, host),
         Course::Over => Ok(Course::Over),
         Course::Aside => Ok(Course::Aside),
     }
@@ -196,27 +190,21 @@ fn try_all<W: Work, H: Host>(
 // Works through the tasks on one host.
 pub fn run_worker<W: Work, H: Host>(
     alloc: Global,
-    work: &W,
-    wave: u32,
-    limit: u32,
-    board: &Board,
+    shared: &Shared<'_, W>,
     pass: Pass,
     host: &mut H,
 ) -> Result<Worker<W::Out>, AllocError>
-    requires count { tasks_of board.now ≡ W.count work.now }
-    requires few { tasks_of board.now ≤ 65536 }
-    requires limit { limit ≤ 16 }
-    requires ready { IsReady board.now 0 pass }
-    requires wave { W.wave work.now ≡ wave }
-    requires suits { W.suits work.now (H.inputs host.old) }
-    ensures board { IfOk result (λ r. OnBoard board.now r.pass) }
+    requires ready { IsReady shared.now.board.now 0 pass }
+    requires suits { W.suits shared.now.work.now (H.inputs host.old) }
+    ensures board { IfOk result (λ r. OnBoard shared.now.board.now r.pass) }
     ensures firm { IfOk result (λ r. is_firm r.pass ≡ is_firm pass) }
-    ensures works { IfOk result (λ r. Works wave (view_of pass) (view_of r.pass)
+    ensures works { IfOk result (λ r. Works shared.now.wave (view_of pass) (view_of r.pass)
         (tells (H.faults host.old) (H.begun host.old))
         (tells (H.faults host.new) (H.begun host.new))) }
-    ensures won { IfOk result (λ r. HasWon (W.right work.now) (view_of r.pass) r.outputs) }
-    ensures rested { IfOk result (λ r. Rested limit (tasks_of board.now) (is_firm pass)
-        (view_of r.pass) r.is_aside) }
+    ensures won { IfOk result (λ r. HasWon (W.right shared.now.work.now)
+        (view_of r.pass) r.outputs) }
+    ensures rested { IfOk result (λ r. Rested shared.now.limit (tasks_of shared.now.board.now)
+        (is_firm pass) (view_of r.pass) r.is_aside) }
     ensures room { IfOk result (λ r. Spends worker_cost (view_of pass) (view_of r.pass)) }
     ensures inputs { H.inputs host.new ≡ H.inputs host.old }
     ensures later { H.faults host.old ≤ H.faults host.new }
@@ -226,7 +214,7 @@ pub fn run_worker<W: Work, H: Host>(
         outputs: LinkedList::new(alloc),
         is_aside: false,
     };
-    let course = try_all(work, wave, limit, board, &mut worker, host)?;
+    let course = try_all(shared, &mut worker, host)?;
     worker.is_aside = course.is_aside();
     Ok(worker)
 }

@@ -11,10 +11,10 @@ pub returns-in-Some-clause-stands : goal.returns-in-Some-clause-stands
 returns-in-Some-clause-stands g c =
     let p = c.args.worker.now.pass in
     let os = c.args.worker.now.outputs in
-    let right = g.W.Work.right c.args.work.now in
+    let right = g.W.Work.right c.args.shared.now.work.now in
     let t = c.args.t in
-    let limit = c.args.limit in
-    let b = c.args.board.now in
+    let limit = c.args.shared.now.limit in
+    let b = c.args.shared.now.board.now in
     let x = c.closed.new.pass in
     stands-calm right limit b p x os c.requires.stands (calm-closed t c.closed.result (view_of p) (view_of x) c.closed.ensures.view) c.closed.ensures.board
 
@@ -22,21 +22,21 @@ pub returns-in-Some-clause-works : goal.returns-in-Some-clause-works
 returns-in-Some-clause-works g c =
     let p = c.args.worker.now.pass in
     let os = c.args.worker.now.outputs in
-    let right = g.W.Work.right c.args.work.now in
+    let right = g.W.Work.right c.args.shared.now.work.now in
     let t = c.args.t in
-    let limit = c.args.limit in
-    let b = c.args.board.now in
+    let limit = c.args.shared.now.limit in
+    let b = c.args.shared.now.board.now in
     let x = c.closed.new.pass in
-    calm-works c.args.wave (view_of p) (view_of x) (tells (g.H.Host.faults c.args.host.now) (g.H.Host.begun c.args.host.now)) (calm-closed t c.closed.result (view_of p) (view_of x) c.closed.ensures.view)
+    calm-works c.args.shared.now.wave (view_of p) (view_of x) (tells (g.H.Host.faults c.args.host.now) (g.H.Host.begun c.args.host.now)) (calm-closed t c.closed.result (view_of p) (view_of x) c.closed.ensures.view)
 
 pub returns-then-failures-limit-clause-stands : goal.returns-then-failures-limit-clause-stands
 returns-then-failures-limit-clause-stands g c =
     let p = c.args.worker.now.pass in
     let os = c.args.worker.now.outputs in
-    let right = g.W.Work.right c.args.work.now in
+    let right = g.W.Work.right c.args.shared.now.work.now in
     let t = c.args.t in
-    let limit = c.args.limit in
-    let b = c.args.board.now in
+    let limit = c.args.shared.now.limit in
+    let b = c.args.shared.now.board.now in
     let x = c.closed.new.pass in
     let y = c.failures.new.pass in
     stands-calm right limit b p y os c.requires.stands (calm-both t c.failures.result c.closed.result p x y c.closed.ensures.view c.failures.ensures.view) c.failures.ensures.board
@@ -45,22 +45,22 @@ pub returns-then-failures-limit-clause-works : goal.returns-then-failures-limit-
 returns-then-failures-limit-clause-works g c =
     let p = c.args.worker.now.pass in
     let os = c.args.worker.now.outputs in
-    let right = g.W.Work.right c.args.work.now in
+    let right = g.W.Work.right c.args.shared.now.work.now in
     let t = c.args.t in
-    let limit = c.args.limit in
-    let b = c.args.board.now in
+    let limit = c.args.shared.now.limit in
+    let b = c.args.shared.now.board.now in
     let x = c.closed.new.pass in
     let y = c.failures.new.pass in
-    calm-works c.args.wave (view_of p) (view_of y) (tells (g.H.Host.faults c.args.host.now) (g.H.Host.begun c.args.host.now)) (calm-both t c.failures.result c.closed.result p x y c.closed.ensures.view c.failures.ensures.view)
+    calm-works c.args.shared.now.wave (view_of p) (view_of y) (tells (g.H.Host.faults c.args.host.now) (g.H.Host.begun c.args.host.now)) (calm-both t c.failures.result c.closed.result p x y c.closed.ensures.view c.failures.ensures.view)
 
 pub begin-attempt-requires-clause-room : goal.begin-attempt-requires-clause-room
 begin-attempt-requires-clause-room g c =
     let p = c.args.worker.now.pass in
     let os = c.args.worker.now.outputs in
-    let right = g.W.Work.right c.args.work.now in
+    let right = g.W.Work.right c.args.shared.now.work.now in
     let t = c.args.t in
-    let limit = c.args.limit in
-    let b = c.args.board.now in
+    let limit = c.args.shared.now.limit in
+    let b = c.args.shared.now.board.now in
     let x = c.closed.new.pass in
     let y = c.failures.new.pass in
     let none : knows_winner t (view_of p) ≡ false = search rules in
@@ -75,10 +75,10 @@ pub returns-in_err-offer-in-Ok-Some-clause-stands : goal.returns-in_err-offer-in
 returns-in_err-offer-in-Ok-Some-clause-stands g c =
     let p = c.args.worker.now.pass in
     let os = c.args.worker.now.outputs in
-    let right = g.W.Work.right c.args.work.now in
+    let right = g.W.Work.right c.args.shared.now.work.now in
     let t = c.args.t in
-    let limit = c.args.limit in
-    let b = c.args.board.now in
+    let limit = c.args.shared.now.limit in
+    let b = c.args.shared.now.board.now in
     let x = c.closed.new.pass in
     let y = c.failures.new.pass in
     let z = c.begin-attempt.new.pass in
@@ -98,10 +98,10 @@ pub end_failed-requires-clause-room : goal.end_failed-requires-clause-room
 end_failed-requires-clause-room g c =
     let p = c.args.worker.now.pass in
     let os = c.args.worker.now.outputs in
-    let right = g.W.Work.right c.args.work.now in
+    let right = g.W.Work.right c.args.shared.now.work.now in
     let t = c.args.t in
-    let limit = c.args.limit in
-    let b = c.args.board.now in
+    let limit = c.args.shared.now.limit in
+    let b = c.args.shared.now.board.now in
     let x = c.closed.new.pass in
     let y = c.failures.new.pass in
     let z = c.begin-attempt.new.pass in
@@ -120,10 +120,10 @@ pub returns-in_ok-offer-in-Ok-Some-clause-stands : goal.returns-in_ok-offer-in-O
 returns-in_ok-offer-in-Ok-Some-clause-stands g c =
     let p = c.args.worker.now.pass in
     let os = c.args.worker.now.outputs in
-    let right = g.W.Work.right c.args.work.now in
+    let right = g.W.Work.right c.args.shared.now.work.now in
     let t = c.args.t in
-    let limit = c.args.limit in
-    let b = c.args.board.now in
+    let limit = c.args.shared.now.limit in
+    let b = c.args.shared.now.board.now in
     let x = c.closed.new.pass in
     let y = c.failures.new.pass in
     let z = c.begin-attempt.new.pass in
@@ -143,10 +143,10 @@ pub returns-in_ok-offer-in-Ok-Some-clause-works : goal.returns-in_ok-offer-in-Ok
 returns-in_ok-offer-in-Ok-Some-clause-works g c =
     let p = c.args.worker.now.pass in
     let os = c.args.worker.now.outputs in
-    let right = g.W.Work.right c.args.work.now in
+    let right = g.W.Work.right c.args.shared.now.work.now in
     let t = c.args.t in
-    let limit = c.args.limit in
-    let b = c.args.board.now in
+    let limit = c.args.shared.now.limit in
+    let b = c.args.shared.now.board.now in
     let x = c.closed.new.pass in
     let y = c.failures.new.pass in
     let z = c.begin-attempt.new.pass in
@@ -162,16 +162,16 @@ returns-in_ok-offer-in-Ok-Some-clause-works g c =
     let after = tells (g.H.Host.faults c.try_attempt.new.host) (g.H.Host.begun c.try_attempt.new.host) in
     let h = tried-open t a (view_of p) (view_of z) (view_of u) began alike in
     let q = c.offer.new.pass in
-    tried-works c.args.wave t a 0 (view_of p) (view_of z) (view_of u) (view_of q) before after began alike (omega arith) (closed-offer c.in_ok-offer-in-Ok-Some.field-0 t a (view_of u) (view_of q) h c.in_ok-offer-in-Ok-Some.ensures.view) c.try_attempt.ensures.begun (let l = c.try_attempt.ensures.later in omega arith)
+    tried-works c.args.shared.now.wave t a 0 (view_of p) (view_of z) (view_of u) (view_of q) before after began alike (omega arith) (closed-offer c.in_ok-offer-in-Ok-Some.field-0 t a (view_of u) (view_of q) h c.in_ok-offer-in-Ok-Some.ensures.view) c.try_attempt.ensures.begun (let l = c.try_attempt.ensures.later in omega arith)
 
 pub returns-in_ok-offer-in-Ok-Some-clause-tried : goal.returns-in_ok-offer-in-Ok-Some-clause-tried
 returns-in_ok-offer-in-Ok-Some-clause-tried g c =
     let p = c.args.worker.now.pass in
     let os = c.args.worker.now.outputs in
-    let right = g.W.Work.right c.args.work.now in
+    let right = g.W.Work.right c.args.shared.now.work.now in
     let t = c.args.t in
-    let limit = c.args.limit in
-    let b = c.args.board.now in
+    let limit = c.args.shared.now.limit in
+    let b = c.args.shared.now.board.now in
     let x = c.closed.new.pass in
     let y = c.failures.new.pass in
     let z = c.begin-attempt.new.pass in
@@ -188,10 +188,10 @@ pub returns-in-Ok-None-clause-stands : goal.returns-in-Ok-None-clause-stands
 returns-in-Ok-None-clause-stands g c =
     let p = c.args.worker.now.pass in
     let os = c.args.worker.now.outputs in
-    let right = g.W.Work.right c.args.work.now in
+    let right = g.W.Work.right c.args.shared.now.work.now in
     let t = c.args.t in
-    let limit = c.args.limit in
-    let b = c.args.board.now in
+    let limit = c.args.shared.now.limit in
+    let b = c.args.shared.now.board.now in
     let x = c.closed.new.pass in
     let y = c.failures.new.pass in
     let z = c.begin-attempt.new.pass in
@@ -210,10 +210,10 @@ pub returns-in-Ok-None-clause-works : goal.returns-in-Ok-None-clause-works
 returns-in-Ok-None-clause-works g c =
     let p = c.args.worker.now.pass in
     let os = c.args.worker.now.outputs in
-    let right = g.W.Work.right c.args.work.now in
+    let right = g.W.Work.right c.args.shared.now.work.now in
     let t = c.args.t in
-    let limit = c.args.limit in
-    let b = c.args.board.now in
+    let limit = c.args.shared.now.limit in
+    let b = c.args.shared.now.board.now in
     let x = c.closed.new.pass in
     let y = c.failures.new.pass in
     let z = c.begin-attempt.new.pass in
@@ -229,16 +229,16 @@ returns-in-Ok-None-clause-works g c =
     let after = tells (g.H.Host.faults c.try_attempt.new.host) (g.H.Host.begun c.try_attempt.new.host) in
     let h = tried-open t a (view_of p) (view_of z) (view_of u) began alike in
     let q = c.end_late.new.pass in
-    tried-works c.args.wave t a 0 (view_of p) (view_of z) (view_of u) (view_of q) before after began alike (omega arith) (closed-offer false t a (view_of u) (view_of q) h c.end_late.ensures.late) c.try_attempt.ensures.begun (let l = c.try_attempt.ensures.later in omega arith)
+    tried-works c.args.shared.now.wave t a 0 (view_of p) (view_of z) (view_of u) (view_of q) before after began alike (omega arith) (closed-offer false t a (view_of u) (view_of q) h c.end_late.ensures.late) c.try_attempt.ensures.begun (let l = c.try_attempt.ensures.later in omega arith)
 
 pub returns-in-Ok-None-clause-tried : goal.returns-in-Ok-None-clause-tried
 returns-in-Ok-None-clause-tried g c =
     let p = c.args.worker.now.pass in
     let os = c.args.worker.now.outputs in
-    let right = g.W.Work.right c.args.work.now in
+    let right = g.W.Work.right c.args.shared.now.work.now in
     let t = c.args.t in
-    let limit = c.args.limit in
-    let b = c.args.board.now in
+    let limit = c.args.shared.now.limit in
+    let b = c.args.shared.now.board.now in
     let x = c.closed.new.pass in
     let y = c.failures.new.pass in
     let z = c.begin-attempt.new.pass in
@@ -255,10 +255,10 @@ pub returns-in-Err-Lost-clause-stands : goal.returns-in-Err-Lost-clause-stands
 returns-in-Err-Lost-clause-stands g c =
     let p = c.args.worker.now.pass in
     let os = c.args.worker.now.outputs in
-    let right = g.W.Work.right c.args.work.now in
+    let right = g.W.Work.right c.args.shared.now.work.now in
     let t = c.args.t in
-    let limit = c.args.limit in
-    let b = c.args.board.now in
+    let limit = c.args.shared.now.limit in
+    let b = c.args.shared.now.board.now in
     let x = c.closed.new.pass in
     let y = c.failures.new.pass in
     let z = c.begin-attempt.new.pass in
@@ -281,10 +281,10 @@ pub returns-in-Err-Lost-clause-works : goal.returns-in-Err-Lost-clause-works
 returns-in-Err-Lost-clause-works g c =
     let p = c.args.worker.now.pass in
     let os = c.args.worker.now.outputs in
-    let right = g.W.Work.right c.args.work.now in
+    let right = g.W.Work.right c.args.shared.now.work.now in
     let t = c.args.t in
-    let limit = c.args.limit in
-    let b = c.args.board.now in
+    let limit = c.args.shared.now.limit in
+    let b = c.args.shared.now.board.now in
     let x = c.closed.new.pass in
     let y = c.failures.new.pass in
     let z = c.begin-attempt.new.pass in
@@ -302,16 +302,16 @@ returns-in-Err-Lost-clause-works g c =
     let left = tried-room t a (view_of p) (view_of z) (view_of u) began alike in
     let q = c.end_failed.new.pass in
     let rose : g.H.Host.faults c.args.host.now < g.H.Host.faults c.try_attempt.new.host = search rules in
-    tried-works c.args.wave t a 1 (view_of p) (view_of z) (view_of u) (view_of q) before after began alike (omega arith) (closed-failed t (view_of u) (view_of q) h (omega arith) c.end_failed.ensures.view) c.try_attempt.ensures.begun (omega arith)
+    tried-works c.args.shared.now.wave t a 1 (view_of p) (view_of z) (view_of u) (view_of q) before after began alike (omega arith) (closed-failed t (view_of u) (view_of q) h (omega arith) c.end_failed.ensures.view) c.try_attempt.ensures.begun (omega arith)
 
 pub returns-in-Err-Lost-clause-tried : goal.returns-in-Err-Lost-clause-tried
 returns-in-Err-Lost-clause-tried g c =
     let p = c.args.worker.now.pass in
     let os = c.args.worker.now.outputs in
-    let right = g.W.Work.right c.args.work.now in
+    let right = g.W.Work.right c.args.shared.now.work.now in
     let t = c.args.t in
-    let limit = c.args.limit in
-    let b = c.args.board.now in
+    let limit = c.args.shared.now.limit in
+    let b = c.args.shared.now.board.now in
     let x = c.closed.new.pass in
     let y = c.failures.new.pass in
     let z = c.begin-attempt.new.pass in
@@ -330,10 +330,10 @@ pub returns-in-Err-OutOfMemory-clause-stands : goal.returns-in-Err-OutOfMemory-c
 returns-in-Err-OutOfMemory-clause-stands g c =
     let p = c.args.worker.now.pass in
     let os = c.args.worker.now.outputs in
-    let right = g.W.Work.right c.args.work.now in
+    let right = g.W.Work.right c.args.shared.now.work.now in
     let t = c.args.t in
-    let limit = c.args.limit in
-    let b = c.args.board.now in
+    let limit = c.args.shared.now.limit in
+    let b = c.args.shared.now.board.now in
     let x = c.closed.new.pass in
     let y = c.failures.new.pass in
     let z = c.begin-attempt.new.pass in

@@ -10,7 +10,7 @@ pub loop-init : goal.loop-init
 loop-init g c = record {
   stands = c.requires.stands;
   firm = refl;
-  works = works-refl c.args.wave (view_of c.args.worker.now.pass) (tells (g.H.Host.faults c.args.host.now) (g.H.Host.begun c.args.host.now));
+  works = works-refl c.args.shared.now.wave (view_of c.args.worker.now.pass) (tells (g.H.Host.faults c.args.host.now) (g.H.Host.begun c.args.host.now));
   room = omega arith;
   may = c.requires.may;
   inputs = refl;
@@ -24,10 +24,10 @@ pub try_once-requires-clause-drawn : goal.try_once-requires-clause-drawn
 try_once-requires-clause-drawn g c κs within = let known = c.loop.invariant.works.notes.known in let drawn = c.requires.drawn in omega arith
 
 pub try_once-requires-clause-room : goal.try_once-requires-clause-room
-try_once-requires-clause-room g c κs within = room-after 0 1 (c.args.limit * tasks_of c.args.board.now) (view_of c.args.worker.now.pass) (view_of c.loop.worker.pass) c.requires.room c.loop.invariant.room
+try_once-requires-clause-room g c κs within = room-after 0 1 (c.args.shared.now.limit * tasks_of c.args.shared.now.board.now) (view_of c.args.worker.now.pass) (view_of c.loop.worker.pass) c.requires.room c.loop.invariant.room
 
 pub try_once-requires-clause-suits : goal.try_once-requires-clause-suits
-try_once-requires-clause-suits g c κs within = subst (g.W.Work.suits c.args.work.now) (sym c.loop.invariant.inputs) c.requires.suits
+try_once-requires-clause-suits g c κs within = subst (g.W.Work.suits c.args.shared.now.work.now) (sym c.loop.invariant.inputs) c.requires.suits
 
 pub returns-in_err-try_once-clause-firm : goal.returns-in_err-try_once-clause-firm
 returns-in_err-try_once-clause-firm g c = c.try_once.ensures.firm ∙ c.loop.invariant.firm
@@ -43,17 +43,17 @@ returns-in-Won-clause-firm g c = c.try_once.ensures.firm ∙ c.loop.invariant.fi
 
 pub returns-in-Won-clause-works : goal.returns-in-Won-clause-works
 returns-in-Won-clause-works g c =
-    let then : Works c.args.wave (view_of c.loop.worker.pass) (view_of c.try_once.new.worker.pass) (tells (g.H.Host.faults c.loop.host) (g.H.Host.begun c.loop.host)) (tells (g.H.Host.faults c.try_once.new.host) (g.H.Host.begun c.try_once.new.host)) = search rules in
-    works-trans c.args.wave _ _ _ _ _ _ c.loop.invariant.works then
+    let then : Works c.args.shared.now.wave (view_of c.loop.worker.pass) (view_of c.try_once.new.worker.pass) (tells (g.H.Host.faults c.loop.host) (g.H.Host.begun c.loop.host)) (tells (g.H.Host.faults c.try_once.new.host) (g.H.Host.begun c.try_once.new.host)) = search rules in
+    works-trans c.args.shared.now.wave _ _ _ _ _ _ c.loop.invariant.works then
 
 pub returns-in-Won-clause-tried : goal.returns-in-Won-clause-tried
 returns-in-Won-clause-tried g c =
-    let told : IsTried c.args.limit c.args.t c.loop.worker.pass c.try_once.new.worker.pass tried.Won = search rules in
+    let told : IsTried c.args.shared.now.limit c.args.t c.loop.worker.pass c.try_once.new.worker.pass tried.Won = search rules in
     told.1
 
 pub returns-in-Won-clause-room : goal.returns-in-Won-clause-room
 returns-in-Won-clause-room g c =
-    let told : IsTried c.args.limit c.args.t c.loop.worker.pass c.try_once.new.worker.pass tried.Won = search rules in
+    let told : IsTried c.args.shared.now.limit c.args.t c.loop.worker.pass c.try_once.new.worker.pass tried.Won = search rules in
     let spent = told.0 in
     let before = c.loop.invariant.room in
     omega arith
@@ -69,17 +69,17 @@ returns-in-GivenUp-clause-firm g c = c.try_once.ensures.firm ∙ c.loop.invarian
 
 pub returns-in-GivenUp-clause-works : goal.returns-in-GivenUp-clause-works
 returns-in-GivenUp-clause-works g c =
-    let then : Works c.args.wave (view_of c.loop.worker.pass) (view_of c.try_once.new.worker.pass) (tells (g.H.Host.faults c.loop.host) (g.H.Host.begun c.loop.host)) (tells (g.H.Host.faults c.try_once.new.host) (g.H.Host.begun c.try_once.new.host)) = search rules in
-    works-trans c.args.wave _ _ _ _ _ _ c.loop.invariant.works then
+    let then : Works c.args.shared.now.wave (view_of c.loop.worker.pass) (view_of c.try_once.new.worker.pass) (tells (g.H.Host.faults c.loop.host) (g.H.Host.begun c.loop.host)) (tells (g.H.Host.faults c.try_once.new.host) (g.H.Host.begun c.try_once.new.host)) = search rules in
+    works-trans c.args.shared.now.wave _ _ _ _ _ _ c.loop.invariant.works then
 
 pub returns-in-GivenUp-clause-tried : goal.returns-in-GivenUp-clause-tried
 returns-in-GivenUp-clause-tried g c =
-    let told : IsTried c.args.limit c.args.t c.loop.worker.pass c.try_once.new.worker.pass tried.GivenUp = search rules in
+    let told : IsTried c.args.shared.now.limit c.args.t c.loop.worker.pass c.try_once.new.worker.pass tried.GivenUp = search rules in
     told.1
 
 pub returns-in-GivenUp-clause-room : goal.returns-in-GivenUp-clause-room
 returns-in-GivenUp-clause-room g c =
-    let told : IsTried c.args.limit c.args.t c.loop.worker.pass c.try_once.new.worker.pass tried.GivenUp = search rules in
+    let told : IsTried c.args.shared.now.limit c.args.t c.loop.worker.pass c.try_once.new.worker.pass tried.GivenUp = search rules in
     let spent = told.0 in
     let before = c.loop.invariant.room in
     omega arith
@@ -95,17 +95,17 @@ returns-in-Aside-clause-firm g c = c.try_once.ensures.firm ∙ c.loop.invariant.
 
 pub returns-in-Aside-clause-works : goal.returns-in-Aside-clause-works
 returns-in-Aside-clause-works g c =
-    let then : Works c.args.wave (view_of c.loop.worker.pass) (view_of c.try_once.new.worker.pass) (tells (g.H.Host.faults c.loop.host) (g.H.Host.begun c.loop.host)) (tells (g.H.Host.faults c.try_once.new.host) (g.H.Host.begun c.try_once.new.host)) = search rules in
-    works-trans c.args.wave _ _ _ _ _ _ c.loop.invariant.works then
+    let then : Works c.args.shared.now.wave (view_of c.loop.worker.pass) (view_of c.try_once.new.worker.pass) (tells (g.H.Host.faults c.loop.host) (g.H.Host.begun c.loop.host)) (tells (g.H.Host.faults c.try_once.new.host) (g.H.Host.begun c.try_once.new.host)) = search rules in
+    works-trans c.args.shared.now.wave _ _ _ _ _ _ c.loop.invariant.works then
 
 pub returns-in-Aside-clause-tried : goal.returns-in-Aside-clause-tried
 returns-in-Aside-clause-tried g c =
-    let told : IsTried c.args.limit c.args.t c.loop.worker.pass c.try_once.new.worker.pass tried.Aside = search rules in
+    let told : IsTried c.args.shared.now.limit c.args.t c.loop.worker.pass c.try_once.new.worker.pass tried.Aside = search rules in
     told.1
 
 pub returns-in-Aside-clause-room : goal.returns-in-Aside-clause-room
 returns-in-Aside-clause-room g c =
-    let told : IsTried c.args.limit c.args.t c.loop.worker.pass c.try_once.new.worker.pass tried.Aside = search rules in
+    let told : IsTried c.args.shared.now.limit c.args.t c.loop.worker.pass c.try_once.new.worker.pass tried.Aside = search rules in
     let spent = told.0 in
     let before = c.loop.invariant.room in
     omega arith
@@ -118,22 +118,22 @@ returns-in-Aside-clause-later g c = let before = c.loop.invariant.later in let t
 
 pub loop-smaller : goal.loop-smaller
 loop-smaller g c =
-    let told : IsTried c.args.limit c.args.t c.loop.worker.pass c.try_once.new.worker.pass tried.Failed = search rules in
+    let told : IsTried c.args.shared.now.limit c.args.t c.loop.worker.pass c.try_once.new.worker.pass tried.Failed = search rules in
     let more = told.1.0 in
     let few = told.1.1.0 in
     omega arith
 
 pub loop-preserved : goal.loop-preserved
 loop-preserved g c =
-    let told : IsTried c.args.limit c.args.t c.loop.worker.pass c.try_once.new.worker.pass tried.Failed = search rules in
-    let then : Works c.args.wave (view_of c.loop.worker.pass) (view_of c.try_once.new.worker.pass) (tells (g.H.Host.faults c.loop.host) (g.H.Host.begun c.loop.host)) (tells (g.H.Host.faults c.try_once.new.host) (g.H.Host.begun c.try_once.new.host)) = search rules in
+    let told : IsTried c.args.shared.now.limit c.args.t c.loop.worker.pass c.try_once.new.worker.pass tried.Failed = search rules in
+    let then : Works c.args.shared.now.wave (view_of c.loop.worker.pass) (view_of c.try_once.new.worker.pass) (tells (g.H.Host.faults c.loop.host) (g.H.Host.begun c.loop.host)) (tells (g.H.Host.faults c.try_once.new.host) (g.H.Host.begun c.try_once.new.host)) = search rules in
     let spent = told.0 in
     let was = c.loop.invariant in
     let later = c.try_once.ensures.later in
     record {
       stands = c.try_once.ensures.stands;
       firm = c.try_once.ensures.firm ∙ was.firm;
-      works = works-trans c.args.wave _ _ _ _ _ _ was.works then;
+      works = works-trans c.args.shared.now.wave _ _ _ _ _ _ was.works then;
       room = let p = was.room in omega arith;
       may = told.1.1.1;
       inputs = c.try_once.ensures.inputs ∙ was.inputs;

@@ -7,9 +7,9 @@ use Rattle.pig_pool.proofs.worker.try_task.Given as goal
 
 abbrev pub invariant-loop : goal.invariant-loop
 invariant-loop g l = record {
-  stands : Stands (g.W.Work.right l.work) l.limit l.board l.worker.pass l.worker.outputs;
+  stands : Stands (g.W.Work.right l.shared.work.now) l.shared.limit l.shared.board.now l.worker.pass l.worker.outputs;
   firm : is_firm l.worker.pass ≡ is_firm l.initial.worker.pass;
-  works : Works l.wave (view_of l.initial.worker.pass) (view_of l.worker.pass) (tells (g.H.Host.faults l.initial.host) (g.H.Host.begun l.initial.host)) (tells (g.H.Host.faults l.host) (g.H.Host.begun l.host));
+  works : Works l.shared.wave (view_of l.initial.worker.pass) (view_of l.worker.pass) (tells (g.H.Host.faults l.initial.host) (g.H.Host.begun l.initial.host)) (tells (g.H.Host.faults l.host) (g.H.Host.begun l.host));
   room : Spends 0 (view_of l.initial.worker.pass) (view_of l.worker.pass);
   may : may_begin l.worker.pass ≡ true;
   inputs : g.H.Host.inputs l.host ≡ g.H.Host.inputs l.initial.host;
@@ -17,4 +17,4 @@ invariant-loop g l = record {
 }
 
 abbrev pub decreases-loop : goal.decreases-loop
-decreases-loop g l = l.limit - fails_of l.t (view_of l.worker.pass)
+decreases-loop g l = l.shared.limit - fails_of l.t (view_of l.worker.pass)
