@@ -13,7 +13,7 @@ use Rattle.pig_board.specs.declared.board.Board.{Board}
 use Rattle.pig_board.specs.declared.board.Pass.{Pass}
 use Rattle.pig_board.specs.declared.view.View.{View}
 use Rattle.pig_board.specs.Pass.{tasks_of, view_of, OnBoard}
-use Rattle.pig_board.specs.View.{fails_of, all_fails, wins_of, has_open, has_open_of, began, won, came_late, saw_winner, saw_count, IsLate}
+use Rattle.pig_board.specs.View.{fails_of, all_fails, wins_of, has_open, has_open_of, won, came_late, saw_winner, saw_count, IsLate}
 use Rattle.pig_board.proofs.CountLaws.{wins_began, wins_late, wins_failed, fails_began}
 use Rattle.pig_pool.specs.Begins.{Tells}
 use Rattle.pig_pool.specs.Workers.{HasWon, Works, Stands, Spends, HasRoom, IsFailed, FailedAs, IsTried, beside}

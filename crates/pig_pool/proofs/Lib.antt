@@ -1,5 +1,6 @@
 mod Attempts
 mod Begins
+mod Courses
 mod Crews
 mod Looks
 mod Placing

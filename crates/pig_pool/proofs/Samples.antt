@@ -1,6 +1,6 @@
 -- The clause on begins refuses a failure that is counted for another task. A host tells that it began tasks 0 and 1, one after the
 -- other, and its count rose behind the first alone.
-use Rattle.std.proofs.Common.{◌≡◌, ℕ, ◌≤◌, ◌+◌, List, [], ◌∷◌, ◌++◌, length, map, Option, Some, None, sym, ◌∙◌, ap, subst, arith}
+use Rattle.std.proofs.Common.{◌≡◌, ◌≤◌, ◌+◌, List, [], ◌∷◌, ◌++◌, length, map, Some, None, sym, ◌∙◌, ap, subst, arith}
 use Rattle.std.specs.Prelude.{sum_by, slice_index_or}
 use Rattle.std.specs.Option.{option_map}
 use Rattle.std.specs.Option.{unwrap_or}

@@ -1,5 +1,5 @@
 -- What the steps of a worker do.
-use Rattle.std.specs.Prelude.{◌≡◌, ℕ, ◌+◌, ◌*◌, ◌<◌, ◌≤◌, Bool, true, false, not, ◌==◌, nat_le, List, ◌++◌, count_by, All}
+use Rattle.std.specs.Prelude.{◌≡◌, ℕ, ◌+◌, ◌*◌, ◌<◌, ◌≤◌, Bool, true, false, not, ◌==◌, nat_le, Result, OnOk, List, ◌++◌, count_by, All}
 use Rattle.std.specs.List.{list_any, filter}
 use Rattle.std.specs.Option.{option_map}
 use Rattle.pig_job.specs.Job.{aside_limit}
@@ -9,11 +9,12 @@ use Rattle.pig_board.specs.declared.board.Board.{Board}
 use Rattle.pig_board.specs.declared.board.Pass.{Pass}
 use Rattle.pig_board.specs.declared.view.View.{View}
 use Rattle.pig_board.specs.View.{steps_of, knows_winner, fails_of, all_fails, wins_of, failed_at}
-use Rattle.pig_board.specs.Pass.{view_of, may_begin, OnBoard}
+use Rattle.pig_board.specs.Pass.{tasks_of, view_of, is_firm, may_begin, OnBoard}
 use Rattle.pig_board.specs.Laws.{NotesStay}
 use Rattle.pig_pool.specs.Begins.{Tells, begins_of, next_count, lost_of}
 use Rattle.pig_pool.specs.declared.tries.Tried.{Tried}
 use Rattle.pig_pool.specs.declared.tries.Tried.TheVariants.{Won, Failed, GivenUp, Aside}
+use Rattle.pig_pool.specs.declared.worker.Worker.{Worker}
 use Rattle.pig_pool.specs.declared.worker.Course.{Course}
 use Rattle.pig_pool.specs.declared.worker.Course.TheVariants as course
 
@@ -70,6 +71,23 @@ Spends k v w = v.room + 2 * all_fails v ≤ w.room + 2 * all_fails w + k
 -- there is room for k steps, and two for each failure up to m
 abbrev pub HasRoom : ℕ → ℕ → View → Type 0
 HasRoom k m v = k + 2 * m ≤ v.room + 2 * all_fails v
+
+-- a worker that may try: it stands, may begin, and has room for k steps, and the inputs of its host suit
+pub record MayTry {O I : Type 0} (is_right : ℕ → O → Type 0) (is_suited : I → Type 0) (limit : ℕ) (b : Board) (k : ℕ) (w : Worker O) (inputs : I) : Type 0 where
+  pub stands : Stands is_right limit b w.pass w.outputs
+  pub may : may_begin w.pass ≡ true
+  pub room : HasRoom k (limit * tasks_of b) (view_of w.pass)
+  pub suits : is_suited inputs
+
+-- what tries leave that spend k steps at most, of the worker u the worker w, while their host had the inputs h and told
+-- x before, and has i and tells y behind: it stands, as firm as before, and has worked where memory was not wanting
+pub record Leaves {O I C E : Type 0} (is_right : ℕ → O → Type 0) (limit wave : ℕ) (b : Board) (k : ℕ) (u w : Worker O) (h i : I) (x y : Tells) (r : Result C E) : Type 0 where
+  pub stands : Stands is_right limit b w.pass w.outputs
+  pub firm : is_firm w.pass ≡ is_firm u.pass
+  pub works : OnOk r (Works wave (view_of u.pass) (view_of w.pass) x y)
+  pub room : OnOk r (Spends k (view_of u.pass) (view_of w.pass))
+  pub inputs : i ≡ h
+  pub later : x.faults ≤ y.faults
 
 -- the pass noted that a task has failed as often as the limit says
 abbrev pub saw_limit : ℕ → View → Bool
@@ -132,6 +150,12 @@ pub record Looks (v w : View) : Type 0 where
   pub tried : w.tried ≡ v.tried
   pub room : w.room ≡ v.room
   pub streak : w.streak ≡ v.streak
+
+-- looks at the board b by the pass p, which becomes q: it is on the board, as firm as before
+pub record LooksOn (b : Board) (p q : Pass) : Type 0 where
+  pub board : OnBoard b q
+  pub firm : is_firm q ≡ is_firm p
+  pub looks : Looks (view_of p) (view_of q)
 
 -- what the pass knows beside the winner of task t
 abbrev pub beside : ℕ → View → View

@@ -1,12 +1,12 @@
 //! One try at a task.
 
-ghost use Rattle.std.specs.Prelude.{◌≡◌, ◌<◌, ◌≤◌, ◌+◌, ◌*◌, [], ◌∷◌, ◌++◌, true, IfOk, IfSome, IfNone, OnOk, OnErr, IsErrOf, MatchBool};
+ghost use Rattle.std.specs.Prelude.{◌≡◌, ◌<◌, ◌≤◌, ◌+◌, [], ◌∷◌, ◌++◌, true, IfOk, IfSome, IfNone, OnErr, IsErrOf, MatchBool};
 ghost use Rattle.std.specs.Option.{option_map};
 ghost use Rattle.pig_board.specs.View.{has_open, has_open_of, knows_winner, fails_of, won, IsLate};
-ghost use Rattle.pig_board.specs.Pass.{tasks_of, view_of, is_firm, may_begin, OnBoard};
+ghost use Rattle.pig_board.specs.Pass.{tasks_of, view_of, is_firm, OnBoard};
 ghost use Rattle.pig_outside.specs.Calls.{and_attempt};
 ghost use Rattle.pig_pool.specs.Begins.{tells};
-ghost use Rattle.pig_pool.specs.Workers.{Works, HasRoom, IsFailed, FailedAs, IsTried, Stands, beside};
+ghost use Rattle.pig_pool.specs.Workers.{IsFailed, FailedAs, IsTried, Leaves, MayTry, beside};
 
 use crate::shared::Shared;
 use crate::stops::TaskStop;
@@ -167,23 +167,14 @@ pub fn try_once<W: Work, H: Host>(
     host: &mut H,
 ) -> Result<Tried, AllocError>
     requires task { t < tasks_of shared.now.board.now }
-    requires stands { Stands (W.right shared.now.work.now) shared.now.limit shared.now.board.now
-        worker.old.pass worker.old.outputs }
     requires drawn { t < (view_of worker.old.pass).known }
-    requires room { HasRoom 1 (shared.now.limit * tasks_of shared.now.board.now)
-        (view_of worker.old.pass) }
-    requires may { may_begin worker.old.pass ≡ true }
-    requires suits { W.suits shared.now.work.now (H.inputs host.old) }
-    ensures stands { Stands (W.right shared.now.work.now) shared.now.limit shared.now.board.now
-        worker.new.pass worker.new.outputs }
-    ensures firm { is_firm worker.new.pass ≡ is_firm worker.old.pass }
-    ensures works { OnOk result (Works shared.now.wave
-        (view_of worker.old.pass) (view_of worker.new.pass)
+    requires ready { MayTry (W.right shared.now.work.now) (W.suits shared.now.work.now)
+        shared.now.limit shared.now.board.now 1 worker.old (H.inputs host.old) }
+    ensures left { Leaves (W.right shared.now.work.now) shared.now.limit shared.now.wave
+        shared.now.board.now 1 worker.old worker.new (H.inputs host.old) (H.inputs host.new)
         (tells (H.faults host.old) (H.begun host.old))
-        (tells (H.faults host.new) (H.begun host.new))) }
+        (tells (H.faults host.new) (H.begun host.new)) result }
     ensures tried { IfOk result (IsTried shared.now.limit t worker.old.pass worker.new.pass) }
-    ensures inputs { H.inputs host.new ≡ H.inputs host.old }
-    ensures later { H.faults host.old ≤ H.faults host.new }
 {
     let board = shared.board;
     let limit = shared.limit;

@@ -6,7 +6,7 @@ ghost use Rattle.pig_job.specs.Job.{aside_limit};
 ghost use Rattle.pig_board.specs.Pass.{tasks_of, view_of, is_firm, OnBoard};
 ghost use Rattle.pig_board.specs.End.{end_of};
 ghost use Rattle.pig_pool.specs.Begins.{crew_tells};
-ghost use Rattle.pig_pool.specs.Workers.{HasWon, IsDone, IsBelow, KnowsAll, Looks, saw_limit, again_room};
+ghost use Rattle.pig_pool.specs.Workers.{HasWon, IsDone, IsBelow, KnowsAll, LooksOn, saw_limit, again_room};
 ghost use Rattle.pig_pool.specs.Crew.{AreHosts, CrewWorks, HostsStay};
 ghost use Rattle.pig_pool.specs.Wave.{AreOutputs, IsWonWave, AllWon, HasUnwon, IsLeast, HasFailed, IsRounds, AreBegun, FaultBegun, EndsAt, FaultEndsAt, failures_in, failures_of};
 ghost use Rattle.pig_pool.specs.declared.wave.WaveFault.TheVariants.{OutOfMemory};
@@ -126,18 +126,15 @@ fn finish<W: Work>(
     Err(WaveFault::TaskFailed { task, end })
 }
 
-// Whether some task has failed so often.
-fn sees_limit(board: &Board, pass: &mut Pass, tasks: u32, limit: u32) -> bool
-    requires board { OnBoard board.now pass.old }
-    requires count { tasks ≡ tasks_of board.now }
-    ensures board { OnBoard board.now pass.new }
-    ensures firm { is_firm pass.new ≡ is_firm pass.old }
-    ensures looks { Looks (view_of pass.old) (view_of pass.new) }
-    ensures seen { MatchBool result (saw_limit limit (view_of pass.new) ≡ true)
-        (IsBelow limit (tasks_of board.now) (view_of pass.new)) }
+// Whether some task has failed too often.
+fn sees_limit<W: Work>(shared: &Shared<'_, W>, pass: &mut Pass) -> bool
+    requires { OnBoard shared.now.board.now pass.old }
+    ensures looks { LooksOn shared.now.board.now pass.old pass.new }
+    ensures seen { MatchBool result (saw_limit shared.now.limit (view_of pass.new) ≡ true)
+        (IsBelow shared.now.limit (tasks_of shared.now.board.now) (view_of pass.new)) }
 {
-    for t in 0..tasks {
-        if board.failures(pass, t) >= limit {
+    for t in 0..shared.work.tasks() {
+        if shared.board.failures(pass, t) >= shared.limit {
             return true;
         }
     }
@@ -145,36 +142,32 @@ fn sees_limit(board: &Board, pass: &mut Pass, tasks: u32, limit: u32) -> bool
 }
 
 // Whether every task has a winner.
-fn sees_all_won(board: &Board, pass: &mut Pass, tasks: u32) -> bool
-    requires board { OnBoard board.now pass.old }
-    requires count { tasks ≡ tasks_of board.now }
-    ensures board { OnBoard board.now pass.new }
-    ensures firm { is_firm pass.new ≡ is_firm pass.old }
-    ensures looks { Looks (view_of pass.old) (view_of pass.new) }
-    ensures won { MatchBool result (KnowsAll (tasks_of board.now) (view_of pass.new)) ⊤ }
+fn sees_all_won<W: Work>(shared: &Shared<'_, W>, pass: &mut Pass) -> bool
+    requires { OnBoard shared.now.board.now pass.old }
+    ensures looks { LooksOn shared.now.board.now pass.old pass.new }
+    ensures won { MatchBool result
+        (KnowsAll (tasks_of shared.now.board.now) (view_of pass.new)) ⊤ }
 {
-    for t in 0..tasks {
-        if board.closed(pass, t).is_none() {
+    for t in 0..shared.work.tasks() {
+        if shared.board.closed(pass, t).is_none() {
             return false;
         }
     }
     true
 }
 
-// Whether the work is done: every task has a winner, or one has failed so often. Where it is not, no task has.
-fn is_done(board: &Board, pass: &mut Pass, tasks: u32, limit: u32) -> bool
-    requires board { OnBoard board.now pass.old }
-    requires count { tasks ≡ tasks_of board.now }
-    ensures board { OnBoard board.now pass.new }
-    ensures firm { is_firm pass.new ≡ is_firm pass.old }
-    ensures looks { Looks (view_of pass.old) (view_of pass.new) }
-    ensures done { MatchBool result (IsDone limit (tasks_of board.now) (view_of pass.new))
-        (IsBelow limit (tasks_of board.now) (view_of pass.new)) }
+// Whether the work is done: every task has a winner, or one has failed too often. Where it is not, no task has.
+fn is_done<W: Work>(shared: &Shared<'_, W>, pass: &mut Pass) -> bool
+    requires { OnBoard shared.now.board.now pass.old }
+    ensures looks { LooksOn shared.now.board.now pass.old pass.new }
+    ensures done { MatchBool result
+        (IsDone shared.now.limit (tasks_of shared.now.board.now) (view_of pass.new))
+        (IsBelow shared.now.limit (tasks_of shared.now.board.now) (view_of pass.new)) }
 {
-    if sees_limit(board, pass, tasks, limit) {
+    if sees_limit(shared, pass) {
         return true;
     }
-    sees_all_won(board, pass, tasks)
+    sees_all_won(shared, pass)
 }
 
 // What is left of the rounds of a wave: the pass, the outputs, and how many there were.
@@ -258,8 +251,7 @@ fn run_rounds<R: Threads + Sync, W: Work + Sync, H: Host + Send>(
     ensures stay { HostsStay H.faults H.inputs hosts.old hosts.new }
 {
     let mut worker = run_crew(rt, alloc, shared, pass, DEPTH, hosts)?;
-    let tasks = shared.work.tasks();
-    let over = is_done(shared.board, &mut worker.pass, tasks, shared.limit);
+    let over = is_done(shared, &mut worker.pass);
     if !worker.is_aside || over {
         let Worker { pass, outputs, .. } = worker;
         return Ok(Rounds {

@@ -1,10 +1,10 @@
 //! What one worker does in a wave.
 
-ghost use Rattle.std.specs.Prelude.{◌≡◌, ◌<◌, ◌≤◌, ◌+◌, ◌*◌, ◌-◌, [], true, IfOk, OnOk};
+ghost use Rattle.std.specs.Prelude.{◌≡◌, ◌<◌, ◌≤◌, ◌+◌, ◌*◌, ◌-◌, [], true, IfOk};
 ghost use Rattle.pig_board.specs.View.{knows_winner};
-ghost use Rattle.pig_board.specs.Pass.{tasks_of, view_of, is_firm, may_begin, OnBoard};
+ghost use Rattle.pig_board.specs.Pass.{tasks_of, view_of, is_firm, OnBoard};
 ghost use Rattle.pig_pool.specs.Begins.{tells};
-ghost use Rattle.pig_pool.specs.Workers.{Works, HasWon, HasRoom, Spends, Stands, KnowsAll, Went, Rested, was_aside, worker_cost};
+ghost use Rattle.pig_pool.specs.Workers.{Works, HasWon, Spends, KnowsAll, Leaves, MayTry, Went, Rested, was_aside, worker_cost};
 ghost use Rattle.pig_pool.specs.Crew.{IsReady};
 
 use crate::shared::Shared;
@@ -51,25 +51,15 @@ fn try_task<W: Work, H: Host>(
     host: &mut H,
 ) -> Result<Course, AllocError>
     requires task { t < tasks_of shared.now.board.now }
-    requires stands { Stands (W.right shared.now.work.now) shared.now.limit shared.now.board.now
-        worker.old.pass worker.old.outputs }
     requires drawn { t < (view_of worker.old.pass).known }
-    requires room { HasRoom 1 (shared.now.limit * tasks_of shared.now.board.now)
-        (view_of worker.old.pass) }
-    requires may { may_begin worker.old.pass ≡ true }
-    requires suits { W.suits shared.now.work.now (H.inputs host.old) }
-    ensures stands { Stands (W.right shared.now.work.now) shared.now.limit shared.now.board.now
-        worker.new.pass worker.new.outputs }
-    ensures firm { is_firm worker.new.pass ≡ is_firm worker.old.pass }
-    ensures works { OnOk result (Works shared.now.wave
-        (view_of worker.old.pass) (view_of worker.new.pass)
+    requires ready { MayTry (W.right shared.now.work.now) (W.suits shared.now.work.now)
+        shared.now.limit shared.now.board.now 1 worker.old (H.inputs host.old) }
+    ensures left { Leaves (W.right shared.now.work.now) shared.now.limit shared.now.wave
+        shared.now.board.now 1 worker.old worker.new (H.inputs host.old) (H.inputs host.new)
         (tells (H.faults host.old) (H.begun host.old))
-        (tells (H.faults host.new) (H.begun host.new))) }
+        (tells (H.faults host.new) (H.begun host.new)) result }
     ensures tried { IfOk result (Went shared.now.limit worker.new.pass
         (knows_winner t (view_of worker.new.pass) ≡ true)) }
-    ensures room { OnOk result (Spends 1 (view_of worker.old.pass) (view_of worker.new.pass)) }
-    ensures inputs { H.inputs host.new ≡ H.inputs host.old }
-    ensures later { H.faults host.old ≤ H.faults host.new }
 {
     loop {
         match try_once(shared, worker, t, host)? {
@@ -87,25 +77,16 @@ fn try_drawn<W: Work, H: Host>(
     worker: &mut Worker<W::Out>,
     host: &mut H,
 ) -> Result<Course, AllocError>
-    requires stands { Stands (W.right shared.now.work.now) shared.now.limit shared.now.board.now
-        worker.old.pass worker.old.outputs }
-    requires room { HasRoom (3 * tasks_of shared.now.board.now + 2)
-        (shared.now.limit * tasks_of shared.now.board.now) (view_of worker.old.pass) }
-    requires may { may_begin worker.old.pass ≡ true }
-    requires suits { W.suits shared.now.work.now (H.inputs host.old) }
-    ensures stands { Stands (W.right shared.now.work.now) shared.now.limit shared.now.board.now
-        worker.new.pass worker.new.outputs }
-    ensures firm { is_firm worker.new.pass ≡ is_firm worker.old.pass }
-    ensures works { OnOk result (Works shared.now.wave
-        (view_of worker.old.pass) (view_of worker.new.pass)
+    requires ready { MayTry (W.right shared.now.work.now) (W.suits shared.now.work.now)
+        shared.now.limit shared.now.board.now (3 * tasks_of shared.now.board.now + 2)
+        worker.old (H.inputs host.old) }
+    ensures left { Leaves (W.right shared.now.work.now) shared.now.limit shared.now.wave
+        shared.now.board.now (2 * tasks_of shared.now.board.now + 1) worker.old worker.new
+        (H.inputs host.old) (H.inputs host.new)
         (tells (H.faults host.old) (H.begun host.old))
-        (tells (H.faults host.new) (H.begun host.new))) }
+        (tells (H.faults host.new) (H.begun host.new)) result }
     ensures drawn { IfOk result (Went shared.now.limit worker.new.pass
         (tasks_of shared.now.board.now ≤ (view_of worker.new.pass).known)) }
-    ensures room { OnOk result (Spends (2 * tasks_of shared.now.board.now + 1)
-        (view_of worker.old.pass) (view_of worker.new.pass)) }
-    ensures inputs { H.inputs host.new ≡ H.inputs host.old }
-    ensures later { H.faults host.old ≤ H.faults host.new }
 {
     while let Some(t) = shared.board.draw(&mut worker.pass) {
         match try_task(shared, worker, t, host)? {
@@ -123,26 +104,17 @@ fn try_rest<W: Work, H: Host>(
     worker: &mut Worker<W::Out>,
     host: &mut H,
 ) -> Result<Course, AllocError>
-    requires stands { Stands (W.right shared.now.work.now) shared.now.limit shared.now.board.now
-        worker.old.pass worker.old.outputs }
     requires drawn { tasks_of shared.now.board.now ≤ (view_of worker.old.pass).known }
-    requires room { HasRoom (tasks_of shared.now.board.now + 1)
-        (shared.now.limit * tasks_of shared.now.board.now) (view_of worker.old.pass) }
-    requires may { may_begin worker.old.pass ≡ true }
-    requires suits { W.suits shared.now.work.now (H.inputs host.old) }
-    ensures stands { Stands (W.right shared.now.work.now) shared.now.limit shared.now.board.now
-        worker.new.pass worker.new.outputs }
-    ensures firm { is_firm worker.new.pass ≡ is_firm worker.old.pass }
-    ensures works { OnOk result (Works shared.now.wave
-        (view_of worker.old.pass) (view_of worker.new.pass)
+    requires ready { MayTry (W.right shared.now.work.now) (W.suits shared.now.work.now)
+        shared.now.limit shared.now.board.now (tasks_of shared.now.board.now + 1)
+        worker.old (H.inputs host.old) }
+    ensures left { Leaves (W.right shared.now.work.now) shared.now.limit shared.now.wave
+        shared.now.board.now (tasks_of shared.now.board.now) worker.old worker.new
+        (H.inputs host.old) (H.inputs host.new)
         (tells (H.faults host.old) (H.begun host.old))
-        (tells (H.faults host.new) (H.begun host.new))) }
+        (tells (H.faults host.new) (H.begun host.new)) result }
     ensures all { IfOk result (Went shared.now.limit worker.new.pass
         (KnowsAll (tasks_of shared.now.board.now) (view_of worker.new.pass))) }
-    ensures room { OnOk result (Spends (tasks_of shared.now.board.now)
-        (view_of worker.old.pass) (view_of worker.new.pass)) }
-    ensures inputs { H.inputs host.new ≡ H.inputs host.old }
-    ensures later { H.faults host.old ≤ H.faults host.new }
 {
     for t in 0..shared.work.tasks() {
         match try_task(shared, worker, t, host)? {
@@ -160,25 +132,16 @@ fn try_all<W: Work, H: Host>(
     worker: &mut Worker<W::Out>,
     host: &mut H,
 ) -> Result<Course, AllocError>
-    requires stands { Stands (W.right shared.now.work.now) shared.now.limit shared.now.board.now
-        worker.old.pass worker.old.outputs }
-    requires room { HasRoom (3 * tasks_of shared.now.board.now + 2)
-        (shared.now.limit * tasks_of shared.now.board.now) (view_of worker.old.pass) }
-    requires may { may_begin worker.old.pass ≡ true }
-    requires suits { W.suits shared.now.work.now (H.inputs host.old) }
-    ensures stands { Stands (W.right shared.now.work.now) shared.now.limit shared.now.board.now
-        worker.new.pass worker.new.outputs }
-    ensures firm { is_firm worker.new.pass ≡ is_firm worker.old.pass }
-    ensures works { OnOk result (Works shared.now.wave
-        (view_of worker.old.pass) (view_of worker.new.pass)
+    requires ready { MayTry (W.right shared.now.work.now) (W.suits shared.now.work.now)
+        shared.now.limit shared.now.board.now (3 * tasks_of shared.now.board.now + 2)
+        worker.old (H.inputs host.old) }
+    ensures left { Leaves (W.right shared.now.work.now) shared.now.limit shared.now.wave
+        shared.now.board.now (3 * tasks_of shared.now.board.now + 1) worker.old worker.new
+        (H.inputs host.old) (H.inputs host.new)
         (tells (H.faults host.old) (H.begun host.old))
-        (tells (H.faults host.new) (H.begun host.new))) }
+        (tells (H.faults host.new) (H.begun host.new)) result }
     ensures all { IfOk result (Went shared.now.limit worker.new.pass
         (KnowsAll (tasks_of shared.now.board.now) (view_of worker.new.pass))) }
-    ensures room { OnOk result (Spends (3 * tasks_of shared.now.board.now + 1)
-        (view_of worker.old.pass) (view_of worker.new.pass)) }
-    ensures inputs { H.inputs host.new ≡ H.inputs host.old }
-    ensures later { H.faults host.old ≤ H.faults host.new }
 {
     match try_drawn(shared, worker, host)? {
         Course::On => try_rest(shared, worker, host),

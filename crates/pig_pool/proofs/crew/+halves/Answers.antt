@@ -1,4 +1,4 @@
-use Rattle.std.proofs.Common.{◌≡◌, ◌<◌, ◌+◌, ◌-◌, length, rules, sym, subst, arith}
+use Rattle.std.proofs.Common.{◌≡◌, ◌<◌, ◌-◌, length, rules, sym, subst, arith}
 use Rattle.std.specs.Prelude.{All, map}
 use Rattle.pig_pool.specs.Begins.{crew_tells}
 use Rattle.pig_pool.specs.Crew.{IsEnded}

@@ -6,15 +6,16 @@ use Rattle.pig_pool.specs.Workers.{Works, Went, Spends}
 use Rattle.pig_pool.specs.declared.worker.Course.TheVariants as course
 use Rattle.pig_pool.proofs.Steps.{works-refl, works-trans, calm-works, calm-drawn, room-drawn, drawn-some, drawn-none, may-same, calm-all, drawn-room, drawn-room-left}
 use Rattle.pig_pool.proofs.Attempts.{stands-calm}
+use Rattle.pig_pool.proofs.Courses.{no-less-twice}
 use Rattle.pig_pool.proofs.worker.try_drawn.Goals as goal
 
 pub loop-t-init : goal.loop-t-init
 loop-t-init g c = record {
-  stands = c.requires.stands;
+  stands = c.requires.ready.stands;
   firm = refl;
   works = works-refl c.args.shared.now.wave (view_of c.args.worker.now.pass) (tells (g.H.Host.faults c.args.host.now) (g.H.Host.begun c.args.host.now));
   room = omega arith;
-  may = c.requires.may;
+  may = c.requires.ready.may;
   inputs = refl;
   later = omega arith;
 }
@@ -24,108 +25,84 @@ draw-requires-clause-board g c = c.loop-t.invariant.stands.board
 
 pub draw-requires-clause-room : goal.draw-requires-clause-room
 draw-requires-clause-room g c =
-    let some = drawn-room c.args.shared.now.limit c.args.shared.now.board.now c.loop-t.worker.pass (view_of c.args.worker.now.pass) c.requires.room c.loop-t.invariant.stands.board c.loop-t.invariant.stands.few c.loop-t.invariant.room in
+    let some = drawn-room c.args.shared.now.limit c.args.shared.now.board.now c.loop-t.worker.pass (view_of c.args.worker.now.pass) c.requires.ready.room c.loop-t.invariant.stands.board c.loop-t.invariant.stands.few c.loop-t.invariant.room in
     some
 
-pub try_task-requires-clause-stands : goal.try_task-requires-clause-stands
-try_task-requires-clause-stands g c κs within =
-    let some = drawn-room c.args.shared.now.limit c.args.shared.now.board.now c.loop-t.worker.pass (view_of c.args.worker.now.pass) c.requires.room c.loop-t.invariant.stands.board c.loop-t.invariant.stands.few c.loop-t.invariant.room in
-    let calm = calm-drawn (tasks_of c.args.shared.now.board.now) c.draw.result (view_of c.loop-t.worker.pass) (view_of c.draw.new.pass) some c.draw.ensures.drawn in
-    stands-calm (g.W.Work.right c.args.shared.now.work.now) c.args.shared.now.limit c.args.shared.now.board.now c.loop-t.worker.pass c.draw.new.pass c.loop-t.worker.outputs c.loop-t.invariant.stands calm c.draw.ensures.board
-
-pub try_task-requires-clause-room : goal.try_task-requires-clause-room
-try_task-requires-clause-room g c κs within =
+pub try_task-requires-clause-ready : goal.try_task-requires-clause-ready
+try_task-requires-clause-ready g c κs within =
     let told : IsDraw (tasks_of c.args.shared.now.board.now) (view_of c.loop-t.worker.pass) (view_of c.draw.new.pass) (Some c.in-Some.t) = search rules in
     let at = drawn-some (tasks_of c.args.shared.now.board.now) c.in-Some.t (view_of c.loop-t.worker.pass) (view_of c.draw.new.pass) told in
     let beyond = at.beyond in
     let below = at.below in
     let known = at.known in
     let left = at.room in
-    let some = drawn-room c.args.shared.now.limit c.args.shared.now.board.now c.loop-t.worker.pass (view_of c.args.worker.now.pass) c.requires.room c.loop-t.invariant.stands.board c.loop-t.invariant.stands.few c.loop-t.invariant.room in
+    let some = drawn-room c.args.shared.now.limit c.args.shared.now.board.now c.loop-t.worker.pass (view_of c.args.worker.now.pass) c.requires.ready.room c.loop-t.invariant.stands.board c.loop-t.invariant.stands.few c.loop-t.invariant.room in
     let calm = calm-drawn (tasks_of c.args.shared.now.board.now) c.draw.result (view_of c.loop-t.worker.pass) (view_of c.draw.new.pass) some c.draw.ensures.drawn in
-    drawn-room-left c.args.shared.now.limit (tasks_of c.args.shared.now.board.now) c.in-Some.t (view_of c.args.worker.now.pass) (view_of c.loop-t.worker.pass) (view_of c.draw.new.pass) c.requires.room c.loop-t.invariant.room beyond below left (calm-all (view_of c.loop-t.worker.pass) (view_of c.draw.new.pass) calm) some
+    record {
+      stands = stands-calm (g.W.Work.right c.args.shared.now.work.now) c.args.shared.now.limit c.args.shared.now.board.now c.loop-t.worker.pass c.draw.new.pass c.loop-t.worker.outputs c.loop-t.invariant.stands calm c.draw.ensures.board;
+      may = may-same c.loop-t.worker.pass c.draw.new.pass calm.streak c.draw.ensures.firm ∙ c.loop-t.invariant.may;
+      room = drawn-room-left c.args.shared.now.limit (tasks_of c.args.shared.now.board.now) c.in-Some.t (view_of c.args.worker.now.pass) (view_of c.loop-t.worker.pass) (view_of c.draw.new.pass) c.requires.ready.room c.loop-t.invariant.room beyond below left (calm-all (view_of c.loop-t.worker.pass) (view_of c.draw.new.pass) calm) some;
+      suits = subst (g.W.Work.suits c.args.shared.now.work.now) (sym c.loop-t.invariant.inputs) c.requires.ready.suits;
+    }
 
-pub try_task-requires-clause-may : goal.try_task-requires-clause-may
-try_task-requires-clause-may g c κs within =
-    let some = drawn-room c.args.shared.now.limit c.args.shared.now.board.now c.loop-t.worker.pass (view_of c.args.worker.now.pass) c.requires.room c.loop-t.invariant.stands.board c.loop-t.invariant.stands.few c.loop-t.invariant.room in
-    let calm = calm-drawn (tasks_of c.args.shared.now.board.now) c.draw.result (view_of c.loop-t.worker.pass) (view_of c.draw.new.pass) some c.draw.ensures.drawn in
-    may-same c.loop-t.worker.pass c.draw.new.pass calm.streak c.draw.ensures.firm ∙ c.loop-t.invariant.may
+pub returns-in_err-try_task-clause-left : goal.returns-in_err-try_task-clause-left
+returns-in_err-try_task-clause-left g c =
+    record {
+      stands = c.try_task.ensures.left.stands;
+      firm = c.try_task.ensures.left.firm ∙ c.draw.ensures.firm ∙ c.loop-t.invariant.firm;
+      works = search rules;
+      room = search rules;
+      inputs = c.try_task.ensures.left.inputs ∙ c.loop-t.invariant.inputs;
+      later = no-less-twice (g.H.Host.faults c.args.host.now) (g.H.Host.faults c.loop-t.host) (g.H.Host.faults c.try_task.new.host) c.loop-t.invariant.later c.try_task.ensures.left.later;
+    }
 
-pub try_task-requires-clause-suits : goal.try_task-requires-clause-suits
-try_task-requires-clause-suits g c κs within = subst (g.W.Work.suits c.args.shared.now.work.now) (sym c.loop-t.invariant.inputs) c.requires.suits
-
-pub returns-in_err-try_task-clause-firm : goal.returns-in_err-try_task-clause-firm
-returns-in_err-try_task-clause-firm g c = c.try_task.ensures.firm ∙ c.draw.ensures.firm ∙ c.loop-t.invariant.firm
-
-pub returns-in_err-try_task-clause-inputs : goal.returns-in_err-try_task-clause-inputs
-returns-in_err-try_task-clause-inputs g c = c.try_task.ensures.inputs ∙ c.loop-t.invariant.inputs
-
-pub returns-in_err-try_task-clause-later : goal.returns-in_err-try_task-clause-later
-returns-in_err-try_task-clause-later g c = let before = c.loop-t.invariant.later in let then = c.try_task.ensures.later in omega arith
-
-pub returns-in-Over-clause-firm : goal.returns-in-Over-clause-firm
-returns-in-Over-clause-firm g c = c.try_task.ensures.firm ∙ c.draw.ensures.firm ∙ c.loop-t.invariant.firm
-
-pub returns-in-Aside-clause-firm : goal.returns-in-Aside-clause-firm
-returns-in-Aside-clause-firm g c = c.try_task.ensures.firm ∙ c.draw.ensures.firm ∙ c.loop-t.invariant.firm
-
-pub returns-in-Over-clause-inputs : goal.returns-in-Over-clause-inputs
-returns-in-Over-clause-inputs g c = c.try_task.ensures.inputs ∙ c.loop-t.invariant.inputs
-
-pub returns-in-Aside-clause-inputs : goal.returns-in-Aside-clause-inputs
-returns-in-Aside-clause-inputs g c = c.try_task.ensures.inputs ∙ c.loop-t.invariant.inputs
-
-pub returns-in-Over-clause-later : goal.returns-in-Over-clause-later
-returns-in-Over-clause-later g c = let before = c.loop-t.invariant.later in let then = c.try_task.ensures.later in omega arith
-
-pub returns-in-Aside-clause-later : goal.returns-in-Aside-clause-later
-returns-in-Aside-clause-later g c = let before = c.loop-t.invariant.later in let then = c.try_task.ensures.later in omega arith
-
-pub returns-in-Over-clause-works : goal.returns-in-Over-clause-works
-returns-in-Over-clause-works g c =
-    let some = drawn-room c.args.shared.now.limit c.args.shared.now.board.now c.loop-t.worker.pass (view_of c.args.worker.now.pass) c.requires.room c.loop-t.invariant.stands.board c.loop-t.invariant.stands.few c.loop-t.invariant.room in
+pub returns-in-Over-clause-left : goal.returns-in-Over-clause-left
+returns-in-Over-clause-left g c =
+    let told : IsDraw (tasks_of c.args.shared.now.board.now) (view_of c.loop-t.worker.pass) (view_of c.draw.new.pass) (Some c.in-Some.t) = search rules in
+    let at = drawn-some (tasks_of c.args.shared.now.board.now) c.in-Some.t (view_of c.loop-t.worker.pass) (view_of c.draw.new.pass) told in
+    let beyond = at.beyond in
+    let below = at.below in
+    let known = at.known in
+    let left = at.room in
+    let some = drawn-room c.args.shared.now.limit c.args.shared.now.board.now c.loop-t.worker.pass (view_of c.args.worker.now.pass) c.requires.ready.room c.loop-t.invariant.stands.board c.loop-t.invariant.stands.few c.loop-t.invariant.room in
     let calm = calm-drawn (tasks_of c.args.shared.now.board.now) c.draw.result (view_of c.loop-t.worker.pass) (view_of c.draw.new.pass) some c.draw.ensures.drawn in
     let drawn = calm-works c.args.shared.now.wave (view_of c.loop-t.worker.pass) (view_of c.draw.new.pass) (tells (g.H.Host.faults c.loop-t.host) (g.H.Host.begun c.loop-t.host)) calm in
-    let then : Works c.args.shared.now.wave (view_of c.draw.new.pass) (view_of c.try_task.new.worker.pass) (tells (g.H.Host.faults c.loop-t.host) (g.H.Host.begun c.loop-t.host)) (tells (g.H.Host.faults c.try_task.new.host) (g.H.Host.begun c.try_task.new.host)) = search rules in
-    works-trans c.args.shared.now.wave _ _ _ _ _ _ (works-trans c.args.shared.now.wave _ _ _ _ _ _ c.loop-t.invariant.works drawn) then
+    let then : Works c.args.shared.now.wave (view_of c.draw.new.pass) (view_of c.try_task.new.worker.pass) (tells (g.H.Host.faults c.loop-t.host) (g.H.Host.begun c.loop-t.host)) (tells (g.H.Host.faults c.try_task.new.host) (g.H.Host.begun c.try_task.new.host)) = c.in_ok-try_task.ensures.left.works in
+    let spent : Spends 1 (view_of c.draw.new.pass) (view_of c.try_task.new.worker.pass) = c.in_ok-try_task.ensures.left.room in
+    let before = c.loop-t.invariant.room in
+    let all = calm-all (view_of c.loop-t.worker.pass) (view_of c.draw.new.pass) calm in
+    record {
+      stands = c.try_task.ensures.left.stands;
+      firm = c.try_task.ensures.left.firm ∙ c.draw.ensures.firm ∙ c.loop-t.invariant.firm;
+      works = works-trans c.args.shared.now.wave _ _ _ _ _ _ (works-trans c.args.shared.now.wave _ _ _ _ _ _ c.loop-t.invariant.works drawn) then;
+      room = omega arith;
+      inputs = c.try_task.ensures.left.inputs ∙ c.loop-t.invariant.inputs;
+      later = no-less-twice (g.H.Host.faults c.args.host.now) (g.H.Host.faults c.loop-t.host) (g.H.Host.faults c.try_task.new.host) c.loop-t.invariant.later c.try_task.ensures.left.later;
+    }
 
-pub returns-in-Aside-clause-works : goal.returns-in-Aside-clause-works
-returns-in-Aside-clause-works g c =
-    let some = drawn-room c.args.shared.now.limit c.args.shared.now.board.now c.loop-t.worker.pass (view_of c.args.worker.now.pass) c.requires.room c.loop-t.invariant.stands.board c.loop-t.invariant.stands.few c.loop-t.invariant.room in
+pub returns-in-Aside-clause-left : goal.returns-in-Aside-clause-left
+returns-in-Aside-clause-left g c =
+    let told : IsDraw (tasks_of c.args.shared.now.board.now) (view_of c.loop-t.worker.pass) (view_of c.draw.new.pass) (Some c.in-Some.t) = search rules in
+    let at = drawn-some (tasks_of c.args.shared.now.board.now) c.in-Some.t (view_of c.loop-t.worker.pass) (view_of c.draw.new.pass) told in
+    let beyond = at.beyond in
+    let below = at.below in
+    let known = at.known in
+    let left = at.room in
+    let some = drawn-room c.args.shared.now.limit c.args.shared.now.board.now c.loop-t.worker.pass (view_of c.args.worker.now.pass) c.requires.ready.room c.loop-t.invariant.stands.board c.loop-t.invariant.stands.few c.loop-t.invariant.room in
     let calm = calm-drawn (tasks_of c.args.shared.now.board.now) c.draw.result (view_of c.loop-t.worker.pass) (view_of c.draw.new.pass) some c.draw.ensures.drawn in
     let drawn = calm-works c.args.shared.now.wave (view_of c.loop-t.worker.pass) (view_of c.draw.new.pass) (tells (g.H.Host.faults c.loop-t.host) (g.H.Host.begun c.loop-t.host)) calm in
-    let then : Works c.args.shared.now.wave (view_of c.draw.new.pass) (view_of c.try_task.new.worker.pass) (tells (g.H.Host.faults c.loop-t.host) (g.H.Host.begun c.loop-t.host)) (tells (g.H.Host.faults c.try_task.new.host) (g.H.Host.begun c.try_task.new.host)) = search rules in
-    works-trans c.args.shared.now.wave _ _ _ _ _ _ (works-trans c.args.shared.now.wave _ _ _ _ _ _ c.loop-t.invariant.works drawn) then
-
-pub returns-in-Over-clause-room : goal.returns-in-Over-clause-room
-returns-in-Over-clause-room g c =
-    let told : IsDraw (tasks_of c.args.shared.now.board.now) (view_of c.loop-t.worker.pass) (view_of c.draw.new.pass) (Some c.in-Some.t) = search rules in
-    let at = drawn-some (tasks_of c.args.shared.now.board.now) c.in-Some.t (view_of c.loop-t.worker.pass) (view_of c.draw.new.pass) told in
-    let beyond = at.beyond in
-    let below = at.below in
-    let known = at.known in
-    let left = at.room in
-    let some = drawn-room c.args.shared.now.limit c.args.shared.now.board.now c.loop-t.worker.pass (view_of c.args.worker.now.pass) c.requires.room c.loop-t.invariant.stands.board c.loop-t.invariant.stands.few c.loop-t.invariant.room in
-    let calm = calm-drawn (tasks_of c.args.shared.now.board.now) c.draw.result (view_of c.loop-t.worker.pass) (view_of c.draw.new.pass) some c.draw.ensures.drawn in
-    let spent : Spends 1 (view_of c.draw.new.pass) (view_of c.try_task.new.worker.pass) = search rules in
+    let then : Works c.args.shared.now.wave (view_of c.draw.new.pass) (view_of c.try_task.new.worker.pass) (tells (g.H.Host.faults c.loop-t.host) (g.H.Host.begun c.loop-t.host)) (tells (g.H.Host.faults c.try_task.new.host) (g.H.Host.begun c.try_task.new.host)) = c.in_ok-try_task.ensures.left.works in
+    let spent : Spends 1 (view_of c.draw.new.pass) (view_of c.try_task.new.worker.pass) = c.in_ok-try_task.ensures.left.room in
     let before = c.loop-t.invariant.room in
     let all = calm-all (view_of c.loop-t.worker.pass) (view_of c.draw.new.pass) calm in
-    omega arith
-
-pub returns-in-Aside-clause-room : goal.returns-in-Aside-clause-room
-returns-in-Aside-clause-room g c =
-    let told : IsDraw (tasks_of c.args.shared.now.board.now) (view_of c.loop-t.worker.pass) (view_of c.draw.new.pass) (Some c.in-Some.t) = search rules in
-    let at = drawn-some (tasks_of c.args.shared.now.board.now) c.in-Some.t (view_of c.loop-t.worker.pass) (view_of c.draw.new.pass) told in
-    let beyond = at.beyond in
-    let below = at.below in
-    let known = at.known in
-    let left = at.room in
-    let some = drawn-room c.args.shared.now.limit c.args.shared.now.board.now c.loop-t.worker.pass (view_of c.args.worker.now.pass) c.requires.room c.loop-t.invariant.stands.board c.loop-t.invariant.stands.few c.loop-t.invariant.room in
-    let calm = calm-drawn (tasks_of c.args.shared.now.board.now) c.draw.result (view_of c.loop-t.worker.pass) (view_of c.draw.new.pass) some c.draw.ensures.drawn in
-    let spent : Spends 1 (view_of c.draw.new.pass) (view_of c.try_task.new.worker.pass) = search rules in
-    let before = c.loop-t.invariant.room in
-    let all = calm-all (view_of c.loop-t.worker.pass) (view_of c.draw.new.pass) calm in
-    omega arith
+    record {
+      stands = c.try_task.ensures.left.stands;
+      firm = c.try_task.ensures.left.firm ∙ c.draw.ensures.firm ∙ c.loop-t.invariant.firm;
+      works = works-trans c.args.shared.now.wave _ _ _ _ _ _ (works-trans c.args.shared.now.wave _ _ _ _ _ _ c.loop-t.invariant.works drawn) then;
+      room = omega arith;
+      inputs = c.try_task.ensures.left.inputs ∙ c.loop-t.invariant.inputs;
+      later = no-less-twice (g.H.Host.faults c.args.host.now) (g.H.Host.faults c.loop-t.host) (g.H.Host.faults c.try_task.new.host) c.loop-t.invariant.later c.try_task.ensures.left.later;
+    }
 
 pub loop-t-smaller : goal.loop-t-smaller
 loop-t-smaller g c =
@@ -135,7 +112,7 @@ loop-t-smaller g c =
     let below = at.below in
     let known = at.known in
     let left = at.room in
-    let then : Works c.args.shared.now.wave (view_of c.draw.new.pass) (view_of c.try_task.new.worker.pass) (tells (g.H.Host.faults c.loop-t.host) (g.H.Host.begun c.loop-t.host)) (tells (g.H.Host.faults c.try_task.new.host) (g.H.Host.begun c.try_task.new.host)) = search rules in
+    let then : Works c.args.shared.now.wave (view_of c.draw.new.pass) (view_of c.try_task.new.worker.pass) (tells (g.H.Host.faults c.loop-t.host) (g.H.Host.begun c.loop-t.host)) (tells (g.H.Host.faults c.try_task.new.host) (g.H.Host.begun c.try_task.new.host)) = c.in_ok-try_task.ensures.left.works in
     let stays = then.notes.known in
     omega arith
 
@@ -147,61 +124,47 @@ loop-t-preserved g c =
     let below = at.below in
     let known = at.known in
     let left = at.room in
-    let some = drawn-room c.args.shared.now.limit c.args.shared.now.board.now c.loop-t.worker.pass (view_of c.args.worker.now.pass) c.requires.room c.loop-t.invariant.stands.board c.loop-t.invariant.stands.few c.loop-t.invariant.room in
+    let some = drawn-room c.args.shared.now.limit c.args.shared.now.board.now c.loop-t.worker.pass (view_of c.args.worker.now.pass) c.requires.ready.room c.loop-t.invariant.stands.board c.loop-t.invariant.stands.few c.loop-t.invariant.room in
     let calm = calm-drawn (tasks_of c.args.shared.now.board.now) c.draw.result (view_of c.loop-t.worker.pass) (view_of c.draw.new.pass) some c.draw.ensures.drawn in
     let drawn = calm-works c.args.shared.now.wave (view_of c.loop-t.worker.pass) (view_of c.draw.new.pass) (tells (g.H.Host.faults c.loop-t.host) (g.H.Host.begun c.loop-t.host)) calm in
-    let then : Works c.args.shared.now.wave (view_of c.draw.new.pass) (view_of c.try_task.new.worker.pass) (tells (g.H.Host.faults c.loop-t.host) (g.H.Host.begun c.loop-t.host)) (tells (g.H.Host.faults c.try_task.new.host) (g.H.Host.begun c.try_task.new.host)) = search rules in
-    let spent : Spends 1 (view_of c.draw.new.pass) (view_of c.try_task.new.worker.pass) = search rules in
+    let then : Works c.args.shared.now.wave (view_of c.draw.new.pass) (view_of c.try_task.new.worker.pass) (tells (g.H.Host.faults c.loop-t.host) (g.H.Host.begun c.loop-t.host)) (tells (g.H.Host.faults c.try_task.new.host) (g.H.Host.begun c.try_task.new.host)) = c.in_ok-try_task.ensures.left.works in
+    let spent : Spends 1 (view_of c.draw.new.pass) (view_of c.try_task.new.worker.pass) = c.in_ok-try_task.ensures.left.room in
     let before = c.loop-t.invariant.room in
     let all = calm-all (view_of c.loop-t.worker.pass) (view_of c.draw.new.pass) calm in
     let stays = then.notes.known in
     let went : Went c.args.shared.now.limit c.try_task.new.worker.pass (knows_winner c.in-Some.t (view_of c.try_task.new.worker.pass) ≡ true) course.On = search rules in
-    let later = c.try_task.ensures.later in
+    let later = c.try_task.ensures.left.later in
     let was = c.loop-t.invariant in
     record {
-      stands = c.try_task.ensures.stands;
-      firm = c.try_task.ensures.firm ∙ c.draw.ensures.firm ∙ c.loop-t.invariant.firm;
+      stands = c.try_task.ensures.left.stands;
+      firm = c.try_task.ensures.left.firm ∙ c.draw.ensures.firm ∙ c.loop-t.invariant.firm;
       works = works-trans c.args.shared.now.wave _ _ _ _ _ _ (works-trans c.args.shared.now.wave _ _ _ _ _ _ was.works drawn) then;
       room = omega arith;
       may = went.1;
-      inputs = c.try_task.ensures.inputs ∙ was.inputs;
+      inputs = c.try_task.ensures.left.inputs ∙ was.inputs;
       later = let p = was.later in omega arith;
     }
 
-pub returns-clause-stands : goal.returns-clause-stands
-returns-clause-stands g c =
-    let some = drawn-room c.args.shared.now.limit c.args.shared.now.board.now c.loop-t.worker.pass (view_of c.args.worker.now.pass) c.requires.room c.loop-t.invariant.stands.board c.loop-t.invariant.stands.few c.loop-t.invariant.room in
-    let calm = calm-drawn (tasks_of c.args.shared.now.board.now) c.draw.result (view_of c.loop-t.worker.pass) (view_of c.draw.new.pass) some c.draw.ensures.drawn in
-    stands-calm (g.W.Work.right c.args.shared.now.work.now) c.args.shared.now.limit c.args.shared.now.board.now c.loop-t.worker.pass c.draw.new.pass c.loop-t.worker.outputs c.loop-t.invariant.stands calm c.draw.ensures.board
-
-pub returns-clause-firm : goal.returns-clause-firm
-returns-clause-firm g c = c.draw.ensures.firm ∙ c.loop-t.invariant.firm
-
-pub returns-clause-works : goal.returns-clause-works
-returns-clause-works g c =
-    let some = drawn-room c.args.shared.now.limit c.args.shared.now.board.now c.loop-t.worker.pass (view_of c.args.worker.now.pass) c.requires.room c.loop-t.invariant.stands.board c.loop-t.invariant.stands.few c.loop-t.invariant.room in
-    let calm = calm-drawn (tasks_of c.args.shared.now.board.now) c.draw.result (view_of c.loop-t.worker.pass) (view_of c.draw.new.pass) some c.draw.ensures.drawn in
-    let drawn = calm-works c.args.shared.now.wave (view_of c.loop-t.worker.pass) (view_of c.draw.new.pass) (tells (g.H.Host.faults c.loop-t.host) (g.H.Host.begun c.loop-t.host)) calm in
-    works-trans c.args.shared.now.wave _ _ _ _ _ _ c.loop-t.invariant.works drawn
-
 pub returns-clause-drawn : goal.returns-clause-drawn
 returns-clause-drawn g c =
-    let some = drawn-room c.args.shared.now.limit c.args.shared.now.board.now c.loop-t.worker.pass (view_of c.args.worker.now.pass) c.requires.room c.loop-t.invariant.stands.board c.loop-t.invariant.stands.few c.loop-t.invariant.room in
+    let some = drawn-room c.args.shared.now.limit c.args.shared.now.board.now c.loop-t.worker.pass (view_of c.args.worker.now.pass) c.requires.ready.room c.loop-t.invariant.stands.board c.loop-t.invariant.stands.few c.loop-t.invariant.room in
     let calm = calm-drawn (tasks_of c.args.shared.now.board.now) c.draw.result (view_of c.loop-t.worker.pass) (view_of c.draw.new.pass) some c.draw.ensures.drawn in
     let told : IsDraw (tasks_of c.args.shared.now.board.now) (view_of c.loop-t.worker.pass) (view_of c.draw.new.pass) None = search rules in
     (drawn-none (tasks_of c.args.shared.now.board.now) (view_of c.loop-t.worker.pass) (view_of c.draw.new.pass) told, may-same c.loop-t.worker.pass c.draw.new.pass calm.streak c.draw.ensures.firm ∙ c.loop-t.invariant.may)
 
-pub returns-clause-room : goal.returns-clause-room
-returns-clause-room g c =
-    let some = drawn-room c.args.shared.now.limit c.args.shared.now.board.now c.loop-t.worker.pass (view_of c.args.worker.now.pass) c.requires.room c.loop-t.invariant.stands.board c.loop-t.invariant.stands.few c.loop-t.invariant.room in
+pub returns-clause-left : goal.returns-clause-left
+returns-clause-left g c =
+    let some = drawn-room c.args.shared.now.limit c.args.shared.now.board.now c.loop-t.worker.pass (view_of c.args.worker.now.pass) c.requires.ready.room c.loop-t.invariant.stands.board c.loop-t.invariant.stands.few c.loop-t.invariant.room in
     let calm = calm-drawn (tasks_of c.args.shared.now.board.now) c.draw.result (view_of c.loop-t.worker.pass) (view_of c.draw.new.pass) some c.draw.ensures.drawn in
+    let drawn = calm-works c.args.shared.now.wave (view_of c.loop-t.worker.pass) (view_of c.draw.new.pass) (tells (g.H.Host.faults c.loop-t.host) (g.H.Host.begun c.loop-t.host)) calm in
     let left = room-drawn (tasks_of c.args.shared.now.board.now) c.draw.result (view_of c.loop-t.worker.pass) (view_of c.draw.new.pass) c.draw.ensures.drawn in
     let before = c.loop-t.invariant.room in
     let all = calm-all (view_of c.loop-t.worker.pass) (view_of c.draw.new.pass) calm in
-    omega arith
-
-pub returns-clause-inputs : goal.returns-clause-inputs
-returns-clause-inputs g c = c.loop-t.invariant.inputs
-
-pub returns-clause-later : goal.returns-clause-later
-returns-clause-later g c = c.loop-t.invariant.later
+    record {
+      stands = stands-calm (g.W.Work.right c.args.shared.now.work.now) c.args.shared.now.limit c.args.shared.now.board.now c.loop-t.worker.pass c.draw.new.pass c.loop-t.worker.outputs c.loop-t.invariant.stands calm c.draw.ensures.board;
+      firm = c.draw.ensures.firm ∙ c.loop-t.invariant.firm;
+      works = works-trans c.args.shared.now.wave _ _ _ _ _ _ c.loop-t.invariant.works drawn;
+      room = omega arith;
+      inputs = c.loop-t.invariant.inputs;
+      later = c.loop-t.invariant.later;
+    }
