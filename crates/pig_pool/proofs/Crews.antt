@@ -1,6 +1,6 @@
 -- A pass cut in two, what two workers have, joined, and two rounds.
 use Rattle.std.proofs.Common.{◌≡◌, ℕ, ◌+◌, ◌-◌, ◌*◌, ◌/◌, ◌^◌, ◌<◌, ◌≤◌, Bool, true, false, ◌&&◌, Option, None, List, [], ◌∷◌, ◌++◌, cond, map, length, get_or, set, refl, sym, ◌∙◌, ap, subst, arith, zero, suc}
-use Rattle.std.specs.Prelude.{◌==◌, nat_le, count_by, Result, Ok, Err, IfOk, OnOk}
+use Rattle.std.specs.Prelude.{◌==◌, nat_le, count_by, Result, Ok, Err, IfOk}
 use Rattle.std.specs.List.{sum_by}
 use Rattle.std.specs.Option.{option_map}
 use Rattle.std.proofs.lemmas.Bool.{or_left, or_right, false_from_ne_true, false≢true}
@@ -24,7 +24,7 @@ use Rattle.pig_pool.specs.Begins.{Tells, tells, Turn, turn_begins, turn_lost, is
 use Rattle.pig_pool.specs.Workers.{HasWon, Works, IsDone, Rested, Spends, saw_limit, worker_room, worker_cost}
 use Rattle.pig_pool.specs.Crew.{IsReady, CrewWorks, IsEnded, Rose, total}
 use Rattle.pig_pool.proofs.Begins.{told_twice, next-append, next-rises, lost-append, lost-rises}
-use Rattle.pig_pool.proofs.Steps.{IsCalm, notes-trans, works-trans, calm-all, calm-own}
+use Rattle.pig_pool.proofs.Steps.{IsCalm, notes-trans, calm-all, calm-own}
 
 -- hosts in two halves
 pub record IsHalved (depth front back : ℕ) : Type 0 where
@@ -268,10 +268,6 @@ ok_weaker (Err e) P S p f = p
 pub ok_both : {A E : Type 0} (m : Result A E) (P Q : A → Type 0) (S : A → Type 0) → IfOk m P → IfOk m Q → ((x : A) → P x → Q x → S x) → IfOk m S
 ok_both (Ok x) P Q S p q f = f x p q
 ok_both (Err e) P Q S p q f = p
-
-pub ok_works : {A E : Type 0} (m : Result A E) (wave : ℕ) (u v w : View) (x y z : Tells) → Works wave u v x y → OnOk m (Works wave v w y z) → OnOk m (Works wave u w x z)
-ok_works (Ok r) wave u v w x y z a b = works-trans wave u v w x y z a b
-ok_works (Err e) wave u v w x y z a b = b
 
 -- what holds of a result by five facts
 pub ok_five : {A E : Type 0} (m : Result A E) (P Q R S T U : A → Type 0) → IfOk m P → IfOk m Q → IfOk m R → IfOk m S → IfOk m T → ((x : A) → P x → Q x → R x → S x → T x → U x) → IfOk m U
