@@ -3,17 +3,14 @@ use Rattle.std.specs.Prelude.{◌≡◌, ◌≢◌, ◌<◌, ◌+◌, ◌==◌, 
 use Rattle.std.proofs.Common.{ap, sym, subst, ◌∙◌, arith, inl, inr, true≢false}
 use Rattle.std.specs.List.{AllByRecursion, cons_option, filter, filter_map, find, list_any, range_with_len}
 use Rattle.std.specs.Option.{option_map_or}
-use Rattle.std.proofs.Math.Nat.{eq-or-lt_of_le}
 use Rattle.std.proofs.lemmas.Bool.{cases_lt, eq-eqb}
-use Rattle.std.proofs.lemmas.List.{append_assoc, append-nil, get_or_append_left, length-append, map-append, take_all}
+use Rattle.std.proofs.lemmas.List.{append_assoc, append-nil, length-append, map-append, take_all}
 use Rattle.std.proofs.lemmas.List.Elements.{filter-append, filter_map-append}
 use Rattle.std.proofs.lemmas.Option.{slice_get_within}
-use Rattle.std.proofs.Math.Seq.{get_or-append_seam}
 use Rattle.pig_value.specs.declared.inputs.Input.{Input}
 use Rattle.pig_value.specs.declared.outcomes.Kept.{Kept}
 use Rattle.pig_value.proofs.list_laws.Indexing.{more_taken}
 use Rattle.pig_value.specs.Trees.{Tree, rows_tree}
-use Rattle.pig_value.specs.Valid.{AreRows}
 use Rattle.pig_plan.proofs.Meanings.{live_input}
 use Rattle.pig_plan.proofs.Lower.{names_lower}
 use Rattle.pig_plan.specs.Meaning.{AreKept, kept_at, meaning, width_at}
@@ -22,16 +19,17 @@ use Rattle.pig_plan.specs.Plans.{Plan, PlanNode, PlanOp, p_load, p_filter, p_for
 use Rattle.pig_plan.specs.Valid.{IsPlan}
 use Rattle.pig_plain.proofs.FoundRows.{answers_node, bare_answers, first_are_kept}
 use Rattle.pig_plain.proofs.PlanFacts.{names_no_store, no_twin}
-use Rattle.pig_plain.proofs.Tables.{none_past, table_is}
+use Rattle.pig_plain.proofs.Tables.{at_end, at_front}
 use Rattle.pig_plain.specs.Answering.{AnswersFor, EachAnswers, IsAnswer, stored_of, stored_relations}
 use Rattle.pig_plain.specs.declared.answering.Kind.{Kind}
 use Rattle.pig_plain.specs.declared.answering.Kind.TheVariants.{Stored, Standing}
 use Rattle.pig_plain.specs.Kinds.{kind_in, limit_kind}
 use Rattle.pig_plain.specs.Coming.{relation_rows}
 use Rattle.pig_plain.specs.declared.relation.Relation.{Relation}
-use Rattle.pig_plain.specs.Operating.{AreValues, found_rows, no_rows, table_rows}
+use Rattle.pig_plain.specs.Operating.{found_rows, no_rows}
 use Rattle.pig_plain.specs.SoFar.{IsSoFar, bare_before}
-use Rattle.pig_plain.specs.Uses.{AreUses}
+use Rattle.pig_plain.specs.Tables.{Held, IsUsed, and_relation, rows_of}
+use Rattle.pig_plain.specs.Uses.{AreLate}
 
 -- ---- lists
 
@@ -66,28 +64,6 @@ one_more a (suc n) =
     let next : suc n + 1 ≡ suc (n + 1) = omega arith in
     let same : a + 1 + n ≡ a + suc n = omega arith in
     ap (range_with_len a) next ∙ ap (λ ms. a ∷ ms) (one_more (a + 1) n ∙ ap (λ m. range_with_len (a + 1) n ++ m ∷ []) same)
-
--- ---- a further entry of a table
-
-at_front : (table : List Relation) (rows : Relation) (k : ℕ) → k < length table → table_rows (table ++ rows ∷ []) k ≡ table_rows table k
-at_front table rows k h = table_is (table ++ rows ∷ []) k ∙ ap relation_rows (get_or_append_left table (rows ∷ []) no_rows k h) ∙ sym (table_is table k)
-
-at_end : (table : List Relation) (rows : Relation) (i : ℕ) → length table ≡ i → table_rows (table ++ rows ∷ []) i ≡ relation_rows rows
-at_end table rows i long = ap (table_rows (table ++ rows ∷ [])) (sym long) ∙ table_is (table ++ rows ∷ []) (length table) ∙ ap relation_rows (get_or-append_seam table rows [] no_rows)
-
-past_end : (table : List Relation) (rows : Relation) (k : ℕ) → length table < k → table_rows (table ++ rows ∷ []) k ≡ []
-past_end table rows k h =
-    let long = length-append table (rows ∷ []) in
-    none_past (table ++ rows ∷ []) k (omega (arith, h, long))
-
-all_values : (table : List Relation) (rows : Relation) → AreValues table → AreRows (relation_rows rows) → AreValues (table ++ rows ∷ [])
-all_values table rows h g k = elim (cases_lt k (length table)) [
-  | inl front ↦ subst AreRows (sym (at_front table rows k front)) (h k)
-  | inr from ↦ elim (eq-or-lt_of_le from) [
-    | inl same ↦ subst AreRows (sym (at_end table rows k same)) g
-    | inr past ↦ subst AreRows (sym (past_end table rows k past)) tt
-  ]
-]
 
 -- ---- what was stored
 
@@ -186,21 +162,20 @@ pub record IsLooked (plan : Plan) (i k : ℕ) : Type 0 where
   pub named : names other.op k ≡ true
 
 module _ (plan : Plan) (valid : IsPlan plan) (inputs : List Input) (i : ℕ) (node : PlanNode) (at : slice_get plan i ≡ Some node)
-    (marks : List Bool) (ends : List ℕ) (uses : AreUses plan marks ends)
-    (table : List Relation) (kept : List Kept) (stores : List (List (List Tree))) (so_far : IsSoFar plan inputs i table kept stores) where
+    (before : Held) (kept : List Kept) (stores : List (List (List Tree))) (so_far : IsSoFar plan inputs i before kept stores) where
   abbrev Looked : ℕ → Type 0
   Looked = IsLooked plan i
 
-  not_last : (k : ℕ) → Looked k → get_or ends k 0 ≢ i + 1
-  not_last k l e = let late = uses.late l.n k l.other (slice_get_within plan l.n l.other l.found) l.found l.live l.named in let after = l.after in absurd (omega (arith, late, e, after))
+  not_last : (k : ℕ) → Looked k → get_or before.ends k 0 ≢ length before.relations + 1
+  not_last k l e = let size = so_far.size in let late = so_far.late l.n k l.other (slice_get_within plan l.n l.other l.found) l.found l.live l.named in let after = l.after in absurd (omega (arith, late, e, after, size))
 
   unstored_more : is_store node.op ≡ false → stored_relations (take (i + 1) plan) ≡ stored_relations (take i plan)
   unstored_more h =
       stored_more plan i node at ∙ ap (λ o. stored_relations (take i plan) ++ cons_option o []) (unstored node.op h) ∙ append-nil (stored_relations (take i plan))
 
-  module _ (next : List Relation) (new : List Kept) (stored : List (List (List Tree))) (size : length next ≡ i + 1) (values : AreValues next)
-      (front : (k : ℕ) → k < i → Looked k → table_rows next k ≡ table_rows table k)
-      (own : (more : List Kept) → Looked i → AnswersFor plan inputs (kept ++ (new ++ more)) i (table_rows next i))
+  module _ (next : Held) (new : List Kept) (stored : List (List (List Tree))) (size : length next.relations ≡ i + 1) (ends : next.ends ≡ before.ends)
+      (front : (k : ℕ) → k < i → Looked k → rows_of next k ≡ rows_of before k)
+      (own : (more : List Kept) → Looked i → AnswersFor plan inputs (kept ++ (new ++ more)) i (rows_of next i))
       (each_stored : (more : List Kept) → EachAnswers plan inputs (kept ++ (new ++ more)) (stored_relations (take (i + 1) plan)) stored)
       (limit : (more : List Kept) (statement input count : ℕ) → node ≡ record { op = p_limit input count; statement = statement } → is_live plan i ≡ true → is_sorted plan input ≡ false
       → AreKept count (meaning plan inputs (kept ++ (new ++ more)) input) (kept_at (kept ++ (new ++ more)) statement))
@@ -211,19 +186,19 @@ module _ (plan : Plan) (valid : IsPlan plan) (inputs : List Input) (i : ℕ) (no
     pub advance : IsSoFar plan inputs (i + 1) next (kept ++ new) stored
     advance = record {
       size = size;
-      values = values;
+      late = subst (AreLate plan (length plan)) (sym ends) so_far.late;
       each = λ more k n other below from found live named.
           let looked : Looked k = record { n = n; other = other; after = omega (arith, from); found = found; live = live; named = named } in
-          subst (λ all. AnswersFor plan inputs all k (table_rows next k)) (sym (behind more)) (elim (cases_lt k i) [
-            | inl before ↦ subst (AnswersFor plan inputs (kept ++ (new ++ more)) k) (sym (front k before looked)) (so_far.each (new ++ more) k n other before (omega (arith, from)) found live named)
+          subst (λ all. AnswersFor plan inputs all k (rows_of next k)) (sym (behind more)) (elim (cases_lt k i) [
+            | inl earlier ↦ subst (AnswersFor plan inputs (kept ++ (new ++ more)) k) (sym (front k earlier looked)) (so_far.each (new ++ more) k n other earlier (omega (arith, from)) found live named)
             | inr late ↦
                 let same : i ≡ k = omega (arith, below, late) in
-                subst (λ m. AnswersFor plan inputs (kept ++ (new ++ more)) m (table_rows next m)) same (own more (subst Looked (sym same) looked))
+                subst (λ m. AnswersFor plan inputs (kept ++ (new ++ more)) m (rows_of next m)) same (own more (subst Looked (sym same) looked))
           ]);
       stored = λ more. subst (λ all. EachAnswers plan inputs all (stored_relations (take (i + 1) plan)) stored) (sym (behind more)) (each_stored more);
       limits = λ more k statement input count below stands live unsorted.
           subst (λ all. AreKept count (meaning plan inputs all input) (kept_at all statement)) (sym (behind more)) (elim (cases_lt k i) [
-            | inl before ↦ so_far.limits (new ++ more) k statement input count before stands live unsorted
+            | inl earlier ↦ so_far.limits (new ++ more) k statement input count earlier stands live unsorted
             | inr late ↦
                 let same : i ≡ k = omega (arith, below, late) in
                 limit more statement input count (some_injective (sym at ∙ ap (slice_get plan) same ∙ stands)) (ap (is_live plan) same ∙ live) unsorted
@@ -232,62 +207,61 @@ module _ (plan : Plan) (valid : IsPlan plan) (inputs : List Input) (i : ℕ) (no
     }
 
   -- a dead node is looked at by none
-  pub dead_step : is_live plan i ≡ false → IsSoFar plan inputs (i + 1) (table ++ no_rows ∷ []) kept stores
+  pub dead_step : is_live plan i ≡ false → IsSoFar plan inputs (i + 1) (and_relation no_rows before) kept stores
   dead_step dead =
       let none : bare_of plan i ≡ [] = bare_dead plan i dead in
-      subst (λ ks. IsSoFar plan inputs (i + 1) (table ++ no_rows ∷ []) ks stores) (append-nil kept)
-      (advance (table ++ no_rows ∷ []) [] stores (length-append table (no_rows ∷ []) ∙ ap (λ n. n + 1) so_far.size) (all_values table no_rows so_far.values tt)
-      (λ k before l. at_front table no_rows k (let s = so_far.size in omega (arith, before, s)))
+      subst (λ ks. IsSoFar plan inputs (i + 1) (and_relation no_rows before) ks stores) (append-nil kept)
+      (advance (and_relation no_rows before) [] stores (length-append before.relations (no_rows ∷ []) ∙ ap (λ n. n + 1) so_far.size) refl
+      (λ k below l. at_front before.relations no_rows k (let s = so_far.size in omega (arith, below, s)))
       (λ more l. absurd (true≢false (sym (live_input plan l.n l.other l.found l.live i l.after node at l.named) ∙ dead)))
       (λ more. subst (λ ks. EachAnswers plan inputs (kept ++ more) ks stores) (sym (unstored_more (dead_store plan i node at dead))) (so_far.stored more))
       (λ more statement input count is live unsorted. absurd (true≢false (sym live ∙ dead)))
       (ap (map (λ k. k.statement)) (append-nil kept) ∙ so_far.entries ∙ sym (ap (map (λ n. n.statement)) (ap (λ ns. bare_before plan i ++ ns) none ∙ append-nil (bare_before plan i)))))
 
   -- the rows of a live node, found on the rows of the nodes before
-  module _ (live : is_live plan i ≡ true) (rest : List Relation) (size : length rest ≡ length table) (values : AreValues rest)
-      (stays : (k : ℕ) → get_or ends k 0 ≢ i + 1 → table_rows rest k ≡ table_rows table k)
-      (rows : Relation) (is : relation_rows rows ≡ found_rows inputs (width_at plan) node.op (table_rows table)) (valid_rows : AreRows (relation_rows rows)) where
-    inputs_answer : (more : List Kept) → AllByRecursion (λ k. AnswersFor plan inputs (kept ++ more) k (table_rows table k)) (inputs_of node.op)
+  module _ (live : is_live plan i ≡ true) (after : Held) (used : IsUsed before after)
+      (rows : Relation) (is : relation_rows rows ≡ found_rows inputs (width_at plan) node.op (rows_of before)) where
+    inputs_answer : (more : List Kept) → AllByRecursion (λ k. AnswersFor plan inputs (kept ++ more) k (rows_of before k)) (inputs_of node.op)
     inputs_answer more =
-        both_of (λ k. k < i) (λ k. names node.op k ≡ true) (λ k. AnswersFor plan inputs (kept ++ more) k (table_rows table k)) (inputs_of node.op)
+        both_of (λ k. k < i) (λ k. names node.op k ≡ true) (λ k. AnswersFor plan inputs (kept ++ more) k (rows_of before k)) (inputs_of node.op)
         (λ k below named. so_far.each more k i node below (omega arith) at live named) (names_lower plan valid i node at) (each_named (λ k. names node.op k ≡ true) (inputs_of node.op) (λ k h. h))
 
-    longer : (last : Relation) → length (rest ++ last ∷ []) ≡ i + 1
-    longer last = length-append rest (last ∷ []) ∙ ap (λ n. n + 1) (size ∙ so_far.size)
+    longer : (last : Relation) → length (after.relations ++ last ∷ []) ≡ i + 1
+    longer last = length-append after.relations (last ∷ []) ∙ ap (λ n. n + 1) (used.size ∙ so_far.size)
 
-    end : length rest ≡ i
-    end = size ∙ so_far.size
+    end : length after.relations ≡ i
+    end = used.size ∙ so_far.size
 
-    front : (last : Relation) (k : ℕ) → k < i → Looked k → table_rows (rest ++ last ∷ []) k ≡ table_rows table k
-    front last k before l = at_front rest last k (omega (arith, before, end)) ∙ stays k (not_last k l)
+    front : (last : Relation) (k : ℕ) → k < i → Looked k → rows_of (and_relation last after) k ≡ rows_of before k
+    front last k below l = at_front after.relations last k (omega (arith, below, end)) ∙ used.later k (not_last k l)
 
     -- most nodes: their rows stand for later nodes
-    pub live_step : is_store node.op ≡ false → is_bare (is_sorted plan) node.op ≡ false → IsSoFar plan inputs (i + 1) (rest ++ rows ∷ []) kept stores
+    pub live_step : is_store node.op ≡ false → is_bare (is_sorted plan) node.op ≡ false → IsSoFar plan inputs (i + 1) (and_relation rows after) kept stores
     live_step kind full =
         let none : bare_of plan i ≡ [] = bare_none plan i node at full in
-        subst (λ ks. IsSoFar plan inputs (i + 1) (rest ++ rows ∷ []) ks stores) (append-nil kept)
-        (advance (rest ++ rows ∷ []) [] stores (longer rows) (all_values rest rows values valid_rows) (front rows)
-        (λ more l. subst (AnswersFor plan inputs (kept ++ more) i) (sym (at_end rest rows i end))
-        (answers_node plan valid i node at inputs (kept ++ more) (table_rows table) (relation_rows rows) is (inputs_answer more) full))
+        subst (λ ks. IsSoFar plan inputs (i + 1) (and_relation rows after) ks stores) (append-nil kept)
+        (advance (and_relation rows after) [] stores (longer rows) used.ends (front rows)
+        (λ more l. subst (AnswersFor plan inputs (kept ++ more) i) (sym (at_end after.relations rows i end))
+        (answers_node plan valid i node at inputs (kept ++ more) (rows_of before) (relation_rows rows) is (inputs_answer more) full))
         (λ more. subst (λ ks. EachAnswers plan inputs (kept ++ more) ks stores) (sym (unstored_more kind)) (so_far.stored more))
         (λ more statement input count same alive unsorted.
         absurd (true≢false (sym (ap not unsorted) ∙ sym (ap (λ n. is_bare (is_sorted plan) n.op) same) ∙ full)))
         (ap (map (λ k. k.statement)) (append-nil kept) ∙ so_far.entries ∙ sym (ap (map (λ n. n.statement)) (ap (λ ns. bare_before plan i ++ ns) none ∙ append-nil (bare_before plan i)))))
 
     -- a STORE: its rows are stored, and no node looks at it
-    pub store_step : (input : ℕ) (path : List ℕ) (delim : ℕ) → node.op ≡ p_store input path delim → IsSoFar plan inputs (i + 1) (rest ++ no_rows ∷ []) kept (stores ++ relation_rows rows ∷ [])
+    pub store_step : (input : ℕ) (path : List ℕ) (delim : ℕ) → node.op ≡ p_store input path delim → IsSoFar plan inputs (i + 1) (and_relation no_rows after) kept (stores ++ relation_rows rows ∷ [])
     store_step input path delim kind =
         let full : is_bare (is_sorted plan) node.op ≡ false = ap (is_bare (is_sorted plan)) kind in
         let none : bare_of plan i ≡ [] = bare_none plan i node at full in
         let relations : stored_relations (take (i + 1) plan) ≡ stored_relations (take i plan) ++ input ∷ [] =
         stored_more plan i node at ∙ ap (λ o. stored_relations (take i plan) ++ cons_option (stored_of o) []) kind in
-        let found : relation_rows rows ≡ table_rows table input = is ∙ ap (λ o. found_rows inputs (width_at plan) o (table_rows table)) kind in
-        subst (λ ks. IsSoFar plan inputs (i + 1) (rest ++ no_rows ∷ []) ks (stores ++ relation_rows rows ∷ [])) (append-nil kept)
-        (advance (rest ++ no_rows ∷ []) [] (stores ++ relation_rows rows ∷ []) (longer no_rows) (all_values rest no_rows values tt) (front no_rows)
+        let found : relation_rows rows ≡ rows_of before input = is ∙ ap (λ o. found_rows inputs (width_at plan) o (rows_of before)) kind in
+        subst (λ ks. IsSoFar plan inputs (i + 1) (and_relation no_rows after) ks (stores ++ relation_rows rows ∷ [])) (append-nil kept)
+        (advance (and_relation no_rows after) [] (stores ++ relation_rows rows ∷ []) (longer no_rows) used.ends (front no_rows)
         (λ more l. absurd (unlooked input path delim kind l))
         (λ more.
-        let source : AnswersFor plan inputs (kept ++ more) input (table_rows table input) =
-        (subst (λ o. AllByRecursion (λ k. AnswersFor plan inputs (kept ++ more) k (table_rows table k)) (inputs_of o)) kind (inputs_answer more)).0 in
+        let source : AnswersFor plan inputs (kept ++ more) input (rows_of before input) =
+        (subst (λ o. AllByRecursion (λ k. AnswersFor plan inputs (kept ++ more) k (rows_of before k)) (inputs_of o)) kind (inputs_answer more)).0 in
         subst (λ ks. EachAnswers plan inputs (kept ++ more) ks (stores ++ relation_rows rows ∷ [])) (sym relations)
         (each_more plan inputs (kept ++ more) (stored_relations (take i plan)) stores input (relation_rows rows) (so_far.stored more) (subst (AnswersFor plan inputs (kept ++ more) input) (sym found) source)))
         (λ more statement from count same alive unsorted. absurd (no_limit input path delim from count (sym kind ∙ ap (λ n. n.op) same)))
@@ -302,25 +276,25 @@ module _ (plan : Plan) (valid : IsPlan plan) (inputs : List Input) (i : ℕ) (no
 
     -- a bare LIMIT: the first rows are kept
     pub keep_step : (k : Kept) (input count : ℕ) → node.op ≡ p_limit input count → is_sorted plan input ≡ false → k.statement ≡ node.statement → rows_tree k.rows ≡ relation_rows rows
-        → IsSoFar plan inputs (i + 1) (rest ++ rows ∷ []) (kept ++ k ∷ []) stores
+        → IsSoFar plan inputs (i + 1) (and_relation rows after) (kept ++ k ∷ []) stores
     keep_step k input count kind unsorted statement same =
         let whole : slice_get plan i ≡ Some (record { op = p_limit input count; statement = node.statement }) = at ∙ (λ j. Some (record { op = kind j; statement = node.statement })) in
         let bare : is_bare (is_sorted plan) node.op ≡ true = ap (is_bare (is_sorted plan)) kind ∙ ap not unsorted in
         let one : bare_of plan i ≡ node ∷ [] = bare_one plan i node at live bare in
-        let found : relation_rows rows ≡ take count (table_rows table input) = is ∙ ap (λ o. found_rows inputs (width_at plan) o (table_rows table)) kind in
+        let found : relation_rows rows ≡ take count (rows_of before input) = is ∙ ap (λ o. found_rows inputs (width_at plan) o (rows_of before)) kind in
         let kept_rows : (more : List Kept) → kept_at (kept ++ (k ∷ more)) node.statement ≡ relation_rows rows =
         λ more. no_statement kept node.statement (new_statement kind) (k ∷ more)
         ∙ ap (λ b. option_map_or (λ (x : Kept). rows_tree x.rows) (if b then Some k else find (λ x. x.statement == node.statement) more) []) (eq-eqb k.statement node.statement statement) ∙ same in
-        advance (rest ++ rows ∷ []) (k ∷ []) stores (longer rows) (all_values rest rows values valid_rows) (front rows)
-        (λ more l. subst (AnswersFor plan inputs (kept ++ (k ∷ more)) i) (kept_rows more ∙ sym (at_end rest rows i end))
+        advance (and_relation rows after) (k ∷ []) stores (longer rows) used.ends (front rows)
+        (λ more l. subst (AnswersFor plan inputs (kept ++ (k ∷ more)) i) (kept_rows more ∙ sym (at_end after.relations rows i end))
         (bare_answers plan valid inputs (kept ++ (k ∷ more)) i node.statement input count whole unsorted))
         (λ more. subst (λ ks. EachAnswers plan inputs (kept ++ (k ∷ more)) ks stores) (sym (unstored_more (ap is_store kind))) (so_far.stored (k ∷ more)))
         (λ more number from most is_node alive un.
         let ops : p_limit input count ≡ p_limit from most = sym kind ∙ ap (λ n. n.op) is_node in
-        let source : AnswersFor plan inputs (kept ++ (k ∷ more)) input (table_rows table input) =
-        (subst (λ o. AllByRecursion (λ j. AnswersFor plan inputs (kept ++ (k ∷ more)) j (table_rows table j)) (inputs_of o)) kind (inputs_answer (k ∷ more))).0 in
-        let are : AreKept count (meaning plan inputs (kept ++ (k ∷ more)) input) (take count (table_rows table input)) =
-        first_are_kept count (table_rows table input) (meaning plan inputs (kept ++ (k ∷ more)) input) source.bag in
+        let source : AnswersFor plan inputs (kept ++ (k ∷ more)) input (rows_of before input) =
+        (subst (λ o. AllByRecursion (λ j. AnswersFor plan inputs (kept ++ (k ∷ more)) j (rows_of before j)) (inputs_of o)) kind (inputs_answer (k ∷ more))).0 in
+        let are : AreKept count (meaning plan inputs (kept ++ (k ∷ more)) input) (take count (rows_of before input)) =
+        first_are_kept count (rows_of before input) (meaning plan inputs (kept ++ (k ∷ more)) input) source.bag in
         let said : AreKept count (meaning plan inputs (kept ++ (k ∷ more)) input) (kept_at (kept ++ (k ∷ more)) node.statement) =
         subst (AreKept count (meaning plan inputs (kept ++ (k ∷ more)) input)) (sym (kept_rows more ∙ found)) are in
         subst (λ (n : ℕ × ℕ × ℕ). AreKept n.0 (meaning plan inputs (kept ++ (k ∷ more)) n.1) (kept_at (kept ++ (k ∷ more)) n.2))
@@ -402,7 +376,7 @@ standing_kind sorted (p_rank input keys dense) h = (refl, refl)
 
 -- ---- the same under other names
 
-pub same_so_far : (plan : Plan) (inputs : List Input) (i : ℕ) (table new_table : List Relation) (kept new_kept : List Kept) (stores new_stores : List (List (List Tree)))
+pub same_so_far : (plan : Plan) (inputs : List Input) (i : ℕ) (table new_table : Held) (kept new_kept : List Kept) (stores new_stores : List (List (List Tree)))
     → new_table ≡ table → new_kept ≡ kept → new_stores ≡ stores → IsSoFar plan inputs i table kept stores → IsSoFar plan inputs i new_table new_kept new_stores
 same_so_far plan inputs i table new_table kept new_kept stores new_stores a b c h =
     subst (λ t. IsSoFar plan inputs i t new_kept new_stores) (sym a)
@@ -410,20 +384,19 @@ same_so_far plan inputs i table new_table kept new_kept stores new_stores a b c 
     (subst (λ s. IsSoFar plan inputs i table kept s) (sym c) h))
 
 -- nothing stands before the first node
-pub begun : (plan : Plan) (inputs : List Input) (table : List Relation) (kept : List Kept) (stores : List (List (List Tree)))
-    → table ≡ [] → kept ≡ [] → stores ≡ [] → IsSoFar plan inputs 0 table kept stores
-begun plan inputs table kept stores a b c = same_so_far plan inputs 0 [] table [] kept [] stores a b c (record {
+pub begun : (plan : Plan) (inputs : List Input) (ends : List ℕ) → AreLate plan (length plan) ends → IsSoFar plan inputs 0 (record { relations = []; ends = ends }) [] []
+begun plan inputs ends late = record {
   size = refl;
-  values = λ k. tt;
+  late = late;
   each = λ more k n node below. absurd (omega (arith, below));
   stored = λ more. tt;
   limits = λ more k statement input count below. absurd (omega (arith, below));
   entries = refl;
-})
+}
 
 -- ---- the end
 
-pub ended : (plan : Plan) (inputs : List Input) (table : List Relation) (kept : List Kept) (stores : List (List (List Tree)))
+pub ended : (plan : Plan) (inputs : List Input) (table : Held) (kept : List Kept) (stores : List (List (List Tree)))
     → IsSoFar plan inputs (length plan) table kept stores → IsAnswer plan inputs kept stores
 ended plan inputs table kept stores h = record {
   kept = record {

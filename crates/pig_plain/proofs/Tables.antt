@@ -5,7 +5,9 @@ use Rattle.std.proofs.Common.{ap, sym, subst, arith, inl, inr, ◌∙◌, true�
 use Rattle.std.specs.List.{flat_map, list_any}
 use Rattle.std.proofs.lemmas.Bool.{cases_lt, eq-eqb}
 use Rattle.std.proofs.lemmas.Bool.Decides.{eqb_tells}
-use Rattle.std.proofs.lemmas.List.{append_assoc, get_or-set_other, get_or-set_same, length-set, take_all, take_min, take-map}
+use Rattle.std.proofs.lemmas.List.{append_assoc, get_or_append_left, get_or-set_other, get_or-set_same, length-append, length-set, take_all, take_min, take-map}
+use Rattle.std.proofs.Math.Nat.{eq-or-lt_of_le}
+use Rattle.std.proofs.Math.Seq.{get_or-append_seam}
 use Rattle.std.proofs.lemmas.Option.{slice_get_past, slice_get-map, unwrap_or-slice_get}
 use Rattle.std.specs.declared.result.Result.{Result}
 use Rattle.std.specs.declared.result.Result.TheVariants.{Ok, Err}
@@ -15,7 +17,8 @@ use Rattle.pig_value.specs.Trees.{Tree, row_tree, rows_tree}
 use Rattle.pig_plain.specs.Coming.{relation_rows, rows_standing}
 use Rattle.pig_plain.specs.declared.relation.Relation.{Relation}
 use Rattle.pig_plain.specs.declared.relation.Relation.TheVariants.{Standing}
-use Rattle.pig_plain.specs.Operating.{AllStand, AreValues, LaterStand, OthersStand, standing_rows, table_rows}
+use Rattle.pig_plain.specs.Operating.{AreValues, standing_rows, table_rows}
+use Rattle.pig_plain.specs.Tables.{Held, IsLeft, IsUsed, put_at, rows_of}
 use Rattle.pig_value.specs.Valid.{AreRows}
 
 -- ---- names
@@ -76,47 +79,110 @@ standing_is table k = ap (λ o. unwrap_or o []) (slice_get-map rows_standing tab
 none_standing : (table : List Relation) (k : ℕ) → length table ≤ k → standing_rows table k ≡ []
 none_standing table k h = ap (λ o. unwrap_or o []) (slice_get-map rows_standing table k ∙ ap (option_map rows_standing) (slice_get_past table k h))
 
+-- other rows of values stand at a node
+pub values_put : (table : List Relation) (i : ℕ) (rows : List (List Value)) → AreValues table → AreRows (rows_tree rows) → AreValues (slice_set table i (Standing rows))
+values_put table i rows values good k = elim (eqb_tells k i) [
+  | inl same ↦ subst AreRows (sym (ap (table_rows (slice_set table i (Standing rows))) same.1)) (elim (cases_lt i (length table)) [
+    | inl within ↦ subst AreRows (sym (put_is table i (Standing rows) within)) good
+    | inr past ↦
+        let long = length-set table i (Standing rows) in
+        subst AreRows (sym (none_past (slice_set table i (Standing rows)) i (omega (arith, long, past)))) tt
+  ])
+  | inr other ↦ subst AreRows (sym (others_stand table i k (Standing rows) other.1)) (values k)
+]
+
+-- one node more
+pub at_front : (table : List Relation) (rows : Relation) (k : ℕ) → k < length table → table_rows (table ++ rows ∷ []) k ≡ table_rows table k
+at_front table rows k h = table_is (table ++ rows ∷ []) k ∙ ap relation_rows (get_or_append_left table (rows ∷ []) (Standing []) k h) ∙ sym (table_is table k)
+
+pub at_end : (table : List Relation) (rows : Relation) (i : ℕ) → length table ≡ i → table_rows (table ++ rows ∷ []) i ≡ relation_rows rows
+at_end table rows i long =
+    ap (table_rows (table ++ rows ∷ [])) (sym long) ∙ table_is (table ++ rows ∷ []) (length table) ∙ ap relation_rows (get_or-append_seam table rows [] (Standing []))
+
+past_end : (table : List Relation) (rows : Relation) (k : ℕ) → length table < k → table_rows (table ++ rows ∷ []) k ≡ []
+past_end table rows k h =
+    let long = length-append table (rows ∷ []) in
+    none_past (table ++ rows ∷ []) k (omega (arith, h, long))
+
+pub values_more : (table : List Relation) (rows : Relation) → AreValues table → AreRows (relation_rows rows) → AreValues (table ++ rows ∷ [])
+values_more table rows values good k = elim (cases_lt k (length table)) [
+  | inl front ↦ subst AreRows (sym (at_front table rows k front)) (values k)
+  | inr from ↦ elim (eq-or-lt_of_le from) [
+    | inl same ↦ subst AreRows (sym (at_end table rows k same)) good
+    | inr past ↦ subst AreRows (sym (past_end table rows k past)) tt
+  ]
+]
+
+-- ---- uses
+
 -- rows that were taken, and are put back as they were made, are the same, and stand
-module _ (table others : List Relation) (i : ℕ) (rows : List (List Value)) (size : length others ≡ length table) (stand : OthersStand i table others)
-    (same : rows_tree rows ≡ table_rows table i) where
-  longer : length table ≤ i → length (slice_set others i (Standing rows)) ≤ i
-  longer past = let e = length-set others i (Standing rows) in omega (arith, e, size, past)
+module _ (before taken : Held) (i : ℕ) (rows : List (List Value)) (left : IsLeft true i before taken) (same : rows_tree rows ≡ rows_of before i) where
+  longer : length before.relations ≤ i → length (slice_set taken.relations i (Standing rows)) ≤ i
+  longer past = let e = length-set taken.relations i (Standing rows) in let size = left.size in omega (arith, e, size, past)
 
-  at_node : table_rows (slice_set others i (Standing rows)) i ≡ table_rows table i
-  at_node = elim (cases_lt i (length table)) [
-    | inl within ↦ put_is others i (Standing rows) (omega (arith, within, size)) ∙ same
-    | inr past ↦ none_past (slice_set others i (Standing rows)) i (longer past) ∙ sym (none_past table i past)
+  at_node : rows_of (put_at i rows taken) i ≡ rows_of before i
+  at_node = elim (cases_lt i (length before.relations)) [
+    | inl within ↦ put_is taken.relations i (Standing rows) (let size = left.size in omega (arith, within, size)) ∙ same
+    | inr past ↦ none_past (slice_set taken.relations i (Standing rows)) i (longer past) ∙ sym (none_past before.relations i past)
   ]
 
-  pub put_back : AllStand table (slice_set others i (Standing rows))
-  put_back k = elim (eqb_tells k i) [
-    | inl here ↦ ap (table_rows (slice_set others i (Standing rows))) here.1 ∙ at_node ∙ sym (ap (table_rows table) here.1)
-    | inr other ↦ others_stand others i k (Standing rows) other.1 ∙ stand k other.1
+  back : (k : ℕ) → rows_of (put_at i rows taken) k ≡ rows_of before k
+  back k = elim (eqb_tells k i) [
+    | inl here ↦ ap (rows_of (put_at i rows taken)) here.1 ∙ at_node ∙ sym (ap (rows_of before) here.1)
+    | inr other ↦ others_stand taken.relations i k (Standing rows) other.1 ∙ left.others k other.1
   ]
 
-  pub put_stands : standing_rows (slice_set others i (Standing rows)) i ≡ table_rows table i
-  put_stands = elim (cases_lt i (length table)) [
+  pub put_back : (last : Bool) → IsLeft last i before (put_at i rows taken)
+  put_back last = record {
+    size = length-set taken.relations i (Standing rows) ∙ left.size;
+    ends = left.ends;
+    others = λ k other. back k;
+    kept = λ e. back;
+  }
+
+  pub put_stands : standing_rows (slice_set taken.relations i (Standing rows)) i ≡ rows_of before i
+  put_stands = elim (cases_lt i (length before.relations)) [
     | inl within ↦
-        standing_is (slice_set others i (Standing rows)) i ∙ ap rows_standing (get_or-set_same others i (Standing rows) (Standing []) (omega (arith, within, size))) ∙ same
-    | inr past ↦ none_standing (slice_set others i (Standing rows)) i (longer past) ∙ sym (none_past table i past)
+        standing_is (slice_set taken.relations i (Standing rows)) i
+        ∙ ap rows_standing (get_or-set_same taken.relations i (Standing rows) (Standing []) (let size = left.size in omega (arith, within, size))) ∙ same
+    | inr past ↦ none_standing (slice_set taken.relations i (Standing rows)) i (longer past) ∙ sym (none_past before.relations i past)
   ]
 
 -- after a use of a node's rows those of another node are as before, and its own where the use is not the last
-pub stands_at : (old new : List Relation) (last : Bool) (node k : ℕ) → OthersStand node old new → (last ≡ false → AllStand old new) → (last ≡ true → k ≢ node)
-    → table_rows new k ≡ table_rows old k
-stands_at old new true node k others all other = others k (other refl)
-stands_at old new false node k others all other = all refl k
+stands_at : (last : Bool) (node k : ℕ) (before after : Held) → IsLeft last node before after → (last ≡ true → k ≢ node) → rows_of after k ≡ rows_of before k
+stands_at true node k before after left other = left.others k (other refl)
+stands_at false node k before after left other = left.kept refl k
 
-pub later_stand : (ends : List ℕ) (number : ℕ) (old new : List Relation) (last : Bool) (node : ℕ) → (last ≡ true → get_or ends node 0 ≡ number + 1)
-    → OthersStand node old new → (last ≡ false → AllStand old new) → LaterStand ends number old new
-later_stand ends number old new last node is_last others all k later =
-    stands_at old new last node k others all (λ e same. later (ap (λ m. get_or ends m 0) same ∙ is_last e))
+-- nothing is used
+pub none_used : (table : Held) → IsUsed table table
+none_used table = record {
+  size = refl;
+  ends = refl;
+  later = λ k other. refl;
+}
+
+-- one use after another
+pub used_both : (first next last : Held) → IsUsed first next → IsUsed next last → IsUsed first last
+used_both first next last h g = record {
+  size = g.size ∙ h.size;
+  ends = g.ends ∙ h.ends;
+  later = λ k other. g.later k (λ e. other (sym (ap (λ ends. get_or ends k 0) h.ends) ∙ e ∙ ap (λ n. n + 1) h.size)) ∙ h.later k other;
+}
+
+-- a use, of which is known whether it is the last
+pub one_used : (last : Bool) (node : ℕ) (before after : Held) → (last ≡ true → get_or before.ends node 0 ≡ length before.relations + 1) → IsLeft last node before after
+    → IsUsed before after
+one_used last node before after is_last left = record {
+  size = left.size;
+  ends = left.ends;
+  later = λ k later. stands_at last node k before after left (λ e same. later (ap (λ m. get_or before.ends m 0) same ∙ is_last e));
+}
 
 -- those that are named later here are so too
-pub named_stand : (old new : List Relation) (last : Bool) (node : ℕ) (rest : List ℕ) → (last ≡ true → list_any (λ i. i == node) rest ≡ false)
-    → OthersStand node old new → (last ≡ false → AllStand old new) → (k : ℕ) → list_any (λ i. i == k) rest ≡ true → table_rows new k ≡ table_rows old k
-named_stand old new last node rest unnamed others all k named =
-    stands_at old new last node k others all (λ e same. true≢false (sym named ∙ ap (λ m. list_any (λ i. i == m) rest) same ∙ unnamed e))
+pub named_stand : (last : Bool) (node : ℕ) (rest : List ℕ) (before after : Held) → (last ≡ true → list_any (λ i. i == node) rest ≡ false) → IsLeft last node before after
+    → (k : ℕ) → list_any (λ i. i == k) rest ≡ true → rows_of after k ≡ rows_of before k
+named_stand last node rest before after unnamed left k named =
+    stands_at last node k before after left (λ e same. true≢false (sym named ∙ ap (λ m. list_any (λ i. i == m) rest) same ∙ unnamed e))
 
 -- rows of relations go by those that are named
 pub flat_map_named : (f g : ℕ → List (List Tree)) (xs : List ℕ) → ((k : ℕ) → list_any (λ i. i == k) xs ≡ true → f k ≡ g k) → flat_map f xs ≡ flat_map g xs
@@ -136,10 +202,6 @@ union_goes_on (x ∷ left) some f g done more whole told so_far same =
     ∙ ap (λ rows. done ++ (f x ++ rows)) (flat_map_named g f rest same ∙ ap (flat_map f) all)
     ∙ so_far
 
--- rows of values are so in each table that has the same
-pub values_go_on : (old new : List Relation) → AllStand old new → AreValues old → AreValues new
-values_go_on old new same values k = subst AreRows (sym (same k)) (values k)
-
 -- what holds of an answer gives another thing of it
 pub if_ok : {T E : Type 0} {P Q : T → Type 0} (r : Result T E) → IfOk r P → ((x : T) → P x → Q x) → IfOk r Q
 if_ok (Ok x) h f = f x h
@@ -156,9 +218,3 @@ told_equal b m n is passed = elim (eqb_tells m n) [
   | inl same ↦ same.1
   | inr other ↦ absurd (true≢false (sym passed ∙ is ∙ other.0))
 ]
-
--- what an answer leaves of the rows that are looked at later
-pub later_ok : {T E : Type 0} (r : Result T E) (ends : List ℕ) (number : ℕ) (old new : List Relation) (last : Bool) (node : ℕ) → last ≡ (get_or ends node 0 == number + 1)
-    → OnOk r (OthersStand node old new) → (last ≡ false → OnOk r (AllStand old new)) → OnOk r (LaterStand ends number old new)
-later_ok (Ok x) ends number old new last node is others all = later_stand ends number old new last node (told_equal last (get_or ends node 0) (number + 1) is) others all
-later_ok (Err e) ends number old new last node is others all = others

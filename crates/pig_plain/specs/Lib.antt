@@ -5,4 +5,5 @@ pub mod Known
 pub mod Operating
 pub mod SoFar
 pub mod StoredLines
+pub mod Tables
 pub mod Uses

@@ -1,5 +1,5 @@
 -- What the plain answer makes of one node: its operator's rows in the order in which they come, before a bag is sorted.
-use Rattle.std.specs.Prelude.{◌≡◌, ◌≢◌, get_or, ℕ, ◌+◌, Bool, false, List, [], map, take, Option, Some, None}
+use Rattle.std.specs.Prelude.{ℕ, Bool, false, List, [], map, take, Option, Some, None}
 use Rattle.std.specs.List.{flat_map}
 use Rattle.pig_value.specs.declared.inputs.Input.{Input}
 use Rattle.pig_value.specs.Orders.{row_cmp}
@@ -56,13 +56,3 @@ taken_rows None table k = standing_rows table k
 -- all rows of nodes are of values
 abbrev pub AreValues : List Relation → Type 0
 AreValues table = (i : ℕ) → AreRows (table_rows table i)
-
--- the rows of all nodes are as before, those of other nodes, and those of nodes that are looked at later
-abbrev pub AllStand : List Relation → List Relation → Type 0
-AllStand old new = (k : ℕ) → table_rows new k ≡ table_rows old k
-
-abbrev pub OthersStand : ℕ → List Relation → List Relation → Type 0
-OthersStand node old new = (k : ℕ) → k ≢ node → table_rows new k ≡ table_rows old k
-
-abbrev pub LaterStand : List ℕ → ℕ → List Relation → List Relation → Type 0
-LaterStand ends number old new = (k : ℕ) → get_or ends k 0 ≢ number + 1 → table_rows new k ≡ table_rows old k

@@ -8,9 +8,13 @@ use Rattle.pig_plan.specs.Plans.{Plan, PlanNode}
 abbrev pub AreLate : Plan → ℕ → List ℕ → Type 0
 AreLate plan i ends = (j k : ℕ) (node : PlanNode) → j < i → slice_get plan j ≡ Some node → is_live plan j ≡ true → names node.op k ≡ true → j < get_or ends k 0
 
--- each node is marked where it is live, and what stands at a node is above all live nodes that name it
+-- each node is marked where it is live
+abbrev pub AreMarked : Plan → List Bool → Type 0
+AreMarked plan marks = (k : ℕ) → k < length plan → get_or marks k false ≡ is_live plan k
+
+-- and what stands at a node is above all live nodes that name it
 pub record AreUses (plan : Plan) (marks : List Bool) (ends : List ℕ) : Type 0 where
-  pub live : (k : ℕ) → k < length plan → get_or marks k false ≡ is_live plan k
+  pub live : AreMarked plan marks
   pub late : AreLate plan (length plan) ends
 
 abbrev pub raised : ℕ → Bool → ℕ → ℕ

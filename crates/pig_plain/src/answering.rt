@@ -1,6 +1,6 @@
 ghost use Rattle.std.specs.Prelude.{◌≡◌, ◌+◌, [], ◌∷◌, ◌++◌, true, false, map, Some, slice_get, IfOk, OnOk};
 ghost use Rattle.pig_value.specs.Trees.{rows_tree};
-ghost use Rattle.pig_value.specs.Valid.{IsValue};
+ghost use Rattle.pig_value.specs.Valid.{AreRows, IsValue};
 ghost use Rattle.pig_plan.specs.Laws.{AreOfBytes, PlanLiteralsAre};
 ghost use Rattle.pig_plan.specs.Nodes.{is_live};
 ghost use Rattle.pig_plan.specs.Plans.{node_of, op_of, plan_of};
@@ -11,15 +11,16 @@ ghost use Rattle.pig_plain.specs.Coming.{relation_rows};
 ghost use Rattle.pig_plain.specs.Operating.{no_rows, sorted_list};
 ghost use Rattle.pig_plain.specs.SoFar.{IsSoFar};
 ghost use Rattle.pig_plain.specs.Kinds.{kind_in, limit_kind};
-ghost use Rattle.pig_plain.specs.Uses.{AreUses};
+ghost use Rattle.pig_plain.specs.Tables.{and_relation};
+ghost use Rattle.pig_plain.specs.Uses.{AreMarked};
 
 use crate::copies::copied;
 use crate::laws::inputs_are_of_bytes;
 use crate::operating::found;
 use crate::relation::Relation;
-use crate::releasing::release_inputs;
 use crate::sorted::{is_marked, sorted_nodes};
-use crate::uses::{Uses, uses_of};
+use crate::table::Table;
+use crate::uses::{Uses, is_live, uses_of};
 use pig_plan::{Node, NodeOp, Plan};
 use pig_value::{Input, Inputs, Kept, KeptList, Rows, Seq};
 use std::alloc::{AllocError, Global};
@@ -46,10 +47,10 @@ pub fn answer(alloc: Global, plan: &Plan, inputs: &Inputs) -> Result<Answers, Al
     let all = plan.nodes();
     let given = inputs.as_slice();
     inputs_are_of_bytes(given);
-    let uses = uses_of(alloc, plan)?;
+    let Uses { live, ends } = uses_of(alloc, plan)?;
     let sorted = sorted_nodes(alloc, all)?;
     let mut so_far = Running {
-        table: Vec::new(alloc),
+        table: Table::new(alloc, ends),
         kept: KeptList::new(alloc),
         stores: Relations::new(alloc),
     };
@@ -60,7 +61,7 @@ pub fn answer(alloc: Global, plan: &Plan, inputs: &Inputs) -> Result<Answers, Al
             alloc,
             plan,
             given,
-            &uses,
+            live.as_slice(),
             sorted.as_slice(),
             number,
             &nodes[number],
@@ -74,7 +75,7 @@ pub fn answer(alloc: Global, plan: &Plan, inputs: &Inputs) -> Result<Answers, Al
 // What stands after the nodes before one: their rows, what was kept, and what is stored.
 #[derive(Drop)]
 struct Running<'p> {
-    table: Vec<Relation<'p>>,
+    table: Table<'p>,
     kept: KeptList,
     stores: Relations,
 }
@@ -86,7 +87,7 @@ impl<'p> Running<'p> {
         alloc: Global,
         plan: &Plan,
         inputs: &'p [Input],
-        uses: &Uses,
+        live: &[bool],
         sorted: &[bool],
         number: usize,
         node: &'p Node,
@@ -94,17 +95,17 @@ impl<'p> Running<'p> {
         requires bytes { AreOfBytes inputs.now }
         requires valid { IsPlan (plan_of plan.now) }
         requires literals { PlanLiteralsAre IsValue (plan_of plan.now) }
-        requires uses { AreUses (plan_of plan.now) uses.now.live.items uses.now.ends.items }
+        requires live { AreMarked (plan_of plan.now) live.now }
         requires sorted { sorted.now ≡ sorted_list (plan_of plan.now) }
         requires node { slice_get (plan_of plan.now) number ≡ Some (node_of node.now) }
         requires so_far { IsSoFar (plan_of plan.now) inputs.now number
-            self.old.table.items self.old.kept (map rows_tree self.old.stores) }
+            self.old.table self.old.kept (map rows_tree self.old.stores) }
         ensures { OnOk result (IsSoFar (plan_of plan.now) inputs.now (number + 1)
-            self.new.table.items self.new.kept (map rows_tree self.new.stores)) }
+            self.new.table self.new.kept (map rows_tree self.new.stores)) }
     {
-        let live = uses.is_live(number);
-        if live {
-            return self.take_live(alloc, plan, inputs, uses, sorted, number, node);
+        let lives = is_live(live, number);
+        if lives {
+            return self.take_live(alloc, plan, inputs, sorted, number, node);
         }
         self.put(Relation::Standing(Rows::new(alloc)))
     }
@@ -115,7 +116,6 @@ impl<'p> Running<'p> {
         alloc: Global,
         plan: &Plan,
         inputs: &'p [Input],
-        uses: &Uses,
         sorted: &[bool],
         number: usize,
         node: &'p Node,
@@ -123,18 +123,16 @@ impl<'p> Running<'p> {
         requires bytes { AreOfBytes inputs.now }
         requires valid { IsPlan (plan_of plan.now) }
         requires literals { PlanLiteralsAre IsValue (plan_of plan.now) }
-        requires uses { AreUses (plan_of plan.now) uses.now.live.items uses.now.ends.items }
         requires sorted { sorted.now ≡ sorted_list (plan_of plan.now) }
         requires node { slice_get (plan_of plan.now) number ≡ Some (node_of node.now) }
         requires live { is_live (plan_of plan.now) number ≡ true }
         requires so_far { IsSoFar (plan_of plan.now) inputs.now number
-            self.old.table.items self.old.kept (map rows_tree self.old.stores) }
+            self.old.table self.old.kept (map rows_tree self.old.stores) }
         ensures { OnOk result (IsSoFar (plan_of plan.now) inputs.now (number + 1)
-            self.new.table.items self.new.kept (map rows_tree self.new.stores)) }
+            self.new.table self.new.kept (map rows_tree self.new.stores)) }
     {
-        let ends = uses.ends.as_slice();
-        let made = found(alloc, plan, inputs, &node.op, &mut self.table, ends, number)?;
-        release_inputs(alloc, &mut self.table, ends, number, &node.op)?;
+        let made = found(alloc, plan, inputs, &node.op, &mut self.table)?;
+        self.table.release_inputs(alloc, &node.op)?;
         match kind_of(&node.op, sorted) {
             Kind::Stored => self.put_stored(alloc, made),
             Kind::Kept => self.put_kept(alloc, node.statement, made),
@@ -144,19 +142,17 @@ impl<'p> Running<'p> {
 
     // The rows stand for later nodes.
     fn put(&mut self, made: Relation<'p>) -> Result<(), AllocError>
-        ensures table { OnOk result (self.new.table.items
-            ≡ self.old.table.items ++ made.entry ∷ []) }
+        requires { AreRows (relation_rows made) }
+        ensures table { OnOk result (self.new.table ≡ and_relation made.entry self.old.table) }
         ensures kept { self.new.kept ≡ self.old.kept }
         ensures stores { self.new.stores ≡ self.old.stores }
     {
-        self.table.push(made)?;
-        Ok(())
+        self.table.push(made)
     }
 
     // The rows of a STORE are looked at by no node.
     fn put_stored(&mut self, alloc: Global, made: Relation<'p>) -> Result<(), AllocError>
-        ensures table { OnOk result (self.new.table.items
-            ≡ self.old.table.items ++ no_rows ∷ []) }
+        ensures table { OnOk result (self.new.table ≡ and_relation no_rows self.old.table) }
         ensures kept { self.new.kept ≡ self.old.kept }
         ensures stores { OnOk result (map rows_tree self.new.stores
             ≡ map rows_tree self.old.stores ++ relation_rows made.entry ∷ []) }
@@ -173,9 +169,10 @@ impl<'p> Running<'p> {
         statement: u32,
         made: Relation<'p>,
     ) -> Result<(), AllocError>
+        requires { AreRows (relation_rows made) }
         ensures table { OnOk result ((rows : Relation)
             × (relation_rows rows ≡ relation_rows made.entry)
-            × (self.new.table.items ≡ self.old.table.items ++ rows ∷ [])) }
+            × (self.new.table ≡ and_relation rows self.old.table)) }
         ensures kept { OnOk result ((k : Kept) × (k.statement ≡ statement)
             × (rows_tree k.rows ≡ relation_rows made.entry)
             × (self.new.kept ≡ self.old.kept ++ k ∷ [])) }

@@ -12,11 +12,10 @@ ghost use Rattle.pig_runs.specs.Entries.{and_entries, no_entries_in, run_of};
 ghost use Rattle.pig_operators.specs.Given.{made};
 ghost use Rattle.pig_operators.specs.Keying.{all_rows_keyed, keyed_rows};
 ghost use Rattle.pig_plain.specs.Coming.{coming, relation_rows, seen_rows};
-ghost use Rattle.pig_plain.specs.Operating.{AllStand, AreValues, LaterStand, OthersStand, table_rows};
+ghost use Rattle.pig_plain.specs.Tables.{HasFound, IsLeft, IsUsed, rows_of};
 
 use crate::relation::{Relation, Seen};
-use crate::releasing::{is_last, release, release_keyed, take_input};
-use crate::table::{seen_at, take_coming};
+use crate::table::Table;
 use crate::walking::Walk;
 use pig_operators::{
     Gatherer, Gathering, add_all_rows, add_rows, gathering_of_group, gathering_of_join,
@@ -32,22 +31,17 @@ use std::alloc::{AllocError, Global};
 // Here and below, rows whose last use this is are let go when the run holds them, before it is sorted.
 pub fn all_grouped<'p>(
     alloc: Global,
-    table: &mut Vec<Relation<'p>>,
-    ends: &[usize],
-    number: usize,
+    table: &mut Table<'p>,
     input: u32,
 ) -> Result<Relation<'p>, AllocError>
-    requires values { AreValues table.old.items }
-    ensures rows { IfOk result (λ made. relation_rows made
-        ≡ group_all (table_rows table.old.items input)) }
-    ensures size { OnOk result (length table.new.items ≡ length table.old.items) }
-    ensures values { OnOk result (AreValues table.new.items) }
-    ensures kept { OnOk result (LaterStand ends.now number table.old.items table.new.items) }
+    ensures { IfOk result (HasFound (group_all (rows_of table.old input))
+        table.old table.new) }
 {
-    let taken = take_input(alloc, table, ends, number, input)?;
-    let seen = seen_at(table.as_slice(), input, taken);
+    table.are_values();
+    let taken = table.take_input(alloc, input)?;
+    let seen = table.seen_at(input, taken);
     let builder = all_entries(alloc, seen)?;
-    release(alloc, table, ends, number, input);
+    table.release(alloc, input);
     Ok(groups(alloc, Gathering::Group, builder))
 }
 
@@ -112,20 +106,14 @@ fn add_all_coming(
 pub fn grouped<'p>(
     alloc: Global,
     inputs: &[KeyedInput],
-    table: &mut Vec<Relation<'p>>,
-    ends: &[usize],
-    number: usize,
+    table: &mut Table<'p>,
 ) -> Result<Relation<'p>, AllocError>
-    requires rows { AreValues table.old.items }
     requires literals { KeyLiteralsAre IsValue (map keyed_of inputs.now) }
-    ensures rows { IfOk result (λ made. relation_rows made
-        ≡ group_rows (map keyed_of inputs.now) (table_rows table.old.items)) }
-    ensures size { OnOk result (length table.new.items ≡ length table.old.items) }
-    ensures values { OnOk result (AreValues table.new.items) }
-    ensures kept { OnOk result (LaterStand ends.now number table.old.items table.new.items) }
+    ensures { IfOk result (HasFound (group_rows (map keyed_of inputs.now) (rows_of table.old))
+        table.old table.new) }
 {
     let how = gathering_of_group(alloc, inputs)?;
-    brought(alloc, how, inputs, table, ends, number)
+    brought(alloc, how, inputs, table)
 }
 
 // JOIN.
@@ -134,21 +122,15 @@ pub fn joined<'p>(
     plan: &Plan,
     inputs: &[KeyedInput],
     side: Side,
-    table: &mut Vec<Relation<'p>>,
-    ends: &[usize],
-    number: usize,
+    table: &mut Table<'p>,
 ) -> Result<Relation<'p>, AllocError>
-    requires rows { AreValues table.old.items }
     requires literals { KeyLiteralsAre IsValue (map keyed_of inputs.now) }
-    ensures rows { IfOk result (λ made. relation_rows made
-        ≡ join_rows side (width_at (plan_of plan.now)) (map keyed_of inputs.now)
-        (table_rows table.old.items)) }
-    ensures size { OnOk result (length table.new.items ≡ length table.old.items) }
-    ensures values { OnOk result (AreValues table.new.items) }
-    ensures kept { OnOk result (LaterStand ends.now number table.old.items table.new.items) }
+    ensures { IfOk result (HasFound (join_rows side (width_at (plan_of plan.now)) (map keyed_of inputs.now)
+        (rows_of table.old))
+        table.old table.new) }
 {
     match gathering_of_join(plan, inputs, side) {
-        Some(how) => brought(alloc, how, inputs, table, ends, number),
+        Some(how) => brought(alloc, how, inputs, table),
         None => Ok(Relation::Standing(Rows::new(alloc))),
     }
 }
@@ -158,21 +140,15 @@ fn brought<'p>(
     alloc: Global,
     how: Gathering,
     inputs: &[KeyedInput],
-    table: &mut Vec<Relation<'p>>,
-    ends: &[usize],
-    number: usize,
+    table: &mut Table<'p>,
 ) -> Result<Relation<'p>, AllocError>
-    requires rows { AreValues table.old.items }
     requires literals { KeyLiteralsAre IsValue (map keyed_of inputs.now) }
-    ensures rows { IfOk result (λ rows. relation_rows rows
-        ≡ gathered (made how) (keyed_entries 0 (map keyed_of inputs.now)
-        (table_rows table.old.items))) }
-    ensures size { OnOk result (length table.new.items ≡ length table.old.items) }
-    ensures values { OnOk result (AreValues table.new.items) }
-    ensures kept { OnOk result (LaterStand ends.now number table.old.items table.new.items) }
+    ensures { IfOk result (HasFound (gathered (made how) (keyed_entries 0 (map keyed_of inputs.now)
+        (rows_of table.old)))
+        table.old table.new) }
 {
-    let builder = entries(alloc, inputs, table, ends, number)?;
-    release_keyed(alloc, table, ends, number, inputs);
+    let builder = entries(alloc, inputs, table)?;
+    table.release_keyed(alloc, inputs);
     Ok(groups(alloc, how, builder))
 }
 
@@ -180,24 +156,19 @@ fn brought<'p>(
 fn entries(
     alloc: Global,
     inputs: &[KeyedInput],
-    table: &mut Vec<Relation>,
-    ends: &[usize],
-    number: usize,
+    table: &mut Table,
 ) -> Result<RunBuilder, AllocError>
-    requires rows { AreValues table.old.items }
     requires literals { KeyLiteralsAre IsValue (map keyed_of inputs.now) }
     ensures entries { IfOk result (λ builder. builder
-        ≡ and_entries (keyed_entries 0 (map keyed_of inputs.now) (table_rows table.old.items))
+        ≡ and_entries (keyed_entries 0 (map keyed_of inputs.now) (rows_of table.old))
         (no_entries_in [])) }
-    ensures size { OnOk result (length table.new.items ≡ length table.old.items) }
-    ensures values { OnOk result (AreValues table.new.items) }
-    ensures kept { OnOk result (LaterStand ends.now number table.old.items table.new.items) }
+    ensures used { OnOk result (IsUsed table.old table.new) }
 {
     let mut builder = RunBuilder::new(alloc, Dirs::new(alloc));
     let mut place = 0;
     let mut left = inputs;
     'inputs: while let [input, rest @ ..] = left {
-        let last = is_last_of(ends, input.input, number, rest);
+        let last = is_last_of(table, input.input, rest);
         add_input(alloc, input, place, table, last, &mut builder)?;
         place = next_number(place)?;
         left = rest;
@@ -206,12 +177,13 @@ fn entries(
 }
 
 // Whether this is a node's last use, and none of the inputs that are still to be used here is the node.
-fn is_last_of(ends: &[usize], input: u32, number: usize, rest: &[KeyedInput]) -> bool
-    ensures last { result ≡ true → get_or ends.now input 0 ≡ number + 1 }
+fn is_last_of(table: &Table, input: u32, rest: &[KeyedInput]) -> bool
+    ensures last { result ≡ true → get_or table.now.ends input 0
+        ≡ length table.now.relations + 1 }
     ensures named { result ≡ true → list_any (λ i. i == input)
         (map (λ i. i.input) (map keyed_of rest.now)) ≡ false }
 {
-    is_last(ends, input, number) && !is_named(rest, input)
+    table.is_last(input) && !is_named(rest, input)
 }
 
 fn is_named(inputs: &[KeyedInput], node: u32) -> bool
@@ -239,23 +211,20 @@ fn add_input(
     alloc: Global,
     input: &KeyedInput,
     place: u32,
-    table: &mut Vec<Relation>,
+    table: &mut Table,
     last: bool,
     builder: &mut RunBuilder,
 ) -> Result<(), AllocError>
     requires ascending { builder.old.dirs ≡ [] }
-    requires rows { AreValues table.old.items }
     requires literals { AllByRecursion (LiteralsAre IsValue) (map typed input.now.keys) }
     ensures entries { OnOk result (builder.new
         ≡ and_entries (keyed_rows (map typed input.now.keys) place
-        (table_rows table.old.items input.now.input)) builder.old) }
-    ensures size { OnOk result (length table.new.items ≡ length table.old.items) }
-    ensures others { OnOk result (OthersStand input.now.input table.old.items table.new.items) }
-    ensures values { OnOk result (AreValues table.new.items) }
-    ensures kept { last ≡ false → OnOk result (AllStand table.old.items table.new.items) }
+        (rows_of table.old input.now.input)) builder.old) }
+    ensures left { OnOk result (IsLeft last input.now.input table.old table.new) }
 {
-    let taken = take_coming(alloc, table, input.input, last)?;
-    let seen = seen_at(table.as_slice(), input.input, taken);
+    table.are_values();
+    let taken = table.take_coming(alloc, input.input, last)?;
+    let seen = table.seen_at(input.input, taken);
     add_seen(alloc, input.keys.as_slice(), place, seen, builder)
 }
 

@@ -14,7 +14,6 @@ mod operating;
 mod ranking;
 mod reading;
 mod relation;
-mod releasing;
 mod rowwise;
 mod sorted;
 mod sorting;

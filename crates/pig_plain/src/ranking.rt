@@ -1,16 +1,15 @@
-ghost use Rattle.std.specs.Prelude.{◌≡◌, ◌∷◌, Bool, List, length, slice_get, IfOk, IfSome, OnOk};
+ghost use Rattle.std.specs.Prelude.{◌≡◌, ◌∷◌, Bool, List, slice_get, IfOk, IfSome};
 ghost use Rattle.std.specs.Option.{ForSome, option_map};
 ghost use Rattle.std.specs.declared.cmp.Ordering.TheVariants.{Equal};
 ghost use Rattle.pig_value.specs.Trees.{Tree, at, row_tree, rows_tree, tree};
 ghost use Rattle.pig_plan.specs.Operators.{key_fields, rank_of, rank_rows, sort_keys_cmp};
-ghost use Rattle.pig_plain.specs.Coming.{coming, relation_rows, seen_rows};
+ghost use Rattle.pig_plain.specs.Coming.{coming, seen_rows};
 ghost use Rattle.pig_plain.specs.Known.{AreKnown};
-ghost use Rattle.pig_plain.specs.Operating.{AreValues, LaterStand, table_rows};
+ghost use Rattle.pig_plain.specs.Tables.{HasFound, rows_of};
 
 use crate::copies::copied;
 use crate::relation::{Relation, Seen, collected};
-use crate::releasing::take_input;
-use crate::table::seen_at;
+use crate::table::Table;
 use crate::walking::Walk;
 use pig_nested::{compare_by_keys, sort_by_keys};
 use pig_rank::{Start, rank_rows};
@@ -22,22 +21,16 @@ use std::cmp::Ordering;
 // RANK: each row behind its rank.
 pub fn ranked<'p>(
     alloc: Global,
-    table: &mut Vec<Relation<'p>>,
-    ends: &[usize],
-    number: usize,
+    table: &mut Table<'p>,
     input: u32,
     keys: &SortKeys,
     dense: bool,
 ) -> Result<Relation<'p>, AllocError>
-    requires values { AreValues table.old.items }
-    ensures rows { IfOk result (λ made. relation_rows made
-        ≡ rank_rows keys.now dense (table_rows table.old.items input)) }
-    ensures size { OnOk result (length table.new.items ≡ length table.old.items) }
-    ensures values { OnOk result (AreValues table.new.items) }
-    ensures kept { OnOk result (LaterStand ends.now number table.old.items table.new.items) }
+    ensures { IfOk result (HasFound (rank_rows keys.now dense (rows_of table.old input))
+        table.old table.new) }
 {
-    let taken = take_input(alloc, table, ends, number, input)?;
-    let seen = seen_at(table.as_slice(), input, taken);
+    let taken = table.take_input(alloc, input)?;
+    let seen = table.seen_at(input, taken);
     let rows = ranked_seen(alloc, seen, keys, dense)?;
     Ok(Relation::Standing(rows))
 }

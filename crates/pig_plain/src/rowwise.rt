@@ -5,13 +5,12 @@ ghost use Rattle.pig_typed.specs.Blocks.{foreach_all};
 ghost use Rattle.pig_typed.specs.Typed.{block_typed, typed};
 ghost use Rattle.pig_plan.specs.Operators.{filter_rows};
 ghost use Rattle.pig_plain.specs.Coming.{coming, relation_rows, seen_rows};
-ghost use Rattle.pig_plain.specs.Operating.{AllStand, AreValues, LaterStand, OthersStand, table_rows};
+ghost use Rattle.pig_plain.specs.Tables.{HasFound, IsLeft, rows_of};
 
 use crate::copies::copied;
 use crate::each_row::{generated, passing, passing_copies};
 use crate::relation::{Relation, Seen, add_seen};
-use crate::releasing::{is_last, take_input};
-use crate::table::{rows_at, seen_at, settle, take_coming, take_relation};
+use crate::table::Table;
 use crate::walking::{RowStep, Walk};
 use pig_typed::{Block, TExpr};
 use pig_value::{Rows, Tuple};
@@ -23,23 +22,17 @@ use std::alloc::{AllocError, Global};
 pub fn filtered<'p>(
     alloc: Global,
     cond: &'p TExpr,
-    table: &mut Vec<Relation<'p>>,
-    ends: &[usize],
-    number: usize,
+    table: &mut Table<'p>,
     input: u32,
 ) -> Result<Relation<'p>, AllocError>
-    requires values { AreValues table.old.items }
-    ensures rows { IfOk result (λ made. relation_rows made
-        ≡ filter_rows (typed cond.now) (table_rows table.old.items input)) }
-    ensures size { OnOk result (length table.new.items ≡ length table.old.items) }
-    ensures values { OnOk result (AreValues table.new.items) }
-    ensures kept { OnOk result (LaterStand ends.now number table.old.items table.new.items) }
+    ensures { IfOk result (HasFound (filter_rows (typed cond.now) (rows_of table.old input))
+        table.old table.new) }
 {
-    if is_last(ends, input, number) {
-        return passing_own(alloc, cond, take_relation(alloc, table, input));
+    if table.is_last(input) {
+        return passing_own(alloc, cond, table.take(alloc, input));
     }
-    settle(alloc, table, input)?;
-    let rows = passing_copies(alloc, cond, rows_at(table.as_slice(), input))?;
+    table.settle(alloc, input)?;
+    let rows = passing_copies(alloc, cond, table.rows_at(input))?;
     Ok(Relation::Standing(rows))
 }
 
@@ -61,20 +54,14 @@ fn passing_own<'p>(
 pub fn foreached<'p>(
     alloc: Global,
     block: &'p Block,
-    table: &mut Vec<Relation<'p>>,
-    ends: &[usize],
-    number: usize,
+    table: &mut Table<'p>,
     input: u32,
 ) -> Result<Relation<'p>, AllocError>
-    requires values { AreValues table.old.items }
-    ensures rows { IfOk result (λ made. relation_rows made
-        ≡ foreach_all (block_typed block.now) (table_rows table.old.items input)) }
-    ensures size { OnOk result (length table.new.items ≡ length table.old.items) }
-    ensures values { OnOk result (AreValues table.new.items) }
-    ensures kept { OnOk result (LaterStand ends.now number table.old.items table.new.items) }
+    ensures { IfOk result (HasFound (foreach_all (block_typed block.now) (rows_of table.old input))
+        table.old table.new) }
 {
-    let taken = take_input(alloc, table, ends, number, input)?;
-    let seen = seen_at(table.as_slice(), input, taken);
+    let taken = table.take_input(alloc, input)?;
+    let seen = table.seen_at(input, taken);
     generated_seen(alloc, block, seen)
 }
 
@@ -95,22 +82,16 @@ fn generated_seen<'p>(
 // UNION: the rows of all inputs.
 pub fn united<'p>(
     alloc: Global,
-    table: &mut Vec<Relation<'p>>,
-    ends: &[usize],
-    number: usize,
+    table: &mut Table<'p>,
     inputs: &[u32],
 ) -> Result<Relation<'p>, AllocError>
-    requires values { AreValues table.old.items }
-    ensures rows { IfOk result (λ made. relation_rows made
-        ≡ flat_map (table_rows table.old.items) inputs.now) }
-    ensures size { OnOk result (length table.new.items ≡ length table.old.items) }
-    ensures values { OnOk result (AreValues table.new.items) }
-    ensures kept { OnOk result (LaterStand ends.now number table.old.items table.new.items) }
+    ensures { IfOk result (HasFound (flat_map (rows_of table.old) inputs.now)
+        table.old table.new) }
 {
     let mut made = Rows::new(alloc);
     let mut left = inputs;
     'inputs: while let [input, rest @ ..] = left {
-        let last = is_last_of(ends, *input, number, rest);
+        let last = is_last_of(table, *input, rest);
         add_input(alloc, table, *input, last, &mut made)?;
         left = rest;
     }
@@ -118,11 +99,12 @@ pub fn united<'p>(
 }
 
 // Whether this is a node's last use, and it is not among those that are still to be used here.
-fn is_last_of(ends: &[usize], input: u32, number: usize, rest: &[u32]) -> bool
-    ensures last { result ≡ true → get_or ends.now input 0 ≡ number + 1 }
+fn is_last_of(table: &Table, input: u32, rest: &[u32]) -> bool
+    ensures last { result ≡ true → get_or table.now.ends input 0
+        ≡ length table.now.relations + 1 }
     ensures named { result ≡ true → list_any (λ i. i == input) rest.now ≡ false }
 {
-    is_last(ends, input, number) && !is_named(rest, input)
+    table.is_last(input) && !is_named(rest, input)
 }
 
 fn is_named(inputs: &[u32], node: u32) -> bool
@@ -140,41 +122,32 @@ fn is_named(inputs: &[u32], node: u32) -> bool
 
 fn add_input(
     alloc: Global,
-    table: &mut Vec<Relation>,
+    table: &mut Table,
     input: u32,
     last: bool,
     made: &mut Rows,
 ) -> Result<(), AllocError>
     ensures rows { OnOk result (rows_tree made.new
-        ≡ rows_tree made.old ++ table_rows table.old.items input) }
-    ensures size { OnOk result (length table.new.items ≡ length table.old.items) }
-    ensures others { OnOk result (OthersStand input table.old.items table.new.items) }
-    ensures values { AreValues table.old.items → OnOk result (AreValues table.new.items) }
-    ensures kept { last ≡ false → OnOk result (AllStand table.old.items table.new.items) }
+        ≡ rows_tree made.old ++ rows_of table.old input) }
+    ensures left { OnOk result (IsLeft last input table.old table.new) }
 {
-    let taken = take_coming(alloc, table, input, last)?;
-    let seen = seen_at(table.as_slice(), input, taken);
+    let taken = table.take_coming(alloc, input, last)?;
+    let seen = table.seen_at(input, taken);
     add_seen(alloc, seen, made)
 }
 
 // LIMIT: the first rows.
 pub fn limited<'p>(
     alloc: Global,
-    table: &mut Vec<Relation<'p>>,
-    ends: &[usize],
-    number: usize,
+    table: &mut Table<'p>,
     input: u32,
     count: u64,
 ) -> Result<Relation<'p>, AllocError>
-    requires values { AreValues table.old.items }
-    ensures rows { IfOk result (λ made. relation_rows made
-        ≡ take count (table_rows table.old.items input)) }
-    ensures size { OnOk result (length table.new.items ≡ length table.old.items) }
-    ensures values { OnOk result (AreValues table.new.items) }
-    ensures kept { OnOk result (LaterStand ends.now number table.old.items table.new.items) }
+    ensures { IfOk result (HasFound (take count (rows_of table.old input))
+        table.old table.new) }
 {
-    let taken = take_input(alloc, table, ends, number, input)?;
-    let seen = seen_at(table.as_slice(), input, taken);
+    let taken = table.take_input(alloc, input)?;
+    let seen = table.seen_at(input, taken);
     let rows = first_rows(alloc, seen, count)?;
     Ok(Relation::Standing(rows))
 }

@@ -1,4 +1,4 @@
-ghost use Rattle.std.specs.Prelude.{◌≡◌, [], ◌∷◌, length, map, IfOk, OnOk};
+ghost use Rattle.std.specs.Prelude.{◌≡◌, [], ◌∷◌, map, IfOk, OnOk};
 ghost use Rattle.pig_value.specs.Orders.{row_cmp};
 ghost use Rattle.pig_value.specs.Sorts.{distinct};
 ghost use Rattle.pig_value.specs.Trees.{row_tree, rows_tree};
@@ -8,12 +8,11 @@ ghost use Rattle.pig_runs.specs.Entries.{and_entries, no_entries_in};
 ghost use Rattle.pig_plan.specs.Entries.{dirs_of, sort_entry};
 ghost use Rattle.pig_operators.specs.Keying.{row_entry};
 ghost use Rattle.pig_plain.specs.Coming.{coming, relation_rows, seen_rows};
-ghost use Rattle.pig_plain.specs.Operating.{AreValues, LaterStand, table_rows};
+ghost use Rattle.pig_plain.specs.Tables.{HasFound, rows_of};
 
 use crate::ranking::key_values;
 use crate::relation::{Relation, Seen};
-use crate::releasing::{own_input, release, take_input};
-use crate::table::seen_at;
+use crate::table::Table;
 use crate::walking::Walk;
 use pig_operators::{Orderer, distinct_keys};
 use pig_runs::RunBuilder;
@@ -28,23 +27,18 @@ use std::alloc::{AllocError, Global};
 pub fn in_order<'p>(
     alloc: Global,
     keys: &SortKeys,
-    table: &mut Vec<Relation<'p>>,
-    ends: &[usize],
-    number: usize,
+    table: &mut Table<'p>,
     input: u32,
 ) -> Result<Relation<'p>, AllocError>
-    requires values { AreValues table.old.items }
-    ensures rows { IfOk result (λ made. relation_rows made
-        ≡ order_rows keys.now (table_rows table.old.items input)) }
-    ensures size { OnOk result (length table.new.items ≡ length table.old.items) }
-    ensures values { OnOk result (AreValues table.new.items) }
-    ensures kept { OnOk result (LaterStand ends.now number table.old.items table.new.items) }
+    ensures { IfOk result (HasFound (order_rows keys.now (rows_of table.old input))
+        table.old table.new) }
 {
     let dirs = directions(alloc, keys)?;
-    let taken = take_input(alloc, table, ends, number, input)?;
-    let seen = seen_at(table.as_slice(), input, taken);
+    table.are_values();
+    let taken = table.take_input(alloc, input)?;
+    let seen = table.seen_at(input, taken);
     let builder = sort_entries(alloc, keys, dirs, seen)?;
-    release(alloc, table, ends, number, input);
+    table.release(alloc, input);
     let rows = Orderer::new(builder.finish());
     Ok(Relation::Coming(Walk::of_ordered(alloc, rows)))
 }
@@ -155,19 +149,14 @@ fn add_sorting(
 // DISTINCT: each row once, in ascending order.
 pub fn each_once<'p>(
     alloc: Global,
-    table: &mut Vec<Relation<'p>>,
-    ends: &[usize],
-    number: usize,
+    table: &mut Table<'p>,
     input: u32,
 ) -> Result<Relation<'p>, AllocError>
-    requires values { AreValues table.old.items }
-    ensures rows { IfOk result (λ made. relation_rows made
-        ≡ distinct row_cmp (table_rows table.old.items input)) }
-    ensures size { OnOk result (length table.new.items ≡ length table.old.items) }
-    ensures values { OnOk result (AreValues table.new.items) }
-    ensures kept { OnOk result (LaterStand ends.now number table.old.items table.new.items) }
+    ensures { IfOk result (HasFound (distinct row_cmp (rows_of table.old input))
+        table.old table.new) }
 {
-    let rows = once(alloc, own_input(alloc, table, ends, number, input)?)?;
+    table.are_values();
+    let rows = once(alloc, table.own_input(alloc, input)?)?;
     Ok(Relation::Standing(rows))
 }
 

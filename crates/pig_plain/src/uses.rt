@@ -35,14 +35,15 @@ fn last_uses(alloc: Global, nodes: &[Node], live: &[bool]) -> Result<Vec<usize>,
     let mut ends = no_ends(alloc, nodes.len())?;
     let mut number = 0;
     'nodes: while number < nodes.len() {
-        let lives = is_marked(live, number);
+        let lives = is_live(live, number);
         raise_where(alloc, &mut ends, &nodes[number].op, lives, number)?;
         number += 1;
     }
     Ok(ends)
 }
 
-fn is_marked(live: &[bool], number: usize) -> bool
+// Whether a node is live.
+pub fn is_live(live: &[bool], number: usize) -> bool
     ensures { result ≡ get_or live.now number false }
 {
     match live.get(number) {
@@ -101,14 +102,5 @@ fn raise_all(ends: &mut Vec<usize>, inputs: &[u32], end: usize)
     while let [input, rest @ ..] = left {
         raise(ends, *input, end);
         left = rest;
-    }
-}
-
-impl Uses {
-    // Whether a node is live.
-    pub fn is_live(&self, number: usize) -> bool
-        ensures { result ≡ get_or self.now.live.items number false }
-    {
-        is_marked(self.live.as_slice(), number)
     }
 }

@@ -1,4 +1,4 @@
-ghost use Rattle.std.specs.Prelude.{◌≡◌, ◌++◌, [], ◌∷◌, map, IfOk, OnOk};
+ghost use Rattle.std.specs.Prelude.{◌≡◌, ◌++◌, [], map, IfOk};
 ghost use Rattle.std.specs.List.{flat_map};
 ghost use Rattle.pig_value.specs.FieldRows.{row_of};
 ghost use Rattle.pig_value.specs.Lines.{lines};

@@ -11,7 +11,7 @@ pub returns : goal.returns
 returns c =
     let nodes = c.as_slice-nodes.result.now in
     let given = c.as_slice-given.result.now in
-    let table = c.nodes.so_far.table.items in
+    let table = c.nodes.so_far.table in
     let kept = c.nodes.so_far.kept in
     let stores = map rows_tree c.nodes.so_far.stores in
     let upto = c.nodes.invariant.0 in

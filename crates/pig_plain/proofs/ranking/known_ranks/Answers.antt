@@ -1,4 +1,4 @@
-use Rattle.std.proofs.Common.{rules, ◌≡◌, [], subst, sym}
+use Rattle.std.proofs.Common.{rules, ◌≡◌, [], subst}
 use Rattle.pig_value.specs.Trees.{rows_tree}
 use Rattle.pig_plan.specs.Operators.{order_rows}
 use Rattle.pig_rank.specs.Ranks.{AreRanked, start_behind}

@@ -1,4 +1,4 @@
-use Rattle.std.proofs.Common.{◌≡◌, ◌<◌, ◌∙◌, arith, get_or, length, sym}
+use Rattle.std.proofs.Common.{◌≡◌, ◌<◌, ◌∙◌, arith, get_or, length}
 use Rattle.std.proofs.lemmas.List.{length-map}
 use Rattle.pig_value.proofs.list_laws.Listing.{each_weaker}
 use Rattle.pig_plan.proofs.Lower.{names_lower}
@@ -30,6 +30,6 @@ nodes-preserved c =
       omega (arith, within),
       told.size ∙ c.nodes.invariant.1,
       late_more (plan_of nodes) i (node_of (get_or nodes i c.index-nodes-number.result)) (node_at nodes i c.index-nodes-number.result within)
-          c.is_marked-lives.result (c.is_marked-lives.ensures ∙ mark_is (plan_of nodes) c.args.live.now i c.requires.live inside)
+          c.is_live-lives.result (c.is_live-lives.ensures ∙ mark_is (plan_of nodes) c.args.live.now i c.requires.live inside)
           c.nodes.ends.items c.raise_where.new.ends.items told.each c.nodes.invariant.2,
     )
