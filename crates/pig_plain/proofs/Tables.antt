@@ -113,6 +113,13 @@ values_more table rows values good k = elim (cases_lt k (length table)) [
   ]
 ]
 
+-- a test that is passed tells
+told_equal : (b : Bool) (m n : ℕ) → b ≡ (m == n) → b ≡ true → m ≡ n
+told_equal b m n is passed = elim (eqb_tells m n) [
+  | inl same ↦ same.1
+  | inr other ↦ absurd (true≢false (sym passed ∙ is ∙ other.0))
+]
+
 -- ---- uses
 
 -- rows that were taken, and are put back as they were made, are the same, and stand
@@ -153,14 +160,6 @@ stands_at : (last : Bool) (node k : ℕ) (before after : Held) → IsLeft last n
 stands_at true node k before after left other = left.others k (other refl)
 stands_at false node k before after left other = left.kept refl k
 
--- nothing is used
-pub none_used : (table : Held) → IsUsed table table
-none_used table = record {
-  size = refl;
-  ends = refl;
-  later = λ k other. refl;
-}
-
 -- one use after another
 pub used_both : (first next last : Held) → IsUsed first next → IsUsed next last → IsUsed first last
 used_both first next last h g = record {
@@ -177,6 +176,10 @@ one_used last node before after is_last left = record {
   ends = left.ends;
   later = λ k later. stands_at last node k before after left (λ e same. later (ap (λ m. get_or before.ends m 0) same ∙ is_last e));
 }
+
+-- a use of which the table tells whether it is the last
+pub told_used : (last : Bool) (node : ℕ) (before after : Held) → last ≡ (get_or before.ends node 0 == length before.relations + 1) → IsLeft last node before after → IsUsed before after
+told_used last node before after is = one_used last node before after (told_equal last (get_or before.ends node 0) (length before.relations + 1) is)
 
 -- those that are named later here are so too
 pub named_stand : (last : Bool) (node : ℕ) (rest : List ℕ) (before after : Held) → (last ≡ true → list_any (λ i. i == node) rest ≡ false) → IsLeft last node before after
@@ -211,10 +214,3 @@ if_ok (Err e) h f = h
 pub on_ok : {T E : Type 0} {P Q R : Type 0} (r : Result T E) → OnOk r P → OnOk r Q → (P → Q → R) → OnOk r R
 on_ok (Ok x) h g f = f h g
 on_ok (Err e) h g f = h
-
--- a test that is passed tells
-pub told_equal : (b : Bool) (m n : ℕ) → b ≡ (m == n) → b ≡ true → m ≡ n
-told_equal b m n is passed = elim (eqb_tells m n) [
-  | inl same ↦ same.1
-  | inr other ↦ absurd (true≢false (sym passed ∙ is ∙ other.0))
-]

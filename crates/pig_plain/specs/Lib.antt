@@ -1,5 +1,6 @@
 pub mod Answering
 pub mod Coming
+pub mod Entered
 pub mod Kinds
 pub mod Known
 pub mod Operating

@@ -1,7 +1,6 @@
 ghost use Rattle.std.specs.Prelude.{◌≡◌, ◌+◌, ◌==◌, [], true, false, get_or, length, map, IfOk, OnOk};
-ghost use Rattle.std.specs.List.{AllByRecursion, list_any};
-ghost use Rattle.pig_value.specs.Valid.{AreRows, IsValue};
-ghost use Rattle.pig_typed.specs.Literals.{LiteralsAre};
+ghost use Rattle.std.specs.List.{list_any};
+ghost use Rattle.pig_value.specs.Valid.{IsValue};
 ghost use Rattle.pig_typed.specs.Typed.{typed};
 ghost use Rattle.pig_plan.specs.ByKey.{gathered};
 ghost use Rattle.pig_plan.specs.Laws.{KeyLiteralsAre};
@@ -10,19 +9,18 @@ ghost use Rattle.pig_plan.specs.Operators.{group_all, group_rows, join_rows, key
 ghost use Rattle.pig_plan.specs.Plans.{keyed_of, plan_of};
 ghost use Rattle.pig_runs.specs.Entries.{and_entries, no_entries_in, run_of};
 ghost use Rattle.pig_operators.specs.Given.{made};
-ghost use Rattle.pig_operators.specs.Keying.{all_rows_keyed, keyed_rows};
-ghost use Rattle.pig_plain.specs.Coming.{coming, relation_rows, seen_rows};
+ghost use Rattle.pig_operators.specs.Keying.{keyed_rows};
+ghost use Rattle.pig_plain.specs.Coming.{relation_rows};
+ghost use Rattle.pig_plain.specs.Entered.{IsByKey};
 ghost use Rattle.pig_plain.specs.Tables.{HasFound, IsLeft, IsUsed, rows_of};
 
-use crate::relation::{Relation, Seen};
+use crate::entering::{Entering, enter};
+use crate::relation::Relation;
 use crate::table::Table;
 use crate::walking::Walk;
-use pig_operators::{
-    Gatherer, Gathering, add_all_rows, add_rows, gathering_of_group, gathering_of_join,
-};
+use pig_operators::{Gatherer, Gathering, gathering_of_group, gathering_of_join};
 use pig_plan::{KeyedInput, Plan};
 use pig_runs::RunBuilder;
-use pig_typed::TExpr;
 use pig_value::{Dirs, Rows, Side};
 use std::alloc::{AllocError, Global};
 
@@ -37,10 +35,10 @@ pub fn all_grouped<'p>(
     ensures { IfOk result (HasFound (group_all (rows_of table.old input))
         table.old table.new) }
 {
-    table.are_values();
-    let taken = table.take_input(alloc, input)?;
-    let seen = table.seen_at(input, taken);
-    let builder = all_entries(alloc, seen)?;
+    let how = Entering::Together;
+    let mut builder = RunBuilder::new(alloc, Dirs::new(alloc));
+    let last = table.is_last(input);
+    enter(alloc, &how, table, input, last, &mut builder)?;
     table.release(alloc, input);
     Ok(groups(alloc, Gathering::Group, builder))
 }
@@ -53,53 +51,6 @@ fn groups<'p>(alloc: Global, how: Gathering, builder: RunBuilder) -> Relation<'p
 {
     let groups = Gatherer::new(how, builder.finish());
     Relation::Coming(Walk::of_groups(alloc, groups))
-}
-
-// Rows under one key.
-fn all_entries(alloc: Global, seen: Seen) -> Result<RunBuilder, AllocError>
-    requires { AreRows (seen_rows seen) }
-    ensures { IfOk result (λ builder. builder
-        ≡ and_entries (all_rows_keyed (seen_rows seen.entry)) (no_entries_in [])) }
-{
-    let mut builder = RunBuilder::new(alloc, Dirs::new(alloc));
-    add_all_seen(alloc, seen, &mut builder)?;
-    Ok(builder)
-}
-
-fn add_all_seen(alloc: Global, seen: Seen, builder: &mut RunBuilder) -> Result<(), AllocError>
-    requires ascending { builder.old.dirs ≡ [] }
-    requires rows { AreRows (seen_rows seen) }
-    ensures { OnOk result (builder.new
-        ≡ and_entries (all_rows_keyed (seen_rows seen.entry)) builder.old) }
-{
-    match seen {
-        Seen::Whole(rows) => add_all_rows(alloc, rows, builder),
-        Seen::Walked(mut walk) => {
-            let added = add_all_coming(alloc, &mut walk, builder);
-            drop(walk);
-            added
-        }
-    }
-}
-
-// Here and below, rows that come go batch by batch into the run, and are let go.
-fn add_all_coming(
-    alloc: Global,
-    walk: &mut Walk,
-    builder: &mut RunBuilder,
-) -> Result<(), AllocError>
-    requires ascending { builder.old.dirs ≡ [] }
-    requires rows { AreRows (coming walk.old) }
-    ensures { OnOk result (builder.new
-        ≡ and_entries (all_rows_keyed (coming walk.old)) builder.old) }
-{
-    'batches: loop {
-        let rows = walk.next_batch(alloc)?;
-        if rows.is_empty() {
-            return Ok(());
-        }
-        add_all_rows(alloc, rows.as_slice(), builder)?;
-    }
 }
 
 // GROUP and COGROUP.
@@ -207,6 +158,7 @@ fn next_number(number: u32) -> Result<u32, AllocError>
     number.checked_add(1).ok_or(AllocError)
 }
 
+// Adds the entries of one input.
 fn add_input(
     alloc: Global,
     input: &KeyedInput,
@@ -215,61 +167,12 @@ fn add_input(
     last: bool,
     builder: &mut RunBuilder,
 ) -> Result<(), AllocError>
-    requires ascending { builder.old.dirs ≡ [] }
-    requires literals { AllByRecursion (LiteralsAre IsValue) (map typed input.now.keys) }
+    requires { IsByKey (map typed input.now.keys) builder.old.dirs }
     ensures entries { OnOk result (builder.new
         ≡ and_entries (keyed_rows (map typed input.now.keys) place
         (rows_of table.old input.now.input)) builder.old) }
     ensures left { OnOk result (IsLeft last input.now.input table.old table.new) }
 {
-    table.are_values();
-    let taken = table.take_coming(alloc, input.input, last)?;
-    let seen = table.seen_at(input.input, taken);
-    add_seen(alloc, input.keys.as_slice(), place, seen, builder)
-}
-
-fn add_seen(
-    alloc: Global,
-    keys: &[TExpr],
-    number: u32,
-    seen: Seen,
-    builder: &mut RunBuilder,
-) -> Result<(), AllocError>
-    requires ascending { builder.old.dirs ≡ [] }
-    requires rows { AreRows (seen_rows seen) }
-    requires literals { AllByRecursion (LiteralsAre IsValue) (map typed keys.now) }
-    ensures { OnOk result (builder.new
-        ≡ and_entries (keyed_rows (map typed keys.now) number (seen_rows seen.entry))
-        builder.old) }
-{
-    match seen {
-        Seen::Whole(rows) => add_rows(alloc, keys, number, rows, builder),
-        Seen::Walked(mut walk) => {
-            let added = add_coming(alloc, keys, number, &mut walk, builder);
-            drop(walk);
-            added
-        }
-    }
-}
-
-fn add_coming(
-    alloc: Global,
-    keys: &[TExpr],
-    number: u32,
-    walk: &mut Walk,
-    builder: &mut RunBuilder,
-) -> Result<(), AllocError>
-    requires ascending { builder.old.dirs ≡ [] }
-    requires rows { AreRows (coming walk.old) }
-    requires literals { AllByRecursion (LiteralsAre IsValue) (map typed keys.now) }
-    ensures { OnOk result (builder.new
-        ≡ and_entries (keyed_rows (map typed keys.now) number (coming walk.old)) builder.old) }
-{
-    'batches: loop {
-        let rows = walk.next_batch(alloc)?;
-        if rows.is_empty() {
-            return Ok(());
-        }
-        add_rows(alloc, keys, number, rows.as_slice(), builder)?;
-    }
+    let how = Entering::Keyed(input.keys.as_slice(), place);
+    enter(alloc, &how, table, input.input, last, builder)
 }

@@ -7,6 +7,7 @@
 mod answering;
 mod copies;
 mod each_row;
+mod entering;
 mod keyed;
 mod laws;
 mod loading;

@@ -5,13 +5,13 @@ ghost use Rattle.pig_value.specs.Trees.{row_tree, rows_tree};
 ghost use Rattle.pig_value.specs.Valid.{AreRows, IsRow};
 ghost use Rattle.pig_plan.specs.Operators.{order_rows};
 ghost use Rattle.pig_runs.specs.Entries.{and_entries, no_entries_in};
-ghost use Rattle.pig_plan.specs.Entries.{dirs_of, sort_entry};
+ghost use Rattle.pig_plan.specs.Entries.{dirs_of};
 ghost use Rattle.pig_operators.specs.Keying.{row_entry};
-ghost use Rattle.pig_plain.specs.Coming.{coming, relation_rows, seen_rows};
+ghost use Rattle.pig_plain.specs.Coming.{coming, relation_rows};
 ghost use Rattle.pig_plain.specs.Tables.{HasFound, rows_of};
 
-use crate::ranking::key_values;
-use crate::relation::{Relation, Seen};
+use crate::entering::{Entering, enter};
+use crate::relation::Relation;
 use crate::table::Table;
 use crate::walking::Walk;
 use pig_operators::{Orderer, distinct_keys};
@@ -34,91 +34,13 @@ pub fn in_order<'p>(
         table.old table.new) }
 {
     let dirs = directions(alloc, keys)?;
-    table.are_values();
-    let taken = table.take_input(alloc, input)?;
-    let seen = table.seen_at(input, taken);
-    let builder = sort_entries(alloc, keys, dirs, seen)?;
+    let how = Entering::Sorting(keys);
+    let mut builder = RunBuilder::new(alloc, dirs);
+    let last = table.is_last(input);
+    enter(alloc, &how, table, input, last, &mut builder)?;
     table.release(alloc, input);
     let rows = Orderer::new(builder.finish());
     Ok(Relation::Coming(Walk::of_ordered(alloc, rows)))
-}
-
-// Rows under their fields to sort by, in the directions of the keys.
-fn sort_entries(
-    alloc: Global,
-    keys: &SortKeys,
-    dirs: Dirs,
-    seen: Seen,
-) -> Result<RunBuilder, AllocError>
-    requires dirs { dirs ≡ dirs_of keys.now }
-    requires rows { AreRows (seen_rows seen) }
-    ensures { IfOk result (λ builder. builder
-        ≡ and_entries (map (sort_entry keys.now) (seen_rows seen.entry))
-        (no_entries_in (dirs_of keys.now))) }
-{
-    let mut builder = RunBuilder::new(alloc, dirs);
-    add_sorting_seen(alloc, keys, seen, &mut builder)?;
-    Ok(builder)
-}
-
-fn add_sorting_seen(
-    alloc: Global,
-    keys: &SortKeys,
-    seen: Seen,
-    builder: &mut RunBuilder,
-) -> Result<(), AllocError>
-    requires dirs { builder.old.dirs ≡ dirs_of keys.now }
-    requires rows { AreRows (seen_rows seen) }
-    ensures { OnOk result (builder.new
-        ≡ and_entries (map (sort_entry keys.now) (seen_rows seen.entry)) builder.old) }
-{
-    match seen {
-        Seen::Whole(rows) => add_sorting_rows(alloc, keys, rows, builder),
-        Seen::Walked(mut walk) => {
-            let added = add_sorting_coming(alloc, keys, &mut walk, builder);
-            drop(walk);
-            added
-        }
-    }
-}
-
-fn add_sorting_rows(
-    alloc: Global,
-    keys: &SortKeys,
-    rows: &[Tuple],
-    builder: &mut RunBuilder,
-) -> Result<(), AllocError>
-    requires dirs { builder.old.dirs ≡ dirs_of keys.now }
-    requires rows { AreRows (rows_tree rows.now) }
-    ensures { OnOk result (builder.new
-        ≡ and_entries (map (sort_entry keys.now) (rows_tree rows.now)) builder.old) }
-{
-    let mut left = rows;
-    'rows: while let [row, rest @ ..] = left {
-        add_sorting(alloc, keys, row, builder)?;
-        left = rest;
-    }
-    Ok(())
-}
-
-fn add_sorting_coming(
-    alloc: Global,
-    keys: &SortKeys,
-    walk: &mut Walk,
-    builder: &mut RunBuilder,
-) -> Result<(), AllocError>
-    requires dirs { builder.old.dirs ≡ dirs_of keys.now }
-    requires rows { AreRows (coming walk.old) }
-    ensures { OnOk result (builder.new
-        ≡ and_entries (map (sort_entry keys.now) (coming walk.old)) builder.old) }
-{
-    'batches: loop {
-        let rows = walk.next_batch(alloc)?;
-        if rows.is_empty() {
-            return Ok(());
-        }
-        add_sorting_rows(alloc, keys, rows.as_slice(), builder)?;
-    }
 }
 
 fn directions(alloc: Global, keys: &SortKeys) -> Result<Dirs, AllocError>
@@ -129,21 +51,6 @@ fn directions(alloc: Global, keys: &SortKeys) -> Result<Dirs, AllocError>
         dirs.push(key.dir)?;
     }
     Ok(dirs)
-}
-
-fn add_sorting(
-    alloc: Global,
-    keys: &SortKeys,
-    row: &Tuple,
-    builder: &mut RunBuilder,
-) -> Result<(), AllocError>
-    requires dirs { builder.old.dirs ≡ dirs_of keys.now }
-    requires row { IsRow (row_tree row.now) }
-    ensures { OnOk result (builder.new
-        ≡ and_entries (sort_entry keys.now (row_tree row.now) ∷ []) builder.old) }
-{
-    let key = Value::Tuple(key_values(alloc, keys, row)?);
-    builder.add(&key, 0, row)
 }
 
 // DISTINCT: each row once, in ascending order.

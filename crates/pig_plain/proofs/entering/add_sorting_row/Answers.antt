@@ -5,7 +5,7 @@ use Rattle.pig_value.specs.Trees.{fields_of, row_tree, tree, v_tuple}
 use Rattle.pig_keycode.specs.Keys.{IsKey}
 use Rattle.pig_plan.specs.Entries.{dirs_of, sort_entry}
 use Rattle.pig_operators.proofs.SortEntries.{is_key}
-use Rattle.pig_plain.proofs.sorting.add_sorting.Goals as goal
+use Rattle.pig_plain.proofs.entering.add_sorting_row.Goals as goal
 
 pub add-requires-clause-key : goal.add-requires-clause-key
 add-requires-clause-key c =

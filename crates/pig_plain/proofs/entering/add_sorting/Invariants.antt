@@ -2,7 +2,7 @@ use Rattle.std.proofs.Common.{◌≡◌, ◌++◌, length, map}
 use Rattle.pig_value.specs.Trees.{rows_tree}
 use Rattle.pig_value.specs.Valid.{AreRows}
 use Rattle.pig_plan.specs.Entries.{dirs_of, sort_entry}
-use Rattle.pig_plain.proofs.sorting.add_sorting_rows.Given as goal
+use Rattle.pig_plain.proofs.entering.add_sorting.Given as goal
 
 abbrev pub invariant-rows : goal.invariant-rows
 invariant-rows l = (l.builder.dirs ≡ dirs_of l.keys)
