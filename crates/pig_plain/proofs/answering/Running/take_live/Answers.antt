@@ -26,8 +26,8 @@ returns-in-Stored c =
     let sorted_is : at_place false c.args.sorted.now ≡ is_sorted plan = ap (at_place false) c.requires.sorted in
     let kind = stored_kind (is_sorted plan) node.op (ap (λ s. kind_in s node.op) (sym sorted_is) ∙ sym c.kind_of.ensures ∙ c.in-Stored.is) in
     on_ok c.put_stored.result c.put_stored.ensures.table c.put_stored.ensures.stores (λ t s.
-    same_so_far plan c.args.inputs.now (i + 1) (and_relation no_rows after) c.put_stored.new.self.table kept c.put_stored.new.self.kept (stores ++ relation_rows made ∷ []) (map rows_tree c.put_stored.new.self.stores)
-    t c.put_stored.ensures.kept s
+    same_so_far plan c.args.inputs.now (i + 1) (and_relation no_rows after) c.put_stored.new.self.table kept c.put_stored.new.self.kept
+    (stores ++ relation_rows made ∷ []) (map rows_tree c.put_stored.new.self.stores) t c.put_stored.ensures.kept s
     (store_step plan c.requires.valid c.args.inputs.now i node c.requires.node before kept stores c.requires.so_far
     c.requires.live after used made told.rows kind.0 kind.1 kind.2 kind.3))
 
@@ -45,8 +45,8 @@ returns-in-Kept c =
     let sorted_is : at_place false c.args.sorted.now ≡ is_sorted plan = ap (at_place false) c.requires.sorted in
     let kind = kept_kind (is_sorted plan) node.op (ap (λ s. kind_in s node.op) (sym sorted_is) ∙ sym c.kind_of.ensures ∙ c.in-Kept.is) in
     on_ok c.put_kept.result c.put_kept.ensures.table c.put_kept.ensures.kept (λ t k.
-    same_so_far plan c.args.inputs.now (i + 1) (and_relation t.0 after) c.put_kept.new.self.table (kept ++ k.0 ∷ []) c.put_kept.new.self.kept stores (map rows_tree c.put_kept.new.self.stores)
-    t.2 k.3 (ap (map rows_tree) c.put_kept.ensures.stores)
+    same_so_far plan c.args.inputs.now (i + 1) (and_relation t.0 after) c.put_kept.new.self.table (kept ++ k.0 ∷ []) c.put_kept.new.self.kept
+    stores (map rows_tree c.put_kept.new.self.stores) t.2 k.3 (ap (map rows_tree) c.put_kept.ensures.stores)
     (keep_step plan c.requires.valid c.args.inputs.now i node c.requires.node before kept stores c.requires.so_far
     c.requires.live after used t.0 (t.1 ∙ told.rows) k.0 kind.0 kind.1 kind.2 kind.3 k.1 (k.2 ∙ sym t.1)))
 
