@@ -30,7 +30,7 @@ pub record IsLeft (last : Bool) (node : ℕ) (before after : Held) : Type 0 wher
   pub others : (k : ℕ) → k ≢ node → rows_of after k ≡ rows_of before k
   pub kept : last ≡ false → (k : ℕ) → rows_of after k ≡ rows_of before k
 
--- The node behind those of the table uses rows: those of nodes whose last use that isn't are as before.
+-- The node behind those of the table uses rows: those of each node are as before, but where that is its last use.
 pub record IsUsed (before after : Held) : Type 0 where
   pub size : length after.relations ≡ length before.relations
   pub ends : after.ends ≡ before.ends

@@ -35,7 +35,13 @@ impl<'p> Model for Table<'p> {
 
     ghost Value = { Held };
 
-    ghost coded = { Prim.hlevel (codes, coded_tree, kind.the_row.coded, expr.the_row.coded, value.the_row.coded) };
+    ghost coded = { Prim.hlevel (
+      codes,
+      coded_tree,
+      kind.the_row.coded,
+      expr.the_row.coded,
+      value.the_row.coded,
+    ) };
 
     ghost view = { λ t. record { relations = t.relations.items; ends = t.ends.items } };
 
