@@ -2,9 +2,9 @@ mod Feeding
 mod Splitting
 mod Runs
 mod Fitted
-mod Shuffled
 mod Choices
 mod LentRows
 mod Copied
 mod Placed
 mod Sided
+mod Leaving

@@ -144,14 +144,21 @@ becomes s outs t o rows form handing is by h other at =
     subst (λ o. IsMapForm s None outs t.node o t.way.input rows form) (some_same o other (sym is ∙ at))
     (form_is s outs t.node o t.way.input rows form (subst (FormBy s outs t.node o t.way.input rows form) by h))
 
--- what a task made for its node's operator, as a call has it
+-- what a task made for its node's operator
+pub made_for : (s : Stages) (told : Option (List Input)) (outs : Outs) (t : MapTask) (o : PlanOp) (handing : Handing)
+    → op_at s.plan t.node ≡ Some o → handing ≡ handing_of o t.way.input → (takes : Rows → Form → Type 0)
+    → ((rows : Rows) (form : Form) → takes rows form → FormBy s outs t.node o t.way.input rows form handing)
+    → (out : Out) → HasRun s told outs t (λ rows. takes rows (form_of out.form)) out.lines out.unmet → HasMade s told outs t (out_of out)
+made_for s told outs t o handing is by takes to out run =
+    run_as s told outs t (λ rows. takes rows (form_of out.form)) (Becomes s outs t (form_of out.form)) out.lines out.unmet
+    (λ rows taken. becomes s outs t o rows (form_of out.form) handing is by (to rows (form_of out.form) taken)) run
+
+-- the same, as a call has it
 pub made_by : {E : Type 0} (s : Stages) (told : Option (List Input)) (outs : Outs) (t : MapTask) (o : PlanOp) (handing : Handing)
-    → op_at s.plan t.node ≡ Some o → handing ≡ handing_of o t.way.input → (r : Result (Option Out) E)
-    → IfOk r (λ found. IfSome found (λ out. HasRun s told outs t (λ rows. FormBy s outs t.node o t.way.input rows (form_of out.form) handing) out.lines out.unmet))
+    → op_at s.plan t.node ≡ Some o → handing ≡ handing_of o t.way.input → (takes : Rows → Form → Type 0)
+    → ((rows : Rows) (form : Form) → takes rows form → FormBy s outs t.node o t.way.input rows form handing)
+    → (r : Result (Option Out) E)
+    → IfOk r (λ found. IfSome found (λ out. HasRun s told outs t (λ rows. takes rows (form_of out.form)) out.lines out.unmet))
     → IfOk r (λ found. IfSome found (λ out. HasMade s told outs t (out_of out)))
-made_by s told outs t o handing is by r h =
-    MatchResult-weaker r h
-    (λ found some. IfSome_then found some (λ out run.
-    run_as s told outs t (λ rows. FormBy s outs t.node o t.way.input rows (form_of out.form) handing) (Becomes s outs t (form_of out.form)) out.lines out.unmet
-    (λ rows form. becomes s outs t o rows (form_of out.form) handing is by form) run))
-    (λ e none. none)
+made_by s told outs t o handing is by takes to r h =
+    MatchResult-weaker r h (λ found some. IfSome_then found some (λ out run. made_for s told outs t o handing is by takes to out run)) (λ e none. none)

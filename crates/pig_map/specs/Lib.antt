@@ -3,3 +3,5 @@ pub mod Reading
 pub mod Making
 pub mod Choosing
 pub mod Copies
+pub mod Copying
+pub mod Working

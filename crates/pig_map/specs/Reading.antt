@@ -4,12 +4,20 @@ use Rattle.std.specs.Option.{ForSome}
 use Rattle.pig_value.specs.declared.inputs.Column.{Column}
 use Rattle.pig_value.specs.declared.inputs.Input.{Input}
 use Rattle.pig_value.specs.Trees.{Tree}
+use Rattle.pig_value.specs.Valid.{IsValue}
 use Rattle.pig_storage.specs.declared.splits.Split.{Split}
 use Rattle.pig_outside.specs.Shelf.{piece_of}
+use Rattle.pig_plan.specs.Laws.{PlanLiteralsAre}
 use Rattle.pig_stream.specs.Driving.{HasTaken, IsAll}
 use Rattle.pig_stream.specs.Ranges.{Reading, lines_coming, rows_of_lines}
+use Rattle.pig_stream.specs.Stepping.{HaveNoted, plan_on}
 use Rattle.pig_stream.specs.declared.steps.Steps.{Steps}
 use Rattle.pig_physical.specs.Values.{split_lines}
+
+-- steps that no rows went through yet, of a plan whose literals are values
+pub record AreFresh (steps : Steps) : Type 0 where
+  pub literals : PlanLiteralsAre IsValue (plan_on steps)
+  pub none : HaveNoted steps []
 
 -- the bytes of a piece of an input, and none where there is no such
 abbrev pub piece_bytes : List ℕ → ℕ → List Input → List ℕ

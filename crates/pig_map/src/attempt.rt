@@ -1,43 +1,46 @@
 //! A map or store task, made on a host.
-ghost use Rattle.std.specs.Prelude.{◌≡◌, ◌≤◌, ◌<◌, if◌then◌else◌, true, Bool, map, List, Some, None, take, IfOk, IfSome, IfNone, IsErrOf};
+ghost use Rattle.std.specs.Prelude.{◌≡◌, ◌≤◌, ◌<◌, [], if◌then◌else◌, true, Bool, map, List, Some, None, IfOk, IfSome, IfNone, IsErrOf};
 ghost use Rattle.std.specs.Option.{ForSome, option_map};
 ghost use Rattle.std.specs.Ordering.{nat_cmp};
 ghost use Rattle.pig_value.specs.declared.inputs.Input.{Input};
 ghost use Rattle.pig_value.specs.declared.operators.Side.{Side};
 ghost use Rattle.pig_value.specs.Sorts.{sort};
-ghost use Rattle.pig_value.specs.Texts.{rows_text};
 ghost use Rattle.pig_value.specs.Trees.{Tree};
-ghost use Rattle.pig_outside.specs.Faults.{HasCause};
 ghost use Rattle.pig_plan.specs.Laws.{OpLiteralsAre};
 ghost use Rattle.pig_plan.specs.Nodes.{op_at};
 ghost use Rattle.pig_plan.specs.Plans.{keyed_of, op_of, p_join};
 ghost use Rattle.pig_value.specs.Valid.{IsValue};
 ghost use Rattle.pig_typed.specs.Typed.{typed};
 ghost use Rattle.pig_stream.specs.Stepping.{HaveNoted, unmet_by};
+ghost use Rattle.pig_shuffle.specs.Held.{HasShuffled};
+ghost use Rattle.pig_shuffle.specs.Shuffling.{shuffling_at};
 ghost use Rattle.pig_physical.specs.Fitting.{Fits, HasRead};
-ghost use Rattle.pig_physical.specs.Handed.{form_of, out_of, outs_of};
-ghost use Rattle.pig_physical.specs.Outs.{o_bytes, o_rows};
+ghost use Rattle.pig_physical.specs.Handed.{out_of, outs_of};
+ghost use Rattle.pig_physical.specs.Outs.{o_rows};
 ghost use Rattle.pig_physical.specs.Seen.{HasSource, IsTaskOf, Reads, map_task_of, staged};
 ghost use Rattle.pig_physical.specs.Stages.{is_replicated, t_map};
-ghost use Rattle.pig_physical.specs.Values.{AreAsBag, IsValue as IsTaskValue, probed_rows};
+ghost use Rattle.pig_physical.specs.Values.{IsValue as IsTaskValue};
 ghost use Rattle.pig_physical.specs.declared.parts.Task.TheVariants as tasks;
-ghost use Rattle.pig_map.specs.Copies.{AreSidesOf, HasSides, first_keys};
-ghost use Rattle.pig_map.specs.Making.{FormBy, HasMade, HasRun, attempt_fault_of, handing_of, joined_handing};
+ghost use Rattle.pig_map.specs.Copies.{HasSides, first_keys};
+ghost use Rattle.pig_map.specs.Making.{HasMade, HasRun, attempt_fault_of, handing_of, joined_handing};
+ghost use Rattle.pig_map.specs.Working.{HandsOn, Leaves, Suits, prior_of, stages_of, task_of};
 ghost use Rattle.pig_map.specs.declared.attempt.Handing.TheVariants as handings;
 
 use crate::first::FirstPacked;
-use crate::lent::{lent_first, lent_text};
+use crate::forming::Former;
+use crate::lent::lent_out;
 use crate::parts::{operator, take_part};
 use crate::unmet::ascending;
+use crate::work::MapWork;
 use pig_fitting::{loads_fit, map_forms_fit, parts_fit};
 use pig_outside::{AttemptFault, Host, OutsideError, Stop};
-use pig_physical::{MapTask, Out, OutForm, OutRuns, Outs, Stages};
+use pig_physical::{MapTask, Out, OutForm, Outs, Stages};
 use pig_plan::{KeyedInput, NodeOp};
 use pig_probe::{ProbedRows, Sides};
 use pig_shuffle::{Shuffle, runs_are_of_the_node};
 use pig_stream::{PackedRows, Sink, Steps, StoredText, marks_stand_for_what_folds};
 use pig_typed::TExprs;
-use pig_value::{Blob, Delim, Numbers};
+use pig_value::{Delim, Numbers};
 use std::alloc::{AllocError, Global};
 
 // How many lines came, and the statements of the ASSERTs that are not met.
@@ -61,38 +64,24 @@ pub enum Handing {
 
 // Takes a task's rows through its path into what takes them. None: the stop told that the task is won.
 fn run<H: Host, S: Stop, K: Sink>(
-    alloc: Global,
-    stages: &Stages,
-    task: &MapTask,
-    prior: &Outs,
+    work: &MapWork,
     host: &mut H,
-    block: u32,
     stop: &mut S,
     sink: &mut K,
 ) -> Result<Option<Ran>, OutsideError>
-    requires task { IsTaskOf (staged stages.now) task.now.wave (tasks.Map task.now) }
-    requires host { ForSome (H.inputs host.old)
-        (HasSource (staged stages.now) (map_task_of (staged stages.now) task.now)) }
-    requires block { 0 < block }
-    ensures ran { IfOk result (λ o. IfSome o (λ ran. HasRun (staged stages.now)
-        (H.inputs host.old) (outs_of prior.now) (map_task_of (staged stages.now) task.now)
-        (λ rows. K.after sink.old rows sink.new) ran.lines ran.unmet)) }
-    ensures stopped { IfOk result (λ o. IfNone o (S.won stop.new)) }
-    ensures kept { S.kept stop.new ≡ S.kept stop.old }
-    ensures inputs { H.inputs host.new ≡ H.inputs host.old }
-    ensures begun { H.begun host.new ≡ H.begun host.old }
-    ensures cause { HasCause (H.faults host.old) (H.faults host.new) result }
+    requires host { Suits work.now (H.inputs host.old) }
+    ensures { Leaves H.inputs H.begun H.faults S.kept S.won host.old host.new stop.old stop.new
+        result (λ ran. HasRun (stages_of work.now) (H.inputs host.old) (prior_of work.now)
+        (task_of work.now) (λ rows. K.after sink.old rows sink.new) ran.lines ran.unmet) }
 {
     marks_stand_for_what_folds();
-    let way = stages.way_of(task);
+    let alloc = work.alloc;
+    let stages = work.stages;
+    let way = stages.way_of(work.task);
     let nodes = stages.plan().nodes();
     let path = way.path.nodes.as_slice();
     let mut steps = Steps::new(alloc, nodes.as_slice(), path, stages.folded())?;
-    let source = way.path.source;
-    let came = take_part(
-        alloc, stages, source, task.part, prior, host, block, stop, &mut steps, sink,
-    )?;
-    let Some(lines) = came else {
+    let Some(lines) = take_part(work, way.path.source, host, stop, &mut steps, sink)? else {
         return Ok(None);
     };
     let unmet = unmet_of(alloc, &steps)?;
@@ -117,106 +106,36 @@ fn out_with(form: OutForm, ran: Ran) -> Out
     Out { form, lines, unmet }
 }
 
-// The rows as the text of a STORE.
-fn text_out<H: Host, S: Stop>(
-    alloc: Global,
-    stages: &Stages,
-    task: &MapTask,
-    prior: &Outs,
+// Takes a task's rows through its path, and brings them into a form. None: the stop told that the task is won.
+fn handed<H: Host, S: Stop, F: Former + Drop>(
+    work: &MapWork,
     host: &mut H,
-    block: u32,
     stop: &mut S,
-    delim: Delim,
+    former: F,
 ) -> Result<Option<Out>, OutsideError>
-    requires task { IsTaskOf (staged stages.now) task.now.wave (tasks.Map task.now) }
-    requires host { ForSome (H.inputs host.old)
-        (HasSource (staged stages.now) (map_task_of (staged stages.now) task.now)) }
-    requires block { 0 < block }
-    ensures made { IfOk result (λ o. IfSome o (λ out. HasRun (staged stages.now)
-        (H.inputs host.old) (outs_of prior.now) (map_task_of (staged stages.now) task.now)
-        (λ rows. form_of out.form ≡ o_bytes (rows_text delim rows))
-        out.lines out.unmet)) }
-    ensures stopped { IfOk result (λ o. IfNone o (S.won stop.new)) }
-    ensures kept { S.kept stop.new ≡ S.kept stop.old }
-    ensures inputs { H.inputs host.new ≡ H.inputs host.old }
-    ensures begun { H.begun host.new ≡ H.begun host.old }
-    ensures cause { HasCause (H.faults host.old) (H.faults host.new) result }
+    requires { Suits work.now (H.inputs host.old) }
+    ensures { Leaves H.inputs H.begun H.faults S.kept S.won host.old host.new stop.old stop.new
+        result (HandsOn work.now (H.inputs host.old) (F.becomes former)) }
 {
-    if let Some(out) = lent_text(alloc, stages, task, prior, delim)? {
-        return Ok(Some(out));
-    }
-    let mut sink = StoredText::new(alloc, delim);
-    let Some(ran) = run(alloc, stages, task, prior, host, block, stop, &mut sink)? else {
+    let mut former = former;
+    let Some(ran) = run(work, host, stop, &mut former)? else {
         return Ok(None);
     };
-    let StoredText { bytes, .. } = sink;
-    Ok(Some(out_with(OutForm::Parts(Blob::from_vec(bytes)), ran)))
-}
-
-// The first rows.
-fn first_out<H: Host, S: Stop>(
-    alloc: Global,
-    stages: &Stages,
-    task: &MapTask,
-    prior: &Outs,
-    host: &mut H,
-    block: u32,
-    stop: &mut S,
-    count: u64,
-) -> Result<Option<Out>, OutsideError>
-    requires task { IsTaskOf (staged stages.now) task.now.wave (tasks.Map task.now) }
-    requires host { ForSome (H.inputs host.old)
-        (HasSource (staged stages.now) (map_task_of (staged stages.now) task.now)) }
-    requires block { 0 < block }
-    ensures made { IfOk result (λ o. IfSome o (λ out. HasRun (staged stages.now)
-        (H.inputs host.old) (outs_of prior.now) (map_task_of (staged stages.now) task.now)
-        (λ rows. form_of out.form ≡ o_rows (take count rows))
-        out.lines out.unmet)) }
-    ensures stopped { IfOk result (λ o. IfNone o (S.won stop.new)) }
-    ensures kept { S.kept stop.new ≡ S.kept stop.old }
-    ensures inputs { H.inputs host.new ≡ H.inputs host.old }
-    ensures begun { H.begun host.new ≡ H.begun host.old }
-    ensures cause { HasCause (H.faults host.old) (H.faults host.new) result }
-{
-    if let Some(out) = lent_first(alloc, stages, task, prior, count)? {
-        return Ok(Some(out));
-    }
-    let mut sink = FirstPacked::new(alloc, count);
-    let Some(ran) = run(alloc, stages, task, prior, host, block, stop, &mut sink)? else {
-        return Ok(None);
-    };
-    Ok(Some(out_with(OutForm::Rows(sink.finish()), ran)))
+    let form = former.into_form(work.alloc)?;
+    Ok(Some(out_with(form, ran)))
 }
 
 // A task's rows, in order.
 pub fn rows_out<H: Host, S: Stop>(
-    alloc: Global,
-    stages: &Stages,
-    task: &MapTask,
-    prior: &Outs,
+    work: &MapWork,
     host: &mut H,
-    block: u32,
     stop: &mut S,
 ) -> Result<Option<Out>, OutsideError>
-    requires task { IsTaskOf (staged stages.now) task.now.wave (tasks.Map task.now) }
-    requires host { ForSome (H.inputs host.old)
-        (HasSource (staged stages.now) (map_task_of (staged stages.now) task.now)) }
-    requires block { 0 < block }
-    ensures made { IfOk result (λ o. IfSome o (λ out. HasRun (staged stages.now)
-        (H.inputs host.old) (outs_of prior.now) (map_task_of (staged stages.now) task.now)
-        (λ rows. form_of out.form ≡ o_rows rows)
-        out.lines out.unmet)) }
-    ensures stopped { IfOk result (λ o. IfNone o (S.won stop.new)) }
-    ensures kept { S.kept stop.new ≡ S.kept stop.old }
-    ensures inputs { H.inputs host.new ≡ H.inputs host.old }
-    ensures begun { H.begun host.new ≡ H.begun host.old }
-    ensures cause { HasCause (H.faults host.old) (H.faults host.new) result }
+    requires host { Suits work.now (H.inputs host.old) }
+    ensures { Leaves H.inputs H.begun H.faults S.kept S.won host.old host.new stop.old stop.new
+        result (HandsOn work.now (H.inputs host.old) (λ rows form. form ≡ o_rows rows)) }
 {
-    let mut sink = PackedRows::new(alloc);
-    let Some(ran) = run(alloc, stages, task, prior, host, block, stop, &mut sink)? else {
-        return Ok(None);
-    };
-    Ok(Some(out_with(OutForm::Rows(sink.finish()), ran)))
+    handed(work, host, stop, PackedRows::new(work.alloc))
 }
 
 // What a task of a node's input hands on.
@@ -252,47 +171,20 @@ fn joined_handing(replicated: bool, input: u32) -> Handing
     }
 }
 
-// The rows of a replicated JOIN's first input, joined with what was copied of the others.
-fn joined_out<H: Host, S: Stop>(
-    alloc: Global,
-    stages: &Stages,
-    task: &MapTask,
-    prior: &Outs,
-    sides: &Sides,
-    host: &mut H,
-    block: u32,
-    stop: &mut S,
-    op: &NodeOp,
-) -> Result<Option<Out>, OutsideError>
-    requires task { IsTaskOf (staged stages.now) task.now.wave (tasks.Map task.now) }
-    requires host { ForSome (H.inputs host.old)
-        (HasSource (staged stages.now) (map_task_of (staged stages.now) task.now)) }
-    requires block { 0 < block }
-    requires op { op_at (staged stages.now).plan task.now.node ≡ Some (op_of op.now) }
+// What joins the rows of a replicated JOIN's first input with what was copied of the others.
+fn joining<'s>(work: &MapWork, op: &'s NodeOp, sides: &'s Sides) -> ProbedRows<'s>
+    requires op { op_at (stages_of work.now).plan work.now.task.now.node ≡ Some (op_of op.now) }
     requires joins { is_replicated (op_of op.now) ≡ true }
-    requires sides { AreSidesOf (staged stages.now) (outs_of prior.now) task.now.node (op_of op.now)
-        sides.now }
-    ensures made { IfOk result (λ o. IfSome o (λ out. HasRun (staged stages.now)
-        (H.inputs host.old) (outs_of prior.now) (map_task_of (staged stages.now) task.now)
-        (λ rows. AreAsBag (probed_rows (staged stages.now) (outs_of prior.now) task.now.node
-        (op_of op.now) rows) (form_of out.form))
-        out.lines out.unmet)) }
-    ensures stopped { IfOk result (λ o. IfNone o (S.won stop.new)) }
-    ensures kept { S.kept stop.new ≡ S.kept stop.old }
-    ensures inputs { H.inputs host.new ≡ H.inputs host.old }
-    ensures begun { H.begun host.new ≡ H.begun host.old }
-    ensures cause { HasCause (H.faults host.old) (H.faults host.new) result }
+    ensures keys { Some (map typed result.keys.now) ≡ first_keys (op_of op.now) }
+    ensures sides { result.sides.now ≡ sides.now }
+    ensures rows { result.rows ≡ [] }
 {
-    let _ = stages.plan().nodes();
+    let _ = work.stages.plan().nodes();
     // A replicated JOIN has two inputs at least.
     let Some(keys) = first_keys(op) else {
         unreachable!();
     };
-    let mut sink = ProbedRows::new(alloc, keys, sides);
-    let Some(ran) = run(alloc, stages, task, prior, host, block, stop, &mut sink)? else {
-        return Ok(None);
-    };
-    Ok(Some(out_with(OutForm::Rows(sink.finish()), ran)))
+    ProbedRows::new(work.alloc, keys, sides)
 }
 
 // The keys of the first input of a JOIN.
@@ -326,80 +218,47 @@ fn keys_of_first(inputs: &[KeyedInput]) -> Option<&TExprs>
     }
 }
 
-// The sorted runs of the rows, by partition.
-fn runs_out<H: Host, S: Stop>(
-    alloc: Global,
-    stages: &Stages,
-    task: &MapTask,
-    prior: &Outs,
-    host: &mut H,
-    block: u32,
-    stop: &mut S,
-    op: &NodeOp,
-) -> Result<Option<Out>, OutsideError>
-    requires task { IsTaskOf (staged stages.now) task.now.wave (tasks.Map task.now) }
-    requires host { ForSome (H.inputs host.old)
-        (HasSource (staged stages.now) (map_task_of (staged stages.now) task.now)) }
-    requires block { 0 < block }
-    requires op { op_at (staged stages.now).plan task.now.node ≡ Some (op_of op.now) }
-    requires literals { OpLiteralsAre IsValue (op_of op.now) }
-    ensures made { IfOk result (λ o. IfSome o (λ out. HasRun (staged stages.now)
-        (H.inputs host.old) (outs_of prior.now) (map_task_of (staged stages.now) task.now)
-        (λ rows. FormBy (staged stages.now) (outs_of prior.now) task.now.node (op_of op.now)
-        (map_task_of (staged stages.now) task.now).way.input rows (form_of out.form) Handing.Runs)
-        out.lines out.unmet)) }
-    ensures stopped { IfOk result (λ o. IfNone o (S.won stop.new)) }
-    ensures kept { S.kept stop.new ≡ S.kept stop.old }
-    ensures inputs { H.inputs host.new ≡ H.inputs host.old }
-    ensures begun { H.begun host.new ≡ H.begun host.old }
-    ensures cause { HasCause (H.faults host.old) (H.faults host.new) result }
+// What brings the rows of a task under their keys.
+fn shuffle_for<'p>(work: &MapWork, op: &'p NodeOp) -> Result<Shuffle<'p>, AllocError>
+    requires { OpLiteralsAre IsValue (op_of op.now) }
+    ensures { IfOk result (HasShuffled (shuffling_at (stages_of work.now).plan
+        work.now.task.now.node (op_of op.now) (task_of work.now).way.input
+        (stages_of work.now).sizing.reducers) []) }
 {
-    runs_are_of_the_node();
-    let input = stages.way_of(task).input;
-    let fold = stages.fold_of(task.node);
-    let mut sink = Shuffle::new(alloc, op, fold, input, stages.reducers())?;
-    let Some(ran) = run(alloc, stages, task, prior, host, block, stop, &mut sink)? else {
-        return Ok(None);
-    };
-    let runs = sink.finish(alloc)?;
-    Ok(Some(out_with(OutForm::Runs(OutRuns::Several(runs)), ran)))
+    let stages = work.stages;
+    let input = stages.way_of(work.task).input;
+    let fold = stages.fold_of(work.task.node);
+    Shuffle::new(work.alloc, op, fold, input, stages.reducers())
 }
 
 // What a task hands on.
 fn attempt<H: Host, S: Stop>(
-    alloc: Global,
-    stages: &Stages,
-    task: &MapTask,
-    prior: &Outs,
+    work: &MapWork,
     sides: &Sides,
     host: &mut H,
-    block: u32,
     stop: &mut S,
 ) -> Result<Option<Out>, OutsideError>
-    requires task { IsTaskOf (staged stages.now) task.now.wave (tasks.Map task.now) }
-    requires host { ForSome (H.inputs host.old)
-        (HasSource (staged stages.now) (map_task_of (staged stages.now) task.now)) }
-    requires block { 0 < block }
-    requires sides { HasSides (staged stages.now) (outs_of prior.now)
-        (map_task_of (staged stages.now) task.now) sides.now }
-    ensures made { IfOk result (λ o. IfSome o (λ out. HasMade (staged stages.now)
-        (H.inputs host.old) (outs_of prior.now) (map_task_of (staged stages.now) task.now)
-        (out_of out))) }
-    ensures stopped { IfOk result (λ o. IfNone o (S.won stop.new)) }
-    ensures kept { S.kept stop.new ≡ S.kept stop.old }
-    ensures inputs { H.inputs host.new ≡ H.inputs host.old }
-    ensures begun { H.begun host.new ≡ H.begun host.old }
-    ensures cause { HasCause (H.faults host.old) (H.faults host.new) result }
+    requires host { Suits work.now (H.inputs host.old) }
+    requires sides { HasSides (stages_of work.now) (prior_of work.now) (task_of work.now)
+        sides.now }
+    ensures { Leaves H.inputs H.begun H.faults S.kept S.won host.old host.new stop.old stop.new
+        result (λ out. HasMade (stages_of work.now) (H.inputs host.old) (prior_of work.now)
+        (task_of work.now) (out_of out)) }
 {
-    let Some(op) = operator(stages, task.node) else {
-        return rows_out(alloc, stages, task, prior, host, block, stop);
+    runs_are_of_the_node();
+    let Some(op) = operator(work.stages, work.task.node) else {
+        return rows_out(work, host, stop);
     };
-    match handing_for(op, stages.way_of(task).input) {
-        Handing::Text(delim) => text_out(alloc, stages, task, prior, host, block, stop, delim),
-        Handing::First(count) => first_out(alloc, stages, task, prior, host, block, stop, count),
-        Handing::Runs => runs_out(alloc, stages, task, prior, host, block, stop, op),
-        Handing::Copied => rows_out(alloc, stages, task, prior, host, block, stop),
-        Handing::Joined => { joined_out(alloc, stages, task, prior, sides, host, block, stop, op) }
+    let handing = handing_for(op, work.stages.way_of(work.task).input);
+    if let Some(out) = lent_out(work, handing)? {
+        return Ok(Some(out));
+    }
+    match handing {
+        Handing::Text(delim) => handed(work, host, stop, StoredText::new(work.alloc, delim)),
+        Handing::First(count) => handed(work, host, stop, FirstPacked::new(work.alloc, count)),
+        Handing::Runs => handed(work, host, stop, shuffle_for(work, op)?),
+        Handing::Copied => rows_out(work, host, stop),
+        Handing::Joined => handed(work, host, stop, joining(work, op, sides)),
     }
 }
 
@@ -450,7 +309,14 @@ pub fn map_attempt<H: Host, S: Stop>(
     parts_fit();
     map_forms_fit();
     let _ = stages.plan().nodes();
-    match attempt(alloc, stages, task, prior, sides, host, block, stop) {
+    let work = MapWork {
+        alloc,
+        stages,
+        task,
+        prior,
+        block,
+    };
+    match attempt(&work, sides, host, stop) {
         Ok(out) => Ok(out),
         Err(error) => Err(attempt_fault(error)),
     }

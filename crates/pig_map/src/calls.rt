@@ -13,6 +13,7 @@ ghost use Rattle.pig_map.specs.Making.{ArePathRows};
 use crate::attempt::{attempt_fault, map_attempt, rows_out};
 use crate::copies::sides_before;
 use crate::never::Never;
+use crate::work::MapWork;
 use pig_outside::{AttemptFault, Host};
 use pig_physical::{MapTask, Out, Outs, Stages};
 use std::alloc::Global;
@@ -103,8 +104,15 @@ pub fn path_rows<H: Host>(
     ensures later { H.faults host.old ≤ H.faults host.new }
     ensures lost { IsErrOf result AttemptFault.Lost → H.faults host.old < H.faults host.new }
 {
+    let work = MapWork {
+        alloc,
+        stages,
+        task,
+        prior,
+        block: BLOCK,
+    };
     let mut never = Never;
-    match rows_out(alloc, stages, task, prior, host, BLOCK, &mut never) {
+    match rows_out(&work, host, &mut never) {
         Ok(Some(out)) => Ok(out),
         Ok(None) => Err(AttemptFault::OutOfMemory),
         Err(error) => Err(attempt_fault(error)),

@@ -14,9 +14,11 @@ ghost use Rattle.pig_physical.specs.Handed.{form_of, out_of, outs_of};
 ghost use Rattle.pig_physical.specs.Outs.{outs_at, rows_in};
 ghost use Rattle.pig_physical.specs.Seen.{staged};
 ghost use Rattle.pig_physical.specs.Stages.{Task as StageTask, heads, tasks_in};
-ghost use Rattle.pig_map.specs.Copies.{AreSidesIn, AreSidesOf, IsCopied, none_seen, nulls_for, numbered, rows_for, rows_of_task, sides_by};
+ghost use Rattle.pig_map.specs.Copies.{AreSidesIn, AreSidesOf, IsCopied, none_seen, nulls_for, numbered, rows_of_task, sides_by};
+ghost use Rattle.pig_map.specs.Copying.{copied_for};
 
 use crate::parts::operator;
+use crate::wave::CopyWave;
 use pig_keycode::decode_row;
 use pig_packed::Packed;
 use pig_physical::{Out, Outs, Stages, Task, WaveKind};
@@ -77,7 +79,12 @@ fn sides_of_node(
     let _ = stages.plan().nodes();
     match operator(stages, node) {
         Some(NodeOp::Join { inputs, side, .. }) => {
-            joined_sides(alloc, stages, inputs.as_slice(), *side, copies, prior)
+            let wave = CopyWave {
+                stages,
+                number: copies,
+                prior,
+            };
+            joined_sides(alloc, &wave, inputs.as_slice(), *side)
         }
         _ => Ok(no_sides(alloc)),
     }
@@ -86,22 +93,19 @@ fn sides_of_node(
 // The lookups of the inputs behind the first.
 fn joined_sides(
     alloc: Global,
-    stages: &Stages,
+    wave: &CopyWave,
     inputs: &[KeyedInput],
     side: Side,
-    copies: u32,
-    prior: &Outs,
 ) -> Result<Sides, AllocError>
-    requires { copies < length (heads (staged stages.now).plan) }
-    ensures { IfOk result (λ sides. sides ≡ sides_by side (width_at (staged stages.now).plan)
-        (map keyed_of inputs.now) (λ i. rows_for i (tasks_in (staged stages.now) copies)
-        (outs_at (outs_of prior.now) copies))) }
+    ensures { IfOk result (λ sides. sides
+        ≡ sides_by side (width_at (staged wave.now.stages.now).plan)
+        (map keyed_of inputs.now) (copied_for wave.now)) }
 {
     let [_first, rest @ ..] = inputs else {
         return Ok(no_sides(alloc));
     };
-    let lookups = lookups_of(alloc, stages, rest, copies, prior)?;
-    let nulls = nulls_for(stages.plan(), side, inputs)?;
+    let lookups = lookups_of(alloc, wave, rest)?;
+    let nulls = nulls_for(wave.stages.plan(), side, inputs)?;
     Ok(Sides::new(lookups, nulls))
 }
 
@@ -128,17 +132,9 @@ fn width(plan: &Plan, node: u32) -> Result<u32, AllocError>
 }
 
 // The lookup of each input, by what was copied of it.
-fn lookups_of(
-    alloc: Global,
-    stages: &Stages,
-    inputs: &[KeyedInput],
-    copies: u32,
-    prior: &Outs,
-) -> Result<Lookups, AllocError>
-    requires { copies < length (heads (staged stages.now).plan) }
+fn lookups_of(alloc: Global, wave: &CopyWave, inputs: &[KeyedInput]) -> Result<Lookups, AllocError>
     ensures are { IfOk result (λ lookups. lookups
-        ≡ sides_of (numbered 1 (map keyed_of inputs.now)) (λ i. rows_for i
-        (tasks_in (staged stages.now) copies) (outs_at (outs_of prior.now) copies))) }
+        ≡ sides_of (numbered 1 (map keyed_of inputs.now)) (copied_for wave.now)) }
     ensures rows { IfOk result (AllByRecursion HoldsRows) }
 {
     let mut lookups = Lookups::with_capacity(alloc, inputs.len())?;
@@ -146,7 +142,7 @@ fn lookups_of(
     let mut left = inputs;
     while let [input, rest @ ..] = left {
         place = sum(place, 1)?;
-        lookups.push(lookup_of(alloc, stages, input, place, copies, prior)?)?;
+        lookups.push(lookup_of(alloc, wave, input, place)?)?;
         left = rest;
     }
     Ok(lookups)
@@ -163,42 +159,30 @@ fn sum(a: u32, b: u32) -> Result<u32, AllocError>
 
 fn lookup_of(
     alloc: Global,
-    stages: &Stages,
+    wave: &CopyWave,
     input: &KeyedInput,
     place: u32,
-    copies: u32,
-    prior: &Outs,
 ) -> Result<Lookup, AllocError>
-    requires { copies < length (heads (staged stages.now).plan) }
-    ensures is { IfOk result (λ lookup. lookup ≡ lookup_of (keyed_of input.now).keys
-        (rows_for place (tasks_in (staged stages.now) copies)
-        (outs_at (outs_of prior.now) copies))) }
+    ensures is { IfOk result (λ lookup. lookup
+        ≡ lookup_of (keyed_of input.now).keys (copied_for wave.now place)) }
     ensures rows { IfOk result HoldsRows }
 {
-    let rows = copied_rows(alloc, stages, place, copies, prior)?;
+    let rows = copied_rows(alloc, wave, place)?;
     Lookup::build(alloc, &input.keys, &rows)
 }
 
 // The rows that a wave copied of the input at a place.
-fn copied_rows(
-    alloc: Global,
-    stages: &Stages,
-    place: u32,
-    copies: u32,
-    prior: &Outs,
-) -> Result<Rows, AllocError>
-    requires { copies < length (heads (staged stages.now).plan) }
-    ensures are { IfOk result (λ rows. rows_tree rows ≡ rows_for place
-        (tasks_in (staged stages.now) copies) (outs_at (outs_of prior.now) copies)) }
+fn copied_rows(alloc: Global, wave: &CopyWave, place: u32) -> Result<Rows, AllocError>
+    ensures are { IfOk result (λ rows. rows_tree rows ≡ copied_for wave.now place) }
     ensures values { IfOk result (λ rows. AreRows (rows_tree rows)) }
 {
-    let outs = outs_at(prior, copies);
+    let outs = outs_at(wave.prior, wave.number);
     let mut rows = Rows::new(alloc);
-    for at in 0..stages.tasks(copies) {
+    for at in 0..wave.stages.tasks(wave.number) {
         let Some(out) = outs.get(at as usize) else {
             return Ok(rows);
         };
-        add_copied(alloc, stages, copies, at, out, place, &mut rows)?;
+        add_copied(alloc, wave, at, out, place, &mut rows)?;
     }
     Ok(rows)
 }
@@ -206,23 +190,21 @@ fn copied_rows(
 // Adds the rows of a task, where they are of the input at the place.
 fn add_copied(
     alloc: Global,
-    stages: &Stages,
-    copies: u32,
+    wave: &CopyWave,
     at: u32,
     out: &Out,
     place: u32,
     rows: &mut Rows,
 ) -> Result<(), AllocError>
-    requires wave { copies < length (heads (staged stages.now).plan) }
-    requires at { at < length (tasks_in (staged stages.now) copies) }
+    requires { at < length (tasks_in (staged wave.now.stages.now) wave.now.number) }
     ensures more { OnOk result ((task : StageTask)
-        → slice_get (tasks_in (staged stages.now) copies) at ≡ Some task
+        → slice_get (tasks_in (staged wave.now.stages.now) wave.now.number) at ≡ Some task
         → rows_tree rows.new ≡ rows_tree rows.old ++ rows_of_task place task (out_of out.now)) }
     ensures values { AreRows (rows_tree rows.old) → OnOk result (AreRows (rows_tree rows.new)) }
 {
-    match stages.task_at(copies, at) {
+    match wave.stages.task_at(wave.number, at) {
         Task::Map(task) => {
-            if stages.way_of(task).input == place {
+            if wave.stages.way_of(task).input == place {
                 return add_rows(alloc, out, rows);
             }
             Ok(())

@@ -6,11 +6,14 @@ mod calls;
 mod choosing;
 mod copies;
 mod first;
+mod forming;
 mod lent;
 mod never;
 mod parts;
 mod reading;
 mod unmet;
+mod wave;
+mod work;
 
 pub use attempt::map_attempt;
 pub use calls::{map_task, map_task_blocks, path_rows};

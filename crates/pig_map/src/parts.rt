@@ -1,20 +1,19 @@
 //! The rows of a task's part, taken through steps.
-ghost use Rattle.std.specs.Prelude.{◌≡◌, ◌<◌, ◌≤◌, [], get_or, length, map, slice_get, IfOk, IfSome, IfNone, OnOk};
+ghost use Rattle.std.specs.Prelude.{◌≡◌, ◌<◌, ◌≤◌, [], get_or, map, slice_get, IfSome, OnOk};
 ghost use Rattle.std.specs.Option.{ForSome, option_map, option_map_or};
 ghost use Rattle.pig_value.specs.Valid.{IsValue};
-ghost use Rattle.pig_outside.specs.Faults.{HasCause};
-ghost use Rattle.pig_plan.specs.Laws.{OpLiteralsAre, PlanLiteralsAre};
+ghost use Rattle.pig_plan.specs.Laws.{OpLiteralsAre};
 ghost use Rattle.pig_plan.specs.Nodes.{op_at};
-ghost use Rattle.pig_plan.specs.Operators.{pieces_of};
 ghost use Rattle.pig_plan.specs.Plans.{op_of};
-ghost use Rattle.pig_stream.specs.Stepping.{HaveNoted, plan_on};
 ghost use Rattle.pig_physical.specs.Handed.{out_of, outs_of};
 ghost use Rattle.pig_physical.specs.Outs.{rows_at, rows_in};
 ghost use Rattle.pig_physical.specs.Seen.{staged};
 ghost use Rattle.pig_map.specs.Making.{HasLengths, HasTakenPart, HasTakenRows, load_of, load_parts};
-ghost use Rattle.pig_map.specs.Reading.{HasLines};
+ghost use Rattle.pig_map.specs.Reading.{AreFresh};
+ghost use Rattle.pig_map.specs.Working.{Leaves, prior_of, stages_of};
 
 use crate::reading::{Load, Piece, take_lines};
+use crate::work::MapWork;
 use pig_outside::{Host, OutsideError, Stop};
 use pig_packed::Packed;
 use pig_physical::{Out, Outs, Part, Stages};
@@ -22,43 +21,7 @@ use pig_plan::NodeOp;
 use pig_storage::Split;
 use pig_stream::{Batch, Sink, Steps, Unpacked, drive};
 use pig_value::Text;
-use std::alloc::{AllocError, Global};
-
-// Takes the rows of the lines of a split through steps. None: the stop told that the task is won.
-fn take_split<H: Host, S: Stop, K: Sink>(
-    alloc: Global,
-    stages: &Stages,
-    load: &Load,
-    split: Split,
-    host: &mut H,
-    block: u32,
-    stop: &mut S,
-    steps: &mut Steps,
-    sink: &mut K,
-) -> Result<Option<u64>, OutsideError>
-    requires lengths { ForSome (H.inputs host.old) (λ inputs.
-        map length (pieces_of inputs load.now.path.now)
-        ≡ (staged stages.now).sizing.lengths load.now.path.now) }
-    requires block { 0 < block }
-    requires literals { PlanLiteralsAre IsValue (plan_on steps.old) }
-    requires none { HaveNoted steps.old [] }
-    ensures lines { IfOk result (λ o. IfSome o (HasLines (H.inputs host.old) load.now.path.now
-        split load.now.columns.now load.now.delim steps.old steps.new
-        (λ rows. K.after sink.old rows sink.new))) }
-    ensures stopped { IfOk result (λ o. IfNone o (S.won stop.new)) }
-    ensures kept { S.kept stop.new ≡ S.kept stop.old }
-    ensures inputs { H.inputs host.new ≡ H.inputs host.old }
-    ensures begun { H.begun host.new ≡ H.begun host.old }
-    ensures cause { HasCause (H.faults host.old) (H.faults host.new) result }
-{
-    let piece = Piece {
-        path: load.path.as_str(),
-        number: split.piece,
-        length: length_of(stages, load.path, split.piece),
-        block: block_for(split, block),
-    };
-    take_lines(alloc, host, stop, &piece, split, load, steps, sink)
-}
+use std::alloc::AllocError;
 
 // At least so many bytes are read at once, where a block may be as long.
 const LEAST: u32 = 4_096;
@@ -131,38 +94,22 @@ fn number_at(numbers: &[u64], at: usize) -> u64
 
 // Takes the rows of an output of an earlier wave through steps.
 fn take_output<K: Sink>(
-    alloc: Global,
-    prior: &Outs,
+    work: &MapWork,
     wave: u32,
     at: u32,
     steps: &mut Steps,
     sink: &mut K,
 ) -> Result<(), AllocError>
-    requires literals { PlanLiteralsAre IsValue (plan_on steps.old) }
-    requires none { HaveNoted steps.old [] }
-    ensures { OnOk result (HasTakenRows (rows_at (outs_of prior.now) wave at)
+    requires { AreFresh steps.old }
+    ensures { OnOk result (HasTakenRows (rows_at (prior_of work.now) wave at)
         steps.old steps.new (λ rows. K.after sink.old rows sink.new)) }
 {
-    match rows_of(prior, wave, at) {
-        Some(rows) => take_rows(alloc, rows, steps, sink),
-        None => Ok(()),
-    }
-}
-
-fn take_rows<K: Sink>(
-    alloc: Global,
-    rows: &Packed,
-    steps: &mut Steps,
-    sink: &mut K,
-) -> Result<(), AllocError>
-    requires literals { PlanLiteralsAre IsValue (plan_on steps.old) }
-    requires none { HaveNoted steps.old [] }
-    ensures { OnOk result (HasTakenRows rows.now
-        steps.old steps.new (λ rows. K.after sink.old rows sink.new)) }
-{
-    let mut batch = Batch::new(alloc);
+    let Some(rows) = rows_of(work.prior, wave, at) else {
+        return Ok(());
+    };
+    let mut batch = Batch::new(work.alloc);
     let mut source = Unpacked::of(rows);
-    drive(alloc, &mut source, steps, sink, &mut batch)?;
+    drive(work.alloc, &mut source, steps, sink, &mut batch)?;
     Ok(())
 }
 
@@ -186,45 +133,50 @@ fn rows_in(outs: &[Out], at: usize) -> Option<&Packed>
     }
 }
 
-// Takes the rows of a part of a source through steps into what takes them. None: the stop told that the task is won. Answers
-// how many lines came.
+// A piece of a LOAD's input, as the lines of a split are read from it.
+fn piece_of<'l>(work: &MapWork, load: &'l Load, split: Split) -> Piece<'l>
+    ensures path { result.path.now ≡ load.now.path.now }
+    ensures number { result.number ≡ split.piece }
+    ensures length { result.length
+        ≡ get_or ((stages_of work.now).sizing.lengths load.now.path.now) split.piece 0 }
+{
+    Piece {
+        path: load.path.as_str(),
+        number: split.piece,
+        length: length_of(work.stages, load.path, split.piece),
+        block: block_for(split, work.block),
+    }
+}
+
+// Takes the rows of a task's part of a source through steps into what takes them. None: the stop told that the task is won.
+// Answers how many lines came.
 pub fn take_part<H: Host, S: Stop, K: Sink>(
-    alloc: Global,
-    stages: &Stages,
+    work: &MapWork,
     source: u32,
-    part: Part,
-    prior: &Outs,
     host: &mut H,
-    block: u32,
     stop: &mut S,
     steps: &mut Steps,
     sink: &mut K,
 ) -> Result<Option<u64>, OutsideError>
-    requires lengths { ForSome (H.inputs host.old) (HasLengths (staged stages.now) source) }
-    requires block { 0 < block }
-    requires literals { PlanLiteralsAre IsValue (plan_on steps.old) }
-    requires none { HaveNoted steps.old [] }
-    ensures taken { IfOk result (λ o. IfSome o (HasTakenPart (staged stages.now)
-        (H.inputs host.old) (outs_of prior.now) source part
-        steps.old steps.new (λ rows. K.after sink.old rows sink.new))) }
-    ensures stopped { IfOk result (λ o. IfNone o (S.won stop.new)) }
-    ensures kept { S.kept stop.new ≡ S.kept stop.old }
-    ensures inputs { H.inputs host.new ≡ H.inputs host.old }
-    ensures begun { H.begun host.new ≡ H.begun host.old }
-    ensures cause { HasCause (H.faults host.old) (H.faults host.new) result }
+    requires lengths { ForSome (H.inputs host.old) (HasLengths (stages_of work.now) source) }
+    requires fresh { AreFresh steps.old }
+    ensures { Leaves H.inputs H.begun H.faults S.kept S.won host.old host.new stop.old stop.new
+        result (HasTakenPart (stages_of work.now) (H.inputs host.old) (prior_of work.now) source
+        work.now.task.now.part steps.old steps.new (λ rows. K.after sink.old rows sink.new)) }
 {
-    let Some(op) = operator(stages, source) else {
+    let Some(op) = operator(work.stages, source) else {
         return Ok(Some(0));
     };
-    match part {
+    match work.task.part {
         Part::Split(split) => {
             let Some(load) = as_load(op) else {
                 return Ok(Some(0));
             };
-            take_split(alloc, stages, &load, split, host, block, stop, steps, sink)
+            let piece = piece_of(work, &load, split);
+            take_lines(work.alloc, host, stop, &piece, split, &load, steps, sink)
         }
         Part::Output { wave, at } => {
-            take_output(alloc, prior, wave, at, steps, sink)?;
+            take_output(work, wave, at, steps, sink)?;
             Ok(Some(0))
         }
     }

@@ -1,14 +1,14 @@
 //! The rows of the lines that start in a split, read from a host in blocks.
-ghost use Rattle.std.specs.Prelude.{◌≡◌, ◌≤◌, ◌<◌, ◌+◌, [], ℕ, List, false, drop, IfOk, IfSome, IfNone, OnOk};
+ghost use Rattle.std.specs.Prelude.{◌≡◌, ◌≤◌, ◌<◌, ◌+◌, ℕ, List, false, drop, IfOk, OnOk};
 ghost use Rattle.std.specs.Option.{ForSome};
 ghost use Rattle.pig_value.specs.Lines.{lines_within};
 ghost use Rattle.pig_value.specs.Valid.{IsValue};
-ghost use Rattle.pig_outside.specs.Faults.{HasCause};
 ghost use Rattle.pig_outside.specs.Shelf.{HasRange, range_of};
 ghost use Rattle.pig_plan.specs.Laws.{PlanLiteralsAre};
 ghost use Rattle.pig_stream.specs.Ranges.{first_byte, lines_coming};
-ghost use Rattle.pig_stream.specs.Stepping.{HaveNoted, plan_on};
-ghost use Rattle.pig_map.specs.Reading.{HasFed, HasFedAll, HasLines, IsLong, rows_coming};
+ghost use Rattle.pig_stream.specs.Stepping.{plan_on};
+ghost use Rattle.pig_map.specs.Reading.{AreFresh, HasFed, HasFedAll, HasLines, IsLong, rows_coming};
+ghost use Rattle.pig_map.specs.Working.{Leaves, LeavesHost};
 
 use pig_outside::{Host, OutsideError, Stop};
 use pig_storage::Split;
@@ -23,6 +23,7 @@ pub struct Piece<'p> {
     pub number: u32,
     pub length: u64,
     pub block: u32,
+    ghost some: { 0 < block },
 }
 
 // A LOAD: the path of its input, and how lines are made rows.
@@ -49,17 +50,10 @@ pub fn take_lines<H: Host, S: Stop, K: Sink>(
     requires long { ForSome (H.inputs host.old)
         (IsLong piece.now.path.now piece.now.number piece.now.length) }
     requires piece { piece.now.number ≡ split.piece }
-    requires block { 0 < piece.now.block }
-    requires literals { PlanLiteralsAre IsValue (plan_on steps.old) }
-    requires none { HaveNoted steps.old [] }
-    ensures lines { IfOk result (λ o. IfSome o (HasLines (H.inputs host.old) piece.now.path.now
-        split load.now.columns.now load.now.delim steps.old steps.new
-        (λ rows. K.after sink.old rows sink.new))) }
-    ensures stopped { IfOk result (λ o. IfNone o (S.won stop.new)) }
-    ensures kept { S.kept stop.new ≡ S.kept stop.old }
-    ensures inputs { H.inputs host.new ≡ H.inputs host.old }
-    ensures begun { H.begun host.new ≡ H.begun host.old }
-    ensures cause { HasCause (H.faults host.old) (H.faults host.new) result }
+    requires fresh { AreFresh steps.old }
+    ensures { Leaves H.inputs H.begun H.faults S.kept S.won host.old host.new stop.old stop.new
+        result (HasLines (H.inputs host.old) piece.now.path.now split load.now.columns.now
+        load.now.delim steps.old steps.new (λ rows. K.after sink.old rows sink.new)) }
 {
     let mut lines = Lines {
         window: window_of(alloc, split),
@@ -117,19 +111,12 @@ fn feed<H: Host, S: Stop, K: Sink>(
 ) -> Result<Option<u64>, OutsideError>
     requires long { ForSome (H.inputs host.old)
         (IsLong piece.now.path.now piece.now.number piece.now.length) }
-    requires block { 0 < piece.now.block }
     requires begun { lines.old.window.ended ≡ false }
-    requires literals { PlanLiteralsAre IsValue (plan_on steps.old) }
-    requires none { HaveNoted steps.old [] }
-    ensures fed { IfOk result (λ o. IfSome o (HasFedAll (H.inputs host.old) piece.now.path.now
-        piece.now.number from
+    requires fresh { AreFresh steps.old }
+    ensures { Leaves H.inputs H.begun H.faults S.kept S.won host.old host.new stop.old stop.new
+        result (HasFedAll (H.inputs host.old) piece.now.path.now piece.now.number from
         (rows_coming lines.old.columns.now lines.old.delim lines.old.window)
-        steps.old steps.new (λ rows. K.after sink.old rows sink.new))) }
-    ensures stopped { IfOk result (λ o. IfNone o (S.won stop.new)) }
-    ensures kept { S.kept stop.new ≡ S.kept stop.old }
-    ensures inputs { H.inputs host.new ≡ H.inputs host.old }
-    ensures begun { H.begun host.new ≡ H.begun host.old }
-    ensures cause { HasCause (H.faults host.old) (H.faults host.new) result }
+        steps.old steps.new (λ rows. K.after sink.old rows sink.new)) }
 {
     let mut at = from;
     let mut count: u64 = 0;
@@ -152,8 +139,7 @@ fn feed<H: Host, S: Stop, K: Sink>(
 
 // The number of bytes that are read at once from a place on.
 fn block_at(piece: &Piece, at: u64) -> u32
-    requires within { at < piece.now.length }
-    requires block { 0 < piece.now.block }
+    requires { at < piece.now.length }
     ensures some { 0 < result }
     ensures most { result ≤ piece.now.block }
     ensures within { at + result ≤ piece.now.length }
@@ -198,9 +184,7 @@ fn feed_block<H: Host, K: Sink>(
         steps.old steps.new (λ rows. K.after sink.old rows sink.new)) }
     ensures open { OnOk result (lines.new.window.ended ≡ false) }
     ensures literals { OnOk result (PlanLiteralsAre IsValue (plan_on steps.new)) }
-    ensures inputs { H.inputs host.new ≡ H.inputs host.old }
-    ensures begun { H.begun host.new ≡ H.begun host.old }
-    ensures cause { HasCause (H.faults host.old) (H.faults host.new) result }
+    ensures read { LeavesHost H.inputs H.begun H.faults host.old host.new result }
 {
     let bytes = read_block(alloc, host, piece, at, size)?;
     lines.window.hand_in(bytes.as_slice())?;
@@ -219,9 +203,7 @@ fn read_block<H: Host>(
         (HasRange piece.now.path.now piece.now.number at size) }
     ensures filled { ForSome (H.inputs host.old) (λ i. IfOk result (λ bytes. bytes.items
         ≡ range_of piece.now.path.now piece.now.number at size i)) }
-    ensures inputs { H.inputs host.new ≡ H.inputs host.old }
-    ensures begun { H.begun host.new ≡ H.begun host.old }
-    ensures cause { HasCause (H.faults host.old) (H.faults host.new) result }
+    ensures read { LeavesHost H.inputs H.begun H.faults host.old host.new result }
 {
     let mut bytes = vec![in alloc; 0u8; size as usize]?;
     host.read(piece.path, piece.number, at, bytes.as_mut_slice())?;

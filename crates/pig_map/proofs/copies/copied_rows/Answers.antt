@@ -14,8 +14,8 @@ use Rattle.pig_map.proofs.copies.copied_rows.Goals as goal
 
 pub returns-in_default-clause-are : goal.returns-in_default-clause-are
 returns-in_default-clause-are c =
-    let tasks = tasks_in (staged c.args.stages.now) c.args.copies in
-    let seen = outs_at (outs_of c.args.prior.now) c.args.copies in
+    let tasks = tasks_in (staged c.args.wave.now.stages.now) c.args.wave.now.number in
+    let seen = outs_at (outs_of c.args.wave.now.prior.now) c.args.wave.now.number in
     let outs = c.outs_at-outs.result.now in
     rows_over c.args.place tasks seen c.loop-at.at (rows_tree c.loop-at.rows) (rows_for c.args.place tasks seen)
     (subst (λ os. length os ≤ c.loop-at.at) c.outs_at-outs.ensures (subst (λ n. n ≤ c.loop-at.at) (sym (length-map outs out_of)) c.in_default.ensures.lookup.3))
@@ -23,8 +23,8 @@ returns-in_default-clause-are c =
 
 pub loop-at-preserved : goal.loop-at-preserved
 loop-at-preserved c =
-    let tasks = tasks_in (staged c.args.stages.now) c.args.copies in
-    let seen = outs_at (outs_of c.args.prior.now) c.args.copies in
+    let tasks = tasks_in (staged c.args.wave.now.stages.now) c.args.wave.now.number in
+    let seen = outs_at (outs_of c.args.wave.now.prior.now) c.args.wave.now.number in
     let outs = c.outs_at-outs.result.now in
     let less : c.loop-at.at < length tasks = search rules in
     let task = some_at tasks c.loop-at.at less in

@@ -6,9 +6,10 @@ use Rattle.pig_physical.specs.Outs.{outs_at}
 use Rattle.pig_physical.specs.Seen.{staged}
 use Rattle.pig_physical.specs.Stages.{tasks_in}
 use Rattle.pig_map.specs.Copies.{rows_for}
+use Rattle.pig_map.specs.Copying.{copied_for}
 use Rattle.pig_map.proofs.copies.copied_rows.Given as goal
 
 abbrev pub invariant-loop-at : goal.invariant-loop-at
 invariant-loop-at l =
-    (rows_tree l.rows ++ rows_for l.place (drop l.at (tasks_in (staged l.stages) l.copies)) (drop l.at (outs_at (outs_of l.prior) l.copies))
-    ≡ rows_for l.place (tasks_in (staged l.stages) l.copies) (outs_at (outs_of l.prior) l.copies)) × AreRows (rows_tree l.rows)
+    (rows_tree l.rows ++ rows_for l.place (drop l.at (tasks_in (staged l.wave.stages.now) l.wave.number)) (drop l.at (outs_at (outs_of l.wave.prior.now) l.wave.number))
+    ≡ copied_for l.wave l.place) × AreRows (rows_tree l.rows)

@@ -10,9 +10,9 @@ use Rattle.pig_map.proofs.lent.lent_first.Goals as goal
 
 pub returns : goal.returns
 returns c =
-    let s = staged c.args.stages.now in
-    let outs = outs_of c.args.prior.now in
-    let task = map_task_of s c.args.task.now in
+    let s = staged c.args.work.now.stages.now in
+    let outs = outs_of c.args.work.now.prior.now in
+    let task = map_task_of s c.args.work.now.task.now in
     let lent = c.in-Some.lent in
     let are : (told : Option (List Input)) → AreLent s told outs task lent.rows.now lent.chosen = search rules in
     let first : c.in-Some-2.first ≡ take c.args.count (chosen_rows lent.chosen lent.rows.now) = search rules in

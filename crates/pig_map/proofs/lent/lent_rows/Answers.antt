@@ -14,8 +14,8 @@ use Rattle.pig_map.proofs.lent.lent_rows.Goals as goal
 
 pub returns : goal.returns
 returns c =
-    let s = staged c.args.stages.now in
-    let task = c.args.task.now in
+    let s = staged c.args.work.now.stages.now in
+    let task = c.args.work.now.task.now in
     let way = entering_of c.way_of-way.result.now in
     let is_way : (map_task_of s task).way ≡ way = way_at (ways_in s.plan task.wave) task.way no_way way c.way_of-way.ensures in
     let plan : plan_of c.as_slice.result.now ≡ s.plan = search rules in
@@ -24,7 +24,7 @@ returns c =
     let chooses : Chooses (marked_folding c.folded.result.now) s.plan way.path.nodes c.in-Some-2.chosen =
     subst (λ p. Chooses (marked_folding c.folded.result.now) p way.path.nodes c.in-Some-2.chosen) plan
     (subst (λ ns. Chooses (marked_folding c.folded.result.now) (plan_of c.as_slice.result.now) ns c.in-Some-2.chosen) path chosen) in
-    let from : (told : Option (List Input)) → AreFrom s told (outs_of c.args.prior.now) way.path.source task.part c.in-Some.rows.now 0 = search rules in
+    let from : (told : Option (List Input)) → AreFrom s told (outs_of c.args.work.now.prior.now) way.path.source task.part c.in-Some.rows.now 0 = search rules in
     λ told.
-    are_lent s told (outs_of c.args.prior.now) (map_task_of s task) way is_way c.folded.result.now c.folded.ensures c.marks_stand_for_what_folds.ensures.rows
+    are_lent s told (outs_of c.args.work.now.prior.now) (map_task_of s task) way is_way c.folded.result.now c.folded.ensures c.marks_stand_for_what_folds.ensures.rows
     c.marks_stand_for_what_folds.ensures.unmet c.in-Some-2.chosen chooses c.in-Some.rows.now (from told)

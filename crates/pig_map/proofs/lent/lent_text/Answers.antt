@@ -11,9 +11,9 @@ use Rattle.pig_map.proofs.lent.lent_text.Goals as goal
 
 pub returns : goal.returns
 returns c =
-    let s = staged c.args.stages.now in
-    let outs = outs_of c.args.prior.now in
-    let task = map_task_of s c.args.task.now in
+    let s = staged c.args.work.now.stages.now in
+    let outs = outs_of c.args.work.now.prior.now in
+    let task = map_task_of s c.args.work.now.task.now in
     let lent = c.in-Some.lent in
     let are : (told : Option (List Input)) → AreLent s told outs task lent.rows.now lent.chosen = search rules in
     λ told.
