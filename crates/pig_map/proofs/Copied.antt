@@ -1,11 +1,10 @@
 -- The sides of a replicated JOIN, made of what was copied, give the JOIN.
-use Rattle.std.specs.Prelude.{◌≡◌, ◌<◌, ◌≤◌, ◌==◌, ◌+◌, ℕ, zero, suc, Bool, true, false, List, [], ◌∷◌, ◌++◌, map, drop, take, length, Option, None, Some, slice_get, refl, if◌then◌else◌}
-use Rattle.std.proofs.Common.{ap, sym, ◌∙◌, arith, subst, append-nil, append_assoc, cond}
-use Rattle.std.specs.List.{AllByRecursion, flat_map}
+use Rattle.std.specs.Prelude.{◌≡◌, ◌≤◌, ◌==◌, ◌+◌, ℕ, zero, suc, false, List, [], ◌∷◌, ◌++◌, map, drop, take, length, Option, None, Some, slice_get, refl, if◌then◌else◌}
+use Rattle.std.proofs.Common.{ap, sym, ◌∙◌, arith, subst, append-nil, append_assoc}
+use Rattle.std.specs.List.{AllByRecursion}
 use Rattle.std.specs.List.Sorted.{IsPermutation}
-use Rattle.std.specs.Option.{option_map_or}
 use Rattle.std.proofs.lemmas.Bool.Decides.{nat_tests}
-use Rattle.std.proofs.lemmas.Bool.{eq-eqb, eqb-true}
+use Rattle.std.proofs.lemmas.Bool.{eq-eqb}
 use Rattle.std.proofs.lemmas.List.{map-append}
 use Rattle.std.proofs.lemmas.List.Sorted.{IsPermutation-append_comm, IsPermutation-append_left, IsPermutation-append_right, IsPermutation-trans}
 use Rattle.pig_value.specs.declared.operators.Side.TheVariants as side
@@ -21,8 +20,8 @@ use Rattle.pig_value.proofs.list_laws.Listing.{each-map, some_same}
 use Rattle.pig_value.proofs.list_laws.Permutations.{IsPermutation-same}
 use Rattle.pig_plan.specs.ByKey.{entries_of_input, gathered, join_of, key_of, outer_of}
 use Rattle.pig_plan.specs.Entries.{entries_of}
-use Rattle.pig_plan.specs.Operators.{join_rows, keyed_entries, keys_of}
-use Rattle.pig_plan.specs.Plans.{Keyed, PlanOp, p_join}
+use Rattle.pig_plan.specs.Operators.{keyed_entries, keys_of}
+use Rattle.pig_plan.specs.Plans.{Keyed, PlanOp}
 use Rattle.pig_plan.proofs.Gathered.{gathered_same}
 use Rattle.pig_typed.specs.Typed.{Typed}
 use Rattle.pig_replicated.specs.Holding.{keyed_cmp, keyed_row, lookup_of}
@@ -31,7 +30,7 @@ use Rattle.pig_probe.specs.Probing.{HoldsRows}
 use Rattle.pig_replicated.proofs.Pieces.{one_inner, one_left}
 use Rattle.pig_physical.specs.Outs.{TaskOut, rows_in}
 use Rattle.pig_physical.specs.Stages.{Task, t_map, t_rank, t_reduce}
-use Rattle.pig_physical.specs.Values.{brought_together, handed_entries}
+use Rattle.pig_physical.specs.Values.{handed_entries}
 use Rattle.pig_map.specs.Copies.{numbered, rows_for, rows_of_task}
 
 abbrev Rows : Type 0

@@ -1,23 +1,19 @@
 -- The rows of an earlier wave, as a task hands on what its path chooses of them.
-use Rattle.std.proofs.Common.{◌≡◌, ℕ, Bool, List, [], length, refl, sym, ◌∙◌, ap, subst, Option, Some}
-use Rattle.std.specs.Option.{option_map_or}
+use Rattle.std.proofs.Common.{◌≡◌, ℕ, Bool, List, [], sym, ◌∙◌, ap, subst, Option}
 use Rattle.std.specs.Ordering.{nat_cmp}
 use Rattle.pig_value.specs.declared.inputs.Input.{Input}
 use Rattle.pig_value.specs.Sorts.{sort}
 use Rattle.pig_value.specs.Trees.{Tree}
 use Rattle.pig_plan.specs.Asserts.{unmet_on}
-use Rattle.pig_plan.specs.Nodes.{Entering, op_at}
-use Rattle.pig_plan.specs.Plans.{Plan, PlanOp}
+use Rattle.pig_plan.specs.Nodes.{Entering}
+use Rattle.pig_plan.specs.Plans.{Plan}
 use Rattle.pig_plan.specs.Steps.{AreFoldMarks, Folding, through}
 use Rattle.pig_stream.specs.Stepping.{marked_folding}
 use Rattle.pig_physical.specs.Combining.{folds}
-use Rattle.pig_physical.specs.Outs.{Outs, rows_at}
+use Rattle.pig_physical.specs.Outs.{Outs}
 use Rattle.pig_physical.specs.Stages.{MapTask, Stages}
-use Rattle.pig_physical.specs.Values.{part_lines, part_rows}
-use Rattle.pig_physical.specs.declared.parts.Part.{Part}
-use Rattle.pig_physical.specs.declared.parts.Part.TheVariants as parts
 use Rattle.pig_map.specs.Choosing.{AreLent, Chooses, chosen_rows}
-use Rattle.pig_map.specs.Making.{AreFrom, HasRun, MayGive}
+use Rattle.pig_map.specs.Making.{AreFrom, HasRun}
 use Rattle.pig_map.specs.declared.choosing.Chosen.{Chosen}
 
 -- what marks of folding nodes stand for

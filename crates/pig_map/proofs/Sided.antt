@@ -1,5 +1,5 @@
 -- The sides that are made of what was copied are those of the tasks that probe.
-use Rattle.std.specs.Prelude.{◌≡◌, ◌<◌, ◌==◌, ◌+◌, ◌-◌, ℕ, zero, suc, Bool, true, false, not, List, [], ◌∷◌, ◌++◌, length, map, Option, None, Some, slice_get, refl}
+use Rattle.std.specs.Prelude.{◌≡◌, ◌<◌, ◌+◌, ◌-◌, ℕ, zero, suc, Bool, true, false, not, List, [], ◌∷◌, ◌++◌, length, map, Option, None, Some, slice_get, refl}
 use Rattle.std.proofs.Common.{ap, sym, ◌∙◌, arith, subst, true≢false}
 use Rattle.std.specs.List.{AllByRecursion}
 use Rattle.std.specs.List.Sorted.{IsPermutation}
@@ -16,9 +16,9 @@ use Rattle.pig_value.proofs.list_laws.Listing.{each-map, each_weaker, some_same}
 use Rattle.pig_plan.specs.ByKey.{entries_of_input, gathered, join_of, key_of, outer_of}
 use Rattle.pig_plan.specs.Entries.{entries_of}
 use Rattle.pig_plan.specs.Meaning.{width_at}
-use Rattle.pig_plan.specs.Nodes.{inputs_of, op_at, paths_of}
+use Rattle.pig_plan.specs.Nodes.{inputs_of, op_at}
 use Rattle.pig_plan.specs.Operators.{keys_of}
-use Rattle.pig_plan.specs.Plans.{Keyed, Plan, PlanNode, PlanOp, p_load, p_filter, p_foreach, p_group_all, p_group, p_join, p_union, p_distinct, p_order, p_limit, p_store, p_assert, p_rank}
+use Rattle.pig_plan.specs.Plans.{Keyed, Plan, PlanOp, p_load, p_filter, p_foreach, p_group_all, p_group, p_join, p_union, p_distinct, p_order, p_limit, p_store, p_assert, p_rank}
 use Rattle.pig_plan.specs.Valid.{IsPlan}
 use Rattle.pig_probe.specs.Probing.{SidesSeen, probed_by}
 use Rattle.pig_physical.specs.Outs.{Outs, outs_at}
@@ -33,12 +33,11 @@ use Rattle.pig_waves.proofs.Joining.{by_side, is_joined}
 use Rattle.pig_waves.specs.Laws.{copy_tasks}
 use Rattle.pig_fitting.proofs.Given.{node_found}
 use Rattle.pig_fitting.proofs.Standing.{HeadOf, all_among, among_filtered, enters, head_is, of_node, of_stores, on_ways, passes_there}
-use Rattle.pig_map.specs.Copies.{AreSidesIn, AreSidesOf, IsCopied, first_keys, none_seen, rows_for, sides_by}
-use Rattle.pig_map.specs.Making.{handing_of, joined_handing}
-use Rattle.pig_map.specs.declared.attempt.Handing.{Handing}
+use Rattle.pig_map.specs.Copies.{AreSidesIn, AreSidesOf, IsCopied, first_keys, rows_for, sides_by}
+use Rattle.pig_map.specs.Making.{handing_of}
 use Rattle.pig_map.specs.declared.attempt.Handing.TheVariants as handings
 use Rattle.pig_map.proofs.Copied.{IsCopy, by_place, handed_by_place, inner_probed, key_by, left_probed}
-use Rattle.pig_map.proofs.Placed.{ProbeIn, probe_in, probe_place}
+use Rattle.pig_map.proofs.Placed.{probe_in, probe_place}
 
 abbrev Rows : Type 0
 Rows = List (List Tree)

@@ -6,7 +6,7 @@ use Rattle.pig_plan.specs.Plans.{op_of}
 use Rattle.pig_physical.specs.Seen.{entering_of, map_task_of, no_way, staged}
 use Rattle.pig_physical.specs.Stages.{ways_in}
 use Rattle.pig_shuffle.specs.Held.{HasShuffled}
-use Rattle.pig_shuffle.specs.Shuffling.{Shuffling, shuffling, shuffling_at}
+use Rattle.pig_shuffle.specs.Shuffling.{shuffling, shuffling_at}
 use Rattle.pig_map.proofs.Runs.{way_at}
 use Rattle.pig_map.proofs.attempt.shuffle_for.Goals as goal
 
