@@ -97,5 +97,5 @@ pub fn third_is<R: Abort>(rt: &R, alloc: Global, script: &str, wanted: &str) -> 
 pub fn node_shown<R: Abort>(rt: &R, alloc: Global, node: &Node) -> String {
     let (statement, op) = (node.statement, &node.op);
     let shown = format!(in alloc; "{statement}: {op:?}").expect(rt, "memory");
-    plain(rt, alloc, shown.as_str())
+    plain(alloc, shown.as_str()).expect(rt, "memory")
 }

@@ -458,7 +458,7 @@ v = LOAD 'visits' AS (user:chararray, page:chararray, time:int); g = GROUP v BY 
 
 fn shown_trees<R: Abort>(rt: &R, alloc: Global, trees: &Stmts) -> String {
     let shown = format!(in alloc; "{trees:?}").expect(rt, "memory");
-    plain(rt, alloc, shown.as_str())
+    plain(alloc, shown.as_str()).expect(rt, "memory")
 }
 
 fn shown_place<R: Abort>(rt: &R, alloc: Global, statement: u32) -> String {

@@ -1,41 +1,35 @@
 // Shown trees without what is the same in all of them.
-use std::alloc::Global;
-use std::process::Abort;
-
-// A mark for each name of this kind, whose brace is to go.
-fn replaced<R: Abort>(rt: &R, alloc: Global, shown: &str, name: &str) -> String {
-    shown.replace(alloc, name, "\u{1}").expect(rt, "memory")
-}
+use std::alloc::{AllocError, Global};
 
 /// Shown trees without the names of lists, boxes and texts, and with `'` for `"`.
-pub fn plain<R: Abort>(rt: &R, alloc: Global, shown: &str) -> String {
-    let shown = replaced(rt, alloc, shown, "Seq { items: ");
-    let shown = replaced(rt, alloc, shown.as_str(), "Text { text: ");
-    let shown = replaced(rt, alloc, shown.as_str(), "Boxed { inner: ");
-    without_marks(rt, alloc, shown.as_str())
+pub fn plain(alloc: Global, shown: &str) -> Result<String, AllocError> {
+    let shown = shown.replace(alloc, "Seq { items: ", "\u{1}")?;
+    let shown = shown.replace(alloc, "Text { text: ", "\u{1}")?;
+    let shown = shown.replace(alloc, "Boxed { inner: ", "\u{1}")?;
+    without_marks(alloc, shown.as_str())
 }
 
-// The same without the marks, and without the braces that are theirs.
-fn without_marks<R: Abort>(rt: &R, alloc: Global, shown: &str) -> String {
+// The same without the marks that names left, and without the braces that are theirs.
+fn without_marks(alloc: Global, shown: &str) -> Result<String, AllocError> {
     let mut hidden = Vec::new(alloc);
     let mut text = String::new(alloc);
     for c in shown.chars() {
         match c {
-            '\u{1}' => hidden.push(true).expect(rt, "memory"),
+            '\u{1}' => hidden.push(true)?,
             '{' => {
-                hidden.push(false).expect(rt, "memory");
-                text.push(c).expect(rt, "memory");
+                hidden.push(false)?;
+                text.push(c)?;
             }
             '}' => {
                 if hidden.pop() == Some(true) {
                     text.pop();
                 } else {
-                    text.push(c).expect(rt, "memory");
+                    text.push(c)?;
                 }
             }
-            '"' => text.push('\'').expect(rt, "memory"),
-            _ => text.push(c).expect(rt, "memory"),
+            '"' => text.push('\'')?,
+            _ => text.push(c)?,
         }
     }
-    text
+    Ok(text)
 }

@@ -82,7 +82,7 @@ fn shown_typing<R: Abort>(rt: &R, alloc: Global, typed: &TypedExpr) -> String {
     let name = &typed.column.name;
     let kind = &typed.column.kind;
     let shown = format!(in alloc; "{expr:?} {name:?} {kind:?}").expect(rt, "memory");
-    plain(rt, alloc, shown.as_str())
+    plain(alloc, shown.as_str()).expect(rt, "memory")
 }
 
 fn shown<R: Abort>(rt: &R, alloc: Global, row: usize, scope: &Scope) -> String {

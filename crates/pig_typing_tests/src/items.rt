@@ -203,7 +203,7 @@ fn shown_columns<R: Abort>(rt: &R, alloc: Global, found: &Generated) -> String {
     for column in found.columns.as_slice() {
         add_column(rt, alloc, &mut text, column);
     }
-    plain(rt, alloc, text.as_str())
+    plain(alloc, text.as_str()).expect(rt, "memory")
 }
 
 fn shown<R: Abort>(rt: &R, alloc: Global, row: usize, scope: &Scope) -> String {
