@@ -15,6 +15,12 @@ def folder(at):
 def filters():
     wide = ", ".join(f"t{k}:({', '.join(f'f{n}:int' for n in range(511))})" for k in range(7))
     yield checked("filters_4000_wide", f"a = LOAD 'i' AS ({wide});".encode() + b"a = FILTER a BY true;" * 4000, b"ok 4001\n")
+    named = ", ".join(f"n{n}" for n in range(4000))
+    filters = "".join(f"n{n} = FILTER a BY true;" for n in range(4000))
+    yield checked("filters_4000_wide_named_last", f"a = LOAD 'i' AS ({wide}); {filters} r = UNION {named};".encode(), b"ok 4002\n")
+    columns = ", ".join(f"c{n}:int" for n in range(512))
+    foreachs = "".join(f"n{n} = FOREACH a GENERATE *;" for n in range(4000))
+    yield checked("foreachs_4000_wide_named_last", f"a = LOAD 'i' AS ({columns}); {foreachs} r = UNION {named};".encode(), b"ok 4002\n")
     yield one("filters_4000_in_a_row", "r = FILTER a BY x > 0;" + "".join(f"r = FILTER r BY x != {n};" for n in range(2, 4001)), [b"1"],
               inputs=b"1\n2\n4000\n0\n")
     same = "".join(f"f{n} = FILTER a BY x > 0;" for n in range(4000))
