@@ -76,9 +76,8 @@ pub fn joined<'p>(
     table: &mut Table<'p>,
 ) -> Result<Relation<'p>, AllocError>
     requires literals { KeyLiteralsAre IsValue (map keyed_of inputs.now) }
-    ensures { IfOk result (HasFound (join_rows side (width_at (plan_of plan.now)) (map keyed_of inputs.now)
-        (rows_of table.old))
-        table.old table.new) }
+    ensures { IfOk result (HasFound (join_rows side (width_at (plan_of plan.now))
+        (map keyed_of inputs.now) (rows_of table.old)) table.old table.new) }
 {
     match gathering_of_join(plan, inputs, side) {
         Some(how) => brought(alloc, how, inputs, table),
