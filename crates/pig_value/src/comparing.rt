@@ -42,7 +42,7 @@ pub fn same(a: &Value, b: &Value) -> bool
     order(a, b) == Ordering::Equal
 }
 
-/// The rank of a value's form.
+// The rank of a value's form.
 fn rank(value: &Value) -> u8
     ensures { result ≡ rank_of (tree value.now) }
 {

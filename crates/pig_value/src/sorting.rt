@@ -4,7 +4,7 @@ ghost use Rattle.pig_value.specs.Orders.{bag_of};
 
 use crate::{Rows, Seq, Tuple, Value, order_rows};
 
-/// A shorter list is sorted by its rows at once.
+// A shorter list is sorted by its rows at once.
 const MIN_FRONTED_LEN: usize = 256;
 
 /// The rows of a bag in its normal form: sorted by the total order of rows, each as often as before.
