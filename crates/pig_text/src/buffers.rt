@@ -9,7 +9,7 @@ use pig_value::{Delim, Tuple};
 use std::alloc::AllocError;
 use std::mem;
 
-/// Bytes that grow by what they are told, until memory is wanting.
+// Bytes that grow by what they are told, until memory is wanting.
 struct TextBuffer {
     bytes: Vec<u8>,
     wants: bool,
