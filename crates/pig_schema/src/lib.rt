@@ -14,4 +14,11 @@ mod schema;
 
 pub use laws::a_name_means_one_field;
 pub use naming::{NameFault, at, find};
-pub use schema::{Field, Schema, copy_field, copy_schema, kinds, schemas_cross_threads};
+pub use schema::{Field, Schema, copy_field, copy_schema, kinds};
+
+fn crosses<T: Send + Sync>() {}
+
+// Shows that schemas are `Send` and `Sync`.
+fn schemas_cross_threads() {
+    crosses::<Schema>();
+}

@@ -60,11 +60,3 @@ fn copy_name(alloc: Global, name: &Option<Text>) -> Result<Option<Text>, AllocEr
         None => Ok(None),
     }
 }
-
-// Schemas may be shared and handed to other threads.
-fn crosses<T: Send + Sync>() {}
-
-/// Shows that schemas are `Send` and `Sync`.
-pub fn schemas_cross_threads() {
-    crosses::<Schema>();
-}
