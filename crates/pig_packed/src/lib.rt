@@ -6,7 +6,7 @@
 //! one or several. A row takes eight bytes beside its code, and what wants memory changes nothing.
 //!
 //! The definitions stand in `specs/`: `RowCodes` (the codes of rows, where each ends, and that they tell the rows) and
-//! `Growth` (rows as they are added). The laws for crates above stand in `proofs/`: `Standing` (rows joined, taken, mapped
+//! `Growth` (rows as they are added). The laws for crates above stand in `proofs/`: `Standing` (rows joined and taken
 //! and their codes, and where the code of a row stands), `Lending` (what is lent is the code of a row) and `Adding` (rows
 //! that are added in turn).
 #![tactic(auto)]
@@ -14,8 +14,14 @@
 mod builder;
 mod bytes;
 mod rows;
-mod threads;
 
 pub use builder::PackedBuilder;
 pub use rows::Packed;
-pub use threads::packed_rows_cross_threads;
+
+fn crosses<T: Send + Sync>() {}
+
+// Shows that packed rows, also those that are not finished, are `Send` and `Sync`.
+fn packed_rows_cross_threads() {
+    crosses::<Packed>();
+    crosses::<PackedBuilder>();
+}
