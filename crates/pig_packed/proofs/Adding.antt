@@ -16,9 +16,6 @@ and_bytes-append xs ys b = ap (λ l. record { rows = b.rows; begun = l }) (appen
 pub and_rows-append : (xs ys : List (List Tree)) (b : Begun) → and_rows ys (and_rows xs b) ≡ and_rows (xs ++ ys) b
 and_rows-append xs ys b = ap whole_rows (append_assoc b.rows xs ys)
 
-pub and_rows_none : (rows : List (List Tree)) → and_rows [] (whole_rows rows) ≡ whole_rows rows
-and_rows_none rows = ap whole_rows (append-nil rows)
-
 -- a loop by index that adds one row for each element, and one that adds several
 module _ {X : Type 0} (xs : List X) (at : ℕ) (x : X) (here : slice_get xs at ≡ Some x) (b so_far new : Begun) where
   pub one_mapped : (f : X → List Tree) → so_far ≡ and_rows (map f (take at xs)) b → new ≡ and_row (f x) so_far → new ≡ and_rows (map f (take (at + 1) xs)) b

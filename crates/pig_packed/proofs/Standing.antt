@@ -1,7 +1,6 @@
--- Rows that are joined, taken and mapped beside their codes, and where the code of a row stands.
-use Rattle.std.proofs.Common.{◌≡◌, ◌+◌, ℕ, zero, suc, List, [], ◌∷◌, ◌++◌, map, length, take, drop, refl, sym, ◌∙◌, ap, arith}
+-- Rows that are joined and taken beside their codes, and where the code of a row stands.
+use Rattle.std.proofs.Common.{◌≡◌, ◌+◌, ℕ, zero, suc, List, [], ◌∷◌, ◌++◌, length, take, drop, refl, sym, ◌∙◌, ap, arith}
 use Rattle.std.specs.Prelude.{Some, slice_get}
-use Rattle.std.specs.List.{flat_map}
 use Rattle.std.proofs.Math.Seq.{take-append_seam, drop-append_seam, take-suc}
 use Rattle.std.proofs.lemmas.List.{append-nil, length-append, take-append-drop}
 use Rattle.std.proofs.lemmas.List.Concat.{flat_map-append}
@@ -34,18 +33,6 @@ codes_of-split i rows = ap codes_of (sym (take-append-drop i rows)) ∙ codes_of
 
 pub codes_of-take : (i : ℕ) (rows : List (List Tree)) → take (length (codes_of (take i rows))) (codes_of rows) ≡ codes_of (take i rows)
 codes_of-take i rows = ap (take (length (codes_of (take i rows)))) (codes_of-split i rows) ∙ take-append_seam (codes_of (take i rows)) (codes_of (drop i rows))
-
-pub codes_of-drop : (i : ℕ) (rows : List (List Tree)) → drop (length (codes_of (take i rows))) (codes_of rows) ≡ codes_of (drop i rows)
-codes_of-drop i rows = ap (drop (length (codes_of (take i rows)))) (codes_of-split i rows) ∙ drop-append_seam (codes_of (take i rows)) (codes_of (drop i rows))
-
-pub ends_from-take : (begin i : ℕ) (rows : List (List Tree)) → take i (ends_from begin rows) ≡ ends_from begin (take i rows)
-ends_from-take begin zero rows = refl
-ends_from-take begin (suc i) [] = refl
-ends_from-take begin (suc i) (row ∷ rows) = ap (λ l. (begin + length (row_code row)) ∷ l) (ends_from-take (begin + length (row_code row)) i rows)
-
-pub codes_of-map : {X : Type 0} (f : X → List Tree) (xs : List X) → codes_of (map f xs) ≡ flat_map (λ x. row_code (f x)) xs
-codes_of-map f [] = refl
-codes_of-map f (x ∷ xs) = ap (λ l. row_code (f x) ++ l) (codes_of-map f xs)
 
 -- ---- where the code of a row stands
 
