@@ -4,7 +4,7 @@ use Rattle.std.proofs.lemmas.Bool.{ne_eqb}
 use Rattle.std.proofs.lemmas.Bool.Decides.{Decides-eqb}
 use Rattle.std.proofs.lemmas.List.{length-append, length-reverse}
 use Rattle.pig_value.specs.Brackets.{is_nothing}
-use Rattle.pig_cast.specs.Wanted.{bracket_of, brackets}
+use Rattle.pig_cast.specs.OpenBrackets.{bracket_of, brackets}
 
 -- the numbers of so many digits are below this one
 abbrev pub room : ℕ → ℕ

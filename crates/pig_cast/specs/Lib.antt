@@ -1,3 +1,3 @@
 pub mod Keyed
 pub mod Plain
-pub mod Wanted
+pub mod OpenBrackets

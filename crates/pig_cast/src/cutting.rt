@@ -3,7 +3,7 @@ ghost use Rattle.std.specs.Option.{option_copied, option_map};
 ghost use Rattle.pig_value.specs.Brackets.{is_opening, is_closing, is_separator, is_balanced, items as items_of, items_or_none as items_if_any, inside as inside_of, body_of};
 ghost use Rattle.pig_value.specs.FieldReader.{cut_at};
 
-use crate::wanted::Wanted;
+use crate::open_brackets::OpenBrackets;
 use bstr::ByteSlice;
 use std::alloc::{AllocError, Global};
 
@@ -20,10 +20,10 @@ fn closes(byte: u8) -> bool
 }
 
 // A comma outside all brackets.
-fn separates(byte: u8, wanted: &Wanted) -> bool
-    ensures { result ≡ is_separator (length wanted.now) byte }
+fn separates(byte: u8, unclosed: &OpenBrackets) -> bool
+    ensures { result ≡ is_separator (length unclosed.now) byte }
 {
-    byte == b',' && wanted.is_empty()
+    byte == b',' && unclosed.is_empty()
 }
 
 // The items of a body, what lies between the commas outside all brackets, where its brackets match and nest: one
@@ -33,27 +33,27 @@ fn items<'a>(alloc: Global, body: &'a [u8]) -> Result<Option<Vec<&'a [u8]>>, All
         ≡ (if is_balanced body.now then Some (items_of body.now) else None)) }
 {
     let mut found: Vec<&'a [u8]> = Vec::new(alloc);
-    let mut wanted = Wanted::new(alloc);
+    let mut unclosed = OpenBrackets::new(alloc);
     let mut from = 0;
     for i in 0..body.len() {
         let byte = body[i];
         if opens(byte) {
-            wanted.open(byte)?;
+            unclosed.open(byte)?;
             continue;
         }
         if closes(byte) {
-            if !wanted.close(byte) {
+            if !unclosed.close(byte) {
                 return Ok(None);
             }
             continue;
         }
-        if separates(byte, &wanted) {
+        if separates(byte, &unclosed) {
             found.push(&body[from..i])?;
             from = i + 1;
             continue;
         }
     }
-    if !wanted.is_empty() {
+    if !unclosed.is_empty() {
         return Ok(None);
     }
     found.push(&body[from..])?;

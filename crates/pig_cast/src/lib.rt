@@ -20,8 +20,8 @@ mod fields;
 mod keys;
 mod laws;
 mod numbers;
+mod open_brackets;
 mod texts;
-mod wanted;
 
 pub use casting::cast;
 pub use fields::{read_field, read_field_over};

@@ -4,4 +4,4 @@ use Rattle.pig_cast.proofs.OnePass.{IsCutUpTo}
 use Rattle.pig_cast.proofs.cutting.items.Given as goal
 
 abbrev pub invariant-loop-i : goal.invariant-loop-i
-invariant-loop-i l = (l.from ≤ l.i) × IsCutUpTo l.body l.from l.i l.wanted (map (λ item. item.now) l.found.items)
+invariant-loop-i l = (l.from ≤ l.i) × IsCutUpTo l.body l.from l.i l.unclosed (map (λ item. item.now) l.found.items)

@@ -1,23 +1,23 @@
 ghost use Rattle.std.specs.Prelude.{◌≡◌, ◌<◌, ℕ, Bool, false, List, [], ◌∷◌, IsTrue, IsFalse, MatchOption, OnOk};
 ghost use Rattle.pig_value.specs.Brackets.{closing_of, is_nothing, takes};
-ghost use Rattle.pig_cast.specs.Wanted.{bracket_of};
+ghost use Rattle.pig_cast.specs.OpenBrackets.{bracket_of};
 
 use std::alloc::{AllocError, Global};
 use std::marker::Model;
 
-/// The closing brackets that are wanted, the next of them first.
+/// The brackets that are open, as the closing ones that they want, the next of these first.
 ///
 /// The first 31 are the digits of a number to the base 4, so that text takes memory only where it nests deeper; the
 /// others stand in a list.
 #[derive(Drop)]
-pub(crate) struct Wanted {
+pub(crate) struct OpenBrackets {
     digits: u64,
     deeper: Vec<u8>,
 }
 
-impl Model for Wanted {
+impl Model for OpenBrackets {
     ghost use Rattle.std.specs.Prelude.{List, ℕ, reverse, ◌++◌, ◌<◌, ◌^◌};
-    ghost use Rattle.pig_cast.specs.Wanted.{brackets};
+    ghost use Rattle.pig_cast.specs.OpenBrackets.{brackets};
 
     ghost Value = { List ℕ };
 
@@ -29,12 +29,12 @@ impl Model for Wanted {
 // The digits have room for one more below this number, 4 to the power 31.
 const FULL: u64 = 0x4000_0000_0000_0000;
 
-impl Wanted {
+impl OpenBrackets {
     /// No bracket, which takes no memory.
-    pub(crate) fn new(alloc: Global) -> Wanted
+    pub(crate) fn new(alloc: Global) -> OpenBrackets
         ensures { result ≡ [] }
     {
-        Wanted {
+        OpenBrackets {
             digits: 0,
             deeper: Vec::new(alloc),
         }
