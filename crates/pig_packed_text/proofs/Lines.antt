@@ -1,7 +1,6 @@
 -- Rows as lines, one after the other.
-use Rattle.std.proofs.Common.{◌≡◌, ℕ, zero, suc, ◌+◌, List, [], ◌∷◌, ◌++◌, drop, length, map, slice_get, Option, Some, None, refl, sym, ◌∙◌, ap, append-nil}
+use Rattle.std.proofs.Common.{◌≡◌, ℕ, zero, suc, ◌+◌, List, [], ◌∷◌, ◌++◌, drop, map, slice_get, Option, Some, None, refl, sym, ◌∙◌, ap}
 use Rattle.std.proofs.Math.Logic.{∥∥₁_elim}
-use Rattle.std.proofs.Math.Seq.{drop-length}
 use Rattle.std.proofs.lemmas.List.{append_assoc}
 use Rattle.std.specs.Borrow.{Bor}
 use Rattle.std.specs.Coded.{Coded-set, coded_ℕ, coded_list}
@@ -9,7 +8,7 @@ use Rattle.std.specs.List.{join_with_byte}
 use Rattle.std.specs.Option.{option_map}
 use Rattle.pig_value.proofs.list_laws.Indexing.{dropped}
 use Rattle.pig_value.proofs.list_laws.Listing.{some_same}
-use Rattle.pig_value.specs.Texts.{row_text, rows_text, text_of}
+use Rattle.pig_value.specs.Texts.{rows_text, text_of}
 use Rattle.pig_value.specs.Trees.{Tree, at}
 use Rattle.pig_value.specs.Valid.{AreRows}
 use Rattle.pig_keycode.specs.Codable.{IsCodeOfRow}
@@ -38,10 +37,6 @@ pub first_line : (delim : ℕ) (places : Option (Bor (List ℕ))) (row : List Tr
     → rows_text delim (placed places (row ∷ rows)) ≡ line_text delim places row ++ rows_text delim (placed places rows)
 first_line delim None row rows = refl
 first_line delim (Some places) row rows = refl
-
-no_line : (delim : ℕ) (places : Option (Bor (List ℕ))) → rows_text delim (placed places []) ≡ []
-no_line delim None = refl
-no_line delim (Some places) = refl
 
 -- what is left of a text once some of its rows stand
 abbrev pub left_from : ℕ → Option (Bor (List ℕ)) → List (List Tree) → ℕ → List ℕ

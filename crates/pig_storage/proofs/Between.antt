@@ -154,9 +154,6 @@ ahead bs at from to some early h later =
     ] in
     left ∙ later ∙ sym (ap lines right)
 
-within_none : (from to at : ℕ) → within from to at (stored_lines []) ≡ []
-within_none from to at = refl
-
 between_none : (a b : ℕ) → between [] a b ≡ []
 between_none a b =
     let a_in : first_start [] a ≡ 0 = let w = start_within [] a in omega (arith, w) in
