@@ -28,5 +28,20 @@ pub use trees::{
     AsNames, BagRef, Branch, Branches, Expr, Exprs, FieldRef, FieldRefs, FieldTree, Fields, Func,
     GroupInput, GroupInputs, Item, Items, JoinInput, JoinInputs, Link, Links, Names, Nested, Op,
     OrderField, OrderFields, OrderKeys, PostStep, PostSteps, Step, Steps, Stmt, Stmts, Texts,
-    TypeTree, trees_cross_threads,
+    TypeTree,
 };
+
+fn crosses<T: Send + Sync>() {}
+
+// Shows that expressions, schemas, and the steps, keys and inputs that hold them are `Send` and `Sync`.
+fn trees_cross_threads() {
+    crosses::<Exprs>();
+    crosses::<Fields>();
+    crosses::<Branches>();
+    crosses::<Steps>();
+    crosses::<AsNames>();
+    crosses::<GroupInputs>();
+    crosses::<JoinInputs>();
+    crosses::<OrderKeys>();
+    crosses::<Func>();
+}

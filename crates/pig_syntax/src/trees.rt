@@ -521,19 +521,3 @@ impl Drop for PostStep {
         }
     }
 }
-
-/// Trees may be shared and handed to other threads.
-fn crosses<T: Send + Sync>() {}
-
-/// Shows that expressions, schemas, and the steps, keys and inputs that hold them are `Send` and `Sync`.
-pub fn trees_cross_threads() {
-    crosses::<Exprs>();
-    crosses::<Fields>();
-    crosses::<Branches>();
-    crosses::<Steps>();
-    crosses::<AsNames>();
-    crosses::<GroupInputs>();
-    crosses::<JoinInputs>();
-    crosses::<OrderKeys>();
-    crosses::<Func>();
-}
