@@ -22,7 +22,7 @@ module _ {X : Type 0} (p : X → Bool) where
       step true on j = let e = on (omega (arith, j)) in omega (arith, e)
       step false on j = absurd (omega (arith, j))
 
-  prefix_cut : (xs : List X) (n : ℕ) → prefix_len p xs < n → prefix_len p (take n xs) ≡ prefix_len p xs
+  pub prefix_cut : (xs : List X) (n : ℕ) → prefix_len p xs < n → prefix_len p (take n xs) ≡ prefix_len p xs
   prefix_cut xs zero h = absurd (omega (arith, h))
   prefix_cut [] (suc n) h = refl
   prefix_cut (x ∷ xs) (suc n) h = step (p x) (λ j. prefix_cut xs n j) h

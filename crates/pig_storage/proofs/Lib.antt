@@ -11,3 +11,4 @@ pub mod SplitLines
 mod RowKinds
 mod RowsBack
 pub mod Starts
+mod Windows

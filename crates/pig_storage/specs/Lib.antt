@@ -2,3 +2,4 @@ pub mod NextLine
 pub mod Pieces
 pub mod ReadBack
 pub mod Splits
+pub mod Windows

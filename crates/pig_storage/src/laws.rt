@@ -1,4 +1,4 @@
-ghost use Rattle.std.specs.Prelude.{◌≡◌, ◌≢◌, ◌<◌, ◌≤◌, ◌++◌, [], ◌∷◌, ℕ, List, Some, length, map, slice_range, All};
+ghost use Rattle.std.specs.Prelude.{◌≡◌, ◌≢◌, ◌<◌, ◌≤◌, ◌-◌, ◌++◌, [], ◌∷◌, ℕ, List, Some, length, map, slice_range, All};
 ghost use Rattle.std.specs.List.{flat_map, AllByRecursion};
 ghost use Rattle.pig_value.specs.declared.inputs.Column.{Column};
 ghost use Rattle.pig_value.specs.Delimiters.{IsDelimiter, delimiter_of};
@@ -9,7 +9,9 @@ ghost use Rattle.pig_value.specs.Lines.{lines, lines_within, stored_lines};
 ghost use Rattle.pig_value.specs.Texts.{HasNoLf, AreLineFreeRows, row_text, rows_text};
 ghost use Rattle.pig_value.specs.Trees.{Tree, kind_tree};
 ghost use Rattle.pig_value.specs.Valid.{IsRow, AreRows};
+ghost use Rattle.pig_storage.specs.NextLine.{line_end};
 ghost use Rattle.pig_storage.specs.Splits.{first_start, splits_of_piece};
+ghost use Rattle.pig_storage.specs.Windows.{HoldsEnd, TellsEnd};
 ghost use Rattle.pig_storage.specs.ReadBack.{StandInTurn, IsPlainRow, IsPlainLine};
 
 /// The row of a line has as many fields as there are columns, each of its column's kind. Where the bytes are
@@ -42,6 +44,20 @@ pub fn lines_of_ranges_stand_between()
         ≡ lines (slice_range bytes (first_start bytes from) (first_start bytes to)) }
     ensures starts { (from to : ℕ) (bytes : List ℕ) → from ≤ to →
         (first_start bytes from ≤ first_start bytes to) × (first_start bytes to ≤ length bytes) }
+{}
+
+/// Where a line ends is told by a window of the bytes, those between two places alone, exactly as far as the window
+/// reaches: an LF that it holds at the line's start or behind it is the line's end, an end before the window's is
+/// found there, and a window up to the last byte tells each end. Where it holds no such LF, the line ends behind it.
+pub fn windows_tell_line_ends()
+    ensures seen { (from to place : ℕ) (bytes : List ℕ) → from ≤ place →
+        HoldsEnd (slice_range bytes from to) (place - from) → TellsEnd bytes from to place }
+    ensures held { (from to place : ℕ) (bytes : List ℕ) → from ≤ place →
+        line_end bytes place < to → TellsEnd bytes from to place }
+    ensures last { (from to place : ℕ) (bytes : List ℕ) → from ≤ place → length bytes ≤ to →
+        TellsEnd bytes from to place }
+    ensures beyond { (from to place : ℕ) (bytes : List ℕ) → from ≤ place → to ≤ length bytes →
+        ¬ HoldsEnd (slice_range bytes from to) (place - from) → to ≤ line_end bytes place }
 {}
 
 /// The lines that start in the splits of a piece are, split by split, the piece's lines.
