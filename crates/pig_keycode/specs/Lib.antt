@@ -1,3 +1,4 @@
+pub mod Appends
 pub mod Codes
 pub mod Codable
 pub mod Keys

@@ -1,8 +1,8 @@
 ghost use Rattle.std.specs.Prelude.{◌≡◌, ◌≤◌, ◌<◌, ◌^◌, ◌+◌, [], ◌∷◌, ◌++◌, length, take, drop, map, ◌-◌, OnOk, OnErr, IfSome, IfNone};
 ghost use Rattle.std.specs.Int.{w32, w64, to_be_bytes};
-ghost use Rattle.pig_value.specs.Extended.{IsExtended};
 ghost use Rattle.pig_value.specs.Trees.{at, tree, row_tree, rows_tree, entry_of, fields_of, tuples_of, entries_of};
 ghost use Rattle.pig_value.specs.declared.operators.Dir.{Dir};
+ghost use Rattle.pig_keycode.specs.Appends.{Appends};
 ghost use Rattle.pig_keycode.specs.Codes.{bool_code, biased, escaped, text_code, code, fields_code, tuples_code, entries_code, turned, in_direction, code_in};
 ghost use Rattle.pig_keycode.specs.Keys.{fields_at, fields_of_key, key_code, codes_in};
 ghost use Rattle.pig_keycode.specs.Reading.{row_code};
@@ -88,8 +88,7 @@ pub fn encode_places(
 }
 
 fn write_key(key: &Value, dirs: &[Dir], out: &mut Vec<u8>) -> Result<(), AllocError>
-    ensures ok { OnOk result (out.new.items ≡ out.old.items ++ key_code dirs.now (tree key.now)) }
-    ensures grows { IsExtended out.old.items out.new.items }
+    ensures { Appends out.old.items (key_code dirs.now (tree key.now)) out.new.items result }
 {
     match dirs {
         [] => write_value(key, out),
@@ -109,9 +108,7 @@ fn fields_of_key(key: &Value) -> &[Value]
 
 // Appends the codes of fields, each in its own direction.
 fn write_directed(fields: &[Value], dirs: &[Dir], out: &mut Vec<u8>) -> Result<(), AllocError>
-    ensures ok { OnOk result (out.new.items ≡ out.old.items
-        ++ codes_in dirs.now (row_tree fields.now)) }
-    ensures grows { IsExtended out.old.items out.new.items }
+    ensures { Appends out.old.items (codes_in dirs.now (row_tree fields.now)) out.new.items result }
 {
     let mut left = fields;
     for dir in dirs {
@@ -127,8 +124,7 @@ fn write_directed(fields: &[Value], dirs: &[Dir], out: &mut Vec<u8>) -> Result<(
 }
 
 fn write_in(dir: Dir, value: &Value, out: &mut Vec<u8>) -> Result<(), AllocError>
-    ensures ok { OnOk result (out.new.items ≡ out.old.items ++ code_in dir (tree value.now)) }
-    ensures grows { IsExtended out.old.items out.new.items }
+    ensures { Appends out.old.items (code_in dir (tree value.now)) out.new.items result }
 {
     encode(value, dir, out)
 }
@@ -140,9 +136,8 @@ fn write_places(
     dirs: &[Dir],
     out: &mut Vec<u8>,
 ) -> Result<(), AllocError>
-    ensures ok { OnOk result (out.new.items ≡ out.old.items
-        ++ codes_in dirs.now (fields_at places.now (row_tree row.now))) }
-    ensures grows { IsExtended out.old.items out.new.items }
+    ensures { Appends out.old.items
+        (codes_in dirs.now (fields_at places.now (row_tree row.now))) out.new.items result }
 {
     let mut left = places;
     for dir in dirs {
@@ -158,9 +153,8 @@ fn write_places(
 }
 
 fn write_place(row: &Tuple, place: u32, dir: Dir, out: &mut Vec<u8>) -> Result<(), AllocError>
-    ensures ok { OnOk result
-        (out.new.items ≡ out.old.items ++ code_in dir (at place (row_tree row.now))) }
-    ensures grows { IsExtended out.old.items out.new.items }
+    ensures { Appends out.old.items
+        (code_in dir (at place (row_tree row.now))) out.new.items result }
 {
     match field_at(row, place) {
         Some(value) => write_in(dir, value, out),
@@ -171,8 +165,7 @@ fn write_place(row: &Tuple, place: u32, dir: Dir, out: &mut Vec<u8>) -> Result<(
 // Appends the ascending code of a value.
 #[cycle(code)]
 fn write_value(value: &Value, out: &mut Vec<u8>) -> Result<(), AllocError>
-    ensures ok { OnOk result (out.new.items ≡ out.old.items ++ code (tree value.now)) }
-    ensures grows { IsExtended out.old.items out.new.items }
+    ensures { Appends out.old.items (code (tree value.now)) out.new.items result }
 {
     match value {
         Value::Null => write_bytes(&[NULL], out),
@@ -191,9 +184,8 @@ fn write_value(value: &Value, out: &mut Vec<u8>) -> Result<(), AllocError>
 // Appends a tag, and the codes of fields.
 #[cycle(code)]
 fn write_fields(tag: u8, fields: &Tuple, out: &mut Vec<u8>) -> Result<(), AllocError>
-    ensures ok { OnOk result (out.new.items ≡ out.old.items
-        ++ tag ∷ fields_code (fields_of (row_tree fields.now))) }
-    ensures grows { IsExtended out.old.items out.new.items }
+    ensures { Appends out.old.items
+        (tag ∷ fields_code (fields_of (row_tree fields.now))) out.new.items result }
 {
     out.push(tag)?;
     for value in fields.as_slice() {
@@ -206,9 +198,8 @@ fn write_fields(tag: u8, fields: &Tuple, out: &mut Vec<u8>) -> Result<(), AllocE
 
 #[cycle(code)]
 fn write_rows(tag: u8, rows: &Rows, out: &mut Vec<u8>) -> Result<(), AllocError>
-    ensures ok { OnOk result (out.new.items ≡ out.old.items
-        ++ tag ∷ tuples_code (tuples_of (rows_tree rows.now))) }
-    ensures grows { IsExtended out.old.items out.new.items }
+    ensures { Appends out.old.items
+        (tag ∷ tuples_code (tuples_of (rows_tree rows.now))) out.new.items result }
 {
     out.push(tag)?;
     for row in rows.as_slice() {
@@ -221,9 +212,8 @@ fn write_rows(tag: u8, rows: &Rows, out: &mut Vec<u8>) -> Result<(), AllocError>
 
 #[cycle(code)]
 fn write_pairs(tag: u8, pairs: &Pairs, out: &mut Vec<u8>) -> Result<(), AllocError>
-    ensures ok { OnOk result (out.new.items ≡ out.old.items
-        ++ tag ∷ entries_code (entries_of (map entry_of pairs.now))) }
-    ensures grows { IsExtended out.old.items out.new.items }
+    ensures { Appends out.old.items
+        (tag ∷ entries_code (entries_of (map entry_of pairs.now))) out.new.items result }
 {
     out.push(tag)?;
     for pair in pairs.as_slice() {
@@ -237,23 +227,20 @@ fn write_pairs(tag: u8, pairs: &Pairs, out: &mut Vec<u8>) -> Result<(), AllocErr
 
 // Appends the code of a chararray.
 fn write_chars(text: &Text, out: &mut Vec<u8>) -> Result<(), AllocError>
-    ensures ok { OnOk result (out.new.items ≡ out.old.items ++ 4 ∷ text_code text.now) }
-    ensures grows { IsExtended out.old.items out.new.items }
+    ensures { Appends out.old.items (4 ∷ text_code text.now) out.new.items result }
 {
     write_text(CHARS, text.as_str().as_bytes(), out)
 }
 
 fn write_blob(bytes: &Blob, out: &mut Vec<u8>) -> Result<(), AllocError>
-    ensures ok { OnOk result (out.new.items ≡ out.old.items ++ 5 ∷ text_code bytes.now) }
-    ensures grows { IsExtended out.old.items out.new.items }
+    ensures { Appends out.old.items (5 ∷ text_code bytes.now) out.new.items result }
 {
     write_text(BYTES, bytes.as_slice(), out)
 }
 
 // Appends a tag, and the bytes of a text with the mark of its end.
 fn write_text(tag: u8, text: &[u8], out: &mut Vec<u8>) -> Result<(), AllocError>
-    ensures ok { OnOk result (out.new.items ≡ out.old.items ++ tag ∷ text_code text.now) }
-    ensures grows { IsExtended out.old.items out.new.items }
+    ensures { Appends out.old.items (tag ∷ text_code text.now) out.new.items result }
 {
     out.push(tag)?;
     let mut rest = text;
@@ -268,18 +255,16 @@ fn write_text(tag: u8, text: &[u8], out: &mut Vec<u8>) -> Result<(), AllocError>
 }
 
 fn write_int(number: i32, out: &mut Vec<u8>) -> Result<(), AllocError>
-    ensures ok { OnOk result (out.new.items ≡ out.old.items
-        ++ 2 ∷ to_be_bytes w32 (biased (2 ^ 31) number)) }
-    ensures grows { IsExtended out.old.items out.new.items }
+    ensures { Appends out.old.items
+        (2 ∷ to_be_bytes w32 (biased (2 ^ 31) number)) out.new.items result }
 {
     out.push(INT)?;
     write_bytes(&biased_int(number).to_be_bytes(), out)
 }
 
 fn write_long(number: i64, out: &mut Vec<u8>) -> Result<(), AllocError>
-    ensures ok { OnOk result (out.new.items ≡ out.old.items
-        ++ 3 ∷ to_be_bytes w64 (biased (2 ^ 63) number)) }
-    ensures grows { IsExtended out.old.items out.new.items }
+    ensures { Appends out.old.items
+        (3 ∷ to_be_bytes w64 (biased (2 ^ 63) number)) out.new.items result }
 {
     out.push(LONG)?;
     write_bytes(&biased_long(number).to_be_bytes(), out)
@@ -305,8 +290,7 @@ fn bool_byte(truth: bool) -> u8
 }
 
 fn write_bytes(bytes: &[u8], out: &mut Vec<u8>) -> Result<(), AllocError>
-    ensures ok { OnOk result (out.new.items ≡ out.old.items ++ bytes.now) }
-    ensures grows { IsExtended out.old.items out.new.items }
+    ensures { Appends out.old.items bytes.now out.new.items result }
 {
     out.extend_from_slice(bytes)?;
     Ok(())

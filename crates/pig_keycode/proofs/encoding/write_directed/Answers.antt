@@ -3,7 +3,10 @@ use Rattle.std.proofs.lemmas.List.{append-nil}
 use Rattle.pig_keycode.proofs.Writing.{none_directed}
 use Rattle.pig_keycode.proofs.encoding.write_directed.Goals as goal
 
-pub returns-in-empty-clause-ok : goal.returns-in-empty-clause-ok
-returns-in-empty-clause-ok c =
+pub returns-in-empty : goal.returns-in-empty
+returns-in-empty c =
     let out = c.loop-dir.out.items in
-    sym (append-nil out) ∙ (ap (λ l. out ++ l) (sym (none_directed (drop c.loop-dir.dir-index c.args.dirs.now) c.loop-dir.left.now c.in-empty.len_below)) ∙ c.loop-dir.invariant.0)
+    record {
+      ok = sym (append-nil out) ∙ (ap (λ l. out ++ l) (sym (none_directed (drop c.loop-dir.dir-index c.args.dirs.now) c.loop-dir.left.now c.in-empty.len_below)) ∙ c.loop-dir.invariant.0);
+      grows = c.loop-dir.invariant.1;
+    }
