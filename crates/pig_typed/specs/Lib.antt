@@ -9,3 +9,4 @@ pub mod Premises
 pub mod Products
 pub mod Blocks
 pub mod BlockKinds
+pub mod Copying

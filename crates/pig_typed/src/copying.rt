@@ -1,16 +1,112 @@
 ghost use Rattle.std.specs.Prelude.{◌≡◌, IfOk};
+ghost use Rattle.pig_typed.specs.Copying.{Copies};
 
 use crate::{
     Block, BlockItem, BlockItems, BlockStep, BlockSteps, SortKeys, TExpr, TExprs, TLink, TLinks,
 };
-use pig_value::{Boxed, Positions, Seq, copy_kind};
+use pig_value::{Boxed, Kind, Positions, Rel, Seq, Text, copy_kind};
 use std::alloc::{AllocError, Global};
+
+// What stands inside an expression is copied by a function that copies the expressions there.
+#[derive(Clone, Copy)]
+struct Inside<F> {
+    alloc: Global,
+    copy: F,
+}
+
+impl<F: Fn(Global, &TExpr) -> Result<TExpr, AllocError>> Inside<F> {
+    fn boxed(&self, e: &Boxed<TExpr>) -> Result<Boxed<TExpr>, AllocError>
+        requires { Copies e.now (F.pre self.now.copy) (F.post self.now.copy) }
+        ensures { IfOk result (λ c. c ≡ e.now) }
+    {
+        Boxed::new(self.alloc, (self.copy)(self.alloc, e.get())?)
+    }
+
+    fn chain(&self, first: &Boxed<TExpr>, rest: TLinks) -> Result<TExpr, AllocError>
+        requires { Copies first.now (F.pre self.now.copy) (F.post self.now.copy) }
+        ensures { IfOk result (λ c. c ≡ TExpr.Chain first.now rest) }
+    {
+        let first = self.boxed(first)?;
+        Ok(TExpr::Chain { first, rest })
+    }
+
+    fn comparison(&self, op: Rel, a: &Boxed<TExpr>, b: &Boxed<TExpr>) -> Result<TExpr, AllocError>
+        requires a { Copies a.now (F.pre self.now.copy) (F.post self.now.copy) }
+        requires b { Copies b.now (F.pre self.now.copy) (F.post self.now.copy) }
+        ensures { IfOk result (λ c. c ≡ TExpr.Compare op a.now b.now) }
+    {
+        let a = self.boxed(a)?;
+        let b = self.boxed(b)?;
+        Ok(TExpr::Compare { op, a, b })
+    }
+
+    fn null_test(&self, a: &Boxed<TExpr>, not: bool) -> Result<TExpr, AllocError>
+        requires { Copies a.now (F.pre self.now.copy) (F.post self.now.copy) }
+        ensures { IfOk result (λ c. c ≡ TExpr.IsNull a.now not) }
+    {
+        let a = self.boxed(a)?;
+        Ok(TExpr::IsNull { a, not })
+    }
+
+    fn choice(
+        &self,
+        cond: &Boxed<TExpr>,
+        yes: &Boxed<TExpr>,
+        no: &Boxed<TExpr>,
+    ) -> Result<TExpr, AllocError>
+        requires cond { Copies cond.now (F.pre self.now.copy) (F.post self.now.copy) }
+        requires yes { Copies yes.now (F.pre self.now.copy) (F.post self.now.copy) }
+        requires no { Copies no.now (F.pre self.now.copy) (F.post self.now.copy) }
+        ensures { IfOk result (λ c. c ≡ TExpr.Choose cond.now yes.now no.now) }
+    {
+        let cond = self.boxed(cond)?;
+        let yes = self.boxed(yes)?;
+        let no = self.boxed(no)?;
+        Ok(TExpr::Choose { cond, yes, no })
+    }
+
+    fn cast(&self, to: &Kind, a: &Boxed<TExpr>) -> Result<TExpr, AllocError>
+        requires { Copies a.now (F.pre self.now.copy) (F.post self.now.copy) }
+        ensures { IfOk result (λ c. c ≡ TExpr.Cast to.now a.now) }
+    {
+        let a = self.boxed(a)?;
+        let to = copy_kind(self.alloc, to)?;
+        Ok(TExpr::Cast { to, a })
+    }
+
+    fn projection(
+        &self,
+        a: &Boxed<TExpr>,
+        fields: &Positions,
+        single: bool,
+    ) -> Result<TExpr, AllocError>
+        requires { Copies a.now (F.pre self.now.copy) (F.post self.now.copy) }
+        ensures { IfOk result (λ c. c ≡ TExpr.Project a.now fields.now single) }
+    {
+        let a = self.boxed(a)?;
+        let fields = copy_positions(self.alloc, fields)?;
+        Ok(TExpr::Project { a, fields, single })
+    }
+
+    fn look_up(&self, a: &Boxed<TExpr>, key: &Text) -> Result<TExpr, AllocError>
+        requires { Copies a.now (F.pre self.now.copy) (F.post self.now.copy) }
+        ensures { IfOk result (λ c. c ≡ TExpr.Look a.now key.now) }
+    {
+        let a = self.boxed(a)?;
+        let key = key.copy(self.alloc)?;
+        Ok(TExpr::Look { a, key })
+    }
+}
 
 /// A copy of an expression, which holds memory of its own.
 #[cycle(copy_expr)]
 pub fn copy_expr(alloc: Global, e: &TExpr) -> Result<TExpr, AllocError>
     ensures { IfOk result (λ c. c ≡ e.now) }
 {
+    let inside = Inside {
+        alloc,
+        copy: copy_expr,
+    };
     match e {
         TExpr::Null => Ok(TExpr::Null),
         TExpr::Bool(b) => Ok(TExpr::Bool(*b)),
@@ -19,59 +115,20 @@ pub fn copy_expr(alloc: Global, e: &TExpr) -> Result<TExpr, AllocError>
         TExpr::Chars(text) => Ok(TExpr::Chars(text.copy(alloc)?)),
         TExpr::Field(n) => Ok(TExpr::Field(*n)),
         TExpr::Local(n) => Ok(TExpr::Local(*n)),
-        TExpr::Chain { first, rest } => {
-            let first = copy_boxed(alloc, first)?;
-            let rest = copy_links(alloc, rest)?;
-            Ok(TExpr::Chain { first, rest })
-        }
-        TExpr::Compare { op, a, b } => {
-            let a = copy_boxed(alloc, a)?;
-            let b = copy_boxed(alloc, b)?;
-            Ok(TExpr::Compare { op: *op, a, b })
-        }
-        TExpr::IsNull { a, not } => Ok(TExpr::IsNull {
-            a: copy_boxed(alloc, a)?,
-            not: *not,
-        }),
-        TExpr::Not(a) => Ok(TExpr::Not(copy_boxed(alloc, a)?)),
-        TExpr::Minus(a) => Ok(TExpr::Minus(copy_boxed(alloc, a)?)),
-        TExpr::Choose { cond, yes, no } => {
-            let cond = copy_boxed(alloc, cond)?;
-            let yes = copy_boxed(alloc, yes)?;
-            let no = copy_boxed(alloc, no)?;
-            Ok(TExpr::Choose { cond, yes, no })
-        }
-        TExpr::Cast { to, a } => {
-            let a = copy_boxed(alloc, a)?;
-            let to = copy_kind(alloc, to)?;
-            Ok(TExpr::Cast { to, a })
-        }
-        TExpr::Project { a, fields, single } => {
-            let a = copy_boxed(alloc, a)?;
-            let fields = copy_positions(alloc, fields)?;
-            Ok(TExpr::Project {
-                a,
-                fields,
-                single: *single,
-            })
-        }
-        TExpr::Look { a, key } => {
-            let a = copy_boxed(alloc, a)?;
-            let key = key.copy(alloc)?;
-            Ok(TExpr::Look { a, key })
-        }
+        TExpr::Chain { first, rest } => inside.chain(first, copy_links(alloc, rest)?),
+        TExpr::Compare { op, a, b } => inside.comparison(*op, a, b),
+        TExpr::IsNull { a, not } => inside.null_test(a, *not),
+        TExpr::Not(a) => Ok(TExpr::Not(inside.boxed(a)?)),
+        TExpr::Minus(a) => Ok(TExpr::Minus(inside.boxed(a)?)),
+        TExpr::Choose { cond, yes, no } => inside.choice(cond, yes, no),
+        TExpr::Cast { to, a } => inside.cast(to, a),
+        TExpr::Project { a, fields, single } => inside.projection(a, fields, *single),
+        TExpr::Look { a, key } => inside.look_up(a, key),
         TExpr::Call { function, args } => Ok(TExpr::Call {
             function: *function,
             args: copy_exprs(alloc, args)?,
         }),
     }
-}
-
-#[cycle(copy_expr)]
-fn copy_boxed(alloc: Global, e: &Boxed<TExpr>) -> Result<Boxed<TExpr>, AllocError>
-    ensures { IfOk result (λ c. c ≡ e.now) }
-{
-    Boxed::new(alloc, copy_expr(alloc, e.get())?)
 }
 
 #[cycle(copy_expr)]

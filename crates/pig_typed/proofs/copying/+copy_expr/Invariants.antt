@@ -4,9 +4,6 @@ use Rattle.pig_typed.proofs.copying.+copy_expr.Given as goal
 abbrev pub decreases-copy_expr : goal.decreases-copy_expr
 decreases-copy_expr l = 3 * goal.size-copy_expr l
 
-abbrev pub decreases-copy_boxed : goal.decreases-copy_boxed
-decreases-copy_boxed l = 3 * goal.size-copy_boxed l + 1
-
 abbrev pub decreases-copy_links : goal.decreases-copy_links
 decreases-copy_links l = 3 * goal.size-copy_links l + 1
 
