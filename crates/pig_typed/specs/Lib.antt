@@ -10,3 +10,4 @@ pub mod Products
 pub mod Blocks
 pub mod BlockKinds
 pub mod Copying
+pub mod Looking

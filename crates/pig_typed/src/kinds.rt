@@ -3,6 +3,7 @@ ghost use Rattle.std.specs.Option.{option_and_then, option_map};
 ghost use Rattle.pig_value.specs.FunctionKinds.{function_kind};
 ghost use Rattle.pig_value.specs.Trees.{k_boolean, kind_tree, look_kind};
 ghost use Rattle.pig_typed.specs.ExprKinds.{args_kinds, cast_kind, choose_kind, expr_kind, links_kind, minus_kind, not_kind, project_kind};
+ghost use Rattle.pig_typed.specs.Looking.{Looks};
 ghost use Rattle.pig_typed.specs.Seen.{seen_kind};
 ghost use Rattle.pig_typed.specs.Typed.{args_of, link_of, links_of, typed, x_chain, x_choose, x_compare};
 
@@ -32,6 +33,159 @@ pub fn kind_of(
     }
 }
 
+// What stands inside an expression is looked at by a function that looks at the expressions there.
+#[derive(Clone, Copy)]
+struct Inside<'a, F> {
+    alloc: Global,
+    scope: &'a Scope<'a>,
+    look: F,
+}
+
+impl<
+    'a,
+    F: Fn(Global, &'a TExpr, &'a Scope<'a>) -> Result<Option<SeenKind<'a>>, AllocError>,
+> Inside<'a, F> {
+    fn kind(&self, e: &'a TExpr) -> Result<Option<SeenKind<'a>>, AllocError>
+        requires { Looks e.now (F.pre self.now.look) (F.post self.now.look) }
+        ensures { IfOk result (λ found. option_map seen_kind found
+            ≡ expr_kind (typed e.now) (map kind_tree self.now.scope.now.row.now)
+            (map kind_tree self.now.scope.now.locals.now)) }
+    {
+        (self.look)(self.alloc, e, self.scope)
+    }
+
+    fn comparison(
+        &self,
+        op: Rel,
+        a: &'a TExpr,
+        b: &'a TExpr,
+    ) -> Result<Option<SeenKind<'a>>, AllocError>
+        requires a { Looks a.now (F.pre self.now.look) (F.post self.now.look) }
+        requires b { Looks b.now (F.pre self.now.look) (F.post self.now.look) }
+        ensures { IfOk result (λ found. option_map seen_kind found
+            ≡ expr_kind (x_compare op (typed a.now) (typed b.now))
+            (map kind_tree self.now.scope.now.row.now)
+            (map kind_tree self.now.scope.now.locals.now)) }
+    {
+        let Some(a) = self.kind(a)? else {
+            return Ok(None);
+        };
+        let Some(b) = self.kind(b)? else {
+            return Ok(None);
+        };
+        Ok(made(compared(op, kind(&a), kind(&b))))
+    }
+
+    fn null_test(&self, a: &'a TExpr) -> Result<Option<SeenKind<'a>>, AllocError>
+        requires { Looks a.now (F.pre self.now.look) (F.post self.now.look) }
+        ensures { IfOk result (λ found. option_map seen_kind found
+            ≡ option_and_then (λ k. Some k_boolean) (expr_kind (typed a.now)
+            (map kind_tree self.now.scope.now.row.now)
+            (map kind_tree self.now.scope.now.locals.now))) }
+    {
+        match self.kind(a)? {
+            Some(_) => Ok(Some(SeenKind::Made(Kind::Boolean))),
+            None => Ok(None),
+        }
+    }
+
+    fn negation(&self, a: &'a TExpr) -> Result<Option<SeenKind<'a>>, AllocError>
+        requires { Looks a.now (F.pre self.now.look) (F.post self.now.look) }
+        ensures { IfOk result (λ found. option_map seen_kind found
+            ≡ option_and_then not_kind (expr_kind (typed a.now)
+            (map kind_tree self.now.scope.now.row.now)
+            (map kind_tree self.now.scope.now.locals.now))) }
+    {
+        match self.kind(a)? {
+            Some(a) => Ok(made(negated(kind(&a)))),
+            None => Ok(None),
+        }
+    }
+
+    fn negative(&self, a: &'a TExpr) -> Result<Option<SeenKind<'a>>, AllocError>
+        requires { Looks a.now (F.pre self.now.look) (F.post self.now.look) }
+        ensures { IfOk result (λ found. option_map seen_kind found
+            ≡ option_and_then minus_kind (expr_kind (typed a.now)
+            (map kind_tree self.now.scope.now.row.now)
+            (map kind_tree self.now.scope.now.locals.now))) }
+    {
+        match self.kind(a)? {
+            Some(a) => Ok(made(minus(kind(&a)))),
+            None => Ok(None),
+        }
+    }
+
+    fn choice(
+        &self,
+        cond: &'a TExpr,
+        yes: &'a TExpr,
+        no: &'a TExpr,
+    ) -> Result<Option<SeenKind<'a>>, AllocError>
+        requires cond { Looks cond.now (F.pre self.now.look) (F.post self.now.look) }
+        requires yes { Looks yes.now (F.pre self.now.look) (F.post self.now.look) }
+        requires no { Looks no.now (F.pre self.now.look) (F.post self.now.look) }
+        ensures { IfOk result (λ found. option_map seen_kind found
+            ≡ expr_kind (x_choose (typed cond.now) (typed yes.now) (typed no.now))
+            (map kind_tree self.now.scope.now.row.now)
+            (map kind_tree self.now.scope.now.locals.now)) }
+    {
+        let Some(cond) = self.kind(cond)? else {
+            return Ok(None);
+        };
+        let Some(yes) = self.kind(yes)? else {
+            return Ok(None);
+        };
+        let Some(no) = self.kind(no)? else {
+            return Ok(None);
+        };
+        Ok(chosen(kind(&cond), yes, kind(&no)))
+    }
+
+    fn cast(&self, to: &'a Kind, a: &'a TExpr) -> Result<Option<SeenKind<'a>>, AllocError>
+        requires { Looks a.now (F.pre self.now.look) (F.post self.now.look) }
+        ensures { IfOk result (λ found. option_map seen_kind found
+            ≡ option_and_then (cast_kind (kind_tree to.now)) (expr_kind (typed a.now)
+            (map kind_tree self.now.scope.now.row.now)
+            (map kind_tree self.now.scope.now.locals.now))) }
+    {
+        match self.kind(a)? {
+            Some(a) => Ok(cast(to, kind(&a))),
+            None => Ok(None),
+        }
+    }
+
+    fn projection(
+        &self,
+        a: &'a TExpr,
+        fields: &Positions,
+        single: bool,
+    ) -> Result<Option<SeenKind<'a>>, AllocError>
+        requires { Looks a.now (F.pre self.now.look) (F.post self.now.look) }
+        ensures { IfOk result (λ found. option_map seen_kind found
+            ≡ option_and_then (project_kind fields.now single) (expr_kind (typed a.now)
+            (map kind_tree self.now.scope.now.row.now)
+            (map kind_tree self.now.scope.now.locals.now))) }
+    {
+        match self.kind(a)? {
+            Some(a) => Ok(made(projected(self.alloc, kind(&a), fields, single)?)),
+            None => Ok(None),
+        }
+    }
+
+    fn look_up(&self, a: &'a TExpr) -> Result<Option<SeenKind<'a>>, AllocError>
+        requires { Looks a.now (F.pre self.now.look) (F.post self.now.look) }
+        ensures { IfOk result (λ found. option_map seen_kind found
+            ≡ option_and_then look_kind (expr_kind (typed a.now)
+            (map kind_tree self.now.scope.now.row.now)
+            (map kind_tree self.now.scope.now.locals.now))) }
+    {
+        match self.kind(a)? {
+            Some(a) => Ok(looked_up(a)),
+            None => Ok(None),
+        }
+    }
+}
+
 #[cycle(kinds)]
 fn look<'a>(
     alloc: Global,
@@ -42,6 +196,7 @@ fn look<'a>(
         ≡ expr_kind (typed e.now) (map kind_tree scope.now.row.now)
         (map kind_tree scope.now.locals.now)) }
 {
+    let inside = Inside { alloc, scope, look };
     match e {
         TExpr::Null => Ok(Some(SeenKind::Made(Kind::Bytearray))),
         TExpr::Bool(_) => Ok(Some(SeenKind::Made(Kind::Boolean))),
@@ -51,16 +206,14 @@ fn look<'a>(
         TExpr::Field(n) => Ok(kind_at(scope.row, *n)),
         TExpr::Local(n) => Ok(kind_at(scope.locals, *n)),
         TExpr::Chain { first, rest } => chain(alloc, rest, first.get(), scope),
-        TExpr::Compare { op, a, b } => comparison(alloc, *op, a.get(), b.get(), scope),
-        TExpr::IsNull { a, .. } => null_test(alloc, a.get(), scope),
-        TExpr::Not(a) => negation(alloc, a.get(), scope),
-        TExpr::Minus(a) => negative(alloc, a.get(), scope),
-        TExpr::Choose { cond, yes, no } => choice(alloc, cond.get(), yes.get(), no.get(), scope),
-        TExpr::Cast { to, a } => cast_to(alloc, to, a.get(), scope),
-        TExpr::Project { a, fields, single } => {
-            projection(alloc, a.get(), fields, *single, scope)
-        }
-        TExpr::Look { a, .. } => look_up(alloc, a.get(), scope),
+        TExpr::Compare { op, a, b } => inside.comparison(*op, a.get(), b.get()),
+        TExpr::IsNull { a, .. } => inside.null_test(a.get()),
+        TExpr::Not(a) => inside.negation(a.get()),
+        TExpr::Minus(a) => inside.negative(a.get()),
+        TExpr::Choose { cond, yes, no } => inside.choice(cond.get(), yes.get(), no.get()),
+        TExpr::Cast { to, a } => inside.cast(to, a.get()),
+        TExpr::Project { a, fields, single } => inside.projection(a.get(), fields, *single),
+        TExpr::Look { a, .. } => inside.look_up(a.get()),
         TExpr::Call { function, args } => call(alloc, *function, args, scope),
     }
 }
@@ -78,150 +231,6 @@ fn chain<'a>(
 {
     match look(alloc, first, scope)? {
         Some(first) => links(alloc, first, rest, scope),
-        None => Ok(None),
-    }
-}
-
-#[cycle(kinds)]
-fn comparison<'a>(
-    alloc: Global,
-    op: Rel,
-    a: &'a TExpr,
-    b: &'a TExpr,
-    scope: &'a Scope<'a>,
-) -> Result<Option<SeenKind<'a>>, AllocError>
-    ensures { IfOk result (λ found. option_map seen_kind found
-        ≡ expr_kind (x_compare op (typed a.now) (typed b.now))
-        (map kind_tree scope.now.row.now) (map kind_tree scope.now.locals.now)) }
-{
-    let Some(a) = look(alloc, a, scope)? else {
-        return Ok(None);
-    };
-    let Some(b) = look(alloc, b, scope)? else {
-        return Ok(None);
-    };
-    Ok(made(compared(op, kind(&a), kind(&b))))
-}
-
-#[cycle(kinds)]
-fn null_test<'a>(
-    alloc: Global,
-    a: &'a TExpr,
-    scope: &'a Scope<'a>,
-) -> Result<Option<SeenKind<'a>>, AllocError>
-    ensures { IfOk result (λ found. option_map seen_kind found
-        ≡ option_and_then (λ k. Some k_boolean) (expr_kind (typed a.now)
-        (map kind_tree scope.now.row.now) (map kind_tree scope.now.locals.now))) }
-{
-    match look(alloc, a, scope)? {
-        Some(_) => Ok(Some(SeenKind::Made(Kind::Boolean))),
-        None => Ok(None),
-    }
-}
-
-#[cycle(kinds)]
-fn negation<'a>(
-    alloc: Global,
-    a: &'a TExpr,
-    scope: &'a Scope<'a>,
-) -> Result<Option<SeenKind<'a>>, AllocError>
-    ensures { IfOk result (λ found. option_map seen_kind found
-        ≡ option_and_then not_kind (expr_kind (typed a.now)
-        (map kind_tree scope.now.row.now) (map kind_tree scope.now.locals.now))) }
-{
-    match look(alloc, a, scope)? {
-        Some(a) => Ok(made(negated(kind(&a)))),
-        None => Ok(None),
-    }
-}
-
-#[cycle(kinds)]
-fn negative<'a>(
-    alloc: Global,
-    a: &'a TExpr,
-    scope: &'a Scope<'a>,
-) -> Result<Option<SeenKind<'a>>, AllocError>
-    ensures { IfOk result (λ found. option_map seen_kind found
-        ≡ option_and_then minus_kind (expr_kind (typed a.now)
-        (map kind_tree scope.now.row.now) (map kind_tree scope.now.locals.now))) }
-{
-    match look(alloc, a, scope)? {
-        Some(a) => Ok(made(minus(kind(&a)))),
-        None => Ok(None),
-    }
-}
-
-#[cycle(kinds)]
-fn choice<'a>(
-    alloc: Global,
-    cond: &'a TExpr,
-    yes: &'a TExpr,
-    no: &'a TExpr,
-    scope: &'a Scope<'a>,
-) -> Result<Option<SeenKind<'a>>, AllocError>
-    ensures { IfOk result (λ found. option_map seen_kind found
-        ≡ expr_kind (x_choose (typed cond.now) (typed yes.now) (typed no.now))
-        (map kind_tree scope.now.row.now) (map kind_tree scope.now.locals.now)) }
-{
-    let Some(cond) = look(alloc, cond, scope)? else {
-        return Ok(None);
-    };
-    let Some(yes) = look(alloc, yes, scope)? else {
-        return Ok(None);
-    };
-    let Some(no) = look(alloc, no, scope)? else {
-        return Ok(None);
-    };
-    Ok(chosen(kind(&cond), yes, kind(&no)))
-}
-
-#[cycle(kinds)]
-fn cast_to<'a>(
-    alloc: Global,
-    to: &'a Kind,
-    a: &'a TExpr,
-    scope: &'a Scope<'a>,
-) -> Result<Option<SeenKind<'a>>, AllocError>
-    ensures { IfOk result (λ found. option_map seen_kind found
-        ≡ option_and_then (cast_kind (kind_tree to.now)) (expr_kind (typed a.now)
-        (map kind_tree scope.now.row.now) (map kind_tree scope.now.locals.now))) }
-{
-    match look(alloc, a, scope)? {
-        Some(a) => Ok(cast(to, kind(&a))),
-        None => Ok(None),
-    }
-}
-
-#[cycle(kinds)]
-fn projection<'a>(
-    alloc: Global,
-    a: &'a TExpr,
-    fields: &'a Positions,
-    single: bool,
-    scope: &'a Scope<'a>,
-) -> Result<Option<SeenKind<'a>>, AllocError>
-    ensures { IfOk result (λ found. option_map seen_kind found
-        ≡ option_and_then (project_kind fields.now single) (expr_kind (typed a.now)
-        (map kind_tree scope.now.row.now) (map kind_tree scope.now.locals.now))) }
-{
-    match look(alloc, a, scope)? {
-        Some(a) => Ok(made(projected(alloc, kind(&a), fields, single)?)),
-        None => Ok(None),
-    }
-}
-
-#[cycle(kinds)]
-fn look_up<'a>(
-    alloc: Global,
-    a: &'a TExpr,
-    scope: &'a Scope<'a>,
-) -> Result<Option<SeenKind<'a>>, AllocError>
-    ensures { IfOk result (λ found. option_map seen_kind found
-        ≡ option_and_then look_kind (expr_kind (typed a.now)
-        (map kind_tree scope.now.row.now) (map kind_tree scope.now.locals.now))) }
-{
-    match look(alloc, a, scope)? {
-        Some(a) => Ok(looked_up(a)),
         None => Ok(None),
     }
 }

@@ -14,30 +14,6 @@ decreases-look l = 3 * goal.size-look l
 abbrev pub decreases-chain : goal.decreases-chain
 decreases-chain l = 3 * max (goal.size-chain l) (size-TExpr l.first.now) + 2
 
-abbrev pub decreases-comparison : goal.decreases-comparison
-decreases-comparison l = 3 * max (size-TExpr l.a.now) (size-TExpr l.b.now) + 1
-
-abbrev pub decreases-null_test : goal.decreases-null_test
-decreases-null_test l = 3 * size-TExpr l.a.now + 1
-
-abbrev pub decreases-negation : goal.decreases-negation
-decreases-negation l = 3 * size-TExpr l.a.now + 1
-
-abbrev pub decreases-negative : goal.decreases-negative
-decreases-negative l = 3 * size-TExpr l.a.now + 1
-
-abbrev pub decreases-choice : goal.decreases-choice
-decreases-choice l = 3 * max (size-TExpr l.cond.now) (max (size-TExpr l.yes.now) (size-TExpr l.no.now)) + 1
-
-abbrev pub decreases-cast_to : goal.decreases-cast_to
-decreases-cast_to l = 3 * size-TExpr l.a.now + 1
-
-abbrev pub decreases-projection : goal.decreases-projection
-decreases-projection l = 3 * size-TExpr l.a.now + 1
-
-abbrev pub decreases-look_up : goal.decreases-look_up
-decreases-look_up l = 3 * size-TExpr l.a.now + 1
-
 abbrev pub decreases-call : goal.decreases-call
 decreases-call l = 3 * goal.size-call l + 2
 
