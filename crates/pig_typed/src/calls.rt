@@ -1,6 +1,6 @@
 ghost use Rattle.std.specs.Prelude.{◌≡◌, ◌==◌, length, map, IfOk};
 ghost use Rattle.std.specs.List.{list_all};
-ghost use Rattle.std.specs.Option.{option_copied, option_map};
+ghost use Rattle.std.specs.Option.{option_and_then, option_copied, option_map};
 ghost use Rattle.pig_value.specs.FunctionKinds.{concat_kind, function_kind, ranked_kind, sum_kind, tobag_kind};
 ghost use Rattle.pig_value.specs.Kinds.{kind_eq};
 ghost use Rattle.pig_value.specs.Trees.{kind_tree, kinds_list, kinds_of, k_bag, more_kinds, no_kinds};
@@ -10,7 +10,7 @@ use crate::operators::minus;
 use pig_value::{Function, Kind, Kinds, Seq, copy_kind, copy_kinds, same_kind};
 use std::alloc::{AllocError, Global};
 
-/// The kind of what a function gives of arguments of these kinds: none where it takes no such arguments.
+// The kind of what a function gives of arguments of these kinds: none where it takes no such arguments.
 pub fn called(alloc: Global, function: Function, kinds: Kinds) -> Result<Option<Kind>, AllocError>
     ensures { IfOk result (λ found. option_map kind_tree found
         ≡ function_kind function (map kind_tree kinds)) }
@@ -27,13 +27,29 @@ fn by_signature(alloc: Global, function: Function, kinds: Kinds) -> Result<Optio
         Function::ToTuple => Ok(to_tuple(kinds)),
         Function::ToBag { width } => to_bag(alloc, width, kinds.as_slice()),
         Function::Substring => Ok(of_text_and_ints(kinds.as_slice())),
-        Function::StartsWith => Ok(of_texts(kinds.as_slice(), Kind::Boolean)),
-        Function::EndsWith => Ok(of_texts(kinds.as_slice(), Kind::Boolean)),
+        Function::StartsWith | Function::EndsWith => {
+            Ok(of_texts(kinds.as_slice(), Kind::Boolean))
+        }
         Function::IndexOf => Ok(of_texts(kinds.as_slice(), Kind::Int)),
-        _ => match one(kinds.as_slice()) {
-            Some(kind) => of_one(alloc, function, kind),
-            None => Ok(None),
-        },
+        Function::Count
+        | Function::CountStar
+        | Function::Sum
+        | Function::Min
+        | Function::Max
+        | Function::Size
+        | Function::IsEmpty
+        | Function::Tokenize
+        | Function::Abs => of_only(alloc, function, kinds.as_slice()),
+    }
+}
+
+fn of_only(alloc: Global, function: Function, kinds: &[Kind]) -> Result<Option<Kind>, AllocError>
+    ensures { IfOk result (λ found. option_map kind_tree found
+        ≡ option_and_then (one_kind function) (only (map kind_tree kinds.now))) }
+{
+    match one(kinds) {
+        Some(kind) => of_one(alloc, function, kind),
+        None => Ok(None),
     }
 }
 
@@ -102,7 +118,7 @@ fn to_bag(alloc: Global, width: Option<u32>, kinds: &[Kind]) -> Result<Option<Ki
     }
 }
 
-/// A bag of one field.
+// A bag of one field.
 fn single_bag(alloc: Global, field: Kind) -> Result<Kind, AllocError>
     ensures { IfOk result (λ bag. kind_tree bag ≡ k_bag (more_kinds (kind_tree field) no_kinds)) }
 {
@@ -111,14 +127,14 @@ fn single_bag(alloc: Global, field: Kind) -> Result<Kind, AllocError>
     Ok(Kind::Bag(fields))
 }
 
-/// Whether a tuple has so many fields.
+// Whether a tuple has so many fields.
 fn has_width(fields: &[Kind], width: u32) -> bool
     ensures { result ≡ (length (kinds_list (kinds_of (map kind_tree fields.now))) == width) }
 {
     fields.len() == width as usize
 }
 
-/// The one argument.
+// The one argument.
 fn one(kinds: &[Kind]) -> Option<&Kind>
     ensures { option_map kind_tree (option_copied result) ≡ only (map kind_tree kinds.now) }
 {
@@ -128,7 +144,7 @@ fn one(kinds: &[Kind]) -> Option<&Kind>
     }
 }
 
-/// The one field of a bag.
+// The one field of a bag.
 fn one_field(fields: &[Kind]) -> Option<&Kind>
     ensures { option_map kind_tree (option_copied result)
         ≡ column (kinds_of (map kind_tree fields.now)) }
@@ -141,16 +157,20 @@ fn of_one(alloc: Global, function: Function, a: &Kind) -> Result<Option<Kind>, A
         ≡ one_kind function (kind_tree a.now)) }
 {
     match function {
-        Function::Count => Ok(counted(a)),
-        Function::CountStar => Ok(counted(a)),
+        Function::Count | Function::CountStar => Ok(counted(a)),
         Function::Sum => Ok(summed(a)),
-        Function::Min => Ok(ranked(a)),
-        Function::Max => Ok(ranked(a)),
+        Function::Min | Function::Max => Ok(ranked(a)),
         Function::Size => Ok(Some(Kind::Long)),
         Function::IsEmpty => Ok(emptied(a)),
         Function::Tokenize => tokenized(alloc, a),
         Function::Abs => Ok(minus(a)),
-        _ => Ok(None),
+        Function::Concat
+        | Function::Substring
+        | Function::StartsWith
+        | Function::EndsWith
+        | Function::IndexOf
+        | Function::ToTuple
+        | Function::ToBag { .. } => Ok(None),
     }
 }
 

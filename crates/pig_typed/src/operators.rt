@@ -5,14 +5,13 @@ ghost use Rattle.pig_typed.specs.ExprKinds.{chain_kind, choose_kind, compare_kin
 
 use pig_value::{ChainOp, Kind, Rel, same_kind};
 
-/// The kind of an operator of a chain on two kinds.
+// The kind of an operator of a chain on two kinds.
 pub fn chained(op: ChainOp, a: &Kind, b: &Kind) -> Option<Kind>
     ensures { option_map kind_tree result ≡ chain_kind op (kind_tree a.now) (kind_tree b.now) }
 {
     match op {
-        ChainOp::Or => truth(a, b),
-        ChainOp::And => truth(a, b),
-        _ => number(a, b),
+        ChainOp::Or | ChainOp::And => truth(a, b),
+        ChainOp::Add | ChainOp::Sub | ChainOp::Mul | ChainOp::Div | ChainOp::Rem => number(a, b),
     }
 }
 
@@ -37,7 +36,7 @@ fn number(a: &Kind, b: &Kind) -> Option<Kind>
     }
 }
 
-/// The kind of NOT of a kind.
+// The kind of NOT of a kind.
 pub fn negated(a: &Kind) -> Option<Kind>
     ensures { option_map kind_tree result ≡ not_kind (kind_tree a.now) }
 {
@@ -47,7 +46,7 @@ pub fn negated(a: &Kind) -> Option<Kind>
     }
 }
 
-/// The kind of unary minus of a kind.
+// The kind of unary minus of a kind.
 pub fn minus(a: &Kind) -> Option<Kind>
     ensures { option_map kind_tree result ≡ minus_kind (kind_tree a.now) }
 {
@@ -58,7 +57,7 @@ pub fn minus(a: &Kind) -> Option<Kind>
     }
 }
 
-/// The kind of a comparison of two kinds.
+// The kind of a comparison of two kinds.
 pub fn compared(op: Rel, a: &Kind, b: &Kind) -> Option<Kind>
     ensures { option_map kind_tree result ≡ compare_kind op (kind_tree a.now) (kind_tree b.now) }
 {
@@ -73,9 +72,8 @@ fn is_compared(op: Rel, a: &Kind) -> bool
     ensures { result ≡ may_compare op (kind_tree a.now) }
 {
     match op {
-        Rel::Eq => equated(a),
-        Rel::Ne => equated(a),
-        _ => ranged(a),
+        Rel::Eq | Rel::Ne => equated(a),
+        Rel::Lt | Rel::Le | Rel::Gt | Rel::Ge => ranged(a),
     }
 }
 
