@@ -61,12 +61,3 @@ impl Drop for BlockStep {
         }
     }
 }
-
-/// Expressions and blocks may be shared and handed to other threads.
-fn crosses<T: Send + Sync>() {}
-
-/// Shows that expressions and blocks are `Send` and `Sync`.
-pub fn crosses_threads() {
-    crosses::<TExpr>();
-    crosses::<Block>();
-}

@@ -22,7 +22,7 @@ pub fn block_kinds(alloc: Global, block: &Block, row: &Kinds) -> Result<Option<K
     of_items(alloc, &block.items, row, &locals)
 }
 
-/// The kinds of the steps' values.
+// The kinds of the steps' values.
 fn of_steps(alloc: Global, steps: &BlockSteps, row: &Kinds) -> Result<Option<Kinds>, AllocError>
     ensures { IfOk result (λ found. option_map (map kind_tree) found
         ≡ steps_kinds (map step_typed steps.now) (map kind_tree row.now) []) }
@@ -61,7 +61,7 @@ fn of_step(
     }
 }
 
-/// The kinds of the rows of a bag.
+// The kinds of the rows of a bag.
 fn bag(
     alloc: Global,
     from: &TExpr,
@@ -99,7 +99,7 @@ fn bag_kind(
     }
 }
 
-/// A bag of such rows, where the condition is boolean on them.
+// A bag of such rows, where the condition is boolean on them.
 fn filtered(alloc: Global, rows: Kinds, cond: &TExpr) -> Result<Option<Kind>, AllocError>
     ensures { IfOk result (λ found. option_map kind_tree found
         ≡ filtered_kind (typed cond.now) (map kind_tree rows)) }
@@ -143,7 +143,7 @@ fn is_sort_key(kinds: &Kinds, position: u32) -> bool
     }
 }
 
-/// The kinds of the fields that the items give.
+// The kinds of the fields that the items give.
 fn of_items(
     alloc: Global,
     items: &BlockItems,
@@ -182,7 +182,7 @@ fn of_item(
     }
 }
 
-/// The kinds of the fields that a value gives.
+// The kinds of the fields that a value gives.
 fn given(alloc: Global, kind: Kind, flatten: bool) -> Result<Option<Kinds>, AllocError>
     ensures { IfOk result (λ found. option_map (map kind_tree) found
         ≡ given_kinds flatten (kind_tree kind)) }

@@ -18,3 +18,11 @@ pub use exprs::{TExpr, TExprs, TLink, TLinks};
 pub use generating::{are_sort_keys, block_kinds};
 pub use kinds::kind_of;
 pub use laws::{kinds_are_kept, lines_are_kept, rows_go_one_by_one, values_are_kept};
+
+// Expressions and blocks may be shared and handed to other threads.
+fn crosses<T: Send + Sync>() {}
+
+fn crosses_threads() {
+    crosses::<TExpr>();
+    crosses::<Block>();
+}

@@ -6,7 +6,7 @@ ghost use Rattle.pig_typed.specs.ExprKinds.{is_selection, part_kind, picked_kind
 use pig_value::{Kind, Kinds, Positions, Seq, copy_kind};
 use std::alloc::{AllocError, Global};
 
-/// The kind of a projection of a tuple or a bag.
+// The kind of a projection of a tuple or a bag.
 pub fn projected(
     alloc: Global,
     of: &Kind,
@@ -62,7 +62,7 @@ fn selects(fields: &Positions, single: bool) -> bool
     }
 }
 
-/// The kinds at these positions, where each is within the fields.
+// The kinds at these positions, where each is within the fields.
 fn picked(alloc: Global, kinds: &Kinds, fields: &Positions) -> Result<Option<Kinds>, AllocError>
     ensures { IfOk result (λ found. option_map (map kind_tree) found
         ≡ picked_kinds fields.now (map kind_tree kinds.now)) }
@@ -88,7 +88,7 @@ fn copy_at(alloc: Global, kinds: &Kinds, field: u32) -> Result<Option<Kind>, All
     }
 }
 
-/// Of a tuple the one kind, or the tuple of the kinds.
+// Of a tuple the one kind, or the tuple of the kinds.
 fn part(picked: Kinds, single: bool) -> Option<Kind>
     ensures { option_map kind_tree result ≡ part_kind single (map kind_tree picked) }
 {

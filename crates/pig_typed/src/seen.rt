@@ -6,21 +6,21 @@ ghost use Rattle.pig_typed.specs.Seen.{seen_kind};
 use pig_value::{Kind, Kinds, copy_kind};
 use std::alloc::{AllocError, Global};
 
-/// A kind that stands in the row or the expression, or one that was made.
+// A kind that stands in the row or the expression, or one that was made.
 #[derive(Drop)]
 pub enum SeenKind<'a> {
     Lent(&'a Kind),
     Made(Kind),
 }
 
-/// The kinds of a row's fields and of a block's steps so far.
+// The kinds of a row's fields and of a block's steps so far.
 #[derive(Clone, Copy, Drop)]
 pub struct Scope<'a> {
     pub row: &'a Kinds,
     pub locals: &'a Kinds,
 }
 
-/// The kind to look at.
+// The kind to look at.
 pub fn kind<'b, 'a>(seen: &'b SeenKind<'a>) -> &'b Kind
     ensures { kind_tree result.now ≡ seen_kind seen.now }
 {
@@ -30,7 +30,7 @@ pub fn kind<'b, 'a>(seen: &'b SeenKind<'a>) -> &'b Kind
     }
 }
 
-/// The kind with memory of its own.
+// The kind with memory of its own.
 pub fn owned(alloc: Global, seen: SeenKind) -> Result<Kind, AllocError>
     ensures { IfOk result (λ kind. kind_tree kind ≡ seen_kind seen.entry) }
 {
@@ -40,7 +40,7 @@ pub fn owned(alloc: Global, seen: SeenKind) -> Result<Kind, AllocError>
     }
 }
 
-/// The kind at a position.
+// The kind at a position.
 pub fn kind_at<'a>(kinds: &'a Kinds, position: u32) -> Option<SeenKind<'a>>
     ensures { option_map seen_kind result ≡ slice_get (map kind_tree kinds.now) position }
 {
