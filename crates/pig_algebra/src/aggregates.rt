@@ -68,7 +68,7 @@ impl<F: Aggregate> Algebraic for F {
 }
 
 /// Parts of COUNT: how many rows have a first field that is not null, as a long.
-#[derive(Debug, Clone, Copy, Drop)]
+#[derive(Clone, Copy, Drop)]
 pub struct CountPart;
 
 impl Aggregate for CountPart {
@@ -82,7 +82,7 @@ impl Aggregate for CountPart {
 }
 
 /// Parts of COUNT_STAR: how many rows there are, as a long.
-#[derive(Debug, Clone, Copy, Drop)]
+#[derive(Clone, Copy, Drop)]
 pub struct StarPart;
 
 impl Aggregate for StarPart {
@@ -96,7 +96,7 @@ impl Aggregate for StarPart {
 }
 
 /// Parts of SUM: the sum of the numbers as a long, or null where there is none.
-#[derive(Debug, Clone, Copy, Drop)]
+#[derive(Clone, Copy, Drop)]
 pub struct SumPart;
 
 impl Aggregate for SumPart {
@@ -110,7 +110,7 @@ impl Aggregate for SumPart {
 }
 
 /// Parts of MIN: the least value, or null where there is none.
-#[derive(Debug, Clone, Copy, Drop)]
+#[derive(Clone, Copy, Drop)]
 pub struct MinPart;
 
 impl Aggregate for MinPart {
@@ -124,7 +124,7 @@ impl Aggregate for MinPart {
 }
 
 /// Parts of MAX: the greatest value, or null where there is none.
-#[derive(Debug, Clone, Copy, Drop)]
+#[derive(Clone, Copy, Drop)]
 pub struct MaxPart;
 
 impl Aggregate for MaxPart {
@@ -138,7 +138,7 @@ impl Aggregate for MaxPart {
 }
 
 /// Parts of DISTINCT, of equal rows: the row as a tuple, or null where there is none.
-#[derive(Debug, Clone, Copy, Drop)]
+#[derive(Clone, Copy, Drop)]
 pub struct DistinctPart;
 
 impl Algebraic for DistinctPart {

@@ -5,7 +5,6 @@ use pig_value::{Function, Positions, Seq};
 pub type Cuts = Seq<Cut>;
 
 /// Where an item of a combinable block comes from, or the row of a DISTINCT.
-#[derive(Debug)]
 pub enum Cut {
     /// The key or a projection of it, as an expression that sees the key as its field 0.
     Key(TExpr),

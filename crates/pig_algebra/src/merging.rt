@@ -37,7 +37,19 @@ fn looked_at(function: Function, row: &Tuple) -> Option<&Value>
 {
     match function {
         Function::Sum | Function::Min | Function::Max => only_field(row),
-        _ => field_at(row, 0),
+        Function::Count
+        | Function::CountStar
+        | Function::Size
+        | Function::Concat
+        | Function::IsEmpty
+        | Function::Tokenize
+        | Function::Substring
+        | Function::StartsWith
+        | Function::EndsWith
+        | Function::IndexOf
+        | Function::Abs
+        | Function::ToTuple
+        | Function::ToBag { .. } => field_at(row, 0),
     }
 }
 
@@ -48,7 +60,20 @@ pub fn merged(function: Function, a: Value, b: Value) -> Value
     match function {
         Function::Min => better(Dir::Asc, a, b),
         Function::Max => better(Dir::Desc, a, b),
-        _ => added(a, b),
+        Function::Count
+        | Function::CountStar
+        | Function::Sum
+        | Function::Size
+        | Function::Concat
+        | Function::IsEmpty
+        | Function::Tokenize
+        | Function::Substring
+        | Function::StartsWith
+        | Function::EndsWith
+        | Function::IndexOf
+        | Function::Abs
+        | Function::ToTuple
+        | Function::ToBag { .. } => added(a, b),
     }
 }
 
