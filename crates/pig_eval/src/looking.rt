@@ -6,7 +6,7 @@ ghost use Rattle.pig_value.specs.Trees.{kind_tree, row_tree, tree, v_chars};
 ghost use Rattle.pig_builtins.specs.Arities.{is_variadic as is_variadic_function};
 ghost use Rattle.pig_typed.specs.Evaluation.{ev, ev_args, ev_links};
 ghost use Rattle.pig_typed.specs.Operators.{chain_tree, minus_tree, project_tree, truth_of};
-ghost use Rattle.pig_typed.specs.Typed.{args_of, link_of, links_of, typed};
+ghost use Rattle.pig_typed.specs.Typed.{args_of, link_of, links_of, typed, x_choose};
 ghost use Rattle.pig_eval.specs.SeenValues.{seen_tree};
 ghost use Rattle.pig_eval.specs.Truths.{begins_logical, chain_truth as chain_truth_of, compare_truth, links_truth};
 
@@ -52,11 +52,7 @@ pub fn look<'a>(
             chain_value(alloc, first, rest, row, locals)
         }
         TExpr::Compare { op, a, b } => {
-            if let Some(truth) = compare_peeked(*op, a.get(), b.get(), row, locals) {
-                return Ok(Seen::Made(boolean(truth)));
-            }
-            let a = look(alloc, a.get(), row, locals)?;
-            let truth = compare_right(alloc, *op, a, b.get(), row, locals)?;
+            let truth = comparison(alloc, *op, a.get(), b.get(), row, locals)?;
             Ok(Seen::Made(boolean(truth)))
         }
         TExpr::IsNull { a, not } => {
@@ -68,11 +64,9 @@ pub fn look<'a>(
             Ok(Seen::Made(boolean(negated(truth))))
         }
         TExpr::Minus(a) => negative(alloc, a.get(), row, locals),
-        TExpr::Choose { cond, yes, no } => match truth(alloc, cond.get(), row, locals)? {
-            Some(true) => look(alloc, yes.get(), row, locals),
-            Some(false) => otherwise(alloc, no.get(), row, locals),
-            None => Ok(Seen::Made(Value::Null)),
-        },
+        TExpr::Choose { cond, yes, no } => {
+            choice(alloc, cond.get(), yes.get(), no.get(), row, locals)
+        }
         TExpr::Cast { to, a } => cast_to(alloc, a.get(), to, row, locals),
         TExpr::Project { a, fields, single } => {
             project(alloc, look(alloc, a.get(), row, locals)?, fields, *single)
@@ -108,11 +102,7 @@ pub fn truth<'a>(
             Ok(truth)
         }
         TExpr::Compare { op, a, b } => {
-            if let Some(truth) = compare_peeked(*op, a.get(), b.get(), row, locals) {
-                return Ok(truth);
-            }
-            let a = look(alloc, a.get(), row, locals)?;
-            let truth = compare_right(alloc, *op, a, b.get(), row, locals)?;
+            let truth = comparison(alloc, *op, a.get(), b.get(), row, locals)?;
             Ok(truth)
         }
         TExpr::IsNull { a, not } => {
@@ -163,6 +153,26 @@ fn presence<'a>(
             Ok(is_present(value(&seen)))
         }
     }
+}
+
+#[cycle(look)]
+fn comparison<'a>(
+    alloc: Global,
+    op: Rel,
+    a: &'a TExpr,
+    b: &'a TExpr,
+    row: &'a Tuple,
+    locals: &'a Tuple,
+) -> Result<Option<bool>, AllocError>
+    ensures { IfOk result (λ t. t ≡ compare_truth op
+        (ev (typed a.now) (row_tree row.now) (row_tree locals.now))
+        (ev (typed b.now) (row_tree row.now) (row_tree locals.now))) }
+{
+    if let Some(truth) = compare_peeked(op, a, b, row, locals) {
+        return Ok(truth);
+    }
+    let a = look(alloc, a, row, locals)?;
+    compare_right(alloc, op, a, b, row, locals)
 }
 
 // A comparison whose left side is looked at.
@@ -299,6 +309,26 @@ fn cast_to<'a>(
 {
     let seen = look(alloc, e, row, locals)?;
     Ok(Seen::Made(cast(alloc, value(&seen), to)?))
+}
+
+#[cycle(look)]
+fn choice<'a>(
+    alloc: Global,
+    cond: &'a TExpr,
+    yes: &'a TExpr,
+    no: &'a TExpr,
+    row: &'a Tuple,
+    locals: &'a Tuple,
+) -> Result<Seen<'a>, AllocError>
+    ensures { IfOk result (λ seen. seen_tree seen
+        ≡ ev (x_choose (typed cond.now) (typed yes.now) (typed no.now))
+        (row_tree row.now) (row_tree locals.now)) }
+{
+    match truth(alloc, cond, row, locals)? {
+        Some(true) => look(alloc, yes, row, locals),
+        Some(false) => otherwise(alloc, no, row, locals),
+        None => Ok(Seen::Made(Value::Null)),
+    }
 }
 
 // The last value of a bincond, which is gone into as long as it is a bincond itself.

@@ -5,6 +5,7 @@ use Rattle.pig_typed.specs.Typed.{args_of, link_of, links_of, typed}
 use Rattle.pig_typed.specs.declared.exprs.TExpr.TheViews.{size-TExpr}
 use Rattle.pig_eval.specs.SeenValues.{seen_tree}
 use Rattle.pig_eval.specs.Truths.{links_truth}
+use Rattle.std.specs.Prelude.{max}
 use Rattle.pig_eval.proofs.looking.+look.Given as goal
 
 abbrev pub decreases-look : goal.decreases-look
@@ -15,6 +16,9 @@ decreases-truth l = 5 * goal.size-truth l + 1
 
 abbrev pub decreases-presence : goal.decreases-presence
 decreases-presence l = 5 * goal.size-presence l + 1
+
+abbrev pub decreases-comparison : goal.decreases-comparison
+decreases-comparison l = 5 * max (size-TExpr l.a.now) (size-TExpr l.b.now) + 2
 
 abbrev pub decreases-compare_right : goal.decreases-compare_right
 decreases-compare_right l = 5 * goal.size-compare_right l + 1
@@ -36,6 +40,9 @@ decreases-negative l = 5 * goal.size-negative l + 1
 
 abbrev pub decreases-cast_to : goal.decreases-cast_to
 decreases-cast_to l = 5 * goal.size-cast_to l + 1
+
+abbrev pub decreases-choice : goal.decreases-choice
+decreases-choice l = 5 * max (size-TExpr l.cond.now) (max (size-TExpr l.yes.now) (size-TExpr l.no.now)) + 2
 
 abbrev pub decreases-otherwise : goal.decreases-otherwise
 decreases-otherwise l = 5 * goal.size-otherwise l + 1
