@@ -68,9 +68,21 @@ fn counts_rows(function: Function) -> bool
     ensures { result ≡ counts_rows_of function }
 {
     match function {
-        Function::Size => true,
-        Function::IsEmpty => true,
-        _ => false,
+        Function::Size | Function::IsEmpty => true,
+        Function::Count
+        | Function::CountStar
+        | Function::Sum
+        | Function::Min
+        | Function::Max
+        | Function::Concat
+        | Function::Tokenize
+        | Function::Substring
+        | Function::StartsWith
+        | Function::EndsWith
+        | Function::IndexOf
+        | Function::Abs
+        | Function::ToTuple
+        | Function::ToBag { .. } => false,
     }
 }
 
@@ -79,12 +91,19 @@ fn column(function: Function, fields: &Positions) -> Option<u32>
     ensures { MatchOption result ⊤ (λ n. ReadsColumn function fields.now n) }
 {
     match function {
-        Function::Count => first(fields),
-        Function::CountStar => first(fields),
-        Function::Sum => only(fields),
-        Function::Min => only(fields),
-        Function::Max => only(fields),
-        _ => None,
+        Function::Count | Function::CountStar => first(fields),
+        Function::Sum | Function::Min | Function::Max => only(fields),
+        Function::Size
+        | Function::Concat
+        | Function::IsEmpty
+        | Function::Tokenize
+        | Function::Substring
+        | Function::StartsWith
+        | Function::EndsWith
+        | Function::IndexOf
+        | Function::Abs
+        | Function::ToTuple
+        | Function::ToBag { .. } => None,
     }
 }
 

@@ -58,7 +58,7 @@ pub fn joined(op: ChainOp, a: Option<bool>, b: Option<bool>) -> Option<bool>
     match op {
         ChainOp::Or => or(a, b),
         ChainOp::And => and(a, b),
-        _ => None,
+        ChainOp::Add | ChainOp::Sub | ChainOp::Mul | ChainOp::Div | ChainOp::Rem => None,
     }
 }
 
@@ -67,9 +67,8 @@ pub fn is_logical(op: ChainOp) -> bool
     ensures { result ≡ is_logical_op op }
 {
     match op {
-        ChainOp::Or => true,
-        ChainOp::And => true,
-        _ => false,
+        ChainOp::Or | ChainOp::And => true,
+        ChainOp::Add | ChainOp::Sub | ChainOp::Mul | ChainOp::Div | ChainOp::Rem => false,
     }
 }
 
@@ -90,7 +89,9 @@ pub fn step(op: ChainOp, a: &Value, b: &Value) -> Value
     match op {
         ChainOp::Or => boolean(or(truth_value(a), truth_value(b))),
         ChainOp::And => boolean(and(truth_value(a), truth_value(b))),
-        _ => arithmetic(op, a, b),
+        ChainOp::Add | ChainOp::Sub | ChainOp::Mul | ChainOp::Div | ChainOp::Rem => {
+            arithmetic(op, a, b)
+        }
     }
 }
 
@@ -133,7 +134,7 @@ fn ints(op: ChainOp, a: i32, b: i32) -> Option<i32>
         ChainOp::Mul => Some(a.wrapping_mul(b)),
         ChainOp::Div => int_quotient(a, b),
         ChainOp::Rem => int_remainder(a, b),
-        _ => None,
+        ChainOp::Or | ChainOp::And => None,
     }
 }
 
@@ -164,7 +165,7 @@ fn longs(op: ChainOp, x: i64, y: i64) -> Option<i64>
         ChainOp::Mul => Some(x.wrapping_mul(y)),
         ChainOp::Div => long_quotient(x, y),
         ChainOp::Rem => long_remainder(x, y),
-        _ => None,
+        ChainOp::Or | ChainOp::And => None,
     }
 }
 
