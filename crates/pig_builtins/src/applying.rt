@@ -48,7 +48,19 @@ fn apply_variadic(alloc: Global, function: Function, args: &Tuple) -> Result<Val
         Function::Concat => concat(alloc, args.as_slice()),
         Function::ToTuple => to_tuple(alloc, args),
         Function::ToBag { width } => to_bag(alloc, width, args.as_slice()),
-        _ => Ok(Value::Null),
+        Function::Count
+        | Function::CountStar
+        | Function::Sum
+        | Function::Min
+        | Function::Max
+        | Function::Size
+        | Function::IsEmpty
+        | Function::Tokenize
+        | Function::Substring
+        | Function::StartsWith
+        | Function::EndsWith
+        | Function::IndexOf
+        | Function::Abs => Ok(Value::Null),
     }
 }
 
@@ -66,7 +78,13 @@ pub fn apply_one(alloc: Global, function: Function, a: &Value) -> Result<Value, 
         Function::IsEmpty => Ok(is_empty(a)),
         Function::Abs => Ok(abs(a)),
         Function::Tokenize => tokens(alloc, a),
-        _ => Ok(Value::Null),
+        Function::Concat
+        | Function::Substring
+        | Function::StartsWith
+        | Function::EndsWith
+        | Function::IndexOf
+        | Function::ToTuple
+        | Function::ToBag { .. } => Ok(Value::Null),
     }
 }
 
@@ -118,7 +136,19 @@ fn of_texts(function: Function, a: &Text, b: &Text) -> Value
         Function::StartsWith => starts_with(a, b),
         Function::EndsWith => ends_with(a, b),
         Function::IndexOf => index_of(a, b),
-        _ => Value::Null,
+        Function::Count
+        | Function::CountStar
+        | Function::Sum
+        | Function::Min
+        | Function::Max
+        | Function::Size
+        | Function::Concat
+        | Function::IsEmpty
+        | Function::Tokenize
+        | Function::Substring
+        | Function::Abs
+        | Function::ToTuple
+        | Function::ToBag { .. } => Value::Null,
     }
 }
 
@@ -136,7 +166,21 @@ pub fn apply_three(
 {
     match function {
         Function::Substring => part_of(alloc, a, b, c),
-        _ => Ok(Value::Null),
+        Function::Count
+        | Function::CountStar
+        | Function::Sum
+        | Function::Min
+        | Function::Max
+        | Function::Size
+        | Function::Concat
+        | Function::IsEmpty
+        | Function::Tokenize
+        | Function::StartsWith
+        | Function::EndsWith
+        | Function::IndexOf
+        | Function::Abs
+        | Function::ToTuple
+        | Function::ToBag { .. } => Ok(Value::Null),
     }
 }
 

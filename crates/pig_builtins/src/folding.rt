@@ -39,7 +39,17 @@ impl<'a> Fold<'a> {
             Function::Sum => Some(Fold::Sum(None)),
             Function::Min => Some(Fold::Min(None)),
             Function::Max => Some(Fold::Max(None)),
-            _ => None,
+            Function::Size
+            | Function::Concat
+            | Function::IsEmpty
+            | Function::Tokenize
+            | Function::Substring
+            | Function::StartsWith
+            | Function::EndsWith
+            | Function::IndexOf
+            | Function::Abs
+            | Function::ToTuple
+            | Function::ToBag { .. } => None,
         }
     }
 
@@ -77,7 +87,7 @@ impl<'a> Fold<'a> {
         match self {
             Fold::Count(n) | Fold::CountStar(n) | Fold::Sum(Some(n)) => Ok(Value::Long(n)),
             Fold::Min(Some(best)) | Fold::Max(Some(best)) => copy(alloc, best),
-            _ => Ok(Value::Null),
+            Fold::Sum(None) | Fold::Min(None) | Fold::Max(None) => Ok(Value::Null),
         }
     }
 }
@@ -166,7 +176,19 @@ fn looked_at(function: Function, row: &Tuple) -> Option<&Value>
 {
     match function {
         Function::Sum | Function::Min | Function::Max => only_field(row),
-        _ => field_at(row, 0),
+        Function::Count
+        | Function::CountStar
+        | Function::Size
+        | Function::Concat
+        | Function::IsEmpty
+        | Function::Tokenize
+        | Function::Substring
+        | Function::StartsWith
+        | Function::EndsWith
+        | Function::IndexOf
+        | Function::Abs
+        | Function::ToTuple
+        | Function::ToBag { .. } => field_at(row, 0),
     }
 }
 
