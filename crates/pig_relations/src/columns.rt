@@ -20,12 +20,7 @@ pub fn group_name(alloc: Global) -> Result<Text, AllocError>
 pub fn named(name: Text, column: Field) -> Field
     ensures { named_tree result ≡ with_name name (named_tree column) }
 {
-    let Field { kind, inner, .. } = column;
-    Field {
-        name: Some(name),
-        kind,
-        inner,
-    }
+    column.with_name(Some(name))
 }
 
 // A tuple of these columns, without a name.

@@ -1,5 +1,6 @@
 ghost use Rattle.std.specs.Prelude.{◌≡◌, IfOk, map};
-ghost use Rattle.pig_schema.specs.FieldTrees.{kind_of};
+ghost use Rattle.pig_value.specs.Trees.{kind_tree};
+ghost use Rattle.pig_schema.specs.FieldTrees.{a_field, inner_of, kind_of, name_of, named_tree, schema_tree, tree_inner, tree_kind};
 
 use pig_value::{Kind, Kinds, Seq, Text, copy_kind};
 use std::alloc::{AllocError, Global};
@@ -9,13 +10,59 @@ pub type Schema = Seq<Field>;
 
 /// A field of a schema. Where it holds fields its kind tells their kinds (`IsColumn` in `specs/FieldTrees`).
 #[cycle(schema)]
-#[derive(Debug, Drop)]
+#[derive(Debug)]
 pub struct Field {
     /// None where the field can be used by its position alone.
     pub name: Option<Text>,
     pub kind: Kind,
     /// The fields of a tuple or of the tuples of a bag; of a map those of its values, and none of other kinds.
     pub inner: Schema,
+}
+
+// Written and not derived, so that a field's end is one call.
+impl Drop for Field {
+    #[cycle(drop_field)]
+    fn drop(self) {
+        let Field { name, kind, inner } = self;
+        drop(name);
+        drop(kind);
+        drop(inner);
+    }
+}
+
+impl Field {
+    /// The field by another name, or without one.
+    pub fn with_name(self, name: Option<Text>) -> Field
+        ensures { named_tree result
+            ≡ a_field name (tree_kind (named_tree self)) (tree_inner (named_tree self)) }
+    {
+        let Field {
+            name: old,
+            kind,
+            inner,
+        } = self;
+        drop(old);
+        Field { name, kind, inner }
+    }
+
+    /// The kind of the field, and the fields inside it.
+    pub fn into_parts(self) -> (Kind, Schema)
+        ensures { a_field (name_of self) (kind_tree result.0) (inner_of (schema_tree result.1))
+            ≡ named_tree self }
+    {
+        let Field { name, kind, inner } = self;
+        drop(name);
+        (kind, inner)
+    }
+
+    /// The fields inside the field.
+    pub fn into_inner(self) -> Schema
+        ensures { inner_of (schema_tree result) ≡ tree_inner (named_tree self) }
+    {
+        let Field { name, kind, inner } = self;
+        drop((name, kind));
+        inner
+    }
 }
 
 /// The kinds of the fields, in order, in memory of their own.

@@ -95,8 +95,7 @@ fn copy_inner(alloc: Global, field: &Field) -> Result<Schema, AllocError>
 fn inner_columns(field: Field) -> Schema
     ensures { inner_of (schema_tree result) ≡ tree_inner (named_tree field) }
 {
-    let Field { inner, .. } = field;
-    inner
+    field.into_inner()
 }
 
 fn nameless(alloc: Global, field: &Field) -> Result<Field, AllocError>

@@ -171,9 +171,9 @@ fn bag_of_one(alloc: Global, column: &Field) -> Result<Field, AllocError>
 {
     let mut columns = Seq::new(alloc);
     columns.push(copy_field(alloc, column)?)?;
-    let Field { kind, inner, .. } = bag(alloc, columns)?;
+    let bag = bag(alloc, columns)?;
     let name = copy_name(alloc, &column.name)?;
-    Ok(Field { name, kind, inner })
+    Ok(bag.with_name(name))
 }
 
 fn copy_name(alloc: Global, name: &Option<Text>) -> Result<Option<Text>, AllocError>

@@ -123,7 +123,7 @@ fn scalar(alloc: Global, kind: Kind) -> Field
 fn of_values(alloc: Global, values: Field) -> Result<Field, AllocError>
     ensures { IfOk result (λ f. named_tree f ≡ of_values (named_tree values)) }
 {
-    let Field { kind, inner, .. } = values;
+    let (kind, inner) = values.into_parts();
     let kind = Kind::Map(Boxed::new(alloc, kind)?);
     Ok(holding(kind, inner))
 }
@@ -131,10 +131,5 @@ fn of_values(alloc: Global, values: Field) -> Result<Field, AllocError>
 pub fn with_name(name: Text, column: Field) -> Field
     ensures { named_tree result ≡ with_name name (named_tree column) }
 {
-    let Field { kind, inner, .. } = column;
-    Field {
-        name: Some(name),
-        kind,
-        inner,
-    }
+    column.with_name(Some(name))
 }
