@@ -12,7 +12,7 @@ use pig_value::{Blob, Text};
 use std::alloc::{AllocError, Global};
 use std::str;
 
-/// A token's form, and the bytes behind it.
+// A token's form, and the bytes behind it.
 pub type Found<'a> = Option<(TokenForm, &'a [u8])>;
 
 // A number, where a digit begins the bytes.
@@ -280,7 +280,7 @@ fn is_end(unit: TextUnit) -> bool
 {
     match unit {
         TextUnit::End => true,
-        _ => false,
+        TextUnit::Byte(_) | TextUnit::Char(_) => false,
     }
 }
 

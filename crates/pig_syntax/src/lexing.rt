@@ -62,7 +62,7 @@ fn offset_of(script: &[u8], rest: &[u8]) -> u64
     (script.len() - rest.len()) as u64
 }
 
-/// What stands at the front of some bytes, and the bytes behind it.
+// What stands at the front of some bytes, and the bytes behind it.
 #[derive(Drop)]
 enum Ahead<'a> {
     Gap(&'a [u8]),
@@ -113,7 +113,8 @@ fn is_number(form: &TokenForm) -> bool
 {
     match form {
         TokenForm::Int(_) | TokenForm::Long(_) | TokenForm::Float | TokenForm::Position(_) => true,
-        _ => false,
+        TokenForm::Ident(_) | TokenForm::Keyword(_) | TokenForm::Text(_) | TokenForm::Symbol(_) =>
+            false,
     }
 }
 

@@ -4,7 +4,7 @@ ghost use Rattle.std.specs.List.{list_all};
 ghost use Rattle.pig_syntax.specs.Tokens.{after_close, after_comment, after_gap, begins_as_word, escape_of, from_lf, is_in_line, is_plain, is_space, is_word_byte, strip};
 ghost use Rattle.pig_syntax.specs.Scanner.{escape_at, named_at, character_of, hex_of, named_by, past, past_digits, past_either, past_exponent, past_fraction, run, unit_at};
 
-/// A step through a text: its closing quote, or what a byte or an escape in it means.
+// A step through a text: its closing quote, or what a byte or an escape in it means.
 #[derive(Debug, Clone, Copy, Drop)]
 pub enum TextUnit {
     End,
@@ -12,7 +12,7 @@ pub enum TextUnit {
     Char(char),
 }
 
-/// The bytes behind a byte of white space or a comment, where one begins them.
+// The bytes behind a byte of white space or a comment, where one begins them.
 #[tactic(auto, unfolding(crate::specs::Tokens::after_gap))]
 pub fn after_gap(bytes: &[u8]) -> Option<&[u8]>
     ensures value { option_map (λ rest. rest.now) result ≡ after_gap bytes.now }
@@ -82,7 +82,7 @@ fn after_close(bytes: &[u8]) -> Option<&[u8]>
     None
 }
 
-/// The bytes behind `prefix`, where they begin with it.
+// The bytes behind `prefix`, where they begin with it.
 pub fn after<'a>(bytes: &'a [u8], prefix: &[u8]) -> Option<&'a [u8]>
     ensures value { option_map (λ rest. rest.now) result ≡ strip prefix.now bytes.now }
     ensures length { IfSome result (λ rest. length rest.now + length prefix.now
@@ -91,7 +91,7 @@ pub fn after<'a>(bytes: &'a [u8], prefix: &[u8]) -> Option<&'a [u8]>
     bytes.strip_prefix(prefix)
 }
 
-/// Whether a byte that goes on a word begins the bytes.
+// Whether a byte that goes on a word begins the bytes.
 pub fn begins_as_word(bytes: &[u8]) -> bool
     ensures { result ≡ begins_as_word bytes.now }
 {
@@ -108,7 +108,7 @@ fn is_word_byte(byte: u8) -> bool
     byte.is_ascii_alphanumeric() || byte == b'_'
 }
 
-/// The bytes of a word at the front, and those behind them.
+// The bytes of a word at the front, and those behind them.
 #[tactic(auto, using(crate::proofs::Runs::run_passes), unfolding(crate::specs::Scanner::run, crate::specs::Scanner::past))]
 pub fn word_bytes(bytes: &[u8]) -> (&[u8], &[u8])
     ensures word { list_all is_word_byte result.0.now ≡ true }
@@ -125,7 +125,7 @@ fn word_len(bytes: &[u8]) -> usize
     bytes.iter().take_while(|b| is_word_byte(**b)).count()
 }
 
-/// The digits at the front, and the bytes behind them.
+// The digits at the front, and the bytes behind them.
 #[tactic(auto, using(crate::proofs::Runs::run_passes), unfolding(crate::specs::Scanner::run, crate::specs::Scanner::past))]
 pub fn digits(bytes: &[u8]) -> (&[u8], &[u8])
     ensures digits { list_all is_ascii_digit result.0.now ≡ true }
@@ -142,7 +142,7 @@ fn digits_len(bytes: &[u8]) -> usize
     bytes.iter().take_while(|b| b.is_ascii_digit()).count()
 }
 
-/// The rest of a float behind its first digits: a point, digits, an optional exponent and an optional suffix.
+// The rest of a float behind its first digits: a point, digits, an optional exponent and an optional suffix.
 #[tactic(auto, unfolding(crate::specs::Scanner::past_fraction))]
 pub fn past_fraction(bytes: &[u8]) -> Option<&[u8]>
     ensures { option_map (λ rest. rest.now) result ≡ past_fraction bytes.now }
@@ -197,7 +197,7 @@ fn past_either(bytes: &[u8], one: u8, other: u8) -> &[u8]
     }
 }
 
-/// The next step through a text.
+// The next step through a text.
 #[tactic(auto, unfolding(crate::specs::Scanner::unit_at))]
 pub fn next_unit(bytes: &[u8]) -> Option<(TextUnit, &[u8])>
     ensures value { option_map (λ p. (p.0, p.1.now)) result ≡ unit_at bytes.now }
