@@ -311,33 +311,18 @@ impl Drop for Stmt {
     fn drop(self) {
         match self {
             Stmt::Empty | Stmt::Unsupported => {}
-            Stmt::Assign { alias, op } => {
-                drop(alias);
-                drop(op);
-            }
+            Stmt::Assign { alias, op } => drop((alias, op)),
             Stmt::Split {
                 from,
                 branches,
                 otherwise,
-            } => {
-                drop(from);
-                drop(branches);
-                drop(otherwise);
-            }
-            Stmt::Store { from, path, func } => {
-                drop(from);
-                drop(path);
-                drop(func);
-            }
+            } => drop((from, branches, otherwise)),
+            Stmt::Store { from, path, func } => drop((from, path, func)),
             Stmt::Assert {
                 from,
                 cond,
                 message,
-            } => {
-                drop(from);
-                drop(cond);
-                drop(message);
-            }
+            } => drop((from, cond, message)),
         }
     }
 }
@@ -345,36 +330,16 @@ impl Drop for Stmt {
 impl Drop for Op {
     fn drop(self) {
         match self {
-            Op::Load { path, func, schema } => {
-                drop(path);
-                drop(func);
-                drop(schema);
-            }
-            Op::Filter { from, cond } => {
-                drop(from);
-                drop(cond);
-            }
-            Op::Foreach { from, steps, items } => {
-                drop(from);
-                drop(steps);
-                drop(items);
-            }
-            Op::GroupAll { from, using } => {
-                drop(from);
-                drop(using);
-            }
-            Op::Group { inputs, using } => {
-                drop(inputs);
-                drop(using);
-            }
+            Op::Load { path, func, schema } => drop((path, func, schema)),
+            Op::Filter { from, cond } => drop((from, cond)),
+            Op::Foreach { from, steps, items } => drop((from, steps, items)),
+            Op::GroupAll { from, using } => drop((from, using)),
+            Op::Group { inputs, using } => drop((inputs, using)),
             Op::Join {
                 inputs,
                 side: _,
                 using,
-            } => {
-                drop(inputs);
-                drop(using);
-            }
+            } => drop((inputs, using)),
             Op::Union { onschema: _, from } => drop(from),
             Op::Distinct { from } | Op::Limit { from, count: _ } => drop(from),
             Op::Order { from, keys }
@@ -382,18 +347,12 @@ impl Drop for Op {
                 from,
                 keys,
                 dense: _,
-            } => {
-                drop(from);
-                drop(keys);
-            }
+            } => drop((from, keys)),
             Op::Cube {
                 from,
                 rollup: _,
                 dims,
-            } => {
-                drop(from);
-                drop(dims);
-            }
+            } => drop((from, dims)),
         }
     }
 }
@@ -401,14 +360,8 @@ impl Drop for Op {
 impl Drop for Nested {
     fn drop(self) {
         match self {
-            Nested::Filter { from, cond } => {
-                drop(from);
-                drop(cond);
-            }
-            Nested::Order { from, keys } => {
-                drop(from);
-                drop(keys);
-            }
+            Nested::Filter { from, cond } => drop((from, cond)),
+            Nested::Order { from, keys } => drop((from, keys)),
             Nested::Distinct { from } | Nested::Limit { from, count: _ } | Nested::Take { from } =>
                 {
                     drop(from);
@@ -425,10 +378,7 @@ impl Drop for Item {
                 value,
                 flatten: _,
                 names,
-            } => {
-                drop(value);
-                drop(names);
-            }
+            } => drop((value, names)),
         }
     }
 }
