@@ -15,7 +15,7 @@ use crate::fronts::{compare_behind, compare_fronts, compare_lens, end_within, fr
 use crate::lent::{Lent, compare_lent};
 use crate::slots::Slot;
 use pig_keycode::{decode, decode_row, encode_key, encode_row};
-use pig_value::{Dirs, Seq, Tuple, Value};
+use pig_value::{Dirs, Seq, Tuple, Value, narrow};
 use std::alloc::{AllocError, Global};
 use std::cmp::Ordering;
 
@@ -203,17 +203,6 @@ fn against(key: &[u8], row: &[u8]) -> Ordering
     match part(row, 0, 2).cmp(BEFORE_FIELD.as_slice()) {
         Ordering::Equal => part(row, 2, key.len()).cmp(key),
         found => found,
-    }
-}
-
-// A length as slots keep it. For a longer code there is no memory.
-pub(crate) fn narrow(len: usize) -> Result<u32, AllocError>
-    ensures same { IfOk result (λ narrow. narrow ≡ len) }
-    ensures long { OnErr result (2 ^ 32 ≤ len) }
-{
-    match u32::try_from(len) {
-        Ok(len) => Ok(len),
-        Err(_) => Err(AllocError),
     }
 }
 

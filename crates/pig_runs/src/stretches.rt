@@ -5,8 +5,9 @@ ghost use Rattle.pig_runs.specs.Places.{bytes_of, found_place, fronted_head, lis
 use crate::fronts::compare_fronts;
 use crate::heads::Heads;
 use crate::lent::Lent;
-use crate::packing::{compare_alike, lend, narrow};
+use crate::packing::{compare_alike, lend};
 use crate::slots::{Front, Slot};
+use pig_value::narrow;
 use std::alloc::{AllocError, Global};
 use std::cmp::Ordering;
 
