@@ -141,7 +141,7 @@ fn is_side(side: Side, replicated: bool, inputs: usize) -> bool
     match side {
         Side::Inner => 2 <= inputs,
         Side::Left => inputs == 2,
-        _ => inputs == 2 && !replicated,
+        Side::Right | Side::Full => inputs == 2 && !replicated,
     }
 }
 

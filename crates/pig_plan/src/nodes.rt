@@ -102,11 +102,7 @@ impl Drop for NodeOp {
                 path,
                 delim,
                 columns,
-            } => {
-                drop(path);
-                drop(delim);
-                drop(columns);
-            }
+            } => drop((path, delim, columns)),
             NodeOp::Filter { input: _, cond } => drop(cond),
             NodeOp::Foreach { input: _, block } => drop(block),
             NodeOp::GroupAll { input: _ }
@@ -119,28 +115,22 @@ impl Drop for NodeOp {
                 replicated: _,
             } => drop(inputs),
             NodeOp::Union { inputs } => drop(inputs),
-            NodeOp::Order { input: _, keys } => drop(keys),
-            NodeOp::Store {
-                input: _,
-                path,
-                delim,
-            } => {
-                drop(path);
-                drop(delim);
-            }
-            NodeOp::Assert {
-                input: _,
-                cond,
-                message,
-            } => {
-                drop(cond);
-                drop(message);
-            }
-            NodeOp::Rank {
+            NodeOp::Order { input: _, keys }
+            | NodeOp::Rank {
                 input: _,
                 keys,
                 dense: _,
             } => drop(keys),
+            NodeOp::Store {
+                input: _,
+                path,
+                delim,
+            } => drop((path, delim)),
+            NodeOp::Assert {
+                input: _,
+                cond,
+                message,
+            } => drop((cond, message)),
         }
     }
 }

@@ -258,6 +258,16 @@ fn are_both(op: &NodeOp, other: &NodeOp) -> bool
     match op {
         NodeOp::Limit { .. } => matches!(other, NodeOp::Limit { .. }),
         NodeOp::Assert { .. } => matches!(other, NodeOp::Assert { .. }),
-        _ => false,
+        NodeOp::Load { .. }
+        | NodeOp::Filter { .. }
+        | NodeOp::Foreach { .. }
+        | NodeOp::GroupAll { .. }
+        | NodeOp::Group { .. }
+        | NodeOp::Join { .. }
+        | NodeOp::Union { .. }
+        | NodeOp::Distinct { .. }
+        | NodeOp::Order { .. }
+        | NodeOp::Store { .. }
+        | NodeOp::Rank { .. } => false,
     }
 }
