@@ -1,2 +1,4 @@
 pub mod Fields
+pub mod Lent
+pub mod OneGroup
 pub mod Spans

@@ -3,7 +3,7 @@ use Rattle.std.specs.Prelude.{◌≤◌, List, length}
 use Rattle.pig_value.specs.Trees.{Tree}
 use Rattle.pig_runs.specs.Entries.{InDirections}
 use Rattle.pig_operators.specs.Groups.{rows_at}
-use Rattle.pig_gather.specs.declared.groups.Span.{Span}
+use Rattle.pig_gather.specs.declared.lent.Span.{Span}
 
 pub record IsSpan (run : InDirections) (s : Span) : Type 0 where
   pub order : s.from ≤ s.end

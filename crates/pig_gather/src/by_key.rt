@@ -2,12 +2,13 @@ ghost use Rattle.std.specs.Prelude.{◌≡◌, ◌<◌, ◌≤◌, [], ◌∷◌
 ghost use Rattle.pig_packed.specs.Growth.{and_rows};
 ghost use Rattle.pig_plan.specs.ByKey.{gathered, group_of, join_of};
 ghost use Rattle.pig_operators.specs.Given.{made, to_come};
-ghost use Rattle.pig_operators.specs.Groups.{IsGroup, bags_at, first_key};
+ghost use Rattle.pig_gather.specs.Lent.{bags_in, key_of};
 
 use crate::cogrouping::add_cogrouped;
 use crate::groups::{first_end, group_end};
 use crate::joining::add_partners;
 use crate::key_nulls::key_has_null;
+use crate::lent::{Group, Stretch};
 use crate::outer::add_outer;
 use crate::pieces::{add_bag, begin_by_key, end_fields};
 use pig_operators::Gathering;
@@ -53,7 +54,8 @@ fn add_next(
 {
     entries.len();
     let end = group_end(entries, from);
-    add_group(alloc, how, entries, from, end, built)?;
+    let group = Group { entries, from, end };
+    add_group(alloc, how, &group, built)?;
     Ok(end)
 }
 
@@ -61,66 +63,53 @@ fn add_next(
 fn add_group(
     alloc: Global,
     how: &Gathering,
-    entries: &Merged,
-    from: usize,
-    end: usize,
+    group: &Group<'_, '_>,
     built: &mut PackedBuilder,
 ) -> Result<(), AllocError>
-    requires ascending { entries.now.dirs ≡ [] }
-    requires group { IsGroup entries.now from end }
     requires none_begun { built.old.begun ≡ [] }
-    ensures { OnOk result (built.new ≡ and_rows
-        (made how.now (first_key entries.now from) (bags_at entries.now from end)) built.old) }
+    ensures { OnOk result (built.new
+        ≡ and_rows (made how.now (key_of group.now) (bags_in group.now)) built.old) }
 {
     match how {
-        Gathering::Group => add_group_row(entries, from, end, built),
-        Gathering::Join { inputs } => add_joined(alloc, entries, from, end, *inputs, built),
-        Gathering::Cogroup { inner } => {
-            add_cogrouped(alloc, entries, from, end, inner.as_slice(), built)
-        }
+        Gathering::Group => add_group_row(group, built),
+        Gathering::Join { inputs } => add_joined(alloc, group, *inputs, built),
+        Gathering::Cogroup { inner } => add_cogrouped(alloc, group, inner.as_slice(), built),
         Gathering::Outer { side, left, right } => {
-            add_outer(alloc, entries, from, end, *side, *left, *right, built)
+            add_outer(alloc, group, *side, *left, *right, built)
         }
     }
 }
 
 // Adds the key of a group and the bag of its rows.
-fn add_group_row(
-    entries: &Merged,
-    from: usize,
-    end: usize,
-    built: &mut PackedBuilder,
-) -> Result<(), AllocError>
-    requires ascending { entries.now.dirs ≡ [] }
-    requires group { IsGroup entries.now from end }
+fn add_group_row(group: &Group<'_, '_>, built: &mut PackedBuilder) -> Result<(), AllocError>
     requires none_begun { built.old.begun ≡ [] }
-    ensures { OnOk result (built.new ≡ and_rows
-        (group_of (first_key entries.now from) (bags_at entries.now from end)) built.old) }
+    ensures { OnOk result (built.new
+        ≡ and_rows (group_of (key_of group.now) (bags_in group.now)) built.old) }
 {
-    let next = first_end(entries, from, end);
-    begin_by_key(entries, from, built)?;
-    add_bag(entries, from, next, built)?;
+    let bag = Stretch {
+        entries: group.entries,
+        from: group.from,
+        end: first_end(group),
+    };
+    begin_by_key(group.entries, group.from, built)?;
+    add_bag(&bag, built)?;
     end_fields(built)
 }
 
 // Adds the joined rows of a group.
 fn add_joined(
     alloc: Global,
-    entries: &Merged,
-    from: usize,
-    end: usize,
+    group: &Group<'_, '_>,
     inputs: usize,
     built: &mut PackedBuilder,
 ) -> Result<(), AllocError>
-    requires ascending { entries.now.dirs ≡ [] }
-    requires group { IsGroup entries.now from end }
     requires none_begun { built.old.begun ≡ [] }
-    ensures { OnOk result (built.new ≡ and_rows
-        (join_of inputs (first_key entries.now from) (bags_at entries.now from end)) built.old) }
+    ensures { OnOk result (built.new
+        ≡ and_rows (join_of inputs (key_of group.now) (bags_in group.now)) built.old) }
 {
-    let null = key_has_null(alloc, entries, from)?;
+    let null = key_has_null(alloc, group.entries, group.from)?;
     if null {
         return Ok(());
     }
-    add_partners(alloc, entries, from, end, inputs, built)
+    add_partners(alloc, group, inputs, built)
 }

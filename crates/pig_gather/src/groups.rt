@@ -1,18 +1,13 @@
 ghost use Rattle.std.specs.Prelude.{◌≡◌, ◌<◌, ◌≤◌, ℕ, List, length, map, IfOk};
 ghost use Rattle.std.specs.List.{AllByRecursion, range_with_len};
 ghost use Rattle.pig_runs.specs.Entries.{AreKeyed};
-ghost use Rattle.pig_operators.specs.Groups.{IsGroup, IsInput, bags_at, rows_at};
+ghost use Rattle.pig_operators.specs.Groups.{IsGroup, IsInput, rows_at};
+ghost use Rattle.pig_gather.specs.Lent.{bags_in};
 ghost use Rattle.pig_gather.specs.Spans.{IsSpan, rows_in};
 
+use crate::lent::{Group, Span};
 use pig_runs::Merged;
 use std::alloc::{AllocError, Global};
-
-// The entries from a place up to another.
-#[derive(Clone, Copy, Drop)]
-pub(crate) struct Span {
-    pub(crate) from: usize,
-    pub(crate) end: usize,
-}
 
 // The place behind the entries that have the key of the one at a place.
 pub(crate) fn group_end(entries: &Merged, from: usize) -> usize
@@ -43,35 +38,32 @@ pub(crate) fn input_end(entries: &Merged, from: usize, end: usize, input: usize)
 }
 
 // The place behind the first input's entries of a group, whose rows are that input's bag.
-pub(crate) fn first_end(entries: &Merged, from: usize, end: usize) -> usize
-    requires { IsGroup entries.now from end }
-    ensures order { from ≤ result }
-    ensures within { result ≤ end }
-    ensures bag { rows_at entries.now from result ≡ bags_at entries.now from end 0 }
-    ensures values { ∥ AreKeyed entries.now.dirs entries.now.entries ∥₁ }
+pub(crate) fn first_end(group: &Group<'_, '_>) -> usize
+    ensures order { group.now.from ≤ result }
+    ensures within { result ≤ group.now.end }
+    ensures bag { rows_at group.now.entries.now group.now.from result ≡ bags_in group.now 0 }
+    ensures values { ∥ AreKeyed group.now.entries.now.dirs group.now.entries.now.entries ∥₁ }
 {
-    entries.len();
-    input_end(entries, from, end, 0)
+    group.entries.len();
+    input_end(group.entries, group.from, group.end, 0)
 }
 
 // The entries of each of the first so many inputs in a group, whose rows are the inputs' bags.
 pub(crate) fn spans(
     alloc: Global,
-    entries: &Merged,
-    from: usize,
-    end: usize,
+    group: &Group<'_, '_>,
     inputs: usize,
 ) -> Result<Vec<Span>, AllocError>
-    requires { IsGroup entries.now from end }
-    ensures within { IfOk result (λ spans. AllByRecursion (IsSpan entries.now) spans.items) }
-    ensures bags { IfOk result (λ spans. map (rows_in entries.now) spans.items
-        ≡ map (bags_at entries.now from end) (range_with_len 0 inputs)) }
+    ensures within { IfOk result (λ spans.
+        AllByRecursion (IsSpan group.now.entries.now) spans.items) }
+    ensures bags { IfOk result (λ spans. map (rows_in group.now.entries.now) spans.items
+        ≡ map (bags_in group.now) (range_with_len 0 inputs)) }
 {
-    entries.len();
+    group.entries.len();
     let mut spans = Vec::with_capacity(alloc, inputs)?;
-    let mut at = from;
+    let mut at = group.from;
     for input in 0..inputs {
-        let next = input_end(entries, at, end, input);
+        let next = input_end(group.entries, at, group.end, input);
         spans.push(Span {
             from: at,
             end: next,

@@ -5,11 +5,12 @@ ghost use Rattle.pig_value.specs.Trees.{Tree};
 ghost use Rattle.pig_keycode.specs.Reading.{row_code};
 ghost use Rattle.pig_typed.specs.Products.{product};
 ghost use Rattle.pig_packed.specs.Growth.{and_rows};
-ghost use Rattle.pig_operators.specs.Groups.{IsGroup, bags_at};
 ghost use Rattle.pig_gather.specs.Fields.{Begins, IsBegun, inner_code};
+ghost use Rattle.pig_gather.specs.Lent.{bags_in};
 ghost use Rattle.pig_gather.specs.Spans.{IsSpan, rows_in};
 
-use crate::groups::{Span, spans};
+use crate::groups::spans;
+use crate::lent::{Group, Span};
 use crate::pieces::end_fields;
 use pig_packed::PackedBuilder;
 use pig_runs::Merged;
@@ -18,21 +19,18 @@ use std::alloc::{AllocError, Global};
 // Adds the rows of a group's inputs, joined.
 pub(crate) fn add_partners(
     alloc: Global,
-    entries: &Merged,
-    from: usize,
-    end: usize,
+    group: &Group<'_, '_>,
     inputs: usize,
     built: &mut PackedBuilder,
 ) -> Result<(), AllocError>
-    requires group { IsGroup entries.now from end }
     requires none_begun { built.old.begun ≡ [] }
     ensures { OnOk result (built.new ≡ and_rows
-        (product (map (bags_at entries.now from end) (range_with_len 0 inputs))) built.old) }
+        (product (map (bags_in group.now) (range_with_len 0 inputs))) built.old) }
 {
-    let parts = spans(alloc, entries, from, end, inputs)?;
+    let parts = spans(alloc, group, inputs)?;
     let mut front = Vec::new(alloc);
     front.push(6)?;
-    add_products(entries, &mut front, parts.as_slice(), built)
+    add_products(group.entries, &mut front, parts.as_slice(), built)
 }
 
 // Adds a row for each joining of the parts' rows behind the fields that begin the front, the first part slowest.

@@ -9,6 +9,7 @@ mod cogrouping;
 mod groups;
 mod joining;
 mod key_nulls;
+mod lent;
 mod outer;
 mod pieces;
 mod whole;

@@ -2,12 +2,14 @@ ghost use Rattle.std.specs.Prelude.{◌≡◌, ◌<◌, ◌≤◌, ◌++◌, ◌
 ghost use Rattle.pig_value.specs.Gathering.{Entry};
 ghost use Rattle.pig_packed.specs.Growth.{and_bytes, and_row, and_rows};
 ghost use Rattle.pig_plan.specs.ByKey.{keeps_left, keeps_right, nulls, outer_of};
-ghost use Rattle.pig_operators.specs.Groups.{AreSides, IsGroup, bags_at, first_key, rows_at};
+ghost use Rattle.pig_operators.specs.Groups.{AreSides};
 ghost use Rattle.pig_gather.specs.Fields.{inner_code};
+ghost use Rattle.pig_gather.specs.Lent.{bags_in, key_of, rows_of};
 
 use crate::groups::input_end;
 use crate::joining::{add_partners, inner};
 use crate::key_nulls::key_has_null;
+use crate::lent::{Group, Stretch};
 use crate::pieces::end_fields;
 use pig_operators::{left_stays, right_stays};
 use pig_packed::PackedBuilder;
@@ -18,38 +20,42 @@ use std::alloc::{AllocError, Global};
 // Adds the rows of an outer JOIN of a group.
 pub(crate) fn add_outer(
     alloc: Global,
-    entries: &Merged,
-    from: usize,
-    end: usize,
+    group: &Group<'_, '_>,
     side: Side,
     left: usize,
     right: usize,
     built: &mut PackedBuilder,
 ) -> Result<(), AllocError>
-    requires ascending { entries.now.dirs ≡ [] }
-    requires group { IsGroup entries.now from end }
     requires none_begun { built.old.begun ≡ [] }
     ensures { OnOk result (built.new ≡ and_rows
-        (outer_of side left right (first_key entries.now from) (bags_at entries.now from end))
-        built.old) }
+        (outer_of side left right (key_of group.now) (bags_in group.now)) built.old) }
 {
-    let (middle, last) = sides(entries, from, end);
-    let null = key_has_null(alloc, entries, from)?;
-    if have_partners(null, from, middle, last) {
-        return add_partners(alloc, entries, from, end, 2, built);
+    let (middle, last) = sides(group);
+    let null = key_has_null(alloc, group.entries, group.from)?;
+    if have_partners(null, group.from, middle, last) {
+        return add_partners(alloc, group, 2, built);
     }
-    add_left(left_stays(side), entries, from, middle, right, built)?;
-    add_right(right_stays(side), entries, middle, last, left, built)
+    let left_rows = Stretch {
+        entries: group.entries,
+        from: group.from,
+        end: middle,
+    };
+    let right_rows = Stretch {
+        entries: group.entries,
+        from: middle,
+        end: last,
+    };
+    add_left(left_stays(side), &left_rows, right, built)?;
+    add_right(right_stays(side), &right_rows, left, built)
 }
 
 // Where the left side's entries of a group end, and where the right side's do.
-fn sides(entries: &Merged, from: usize, end: usize) -> (usize, usize)
-    requires { IsGroup entries.now from end }
-    ensures { AreSides entries.now from end result.0 result.1 }
+fn sides(group: &Group<'_, '_>) -> (usize, usize)
+    ensures { AreSides group.now.entries.now group.now.from group.now.end result.0 result.1 }
 {
-    entries.len();
-    let middle = input_end(entries, from, end, 0);
-    (middle, input_end(entries, middle, end, 1))
+    group.entries.len();
+    let middle = input_end(group.entries, group.from, group.end, 0);
+    (middle, input_end(group.entries, middle, group.end, 1))
 }
 
 // Whether the rows of a group have partners.
@@ -62,23 +68,19 @@ fn have_partners(null: bool, from: usize, middle: usize, last: usize) -> bool
 // Adds the rows of the left side with nulls for the right one, where they are kept.
 fn add_left(
     kept: bool,
-    entries: &Merged,
-    from: usize,
-    end: usize,
+    own: &Stretch<'_, '_>,
     width: usize,
     built: &mut PackedBuilder,
 ) -> Result<(), AllocError>
-    requires order { from ≤ end }
-    requires within { end ≤ length entries.now.entries }
     requires none_begun { built.old.begun ≡ [] }
     ensures { OnOk result (built.new ≡ and_rows (if kept
-        then map (λ row. row ++ nulls width) (rows_at entries.now from end) else []) built.old) }
+        then map (λ row. row ++ nulls width) (rows_of own.now) else []) built.old) }
 {
     if !kept {
         return Ok(());
     }
-    for at in from..end {
-        add_before_nulls(entries, at, width, built)?;
+    for at in own.from..own.end {
+        add_before_nulls(own.entries, at, width, built)?;
     }
     Ok(())
 }
@@ -86,23 +88,19 @@ fn add_left(
 // Adds the rows of the right side with nulls for the left one, where they are kept.
 fn add_right(
     kept: bool,
-    entries: &Merged,
-    from: usize,
-    end: usize,
+    own: &Stretch<'_, '_>,
     width: usize,
     built: &mut PackedBuilder,
 ) -> Result<(), AllocError>
-    requires order { from ≤ end }
-    requires within { end ≤ length entries.now.entries }
     requires none_begun { built.old.begun ≡ [] }
     ensures { OnOk result (built.new ≡ and_rows (if kept
-        then map (λ row. nulls width ++ row) (rows_at entries.now from end) else []) built.old) }
+        then map (λ row. nulls width ++ row) (rows_of own.now) else []) built.old) }
 {
     if !kept {
         return Ok(());
     }
-    for at in from..end {
-        add_behind_nulls(entries, at, width, built)?;
+    for at in own.from..own.end {
+        add_behind_nulls(own.entries, at, width, built)?;
     }
     Ok(())
 }

@@ -1,11 +1,13 @@
-ghost use Rattle.std.specs.Prelude.{◌≡◌, ◌<◌, ◌≤◌, ◌∷◌, [], List, length, slice_get, Some, OnOk};
+ghost use Rattle.std.specs.Prelude.{◌≡◌, ◌<◌, ◌∷◌, [], List, length, slice_get, Some, OnOk};
 ghost use Rattle.pig_value.specs.Gathering.{Entry};
 ghost use Rattle.pig_value.specs.Trees.{Tree};
 ghost use Rattle.pig_packed.specs.Growth.{and_bytes, and_row};
 ghost use Rattle.pig_plan.specs.ByKey.{as_bag};
-ghost use Rattle.pig_operators.specs.Groups.{first_key, rows_at};
+ghost use Rattle.pig_operators.specs.Groups.{first_key};
+ghost use Rattle.pig_gather.specs.Lent.{rows_of};
 ghost use Rattle.pig_gather.specs.Fields.{Begins, IsBegun, begun_code, field_code, item_code, items_code};
 
+use crate::lent::Stretch;
 use pig_packed::PackedBuilder;
 use pig_runs::Merged;
 use std::alloc::AllocError;
@@ -36,37 +38,25 @@ fn add_item(entries: &Merged, at: usize, built: &mut PackedBuilder) -> Result<()
 }
 
 // Adds the rows of the entries from a place up to another to the bag that is begun.
-fn add_items(
-    entries: &Merged,
-    from: usize,
-    end: usize,
-    built: &mut PackedBuilder,
-) -> Result<(), AllocError>
-    requires order { from ≤ end }
-    requires within { end ≤ length entries.now.entries }
-    ensures { OnOk result (built.new
-        ≡ and_bytes (items_code (rows_at entries.now from end)) built.old) }
+fn add_items(stretch: &Stretch<'_, '_>, built: &mut PackedBuilder) -> Result<(), AllocError>
+    ensures { OnOk result (built.new ≡ and_bytes (items_code (rows_of stretch.now)) built.old) }
 {
-    for at in from..end {
-        add_item(entries, at, built)?;
+    for at in stretch.from..stretch.end {
+        add_item(stretch.entries, at, built)?;
     }
     Ok(())
 }
 
 // Adds the bag of these rows to the row that is begun.
 pub(crate) fn add_bag(
-    entries: &Merged,
-    from: usize,
-    end: usize,
+    stretch: &Stretch<'_, '_>,
     built: &mut PackedBuilder,
 ) -> Result<(), AllocError>
-    requires order { from ≤ end }
-    requires within { end ≤ length entries.now.entries }
     ensures { OnOk result (built.new
-        ≡ and_bytes (field_code (as_bag (rows_at entries.now from end))) built.old) }
+        ≡ and_bytes (field_code (as_bag (rows_of stretch.now))) built.old) }
 {
     built.write(&[1, 7])?;
-    add_items(entries, from, end, built)?;
+    add_items(stretch, built)?;
     built.write(&[0])
 }
 

@@ -6,9 +6,10 @@ ghost use Rattle.pig_typed.specs.declared.blocks.SortKey.{SortKey};
 ghost use Rattle.pig_plan.specs.Operators.{order_rows};
 ghost use Rattle.pig_packed.specs.Growth.{and_rows};
 ghost use Rattle.pig_operators.specs.Given.{AreKeyedByRow, IsOrdering, run_rows};
-ghost use Rattle.pig_operators.specs.Groups.{rows_at};
+ghost use Rattle.pig_gather.specs.Lent.{rows_of};
 
 use crate::groups::group_end;
+use crate::lent::Stretch;
 use pig_packed::{Packed, PackedBuilder};
 use pig_runs::Merged;
 use std::alloc::AllocError;
@@ -20,7 +21,12 @@ pub fn add_ordered(entries: &Merged, built: &mut PackedBuilder) -> Result<(), Al
     ensures order { (keys : List SortKey) → IsOrdering keys entries.now
         → OnOk result (built.new ≡ and_rows (order_rows keys (run_rows entries.now)) built.old) }
 {
-    add_between(entries, 0, entries.len(), built)
+    let all = Stretch {
+        entries,
+        from: 0,
+        end: entries.len(),
+    };
+    add_between(&all, built)
 }
 
 /// Adds the rows of LIMIT over those of ORDER: the first so many.
@@ -36,8 +42,12 @@ pub fn add_limited(
         → OnOk result (built.new
         ≡ and_rows (take count (order_rows keys (run_rows entries.now))) built.old) }
 {
-    let end = entries.len().min(count as usize);
-    add_between(entries, 0, end, built)
+    let first = Stretch {
+        entries,
+        from: 0,
+        end: entries.len().min(count as usize),
+    };
+    add_between(&first, built)
 }
 
 /// Adds the rows of DISTINCT, each once and in ascending order: the key of an entry is its row.
@@ -83,20 +93,13 @@ fn add_codes(list: &Packed, count: usize, built: &mut PackedBuilder) -> Result<(
     Ok(())
 }
 
-// Adds the rows of the entries from a place up to another.
-fn add_between(
-    entries: &Merged,
-    from: usize,
-    end: usize,
-    built: &mut PackedBuilder,
-) -> Result<(), AllocError>
+// Adds the rows of these entries.
+fn add_between(stretch: &Stretch<'_, '_>, built: &mut PackedBuilder) -> Result<(), AllocError>
     requires none_begun { built.old.begun ≡ [] }
-    requires order { from ≤ end }
-    requires within { end ≤ length entries.now.entries }
-    ensures { OnOk result (built.new ≡ and_rows (rows_at entries.now from end) built.old) }
+    ensures { OnOk result (built.new ≡ and_rows (rows_of stretch.now) built.old) }
 {
-    for at in from..end {
-        built.push_code(entries.lend(at).row)?;
+    for at in stretch.from..stretch.end {
+        built.push_code(stretch.entries.lend(at).row)?;
     }
     Ok(())
 }

@@ -7,18 +7,18 @@ use Rattle.pig_gather.proofs.by_key.add_group_row.Goals as goal
 
 pub end_fields-requires : goal.end_fields-requires
 end_fields-requires c =
-    let run = c.args.entries.now in
-    let key = first_key run c.args.from in
-    let bag = bags_at run c.args.from c.args.end 0 in
+    let run = c.args.group.now.entries.now in
+    let key = first_key run c.args.group.now.from in
+    let bag = bags_at run c.args.group.now.from c.args.group.now.end 0 in
     begins c.args.built.now c.add_bag.new.built (key ∷ as_bag bag ∷ []) c.requires.none_begun
-    (bag_behind c.args.built.now c.begin_by_key.new.built c.add_bag.new.built key (rows_at run c.args.from c.first_end-next.result) bag c.in_ok-begin_by_key.ensures c.in_ok-add_bag.ensures c.first_end-next.ensures.bag)
-    (group_valid run c.args.from c.args.end c.requires.ascending c.requires.group c.first_end-next.ensures.values)
+    (bag_behind c.args.built.now c.begin_by_key.new.built c.add_bag.new.built key (rows_at run c.args.group.now.from c.first_end.result) bag c.in_ok-begin_by_key.ensures c.in_ok-add_bag.ensures c.first_end.ensures.bag)
+    (group_valid run c.args.group.now.from c.args.group.now.end c.args.group.now.ascending c.args.group.now.whole c.first_end.ensures.values)
 
 pub returns : goal.returns
 returns c =
-    let run = c.args.entries.now in
-    let key = first_key run c.args.from in
-    let bag = bags_at run c.args.from c.args.end 0 in
+    let run = c.args.group.now.entries.now in
+    let key = first_key run c.args.group.now.from in
+    let bag = bags_at run c.args.group.now.from c.args.group.now.end 0 in
     row_ended c.args.built.now c.add_bag.new.built (key ∷ as_bag bag ∷ []) c.requires.none_begun
-    (bag_behind c.args.built.now c.begin_by_key.new.built c.add_bag.new.built key (rows_at run c.args.from c.first_end-next.result) bag c.in_ok-begin_by_key.ensures c.in_ok-add_bag.ensures c.first_end-next.ensures.bag)
-    c.end_fields.result c.end_fields.new.built (group_valid run c.args.from c.args.end c.requires.ascending c.requires.group c.first_end-next.ensures.values) c.end_fields.ensures
+    (bag_behind c.args.built.now c.begin_by_key.new.built c.add_bag.new.built key (rows_at run c.args.group.now.from c.first_end.result) bag c.in_ok-begin_by_key.ensures c.in_ok-add_bag.ensures c.first_end.ensures.bag)
+    c.end_fields.result c.end_fields.new.built (group_valid run c.args.group.now.from c.args.group.now.end c.args.group.now.ascending c.args.group.now.whole c.first_end.ensures.values) c.end_fields.ensures

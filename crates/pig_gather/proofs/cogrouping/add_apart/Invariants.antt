@@ -7,5 +7,5 @@ use Rattle.pig_gather.proofs.cogrouping.add_apart.Given as goal
 
 abbrev pub invariant-loop-input : goal.invariant-loop-input
 invariant-loop-input l =
-    Remains l.entries.entries l.from l.at l.end l.input
-    × (l.built ≡ and_rows (apart_rows l.inner (first_key l.entries l.from) (bags_at l.entries l.from l.end) l.input) l.fn.built)
+    Remains l.group.entries.now.entries l.group.from l.at l.group.end l.input
+    × (l.built ≡ and_rows (apart_rows l.inner (first_key l.group.entries.now l.group.from) (bags_at l.group.entries.now l.group.from l.group.end) l.input) l.fn.built)

@@ -7,4 +7,4 @@ use Rattle.pig_gather.specs.Fields.{begun_code}
 use Rattle.pig_gather.proofs.cogrouping.add_lone.Given as goal
 
 abbrev pub invariant-loop-i : goal.invariant-loop-i
-invariant-loop-i l = l.built ≡ and_bytes (begun_code (bags_of l.i (first_key l.entries l.key) (rows_alone l.input (rows_at l.entries l.from l.end)))) l.fn.built
+invariant-loop-i l = l.built ≡ and_bytes (begun_code (bags_of l.i (first_key l.own.entries.now l.key) (rows_alone l.input (rows_at l.own.entries.now l.own.from l.own.end)))) l.fn.built

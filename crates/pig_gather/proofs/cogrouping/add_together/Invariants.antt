@@ -9,6 +9,6 @@ use Rattle.pig_gather.proofs.cogrouping.add_together.Given as goal
 
 abbrev pub invariant-loop-input : goal.invariant-loop-input
 invariant-loop-input l =
-    Remains l.entries.entries l.from l.at l.end l.input
-    × (l.built ≡ and_bytes (begun_code (bags_of l.input (first_key l.entries l.from) (bags_at l.entries l.from l.end))) l.fn.built)
-    × (all_there (drop l.input l.inner) l.input (bags_at l.entries l.from l.end) ≡ all_there l.inner 0 (bags_at l.entries l.from l.end))
+    Remains l.group.entries.now.entries l.group.from l.at l.group.end l.input
+    × (l.built ≡ and_bytes (begun_code (bags_of l.input (first_key l.group.entries.now l.group.from) (bags_at l.group.entries.now l.group.from l.group.end))) l.fn.built)
+    × (all_there (drop l.input l.inner) l.input (bags_at l.group.entries.now l.group.from l.group.end) ≡ all_there l.inner 0 (bags_at l.group.entries.now l.group.from l.group.end))

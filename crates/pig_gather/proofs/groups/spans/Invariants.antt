@@ -8,6 +8,6 @@ use Rattle.pig_gather.proofs.groups.spans.Given as goal
 
 abbrev pub invariant-loop-input : goal.invariant-loop-input
 invariant-loop-input l =
-    Remains l.entries.entries l.from l.at l.end l.input
-    × AllByRecursion (IsSpan l.entries) l.spans.items
-    × (map (rows_in l.entries) l.spans.items ≡ map (bags_at l.entries l.from l.end) (range_with_len 0 l.input))
+    Remains l.group.entries.now.entries l.group.from l.at l.group.end l.input
+    × AllByRecursion (IsSpan l.group.entries.now) l.spans.items
+    × (map (rows_in l.group.entries.now) l.spans.items ≡ map (bags_at l.group.entries.now l.group.from l.group.end) (range_with_len 0 l.input))

@@ -10,8 +10,8 @@ use Rattle.pig_gather.proofs.joining.add_partners.Goals as goal
 
 pub returns : goal.returns
 returns c =
-    let run = c.args.entries.now in
-    let lists = map (bags_at run c.args.from c.args.end) (range_with_len 0 c.args.inputs) in
+    let run = c.args.group.now.entries.now in
+    let lists = map (bags_at run c.args.group.now.from c.args.group.now.end) (range_with_len 0 c.args.inputs) in
     on_ok_weaker c.add_products.result
     (λ added. added
     ∙ ap (λ rows. and_rows rows c.args.built.now) (behind_none (product (map (rows_in run) c.as_slice.result.now)) ∙ ap product (ap (map (rows_in run)) c.as_slice.ensures.value ∙ c.in_ok-parts.ensures.bags)))

@@ -5,5 +5,5 @@ use Rattle.pig_gather.proofs.outer.sides.Goals as goal
 
 pub returns : goal.returns
 returns c =
-    sides_are c.args.entries.now c.args.from c.args.end c.input_end-middle.result c.input_end.result (let low = c.requires.some in omega (arith, low)) c.requires.within
-    (group_sorted c.args.entries.now c.args.from c.args.end c.requires c.len.ensures.sorted) c.input_end-middle.ensures c.input_end.ensures
+    sides_are c.args.group.now.entries.now c.args.group.now.from c.args.group.now.end c.input_end-middle.result c.input_end.result (let low = c.args.group.now.whole.some in omega (arith, low)) c.args.group.now.whole.within
+    (group_sorted c.args.group.now.entries.now c.args.group.now.from c.args.group.now.end c.args.group.now.whole c.len.ensures.sorted) c.input_end-middle.ensures c.input_end.ensures

@@ -6,4 +6,4 @@ use Rattle.pig_gather.specs.Fields.{items_code}
 use Rattle.pig_gather.proofs.pieces.add_items.Given as goal
 
 abbrev pub invariant-loop-at : goal.invariant-loop-at
-invariant-loop-at l = l.built ≡ and_bytes (items_code (rows_at l.entries l.from l.at)) l.fn.built
+invariant-loop-at l = l.built ≡ and_bytes (items_code (rows_at l.stretch.entries.now l.stretch.from l.at)) l.fn.built

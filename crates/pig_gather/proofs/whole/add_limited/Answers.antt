@@ -8,7 +8,7 @@ use Rattle.pig_gather.proofs.whole.add_limited.Goals as goal
 pub returns-clause-rows : goal.returns-clause-rows
 returns-clause-rows c =
     on_ok_weaker c.add_between.result
-    (λ added. added ∙ ap (λ rows. and_rows rows c.args.built.now) (first_rows c.args.entries.now c.args.count c.len.result c.min-end.result c.len.ensures.count c.min-end.ensures)) c.add_between.ensures
+    (λ added. added ∙ ap (λ rows. and_rows rows c.args.built.now) (first_rows c.args.entries.now c.args.count c.len.result c.min.result c.len.ensures.count c.min.ensures)) c.add_between.ensures
 
 pub returns-clause-order : goal.returns-clause-order
 returns-clause-order c keys is =
@@ -16,4 +16,4 @@ returns-clause-order c keys is =
     on_ok_weaker c.add_between.result
     (λ added. added
     ∙ ap (λ rows. and_rows rows c.args.built.now)
-    (first_rows run c.args.count c.len.result c.min-end.result c.len.ensures.count c.min-end.ensures ∙ ap (take c.args.count) (ordered_is keys run is (sorted_out run.dirs run.entries c.len.ensures.sorted)))) c.add_between.ensures
+    (first_rows run c.args.count c.len.result c.min.result c.len.ensures.count c.min.ensures ∙ ap (take c.args.count) (ordered_is keys run is (sorted_out run.dirs run.entries c.len.ensures.sorted)))) c.add_between.ensures
