@@ -2,7 +2,7 @@
 
 ghost use Rattle.std.specs.Prelude.{◌≡◌, ◌≤◌, [], length};
 ghost use Rattle.pig_operators.specs.Groups.{IsGroup};
-ghost use Rattle.pig_gather.specs.OneGroup.{group_prop};
+ghost use Rattle.pig_operators.specs.OneGroup.{group_prop};
 
 use pig_runs::Merged;
 

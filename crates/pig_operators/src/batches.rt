@@ -8,7 +8,8 @@ ghost use Rattle.pig_runs.specs.Entries.{run_cmp};
 ghost use Rattle.pig_operators.specs.Given.{IsOrdering, made, run_rows, to_come};
 
 use crate::by_key::{Gathering, add_next};
-use crate::groups::rows_between;
+use crate::groups::rows_of;
+use crate::places::Stretch;
 use pig_runs::Run;
 use pig_value::Rows;
 use std::alloc::{AllocError, Global};
@@ -93,7 +94,12 @@ impl Orderer {
         ensures err { OnErr result (self.new ≡ self.old) }
     {
         let end = self.from + (self.run.len() - self.from).min(BATCH_ROWS);
-        let rows = rows_between(alloc, &self.run, self.from, end)?;
+        let batch = Stretch {
+            run: &self.run,
+            from: self.from,
+            end,
+        };
+        let rows = rows_of(alloc, &batch)?;
         self.from = end;
         Ok(rows)
     }

@@ -4,13 +4,14 @@ ghost use Rattle.pig_value.specs.Trees.{row_tree, rows_tree, tree};
 ghost use Rattle.pig_plan.specs.ByKey.{as_bag, gathered, join_of};
 ghost use Rattle.pig_runs.specs.Entries.{run_cmp};
 ghost use Rattle.pig_operators.specs.Given.{made, to_come};
-ghost use Rattle.pig_operators.specs.Groups.{IsGroup, bags_at, first_key};
+ghost use Rattle.pig_operators.specs.Lent.{bags_in, key_in};
 
 use crate::cogrouping::add_cogrouped;
 use crate::groups::{first_bag, group_end};
 use crate::joining::add_partners;
 use crate::nulls::has_null;
 use crate::outer::add_outer;
+use crate::places::Group;
 use pig_runs::Run;
 use pig_value::{Rows, Seq, Side, Tuple, Value};
 use std::alloc::{AllocError, Global};
@@ -66,7 +67,8 @@ pub(crate) fn add_next(
     ensures within { IfOk result (λ end. end ≤ length run.now.entries) }
 {
     let end = group_end(run, from);
-    add_group(alloc, how, run, from, end, rows)?;
+    let group = Group { run, from, end };
+    add_group(alloc, how, &group, rows)?;
     Ok(end)
 }
 
@@ -74,27 +76,20 @@ pub(crate) fn add_next(
 fn add_group(
     alloc: Global,
     how: &Gathering,
-    run: &Run,
-    from: usize,
-    end: usize,
+    group: &Group<'_>,
     rows: &mut Rows,
 ) -> Result<(), AllocError>
-    requires ascending { run.now.dirs ≡ [] }
-    requires group { IsGroup run.now from end }
-    requires sorted { ∥ Ascends (run_cmp run.now.dirs) run.now.entries ∥₁ }
+    requires { group.now.run.now.dirs ≡ [] }
     ensures { OnOk result (rows_tree rows.new
-        ≡ rows_tree rows.old
-        ++ made how.now (first_key run.now from) (bags_at run.now from end)) }
+        ≡ rows_tree rows.old ++ made how.now (key_in group.now) (bags_in group.now)) }
 {
-    let key = run.key(alloc, from)?;
+    let key = group.run.key(alloc, group.from)?;
     match how {
-        Gathering::Group => rows.push(group_row(alloc, key, first_bag(alloc, run, from, end)?)?),
-        Gathering::Join { inputs } => add_joined(alloc, &key, run, from, end, *inputs, rows),
-        Gathering::Cogroup { inner } => {
-            add_cogrouped(alloc, key, run, from, end, inner.as_slice(), rows)
-        }
+        Gathering::Group => rows.push(group_row(alloc, key, first_bag(alloc, group)?)?),
+        Gathering::Join { inputs } => add_joined(alloc, &key, group, *inputs, rows),
+        Gathering::Cogroup { inner } => add_cogrouped(alloc, key, group, inner.as_slice(), rows),
         Gathering::Outer { side, left, right } => {
-            add_outer(alloc, &key, run, from, end, *side, *left, *right, rows)
+            add_outer(alloc, &key, group, *side, *left, *right, rows)
         }
     }
 }
@@ -113,19 +108,15 @@ fn group_row(alloc: Global, key: Value, bag: Rows) -> Result<Tuple, AllocError>
 fn add_joined(
     alloc: Global,
     key: &Value,
-    run: &Run,
-    from: usize,
-    end: usize,
+    group: &Group<'_>,
     inputs: usize,
     rows: &mut Rows,
 ) -> Result<(), AllocError>
-    requires group { IsGroup run.now from end }
-    requires sorted { ∥ Ascends (run_cmp run.now.dirs) run.now.entries ∥₁ }
     ensures { OnOk result (rows_tree rows.new
-        ≡ rows_tree rows.old ++ join_of inputs (tree key.now) (bags_at run.now from end)) }
+        ≡ rows_tree rows.old ++ join_of inputs (tree key.now) (bags_in group.now)) }
 {
     if has_null(key) {
         return Ok(());
     }
-    add_partners(alloc, run, from, end, inputs, rows)
+    add_partners(alloc, group, inputs, rows)
 }

@@ -1,13 +1,12 @@
 ghost use Rattle.std.specs.Prelude.{◌≡◌, ◌≤◌, ◌++◌, ◌==◌, ◌&&◌, not, [], length, IfOk, OnOk, if◌then◌else◌};
-ghost use Rattle.pig_value.specs.Sorts.{Ascends};
 ghost use Rattle.pig_value.specs.Trees.{row_tree, rows_tree, tree};
 ghost use Rattle.pig_plan.specs.ByKey.{all_there, bags_of, cogroup_of, kept_where};
-ghost use Rattle.pig_runs.specs.Entries.{run_cmp};
-ghost use Rattle.pig_operators.specs.Groups.{IsGroup, apart_rows, bags_at, lone_rows, no_other, rows_alone, perhaps, rows_at};
+ghost use Rattle.pig_operators.specs.Groups.{apart_rows, lone_rows, no_other, rows_alone, perhaps};
+ghost use Rattle.pig_operators.specs.Lent.{bags_in, rows_in};
 
-use crate::groups::{input_end, rows_between};
+use crate::groups::{input_end, rows_of};
 use crate::nulls::has_null;
-use pig_runs::Run;
+use crate::places::{Group, Stretch};
 use pig_value::{Rows, Seq, Tuple, Value, copy};
 use std::alloc::{AllocError, Global};
 
@@ -15,22 +14,18 @@ use std::alloc::{AllocError, Global};
 pub fn add_cogrouped(
     alloc: Global,
     key: Value,
-    run: &Run,
-    from: usize,
-    end: usize,
+    group: &Group<'_>,
     inner: &[bool],
     rows: &mut Rows,
 ) -> Result<(), AllocError>
-    requires group { IsGroup run.now from end }
-    requires sorted { ∥ Ascends (run_cmp run.now.dirs) run.now.entries ∥₁ }
     ensures { OnOk result (rows_tree rows.new
-        ≡ rows_tree rows.old ++ cogroup_of inner.now (length inner.now) (tree key)
-        (bags_at run.now from end)) }
+        ≡ rows_tree rows.old
+        ++ cogroup_of inner.now (length inner.now) (tree key) (bags_in group.now)) }
 {
     if has_null(&key) {
-        return add_apart(alloc, &key, run, from, end, inner, rows);
+        return add_apart(alloc, &key, group, inner, rows);
     }
-    match together(alloc, key, run, from, end, inner)? {
+    match together(alloc, key, group, inner)? {
         Some(row) => rows.push(row),
         None => Ok(()),
     }
@@ -40,27 +35,25 @@ pub fn add_cogrouped(
 fn together(
     alloc: Global,
     key: Value,
-    run: &Run,
-    from: usize,
-    end: usize,
+    group: &Group<'_>,
     inner: &[bool],
 ) -> Result<Option<Tuple>, AllocError>
-    requires group { IsGroup run.now from end }
-    requires sorted { ∥ Ascends (run_cmp run.now.dirs) run.now.entries ∥₁ }
     ensures { IfOk result (λ row. perhaps row
-        ≡ kept_where (all_there inner.now 0 (bags_at run.now from end))
-        (bags_of (length inner.now) (tree key) (bags_at run.now from end))) }
+        ≡ kept_where (all_there inner.now 0 (bags_in group.now))
+        (bags_of (length inner.now) (tree key) (bags_in group.now))) }
 {
+    let run = group.run;
     let mut row = Seq::with_capacity(alloc, inner.len().saturating_add(1))?;
     row.push(key)?;
-    let mut at = from;
+    let mut at = group.from;
     for input in 0..inner.len() {
-        let next = input_end(run, at, end, input);
-        if is_missing(inner[input], at, next) {
+        let end = input_end(run, at, group.end, input);
+        if is_missing(inner[input], at, end) {
             return Ok(None);
         }
-        row.push(Value::Bag(rows_between(alloc, run, at, next)?))?;
-        at = next;
+        let own = Stretch { run, from: at, end };
+        row.push(Value::Bag(rows_of(alloc, &own)?))?;
+        at = end;
     }
     Ok(Some(row))
 }
@@ -76,23 +69,21 @@ pub fn is_missing(inner: bool, from: usize, end: usize) -> bool
 fn add_apart(
     alloc: Global,
     key: &Value,
-    run: &Run,
-    from: usize,
-    end: usize,
+    group: &Group<'_>,
     inner: &[bool],
     rows: &mut Rows,
 ) -> Result<(), AllocError>
-    requires group { IsGroup run.now from end }
-    requires sorted { ∥ Ascends (run_cmp run.now.dirs) run.now.entries ∥₁ }
     ensures { OnOk result (rows_tree rows.new
         ≡ rows_tree rows.old
-        ++ apart_rows inner.now (tree key.now) (bags_at run.now from end) (length inner.now)) }
+        ++ apart_rows inner.now (tree key.now) (bags_in group.now) (length inner.now)) }
 {
-    let mut at = from;
+    let run = group.run;
+    let mut at = group.from;
     for input in 0..inner.len() {
-        let next = input_end(run, at, end, input);
-        add_lone(alloc, key, run, at, next, input, inner, rows)?;
-        at = next;
+        let end = input_end(run, at, group.end, input);
+        let own = Stretch { run, from: at, end };
+        add_lone(alloc, key, &own, input, inner, rows)?;
+        at = end;
     }
     Ok(())
 }
@@ -101,21 +92,16 @@ fn add_apart(
 fn add_lone(
     alloc: Global,
     key: &Value,
-    run: &Run,
-    from: usize,
-    end: usize,
+    own: &Stretch<'_>,
     input: usize,
     inner: &[bool],
     rows: &mut Rows,
 ) -> Result<(), AllocError>
-    requires order { from ≤ end }
-    requires within { end ≤ length run.now.entries }
     ensures { OnOk result (rows_tree rows.new
-        ≡ rows_tree rows.old
-        ++ lone_rows inner.now (tree key.now) input (rows_at run.now from end)) }
+        ≡ rows_tree rows.old ++ lone_rows inner.now (tree key.now) input (rows_in own.now)) }
 {
-    if has_own_row(inner, input, from, end) {
-        return rows.push(lone_row(alloc, key, run, from, end, input, inner.len())?);
+    if has_own_row(inner, input, own.from, own.end) {
+        return rows.push(lone_row(alloc, key, own, input, inner.len())?);
     }
     Ok(())
 }
@@ -143,40 +129,27 @@ fn stands_alone(inner: &[bool], input: usize) -> bool
 fn lone_row(
     alloc: Global,
     key: &Value,
-    run: &Run,
-    from: usize,
-    end: usize,
+    own: &Stretch<'_>,
     input: usize,
     inputs: usize,
 ) -> Result<Tuple, AllocError>
-    requires order { from ≤ end }
-    requires within { end ≤ length run.now.entries }
     ensures { IfOk result (λ row. row_tree row
-        ≡ bags_of inputs (tree key.now) (rows_alone input (rows_at run.now from end))) }
+        ≡ bags_of inputs (tree key.now) (rows_alone input (rows_in own.now))) }
 {
     let mut row = Seq::with_capacity(alloc, inputs.saturating_add(1))?;
     row.push(copy(alloc, key)?)?;
     for i in 0..inputs {
-        row.push(Value::Bag(rows_where(alloc, i == input, run, from, end)?))?;
+        row.push(Value::Bag(rows_where(alloc, i == input, own)?))?;
     }
     Ok(row)
 }
 
-// The rows of the entries from a place up to another, or none.
-fn rows_where(
-    alloc: Global,
-    here: bool,
-    run: &Run,
-    from: usize,
-    end: usize,
-) -> Result<Rows, AllocError>
-    requires order { from ≤ end }
-    requires within { end ≤ length run.now.entries }
-    ensures { IfOk result (λ rows. rows_tree rows
-        ≡ (if here then rows_at run.now from end else [])) }
+// The rows of these entries, or none.
+fn rows_where(alloc: Global, here: bool, own: &Stretch<'_>) -> Result<Rows, AllocError>
+    ensures { IfOk result (λ rows. rows_tree rows ≡ (if here then rows_in own.now else [])) }
 {
     if !here {
         return Ok(Rows::new(alloc));
     }
-    rows_between(alloc, run, from, end)
+    rows_of(alloc, own)
 }

@@ -1,35 +1,28 @@
 ghost use Rattle.std.specs.Prelude.{◌≡◌, [], ◌∷◌, ◌++◌, map, MatchOption, OnOk, IfOk};
 ghost use Rattle.std.specs.List.{range_with_len};
-ghost use Rattle.pig_value.specs.Sorts.{Ascends};
 ghost use Rattle.pig_value.specs.Trees.{row_tree, rows_tree};
 ghost use Rattle.pig_typed.specs.Products.{product};
-ghost use Rattle.pig_runs.specs.Entries.{run_cmp};
-ghost use Rattle.pig_operators.specs.Groups.{IsGroup, bags_at};
+ghost use Rattle.pig_operators.specs.Lent.{bags_in};
 
 use crate::groups::{bags, has_one_each, one_row};
-use pig_runs::Run;
+use crate::places::Group;
 use pig_value::{Rows, Seq, Tuple, copy};
 use std::alloc::{AllocError, Global};
 
 // Adds the rows of a group's inputs, joined. One row of each is joined without a copy.
 pub fn add_partners(
     alloc: Global,
-    run: &Run,
-    from: usize,
-    end: usize,
+    group: &Group<'_>,
     inputs: usize,
     rows: &mut Rows,
 ) -> Result<(), AllocError>
-    requires group { IsGroup run.now from end }
-    requires sorted { ∥ Ascends (run_cmp run.now.dirs) run.now.entries ∥₁ }
     ensures { OnOk result (rows_tree rows.new
-        ≡ rows_tree rows.old
-        ++ product (map (bags_at run.now from end) (range_with_len 0 inputs))) }
+        ≡ rows_tree rows.old ++ product (map (bags_in group.now) (range_with_len 0 inputs))) }
 {
-    if has_one_each(run, from, end, inputs) {
-        return rows.push(one_row(alloc, run, from, end)?);
+    if has_one_each(group, inputs) {
+        return rows.push(one_row(alloc, group)?);
     }
-    let parts = bags(alloc, run, from, end, inputs)?;
+    let parts = bags(alloc, group, inputs)?;
     add_products(alloc, Tuple::new(alloc), parts.as_slice(), rows)
 }
 

@@ -10,6 +10,7 @@ mod joining;
 mod keyed;
 mod nulls;
 mod outer;
+mod places;
 mod whole;
 
 pub use batches::{Gatherer, Orderer};

@@ -1,14 +1,13 @@
 ghost use Rattle.std.specs.Prelude.{◌≡◌, ◌≤◌, ◌++◌, ◌==◌, ◌||◌, not, [], length, map, OnOk, if◌then◌else◌};
-ghost use Rattle.pig_value.specs.Sorts.{Ascends};
 ghost use Rattle.pig_value.specs.Trees.{row_tree, rows_tree, tree};
 ghost use Rattle.pig_plan.specs.ByKey.{holds_null, keeps_left, keeps_right, nulls, outer_of};
-ghost use Rattle.pig_runs.specs.Entries.{run_cmp};
-ghost use Rattle.pig_operators.specs.Groups.{AreSides, IsGroup, bags_at, rows_at};
+ghost use Rattle.pig_operators.specs.Groups.{AreSides};
+ghost use Rattle.pig_operators.specs.Lent.{bags_in, rows_in};
 
 use crate::groups::input_end;
 use crate::joining::add_partners;
 use crate::nulls::has_null;
-use pig_runs::Run;
+use crate::places::{Group, Stretch};
 use pig_value::{Rows, Side, Tuple, Value};
 use std::alloc::{AllocError, Global};
 
@@ -16,36 +15,40 @@ use std::alloc::{AllocError, Global};
 pub fn add_outer(
     alloc: Global,
     key: &Value,
-    run: &Run,
-    from: usize,
-    end: usize,
+    group: &Group<'_>,
     side: Side,
     left: usize,
     right: usize,
     rows: &mut Rows,
 ) -> Result<(), AllocError>
-    requires group { IsGroup run.now from end }
-    requires sorted { ∥ Ascends (run_cmp run.now.dirs) run.now.entries ∥₁ }
     ensures { OnOk result (rows_tree rows.new
         ≡ rows_tree rows.old
-        ++ outer_of side left right (tree key.now) (bags_at run.now from end)) }
+        ++ outer_of side left right (tree key.now) (bags_in group.now)) }
 {
-    let (middle, last) = sides(run, from, end);
-    if have_partners(key, from, middle, last) {
-        return add_partners(alloc, run, from, end, 2, rows);
+    let (middle, last) = sides(group);
+    if have_partners(key, group.from, middle, last) {
+        return add_partners(alloc, group, 2, rows);
     }
-    add_left(alloc, left_stays(side), run, from, middle, right, rows)?;
-    add_right(alloc, right_stays(side), run, middle, last, left, rows)
+    let left_rows = Stretch {
+        run: group.run,
+        from: group.from,
+        end: middle,
+    };
+    let right_rows = Stretch {
+        run: group.run,
+        from: middle,
+        end: last,
+    };
+    add_left(alloc, left_stays(side), &left_rows, right, rows)?;
+    add_right(alloc, right_stays(side), &right_rows, left, rows)
 }
 
 // Where the left side's entries of a group end, and where the right side's do.
-fn sides(run: &Run, from: usize, end: usize) -> (usize, usize)
-    requires group { IsGroup run.now from end }
-    requires sorted { ∥ Ascends (run_cmp run.now.dirs) run.now.entries ∥₁ }
-    ensures { AreSides run.now from end result.0 result.1 }
+fn sides(group: &Group<'_>) -> (usize, usize)
+    ensures { AreSides group.now.run.now group.now.from group.now.end result.0 result.1 }
 {
-    let middle = input_end(run, from, end, 0);
-    (middle, input_end(run, middle, end, 1))
+    let middle = input_end(group.run, group.from, group.end, 0);
+    (middle, input_end(group.run, middle, group.end, 1))
 }
 
 // Whether the rows of a group have partners.
@@ -79,23 +82,19 @@ pub fn right_stays(side: Side) -> bool
 fn add_left(
     alloc: Global,
     kept: bool,
-    run: &Run,
-    from: usize,
-    end: usize,
+    own: &Stretch<'_>,
     width: usize,
     rows: &mut Rows,
 ) -> Result<(), AllocError>
-    requires order { from ≤ end }
-    requires within { end ≤ length run.now.entries }
     ensures { OnOk result (rows_tree rows.new
         ≡ rows_tree rows.old
-        ++ (if kept then map (λ row. row ++ nulls width) (rows_at run.now from end) else [])) }
+        ++ (if kept then map (λ row. row ++ nulls width) (rows_in own.now) else [])) }
 {
     if !kept {
         return Ok(());
     }
-    for at in from..end {
-        let mut row = run.row(alloc, at)?;
+    for at in own.from..own.end {
+        let mut row = own.run.row(alloc, at)?;
         add_nulls(&mut row, width)?;
         rows.push(row)?;
     }
@@ -106,25 +105,21 @@ fn add_left(
 fn add_right(
     alloc: Global,
     kept: bool,
-    run: &Run,
-    from: usize,
-    end: usize,
+    own: &Stretch<'_>,
     width: usize,
     rows: &mut Rows,
 ) -> Result<(), AllocError>
-    requires order { from ≤ end }
-    requires within { end ≤ length run.now.entries }
     ensures { OnOk result (rows_tree rows.new
         ≡ rows_tree rows.old
-        ++ (if kept then map (λ row. nulls width ++ row) (rows_at run.now from end) else [])) }
+        ++ (if kept then map (λ row. nulls width ++ row) (rows_in own.now) else [])) }
 {
     if !kept {
         return Ok(());
     }
-    for at in from..end {
+    for at in own.from..own.end {
         let mut row = Tuple::new(alloc);
         add_nulls(&mut row, width)?;
-        row.extend(run.row(alloc, at)?)?;
+        row.extend(own.run.row(alloc, at)?)?;
         rows.push(row)?;
     }
     Ok(())

@@ -6,7 +6,8 @@ ghost use Rattle.pig_typed.specs.declared.blocks.SortKey.{SortKey};
 ghost use Rattle.pig_plan.specs.Operators.{order_rows};
 ghost use Rattle.pig_operators.specs.Given.{AreKeyedByRow, IsOrdering, run_rows};
 
-use crate::groups::{group_end, rows_between};
+use crate::groups::{group_end, rows_of};
+use crate::places::Stretch;
 use pig_runs::Run;
 use pig_value::Rows;
 use std::alloc::{AllocError, Global};
@@ -19,7 +20,12 @@ pub fn ordered(alloc: Global, run: Run) -> Result<Rows, AllocError>
     ensures order { (keys : List SortKey) → IsOrdering keys run
         → IfOk result (λ rows. rows_tree rows ≡ order_rows keys (run_rows run)) }
 {
-    rows_between(alloc, &run, 0, run.len())
+    let all = Stretch {
+        run: &run,
+        from: 0,
+        end: run.len(),
+    };
+    rows_of(alloc, &all)
 }
 
 /// The rows of LIMIT over those of ORDER: the first so many. No other row is made.
@@ -31,7 +37,12 @@ pub fn limited(alloc: Global, run: Run, count: u64) -> Result<Rows, AllocError>
         → IfOk result (λ rows. rows_tree rows ≡ take count (order_rows keys (run_rows run))) }
 {
     let end = run.len().min(count as usize);
-    rows_between(alloc, &run, 0, end)
+    let first = Stretch {
+        run: &run,
+        from: 0,
+        end,
+    };
+    rows_of(alloc, &first)
 }
 
 /// The rows of DISTINCT, each once and in ascending order: the key of an entry is its row.

@@ -8,16 +8,16 @@ use Rattle.pig_operators.proofs.Stretches.{group_sorted}
 use Rattle.pig_operators.proofs.cogrouping.add_apart.Goals as goal
 
 pub loop-input-init : goal.loop-input-init
-loop-input-init c = (remains_all c.args.run.now.entries c.args.from c.args.end (let low = c.requires.group.some in omega (arith, low)), sym (append-nil (rows_tree c.args.rows.now)))
+loop-input-init c = (remains_all c.args.group.now.run.now.entries c.args.group.now.from c.args.group.now.end (let low = c.args.group.now.whole.some in omega (arith, low)), sym (append-nil (rows_tree c.args.rows.now)))
 
 pub loop-input-preserved : goal.loop-input-preserved
 loop-input-preserved c =
-    let up = group_sorted c.args.run.now c.args.from c.args.end c.requires.group c.requires.sorted in
-    let rows = rows_of (group_entries c.args.run.now c.args.from c.args.end) in
-    let bag = map (λ e. e.row) (between c.loop-input.at c.input_end-next.result c.args.run.now.entries) in
-    let here = input_rows c.args.run.now c.args.from c.loop-input.at c.args.end c.loop-input.input c.input_end-next.result c.loop-input.invariant.0 c.input_end-next.ensures up in
+    let up = group_sorted c.args.group.now.run.now c.args.group.now.from c.args.group.now.end c.args.group.now.whole c.args.group.now.sorted in
+    let rows = rows_of (group_entries c.args.group.now.run.now c.args.group.now.from c.args.group.now.end) in
+    let bag = map (λ e. e.row) (between c.loop-input.at c.input_end-end.result c.args.group.now.run.now.entries) in
+    let here = input_rows c.args.group.now.run.now c.args.group.now.from c.loop-input.at c.args.group.now.end c.loop-input.input c.input_end-end.result c.loop-input.invariant.0 c.input_end-end.ensures up in
     let lone = lone_rows c.args.inner.now (tree c.args.key.now) c.loop-input.input bag in (
-      input_behind c.args.run.now c.args.from c.loop-input.at c.args.end c.loop-input.input c.input_end-next.result c.loop-input.invariant.0 c.input_end-next.ensures up,
+      input_behind c.args.group.now.run.now c.args.group.now.from c.loop-input.at c.args.group.now.end c.loop-input.input c.input_end-end.result c.loop-input.invariant.0 c.input_end-end.ensures up,
       c.in_ok-add_lone.ensures
           ∙ (ap (λ l. l ++ lone) c.loop-input.invariant.1
           ∙ (append_assoc (rows_tree c.args.rows.now) (apart_rows c.args.inner.now (tree c.args.key.now) rows c.loop-input.input) lone

@@ -8,5 +8,5 @@ use Rattle.pig_operators.proofs.cogrouping.add_apart.Given as goal
 
 abbrev pub invariant-loop-input : goal.invariant-loop-input
 invariant-loop-input l =
-    Remains l.run.entries l.from l.at l.end l.input
-    × (rows_tree l.rows ≡ rows_tree l.fn.rows ++ apart_rows l.inner (tree l.key) (rows_of (group_entries l.run l.from l.end)) l.input)
+    Remains l.group.run.now.entries l.group.from l.at l.group.end l.input
+    × (rows_tree l.rows ≡ rows_tree l.fn.rows ++ apart_rows l.inner (tree l.key) (rows_of (group_entries l.group.run.now l.group.from l.group.end)) l.input)

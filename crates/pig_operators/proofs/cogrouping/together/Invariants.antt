@@ -8,6 +8,6 @@ use Rattle.pig_operators.proofs.cogrouping.together.Given as goal
 
 abbrev pub invariant-loop-input : goal.invariant-loop-input
 invariant-loop-input l =
-    Remains l.run.entries l.from l.at l.end l.input
-    × (row_tree l.row ≡ bags_of l.input (tree l.fn.key) (rows_of (group_entries l.run l.from l.end)))
-    × (all_there (drop l.input l.inner) l.input (rows_of (group_entries l.run l.from l.end)) ≡ all_there l.inner 0 (rows_of (group_entries l.run l.from l.end)))
+    Remains l.group.run.now.entries l.group.from l.at l.group.end l.input
+    × (row_tree l.row ≡ bags_of l.input (tree l.fn.key) (rows_of (group_entries l.group.run.now l.group.from l.group.end)))
+    × (all_there (drop l.input l.inner) l.input (rows_of (group_entries l.group.run.now l.group.from l.group.end)) ≡ all_there l.inner 0 (rows_of (group_entries l.group.run.now l.group.from l.group.end)))

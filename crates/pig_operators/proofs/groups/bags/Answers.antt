@@ -8,9 +8,9 @@ use Rattle.pig_operators.proofs.groups.bags.Goals as goal
 
 pub loop-input-preserved : goal.loop-input-preserved
 loop-input-preserved c =
-    let up = group_sorted c.args.run.now c.args.from c.args.end c.requires.group c.requires.sorted in (
-      input_behind c.args.run.now c.args.from c.loop-input.at c.args.end c.loop-input.input c.input_end-next.result c.loop-input.invariant.0 c.input_end-next.ensures up,
-      bags_more (rows_of (group_entries c.args.run.now c.args.from c.args.end)) c.loop-input.input c.loop-input.bags c.push.new.self c.in_ok-rows_between.field-0
-          (c.in_ok-rows_between.ensures ∙ sym (input_rows c.args.run.now c.args.from c.loop-input.at c.args.end c.loop-input.input c.input_end-next.result c.loop-input.invariant.0 c.input_end-next.ensures up)) c.loop-input.invariant.1
+    let up = group_sorted c.args.group.now.run.now c.args.group.now.from c.args.group.now.end c.args.group.now.whole c.args.group.now.sorted in (
+      input_behind c.args.group.now.run.now c.args.group.now.from c.loop-input.at c.args.group.now.end c.loop-input.input c.input_end-end.result c.loop-input.invariant.0 c.input_end-end.ensures up,
+      bags_more (rows_of (group_entries c.args.group.now.run.now c.args.group.now.from c.args.group.now.end)) c.loop-input.input c.loop-input.bags c.push.new.self c.in_ok-rows_of.field-0
+          (c.in_ok-rows_of.ensures ∙ sym (input_rows c.args.group.now.run.now c.args.group.now.from c.loop-input.at c.args.group.now.end c.loop-input.input c.input_end-end.result c.loop-input.invariant.0 c.input_end-end.ensures up)) c.loop-input.invariant.1
           c.in_ok-push.ensures.ok,
     )

@@ -9,4 +9,4 @@ use Rattle.pig_operators.proofs.groups.bags.Given as goal
 
 abbrev pub invariant-loop-input : goal.invariant-loop-input
 invariant-loop-input l =
-    Remains l.run.entries l.from l.at l.end l.input × (map rows_tree l.bags ≡ map (rows_of (group_entries l.run l.from l.end)) (range_with_len 0 l.input))
+    Remains l.group.run.now.entries l.group.from l.at l.group.end l.input × (map rows_tree l.bags ≡ map (rows_of (group_entries l.group.run.now l.group.from l.group.end)) (range_with_len 0 l.input))

@@ -9,10 +9,10 @@ use Rattle.pig_operators.proofs.groups.first_bag.Goals as goal
 
 pub returns : goal.returns
 returns c =
-    IfOk-weaker c.rows_between.result (λ rows. rows_tree rows ≡ map (λ e. e.row) (between c.args.from c.input_end-next.result c.args.run.now.entries))
-    (λ rows. rows_tree rows ≡ rows_of (group_entries c.args.run.now c.args.from c.args.end) 0)
+    IfOk-weaker c.rows_of.result (λ rows. rows_tree rows ≡ map (λ e. e.row) (between c.args.group.now.from c.input_end.result c.args.group.now.run.now.entries))
+    (λ rows. rows_tree rows ≡ rows_of (group_entries c.args.group.now.run.now c.args.group.now.from c.args.group.now.end) 0)
     (λ rows is. is
-    ∙ sym (input_rows c.args.run.now c.args.from c.args.from c.args.end 0 c.input_end-next.result
-    (remains_all c.args.run.now.entries c.args.from c.args.end (let low = c.requires.group.some in omega (arith, low))) c.input_end-next.ensures
-    (group_sorted c.args.run.now c.args.from c.args.end c.requires.group c.requires.sorted)))
-    c.rows_between.ensures
+    ∙ sym (input_rows c.args.group.now.run.now c.args.group.now.from c.args.group.now.from c.args.group.now.end 0 c.input_end.result
+    (remains_all c.args.group.now.run.now.entries c.args.group.now.from c.args.group.now.end (let low = c.args.group.now.whole.some in omega (arith, low))) c.input_end.ensures
+    (group_sorted c.args.group.now.run.now c.args.group.now.from c.args.group.now.end c.args.group.now.whole c.args.group.now.sorted)))
+    c.rows_of.ensures

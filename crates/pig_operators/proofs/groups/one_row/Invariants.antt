@@ -6,4 +6,4 @@ use Rattle.pig_operators.specs.Groups.{between}
 use Rattle.pig_operators.proofs.groups.one_row.Given as goal
 
 abbrev pub invariant-loop-at : goal.invariant-loop-at
-invariant-loop-at l = row_tree l.row ≡ flat_map (λ e. e.row) (between l.from l.at l.run.entries)
+invariant-loop-at l = row_tree l.row ≡ flat_map (λ e. e.row) (between l.group.from l.at l.group.run.now.entries)

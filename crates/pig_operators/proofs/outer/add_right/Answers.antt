@@ -6,6 +6,6 @@ use Rattle.pig_operators.proofs.outer.add_right.Goals as goal
 
 pub loop-at-preserved : goal.loop-at-preserved
 loop-at-preserved c =
-    made_more (λ row. nulls c.args.width ++ row) c.args.run.now.entries c.args.from c.loop-at.at c.args.rows.now c.loop-at.rows c.push.new.self (row_tree c.in_ok-row.field-0) c.extend.new.self c.loop-at.auto.at
-    (let high = c.loop-at-test.true in let within = c.requires.within in omega (arith, high, within)) c.in_ok-row.ensures
+    made_more (λ row. nulls c.args.width ++ row) c.args.own.now.run.now.entries c.args.own.now.from c.loop-at.at c.args.rows.now c.loop-at.rows c.push.new.self (row_tree c.in_ok-row.field-0) c.extend.new.self c.loop-at.auto.at
+    (let high = c.loop-at-test.true in let within = c.args.own.now.within in omega (arith, high, within)) c.in_ok-row.ensures
     (behind_nulls c.args.width c.new-row.result c.add_nulls.new.row c.in_ok-row.field-0 c.extend.new.self c.new-row.ensures c.in_ok-add_nulls.ensures c.in_ok-extend.ensures.ok) c.loop-at.invariant c.in_ok-push.ensures.ok

@@ -6,4 +6,4 @@ use Rattle.pig_operators.specs.Groups.{between}
 use Rattle.pig_operators.proofs.outer.add_right.Given as goal
 
 abbrev pub invariant-loop-at : goal.invariant-loop-at
-invariant-loop-at l = rows_tree l.rows ≡ rows_tree l.fn.rows ++ map (λ row. nulls l.width ++ row) (map (λ e. e.row) (between l.from l.at l.run.entries))
+invariant-loop-at l = rows_tree l.rows ≡ rows_tree l.fn.rows ++ map (λ row. nulls l.width ++ row) (map (λ e. e.row) (between l.own.from l.at l.own.run.now.entries))

@@ -6,9 +6,9 @@ use Rattle.pig_operators.proofs.Stretches.{all_rows, sorted_out}
 use Rattle.pig_operators.proofs.whole.ordered.Goals as goal
 
 pub returns-clause-rows : goal.returns-clause-rows
-returns-clause-rows c = subst (λ t. IfOk c.rows_between.result (λ rows. rows_tree rows ≡ t)) (all_rows c.args.run c.len.result c.len.ensures.count) c.rows_between.ensures
+returns-clause-rows c = subst (λ t. IfOk c.rows_of.result (λ rows. rows_tree rows ≡ t)) (all_rows c.args.run c.len.result c.len.ensures.count) c.rows_of.ensures
 
 pub returns-clause-order : goal.returns-clause-order
 returns-clause-order c keys is =
-    subst (λ t. IfOk c.rows_between.result (λ rows. rows_tree rows ≡ t))
-    (all_rows c.args.run c.len.result c.len.ensures.count ∙ ordered_is keys c.args.run is (sorted_out c.args.run.dirs c.args.run.entries c.len.ensures.sorted)) c.rows_between.ensures
+    subst (λ t. IfOk c.rows_of.result (λ rows. rows_tree rows ≡ t))
+    (all_rows c.args.run c.len.result c.len.ensures.count ∙ ordered_is keys c.args.run is (sorted_out c.args.run.dirs c.args.run.entries c.len.ensures.sorted)) c.rows_of.ensures

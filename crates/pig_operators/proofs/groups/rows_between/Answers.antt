@@ -1,8 +1,0 @@
-use Rattle.std.proofs.Common.{arith}
-use Rattle.pig_operators.proofs.Adding.{rows_more}
-use Rattle.pig_operators.proofs.groups.rows_between.Goals as goal
-
-pub loop-at-preserved : goal.loop-at-preserved
-loop-at-preserved c =
-    rows_more c.args.run.now.entries c.args.from c.loop-at.at c.loop-at.rows c.push.new.self c.in_ok-row.field-0 c.loop-at.auto.at (let high = c.loop-at-test.true in let within = c.requires.within in omega (arith, high, within))
-    c.in_ok-row.ensures c.loop-at.invariant c.in_ok-push.ensures.ok
