@@ -25,7 +25,7 @@ use Rattle.pig_syntax.specs.Formed.{AtLeast, FieldRefFormed, PostStepFormed, Sel
 use Rattle.pig_syntax.specs.Tokens.{HoldsNoLf, is_in_line}
 use Rattle.pig_syntax.proofs.LineFree.{no_lf}
 use Rattle.pig_syntax.proofs.ExprTreeLaws.{form-Int, form-Long, form-Float, form-Text, form-Bool, form-Null, form-Field, form-Chain, form-Compare, form-IsNull, form-Not, form-Minus, form-Cast, form-Post, form-Call, form-Choose, link_is, form-TypeInt, form-TypeLong, form-Chararray, form-Bytearray, form-Boolean, form-TypeFloat, form-Tuple, form-Bag, form-Map, form-MapBare, field_typed as typed_is, field_bare as bare_is}
-use Rattle.pig_exprs.specs.Grammar.{Forms, Listed, part_of, IsName, IsFieldRef, IsSelection, scalar_of, IsType, IsTuple, IsBag, IsMap, IsSchema, AreSchemaFields, IsSchemaField, IsCastType, Level, expr, conj, sum, term, chain_op, token_literal, chain_of, equals, is_among, choice_of, compared, ArePostSteps, ReadsExpr, AreWhens, IsLast, Links, AreExprs}
+use Rattle.pig_exprs.specs.Grammar.{Forms, Listed, part_of, IsName, IsFieldRef, IsSelection, scalar_of, IsType, IsTuple, IsBag, IsMap, IsSchema, AreSchemaFields, IsSchemaField, IsCastType, Level, expr, and_chain, sum, term, chain_op, token_literal, chain_of, equals, is_among, choice_of, compared, ArePostSteps, ReadsExpr, AreWhens, IsLast, Links, AreExprs}
 
 -- no token holds an LF
 abbrev pub Free : Forms → Type 0
@@ -192,7 +192,7 @@ of_or : OfRule expr disjunction
 of_or o (f.Keyword k.Or) h = let same : op.Or ≡ o = cc in subst (λ x. rule_of x ≡ disjunction) same refl
 of_or o t h = absurd (cc)
 
-of_and : OfRule conj conjunction
+of_and : OfRule and_chain conjunction
 of_and o (f.Keyword k.And) h = let same : op.And ≡ o = cc in subst (λ x. rule_of x ≡ conjunction) same refl
 of_and o t h = absurd (cc)
 
@@ -249,21 +249,21 @@ mutual
       let first = expr_formed h free in
       let others = links_formed links disjunction of_or first.free in
       record { tree = chain_formed a l ls disjunction first.tree others.tree; free = others.free }
-  expr_formed (ReadsExpr.conj_one h) free = expr_formed h free
-  expr_formed (ReadsExpr.conj_more {a = a} {l = l} {ls = ls} h links) free =
+  expr_formed (ReadsExpr.and_chain_one h) free = expr_formed h free
+  expr_formed (ReadsExpr.and_chain_more {a = a} {l = l} {ls = ls} h links) free =
       let first = expr_formed h free in
       let others = links_formed links conjunction of_and first.free in
       record { tree = chain_formed a l ls conjunction first.tree others.tree; free = others.free }
   expr_formed (ReadsExpr.neg_none h) free = expr_formed h free
   expr_formed (ReadsExpr.neg_not {a = a} h) free = let inner = expr_formed h free.1 in record { tree = subst ExprFormed (sym (form-Not a)) inner.tree; free = inner.free }
-  expr_formed (ReadsExpr.comp_one h) free = expr_formed h free
-  expr_formed (ReadsExpr.comp_rel {r = r} {a = a} {b = b} h is g) free =
+  expr_formed (ReadsExpr.comparison_one h) free = expr_formed h free
+  expr_formed (ReadsExpr.comparison_rel {r = r} {a = a} {b = b} h is g) free =
       let first = expr_formed h free in
       let second = expr_formed g first.free.1 in
       record { tree = subst ExprFormed (sym (form-Compare r a b)) (first.tree, second.tree); free = second.free }
-  expr_formed (ReadsExpr.comp_null {a = a} h) free = let inner = expr_formed h free in record { tree = subst ExprFormed (sym (form-IsNull a false)) inner.tree; free = inner.free.1.1 }
-  expr_formed (ReadsExpr.comp_not_null {a = a} h) free = let inner = expr_formed h free in record { tree = subst ExprFormed (sym (form-IsNull a true)) inner.tree; free = inner.free.1.1.1 }
-  expr_formed (ReadsExpr.comp_in {a = x} {v = v} {others = others} h values) free =
+  expr_formed (ReadsExpr.comparison_null {a = a} h) free = let inner = expr_formed h free in record { tree = subst ExprFormed (sym (form-IsNull a false)) inner.tree; free = inner.free.1.1 }
+  expr_formed (ReadsExpr.comparison_not_null {a = a} h) free = let inner = expr_formed h free in record { tree = subst ExprFormed (sym (form-IsNull a true)) inner.tree; free = inner.free.1.1.1 }
+  expr_formed (ReadsExpr.comparison_in {a = x} {v = v} {others = others} h values) free =
       let operand = expr_formed h free in
       let inner = exprs_formed values operand.free.1.1 in
       record { tree = among_formed x v others operand.tree inner.tree; free = inner.free.1 }
@@ -289,23 +289,23 @@ mutual
       let first = expr_formed h free in
       let others = steps_formed steps first.free in
       record { tree = subst ExprFormed (sym (form-Post a (p ∷ ps))) (first.tree, record { many = omega arith; each = others.tree }); free = others.free }
-  expr_formed (ReadsExpr.prim_literal {t = t} {a = a} is) free = record { tree = literal_formed t a is free.0; free = free.1 }
-  expr_formed (ReadsExpr.prim_field {r = r} h) free = let field = field_ref_formed h free in record { tree = subst ExprFormed (sym (form-Field r)) field.tree; free = field.free }
-  expr_formed (ReadsExpr.prim_call_none {name = name}) free = record { tree = subst ExprFormed (sym (form-Call name [])) (free.0, tt); free = free.1.1.1 }
-  expr_formed (ReadsExpr.prim_call {name = name} {args = args} h) free =
+  expr_formed (ReadsExpr.primary_literal {t = t} {a = a} is) free = record { tree = literal_formed t a is free.0; free = free.1 }
+  expr_formed (ReadsExpr.primary_field {r = r} h) free = let field = field_ref_formed h free in record { tree = subst ExprFormed (sym (form-Field r)) field.tree; free = field.free }
+  expr_formed (ReadsExpr.primary_call_none {name = name}) free = record { tree = subst ExprFormed (sym (form-Call name [])) (free.0, tt); free = free.1.1.1 }
+  expr_formed (ReadsExpr.primary_call {name = name} {args = args} h) free =
       let inner = exprs_formed h free.1.1 in
       record { tree = subst ExprFormed (sym (form-Call name args)) (free.0, inner.tree); free = inner.free.1 }
-  expr_formed (ReadsExpr.prim_paren h) free = let inner = expr_formed h free.1 in record { tree = inner.tree; free = inner.free.1 }
-  expr_formed (ReadsExpr.prim_choose {a = a} {b = b} {c = c} h g i) free =
+  expr_formed (ReadsExpr.primary_paren h) free = let inner = expr_formed h free.1 in record { tree = inner.tree; free = inner.free.1 }
+  expr_formed (ReadsExpr.primary_choose {a = a} {b = b} {c = c} h g i) free =
       let first = expr_formed h free.1 in
       let second = expr_formed g first.free.1 in
       let third = expr_formed i second.free.1 in
       record { tree = subst ExprFormed (sym (form-Choose a b c)) (first.tree, second.tree, third.tree); free = third.free.1 }
-  expr_formed (ReadsExpr.prim_case {w = w} {others = others} {default = default} whens h) free =
+  expr_formed (ReadsExpr.primary_case {w = w} {others = others} {default = default} whens h) free =
       let tests = whens_formed whens free.1 in
       let inner = last_formed h tests.free in
       record { tree = choice_formed (w ∷ others) default tests.tree inner.tree; free = inner.free }
-  expr_formed (ReadsExpr.prim_case_of {x = x} {w = w} {others = others} {default = default} g whens h) free =
+  expr_formed (ReadsExpr.primary_case_of {x = x} {w = w} {others = others} {default = default} g whens h) free =
       let operand = expr_formed g free.1 in
       let tests = whens_formed whens operand.free in
       let inner = last_formed h tests.free in

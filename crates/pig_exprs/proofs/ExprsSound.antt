@@ -7,9 +7,9 @@ use Rattle.pig_syntax.specs.declared.trees.Expr.{Expr}
 use Rattle.pig_syntax.specs.declared.trees.Expr.TheVariants as e
 use Rattle.pig_syntax.specs.declared.trees.Link.{Link}
 use Rattle.pig_syntax.specs.declared.trees.PostStep.{PostStep}
-use Rattle.pig_exprs.specs.Grammar.{Forms, Listed, Level, expr, conj, neg, comp, sum, term, unary, casted, post, prim, chain_op, rel_of, token_literal, chain_of, IsCastType, ArePostSteps, ReadsExpr, Links, AreExprs, AreWhens, IsLast}
+use Rattle.pig_exprs.specs.Grammar.{Forms, Listed, Level, expr, and_chain, neg, comparison, sum, term, unary, casted, post, primary, chain_op, rel_of, token_literal, chain_of, IsCastType, ArePostSteps, ReadsExpr, Links, AreExprs, AreWhens, IsLast}
 use Rattle.pig_exprs.specs.Reader.{FoundPart, comma_turn, type_at}
-use Rattle.pig_exprs.specs.ExprReader.{link_turn, chain_at, post_turn, post_of, both_at, paren_after, call_at, simple_at, when_at, when_turn, first_when, last_at, cases_at, case_bare_at, case_of_at, case_at, prim_at, post_at, begins_type, cast_at, casted_at, unary_at, term_at, sum_at, null_test, rel_ahead, in_ahead, among_at, comp_after, comp_at, neg_at, conj_at, expr_with, expr_at}
+use Rattle.pig_exprs.specs.ExprReader.{link_turn, chain_at, post_turn, post_of, both_at, paren_after, call_at, simple_at, when_at, when_turn, first_when, last_at, cases_at, case_bare_at, case_of_at, case_at, primary_at, post_at, begins_type, cast_at, casted_at, unary_at, term_at, sum_at, null_test, rel_ahead, in_ahead, among_at, comparison_after, comparison_at, neg_at, and_chain_at, expr_with, expr_at}
 use Rattle.pig_exprs.proofs.Options.{Holds, itself, holds_then, holds_map, holds_map_or, holds_weaken, holds_if}
 use Rattle.pig_exprs.proofs.ListSound.{Upholds, Leads, TurnsLead, GoesOn, comma_leads, repeat_runs, listed_upholds, symbol_stands, word_stands}
 use Rattle.pig_exprs.proofs.NamesSound.{field_ref_upholds, selection_upholds}
@@ -55,33 +55,33 @@ steps_lead (f.Symbol s.Dot ∷ ts) = holds_map _ (selection_upholds ts) (λ p is
 steps_lead (f.Symbol s.Hash ∷ f.Text key ∷ ts) = Holds.just (Holds.just (λ others rest more. ArePostSteps.look more))
 steps_lead ts = Holds.just Holds.nothing
 
-post_of_steps : {ts mid rest : Forms} {a : Expr} (steps : List PostStep) → ReadsExpr prim ts a mid → ArePostSteps mid steps rest → ReadsExpr post ts (post_of a steps) rest
+post_of_steps : {ts mid rest : Forms} {a : Expr} (steps : List PostStep) → ReadsExpr primary ts a mid → ArePostSteps mid steps rest → ReadsExpr post ts (post_of a steps) rest
 unfolding post_of
 post_of_steps [] first ArePostSteps.none = ReadsExpr.post_one first
 post_of_steps (p ∷ ps) first steps = ReadsExpr.post_more first steps
 
 -- ---- simple operands
 
-simple_upholds : Upholds simple_at (ReadsExpr prim)
+simple_upholds : Upholds simple_at (ReadsExpr primary)
 unfolding simple_at
 simple_upholds [] = Holds.nothing
 simple_upholds (t ∷ ts) =
-    holds_map_or _ (itself (token_literal t)) (λ a is_literal. Holds.just (ReadsExpr.prim_literal is_literal))
-    (holds_map _ (field_ref_upholds (t ∷ ts)) (λ p field. ReadsExpr.prim_field field))
+    holds_map_or _ (itself (token_literal t)) (λ a is_literal. Holds.just (ReadsExpr.primary_literal is_literal))
+    (holds_map _ (field_ref_upholds (t ∷ ts)) (λ p field. ReadsExpr.primary_field field))
 
 -- what stands in front of IS NULL or IS NOT NULL
-null_stands : {start : Forms} {a : Expr} (ts : Forms) → ReadsExpr sum start a ts → Holds (λ n. ReadsExpr comp start (e.IsNull a n.0) n.1) (null_test ts)
+null_stands : {start : Forms} {a : Expr} (ts : Forms) → ReadsExpr sum start a ts → Holds (λ n. ReadsExpr comparison start (e.IsNull a n.0) n.1) (null_test ts)
 unfolding null_test
-null_stands (f.Keyword k.Is ∷ f.Keyword k.Null ∷ ts) first = Holds.just (ReadsExpr.comp_null first)
-null_stands (f.Keyword k.Is ∷ f.Keyword k.Not ∷ f.Keyword k.Null ∷ ts) first = Holds.just (ReadsExpr.comp_not_null first)
+null_stands (f.Keyword k.Is ∷ f.Keyword k.Null ∷ ts) first = Holds.just (ReadsExpr.comparison_null first)
+null_stands (f.Keyword k.Is ∷ f.Keyword k.Not ∷ f.Keyword k.Null ∷ ts) first = Holds.just (ReadsExpr.comparison_not_null first)
 null_stands ts first = Holds.nothing
 
 -- what stands in front of a comparison's sign
 rel_stands : {start : Forms} {a : Expr} (ts : Forms) → ReadsExpr sum start a ts
-    → Holds (λ r. (b : Expr) (rest : Forms) → ReadsExpr sum r.1 b rest → ReadsExpr comp start (e.Compare r.0 a b) rest) (rel_ahead ts)
+    → Holds (λ r. (b : Expr) (rest : Forms) → ReadsExpr sum r.1 b rest → ReadsExpr comparison start (e.Compare r.0 a b) rest) (rel_ahead ts)
 unfolding rel_ahead
 rel_stands [] first = Holds.nothing
-rel_stands (t ∷ ts) first = holds_map _ (itself (rel_of t)) (λ r is_rel b rest second. ReadsExpr.comp_rel first is_rel second)
+rel_stands (t ∷ ts) first = holds_map _ (itself (rel_of t)) (λ r is_rel b rest second. ReadsExpr.comparison_rel first is_rel second)
 
 -- what stands in front of IN and its `(`
 in_stands : (P : Forms → Type 0) (ts : Forms) → P ts → Holds (λ rest. P (f.Keyword k.In ∷ f.Symbol s.OpenParen ∷ rest)) (in_ahead ts)
@@ -98,27 +98,27 @@ record AreCases (ts : Forms) (whens : List (Expr × Expr)) (last : Expr) (rest :
 -- by the expressions inside brackets
 module _ (most : ℕ) (inner : Forms → FoundPart Expr) (inside : Upholds inner (ReadsExpr expr)) where
   both_stand : (ts : Forms)
-      → Holds (λ q. (start : Forms) (a : Expr) → ReadsExpr expr start a (f.Symbol s.Question ∷ ts) → ReadsExpr prim (f.Symbol s.OpenParen ∷ start) (e.Choose a q.0.0 q.0.1) q.1) (both_at inner ts)
+      → Holds (λ q. (start : Forms) (a : Expr) → ReadsExpr expr start a (f.Symbol s.Question ∷ ts) → ReadsExpr primary (f.Symbol s.OpenParen ∷ start) (e.Choose a q.0.0 q.0.1) q.1) (both_at inner ts)
   unfolding both_at
   both_stand ts =
       holds_then _ (inside ts) (λ left b.
       holds_then _ (symbol_stands s.Colon (ReadsExpr expr ts left.0) left.1 b) (λ behind b.
       holds_then _ (inside behind) (λ right c.
       holds_then _ (symbol_stands s.CloseParen (ReadsExpr expr behind right.0) right.1 c) (λ rest c.
-      Holds.just (λ start a first. ReadsExpr.prim_choose first b c)))))
+      Holds.just (λ start a first. ReadsExpr.primary_choose first b c)))))
 
-  paren_stands : (start : Forms) (a : Expr) (ts : Forms) → ReadsExpr expr start a ts → Holds (λ p. ReadsExpr prim (f.Symbol s.OpenParen ∷ start) p.0 p.1) (paren_after inner a ts)
+  paren_stands : (start : Forms) (a : Expr) (ts : Forms) → ReadsExpr expr start a ts → Holds (λ p. ReadsExpr primary (f.Symbol s.OpenParen ∷ start) p.0 p.1) (paren_after inner a ts)
   unfolding paren_after
-  paren_stands start a (f.Symbol s.CloseParen ∷ ts) first = Holds.just (ReadsExpr.prim_paren first)
+  paren_stands start a (f.Symbol s.CloseParen ∷ ts) first = Holds.just (ReadsExpr.primary_paren first)
   paren_stands start a (f.Symbol s.Question ∷ ts) first = holds_then _ (both_stand ts) (λ both choose. Holds.just (choose start a first))
   paren_stands start a _ first = Holds.nothing
 
-  call_stands : (name : List ℕ) (ts : Forms) → Holds (λ p. ReadsExpr prim (f.Ident name ∷ f.Symbol s.OpenParen ∷ ts) p.0 p.1) (call_at inner name ts)
+  call_stands : (name : List ℕ) (ts : Forms) → Holds (λ p. ReadsExpr primary (f.Ident name ∷ f.Symbol s.OpenParen ∷ ts) p.0 p.1) (call_at inner name ts)
   unfolding call_at
-  call_stands name (f.Symbol s.CloseParen ∷ ts) = Holds.just ReadsExpr.prim_call_none
+  call_stands name (f.Symbol s.CloseParen ∷ ts) = Holds.just ReadsExpr.primary_call_none
   call_stands name ts =
       holds_then _ (listed_upholds inner (ReadsExpr expr) inside ts) (λ args l.
-      holds_then _ (symbol_stands s.CloseParen (Listed (ReadsExpr expr) ts args.0) args.1 l) (λ rest l. Holds.just (ReadsExpr.prim_call (are_exprs l))))
+      holds_then _ (symbol_stands s.CloseParen (Listed (ReadsExpr expr) ts args.0) args.1 l) (λ rest l. Holds.just (ReadsExpr.primary_call (are_exprs l))))
 
   when_stands : (ts : Forms) → Holds (Leads AreWhens (f.Keyword k.When ∷ ts)) (when_at inner ts)
   unfolding when_at
@@ -154,32 +154,32 @@ module _ (most : ℕ) (inner : Forms → FoundPart Expr) (inside : Upholds inner
       holds_then _ (last_upholds others.1) (λ last is_last.
       Holds.just (record { mid = others.1; whens_are = leads others.0 others.1 ws; last_is = is_last }))))
 
-  case_bare_stands : (ts : Forms) → Holds (λ p. ReadsExpr prim (f.Keyword k.Case ∷ ts) p.0 p.1) (case_bare_at inner ts)
+  case_bare_stands : (ts : Forms) → Holds (λ p. ReadsExpr primary (f.Keyword k.Case ∷ ts) p.0 p.1) (case_bare_at inner ts)
   unfolding case_bare_at
-  case_bare_stands ts = holds_then _ (cases_stand ts) (λ p cases. Holds.just (ReadsExpr.prim_case cases.whens_are cases.last_is))
+  case_bare_stands ts = holds_then _ (cases_stand ts) (λ p cases. Holds.just (ReadsExpr.primary_case cases.whens_are cases.last_is))
 
-  case_of_stands : (ts : Forms) → Holds (λ p. ReadsExpr prim (f.Keyword k.Case ∷ ts) p.0 p.1) (case_of_at inner ts)
+  case_of_stands : (ts : Forms) → Holds (λ p. ReadsExpr primary (f.Keyword k.Case ∷ ts) p.0 p.1) (case_of_at inner ts)
   unfolding case_of_at
   case_of_stands ts =
       holds_then _ (inside ts) (λ x operand.
-      holds_then _ (cases_stand x.1) (λ p cases. Holds.just (ReadsExpr.prim_case_of operand cases.whens_are cases.last_is)))
+      holds_then _ (cases_stand x.1) (λ p cases. Holds.just (ReadsExpr.primary_case_of operand cases.whens_are cases.last_is)))
 
-  case_stands : (ts : Forms) → Holds (λ p. ReadsExpr prim (f.Keyword k.Case ∷ ts) p.0 p.1) (case_at inner ts)
+  case_stands : (ts : Forms) → Holds (λ p. ReadsExpr primary (f.Keyword k.Case ∷ ts) p.0 p.1) (case_at inner ts)
   unfolding case_at
   case_stands (f.Keyword k.When ∷ ts) = case_bare_stands (f.Keyword k.When ∷ ts)
   case_stands ts = case_of_stands ts
 
-  prim_upholds : Upholds (prim_at inner) (ReadsExpr prim)
-  unfolding prim_at
-  prim_upholds (f.Ident name ∷ f.Symbol s.OpenParen ∷ ts) = call_stands name ts
-  prim_upholds (f.Keyword k.Case ∷ ts) = case_stands ts
-  prim_upholds (f.Symbol s.OpenParen ∷ ts) = holds_then _ (inside ts) (λ p a. paren_stands ts p.0 p.1 a)
-  prim_upholds ts = simple_upholds ts
+  primary_upholds : Upholds (primary_at inner) (ReadsExpr primary)
+  unfolding primary_at
+  primary_upholds (f.Ident name ∷ f.Symbol s.OpenParen ∷ ts) = call_stands name ts
+  primary_upholds (f.Keyword k.Case ∷ ts) = case_stands ts
+  primary_upholds (f.Symbol s.OpenParen ∷ ts) = holds_then _ (inside ts) (λ p a. paren_stands ts p.0 p.1 a)
+  primary_upholds ts = simple_upholds ts
 
   post_upholds : Upholds (post_at inner) (ReadsExpr post)
   unfolding post_at
   post_upholds ts =
-      holds_then _ (prim_upholds ts) (λ first a.
+      holds_then _ (primary_upholds ts) (λ first a.
       holds_then _ (repeat_runs post_turn ArePostSteps (λ mid. ArePostSteps.none) steps_lead (length first.1) first.1) (λ steps more.
       Holds.just (post_of_steps steps.0 a more)))
 
@@ -216,43 +216,43 @@ module _ (most : ℕ) (inner : Forms → FoundPart Expr) (inside : Upholds inner
       (record { one = λ ts a rest first. ReadsExpr.sum_one first; more = λ ts mid a l ls rest first links. ReadsExpr.sum_more first links })
       term_upholds ts
 
-  among_stands : (start : Forms) (a : Expr) (ts : Forms) → ReadsExpr sum start a (f.Keyword k.In ∷ f.Symbol s.OpenParen ∷ ts) → Holds (λ p. ReadsExpr comp start p.0 p.1) (among_at inner a ts)
+  among_stands : (start : Forms) (a : Expr) (ts : Forms) → ReadsExpr sum start a (f.Keyword k.In ∷ f.Symbol s.OpenParen ∷ ts) → Holds (λ p. ReadsExpr comparison start p.0 p.1) (among_at inner a ts)
   unfolding among_at
   among_stands start a ts operand =
       holds_then _ (inside ts) (λ first v.
       holds_then _ (repeat_runs (comma_turn inner) (GoesOn (ReadsExpr expr)) (λ mid before b r. Listed.last r) (comma_leads inner (ReadsExpr expr) inside) (length first.1) first.1) (λ others goes.
       holds_then _ (symbol_stands s.CloseParen (Listed (ReadsExpr expr) ts (first.0 ∷ others.0)) others.1 (goes ts first.0 v)) (λ rest l.
-      Holds.just (ReadsExpr.comp_in operand (are_exprs l)))))
+      Holds.just (ReadsExpr.comparison_in operand (are_exprs l)))))
 
-  comp_stands : (start : Forms) (a : Expr) (ts : Forms) → ReadsExpr sum start a ts → Holds (λ p. ReadsExpr comp start p.0 p.1) (comp_after most inner a ts)
-  unfolding comp_after
-  comp_stands start a ts first =
+  comparison_stands : (start : Forms) (a : Expr) (ts : Forms) → ReadsExpr sum start a ts → Holds (λ p. ReadsExpr comparison start p.0 p.1) (comparison_after most inner a ts)
+  unfolding comparison_after
+  comparison_stands start a ts first =
       holds_map_or _ (null_stands ts first) (λ n test. Holds.just test)
       (holds_map_or _ (rel_stands ts first) (λ r compare. holds_map _ (sum_upholds r.1) (λ p b. compare p.0 p.1 b))
-      (holds_map_or _ (in_stands (ReadsExpr sum start a) ts first) (λ behind operand. among_stands start a behind operand) (Holds.just (ReadsExpr.comp_one first))))
+      (holds_map_or _ (in_stands (ReadsExpr sum start a) ts first) (λ behind operand. among_stands start a behind operand) (Holds.just (ReadsExpr.comparison_one first))))
 
-  comp_upholds : Upholds (comp_at most inner) (ReadsExpr comp)
-  unfolding comp_at
-  comp_upholds ts = holds_then _ (sum_upholds ts) (λ p a. comp_stands ts p.0 p.1 a)
+  comparison_upholds : Upholds (comparison_at most inner) (ReadsExpr comparison)
+  unfolding comparison_at
+  comparison_upholds ts = holds_then _ (sum_upholds ts) (λ p a. comparison_stands ts p.0 p.1 a)
 
   neg_upholds : Upholds (neg_at most inner) (ReadsExpr neg)
   unfolding neg_at
-  neg_upholds (f.Keyword k.Not ∷ ts) = holds_map _ (comp_upholds ts) (λ p a. ReadsExpr.neg_not a)
-  neg_upholds ts = holds_weaken (comp_upholds ts) (λ p a. ReadsExpr.neg_none a)
+  neg_upholds (f.Keyword k.Not ∷ ts) = holds_map _ (comparison_upholds ts) (λ p a. ReadsExpr.neg_not a)
+  neg_upholds ts = holds_weaken (comparison_upholds ts) (λ p a. ReadsExpr.neg_none a)
 
-  conj_upholds : Upholds (conj_at most inner) (ReadsExpr conj)
-  unfolding conj_at
-  conj_upholds ts =
-      chain_upholds conj neg (neg_at most inner)
-      (record { one = λ ts a rest first. ReadsExpr.conj_one first; more = λ ts mid a l ls rest first links. ReadsExpr.conj_more first links })
+  and_chain_upholds : Upholds (and_chain_at most inner) (ReadsExpr and_chain)
+  unfolding and_chain_at
+  and_chain_upholds ts =
+      chain_upholds and_chain neg (neg_at most inner)
+      (record { one = λ ts a rest first. ReadsExpr.and_chain_one first; more = λ ts mid a l ls rest first links. ReadsExpr.and_chain_more first links })
       neg_upholds ts
 
   expr_with_upholds : Upholds (expr_with most inner) (ReadsExpr expr)
   unfolding expr_with
   expr_with_upholds ts =
-      chain_upholds expr conj (conj_at most inner)
+      chain_upholds expr and_chain (and_chain_at most inner)
       (record { one = λ ts a rest first. ReadsExpr.expr_one first; more = λ ts mid a l ls rest first links. ReadsExpr.expr_more first links })
-      conj_upholds ts
+      and_chain_upholds ts
 
 pub expr_upholds : (most depth : ℕ) → Upholds (expr_at most depth) (ReadsExpr expr)
 unfolding expr_at

@@ -15,23 +15,23 @@ use Rattle.pig_syntax.specs.declared.trees.FieldRef.{FieldRef}
 use Rattle.pig_syntax.specs.declared.trees.Link.{Link}
 use Rattle.pig_syntax.specs.declared.trees.PostStep.{PostStep}
 use Rattle.pig_syntax.specs.declared.trees.TypeTree.{TypeTree}
-use Rattle.pig_exprs.specs.Grammar.{Forms, part_of, scalar_of, part, parts, IsFieldRef, name as by_name, position as by_position, IsCastType, cast_scalar, cast_tuple, cast_bag, cast_map, Level, expr, conj, neg, comp, sum, term, unary, casted, post, prim, rel_of, chain_op, token_literal, ArePostSteps, none, project, look, ReadsExpr, expr_one, expr_more, conj_one, conj_more, neg_none, neg_not, comp_one, comp_rel, comp_null, comp_not_null, sum_one, sum_more, term_one, term_more, unary_none, unary_minus, casted_none, casted_cast, post_one, post_more, prim_literal, prim_field, prim_call_none, prim_call, prim_paren, prim_choose, comp_in, prim_case, prim_case_of, AreWhens, whens_none, whens_more, IsLast, last_none, last_else, Links, links_none, links_link, AreExprs, exprs_last, exprs_more}
+use Rattle.pig_exprs.specs.Grammar.{Forms, part_of, scalar_of, part, parts, IsFieldRef, name as by_name, position as by_position, IsCastType, cast_scalar, cast_tuple, cast_bag, cast_map, Level, expr, and_chain, neg, comparison, sum, term, unary, casted, post, primary, rel_of, chain_op, token_literal, ArePostSteps, none, project, look, ReadsExpr, expr_one, expr_more, and_chain_one, and_chain_more, neg_none, neg_not, comparison_one, comparison_rel, comparison_null, comparison_not_null, sum_one, sum_more, term_one, term_more, unary_none, unary_minus, casted_none, casted_cast, post_one, post_more, primary_literal, primary_field, primary_call_none, primary_call, primary_paren, primary_choose, comparison_in, primary_case, primary_case_of, AreWhens, whens_none, whens_more, IsLast, last_none, last_else, Links, links_none, links_link, AreExprs, exprs_last, exprs_more}
 use Rattle.pig_exprs.specs.Reader.{FoundPart, part_turn, listed, close_paren, field_ref_at}
-use Rattle.pig_exprs.specs.ExprReader.{link_turn, post_turn, call_at, simple_at, when_turn, case_bare_at, case_of_at, case_at, prim_at, post_at, is_type_word, begins_type, cast_at, casted_at, unary_at, null_test, rel_ahead, in_ahead, comp_at, neg_at}
+use Rattle.pig_exprs.specs.ExprReader.{link_turn, post_turn, call_at, simple_at, when_turn, case_bare_at, case_of_at, case_at, primary_at, post_at, is_type_word, begins_type, cast_at, casted_at, unary_at, null_test, rel_ahead, in_ahead, comparison_at, neg_at}
 use Rattle.pig_exprs.proofs.Fits.{Fits}
 
 -- how tight a rule binds
 abbrev pub rank : Level → ℕ
 rank expr = 1
-rank conj = 2
+rank and_chain = 2
 rank neg = 3
-rank comp = 4
+rank comparison = 4
 rank sum = 5
 rank term = 6
 rank unary = 7
 rank casted = 8
 rank post = 9
-rank prim = 10
+rank primary = 10
 
 pub rank_some : (l : Level) → 1 ≤ rank l
 rank_some expr = omega arith
@@ -85,7 +85,7 @@ binder_fits t ts d some few fits = fits
 
 pub op_binds : (l : Level) (t : TokenForm) (o : ChainOp) → chain_op l t ≡ Some o → binds t ≡ rank l
 op_binds expr (f.Keyword k.Or) o h = refl
-op_binds conj (f.Keyword k.And) o h = refl
+op_binds and_chain (f.Keyword k.And) o h = refl
 op_binds sum (f.Symbol s.Plus) o h = refl
 op_binds sum (f.Symbol s.Minus) o h = refl
 op_binds term (f.Symbol s.Star) o h = refl
@@ -95,7 +95,7 @@ op_binds l t o h = absurd (cc)
 
 no_op : (l : Level) (t : TokenForm) → binds t < rank l → chain_op l t ≡ None
 no_op expr (f.Keyword k.Or) h = absurd (omega (arith, h))
-no_op conj (f.Keyword k.And) h = absurd (omega (arith, h))
+no_op and_chain (f.Keyword k.And) h = absurd (omega (arith, h))
 no_op sum (f.Symbol s.Plus) h = absurd (omega (arith, h))
 no_op sum (f.Symbol s.Minus) h = absurd (omega (arith, h))
 no_op term (f.Symbol s.Star) h = absurd (omega (arith, h))
@@ -226,15 +226,15 @@ field_begins by_position = refl
 pub reads_begin : {l : Level} {ts rest : Forms} {a : Expr} → ReadsExpr l ts a rest → rank l ≤ begins_ahead ts
 reads_begin (expr_one h) = omega (arith, reads_begin h)
 reads_begin (expr_more h links) = omega (arith, reads_begin h)
-reads_begin (conj_one h) = omega (arith, reads_begin h)
-reads_begin (conj_more h links) = omega (arith, reads_begin h)
+reads_begin (and_chain_one h) = omega (arith, reads_begin h)
+reads_begin (and_chain_more h links) = omega (arith, reads_begin h)
 reads_begin (neg_none h) = omega (arith, reads_begin h)
 reads_begin (neg_not h) = omega arith
-reads_begin (comp_one h) = omega (arith, reads_begin h)
-reads_begin (comp_rel h is b) = omega (arith, reads_begin h)
-reads_begin (comp_null h) = omega (arith, reads_begin h)
-reads_begin (comp_not_null h) = omega (arith, reads_begin h)
-reads_begin (comp_in h values) = omega (arith, reads_begin h)
+reads_begin (comparison_one h) = omega (arith, reads_begin h)
+reads_begin (comparison_rel h is b) = omega (arith, reads_begin h)
+reads_begin (comparison_null h) = omega (arith, reads_begin h)
+reads_begin (comparison_not_null h) = omega (arith, reads_begin h)
+reads_begin (comparison_in h values) = omega (arith, reads_begin h)
 reads_begin (sum_one h) = omega (arith, reads_begin h)
 reads_begin (sum_more h links) = omega (arith, reads_begin h)
 reads_begin (term_one h) = omega (arith, reads_begin h)
@@ -245,14 +245,14 @@ reads_begin (casted_none h) = omega (arith, reads_begin h)
 reads_begin (casted_cast type h) = omega arith
 reads_begin (post_one h) = omega (arith, reads_begin h)
 reads_begin (post_more h steps) = omega (arith, reads_begin h)
-reads_begin (prim_literal {t = t} {a = a} is) = omega (arith, literal_begins t a is)
-reads_begin (prim_field h) = omega (arith, field_begins h)
-reads_begin prim_call_none = omega arith
-reads_begin (prim_call h) = omega arith
-reads_begin (prim_paren h) = omega arith
-reads_begin (prim_choose a b c) = omega arith
-reads_begin (prim_case whens default) = omega arith
-reads_begin (prim_case_of x whens default) = omega arith
+reads_begin (primary_literal {t = t} {a = a} is) = omega (arith, literal_begins t a is)
+reads_begin (primary_field h) = omega (arith, field_begins h)
+reads_begin primary_call_none = omega arith
+reads_begin (primary_call h) = omega arith
+reads_begin (primary_paren h) = omega arith
+reads_begin (primary_choose a b c) = omega arith
+reads_begin (primary_case whens default) = omega arith
+reads_begin (primary_case_of x whens default) = omega arith
 
 exprs_begin : {ts rest : Forms} {args : List Expr} → AreExprs ts args rest → 1 ≤ begins_ahead ts
 exprs_begin (exprs_last h) = reads_begin h
@@ -260,7 +260,7 @@ exprs_begin (exprs_more h later) = reads_begin h
 
 -- ---- which rule a reader takes
 
-pub neg_plain : (most : ℕ) (inner : Forms → FoundPart Expr) (ts : Forms) → 4 ≤ begins_ahead ts → neg_at most inner ts ≡ comp_at most inner ts
+pub neg_plain : (most : ℕ) (inner : Forms → FoundPart Expr) (ts : Forms) → 4 ≤ begins_ahead ts → neg_at most inner ts ≡ comparison_at most inner ts
 unfolding neg_at
 neg_plain most inner (f.Keyword k.Not ∷ ts) h = absurd (omega (arith, h))
 neg_plain most inner ts h = refl
@@ -283,15 +283,15 @@ no_type (f.Keyword k.Null ∷ ts) h = refl
 no_type (f.Keyword word ∷ ts) h = absurd (omega (arith, h))
 no_type (t ∷ ts) h = refl
 
-prim_inside : {ts rest : Forms} {a : Expr} → ReadsExpr prim (f.Symbol s.OpenParen ∷ ts) a rest → 1 ≤ begins_ahead ts
-prim_inside (prim_literal h) = absurd (cc)
-prim_inside (prim_field h) = absurd (omega (arith, field_begins h))
-prim_inside (prim_paren h) = reads_begin h
-prim_inside (prim_choose a b c) = reads_begin a
+primary_inside : {ts rest : Forms} {a : Expr} → ReadsExpr primary (f.Symbol s.OpenParen ∷ ts) a rest → 1 ≤ begins_ahead ts
+primary_inside (primary_literal h) = absurd (cc)
+primary_inside (primary_field h) = absurd (omega (arith, field_begins h))
+primary_inside (primary_paren h) = reads_begin h
+primary_inside (primary_choose a b c) = reads_begin a
 
 post_inside : {ts rest : Forms} {a : Expr} → ReadsExpr post (f.Symbol s.OpenParen ∷ ts) a rest → begins_type ts ≡ false
-post_inside {ts = ts} (post_one h) = no_type ts (prim_inside h)
-post_inside {ts = ts} (post_more h steps) = no_type ts (prim_inside h)
+post_inside {ts = ts} (post_one h) = no_type ts (primary_inside h)
+post_inside {ts = ts} (post_more h steps) = no_type ts (primary_inside h)
 
 casted_of_post : (most : ℕ) (inner : Forms → FoundPart Expr) (ts : Forms) → ((behind : Forms) → ts ≡ f.Symbol s.OpenParen ∷ behind → begins_type behind ≡ false) → casted_at most inner ts ≡ post_at inner ts
 unfolding casted_at
@@ -317,12 +317,12 @@ pub casted_cast_at : (most : ℕ) (inner : Forms → FoundPart Expr) {ts rest : 
 unfolding casted_at
 casted_cast_at most inner h = rw (cast_word h) refl
 
-pub prim_of_literal : (inner : Forms → FoundPart Expr) (t : TokenForm) (ts : Forms) (a : Expr) → token_literal t ≡ Some a → prim_at inner (t ∷ ts) ≡ Some (a, ts)
-unfolding prim_at simple_at
-prim_of_literal inner (f.Ident text) ts a h = absurd (cc)
-prim_of_literal inner (f.Symbol s.OpenParen) ts a h = absurd (cc)
-prim_of_literal inner (f.Keyword k.Case) ts a h = absurd (cc)
-prim_of_literal inner t ts a h = ap (λ o. option_map_or (λ a. Some (a, ts)) o (option_map (λ p. (ex.Field p.0, p.1)) (field_ref_at (t ∷ ts)))) h
+pub primary_of_literal : (inner : Forms → FoundPart Expr) (t : TokenForm) (ts : Forms) (a : Expr) → token_literal t ≡ Some a → primary_at inner (t ∷ ts) ≡ Some (a, ts)
+unfolding primary_at simple_at
+primary_of_literal inner (f.Ident text) ts a h = absurd (cc)
+primary_of_literal inner (f.Symbol s.OpenParen) ts a h = absurd (cc)
+primary_of_literal inner (f.Keyword k.Case) ts a h = absurd (cc)
+primary_of_literal inner t ts a h = ap (λ o. option_map_or (λ a. Some (a, ts)) o (option_map (λ p. (ex.Field p.0, p.1)) (field_ref_at (t ∷ ts)))) h
 
 no_literal : (t : TokenForm) → begins t ≡ 12 → token_literal t ≡ None
 no_literal (f.Int n) h = absurd (omega (arith, h))
@@ -338,19 +338,19 @@ simple_field : (t : TokenForm) (ts : Forms) → begins t ≡ 12 → simple_at (t
 unfolding simple_at
 simple_field t ts h = rw (no_literal t h) refl
 
-prim_simple : (inner : Forms → FoundPart Expr) (t : TokenForm) (ts : Forms) → begins t ≡ 12 → binds_ahead ts < 11 → prim_at inner (t ∷ ts) ≡ simple_at (t ∷ ts)
-unfolding prim_at
-prim_simple inner (f.Ident text) (f.Symbol s.OpenParen ∷ ts) h ends = absurd (omega (arith, ends))
-prim_simple inner (f.Symbol s.OpenParen) ts h ends = absurd (omega (arith, h))
-prim_simple inner (f.Keyword k.Case) ts h ends = absurd (omega (arith, h))
-prim_simple inner t ts h ends = refl
+primary_simple : (inner : Forms → FoundPart Expr) (t : TokenForm) (ts : Forms) → begins t ≡ 12 → binds_ahead ts < 11 → primary_at inner (t ∷ ts) ≡ simple_at (t ∷ ts)
+unfolding primary_at
+primary_simple inner (f.Ident text) (f.Symbol s.OpenParen ∷ ts) h ends = absurd (omega (arith, ends))
+primary_simple inner (f.Symbol s.OpenParen) ts h ends = absurd (omega (arith, h))
+primary_simple inner (f.Keyword k.Case) ts h ends = absurd (omega (arith, h))
+primary_simple inner t ts h ends = refl
 
 -- a field is no call
-pub prim_of_field : (inner : Forms → FoundPart Expr) {ts rest : Forms} {r : FieldRef} → IsFieldRef ts r rest → binds_ahead rest < 11 → prim_at inner ts ≡ option_map (λ p. (ex.Field p.0, p.1)) (field_ref_at ts)
-prim_of_field inner {rest = rest} (by_name (part {t = t} {text = text} is)) ends = prim_simple inner t rest (part_begins t text is) ends ∙ simple_field t rest (part_begins t text is)
-prim_of_field inner (by_name (parts {t = t} {ts = ts} {text = text} is later)) ends =
-    prim_simple inner t (f.Symbol s.DoubleColon ∷ ts) (part_begins t text is) (omega arith) ∙ simple_field t (f.Symbol s.DoubleColon ∷ ts) (part_begins t text is)
-prim_of_field inner {rest = rest} (by_position {n = n}) ends = prim_simple inner (f.Position n) rest refl ends ∙ simple_field (f.Position n) rest refl
+pub primary_of_field : (inner : Forms → FoundPart Expr) {ts rest : Forms} {r : FieldRef} → IsFieldRef ts r rest → binds_ahead rest < 11 → primary_at inner ts ≡ option_map (λ p. (ex.Field p.0, p.1)) (field_ref_at ts)
+primary_of_field inner {rest = rest} (by_name (part {t = t} {text = text} is)) ends = primary_simple inner t rest (part_begins t text is) ends ∙ simple_field t rest (part_begins t text is)
+primary_of_field inner (by_name (parts {t = t} {ts = ts} {text = text} is later)) ends =
+    primary_simple inner t (f.Symbol s.DoubleColon ∷ ts) (part_begins t text is) (omega arith) ∙ simple_field t (f.Symbol s.DoubleColon ∷ ts) (part_begins t text is)
+primary_of_field inner {rest = rest} (by_position {n = n}) ends = primary_simple inner (f.Position n) rest refl ends ∙ simple_field (f.Position n) rest refl
 
 call_plain : (inner : Forms → FoundPart Expr) (text : List ℕ) (ts : Forms) → 1 ≤ begins_ahead ts
     → call_at inner text ts ≡ option_and_then (λ args. option_and_then (λ rest. Some (ex.Call text args.0, rest)) (close_paren args.1)) (listed inner ts)

@@ -13,7 +13,7 @@ use Rattle.pig_syntax.specs.declared.trees.PostStep.TheVariants as step
 use Rattle.pig_value.specs.declared.operators.Rel.{Rel}
 use Rattle.pig_exprs.specs.declared.chains.Chain.{Chain}
 use Rattle.pig_exprs.specs.declared.chains.Chain.TheVariants as chain
-use Rattle.pig_exprs.specs.Grammar.{Forms, scalar_of, Level, expr, conj, sum, term, chain_op, rel_of, token_literal, chain_of, is_among, choice_of, compared}
+use Rattle.pig_exprs.specs.Grammar.{Forms, scalar_of, Level, expr, and_chain, sum, term, chain_op, rel_of, token_literal, chain_of, is_among, choice_of, compared}
 use Rattle.pig_exprs.specs.Reader.{FoundPart, Turn, repeat, comma_turn, listed, after_symbol, after_word, close_paren, field_ref_at, selection_at, cast_type_with, type_at}
 use Rattle.pig_value.specs.Results.{◌>>=◌}
 
@@ -22,7 +22,7 @@ use Rattle.pig_value.specs.Results.{◌>>=◌}
 -- the rule that a chain stands for
 abbrev pub level_of : Chain → Level
 level_of chain.Or = expr
-level_of chain.And = conj
+level_of chain.And = and_chain
 level_of chain.Sum = sum
 level_of chain.Product = term
 
@@ -129,15 +129,15 @@ case_at inner ts = case_of_at inner ts
 
 -- ---- operands
 
-unfoldable pub prim_at : (Forms → FoundPart Expr) → Forms → FoundPart Expr
-prim_at inner (f.Ident name ∷ f.Symbol s.OpenParen ∷ ts) = call_at inner name ts
-prim_at inner (f.Keyword k.Case ∷ ts) = case_at inner ts
-prim_at inner (f.Symbol s.OpenParen ∷ ts) = option_and_then (λ p. paren_after inner p.0 p.1) (inner ts)
-prim_at inner ts = simple_at ts
+unfoldable pub primary_at : (Forms → FoundPart Expr) → Forms → FoundPart Expr
+primary_at inner (f.Ident name ∷ f.Symbol s.OpenParen ∷ ts) = call_at inner name ts
+primary_at inner (f.Keyword k.Case ∷ ts) = case_at inner ts
+primary_at inner (f.Symbol s.OpenParen ∷ ts) = option_and_then (λ p. paren_after inner p.0 p.1) (inner ts)
+primary_at inner ts = simple_at ts
 
 unfoldable pub post_at : (Forms → FoundPart Expr) → Forms → FoundPart Expr
 post_at inner ts = do
-  first ← prim_at inner ts
+  first ← primary_at inner ts
   steps ← repeat post_turn (length first.1) [] first.1
   Some (post_of first.0 steps.0, steps.1)
 
@@ -199,24 +199,24 @@ among_at inner a ts = do
   Some (is_among a first.0 others.0, rest)
 
 -- what may follow the first operand of a comparison
-unfoldable pub comp_after : ℕ → (Forms → FoundPart Expr) → Expr → Forms → FoundPart Expr
-comp_after most inner a ts =
+unfoldable pub comparison_after : ℕ → (Forms → FoundPart Expr) → Expr → Forms → FoundPart Expr
+comparison_after most inner a ts =
     option_map_or (λ n. Some (e.IsNull a n.0, n.1)) (null_test ts)
     (option_map_or (λ r. option_map (λ p. (e.Compare r.0 a p.0, p.1)) (sum_at most inner r.1)) (rel_ahead ts)
     (option_map_or (λ behind. among_at inner a behind) (in_ahead ts) (Some (a, ts))))
 
-unfoldable pub comp_at : ℕ → (Forms → FoundPart Expr) → Forms → FoundPart Expr
-comp_at most inner ts = option_and_then (λ p. comp_after most inner p.0 p.1) (sum_at most inner ts)
+unfoldable pub comparison_at : ℕ → (Forms → FoundPart Expr) → Forms → FoundPart Expr
+comparison_at most inner ts = option_and_then (λ p. comparison_after most inner p.0 p.1) (sum_at most inner ts)
 
 unfoldable pub neg_at : ℕ → (Forms → FoundPart Expr) → Forms → FoundPart Expr
-neg_at most inner (f.Keyword k.Not ∷ ts) = option_map (λ p. (e.Not p.0, p.1)) (comp_at most inner ts)
-neg_at most inner ts = comp_at most inner ts
+neg_at most inner (f.Keyword k.Not ∷ ts) = option_map (λ p. (e.Not p.0, p.1)) (comparison_at most inner ts)
+neg_at most inner ts = comparison_at most inner ts
 
-unfoldable pub conj_at : ℕ → (Forms → FoundPart Expr) → Forms → FoundPart Expr
-conj_at most inner ts = chain_at conj (neg_at most inner) ts
+unfoldable pub and_chain_at : ℕ → (Forms → FoundPart Expr) → Forms → FoundPart Expr
+and_chain_at most inner ts = chain_at and_chain (neg_at most inner) ts
 
 unfoldable pub expr_with : ℕ → (Forms → FoundPart Expr) → Forms → FoundPart Expr
-expr_with most inner ts = chain_at expr (conj_at most inner) ts
+expr_with most inner ts = chain_at expr (and_chain_at most inner) ts
 
 -- an expression whose brackets nest less deep than this
 unfoldable pub expr_at : ℕ → ℕ → Forms → FoundPart Expr

@@ -123,7 +123,7 @@ pub data IsCastType : Forms → TypeTree → Forms → Type 0 where
 
 -- the rules of expressions, from the one that binds least
 pub data Level : Type 0 where
-  expr conj neg comp sum term unary casted post prim : Level
+  expr and_chain neg comparison sum term unary casted post primary : Level
 
 -- relop = '==' | '!=' | '<' | '<=' | '>' | '>='
 abbrev pub rel_of : TokenForm → Option Rel
@@ -138,7 +138,7 @@ rel_of _ = None
 -- the operators of the chains: OR, AND, '+' and '-', '*' and '/' and '%'
 abbrev pub chain_op : Level → TokenForm → Option ChainOp
 chain_op expr (f.Keyword k.Or) = Some op.Or
-chain_op conj (f.Keyword k.And) = Some op.And
+chain_op and_chain (f.Keyword k.And) = Some op.And
 chain_op sum (f.Symbol s.Plus) = Some op.Add
 chain_op sum (f.Symbol s.Minus) = Some op.Sub
 chain_op term (f.Symbol s.Star) = Some op.Mul
@@ -189,22 +189,22 @@ compared x whens = map (λ w. (equals x w.0, w.1)) whens
 
 mutual
   pub data ReadsExpr : Level → Forms → Expr → Forms → Type 0 where
-    -- expr = conj { OR conj }
-    expr_one : {ts rest : Forms} {a : Expr} → ReadsExpr conj ts a rest → ReadsExpr expr ts a rest
-    expr_more : {ts mid rest : Forms} {a : Expr} {l : Link} {ls : List Link} → ReadsExpr conj ts a mid → Links expr conj mid (l ∷ ls) rest → ReadsExpr expr ts (e.Chain a (l ∷ ls)) rest
-    -- conj = neg { AND neg }
-    conj_one : {ts rest : Forms} {a : Expr} → ReadsExpr neg ts a rest → ReadsExpr conj ts a rest
-    conj_more : {ts mid rest : Forms} {a : Expr} {l : Link} {ls : List Link} → ReadsExpr neg ts a mid → Links conj neg mid (l ∷ ls) rest → ReadsExpr conj ts (e.Chain a (l ∷ ls)) rest
-    -- neg = [ NOT ] comp
-    neg_none : {ts rest : Forms} {a : Expr} → ReadsExpr comp ts a rest → ReadsExpr neg ts a rest
-    neg_not : {ts rest : Forms} {a : Expr} → ReadsExpr comp ts a rest → ReadsExpr neg (f.Keyword k.Not ∷ ts) (e.Not a) rest
-    -- comp = sum [ relop sum ] | sum IS [ NOT ] NULL | sum IN '(' expr { ',' expr } ')'
-    comp_one : {ts rest : Forms} {a : Expr} → ReadsExpr sum ts a rest → ReadsExpr comp ts a rest
-    comp_rel : {ts mid rest : Forms} {t : TokenForm} {r : Rel} {a b : Expr} → ReadsExpr sum ts a (t ∷ mid) → rel_of t ≡ Some r → ReadsExpr sum mid b rest → ReadsExpr comp ts (e.Compare r a b) rest
-    comp_null : {ts rest : Forms} {a : Expr} → ReadsExpr sum ts a (f.Keyword k.Is ∷ f.Keyword k.Null ∷ rest) → ReadsExpr comp ts (e.IsNull a false) rest
-    comp_not_null : {ts rest : Forms} {a : Expr} → ReadsExpr sum ts a (f.Keyword k.Is ∷ f.Keyword k.Not ∷ f.Keyword k.Null ∷ rest) → ReadsExpr comp ts (e.IsNull a true) rest
-    comp_in : {ts mid rest : Forms} {a v : Expr} {others : List Expr} → ReadsExpr sum ts a (f.Keyword k.In ∷ f.Symbol s.OpenParen ∷ mid) → AreExprs mid (v ∷ others) (f.Symbol s.CloseParen ∷ rest)
-        → ReadsExpr comp ts (is_among a v others) rest
+    -- expr = and_chain { OR and_chain }
+    expr_one : {ts rest : Forms} {a : Expr} → ReadsExpr and_chain ts a rest → ReadsExpr expr ts a rest
+    expr_more : {ts mid rest : Forms} {a : Expr} {l : Link} {ls : List Link} → ReadsExpr and_chain ts a mid → Links expr and_chain mid (l ∷ ls) rest → ReadsExpr expr ts (e.Chain a (l ∷ ls)) rest
+    -- and_chain = neg { AND neg }
+    and_chain_one : {ts rest : Forms} {a : Expr} → ReadsExpr neg ts a rest → ReadsExpr and_chain ts a rest
+    and_chain_more : {ts mid rest : Forms} {a : Expr} {l : Link} {ls : List Link} → ReadsExpr neg ts a mid → Links and_chain neg mid (l ∷ ls) rest → ReadsExpr and_chain ts (e.Chain a (l ∷ ls)) rest
+    -- neg = [ NOT ] comparison
+    neg_none : {ts rest : Forms} {a : Expr} → ReadsExpr comparison ts a rest → ReadsExpr neg ts a rest
+    neg_not : {ts rest : Forms} {a : Expr} → ReadsExpr comparison ts a rest → ReadsExpr neg (f.Keyword k.Not ∷ ts) (e.Not a) rest
+    -- comparison = sum [ relop sum ] | sum IS [ NOT ] NULL | sum IN '(' expr { ',' expr } ')'
+    comparison_one : {ts rest : Forms} {a : Expr} → ReadsExpr sum ts a rest → ReadsExpr comparison ts a rest
+    comparison_rel : {ts mid rest : Forms} {t : TokenForm} {r : Rel} {a b : Expr} → ReadsExpr sum ts a (t ∷ mid) → rel_of t ≡ Some r → ReadsExpr sum mid b rest → ReadsExpr comparison ts (e.Compare r a b) rest
+    comparison_null : {ts rest : Forms} {a : Expr} → ReadsExpr sum ts a (f.Keyword k.Is ∷ f.Keyword k.Null ∷ rest) → ReadsExpr comparison ts (e.IsNull a false) rest
+    comparison_not_null : {ts rest : Forms} {a : Expr} → ReadsExpr sum ts a (f.Keyword k.Is ∷ f.Keyword k.Not ∷ f.Keyword k.Null ∷ rest) → ReadsExpr comparison ts (e.IsNull a true) rest
+    comparison_in : {ts mid rest : Forms} {a v : Expr} {others : List Expr} → ReadsExpr sum ts a (f.Keyword k.In ∷ f.Symbol s.OpenParen ∷ mid) → AreExprs mid (v ∷ others) (f.Symbol s.CloseParen ∷ rest)
+        → ReadsExpr comparison ts (is_among a v others) rest
     -- sum = term { ( '+' | '-' ) term }
     sum_one : {ts rest : Forms} {a : Expr} → ReadsExpr term ts a rest → ReadsExpr sum ts a rest
     sum_more : {ts mid rest : Forms} {a : Expr} {l : Link} {ls : List Link} → ReadsExpr term ts a mid → Links sum term mid (l ∷ ls) rest → ReadsExpr sum ts (e.Chain a (l ∷ ls)) rest
@@ -217,24 +217,24 @@ mutual
     -- casted = [ '(' ctype ')' ] post
     casted_none : {ts rest : Forms} {a : Expr} → ReadsExpr post ts a rest → ReadsExpr casted ts a rest
     casted_cast : {ts mid rest : Forms} {type : TypeTree} {a : Expr} → IsCastType ts type (f.Symbol s.CloseParen ∷ mid) → ReadsExpr post mid a rest → ReadsExpr casted (f.Symbol s.OpenParen ∷ ts) (e.Cast type a) rest
-    -- post = prim { '.' sel | '#' Text }
-    post_one : {ts rest : Forms} {a : Expr} → ReadsExpr prim ts a rest → ReadsExpr post ts a rest
-    post_more : {ts mid rest : Forms} {a : Expr} {p : PostStep} {ps : List PostStep} → ReadsExpr prim ts a mid → ArePostSteps mid (p ∷ ps) rest → ReadsExpr post ts (e.Post a (p ∷ ps)) rest
-    -- prim = Int | Long | Float | Text | TRUE | FALSE | NULL | fref
+    -- post = primary { '.' sel | '#' Text }
+    post_one : {ts rest : Forms} {a : Expr} → ReadsExpr primary ts a rest → ReadsExpr post ts a rest
+    post_more : {ts mid rest : Forms} {a : Expr} {p : PostStep} {ps : List PostStep} → ReadsExpr primary ts a mid → ArePostSteps mid (p ∷ ps) rest → ReadsExpr post ts (e.Post a (p ∷ ps)) rest
+    -- primary = Int | Long | Float | Text | TRUE | FALSE | NULL | fref
     --      | Ident '(' [ expr { ',' expr } ] ')'
     --      | '(' expr ')' | '(' expr '?' expr ':' expr ')'
     --      | CASE [ expr ] WHEN expr THEN expr { WHEN expr THEN expr } [ ELSE expr ] END
-    prim_literal : {ts : Forms} {t : TokenForm} {a : Expr} → token_literal t ≡ Some a → ReadsExpr prim (t ∷ ts) a ts
-    prim_field : {ts rest : Forms} {r : FieldRef} → IsFieldRef ts r rest → ReadsExpr prim ts (e.Field r) rest
-    prim_call_none : {ts : Forms} {name : List ℕ} → ReadsExpr prim (f.Ident name ∷ f.Symbol s.OpenParen ∷ f.Symbol s.CloseParen ∷ ts) (e.Call name []) ts
-    prim_call : {ts rest : Forms} {name : List ℕ} {args : List Expr} → AreExprs ts args (f.Symbol s.CloseParen ∷ rest) → ReadsExpr prim (f.Ident name ∷ f.Symbol s.OpenParen ∷ ts) (e.Call name args) rest
-    prim_paren : {ts rest : Forms} {a : Expr} → ReadsExpr expr ts a (f.Symbol s.CloseParen ∷ rest) → ReadsExpr prim (f.Symbol s.OpenParen ∷ ts) a rest
-    prim_choose : {ts left right rest : Forms} {a b c : Expr} → ReadsExpr expr ts a (f.Symbol s.Question ∷ left) → ReadsExpr expr left b (f.Symbol s.Colon ∷ right)
-        → ReadsExpr expr right c (f.Symbol s.CloseParen ∷ rest) → ReadsExpr prim (f.Symbol s.OpenParen ∷ ts) (e.Choose a b c) rest
-    prim_case : {ts mid rest : Forms} {w : Expr × Expr} {others : List (Expr × Expr)} {default : Expr} → AreWhens ts (w ∷ others) mid → IsLast mid default rest
-        → ReadsExpr prim (f.Keyword k.Case ∷ ts) (choice_of (w ∷ others) default) rest
-    prim_case_of : {ts mid behind rest : Forms} {x : Expr} {w : Expr × Expr} {others : List (Expr × Expr)} {default : Expr} → ReadsExpr expr ts x mid → AreWhens mid (w ∷ others) behind
-        → IsLast behind default rest → ReadsExpr prim (f.Keyword k.Case ∷ ts) (choice_of (compared x (w ∷ others)) default) rest
+    primary_literal : {ts : Forms} {t : TokenForm} {a : Expr} → token_literal t ≡ Some a → ReadsExpr primary (t ∷ ts) a ts
+    primary_field : {ts rest : Forms} {r : FieldRef} → IsFieldRef ts r rest → ReadsExpr primary ts (e.Field r) rest
+    primary_call_none : {ts : Forms} {name : List ℕ} → ReadsExpr primary (f.Ident name ∷ f.Symbol s.OpenParen ∷ f.Symbol s.CloseParen ∷ ts) (e.Call name []) ts
+    primary_call : {ts rest : Forms} {name : List ℕ} {args : List Expr} → AreExprs ts args (f.Symbol s.CloseParen ∷ rest) → ReadsExpr primary (f.Ident name ∷ f.Symbol s.OpenParen ∷ ts) (e.Call name args) rest
+    primary_paren : {ts rest : Forms} {a : Expr} → ReadsExpr expr ts a (f.Symbol s.CloseParen ∷ rest) → ReadsExpr primary (f.Symbol s.OpenParen ∷ ts) a rest
+    primary_choose : {ts left right rest : Forms} {a b c : Expr} → ReadsExpr expr ts a (f.Symbol s.Question ∷ left) → ReadsExpr expr left b (f.Symbol s.Colon ∷ right)
+        → ReadsExpr expr right c (f.Symbol s.CloseParen ∷ rest) → ReadsExpr primary (f.Symbol s.OpenParen ∷ ts) (e.Choose a b c) rest
+    primary_case : {ts mid rest : Forms} {w : Expr × Expr} {others : List (Expr × Expr)} {default : Expr} → AreWhens ts (w ∷ others) mid → IsLast mid default rest
+        → ReadsExpr primary (f.Keyword k.Case ∷ ts) (choice_of (w ∷ others) default) rest
+    primary_case_of : {ts mid behind rest : Forms} {x : Expr} {w : Expr × Expr} {others : List (Expr × Expr)} {default : Expr} → ReadsExpr expr ts x mid → AreWhens mid (w ∷ others) behind
+        → IsLast behind default rest → ReadsExpr primary (f.Keyword k.Case ∷ ts) (choice_of (compared x (w ∷ others)) default) rest
 
   -- { WHEN expr THEN expr }
   pub data AreWhens : Forms → List (Expr × Expr) → Forms → Type 0 where

@@ -3,7 +3,7 @@ ghost use Rattle.pig_exprs.specs.declared.exprs.TheConstants.{MOST_NESTED};
 ghost use Rattle.pig_exprs.specs.Grammar.{Forms};
 ghost use Rattle.pig_exprs.specs.Nests.{NestsWithin};
 ghost use Rattle.pig_exprs.specs.Reader.{forms, Gives, GivesBeside};
-ghost use Rattle.pig_exprs.specs.ExprReader.{both_at, paren_after, call_at, case_bare_at, case_of_at, case_at, prim_at, post_at, cast_at, casted_at, unary_at, term_at, sum_at, among_at, comp_after, comp_at, neg_at, conj_at, expr_with, expr_at};
+ghost use Rattle.pig_exprs.specs.ExprReader.{both_at, paren_after, call_at, case_bare_at, case_of_at, case_at, primary_at, post_at, cast_at, casted_at, unary_at, term_at, sum_at, among_at, comparison_after, comparison_at, neg_at, and_chain_at, expr_with, expr_at};
 
 use crate::cases::{Cases, Operand, choice};
 use crate::chains::{Chain, chained};
@@ -66,10 +66,10 @@ impl<R: Rule<Tree = Expr>> Rule for Conjunctions<'_, '_, R> {
 
     ghost ready = { λ r. R.ready r.grammar.now.inner };
 
-    ghost finds = { λ r. conj_at MOST_NESTED (R.finds r.grammar.now.inner) };
+    ghost finds = { λ r. and_chain_at MOST_NESTED (R.finds r.grammar.now.inner) };
 
     fn read<'a>(&self, tokens: &'a [Token]) -> Result<(Expr, &'a [Token]), ParseFault> {
-        self.grammar.conj(tokens)
+        self.grammar.and_chain(tokens)
     }
 }
 
@@ -262,10 +262,10 @@ impl<R: Rule<Tree = Expr>> Grammar<'_, R> {
     }
 
     // A literal, a field, a call, a CASE, or an expression or a choice in parentheses.
-    #[tactic(auto, unfolding(crate::specs::ExprReader::prim_at))]
-    fn prim<'a>(&self, tokens: &'a [Token]) -> Result<(Expr, &'a [Token]), ParseFault>
+    #[tactic(auto, unfolding(crate::specs::ExprReader::primary_at))]
+    fn primary<'a>(&self, tokens: &'a [Token]) -> Result<(Expr, &'a [Token]), ParseFault>
         requires { R.ready self.now.inner }
-        ensures { Gives (prim_at (R.finds self.now.inner) (forms tokens.now)) result }
+        ensures { Gives (primary_at (R.finds self.now.inner) (forms tokens.now)) result }
     {
         match tokens {
             [form!(Ident(name)), symbol!(OpenParen), rest @ ..] => self.call(name, rest),
@@ -284,7 +284,7 @@ impl<R: Rule<Tree = Expr>> Grammar<'_, R> {
         requires { R.ready self.now.inner }
         ensures { Gives (post_at (R.finds self.now.inner) (forms tokens.now)) result }
     {
-        let (first, rest) = self.prim(tokens)?;
+        let (first, rest) = self.primary(tokens)?;
         let stepping = Stepping {
             alloc: self.alloc,
             limits: self.limits,
@@ -432,8 +432,8 @@ impl<R: Rule<Tree = Expr>> Grammar<'_, R> {
     }
 
     // What stands behind the first operand of a comparison, which was read from `read`; or nothing.
-    #[tactic(auto, unfolding(crate::specs::ExprReader::comp_after))]
-    fn comp_after<'a>(
+    #[tactic(auto, unfolding(crate::specs::ExprReader::comparison_after))]
+    fn comparison_after<'a>(
         &self,
         a: Expr,
         read: &[Token],
@@ -443,7 +443,7 @@ impl<R: Rule<Tree = Expr>> Grammar<'_, R> {
         requires read { option_map (λ p. p.0)
             (sum_at MOST_NESTED (R.finds self.now.inner) (forms read.now)) ≡ Some a }
         ensures { Gives
-            (comp_after MOST_NESTED (R.finds self.now.inner) a (forms tokens.now)) result }
+            (comparison_after MOST_NESTED (R.finds self.now.inner) a (forms tokens.now)) result }
     {
         match null_test(tokens) {
             Some((not, rest)) => {
@@ -465,13 +465,14 @@ impl<R: Rule<Tree = Expr>> Grammar<'_, R> {
     }
 
     // A comparison or a test for null.
-    #[tactic(auto, unfolding(crate::specs::ExprReader::comp_at))]
-    fn comp<'a>(&self, tokens: &'a [Token]) -> Result<(Expr, &'a [Token]), ParseFault>
+    #[tactic(auto, unfolding(crate::specs::ExprReader::comparison_at))]
+    fn comparison<'a>(&self, tokens: &'a [Token]) -> Result<(Expr, &'a [Token]), ParseFault>
         requires { R.ready self.now.inner }
-        ensures { Gives (comp_at MOST_NESTED (R.finds self.now.inner) (forms tokens.now)) result }
+        ensures { Gives
+            (comparison_at MOST_NESTED (R.finds self.now.inner) (forms tokens.now)) result }
     {
         let (a, rest) = self.sum(tokens)?;
-        self.comp_after(a, tokens, rest)
+        self.comparison_after(a, tokens, rest)
     }
 
     // A comparison with NOT before it, or without.
@@ -483,19 +484,20 @@ impl<R: Rule<Tree = Expr>> Grammar<'_, R> {
         match tokens {
             [word!(Not), rest @ ..] => {
                 self.limits.node();
-                let (a, rest) = self.comp(rest)?;
+                let (a, rest) = self.comparison(rest)?;
                 let a = Boxed::new(self.alloc, a)?;
                 Ok((Expr::Not(a), rest))
             }
-            _ => self.comp(tokens),
+            _ => self.comparison(tokens),
         }
     }
 
     // Operands of AND.
-    #[tactic(auto, unfolding(crate::specs::ExprReader::conj_at))]
-    fn conj<'a>(&self, tokens: &'a [Token]) -> Result<(Expr, &'a [Token]), ParseFault>
+    #[tactic(auto, unfolding(crate::specs::ExprReader::and_chain_at))]
+    fn and_chain<'a>(&self, tokens: &'a [Token]) -> Result<(Expr, &'a [Token]), ParseFault>
         requires { R.ready self.now.inner }
-        ensures { Gives (conj_at MOST_NESTED (R.finds self.now.inner) (forms tokens.now)) result }
+        ensures { Gives
+            (and_chain_at MOST_NESTED (R.finds self.now.inner) (forms tokens.now)) result }
     {
         chained(
             self.alloc,
@@ -508,7 +510,7 @@ impl<R: Rule<Tree = Expr>> Grammar<'_, R> {
 
     // Operands of OR.
     #[tactic(auto, unfolding(crate::specs::ExprReader::expr_with))]
-    fn disj<'a>(&self, tokens: &'a [Token]) -> Result<(Expr, &'a [Token]), ParseFault>
+    fn or_chain<'a>(&self, tokens: &'a [Token]) -> Result<(Expr, &'a [Token]), ParseFault>
         requires { R.ready self.now.inner }
         ensures { Gives (expr_with MOST_NESTED (R.finds self.now.inner) (forms tokens.now)) result }
     {
@@ -545,7 +547,7 @@ fn expr<'a>(
             function: expr,
         },
     }
-    .disj(tokens)
+    .or_chain(tokens)
 }
 
 /// An expression. Its steps that no bracket bounds, and the copies that it makes, are counted by the limits.

@@ -28,7 +28,7 @@ use Rattle.pig_syntax.specs.declared.trees.Step.{Step}
 use Rattle.pig_exprs.specs.Grammar.{Forms, Listed, last, more, IsSchema, schema, field_bare, field_typed, expr, ReadsExpr}
 use Rattle.pig_parser.specs.Statements.{AreKeys, one_key, several_keys, IsDir, no_dir, asc, desc, IsOrderField, order_field, AreOrderKeys, all_fields, order_fields, IsTextToken, text, IsIdent, ident, IsFunc, func_bare, func_args, IsUsingFunc, no_func, using_func, IsUsingText, no_text, using_text, count_of, AreNames, one_name, typed_name, several_names, IsNaming, no_naming, naming, IsItem, all_items, flattened, value, IsBagRef, bag_field, bag_selection, IsNested, nested_filter, nested_distinct, nested_order, nested_limit, nested_take, AreSteps, no_step, step, IsGroupInput, input_bare, input_inner, input_outer, IsJoinInput, join_input, side_of, IsSide, no_side, side_bare, side_outer}
 use Rattle.pig_exprs.specs.Reader.{FoundPart, comma_turn, listed, after_symbol, after_word, close_paren, part_turn, schema_at, type_at}
-use Rattle.pig_exprs.specs.ExprReader.{chain_at, paren_after, prim_at, post_at, begins_type, casted_at, unary_at, term_at, sum_at, comp_at, neg_at, conj_at, expr_with, expr_at}
+use Rattle.pig_exprs.specs.ExprReader.{chain_at, paren_after, primary_at, post_at, begins_type, casted_at, unary_at, term_at, sum_at, comparison_at, neg_at, and_chain_at, expr_with, expr_at}
 use Rattle.pig_parser.specs.StatementReader.{several, key_list_at, keys_at, dir_at, order_field_at, order_keys_at, text_at, ident_at, func_at, using_func_at, using_text_at, count_at, names_at, naming_at, flattened_at, value_at, item_at, bag_selection_at, bag_ref_at, nested_filter_at, nested_order_at, nested_limit_at, nested_at, step_turn, inner_at, group_input_at, join_input_at, after_outer, side_at}
 use Rattle.pig_exprs.proofs.Fits.{Fits}
 use Rattle.pig_exprs.proofs.Finds.{Finds, FindsMaybe, FindsRun, stops, goes, finds_map, finds_more, finds_listed, listed_finds}
@@ -48,7 +48,7 @@ no_comma member ts h = refl
 -- expressions with commas between them are no expression in parentheses
 not_one : (most : ℕ) (inner : Forms → FoundPart Expr) (ts mid : Forms) (a : Expr) → inner ts ≡ Some (a, f.Symbol s.Comma ∷ mid) → begins_type ts ≡ false
     → expr_with most inner (f.Symbol s.OpenParen ∷ ts) ≡ None
-unfolding chain_at paren_after prim_at post_at casted_at unary_at term_at sum_at comp_at neg_at conj_at expr_with
+unfolding chain_at paren_after primary_at post_at casted_at unary_at term_at sum_at comparison_at neg_at and_chain_at expr_with
 not_one most inner ts mid a h plain = rw (plain, h) refl
 
 several_not_one : {ts mid : Forms} {a : Expr} → ReadsExpr expr ts a (f.Symbol s.Comma ∷ mid) → (d most : ℕ) → Fits ts d → suc d < most → expr_at most most (f.Symbol s.OpenParen ∷ ts) ≡ None

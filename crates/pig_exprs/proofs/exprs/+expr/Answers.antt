@@ -7,4 +7,4 @@ use Rattle.pig_exprs.proofs.exprs.+expr.Goals as goal
 
 pub returns : goal.returns
 unfolding expr_at
-returns t c = rw (deeper (λ n. expr_at MOST_NESTED n (forms c.args.tokens.now)) c.args.depth (omega arith)) c.disj.ensures
+returns t c = rw (deeper (λ n. expr_at MOST_NESTED n (forms c.args.tokens.now)) c.args.depth (omega arith)) c.or_chain.ensures
