@@ -1,5 +1,5 @@
 ghost use Rattle.std.specs.Prelude.{◌≡◌, [], ◌∷◌, IfOk, IfSome, Some, length, map, option_map};
-ghost use Rattle.pig_exprs.specs.declared.exprs.TheConstants.{MOST_NESTED};
+ghost use Rattle.pig_exprs.specs.declared.limits.TheConstants.{MOST_NESTED};
 ghost use Rattle.pig_exprs.specs.Grammar.{Forms};
 ghost use Rattle.pig_exprs.specs.Nests.{NestsWithin};
 ghost use Rattle.pig_exprs.specs.Reader.{forms, Gives, GivesBeside};
@@ -8,7 +8,7 @@ ghost use Rattle.pig_exprs.specs.ExprReader.{both_at, paren_after, call_at, case
 use crate::cases::{Cases, Operand, choice};
 use crate::chains::{Chain, chained};
 use crate::comparing::{comparison_ahead, in_ahead, null_test};
-use crate::limits::Limits;
+use crate::limits::{Limits, MOST_NESTED};
 use crate::operands::{Stepping, begins_type, simple};
 use crate::reading::{
     ParseFault, Rule, before, behind_symbol, beside, close_paren, closed, listed, other_members,
@@ -51,9 +51,6 @@ struct Grammar<'l, R> {
     limits: &'l Limits,
     inner: R,
 }
-
-/// The types and expressions of a statement nest less deep than this.
-pub const MOST_NESTED: u32 = 65;
 
 // Operands of OR, as members of a list.
 #[derive(Drop)]

@@ -22,8 +22,8 @@ mod reading;
 mod trees;
 mod types;
 
-pub use exprs::{MOST_NESTED, expression};
-pub use limits::{Limits, MOST_COPIED, MOST_COPIED_BYTES, MOST_STEPS, TreeSize};
+pub use exprs::expression;
+pub use limits::{Limits, MOST_COPIED, MOST_COPIED_BYTES, MOST_NESTED, MOST_STEPS, TreeSize};
 pub use names::{FieldRefRule, field_ref, selection};
 pub use reading::{
     ParseFault, Rule, Turning, after_symbol, after_word, before, behind_symbol, behind_word,

@@ -1,6 +1,9 @@
 use std::alloc::AllocError;
 use std::cell::Cell;
 
+/// The types and expressions of a statement nest less deep than this.
+pub const MOST_NESTED: u32 = 65;
+
 /// At most this many steps of one expression may nest its tree without a bracket: projections, look-ups, and
 /// each WHEN of a CASE.
 pub const MOST_STEPS: u32 = 1_024;

@@ -6,7 +6,7 @@ use Rattle.pig_syntax.specs.declared.cutting.Piece.{Piece}
 use Rattle.pig_syntax.specs.declared.tokens.Token.{Token}
 use Rattle.pig_syntax.specs.declared.trees.Stmt.{Stmt}
 use Rattle.pig_syntax.specs.Cutting.{is_semicolon, piece_of}
-use Rattle.pig_exprs.specs.declared.exprs.TheConstants.{MOST_NESTED}
+use Rattle.pig_exprs.specs.declared.limits.TheConstants.{MOST_NESTED}
 use Rattle.pig_exprs.specs.declared.reading.ParseFault.{ParseFault}
 use Rattle.pig_exprs.specs.declared.reading.ParseFault.TheVariants as fault
 use Rattle.pig_parser.specs.Parsing.{IsShallow, GivesTree}

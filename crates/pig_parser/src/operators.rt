@@ -1,6 +1,6 @@
 ghost use Rattle.std.specs.Prelude.{◌≡◌, [], ◌∷◌, Some, IfOk, length, map};
 ghost use Rattle.pig_syntax.specs.declared.tokens.TokenForm.TheVariants as f;
-ghost use Rattle.pig_exprs.specs.declared.exprs.TheConstants.{MOST_NESTED};
+ghost use Rattle.pig_exprs.specs.declared.limits.TheConstants.{MOST_NESTED};
 ghost use Rattle.pig_exprs.specs.Grammar.{Forms};
 ghost use Rattle.pig_parser.specs.Statements.{side_of, rollup_of};
 ghost use Rattle.pig_exprs.specs.Reader.{forms, Gives};

@@ -1,5 +1,5 @@
 ghost use Rattle.std.specs.Prelude.{◌≡◌, [], ◌∷◌, Some, IfOk, length, map, option_map};
-ghost use Rattle.pig_exprs.specs.declared.exprs.TheConstants.{MOST_NESTED};
+ghost use Rattle.pig_exprs.specs.declared.limits.TheConstants.{MOST_NESTED};
 ghost use Rattle.pig_exprs.specs.Grammar.{Forms};
 ghost use Rattle.pig_parser.specs.Statements.{count_of};
 ghost use Rattle.pig_exprs.specs.Reader.{forms, Gives, GivesBeside};

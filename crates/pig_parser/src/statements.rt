@@ -1,5 +1,5 @@
 ghost use Rattle.std.specs.Prelude.{◌≡◌, [], ◌∷◌, Some, length, map};
-ghost use Rattle.pig_exprs.specs.declared.exprs.TheConstants.{MOST_NESTED};
+ghost use Rattle.pig_exprs.specs.declared.limits.TheConstants.{MOST_NESTED};
 ghost use Rattle.pig_exprs.specs.Grammar.{Forms};
 ghost use Rattle.pig_parser.specs.Statements.{is_unsupported_word};
 ghost use Rattle.pig_exprs.specs.Reader.{forms, Gives};

@@ -1,5 +1,5 @@
 use Rattle.std.proofs.Common.{arith}
-use Rattle.pig_exprs.specs.declared.exprs.TheConstants.{MOST_NESTED}
+use Rattle.pig_exprs.specs.declared.limits.TheConstants.{MOST_NESTED}
 use Rattle.pig_exprs.specs.Reader.{forms}
 use Rattle.pig_exprs.specs.ExprReader.{expr_at}
 use Rattle.pig_exprs.proofs.Turns.{deeper}
