@@ -27,10 +27,10 @@ cases_made inner {mid = mid} {behind = behind} {others = others} are same whens_
     let turns = subst (λ n. repeat (when_turn inner) n [] mid ≡ Some (others, behind)) are.most_is are.others_are in
     rw (are.first_is, turns, last, whens_are, same) refl
 
-pub cases_fail : (inner : Forms → FoundPart Expr) {ts mid behind : Forms} {first : Expr × Expr} {others : List (Expr × Expr)} {most : ℕ} (fault : ParseFault)
-    → AreRead inner ts mid behind first others most → GivesBeside {A = (Expr × Expr) × List (Expr × Expr)} (last_at inner behind) (Err fault) → Gives (cases_at inner ts) (Err fault)
+pub cases_fail : (inner : Forms → FoundPart Expr) {ts mid behind : Forms} {first : Expr × Expr} {others : List (Expr × Expr)} {most : ℕ} (kept : (Expr × Expr) × List (Expr × Expr)) (fault : ParseFault)
+    → AreRead inner ts mid behind first others most → GivesBeside kept (last_at inner behind) (Err fault) → Gives (cases_at inner ts) (Err fault)
 unfolding cases_at
-cases_fail inner {mid = mid} {behind = behind} {others = others} at.Off are last =
+cases_fail inner {mid = mid} {behind = behind} {others = others} kept at.Off are last =
     let turns = subst (λ n. repeat (when_turn inner) n [] mid ≡ Some (others, behind)) are.most_is are.others_are in
     rw (are.first_is, turns, last) refl
-cases_fail inner at.OutOfMemory are last = tt
+cases_fail inner kept at.OutOfMemory are last = tt

@@ -43,19 +43,19 @@ Gives found (Ok r) = found ≡ Some (r.0, forms r.1.now)
 Gives found (Err fault.Off) = found ≡ None
 Gives found (Err fault.OutOfMemory) = Unit {0}
 
--- the code gives what the reader finds, beside what is kept
-abbrev pub GivesBeside : {A B : Type 0} → FoundPart B
+-- the code gives what is kept, and beside it what the reader finds
+abbrev pub GivesBeside : {A B : Type 0} → A → FoundPart B
     → Result ((A × B) × Bor (List Token)) ParseFault → Type 0
-GivesBeside found (Ok r) = found ≡ Some (r.0.1, forms r.1.now)
-GivesBeside found (Err fault.Off) = found ≡ None
-GivesBeside found (Err fault.OutOfMemory) = Unit {0}
+GivesBeside kept found (Ok r) = (r.0.0 ≡ kept) × (found ≡ Some (r.0.1, forms r.1.now))
+GivesBeside kept found (Err fault.Off) = found ≡ None
+GivesBeside kept found (Err fault.OutOfMemory) = Unit {0}
 
--- the code gives the tokens that are left, behind what is kept
-abbrev pub GivesBehind : {A : Type 0} → Option Forms
+-- the code gives what is kept, and behind it the tokens that are left
+abbrev pub GivesBehind : {A : Type 0} → A → Option Forms
     → Result (A × Bor (List Token)) ParseFault → Type 0
-GivesBehind left (Ok r) = left ≡ Some (forms r.1.now)
-GivesBehind left (Err fault.Off) = left ≡ None
-GivesBehind left (Err fault.OutOfMemory) = ⊥
+GivesBehind kept left (Ok r) = (r.0 ≡ kept) × (left ≡ Some (forms r.1.now))
+GivesBehind kept left (Err fault.Off) = left ≡ None
+GivesBehind kept left (Err fault.OutOfMemory) = ⊥
 
 -- the code gives what the turn finds
 abbrev pub Turns : {A : Type 0} → Turn A → Result (Option (A × Bor (List Token))) ParseFault → Type 0

@@ -1,4 +1,4 @@
-ghost use Rattle.std.specs.Prelude.{◌≡◌, [], ◌∷◌, IfOk, IfSome, Some, length, map, option_map};
+ghost use Rattle.std.specs.Prelude.{◌≡◌, [], ◌∷◌, Some, length, map, option_map};
 ghost use Rattle.pig_exprs.specs.declared.limits.TheConstants.{MOST_NESTED};
 ghost use Rattle.pig_exprs.specs.Grammar.{Forms};
 ghost use Rattle.pig_exprs.specs.Nests.{NestsWithin};
@@ -151,8 +151,7 @@ impl<R: Rule<Tree = Expr>> Grammar<'_, R> {
         tokens: &'a [Token],
     ) -> Result<((K, (Expr, Expr)), &'a [Token]), ParseFault>
         requires { R.ready self.now.inner }
-        ensures kept { IfOk result (λ r. r.0.0 ≡ kept) }
-        ensures found { GivesBeside (both_at (R.finds self.now.inner) (forms tokens.now)) result }
+        ensures { GivesBeside kept (both_at (R.finds self.now.inner) (forms tokens.now)) result }
     {
         let (left, rest) = self.inner.read(tokens)?;
         let (left, rest) = behind_symbol(left, Symbol::Colon, rest)?;
@@ -299,8 +298,7 @@ impl<R: Rule<Tree = Expr>> Grammar<'_, R> {
         rest: &'a [Token],
     ) -> Result<((K, Boxed<Expr>), &'a [Token]), ParseFault>
         requires { R.ready self.now.inner }
-        ensures kept { IfOk result (λ r. r.0.0 ≡ kept) }
-        ensures found { GivesBeside (post_at (R.finds self.now.inner) (forms rest.now)) result }
+        ensures { GivesBeside kept (post_at (R.finds self.now.inner) (forms rest.now)) result }
     {
         let (a, rest) = self.post(rest)?;
         let a = Boxed::new(self.alloc, a)?;
@@ -393,8 +391,7 @@ impl<R: Rule<Tree = Expr>> Grammar<'_, R> {
         tokens: &'a [Token],
     ) -> Result<((K, Expr), &'a [Token]), ParseFault>
         requires { R.ready self.now.inner }
-        ensures kept { IfOk result (λ r. r.0.0 ≡ kept) }
-        ensures found { GivesBeside
+        ensures { GivesBeside kept
             (sum_at MOST_NESTED (R.finds self.now.inner) (forms tokens.now)) result }
     {
         let (sum, rest) = self.sum(tokens)?;

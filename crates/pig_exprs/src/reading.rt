@@ -204,8 +204,7 @@ pub fn behind_symbol<T: Drop>(
     symbol: Symbol,
     tokens: &[Token],
 ) -> Result<(T, &[Token]), ParseFault>
-    ensures kept { IfOk result (λ r. r.0 ≡ kept) }
-    ensures rest { GivesBehind (after_symbol symbol (forms tokens.now)) result }
+    ensures { GivesBehind kept (after_symbol symbol (forms tokens.now)) result }
 {
     let rest = after_symbol(symbol, tokens)?;
     Ok((kept, rest))
@@ -217,8 +216,7 @@ pub fn behind_word<T: Drop>(
     word: Keyword,
     tokens: &[Token],
 ) -> Result<(T, &[Token]), ParseFault>
-    ensures kept { IfOk result (λ r. r.0 ≡ kept) }
-    ensures rest { GivesBehind (after_word word (forms tokens.now)) result }
+    ensures { GivesBehind kept (after_word word (forms tokens.now)) result }
 {
     let rest = after_word(word, tokens)?;
     Ok((kept, rest))
@@ -236,8 +234,7 @@ pub fn close_paren(tokens: &[Token]) -> Result<&[Token], ParseFault>
 /// A reader of several parts hands on here what has to wait, so that it drops no tree itself: dropping one of
 /// any type is cheap to prove, and dropping a tree is not.
 pub fn closed<T: Drop>(kept: T, tokens: &[Token]) -> Result<(T, &[Token]), ParseFault>
-    ensures kept { IfOk result (λ r. r.0 ≡ kept) }
-    ensures rest { GivesBehind (close_paren (forms tokens.now)) result }
+    ensures { GivesBehind kept (close_paren (forms tokens.now)) result }
 {
     behind_symbol(kept, Symbol::CloseParen, tokens)
 }
@@ -249,8 +246,7 @@ pub fn beside<'a, T: Drop, R: Rule>(
     tokens: &'a [Token],
 ) -> Result<((T, R::Tree), &'a [Token]), ParseFault>
     requires { R.ready rule.now }
-    ensures kept { IfOk result (λ r. r.0.0 ≡ kept) }
-    ensures found { GivesBeside (R.finds rule.now (forms tokens.now)) result }
+    ensures { GivesBeside kept (R.finds rule.now (forms tokens.now)) result }
 {
     let (next, rest) = rule.read(tokens)?;
     Ok(((kept, next), rest))
@@ -264,8 +260,7 @@ pub fn before<'a, K: Drop, T: Turning>(
     tokens: &'a [Token],
 ) -> Result<((K, Seq<T::Tree>), &'a [Token]), ParseFault>
     requires { T.ready turning.now }
-    ensures kept { IfOk result (λ r. r.0.0 ≡ kept) }
-    ensures found { GivesBeside
+    ensures { GivesBeside kept
         (repeat (T.finds turning.now) (length tokens.now) found (forms tokens.now)) result }
 {
     let (elements, rest) = repeat(turning, found, tokens)?;
@@ -280,9 +275,8 @@ pub fn other_members<'a, K: Drop, R: Rule>(
     tokens: &'a [Token],
 ) -> Result<((K, Seq<R::Tree>), &'a [Token]), ParseFault>
     requires { R.ready rule.now }
-    ensures kept { IfOk result (λ r. r.0.0 ≡ kept) }
-    ensures found { GivesBeside (repeat
-        (comma_turn (R.finds rule.now)) (length tokens.now) [] (forms tokens.now)) result }
+    ensures { GivesBeside kept
+        (repeat (comma_turn (R.finds rule.now)) (length tokens.now) [] (forms tokens.now)) result }
 {
     before(kept, &Commas { rule }, Seq::new(alloc), tokens)
 }

@@ -1,4 +1,4 @@
-ghost use Rattle.std.specs.Prelude.{◌≡◌, [], ◌∷◌, IfOk, length, map};
+ghost use Rattle.std.specs.Prelude.{◌≡◌, [], ◌∷◌, length, map};
 ghost use Rattle.pig_exprs.specs.declared.limits.TheConstants.{MOST_NESTED};
 ghost use Rattle.pig_exprs.specs.Grammar.{Forms};
 ghost use Rattle.pig_exprs.specs.Reader.{forms, Gives, GivesBeside};
@@ -51,8 +51,7 @@ fn and_naming<K: Drop>(
     kept: K,
     tokens: &[Token],
 ) -> Result<((K, Option<AsNames>), &[Token]), ParseFault>
-    ensures kept { IfOk result (λ r. r.0.0 ≡ kept) }
-    ensures found { GivesBeside (naming_at MOST_NESTED (forms tokens.now)) result }
+    ensures { GivesBeside kept (naming_at MOST_NESTED (forms tokens.now)) result }
 {
     let (names, rest) = naming(alloc, tokens)?;
     Ok(((kept, names), rest))
@@ -138,8 +137,7 @@ fn bag_selection<K: Drop>(
     kept: K,
     tokens: &[Token],
 ) -> Result<((K, Option<PostStep>), &[Token]), ParseFault>
-    ensures kept { IfOk result (λ r. r.0.0 ≡ kept) }
-    ensures found { GivesBeside (bag_selection_at (forms tokens.now)) result }
+    ensures { GivesBeside kept (bag_selection_at (forms tokens.now)) result }
 {
     match tokens {
         [symbol!(Dot), rest @ ..] => {

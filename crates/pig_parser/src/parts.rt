@@ -1,4 +1,4 @@
-ghost use Rattle.std.specs.Prelude.{◌≡◌, [], ◌∷◌, Some, IfOk, length, map, option_map};
+ghost use Rattle.std.specs.Prelude.{◌≡◌, [], ◌∷◌, Some, length, map, option_map};
 ghost use Rattle.pig_exprs.specs.declared.limits.TheConstants.{MOST_NESTED};
 ghost use Rattle.pig_exprs.specs.Grammar.{Forms};
 ghost use Rattle.pig_parser.specs.Statements.{count_of};
@@ -130,8 +130,7 @@ pub fn order_keys<K: Drop>(
     kept: K,
     tokens: &[Token],
 ) -> Result<((K, OrderKeys), &[Token]), ParseFault>
-    ensures kept { IfOk result (λ r. r.0.0 ≡ kept) }
-    ensures found { GivesBeside (order_keys_at (forms tokens.now)) result }
+    ensures { GivesBeside kept (order_keys_at (forms tokens.now)) result }
 {
     match tokens {
         [symbol!(Star), rest @ ..] => {
@@ -274,8 +273,7 @@ fn count_of(token: &Token) -> Option<u64>
 // What is kept, and a count of tuples.
 #[tactic(auto, unfolding(crate::specs::StatementReader::count_at))]
 pub fn count<K: Drop>(kept: K, tokens: &[Token]) -> Result<((K, u64), &[Token]), ParseFault>
-    ensures kept { IfOk result (λ r. r.0.0 ≡ kept) }
-    ensures found { GivesBeside (count_at (forms tokens.now)) result }
+    ensures { GivesBeside kept (count_at (forms tokens.now)) result }
 {
     match tokens {
         [first, rest @ ..] => match count_of(first) {
