@@ -13,13 +13,13 @@ use std::alloc::Global;
 // The chains of expressions, by what stands between their operands.
 #[derive(Clone, Copy)]
 pub enum Chain {
-    /// OR
+    // OR
     Or,
-    /// AND
+    // AND
     And,
-    /// `+` and `-`
+    // `+` and `-`
     Sum,
-    /// `*`, `/` and `%`
+    // `*`, `/` and `%`
     Product,
 }
 
