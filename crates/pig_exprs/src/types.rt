@@ -217,6 +217,25 @@ impl<R: Rule<Tree = TypeTree>> TypeRules<R> {
     }
 }
 
+impl<F> TypeRules<TypesWithin<F>> {
+    // The rules of types by those whose brackets nest less deep than `depth`, and a function that reads these.
+    fn within(alloc: Global, depth: u32, function: F) -> Self
+        ensures { result ≡ record {
+          alloc = alloc;
+          inner = record { alloc = alloc; depth = depth; function = function };
+        } }
+    {
+        TypeRules {
+            alloc,
+            inner: TypesWithin {
+                alloc,
+                depth,
+                function,
+            },
+        }
+    }
+}
+
 // A type whose brackets nest less deep than `depth`.
 #[tactic(auto, unfolding(crate::specs::Reader::type_at))]
 fn type_tree(
@@ -229,15 +248,7 @@ fn type_tree(
     if depth == 0 {
         return Err(ParseFault::Off);
     }
-    TypeRules {
-        alloc,
-        inner: TypesWithin {
-            alloc,
-            depth: depth - 1,
-            function: type_tree,
-        },
-    }
-    .any_type(tokens)
+    TypeRules::within(alloc, depth - 1, type_tree).any_type(tokens)
 }
 
 // A type that begins with a word, as in a cast, whose brackets nest less deep than `depth`.
@@ -248,30 +259,14 @@ pub fn cast_type(
 ) -> Result<(TypeTree, &[Token]), ParseFault>
     ensures { Gives (cast_type_with (type_at depth) (forms tokens.now)) result }
 {
-    TypeRules {
-        alloc,
-        inner: TypesWithin {
-            alloc,
-            depth,
-            function: type_tree,
-        },
-    }
-    .cast_type(tokens)
+    TypeRules::within(alloc, depth, type_tree).cast_type(tokens)
 }
 
 /// Fields in parentheses, whose types' brackets nest less deep than `depth`.
 pub fn schema(alloc: Global, tokens: &[Token], depth: u32) -> Result<(Fields, &[Token]), ParseFault>
     ensures { Gives (schema_at (type_at depth) (forms tokens.now)) result }
 {
-    TypeRules {
-        alloc,
-        inner: TypesWithin {
-            alloc,
-            depth,
-            function: type_tree,
-        },
-    }
-    .schema(tokens)
+    TypeRules::within(alloc, depth, type_tree).schema(tokens)
 }
 
 /// A field with its type, where one is written, whose brackets nest less deep than `depth`.
@@ -282,13 +277,5 @@ pub fn field(
 ) -> Result<(FieldTree, &[Token]), ParseFault>
     ensures { Gives (field_at (type_at depth) (forms tokens.now)) result }
 {
-    TypeRules {
-        alloc,
-        inner: TypesWithin {
-            alloc,
-            depth,
-            function: type_tree,
-        },
-    }
-    .read(tokens)
+    TypeRules::within(alloc, depth, type_tree).read(tokens)
 }
