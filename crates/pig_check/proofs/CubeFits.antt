@@ -16,7 +16,8 @@ use Rattle.pig_plan.specs.NodeKinds.{RowKinds, group_kind, kinds_at, node_gives}
 use Rattle.pig_plan.specs.Plans.{Plan, PlanOp}
 use Rattle.pig_typing.specs.declared.faults.CheckKind.TheVariants as kind
 use Rattle.pig_typing.specs.Columns.{AreColumns, RefersTo}
-use Rattle.pig_typing.specs.Limits.{any_crowded, is_crowded, is_deep_row, is_wide_row, limited_row, row_kind, too_many}
+use Rattle.pig_typing.specs.declared.limits.TheConstants.{MOST_KINDS}
+use Rattle.pig_typing.specs.Limits.{any_too_many_fields, too_many_fields, is_deep_row, is_wide_row, limited_row, row_kind, too_many}
 use Rattle.pig_typing.proofs.Inside.{meant_kind}
 use Rattle.pig_relations.specs.Aliases.{Aliases, IsRelation, IsTable, RelationTree}
 use Rattle.pig_relations.specs.Operators.{cube_columns, group_column}
@@ -163,11 +164,11 @@ narrow_bag ds row kept e =
     let fields = kinds_of (map tree_kind row) in
     let all = more_kinds key (more_kinds (k_bag fields) no_kinds) in
     let wide = not_wide (is_wide_row (row_kind columns)) (is_deep_row (row_kind columns)) columns kept e in
-    let crowded = (or_parts (is_crowded (k_tuple all)) (nat_lt 4097 (width_of (k_tuple all))) wide).0 in
-    let inside = (or_parts (too_many all) (any_crowded all) crowded).1 in
-    let behind = (or_parts (is_crowded key) (any_crowded (more_kinds (k_bag fields) no_kinds)) inside).1 in
-    let bag = (or_parts (is_crowded (k_bag fields)) (any_crowded no_kinds) behind).0 in
-    let few = (or_parts (too_many fields) (any_crowded fields) bag).0 in
+    let within = (or_parts (too_many_fields (k_tuple all)) (nat_lt (MOST_KINDS + 1) (width_of (k_tuple all))) wide).0 in
+    let inside = (or_parts (too_many all) (any_too_many_fields all) within).1 in
+    let behind = (or_parts (too_many_fields key) (any_too_many_fields (more_kinds (k_bag fields) no_kinds)) inside).1 in
+    let bag = (or_parts (too_many_fields (k_bag fields)) (any_too_many_fields no_kinds) behind).0 in
+    let few = (or_parts (too_many fields) (any_too_many_fields fields) bag).0 in
     at_most (length (kinds_list fields)) (length row) few (ap length (kinds_back (map tree_kind row)) ∙ length-map row tree_kind)
 
 dimensions_are : {known : Aliases} {from : List ℕ} {dims : List FieldRef} {t : TypedCube} → Cubes known from dims t → AreDimensions t.dims t.width

@@ -32,7 +32,7 @@ pub use laws::{
     items_have_one_typing, items_have_their_kinds, keys_have_one_typing, keys_have_their_kinds,
     typings_have_their_kinds, typings_write_no_line_end,
 };
-pub use limits::{row_within_limits, within_limits};
+pub use limits::{MOST_DEPTH, MOST_FIELDS, MOST_KINDS, row_within_limits, within_limits};
 pub use locals::{Local, Locals};
 pub use names::{narrow, refer};
 pub use referring::{type_reference, type_step};

@@ -1,8 +1,9 @@
-ghost use Rattle.std.specs.Prelude.{◌≡◌, IfOk, map, nat_lt};
+ghost use Rattle.std.specs.Prelude.{◌≡◌, ◌+◌, IfOk, map, nat_lt};
 ghost use Rattle.pig_schema.specs.FieldTrees.{schema_tree};
 ghost use Rattle.pig_value.specs.Kinds.{depth_of, width_of};
 ghost use Rattle.pig_value.specs.Trees.{kind_tree, kinds_of};
-ghost use Rattle.pig_typing.specs.Limits.{any_crowded, is_crowded, is_deep_row, is_too_deep, is_too_wide, is_wide_row, limited, limited_row, row_kind, too_many};
+ghost use Rattle.pig_typing.specs.declared.limits.TheConstants.{MOST_KINDS};
+ghost use Rattle.pig_typing.specs.Limits.{any_too_many_fields, is_deep_row, is_too_deep, is_too_wide, is_wide_row, limited, limited_row, row_kind, too_many, too_many_fields};
 ghost use Rattle.pig_typing.specs.Results.{Tells};
 
 use crate::columns::column_kinds;
@@ -11,12 +12,19 @@ use pig_schema::Schema;
 use pig_value::{Kind, kind_depth, kind_width};
 use std::alloc::{AllocError, Global};
 
+/// As many fields as a tuple may have.
+pub const MOST_FIELDS: usize = 512;
+/// As many kinds as may stand in a kind.
+pub const MOST_KINDS: usize = 4096;
+/// As deep as a kind may nest.
+pub const MOST_DEPTH: usize = 64;
+
 /// Whether a kind is within the limits.
 ///
 /// # Errors
 ///
-/// TooWide where a tuple in it has more than 512 fields, or where there are more than 4096 kinds in it; TooDeep
-/// where it nests more than 64 deep.
+/// TooWide where a tuple in it has more than [`MOST_FIELDS`] fields, or where there are more than [`MOST_KINDS`] kinds in
+/// it; TooDeep where it nests more than [`MOST_DEPTH`] deep.
 #[tactic(auto, unfolding(crate::specs::Limits::limited))]
 pub fn within_limits(kind: &Kind) -> Result<(), TypeFault>
     ensures { Tells (λ done. kind_tree kind.now) (limited (kind_tree kind.now)) result }
@@ -34,8 +42,8 @@ pub fn within_limits(kind: &Kind) -> Result<(), TypeFault>
 ///
 /// # Errors
 ///
-/// TooWide where there are more than 512 of them, or so many fields in a tuple of theirs, or more than 4096 kinds in
-/// all; TooDeep where one nests more than 64 deep.
+/// TooWide where there are more than [`MOST_FIELDS`] of them, or so many fields in a tuple of theirs, or more than
+/// [`MOST_KINDS`] kinds in all; TooDeep where one nests more than [`MOST_DEPTH`] deep.
 #[tactic(auto, unfolding(crate::specs::Limits::limited_row))]
 pub fn row_within_limits(alloc: Global, columns: &Schema) -> Result<(), TypeFault>
     ensures { Tells (λ done. schema_tree columns.now)
@@ -60,63 +68,64 @@ fn row_kind(alloc: Global, columns: &Schema) -> Result<Kind, AllocError>
 fn wide_row(row: &Kind) -> bool
     ensures { result ≡ is_wide_row (kind_tree row.now) }
 {
-    crowded(row) || wide_kinds(row)
+    too_many_fields(row) || wide_kinds(row)
 }
 
 fn wide_kinds(row: &Kind) -> bool
-    ensures { result ≡ nat_lt 4097 (width_of (kind_tree row.now)) }
+    ensures { result ≡ nat_lt (MOST_KINDS + 1) (width_of (kind_tree row.now)) }
 {
-    kind_width(row) > 4097
+    kind_width(row) > MOST_KINDS + 1
 }
 
 fn deep_row(row: &Kind) -> bool
     ensures { result ≡ is_deep_row (kind_tree row.now) }
 {
-    kind_depth(row) > 65
+    kind_depth(row) > MOST_DEPTH + 1
 }
 
 fn too_wide(kind: &Kind) -> bool
     ensures { result ≡ is_too_wide (kind_tree kind.now) }
 {
-    crowded(kind) || too_many_kinds(kind)
+    too_many_fields(kind) || too_many_kinds(kind)
 }
 
 fn too_many_kinds(kind: &Kind) -> bool
-    ensures { result ≡ nat_lt 4096 (width_of (kind_tree kind.now)) }
+    ensures { result ≡ nat_lt MOST_KINDS (width_of (kind_tree kind.now)) }
 {
-    kind_width(kind) > 4096
+    kind_width(kind) > MOST_KINDS
 }
 
 fn too_deep(kind: &Kind) -> bool
     ensures { result ≡ is_too_deep (kind_tree kind.now) }
 {
-    kind_depth(kind) > 64
+    kind_depth(kind) > MOST_DEPTH
 }
 
-fn too_many_fields(kinds: &[Kind]) -> bool
+fn too_many(kinds: &[Kind]) -> bool
     ensures { result ≡ too_many (kinds_of (map kind_tree kinds.now)) }
 {
-    kinds.len() > 512
+    kinds.len() > MOST_FIELDS
 }
 
-#[cycle(crowded)]
-fn crowded(kind: &Kind) -> bool
-    ensures { result ≡ is_crowded (kind_tree kind.now) }
+#[cycle(fields)]
+fn too_many_fields(kind: &Kind) -> bool
+    ensures { result ≡ too_many_fields (kind_tree kind.now) }
 {
     match kind {
-        Kind::Tuple(kinds) => too_many_fields(kinds.as_slice()) || any_crowded(kinds.as_slice()),
-        Kind::Bag(kinds) => too_many_fields(kinds.as_slice()) || any_crowded(kinds.as_slice()),
-        Kind::Map(of) => crowded(of.get()),
+        Kind::Tuple(kinds) | Kind::Bag(kinds) => {
+            too_many(kinds.as_slice()) || any_too_many_fields(kinds.as_slice())
+        }
+        Kind::Map(of) => too_many_fields(of.get()),
         _ => false,
     }
 }
 
-#[cycle(crowded)]
-fn any_crowded(kinds: &[Kind]) -> bool
-    ensures { result ≡ any_crowded (kinds_of (map kind_tree kinds.now)) }
+#[cycle(fields)]
+fn any_too_many_fields(kinds: &[Kind]) -> bool
+    ensures { result ≡ any_too_many_fields (kinds_of (map kind_tree kinds.now)) }
 {
     for kind in kinds {
-        if crowded(kind) {
+        if too_many_fields(kind) {
             return true;
         }
     }
