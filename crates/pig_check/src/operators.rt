@@ -82,7 +82,18 @@ fn stores_beside(path: &Text, op: &NodeOp) -> bool
 {
     match op {
         NodeOp::Store { path: other, .. } => collide(path.as_str(), other.as_str()),
-        _ => false,
+        NodeOp::Load { .. }
+        | NodeOp::Filter { .. }
+        | NodeOp::Foreach { .. }
+        | NodeOp::GroupAll { .. }
+        | NodeOp::Group { .. }
+        | NodeOp::Join { .. }
+        | NodeOp::Union { .. }
+        | NodeOp::Distinct { .. }
+        | NodeOp::Order { .. }
+        | NodeOp::Limit { .. }
+        | NodeOp::Assert { .. }
+        | NodeOp::Rank { .. } => false,
     }
 }
 

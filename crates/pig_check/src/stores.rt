@@ -89,6 +89,17 @@ fn loads_beside(path: &Text, op: &NodeOp) -> bool
 {
     match op {
         NodeOp::Load { path: other, .. } => collide(path.as_str(), other.as_str()),
-        _ => false,
+        NodeOp::Filter { .. }
+        | NodeOp::Foreach { .. }
+        | NodeOp::GroupAll { .. }
+        | NodeOp::Group { .. }
+        | NodeOp::Join { .. }
+        | NodeOp::Union { .. }
+        | NodeOp::Distinct { .. }
+        | NodeOp::Order { .. }
+        | NodeOp::Limit { .. }
+        | NodeOp::Store { .. }
+        | NodeOp::Assert { .. }
+        | NodeOp::Rank { .. } => false,
     }
 }

@@ -72,12 +72,17 @@ fn allows(function: Function, count: usize) -> bool
     match function {
         Function::Concat => count > 1,
         Function::Substring => count == 3,
-        Function::StartsWith => count == 2,
-        Function::EndsWith => count == 2,
-        Function::IndexOf => count == 2,
-        Function::ToTuple => count > 0,
-        Function::ToBag { .. } => count > 0,
-        _ => count == 1,
+        Function::StartsWith | Function::EndsWith | Function::IndexOf => count == 2,
+        Function::ToTuple | Function::ToBag { .. } => count > 0,
+        Function::Count
+        | Function::CountStar
+        | Function::Sum
+        | Function::Min
+        | Function::Max
+        | Function::Size
+        | Function::IsEmpty
+        | Function::Tokenize
+        | Function::Abs => count == 1,
     }
 }
 
@@ -145,11 +150,11 @@ fn how_cast(function: Function, args: &[Typing]) -> Casting
     ensures { result ≡ casting function (kinds_as_given (map typing_tree args.now)) }
 {
     match function {
-        Function::Tokenize => Casting::AsText,
-        Function::Substring => Casting::AsText,
-        Function::StartsWith => Casting::AsText,
-        Function::EndsWith => Casting::AsText,
-        Function::IndexOf => Casting::AsText,
+        Function::Tokenize
+        | Function::Substring
+        | Function::StartsWith
+        | Function::EndsWith
+        | Function::IndexOf => Casting::AsText,
         Function::Concat => {
             if all_bytes(args) {
                 Casting::AsItIs
@@ -164,7 +169,15 @@ fn how_cast(function: Function, args: &[Typing]) -> Casting
                 Casting::AsItIs
             }
         }
-        _ => Casting::AsItIs,
+        Function::Count
+        | Function::CountStar
+        | Function::Sum
+        | Function::Min
+        | Function::Max
+        | Function::Size
+        | Function::IsEmpty
+        | Function::Abs
+        | Function::ToTuple => Casting::AsItIs,
     }
 }
 
@@ -217,7 +230,21 @@ fn sized(function: Function, args: &[Typing]) -> Result<Function, TypeFault>
         Function::ToBag { .. } => Ok(Function::ToBag {
             width: tuple_width(args)?,
         }),
-        _ => Ok(function),
+        Function::Count
+        | Function::CountStar
+        | Function::Sum
+        | Function::Min
+        | Function::Max
+        | Function::Size
+        | Function::Concat
+        | Function::IsEmpty
+        | Function::Tokenize
+        | Function::Substring
+        | Function::StartsWith
+        | Function::EndsWith
+        | Function::IndexOf
+        | Function::Abs
+        | Function::ToTuple => Ok(function),
     }
 }
 
@@ -357,7 +384,19 @@ fn given(
         Function::ToTuple => Ok(holding(kind, columns(alloc, args)?)),
         Function::ToBag { .. } => bag_column(alloc, kind, args),
         Function::Tokenize => tokens(alloc, kind),
-        _ => unnamed(alloc, kind),
+        Function::Count
+        | Function::CountStar
+        | Function::Sum
+        | Function::Min
+        | Function::Max
+        | Function::Size
+        | Function::Concat
+        | Function::IsEmpty
+        | Function::Substring
+        | Function::StartsWith
+        | Function::EndsWith
+        | Function::IndexOf
+        | Function::Abs => unnamed(alloc, kind),
     }
 }
 

@@ -72,9 +72,8 @@ fn is_compared(op: Rel, kind: &Kind) -> bool
     ensures { result ≡ may_compare op (kind_tree kind.now) }
 {
     match op {
-        Rel::Eq => equated(kind),
-        Rel::Ne => equated(kind),
-        _ => ranged(kind),
+        Rel::Eq | Rel::Ne => equated(kind),
+        Rel::Lt | Rel::Le | Rel::Gt | Rel::Ge => ranged(kind),
     }
 }
 
@@ -104,9 +103,8 @@ pub fn chained(op: ChainOp, a: &Kind, b: &Kind) -> Option<Join>
     ensures { option_map join_tree result ≡ chained op (kind_tree a.now) (kind_tree b.now) }
 {
     match op {
-        ChainOp::Or => conditions(a, b),
-        ChainOp::And => conditions(a, b),
-        _ => numbers(a, b),
+        ChainOp::Or | ChainOp::And => conditions(a, b),
+        ChainOp::Add | ChainOp::Sub | ChainOp::Mul | ChainOp::Div | ChainOp::Rem => numbers(a, b),
     }
 }
 
