@@ -9,7 +9,7 @@ use Rattle.pig_schema.specs.FieldTrees.{FieldTree, tree_kind, inner_of, AreInner
 use Rattle.pig_syntax.specs.declared.trees.JoinInput.{JoinInput}
 use Rattle.pig_plan.specs.NodeKinds.{Before, keyed_bags, group_kind, node_gives}
 use Rattle.pig_typing.specs.Columns.{AreColumns}
-use Rattle.pig_typing.specs.Items.{under_name}
+use Rattle.pig_typing.specs.Parts.{under_name}
 use Rattle.pig_relations.specs.Aliases.{Aliases, IsTable}
 use Rattle.pig_relations.specs.Keyed.{KeyedForm, TypedInput, Keyable, join_form, key_columns, keyed, types_input, TypesInputs, no_inputs, more_inputs, TypesKeyed, types_keyed}
 use Rattle.pig_relations.specs.Operators.{TypedOp, Groups, groups, GroupsAll, groups_all, Joins, joins, bag_column, columns_under, cube_columns, group_column, group_columns, group_op, join_columns, join_op}

@@ -11,7 +11,7 @@ use Rattle.pig_plan.specs.Plans.{p_group, p_group_all, p_join}
 use Rattle.pig_typing.specs.declared.faults.CheckKind.TheVariants as kind
 use Rattle.pig_typing.specs.Columns.{column_at, refer}
 use Rattle.pig_typing.specs.Conditions.{as_key, key_on, keys_on}
-use Rattle.pig_typing.specs.Items.{plain_item}
+use Rattle.pig_typing.specs.Parts.{plain_item}
 use Rattle.pig_typing.specs.Limits.{limited_row}
 use Rattle.pig_typing.specs.Reader.{field_of, reference_of, type_of}
 use Rattle.pig_relations.specs.Aliases.{Aliases, RelationTree, relation_at, relation_of}

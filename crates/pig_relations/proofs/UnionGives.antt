@@ -12,7 +12,7 @@ use Rattle.pig_typed.specs.Typed.{x_field}
 use Rattle.pig_plan.specs.NodeKinds.{Before, RowKinds, are_alike, node_gives, union_kinds}
 use Rattle.pig_plan.specs.Plans.{p_union}
 use Rattle.pig_typing.specs.Columns.{AreColumns}
-use Rattle.pig_typing.specs.Items.{plain_item}
+use Rattle.pig_typing.specs.Parts.{plain_item}
 use Rattle.pig_relations.specs.Aliases.{Aliases, RelationTree, IsTable}
 use Rattle.pig_relations.specs.Together.{Fits, same, wider, AllFit, AllRowsFit, all_together, of_kinds, widens, widened}
 use Rattle.pig_relations.specs.Unions.{TypedUnion, AllMeant, none_meant, more_meant, Unions, unions, any_widens, column_kinds, first_columns, union_input, widened_fields, widened_row, widening, GivesRows}

@@ -13,7 +13,7 @@ use Rattle.pig_plan.specs.NodeKinds.{is_join}
 use Rattle.pig_plan.specs.Plans.{PlanOp, op_of, p_group, p_group_all, p_join}
 use Rattle.pig_typing.specs.declared.faults.CheckKind.{CheckKind}
 use Rattle.pig_typing.specs.declared.faults.CheckKind.TheVariants as kind
-use Rattle.pig_typing.specs.Items.{under_name}
+use Rattle.pig_typing.specs.Parts.{under_name}
 use Rattle.pig_typing.specs.Limits.{limited_row}
 use Rattle.pig_typing.specs.Results.{Checked, ◌>>=◌}
 use Rattle.pig_typing.specs.Written.{of_fields, scalar_column, with_name}

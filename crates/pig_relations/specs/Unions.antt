@@ -10,7 +10,7 @@ use Rattle.pig_typed.specs.Typed.{TypedBlock, TypedItem, block_typed, x_field}
 use Rattle.pig_plan.specs.NodeKinds.{Before, RowKinds}
 use Rattle.pig_typing.specs.declared.faults.CheckKind.{CheckKind}
 use Rattle.pig_typing.specs.declared.faults.CheckKind.TheVariants as kind
-use Rattle.pig_typing.specs.Items.{plain_item}
+use Rattle.pig_typing.specs.Parts.{plain_item}
 use Rattle.pig_typing.specs.Results.{Checked, due, ◌>>=◌}
 use Rattle.pig_relations.specs.Aliases.{Aliases, RelationTree, relation_at, relation_of}
 use Rattle.pig_relations.specs.Together.{all_together, of_kinds, widens, widened}

@@ -1,8 +1,8 @@
 ghost use Rattle.std.specs.Prelude.{◌≡◌, ◌++◌, IfOk, Some, codes, map};
 ghost use Rattle.pig_value.specs.Trees.{kind_tree, k_tuple};
 ghost use Rattle.pig_schema.specs.FieldTrees.{named_tree, schema_tree, tree_kind, tree_name};
-ghost use Rattle.pig_typing.specs.Items.{name_under, under_name};
-ghost use Rattle.pig_typing.specs.Written.{of_fields, with_name};
+ghost use Rattle.pig_typing.specs.Parts.{name_under, under_name};
+ghost use Rattle.pig_typing.specs.Written.{of_fields};
 ghost use Rattle.pig_relations.specs.Operators.{bag_column};
 
 use pig_schema::{Field, Schema, copy_schema, kinds};
@@ -14,13 +14,6 @@ pub fn group_name(alloc: Global) -> Result<Text, AllocError>
     ensures { IfOk result (λ name. name ≡ codes "group") }
 {
     Text::from_str(alloc, "group")
-}
-
-// The column with a name.
-pub fn named(name: Text, column: Field) -> Field
-    ensures { named_tree result ≡ with_name name (named_tree column) }
-{
-    column.with_name(Some(name))
 }
 
 // A tuple of these columns, without a name.

@@ -13,7 +13,7 @@ ghost use Rattle.pig_relations.specs.Together.{of_kinds};
 ghost use Rattle.pig_relations.specs.Views.{input_tree, keyable_tree};
 
 use crate::aliases::{Relation, Relations};
-use crate::columns::{all_under, bag_column, group_name, named, tuple};
+use crate::columns::{all_under, bag_column, group_name, tuple};
 use crate::keyed::{
     Keyable, TypedInput, group_forms, join_forms, key_columns, keyed_inputs, type_keyed,
 };
@@ -22,7 +22,7 @@ use crate::together::of_kinds;
 use pig_plan::NodeOp;
 use pig_schema::{Field, Schema, copy_field};
 use pig_syntax::{GroupInput, JoinInput};
-use pig_typing::{CheckKind, TypeFault, row_within_limits};
+use pig_typing::{CheckKind, TypeFault, row_within_limits, with_name};
 use pig_value::{Kind, Seq, Side, Text, failed};
 use std::alloc::{AllocError, Global};
 
@@ -296,7 +296,7 @@ fn group_column(alloc: Global, inputs: &[TypedInput], kinds: &[Kind]) -> Result<
     let name = group_name(alloc)?;
     let columns = first_keys(alloc, inputs, kinds)?;
     let column = key_column(alloc, columns)?;
-    Ok(named(name, column))
+    Ok(with_name(name, column))
 }
 
 // The one key's column, or a tuple of several.
@@ -350,7 +350,7 @@ pub fn cube_columns(alloc: Global, dims: Schema, row: &Schema) -> Result<Schema,
     let key = key_column(alloc, dims)?;
     let alias = Text::from_str(alloc, "cube")?;
     let mut columns = Seq::with_capacity(alloc, 2)?;
-    columns.push(named(name, key))?;
+    columns.push(with_name(name, key))?;
     columns.push(bag_column(alloc, &alias, row)?)?;
     Ok(columns)
 }

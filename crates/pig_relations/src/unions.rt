@@ -3,7 +3,7 @@ ghost use Rattle.std.specs.Option.{option_map};
 ghost use Rattle.pig_value.specs.Trees.{kind_tree};
 ghost use Rattle.pig_schema.specs.FieldTrees.{named_tree, schema_tree, tree_kind};
 ghost use Rattle.pig_typed.specs.Typed.{block_typed, item_typed, x_field};
-ghost use Rattle.pig_typing.specs.Items.{plain_item};
+ghost use Rattle.pig_typing.specs.Parts.{plain_item};
 ghost use Rattle.pig_typing.specs.Results.{IfRefused, Tells};
 ghost use Rattle.pig_relations.specs.Aliases.{aliases_of, relation_tree};
 ghost use Rattle.pig_relations.specs.Together.{all_together, of_kinds, widened};

@@ -18,8 +18,8 @@ use Rattle.std.specs.declared.result.Result.TheVariants.{Ok}
 use Rattle.pig_typing.specs.Results.{Checked}
 use Rattle.pig_typing.specs.declared.calls.Casting.{Casting}
 use Rattle.pig_typing.specs.Calls.{cast_by, cast_maybe, casting, fields_from, given, kind_after, sized}
-use Rattle.pig_typing.specs.Items.{NameForm, as_many, plain_item}
-use Rattle.pig_typing.specs.Parts.{Typing, typing, typed_of, typed_column, kind_in}
+use Rattle.pig_typing.specs.Items.{NameForm, as_many}
+use Rattle.pig_typing.specs.Parts.{Typing, typing, typed_of, typed_column, kind_in, plain_item}
 use Rattle.pig_typing.specs.Reader.{call_typing}
 use Rattle.pig_typing.specs.Typing.{call_kind, called, cast_args, cast_kinds, kinds_as_given}
 use Rattle.pig_typing.specs.Columns.{later_or}

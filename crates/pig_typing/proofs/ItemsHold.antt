@@ -15,8 +15,8 @@ use Rattle.pig_typed.specs.Typed.{Typed, TypedItem, x_cast}
 use Rattle.pig_typing.specs.Calls.{fields_from}
 use Rattle.pig_typing.specs.Columns.{AreColumns, IsPlace, Place, locals_of, place_row}
 use Rattle.pig_typing.specs.Conditions.{Conditions, a_condition, Keys, no_keys, more_keys}
-use Rattle.pig_typing.specs.Items.{Generated, NameForm, plain_item, one_column, flat_columns, under_name, flattened_columns, Named, named_bare, named_cast, renamed_bare, renamed_typed, AllRenamed, none_renamed, one_renamed, Plain, plain_bare, plain_named, Flat, flat_bare, flat_named, Generates, generates_all, generates_value, generates_flat, AllGenerate, none_generate, more_generate}
-use Rattle.pig_typing.specs.Parts.{Typing, typed_of, typed_column, kind_in}
+use Rattle.pig_typing.specs.Items.{Generated, NameForm, one_column, flat_columns, flattened_columns, Named, named_bare, named_cast, renamed_bare, renamed_typed, AllRenamed, none_renamed, one_renamed, Plain, plain_bare, plain_named, Flat, flat_bare, flat_named, Generates, generates_all, generates_value, generates_flat, AllGenerate, none_generate, more_generate}
+use Rattle.pig_typing.specs.Parts.{Typing, typed_of, typed_column, kind_in, plain_item, under_name}
 use Rattle.pig_typing.specs.Written.{with_name}
 use Rattle.pig_typing.proofs.Inside.{inner_all, inner_kinds, written_field_is}
 use Rattle.pig_typing.proofs.Joined.{cast_kind_of, condition_holds}

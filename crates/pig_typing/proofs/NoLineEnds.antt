@@ -17,9 +17,9 @@ use Rattle.pig_typing.specs.declared.calls.Casting.{Casting}
 use Rattle.pig_typing.specs.Calls.{casting, cast_by, cast_maybe, fields_from}
 use Rattle.pig_typing.specs.Columns.{Place}
 use Rattle.pig_typing.specs.Conditions.{Conditions, a_condition, Keys, no_keys, more_keys}
-use Rattle.pig_typing.specs.Items.{Generated, NameForm, plain_item, Named, named_bare, named_cast, Plain, plain_bare, plain_named, Flat, flat_bare, flat_named, Generates, generates_all, generates_value, generates_flat, AllGenerate, none_generate, more_generate}
+use Rattle.pig_typing.specs.Items.{Generated, NameForm, Named, named_bare, named_cast, Plain, plain_bare, plain_named, Flat, flat_bare, flat_named, Generates, generates_all, generates_value, generates_flat, AllGenerate, none_generate, more_generate}
 use Rattle.pig_typing.specs.Joins.{Join, cast_if}
-use Rattle.pig_typing.specs.Parts.{Typing, typed_of, kind_in, Steps, projects, looks, Walks, ends, goes}
+use Rattle.pig_typing.specs.Parts.{Typing, typed_of, kind_in, Steps, projects, looks, Walks, ends, goes, plain_item}
 use Rattle.pig_typing.specs.Typing.{Types, Links, Args, Sofar, begun, after, kinds_as_given, type_int, type_long, type_text, type_bool, type_null, type_local, type_named, type_numbered, type_chain, type_compare, type_is_null, type_not, type_minus, type_cast, type_post, type_call, type_choose, links_end, links_go, args_end, args_go}
 
 -- no literal of it holds a line end

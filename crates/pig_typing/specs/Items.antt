@@ -1,6 +1,6 @@
 -- Items of GENERATE: the typed items that stand for them, and the columns that they give, with their names.
 -- (Pig Latin Basics: "FOREACH", "Flatten Operator", "Schemas". The names that FLATTEN and GENERATE give are choices of this profile.)
-use Rattle.std.specs.Prelude.{◌≡◌, ◌++◌, ℕ, Bool, true, false, List, [], ◌∷◌, map, length, codes, Option, Some, None, if◌then◌else◌}
+use Rattle.std.specs.Prelude.{◌≡◌, ◌++◌, ℕ, Bool, true, false, List, [], ◌∷◌, map, length, Option, Some, None, if◌then◌else◌}
 use Rattle.std.specs.declared.result.Result.TheVariants.{Ok, Err}
 use Rattle.pig_value.specs.Casts.{may_cast}
 use Rattle.pig_value.specs.Kinds.{kind_eq}
@@ -19,7 +19,7 @@ use Rattle.pig_typing.specs.Calls.{fields_from}
 use Rattle.pig_typing.specs.Columns.{Place}
 use Rattle.pig_typing.specs.Faults.{Faults}
 use Rattle.pig_typing.specs.Limits.{limited}
-use Rattle.pig_typing.specs.Parts.{Typing, typed_of, typed_column, kind_in, renamed}
+use Rattle.pig_typing.specs.Parts.{Typing, typed_of, typed_column, kind_in, plain_item, under_name}
 use Rattle.pig_typing.specs.Reader.{type_of, type_of_cast}
 use Rattle.pig_typing.specs.Results.{Checked, due, ◌>>=◌}
 use Rattle.pig_typing.specs.Typing.{Types}
@@ -29,9 +29,6 @@ use Rattle.pig_typing.specs.Written.{with_name, written}
 pub record Generated : Type 0 where
   pub items : List TypedItem
   pub columns : List FieldTree
-
-abbrev pub plain_item : Typed → TypedItem
-plain_item t = record { value = t; flatten = false; width = 1 }
 
 abbrev pub flat_item : Typed → ℕ → TypedItem
 flat_item t width = record { value = t; flatten = true; width = width }
@@ -59,14 +56,6 @@ NameForm = List ℕ × Option TypeForm
 abbrev pub name_forms : AsNames → List NameForm
 name_forms (names.One f) = field_form f ∷ []
 name_forms (names.Several fs) = map field_form fs
-
--- the name of a field of a flattened tuple or bag with a name: that name, `::` and its own
-abbrev pub name_under : Option (List ℕ) → Option (List ℕ) → Option (List ℕ)
-name_under (Some outer) (Some name) = Some (outer ++ codes "::" ++ name)
-name_under outer name = name
-
-abbrev pub under_name : Option (List ℕ) → FieldTree → FieldTree
-under_name outer c = renamed (name_under outer (tree_name c)) c
 
 -- the columns that FLATTEN gives: of a tuple or a bag those inside, of a map none, and of another kind the column itself
 abbrev pub open_fields : KindTree → FieldTree → Option (List FieldTree)

@@ -1,13 +1,13 @@
 -- Projections and look-ups, one step behind the other.
 -- (Pig Latin Basics: "Dereference Operators".)
-use Rattle.std.specs.Prelude.{◌≡◌, ℕ, Bool, true, false, List, [], ◌∷◌, map, Option, Some, None}
+use Rattle.std.specs.Prelude.{◌≡◌, ◌++◌, ℕ, Bool, true, false, List, [], ◌∷◌, map, codes, Option, Some, None}
 use Rattle.std.specs.declared.result.Result.TheVariants.{Ok, Err}
 use Rattle.pig_value.specs.Trees.{KindTree, k_tuple, k_bag, k_map}
 use Rattle.pig_schema.specs.FieldTrees.{FieldTree, FieldTrees, a_field, inner_list, tree_name, tree_kind, tree_inner}
 use Rattle.pig_syntax.specs.declared.trees.FieldRef.{FieldRef}
 use Rattle.pig_syntax.specs.declared.trees.PostStep.{PostStep}
 use Rattle.pig_syntax.specs.declared.trees.PostStep.TheVariants as step
-use Rattle.pig_typed.specs.Typed.{Typed, x_project, x_look}
+use Rattle.pig_typed.specs.Typed.{Typed, TypedItem, x_project, x_look}
 use Rattle.pig_typing.specs.declared.faults.CheckKind.{CheckKind}
 use Rattle.pig_typing.specs.declared.faults.CheckKind.TheVariants as kind
 use Rattle.pig_typing.specs.Columns.{RefersTo, RefersToNone, refer}
@@ -27,6 +27,10 @@ typed_column (typing t c) = c
 
 abbrev pub kind_in : Typing → KindTree
 kind_in p = tree_kind (typed_column p)
+
+-- an item that gives one field
+abbrev pub plain_item : Typed → TypedItem
+plain_item t = record { value = t; flatten = false; width = 1 }
 
 -- ---- selections of columns, each with its place
 
@@ -62,6 +66,14 @@ inner_columns c = held_fields (tree_kind c) (inner_list (tree_inner c))
 
 abbrev pub renamed : Option (List ℕ) → FieldTree → FieldTree
 renamed name c = a_field name (tree_kind c) (tree_inner c)
+
+-- the name of a field of a tuple, bag or relation with a name: that name, `::` and its own
+abbrev pub name_under : Option (List ℕ) → Option (List ℕ) → Option (List ℕ)
+name_under (Some outer) (Some name) = Some (outer ++ codes "::" ++ name)
+name_under outer name = name
+
+abbrev pub under_name : Option (List ℕ) → FieldTree → FieldTree
+under_name outer c = renamed (name_under outer (tree_name c)) c
 
 -- One field of a tuple is this column, and of a bag a bag of it that keeps its name. Several give a tuple, or a bag, without a name.
 -- No field, and several that stand without parentheses, are of no grammar.

@@ -61,14 +61,14 @@ impl From<AllocError> for TypeFault {
     }
 }
 
-// What was made, where memory was there.
+/// What was made, where memory was there.
 pub fn in_memory<T>(made: Result<T, AllocError>) -> Result<T, TypeFault>
     ensures { result ≡ in_memory made }
 {
     Ok(made?)
 }
 
-// A refusal of what is left. Dropping a value of any type is cheap to prove, and dropping a tree is not.
+/// A refusal, behind which what is left ends.
 pub fn refused<L: Drop, T>(left: L, kind: CheckKind) -> Result<T, TypeFault>
     ensures { result ≡ Err (Refused kind) }
 {

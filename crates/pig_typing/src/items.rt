@@ -6,13 +6,13 @@ ghost use Rattle.pig_syntax.specs.ExprTrees.{field_form};
 ghost use Rattle.pig_typed.specs.Typed.{item_typed, typed, x_cast, x_field};
 ghost use Rattle.pig_typing.specs.Columns.{place_of};
 ghost use Rattle.pig_typing.specs.Calls.{fields_from};
-ghost use Rattle.pig_typing.specs.Items.{AllGenerate, AllGenerateNot, all_renamed, as_many, cast_named, each_renamed, flat_columns, flat_of, flattened_columns, item_of, item_value, items_of, name_forms, name_under, named_of, names_for, nothing_generated, one_column, only_name, plain_item, plain_of, renamed_of, same_named, both_items, under_name, whole_row};
-ghost use Rattle.pig_typing.specs.Parts.{typed_of};
+ghost use Rattle.pig_typing.specs.Items.{AllGenerate, AllGenerateNot, all_renamed, as_many, cast_named, each_renamed, flat_columns, flat_of, flattened_columns, item_of, item_value, items_of, name_forms, named_of, names_for, nothing_generated, one_column, only_name, plain_of, renamed_of, same_named, both_items, whole_row};
+ghost use Rattle.pig_typing.specs.Parts.{typed_of, name_under, plain_item, under_name};
 ghost use Rattle.pig_typing.specs.Results.{IfRefused, Tells};
 ghost use Rattle.pig_typing.specs.Written.{with_name};
 ghost use Rattle.pig_typing.specs.Views.{generated_tree, typed_tree};
 
-use crate::exprs::{TypedExpr, cast_type, typed_expr};
+use crate::exprs::{TypedExpr, cast_type, type_expr};
 use crate::faults::{CheckKind, TypeFault, in_memory, refused};
 use crate::names::narrow;
 use crate::scope::Scope;
@@ -91,7 +91,7 @@ fn one_item(alloc: Global, item: &Item, scope: &Scope) -> Result<Generated, Type
             flatten,
             names,
         } => {
-            let typed = typed_expr(alloc, value, scope)?;
+            let typed = type_expr(alloc, value, scope)?;
             value_item(alloc, typed, *flatten, names)
         }
     }

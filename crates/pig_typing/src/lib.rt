@@ -24,8 +24,8 @@ mod scope;
 mod written;
 
 pub use conditions::{TypedExprs, type_condition, type_keys};
-pub use exprs::{TypedExpr, type_expr};
-pub use faults::{CheckKind, TypeFault};
+pub use exprs::{TypedExpr, cast_type, type_expr};
+pub use faults::{CheckKind, TypeFault, in_memory, refused};
 pub use items::{Generated, type_items};
 pub use laws::{
     conditions_have_one_typing, conditions_have_their_kind, expressions_have_one_typing,
@@ -37,4 +37,4 @@ pub use locals::{Local, Locals};
 pub use names::{narrow, refer};
 pub use referring::{type_reference, type_step};
 pub use scope::Scope;
-pub use written::{written_schema, written_type};
+pub use written::{with_name, written_schema, written_type};

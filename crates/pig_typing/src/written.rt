@@ -128,6 +128,7 @@ fn of_values(alloc: Global, values: Field) -> Result<Field, AllocError>
     Ok(holding(kind, inner))
 }
 
+/// The column by this name.
 pub fn with_name(name: Text, column: Field) -> Field
     ensures { named_tree result ≡ with_name name (named_tree column) }
 {

@@ -1,7 +1,7 @@
 use Rattle.std.proofs.Common.{◌≡◌, ◌++◌, map, drop}
 use Rattle.std.specs.Prelude.{Some}
 use Rattle.pig_schema.specs.FieldTrees.{schema_tree}
-use Rattle.pig_typing.specs.Items.{under_name}
+use Rattle.pig_typing.specs.Parts.{under_name}
 use Rattle.pig_relations.proofs.columns.all_under.Given as goal
 
 abbrev pub invariant-loop-field : goal.invariant-loop-field

@@ -1,6 +1,6 @@
 use Rattle.std.proofs.Common.{◌≡◌, ◌++◌, map, drop}
 use Rattle.pig_schema.specs.FieldTrees.{schema_tree}
-use Rattle.pig_typing.specs.Items.{under_name}
+use Rattle.pig_typing.specs.Parts.{under_name}
 use Rattle.pig_typing.proofs.items.all_under.Given as goal
 
 abbrev pub invariant-loop-column : goal.invariant-loop-column

@@ -1,7 +1,7 @@
 use Rattle.std.proofs.Common.{◌≡◌, ◌+◌, ◌++◌, ◌-◌, [], ◌∷◌, map, subst, sym}
 use Rattle.pig_typed.specs.Typed.{item_typed, x_field}
 use Rattle.pig_typing.specs.Calls.{fields_from}
-use Rattle.pig_typing.specs.Items.{plain_item}
+use Rattle.pig_typing.specs.Parts.{plain_item}
 use Rattle.pig_typing.proofs.CodeLaws.{items_step}
 use Rattle.pig_typing.proofs.items.field_items.Goals as goal
 

@@ -1,7 +1,7 @@
 use Rattle.std.proofs.Common.{◌≡◌, ◌++◌, ◌-◌, map}
 use Rattle.pig_typed.specs.Typed.{item_typed}
 use Rattle.pig_typing.specs.Calls.{fields_from}
-use Rattle.pig_typing.specs.Items.{plain_item}
+use Rattle.pig_typing.specs.Parts.{plain_item}
 use Rattle.pig_typing.proofs.items.field_items.Given as goal
 
 abbrev pub invariant-loop-place : goal.invariant-loop-place
