@@ -13,7 +13,7 @@ use Rattle.pig_typing.specs.Limits.{limited}
 use Rattle.pig_typing.specs.Parts.{Typing}
 use Rattle.pig_typing.specs.Reader.{field_of, reference_of, compare_of, condition_of, minus_of, choose_of, type_of_cast, typed_cast, typed_link, with_count, function_of, call_of, kind_due, type_of, links_on, args_on}
 use Rattle.pig_typing.specs.Results.{Checked, ◌>>=◌}
-use Rattle.pig_typing.specs.Typing.{Types, Links, Args, Sofar, begun, count, type_int, type_long, type_text, type_bool, type_null, type_local, type_named, type_numbered, type_chain, type_compare, type_is_null, type_not, type_minus, type_cast, type_post, type_call, type_choose, links_end, links_go, args_end, args_go}
+use Rattle.pig_typing.specs.Typing.{Types, Links, Args, ChainSoFar, begun, count, type_int, type_long, type_text, type_bool, type_null, type_local, type_named, type_numbered, type_chain, type_compare, type_is_null, type_not, type_minus, type_cast, type_post, type_call, type_choose, links_end, links_go, args_end, args_go}
 use Rattle.pig_typing.proofs.References.{Fails, failed, fails_first, fails_next, not_both, refer_is, refer_fails, walk_is, walk_fails}
 
 -- ---- a typing is told
@@ -40,7 +40,7 @@ mutual
   found (type_call e t h made within) = rw (e, t, args_found h, made, within) refl
   found (type_choose h e g k e') = rw (found h, e, found g, found k, e') refl
 
-  pub links_found : {s : Place} {c whole : Sofar} {ls : LinkForms} → Links s c ls whole → links_on s c ls ≡ Ok whole
+  pub links_found : {s : Place} {c whole : ChainSoFar} {ls : LinkForms} → Links s c ls whole → links_on s c ls ≡ Ok whole
   links_found links_end = refl
   links_found (links_go h e g) = rw (found h, e) (links_found g)
 
@@ -50,7 +50,7 @@ mutual
 
 -- ---- a refusal is told
 
-links_fail : {s : Place} {c : Sofar} {ls : LinkForms} → LinksWrong s c ls → Fails (links_on s c ls)
+links_fail : {s : Place} {c : ChainSoFar} {ls : LinkForms} → LinksWrong s c ls → Fails (links_on s c ls)
 unfolding links_on typed_link
 links_fail (here h e) = rw (found h, e) failed
 links_fail (later h e g) = rw (found h, e) (links_fail g)
@@ -91,7 +91,7 @@ wrong_fails (wrong_given {args = args} {g = g} e h made past) = rw (e) (tested_f
 
 -- ---- an operand's refusal is the whole's
 
-links_operand : (s : Place) (c : Sofar) {b : ExprForm} {ls : LinkForms} → InLinks b ls → Fails (type_of s b) → Fails (links_on s c ls)
+links_operand : (s : Place) (c : ChainSoFar) {b : ExprForm} {ls : LinkForms} → InLinks b ls → Fails (type_of s b) → Fails (links_on s c ls)
 unfolding links_on typed_link
 links_operand s c in_link h = fails_first _ h
 links_operand s c (in_later {b = b} i) h = fails_next _ (type_of s b) (λ p. fails_next _ _ (λ next. links_operand s next i h))

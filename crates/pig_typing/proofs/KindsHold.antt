@@ -22,7 +22,7 @@ use Rattle.pig_typing.specs.Calls.{all_held, casting, cast_by, cast_maybe, kind_
 use Rattle.pig_typing.specs.Columns.{AreColumns, IsPlace, Place, locals_of, place_row, latest_from, later_or, named_here}
 use Rattle.pig_typing.specs.Joins.{Join, cast_if, chained}
 use Rattle.pig_typing.specs.Parts.{Typing, Picks, typed_of, typed_column, kind_in, pick_places, picked, projected, renamed, inner_columns, values_column, Steps, projects, looks, Walks, ends, goes}
-use Rattle.pig_typing.specs.Typing.{Types, Links, Args, Sofar, begun, after, chain_typing, call_kind, kinds_as_given, type_int, type_long, type_text, type_bool, type_null, type_local, type_named, type_numbered, type_chain, type_compare, type_is_null, type_not, type_minus, type_cast, type_post, type_call, type_choose, links_end, links_go, args_end, args_go}
+use Rattle.pig_typing.specs.Typing.{Types, Links, Args, ChainSoFar, begun, after, chain_typing, call_kind, kinds_as_given, type_int, type_long, type_text, type_bool, type_null, type_local, type_named, type_numbered, type_chain, type_compare, type_is_null, type_not, type_minus, type_cast, type_post, type_call, type_choose, links_end, links_go, args_end, args_go}
 use Rattle.pig_typing.specs.Written.{of_fields}
 use Rattle.pig_typing.proofs.Inside.{all_inner, inner_all, inner_kinds, unnamed_field, written_field_is, meant_field, meant_kind, picked_fields, picked_kind}
 use Rattle.pig_typing.proofs.Joined.{side, cast_kind_of, chosen_is_column, compare_holds, choose_holds, condition_holds, Settled, Chained, chained_holds}
@@ -55,8 +55,8 @@ latest_holds n name (l ∷ ls) found h e = by (λ k. latest_holds (n + 1) name l
 
 -- ---- chains
 
-abbrev HoldsSofar : Place → Sofar → Type 0
-HoldsSofar s c = (k : KindTree) × (expr_kind c.first (place_row s) (locals_of s) ≡ Some k) × (links_kind k (links_of c.links) (place_row s) (locals_of s) ≡ Some c.kind) × ((c.links ≡ []) ⊎ Settled c.kind)
+abbrev HoldsSoFar : Place → ChainSoFar → Type 0
+HoldsSoFar s c = (k : KindTree) × (expr_kind c.first (place_row s) (locals_of s) ≡ Some k) × (links_kind k (links_of c.links) (place_row s) (locals_of s) ≡ Some c.kind) × ((c.links ≡ []) ⊎ Settled c.kind)
 
 -- behind the first link, where that gives a kind
 first_link : (s : Place) (x : ChainOp × Typed) (ls ms : List (ChainOp × Typed)) (k m n : KindTree)
@@ -87,7 +87,7 @@ uncast_side : (b : Bool) (to k : KindTree) → b ≡ false → side b to k ≡ k
 uncast_side false to k e = refl
 uncast_side true to k e = absurd (cc)
 
-after_holds : (s : Place) (c : Sofar) (o : ChainOp) (j : Join) (p : Typing) → HoldsSofar s c → Holds s p → chained o c.kind (kind_in p) ≡ Some j → HoldsSofar s (after c o j (typed_of p))
+after_holds : (s : Place) (c : ChainSoFar) (o : ChainOp) (j : Join) (p : Typing) → HoldsSoFar s c → Holds s p → chained o c.kind (kind_in p) ≡ Some j → HoldsSoFar s (after c o j (typed_of p))
 after_holds s c o j p w h e = by w.3
   where
     both : Chained o c.kind (kind_in p) j
@@ -96,7 +96,7 @@ after_holds s c o j p w h e = by w.3
     right : expr_kind (cast_if j.right j.kind (typed_of p)) (place_row s) (locals_of s) ≡ Some (side j.right j.kind (kind_in p))
     right = cast_kind_of (place_row s) (locals_of s) j.right j.kind (kind_in p) (typed_of p) both.both.right h.kind
 
-    by : (c.links ≡ []) ⊎ Settled c.kind → HoldsSofar s (after c o j (typed_of p))
+    by : (c.links ≡ []) ⊎ Settled c.kind → HoldsSoFar s (after c o j (typed_of p))
     by (inl none) =
         let alone : links_kind w.0 (links_of []) (place_row s) (locals_of s) ≡ Some c.kind = subst (λ ls. links_kind w.0 (links_of ls) (place_row s) (locals_of s) ≡ Some c.kind) none w.2 in
         let same : w.0 ≡ c.kind = cc in
@@ -117,7 +117,7 @@ after_holds s c o j p w h e = by w.3
           inr both.settled,
         )
 
-chain_holds : (s : Place) (whole : Sofar) → HoldsSofar s whole → Holds s (chain_typing whole)
+chain_holds : (s : Place) (whole : ChainSoFar) → HoldsSoFar s whole → Holds s (chain_typing whole)
 chain_holds s whole w = record { kind = rw (w.1) w.2; field = unnamed_field whole.kind }
 
 -- ---- steps
@@ -331,7 +331,7 @@ mutual
         field = chosen_is_column (typed_column y) (typed_column z) j e' hy.field hz.field;
       }
 
-  links_hold : (s : Place) → IsPlace s → (c whole : Sofar) (ls : LinkForms) → HoldsSofar s c → Links s c ls whole → HoldsSofar s whole
+  links_hold : (s : Place) → IsPlace s → (c whole : ChainSoFar) (ls : LinkForms) → HoldsSoFar s c → Links s c ls whole → HoldsSoFar s whole
   links_hold s w c whole ls h links_end = h
   links_hold s w c whole ls h (links_go {o = o} {a = a} {ls = more} {p = p} {j = j} t e g) = links_hold s w (after c o j (typed_of p)) whole more (after_holds s c o j p h (holds s w a p t) e) g
 

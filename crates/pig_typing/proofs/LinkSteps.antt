@@ -12,7 +12,7 @@ use Rattle.pig_typing.specs.Columns.{Place}
 use Rattle.pig_typing.specs.Parts.{Typing}
 use Rattle.pig_typing.specs.Reader.{type_of, links_on, typed_link}
 use Rattle.pig_typing.specs.Results.{Checked, checked_then, Tells}
-use Rattle.pig_typing.specs.Typing.{Sofar, count}
+use Rattle.pig_typing.specs.Typing.{ChainSoFar, count}
 
 -- there are as many forms as expressions
 counts : (forms : List ExprForm) → count (expr_forms forms) ≡ length forms
@@ -23,7 +23,7 @@ pub count_is : (exprs : List Expr) → count (expr_forms (map expr_form exprs)) 
 count_is exprs = counts (map expr_form exprs) ∙ length-map exprs expr_form
 
 -- one link more
-pub link_step : (s : Place) (c : Sofar) (links : List Link) (i : ℕ) (l : Link) (p : Typing) (all : Checked Sofar)
+pub link_step : (s : Place) (c : ChainSoFar) (links : List Link) (i : ℕ) (l : Link) (p : Typing) (all : Checked ChainSoFar)
     → i < length links → l ≡ get_or links i l → type_of s (expr_form l.a) ≡ Ok p → links_on s c (link_forms (map link_form (drop i links))) ≡ all
     → checked_then (λ next. links_on s next (link_forms (map link_form (drop (i + 1) links)))) (typed_link c l.op p) ≡ all
 unfolding links_on

@@ -20,7 +20,7 @@ use Rattle.pig_typing.specs.Conditions.{Conditions, a_condition, Keys, no_keys, 
 use Rattle.pig_typing.specs.Items.{Generated, NameForm, Named, named_bare, named_cast, Plain, plain_bare, plain_named, Flat, flat_bare, flat_named, Generates, generates_all, generates_value, generates_flat, AllGenerate, none_generate, more_generate}
 use Rattle.pig_typing.specs.Joins.{Join, cast_if}
 use Rattle.pig_typing.specs.Parts.{Typing, typed_of, kind_in, Steps, projects, looks, Walks, ends, goes, plain_item}
-use Rattle.pig_typing.specs.Typing.{Types, Links, Args, Sofar, begun, after, kinds_as_given, type_int, type_long, type_text, type_bool, type_null, type_local, type_named, type_numbered, type_chain, type_compare, type_is_null, type_not, type_minus, type_cast, type_post, type_call, type_choose, links_end, links_go, args_end, args_go}
+use Rattle.pig_typing.specs.Typing.{Types, Links, Args, ChainSoFar, begun, after, kinds_as_given, type_int, type_long, type_text, type_bool, type_null, type_local, type_named, type_numbered, type_chain, type_compare, type_is_null, type_not, type_minus, type_cast, type_post, type_call, type_choose, links_end, links_go, args_end, args_go}
 
 -- no literal of it holds a line end
 abbrev pub IsFree : Typed → Type 0
@@ -53,14 +53,14 @@ walk_free : (p q : Typing) (steps : List PostStep) → IsFree (typed_of p) → W
 walk_free p q steps h ends = h
 walk_free p q steps h (goes {q = m} {s = step} {ss = more} g w) = walk_free m q more (step_free p m step h g) w
 
-abbrev SofarIsFree : Sofar → Type 0
-SofarIsFree c = IsFree c.first × LinkLiteralsAre IsLineFree (links_of c.links)
+abbrev SoFarIsFree : ChainSoFar → Type 0
+SoFarIsFree c = IsFree c.first × LinkLiteralsAre IsLineFree (links_of c.links)
 
 links_append : (ls : List (ChainOp × Typed)) (o : ChainOp) (u : Typed) → LinkLiteralsAre IsLineFree (links_of ls) → IsFree u → LinkLiteralsAre IsLineFree (links_of (ls ++ (o, u) ∷ []))
 links_append [] o u h g = (g, tt)
 links_append (l ∷ ls) o u h g = (h.0, links_append ls o u h.1 g)
 
-after_free : (c : Sofar) (o : ChainOp) (j : Join) (u : Typed) → SofarIsFree c → IsFree u → SofarIsFree (after c o j u)
+after_free : (c : ChainSoFar) (o : ChainOp) (j : Join) (u : Typed) → SoFarIsFree c → IsFree u → SoFarIsFree (after c o j u)
 after_free c o j u h g = (cast_free j.left j.kind c.first h.0, links_append c.links o (cast_if j.right j.kind u) h.1 (cast_free j.right j.kind u g))
 
 -- ---- expressions
@@ -92,7 +92,7 @@ mutual
     cast_free j.right j.kind (typed_of z) (typing_free s d z w.2 k),
   )
 
-  links_free : (s : Place) (c whole : Sofar) (rule : ChainRule) (ls : LinkForms) → LinksFormed rule ls → SofarIsFree c → Links s c ls whole → SofarIsFree whole
+  links_free : (s : Place) (c whole : ChainSoFar) (rule : ChainRule) (ls : LinkForms) → LinksFormed rule ls → SoFarIsFree c → Links s c ls whole → SoFarIsFree whole
   links_free s c whole rule ls w h links_end = h
   links_free s c whole rule ls w h (links_go {o = o} {a = a} {ls = more} {p = p} {j = j} t e g) =
       links_free s (after c o j (typed_of p)) whole rule more w.2 (after_free c o j (typed_of p) h (typing_free s a p w.1 t)) g

@@ -28,7 +28,7 @@ use Rattle.pig_typing.specs.Limits.{limited}
 use Rattle.pig_typing.specs.Parts.{Typing, typing, typed_of, kind_in, steps_of}
 use Rattle.pig_typing.specs.Reader.{field_of, local_or, reference_of, compare_of, condition_of, minus_of, choose_of, type_of_cast, typed_cast, typed_link, with_count, function_of, call_of, kind_due, type_of, links_on, args_on}
 use Rattle.pig_typing.specs.Results.{Checked, due}
-use Rattle.pig_typing.specs.Typing.{Types, Links, Args, Sofar, begun, after, call_kind, count, type_int, type_long, type_text, type_bool, type_null, type_local, type_named, type_numbered, type_chain, type_compare, type_is_null, type_not, type_minus, type_cast, type_post, type_call, type_choose, links_end, links_go, args_end, args_go}
+use Rattle.pig_typing.specs.Typing.{Types, Links, Args, ChainSoFar, begun, after, call_kind, count, type_int, type_long, type_text, type_bool, type_null, type_local, type_named, type_numbered, type_chain, type_compare, type_is_null, type_not, type_minus, type_cast, type_post, type_call, type_choose, links_end, links_go, args_end, args_go}
 use Rattle.pig_typing.specs.Written.{written}
 use Rattle.pig_typing.proofs.Chains.{then_told, passes, then_is, due_is, due_made}
 use Rattle.pig_typing.proofs.References.{IsReferred, referred, IsWalk, walked}
@@ -38,11 +38,11 @@ IsTold s a (Ok p) = Types s a p
 IsTold s a (Err f) = Faults s a f
 
 -- a refusal of links: of their operators, or of an operand
-data LinksFault (s : Place) : Sofar → LinkForms → CheckKind → Type 0 where
-  of_links : {c : Sofar} {ls : LinkForms} → LinksWrong s c ls → LinksFault s c ls kind.TypeMismatch
-  in_links : {c : Sofar} {ls : LinkForms} {b : ExprForm} {f : CheckKind} → InLinks b ls → Faults s b f → LinksFault s c ls f
+data LinksFault (s : Place) : ChainSoFar → LinkForms → CheckKind → Type 0 where
+  of_links : {c : ChainSoFar} {ls : LinkForms} → LinksWrong s c ls → LinksFault s c ls kind.TypeMismatch
+  in_links : {c : ChainSoFar} {ls : LinkForms} {b : ExprForm} {f : CheckKind} → InLinks b ls → Faults s b f → LinksFault s c ls f
 
-abbrev AreTold : Place → Sofar → LinkForms → Checked Sofar → Type 0
+abbrev AreTold : Place → ChainSoFar → LinkForms → Checked ChainSoFar → Type 0
 AreTold s c ls (Ok whole) = Links s c ls whole
 AreTold s c ls (Err f) = LinksFault s c ls f
 
@@ -50,7 +50,7 @@ abbrev ArgsTold : Place → ExprForms → Checked (List Typing) → Type 0
 ArgsTold s args (Ok ps) = Args s args ps
 ArgsTold s args (Err f) = (b : ExprForm) × InArgs b args × Faults s b f
 
-later_links : (s : Place) (c : Sofar) (o : ChainOp) (a : ExprForm) (ls : LinkForms) (p : Typing) (j : Join) (f : CheckKind)
+later_links : (s : Place) (c : ChainSoFar) (o : ChainOp) (a : ExprForm) (ls : LinkForms) (p : Typing) (j : Join) (f : CheckKind)
     → Types s a p → chained o c.kind (kind_in p) ≡ Some j → LinksFault s (after c o j (typed_of p)) ls f → LinksFault s c (more_links o a ls) f
 later_links s c o a ls p j f h e (of_links g) = of_links (later h e g)
 later_links s c o a ls p j f h e (in_links b g) = in_links (in_later b) g
@@ -199,7 +199,7 @@ mutual
       (λ e. own (wrong_condition h e)))
       (λ f h. inside of_condition h)
 
-  links_told : (s : Place) (c : Sofar) (ls : LinkForms) → AreTold s c ls (links_on s c ls)
+  links_told : (s : Place) (c : ChainSoFar) (ls : LinkForms) → AreTold s c ls (links_on s c ls)
   links_told s c no_links = links_end
   links_told s c (more_links o a ls) =
       then_told (IsTold s a) (AreTold s c (more_links o a ls)) _ (type_of s a) (told s a)

@@ -21,14 +21,14 @@ use Rattle.pig_typing.specs.Columns.{RefersToNone, Place, latest}
 use Rattle.pig_typing.specs.Joins.{Join, alike, chained, compared, condition}
 use Rattle.pig_typing.specs.Limits.{limited}
 use Rattle.pig_typing.specs.Parts.{Typing, typed_of, kind_in, WalksNot}
-use Rattle.pig_typing.specs.Typing.{Types, Args, Sofar, begun, after, call_kind, count}
+use Rattle.pig_typing.specs.Typing.{Types, Args, ChainSoFar, begun, after, call_kind, count}
 use Rattle.pig_typing.specs.Written.{written}
 
 -- the links of a chain behind the part so far: one of them takes no such operands
-pub data LinksWrong (s : Place) : Sofar → LinkForms → Type 0 where
-  here : {so_far : Sofar} {o : ChainOp} {a : ExprForm} {ls : LinkForms} {p : Typing}
+pub data LinksWrong (s : Place) : ChainSoFar → LinkForms → Type 0 where
+  here : {so_far : ChainSoFar} {o : ChainOp} {a : ExprForm} {ls : LinkForms} {p : Typing}
       → Types s a p → chained o so_far.kind (kind_in p) ≡ None → LinksWrong s so_far (more_links o a ls)
-  later : {so_far : Sofar} {o : ChainOp} {a : ExprForm} {ls : LinkForms} {p : Typing} {j : Join}
+  later : {so_far : ChainSoFar} {o : ChainOp} {a : ExprForm} {ls : LinkForms} {p : Typing} {j : Join}
       → Types s a p → chained o so_far.kind (kind_in p) ≡ Some j → LinksWrong s (after so_far o j (typed_of p)) ls → LinksWrong s so_far (more_links o a ls)
 
 -- what is wrong with the expression itself

@@ -21,7 +21,7 @@ use Rattle.pig_typing.specs.Joins.{alike, cast_if, chained, compared, condition}
 use Rattle.pig_typing.specs.Limits.{limited}
 use Rattle.pig_typing.specs.Parts.{Typing, typing, typed_of, typed_column, kind_in, steps_of}
 use Rattle.pig_typing.specs.Results.{Checked, due, ◌>>=◌}
-use Rattle.pig_typing.specs.Typing.{Sofar, begun, after, chain_typing, choice, called, call_kind, cast_args, count}
+use Rattle.pig_typing.specs.Typing.{ChainSoFar, begun, after, chain_typing, choice, called, call_kind, cast_args, count}
 use Rattle.pig_typing.specs.Written.{written}
 
 -- ---- names
@@ -79,7 +79,7 @@ type_of_cast type = do
 unfoldable pub typed_cast : FieldTree → Typing → Checked Typing
 typed_cast d p = if may_cast (kind_in p) (tree_kind d) then Ok (typing (x_cast (tree_kind d) (typed_of p)) d) else Err kind.TypeMismatch
 
-unfoldable pub typed_link : Sofar → ChainOp → Typing → Checked Sofar
+unfoldable pub typed_link : ChainSoFar → ChainOp → Typing → Checked ChainSoFar
 typed_link so_far o p = do
   j ← due kind.TypeMismatch (chained o so_far.kind (kind_in p))
   Ok (after so_far o j (typed_of p))
@@ -154,7 +154,7 @@ unfoldable mutual
     r ← type_of s c
     choose_of t q r
 
-  pub links_on : Place → Sofar → LinkForms → Checked Sofar
+  pub links_on : Place → ChainSoFar → LinkForms → Checked ChainSoFar
   links_on s so_far no_links = Ok so_far
   links_on s so_far (more_links o a ls) = do
     p ← type_of s a

@@ -27,19 +27,19 @@ use Rattle.pig_typing.specs.Written.{written}
 -- ---- chains
 
 -- the part of a chain so far, and its kind
-pub record Sofar : Type 0 where
+pub record ChainSoFar : Type 0 where
   pub first : Typed
   pub links : List (ChainOp × Typed)
   pub kind : KindTree
 
-abbrev pub begun : Typing → Sofar
+abbrev pub begun : Typing → ChainSoFar
 begun p = record { first = typed_of p; links = []; kind = kind_in p }
 
 -- One link more. What stands before a later link is no bytearray, so the first operand alone is ever cast on the left.
-abbrev pub after : Sofar → ChainOp → Join → Typed → Sofar
+abbrev pub after : ChainSoFar → ChainOp → Join → Typed → ChainSoFar
 after c o j u = record { first = cast_if j.left j.kind c.first; links = c.links ++ (o, cast_if j.right j.kind u) ∷ []; kind = j.kind }
 
-abbrev pub chain_typing : Sofar → Typing
+abbrev pub chain_typing : ChainSoFar → Typing
 chain_typing c = typing (x_chain c.first (links_of c.links)) (unnamed c.kind)
 
 -- ---- choices
@@ -84,7 +84,7 @@ mutual
     type_local : {name : List ℕ} {found : ℕ × FieldTree} → latest name s.locals ≡ Some found → Types s (e_field (ref.Name name)) (typing (x_local found.0) (nameless found.1))
     type_named : {name : List ℕ} {n : ℕ} {c : FieldTree} → latest name s.locals ≡ None → RefersTo s.columns (ref.Name name) n c → Types s (e_field (ref.Name name)) (typing (x_field n) c)
     type_numbered : {at n : ℕ} {c : FieldTree} → RefersTo s.columns (ref.Position at) n c → Types s (e_field (ref.Position at)) (typing (x_field n) c)
-    type_chain : {a : ExprForm} {ls : LinkForms} {p : Typing} {whole : Sofar} → Types s a p → Links s (begun p) ls whole → Types s (e_chain a ls) (chain_typing whole)
+    type_chain : {a : ExprForm} {ls : LinkForms} {p : Typing} {whole : ChainSoFar} → Types s a p → Links s (begun p) ls whole → Types s (e_chain a ls) (chain_typing whole)
     type_compare : {r : Rel} {a b : ExprForm} {p q : Typing} {j : Join}
         → Types s a p → Types s b q → compared r (kind_in p) (kind_in q) ≡ Some j
         → Types s (e_compare r a b) (typing (x_compare r (cast_if j.left j.kind (typed_of p)) (cast_if j.right j.kind (typed_of q))) (unnamed k_boolean))
@@ -104,9 +104,9 @@ mutual
         → Types s (e_choose a b c) (choice (cast_if is_cast k_boolean (typed_of p)) j q r)
 
   -- the links of a chain, from left to right
-  pub data Links (s : Place) : Sofar → LinkForms → Sofar → Type 0 where
-    links_end : {so_far : Sofar} → Links s so_far no_links so_far
-    links_go : {so_far whole : Sofar} {o : ChainOp} {a : ExprForm} {ls : LinkForms} {p : Typing} {j : Join}
+  pub data Links (s : Place) : ChainSoFar → LinkForms → ChainSoFar → Type 0 where
+    links_end : {so_far : ChainSoFar} → Links s so_far no_links so_far
+    links_go : {so_far whole : ChainSoFar} {o : ChainOp} {a : ExprForm} {ls : LinkForms} {p : Typing} {j : Join}
         → Types s a p → chained o so_far.kind (kind_in p) ≡ Some j → Links s (after so_far o j (typed_of p)) ls whole → Links s so_far (more_links o a ls) whole
 
   pub data Args (s : Place) : ExprForms → List Typing → Type 0 where

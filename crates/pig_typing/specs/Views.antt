@@ -6,7 +6,7 @@ use Rattle.pig_typed.specs.Typed.{typed, item_typed, link_of}
 use Rattle.pig_typing.specs.declared.columns.Column.{Column}
 use Rattle.pig_typing.specs.declared.columns.Column.TheVariants as column
 use Rattle.pig_typing.specs.declared.columns.Typing as code
-use Rattle.pig_typing.specs.declared.exprs.Sofar as chain
+use Rattle.pig_typing.specs.declared.exprs.ChainSoFar as chain
 use Rattle.pig_typing.specs.declared.exprs.TypedExpr.{TypedExpr}
 use Rattle.pig_typing.specs.declared.joins.Join as both
 use Rattle.pig_typing.specs.declared.joins.Operands as operands
@@ -16,7 +16,7 @@ use Rattle.pig_typing.specs.Columns.{nameless}
 use Rattle.pig_typing.specs.Items.{Generated}
 use Rattle.pig_typing.specs.Joins.{Join, Operands, join}
 use Rattle.pig_typing.specs.Parts.{Typing, typing}
-use Rattle.pig_typing.specs.Typing.{Sofar}
+use Rattle.pig_typing.specs.Typing.{ChainSoFar}
 
 abbrev pub column_seen : Column → FieldTree
 column_seen (column.Lent f) = named_tree f.now
@@ -29,8 +29,8 @@ typing_tree p = typing (typed p.expr) (column_seen p.column)
 abbrev pub typed_tree : TypedExpr → Typing
 typed_tree t = typing (typed t.expr) (named_tree t.column)
 
-abbrev pub sofar_tree : chain.Sofar → Sofar
-sofar_tree c = record { first = typed c.first; links = map link_of c.links; kind = kind_tree c.kind }
+abbrev pub chain_tree : chain.ChainSoFar → ChainSoFar
+chain_tree c = record { first = typed c.first; links = map link_of c.links; kind = kind_tree c.kind }
 
 abbrev pub join_tree : both.Join → Join
 join_tree j = join (kind_tree j.kind) j.left j.right

@@ -13,11 +13,45 @@ use pig_value::{Boxed, Kind, Kinds, Seq, beside, copy_kind};
 use std::alloc::{AllocError, Global};
 
 // A column that stands in the scope, such a one without its name, or one that was made.
-#[derive(Drop)]
 pub enum Column<'a> {
     Lent(&'a Field),
     Nameless(&'a Field),
     Made(Boxed<Field>),
+}
+
+// Written and not derived, so that a column's end is one call.
+impl<'a> Drop for Column<'a> {
+    fn drop(self) {
+        match self {
+            Column::Lent(_) | Column::Nameless(_) => {}
+            Column::Made(field) => drop(field),
+        }
+    }
+}
+
+impl<'a> Column<'a> {
+    // The column with memory of its own.
+    pub fn owned(self, alloc: Global) -> Result<Field, AllocError>
+        ensures { IfOk result (λ f. named_tree f ≡ column_seen self.entry) }
+    {
+        match self {
+            Column::Lent(field) => copy_field(alloc, field),
+            Column::Nameless(field) => nameless(alloc, field),
+            Column::Made(field) => Ok(field.into_inner()),
+        }
+    }
+
+    // What stands inside the column, with memory of its own.
+    pub fn into_inner(self, alloc: Global) -> Result<Schema, AllocError>
+        ensures { IfOk result (λ s. inner_of (schema_tree s)
+            ≡ tree_inner (column_seen self.entry)) }
+    {
+        match self {
+            Column::Lent(field) => copy_inner(alloc, field),
+            Column::Nameless(field) => copy_inner(alloc, field),
+            Column::Made(field) => Ok(inner_columns(field.into_inner())),
+        }
+    }
 }
 
 // An expression as it is typed, and the column that it gives.
@@ -53,17 +87,6 @@ pub fn inner<'b, 'a>(column: &'b Column<'a>) -> &'b Schema
     &field(column).inner
 }
 
-// A column with memory of its own.
-pub fn owned(alloc: Global, column: Column) -> Result<Field, AllocError>
-    ensures { IfOk result (λ f. named_tree f ≡ column_seen column.entry) }
-{
-    match column {
-        Column::Lent(field) => copy_field(alloc, field),
-        Column::Nameless(field) => nameless(alloc, field),
-        Column::Made(field) => Ok(field.into_inner()),
-    }
-}
-
 // A copy of a column with memory of its own.
 pub fn copied(alloc: Global, column: &Column) -> Result<Field, AllocError>
     ensures { IfOk result (λ f. named_tree f ≡ column_seen column.now) }
@@ -72,17 +95,6 @@ pub fn copied(alloc: Global, column: &Column) -> Result<Field, AllocError>
         Column::Lent(field) => copy_field(alloc, *field),
         Column::Nameless(field) => nameless(alloc, *field),
         Column::Made(field) => copy_field(alloc, field.get()),
-    }
-}
-
-// What stands inside a column, with memory of its own.
-pub fn into_inner(alloc: Global, column: Column) -> Result<Schema, AllocError>
-    ensures { IfOk result (λ s. inner_of (schema_tree s) ≡ tree_inner (column_seen column.entry)) }
-{
-    match column {
-        Column::Lent(field) => copy_inner(alloc, field),
-        Column::Nameless(field) => copy_inner(alloc, field),
-        Column::Made(field) => Ok(inner_columns(field.into_inner())),
     }
 }
 

@@ -10,10 +10,10 @@ ghost use Rattle.pig_typing.specs.Reader.{args_on, typed_cast, choose_of, compar
 ghost use Rattle.pig_typing.specs.Results.{checked_then, IfRefused, Tells};
 ghost use Rattle.pig_typing.specs.Joins.{cast_if};
 ghost use Rattle.pig_typing.specs.Typing.{Types, after, begun, chain_typing, choice, count};
-ghost use Rattle.pig_typing.specs.Views.{column_seen, join_tree, sofar_tree, typed_tree, typing_tree};
+ghost use Rattle.pig_typing.specs.Views.{chain_tree, column_seen, join_tree, typed_tree, typing_tree};
 
 use crate::calls::{call, function, with_count};
-use crate::columns::{Column, Typing, holding, into_inner, kind, made, owned, plain};
+use crate::columns::{Column, Typing, holding, kind, made, plain};
 use crate::faults::{CheckKind, TypeFault, in_memory, refused};
 use crate::joins::{
     Join, Operands, alike, cast_both, cast_if, chained, compared, condition, minus,
@@ -64,7 +64,7 @@ pub fn kept(alloc: Global, typing: Typing) -> Result<TypedExpr, AllocError>
     ensures { IfOk result (λ t. typed_tree t ≡ typing_tree typing.entry) }
 {
     let Typing { expr, column } = typing;
-    let column = owned(alloc, column)?;
+    let column = column.owned(alloc)?;
     let expr = expr.into_inner();
     Ok(TypedExpr { expr, column })
 }
@@ -184,7 +184,7 @@ fn inverse<'a>(alloc: Global, a: Typing<'a>) -> Result<Typing<'a>, TypeFault>
 
 // The part of a chain so far, and its kind.
 #[derive(Drop)]
-pub struct Sofar {
+pub struct ChainSoFar {
     pub first: Boxed<TExpr>,
     pub links: TLinks,
     pub kind: Boxed<Kind>,
@@ -210,22 +210,22 @@ fn chain<'a>(
     Ok(whole(alloc, so_far)?)
 }
 
-fn begin<'a>(alloc: Global, first: Typing<'a>) -> Result<Sofar, AllocError>
-    ensures { IfOk result (λ c. sofar_tree c ≡ begun (typing_tree first.entry)) }
+fn begin<'a>(alloc: Global, first: Typing<'a>) -> Result<ChainSoFar, AllocError>
+    ensures { IfOk result (λ c. chain_tree c ≡ begun (typing_tree first.entry)) }
 {
     let Typing { expr, column } = first;
     let kind = copy_kind(alloc, kind(&column))?;
-    Ok(Sofar {
+    Ok(ChainSoFar {
         first: expr,
         links: Seq::new(alloc),
         kind: Boxed::new(alloc, kind)?,
     })
 }
 
-fn whole<'a>(alloc: Global, so_far: Sofar) -> Result<Typing<'a>, AllocError>
-    ensures { IfOk result (λ p. typing_tree p ≡ chain_typing (sofar_tree so_far)) }
+fn whole<'a>(alloc: Global, so_far: ChainSoFar) -> Result<Typing<'a>, AllocError>
+    ensures { IfOk result (λ p. typing_tree p ≡ chain_typing (chain_tree so_far)) }
 {
-    let Sofar { first, links, kind } = so_far;
+    let ChainSoFar { first, links, kind } = so_far;
     plain(
         alloc,
         TExpr::Chain { first, rest: links },
@@ -235,8 +235,13 @@ fn whole<'a>(alloc: Global, so_far: Sofar) -> Result<Typing<'a>, AllocError>
 
 // One link more.
 #[tactic(auto, unfolding(crate::specs::Reader::typed_link))]
-fn linked<'a>(alloc: Global, so_far: Sofar, op: ChainOp, a: Typing<'a>) -> Result<Sofar, TypeFault>
-    ensures { Tells sofar_tree (typed_link (sofar_tree so_far) op (typing_tree a.entry)) result }
+fn linked<'a>(
+    alloc: Global,
+    so_far: ChainSoFar,
+    op: ChainOp,
+    a: Typing<'a>,
+) -> Result<ChainSoFar, TypeFault>
+    ensures { Tells chain_tree (typed_link (chain_tree so_far) op (typing_tree a.entry)) result }
 {
     match chained(op, so_far.kind.get(), kind(&a.column)) {
         Some(join) => in_memory(longer(alloc, so_far, op, join, a.expr)),
@@ -246,20 +251,20 @@ fn linked<'a>(alloc: Global, so_far: Sofar, op: ChainOp, a: Typing<'a>) -> Resul
 
 fn longer(
     alloc: Global,
-    so_far: Sofar,
+    so_far: ChainSoFar,
     op: ChainOp,
     join: Join,
     expr: Boxed<TExpr>,
-) -> Result<Sofar, AllocError>
-    ensures { IfOk result (λ c. sofar_tree c
-        ≡ after (sofar_tree so_far) op (join_tree join) (typed expr)) }
+) -> Result<ChainSoFar, AllocError>
+    ensures { IfOk result (λ c. chain_tree c
+        ≡ after (chain_tree so_far) op (join_tree join) (typed expr)) }
 {
-    let Sofar { first, links, .. } = so_far;
+    let ChainSoFar { first, links, .. } = so_far;
     let Operands { kind, left, right } = cast_both(alloc, join, first, expr)?;
     let mut links = links;
     let a = right.into_inner();
     links.push(TLink { op, a })?;
-    Ok(Sofar {
+    Ok(ChainSoFar {
         first: left,
         links,
         kind,
@@ -374,7 +379,12 @@ fn opposite<'a>(alloc: Global, a: Typing<'a>, kind: Kind) -> Result<Typing<'a>, 
     plain(alloc, TExpr::Minus(a.expr), kind)
 }
 
-// The column of a type, within the limits.
+/// The column that a written type gives, without a name, within the limits.
+///
+/// # Errors
+///
+/// FloatType where a word for floating numbers or dates stands within the type, TooWide or TooDeep where its kind is past
+/// the limits.
 #[tactic(auto, unfolding(crate::specs::Reader::type_of_cast))]
 pub fn cast_type(alloc: Global, to: &TypeTree) -> Result<Boxed<Field>, TypeFault>
     ensures { Tells named_tree (type_of_cast (type_form to.now)) result }
@@ -466,8 +476,8 @@ fn one_inside<'a>(
         ≡ tree_inner (if is_second then column_seen second.entry else column_seen first.entry)) }
 {
     if is_second {
-        into_inner(alloc, second)
+        second.into_inner(alloc)
     } else {
-        into_inner(alloc, first)
+        first.into_inner(alloc)
     }
 }
