@@ -17,7 +17,8 @@ use Rattle.pig_typed.specs.declared.blocks.SortKey.{SortKey}
 use Rattle.pig_typing.specs.Columns.{AreColumns, IsPlace, Place, locals_of, place_row}
 use Rattle.pig_typing.specs.Parts.{Typing, typing, typed_of, typed_column, kind_in}
 use Rattle.pig_typing.proofs.Inside.{inner_all, inner_kinds, meant_kind}
-use Rattle.pig_typing.proofs.ItemsHold.{condition_kind, items_hold}
+use Rattle.pig_typing.proofs.ConditionsHold.{condition_kind}
+use Rattle.pig_items.proofs.ItemsHold.{items_hold}
 use Rattle.pig_typing.proofs.KindsHold.{holds}
 use Rattle.pig_blocks.specs.Bags.{Bags, a_bag, bag_form, columns_in, is_bag}
 use Rattle.pig_blocks.specs.Foreach.{Foreach, TypesForeach, types_foreach, block_in, columns_of}

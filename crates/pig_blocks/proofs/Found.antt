@@ -13,7 +13,8 @@ use Rattle.pig_typing.specs.declared.faults.CheckKind.{CheckKind}
 use Rattle.pig_typing.specs.Columns.{Place}
 use Rattle.pig_typing.specs.Parts.{Typing}
 use Rattle.pig_typing.proofs.Found as expr
-use Rattle.pig_typing.proofs.ItemsFound.{condition_found, condition_fails, items_found, items_fail}
+use Rattle.pig_typing.proofs.ConditionsFound.{condition_found, condition_fails}
+use Rattle.pig_items.proofs.ItemsFound.{items_found, items_fail}
 use Rattle.pig_typing.proofs.References.{Fails, failed, fails_first, fails_next, not_both, refer_is, refer_fails}
 use Rattle.pig_blocks.specs.Bags.{Bags, BagsNot, a_bag, untyped_bag, no_bag, as_bag, bag_of}
 use Rattle.pig_blocks.specs.Foreach.{Foreach, TypesForeach, ForeachFaults, types_foreach, in_steps, in_items, past_limits, foreach_of, within_row}

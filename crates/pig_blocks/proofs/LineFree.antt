@@ -17,7 +17,8 @@ use Rattle.pig_syntax.specs.declared.trees.Step.{Step}
 use Rattle.pig_typed.specs.Literals.{BlockLiteralsAre, StepLiteralsAre}
 use Rattle.pig_typing.specs.Columns.{Place}
 use Rattle.pig_typing.specs.Parts.{Typing, typed_of}
-use Rattle.pig_typing.proofs.NoLineEnds.{IsFree, condition_free, items_free, typing_free}
+use Rattle.pig_typing.proofs.NoLineEnds.{IsFree, condition_free, typing_free}
+use Rattle.pig_items.proofs.NoLineEnds.{items_free}
 use Rattle.pig_blocks.specs.Bags.{Bags, a_bag, bag_form, projected_form}
 use Rattle.pig_blocks.specs.Foreach.{Foreach, TypesForeach, types_foreach, block_in}
 use Rattle.pig_blocks.specs.Steps.{Made, made, step_made, within, row_place, Makes, makes_filter, makes_distinct, makes_order, makes_limit, makes_take, behind, Stepped, steps_made, place_behind, AllMake, none_make, more_make}

@@ -16,14 +16,15 @@ use Rattle.pig_typed.specs.declared.blocks.SortKey.{SortKey}
 use Rattle.pig_typing.specs.declared.faults.CheckKind.TheVariants as kind
 use Rattle.pig_typing.specs.Columns.{Place, RefersTo, refer}
 use Rattle.pig_typing.specs.Conditions.{condition_on}
-use Rattle.pig_typing.specs.Items.{Generated, AllGenerate, items_of}
+use Rattle.pig_items.specs.Items.{Generated, AllGenerate, items_of}
 use Rattle.pig_typing.specs.Limits.{limited_row}
 use Rattle.pig_typing.specs.Parts.{Typing, kind_in}
 use Rattle.pig_typing.specs.Reader.{type_of}
 use Rattle.pig_typing.specs.Results.{Checked, ◌>>=◌}
 use Rattle.pig_typing.specs.Typing.{Types}
 use Rattle.pig_typing.proofs.Chains.{then_told, then_is}
-use Rattle.pig_typing.proofs.ItemsTold.{IsConditionTold, condition_told, AreGenerated, items_told}
+use Rattle.pig_typing.proofs.ConditionsTold.{IsConditionTold, condition_told}
+use Rattle.pig_items.proofs.ItemsTold.{AreGenerated, items_told}
 use Rattle.pig_typing.proofs.References.{IsReferred, referred}
 use Rattle.pig_typing.proofs.Told as expr
 use Rattle.pig_blocks.specs.Bags.{Bags, BagsNot, a_bag, untyped_bag, no_bag, as_bag, bag_form, bag_of, columns_in, is_bag}

@@ -7,7 +7,7 @@ use Rattle.pig_syntax.specs.declared.trees.Item.{Item}
 use Rattle.pig_syntax.specs.declared.trees.Step.{Step}
 use Rattle.pig_typed.specs.Typed.{TypedBlock}
 use Rattle.pig_typing.specs.declared.faults.CheckKind.{CheckKind}
-use Rattle.pig_typing.specs.Items.{Generated, AllGenerate, AllGenerateNot, items_of}
+use Rattle.pig_items.specs.Items.{Generated, AllGenerate, AllGenerateNot, items_of}
 use Rattle.pig_typing.specs.Limits.{limited_row}
 use Rattle.pig_typing.specs.Results.{Checked, ◌>>=◌}
 use Rattle.pig_blocks.specs.Steps.{row_place, Stepped, steps_made, place_behind, AllMake, AllMakeNot, steps_of}

@@ -1,18 +1,18 @@
 ghost use Rattle.std.specs.Prelude.{IfOk};
 ghost use Rattle.pig_schema.specs.FieldTrees.{schema_tree};
-ghost use Rattle.pig_typed.specs.Typed.{step_typed};
-ghost use Rattle.pig_typing.specs.Items.{items_of};
+ghost use Rattle.pig_items.specs.Items.{items_of};
 ghost use Rattle.pig_typing.specs.Results.{IfRefused, Tells};
-ghost use Rattle.pig_typing.specs.Views.{generated_tree};
+ghost use Rattle.pig_items.specs.Views.{generated_tree};
 ghost use Rattle.pig_blocks.specs.Foreach.{ForeachFaults, TypesForeach, foreach_of, within_row};
 ghost use Rattle.pig_blocks.specs.Steps.{place_behind};
 ghost use Rattle.pig_blocks.specs.Views.{foreach_tree, stepped_tree};
 
 use crate::steps::{Stepped, all_steps};
+use pig_items::{Generated, type_items};
 use pig_schema::Schema;
 use pig_syntax::{Item, Step};
 use pig_typed::Block;
-use pig_typing::{Generated, Scope, TypeFault, row_within_limits, type_items};
+use pig_typing::{Scope, TypeFault, row_within_limits};
 use std::alloc::Global;
 
 /// A typed block, and the columns of the rows that it generates.

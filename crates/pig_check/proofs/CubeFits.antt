@@ -17,7 +17,7 @@ use Rattle.pig_plan.specs.Plans.{Plan, PlanOp}
 use Rattle.pig_typing.specs.declared.faults.CheckKind.TheVariants as kind
 use Rattle.pig_typing.specs.Columns.{AreColumns, RefersTo}
 use Rattle.pig_typing.specs.declared.limits.TheConstants.{MOST_KINDS}
-use Rattle.pig_typing.specs.Limits.{any_too_many_fields, too_many_fields, is_deep_row, is_wide_row, limited_row, row_kind, too_many}
+use Rattle.pig_typing.specs.Limits.{any_too_many_fields, is_deep_row, is_wide_row, limited_row, row_kind, too_many, too_many_fields}
 use Rattle.pig_typing.proofs.Inside.{meant_kind}
 use Rattle.pig_relations.specs.Aliases.{Aliases, IsRelation, IsTable, RelationTree}
 use Rattle.pig_relations.specs.Operators.{cube_columns, group_column}

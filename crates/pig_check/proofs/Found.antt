@@ -17,7 +17,7 @@ use Rattle.pig_typing.specs.declared.faults.CheckKind.TheVariants as kind
 use Rattle.pig_typing.specs.Columns.{Place}
 use Rattle.pig_typing.specs.Conditions.{condition_on}
 use Rattle.pig_typing.specs.Results.{due}
-use Rattle.pig_typing.proofs.ItemsFound.{condition_found, condition_fails}
+use Rattle.pig_typing.proofs.ConditionsFound.{condition_found, condition_fails}
 use Rattle.pig_typing.proofs.References.{Fails, failed, fails_first, fails_next, not_both}
 use Rattle.pig_blocks.specs.SortKeys.{sorted_by}
 use Rattle.pig_blocks.proofs.Found.{foreach_found, foreach_fails, order_found, order_fails}
@@ -25,7 +25,7 @@ use Rattle.pig_relations.specs.Aliases.{relation_of}
 use Rattle.pig_relations.specs.Operators.{TypedOp}
 use Rattle.pig_relations.proofs.OperatorsTold.{group_found, group_fails, group_all_found, group_all_fails, join_found, join_fails, union_found, union_fails}
 use Rattle.pig_check.specs.Functions.{HasDelimiter, HasNoDelimiter, none_written, of_pig_storage, other_function, odd_arguments, delimiter_by, delimiter_in, pig_storage}
-use Rattle.pig_check.specs.Operators.{OpTypes, OpNot, load, filter, foreach, group_all, group, join, distinct, order, limit, rank, no_path, own_output, no_delimiter, float_written, past_limits, filter_of_none, no_condition, foreach_of_none, no_block, no_group_all, no_group, no_join, distinct_of_none, order_of_none, no_order, limit_of_none, rank_of_none, no_rank, rank_past_limits, rank_columns, not_stored, input_of, schema_of, load_of, filter_of, block_of, distinct_of, order_of, limit_of, rank_of}
+use Rattle.pig_check.specs.Operators.{OpTypes, OpNot, load, filter, foreach, group_all, group, join, distinct, order, limit, rank, no_path, own_output, no_delimiter, float_written, past_limits, filter_of_none, no_condition, foreach_of_none, no_block, no_group_all, no_group, no_join, distinct_of_none, order_of_none, no_order, limit_of_none, rank_of_none, no_rank, rank_past_limits, not_stored, input_of, schema_of, load_of, filter_of, block_of, distinct_of, order_of, limit_of, rank_of}
 use Rattle.pig_check.specs.Paths.{GivesPath, GivesNoPath, a_path, not_plain, compressed, is_plain, kept, path_of}
 use Rattle.pig_check.specs.Splits.{AllConditions, AllConditionsNot, no_branches, more_branches, here_not, later_not, conditions_of, split_of}
 use Rattle.pig_check.specs.States.{Added, State, is_loaded, is_stored}

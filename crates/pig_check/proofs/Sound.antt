@@ -18,7 +18,7 @@ use Rattle.pig_typing.specs.Columns.{AreColumns}
 use Rattle.pig_typing.specs.Conditions.{Conditions}
 use Rattle.pig_typing.specs.Written.{of_fields, written}
 use Rattle.pig_typing.proofs.Inside.{inner_all, written_field_is}
-use Rattle.pig_typing.proofs.ItemsHold.{condition_kind}
+use Rattle.pig_typing.proofs.ConditionsHold.{condition_kind}
 use Rattle.pig_typing.proofs.NoLineEnds.{condition_free}
 use Rattle.pig_blocks.specs.Foreach.{block_in}
 use Rattle.pig_blocks.proofs.BlockKinds.{foreach_holds, order_keys, order_some}

@@ -27,7 +27,7 @@ use Rattle.pig_typing.specs.Conditions.{condition_on}
 use Rattle.pig_typing.specs.Limits.{limited_row}
 use Rattle.pig_typing.specs.Results.{Checked, due}
 use Rattle.pig_typing.proofs.Chains.{then_told, passes, then_is, due_is}
-use Rattle.pig_typing.proofs.ItemsTold.{IsConditionTold, condition_told}
+use Rattle.pig_typing.proofs.ConditionsTold.{IsConditionTold, condition_told}
 use Rattle.pig_blocks.specs.Foreach.{foreach_of}
 use Rattle.pig_blocks.specs.SortKeys.{sorted_by}
 use Rattle.pig_blocks.proofs.Told.{IsForeachTold, IsOrderTold, foreach_told, order_told}

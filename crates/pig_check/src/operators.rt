@@ -1,5 +1,4 @@
 ghost use Rattle.std.specs.Prelude.{◌≡◌, ◌++◌, IfOk, codes};
-ghost use Rattle.std.specs.List.{list_any};
 ghost use Rattle.pig_value.specs.Trees.{k_long};
 ghost use Rattle.pig_schema.specs.FieldTrees.{named_tree, schema_tree, tree_kind};
 ghost use Rattle.pig_syntax.specs.ExprTrees.{expr_form};

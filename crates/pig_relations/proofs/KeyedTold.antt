@@ -7,8 +7,8 @@ use Rattle.pig_typing.specs.declared.faults.CheckKind.TheVariants as kind
 use Rattle.pig_typing.specs.Conditions.{keys_on}
 use Rattle.pig_typing.specs.Results.{Checked}
 use Rattle.pig_typing.proofs.Chains.{then_told, due_is}
-use Rattle.pig_typing.proofs.ItemsFound.{keys_found, keys_fail}
-use Rattle.pig_typing.proofs.ItemsTold.{AreKeysTold, keys_told}
+use Rattle.pig_typing.proofs.ConditionsFound.{keys_found, keys_fail}
+use Rattle.pig_typing.proofs.ConditionsTold.{AreKeysTold, keys_told}
 use Rattle.pig_typing.proofs.References.{Fails, failed, fails_first, fails_next}
 use Rattle.pig_relations.specs.Aliases.{Aliases, relation_at, relation_of}
 use Rattle.pig_relations.specs.Keyed.{KeyedForm, TypedInput, Keyable, rows_of, key_kinds, keys_kinds, TypesInput, TypesInputNot, types_input, unknown_input, untyped_keys, TypesInputs, TypesInputsNot, no_inputs, more_inputs, here_untyped, later_untyped, TypesKeyed, TypesKeyedNot, types_keyed, untyped_input, of_unlike_keys, of_other_kinds, input_of, inputs_of, keyed_of}

@@ -1,6 +1,6 @@
 ghost use Rattle.std.specs.Prelude.{◌≡◌, ◌++◌, IfOk, Some, codes, map};
 ghost use Rattle.pig_value.specs.Trees.{kind_tree, k_tuple};
-ghost use Rattle.pig_schema.specs.FieldTrees.{named_tree, schema_tree, tree_kind, tree_name};
+ghost use Rattle.pig_schema.specs.FieldTrees.{named_tree, schema_tree, tree_kind};
 ghost use Rattle.pig_typing.specs.Parts.{name_under, under_name};
 ghost use Rattle.pig_typing.specs.Written.{of_fields};
 ghost use Rattle.pig_relations.specs.Operators.{bag_column};

@@ -1,29 +1,23 @@
 -- Lists that the code keeps, as the definitions see them.
-use Rattle.std.proofs.Common.{◌≡◌, ◌∙◌, ◌+◌, ◌-◌, ◌<◌, Bool, true, false, ℕ, suc, List, [], ◌∷◌, ◌++◌, map, length, refl, sym, ap, subst, arith}
+use Rattle.std.proofs.Common.{◌≡◌, ◌∙◌, ◌+◌, ◌-◌, ◌<◌, ℕ, suc, List, [], ◌∷◌, ◌++◌, map, length, refl, sym, ap, subst, arith}
 use Rattle.std.specs.Prelude.{Option, Some, None, slice_get}
-use Rattle.std.specs.Bool.{Decides}
-use Rattle.std.specs.Option.{option_and_then, option_map}
 use Rattle.std.proofs.lemmas.List.{append_assoc, length-append, length-map}
 use Rattle.pig_value.specs.Trees.{KindTree, kind_tree}
 use Rattle.pig_schema.specs.FieldTrees.{FieldTree, tree_name, tree_kind, tree_inner, inner_of, inner_list, name_of, kind_of, names_of, field_step, named_tree, schema_tree}
 use Rattle.pig_schema.specs.declared.schema.Field.{Field, out-Field}
 use Rattle.pig_schema.specs.declared.schema.Field.TheFolds.{fold_out-Field}
-use Rattle.pig_syntax.specs.ExprTrees.{TypeForm, field_forms}
 use Rattle.pig_value.specs.FunctionKinds.{function_kind}
 use Rattle.pig_value.specs.declared.functions.Function.{Function}
 use Rattle.pig_value.specs.declared.values.Kind.{Kind}
 use Rattle.pig_typed.specs.ExprKinds.{args_kinds, expr_kind}
-use Rattle.pig_typed.specs.Typed.{Typed, TypedItem, x_call, x_field, args_of}
+use Rattle.pig_typed.specs.Typed.{Typed, x_call, x_field, args_of}
 use Rattle.std.specs.declared.result.Result.TheVariants.{Ok}
 use Rattle.pig_typing.specs.Results.{Checked}
 use Rattle.pig_typing.specs.declared.calls.Casting.{Casting}
-use Rattle.pig_typing.specs.Calls.{cast_by, cast_maybe, casting, fields_from, given, kind_after, sized}
-use Rattle.pig_typing.specs.Items.{NameForm, as_many}
-use Rattle.pig_typing.specs.Parts.{Typing, typing, typed_of, typed_column, kind_in, plain_item}
-use Rattle.pig_typing.specs.Reader.{call_typing}
-use Rattle.pig_typing.specs.Typing.{call_kind, called, cast_args, cast_kinds, kinds_as_given}
+use Rattle.pig_typing.specs.Calls.{cast_by, casting, fields_from, kind_after, sized}
+use Rattle.pig_typing.specs.Parts.{Typing, kind_in}
+use Rattle.pig_typing.specs.Typing.{call_kind, called, cast_kinds, kinds_as_given}
 use Rattle.pig_typing.specs.Columns.{later_or}
-use Rattle.pig_typing.specs.Written.{with_name, written, written_field, written_fields}
 
 -- the names and the kinds of fields are those of their trees
 pub names_are : (fields : List Field) → names_of fields ≡ map tree_name (schema_tree fields)
@@ -45,15 +39,6 @@ inner_is f = sym (ap tree_inner (fold_out-Field FieldTree field_step f))
 pub inner_back : (columns : List FieldTree) → inner_list (inner_of columns) ≡ columns
 inner_back [] = refl
 inner_back (c ∷ columns) = ap (λ cs. c ∷ cs) (inner_back columns)
-
--- two lists of one length are as many names as fields
-pub many_is : {A B : Type 0} (f : A → FieldTree) (g : B → NameForm) (cs : List A) (fs : List B) (b : Bool) → Decides b (length cs ≡ length fs) → b ≡ as_many (map f cs) (map g fs)
-many_is f g [] [] b d = d.1 refl
-many_is f g [] (x ∷ fs) true d = let e = d.0 refl in absurd (omega (arith, e))
-many_is f g [] (x ∷ fs) false d = refl
-many_is f g (c ∷ cs) [] true d = let e = d.0 refl in absurd (omega (arith, e))
-many_is f g (c ∷ cs) [] false d = refl
-many_is f g (c ∷ cs) (x ∷ fs) b d = many_is f g cs fs b (λ h. let e = d.0 h in omega (arith, e), λ e. d.1 (ap suc e))
 
 pub later_none : {A : Type 0} (a : Option A) → later_or a None ≡ a
 later_none (Some x) = refl
@@ -84,15 +69,6 @@ fields_step before n count all w e =
     let one : count - n ≡ suc (count - (n + 1)) = omega arith in
     let front : before ++ fields_from n (suc (count - (n + 1))) ≡ all = subst (λ m. before ++ fields_from n m ≡ all) one e in
     append_assoc before (x_field n ∷ []) (fields_from (n + 1) (count - (n + 1))) ∙ front
-
--- one item of `*` more
-pub items_step : (before : List TypedItem) (n count : ℕ) (all : List TypedItem)
-    → n < count → before ++ map plain_item (fields_from n (count - n)) ≡ all
-    → (before ++ plain_item (x_field n) ∷ []) ++ map plain_item (fields_from (n + 1) (count - (n + 1))) ≡ all
-items_step before n count all w e =
-    let one : count - n ≡ suc (count - (n + 1)) = omega arith in
-    let front : before ++ map plain_item (fields_from n (suc (count - (n + 1)))) ≡ all = subst (λ m. before ++ map plain_item (fields_from n m) ≡ all) one e in
-    append_assoc before (plain_item (x_field n) ∷ []) (map plain_item (fields_from (n + 1) (count - (n + 1)))) ∙ front
 
 -- so a call on them has the kind that the function gives of the kinds
 pub row_call_kind : (f : Function) (ks locals : List Kind) (n : ℕ) (es : List Typed) (call : Typed) (found : Option KindTree)

@@ -9,7 +9,7 @@ pub mod Inside
 pub mod KindsHold
 pub mod CodeLaws
 mod LinkSteps
-pub mod ItemsTold
-pub mod ItemsFound
-pub mod ItemsHold
+pub mod ConditionsTold
+pub mod ConditionsFound
+pub mod ConditionsHold
 pub mod NoLineEnds

@@ -1,25 +1,22 @@
 -- What is typed writes no line end, where none stands in the texts of its form.
-use Rattle.std.specs.Prelude.{◌+◌, ◌++◌, ℕ, zero, suc, Bool, true, false, List, [], ◌∷◌, map, Option, Some, None, refl}
+use Rattle.std.specs.Prelude.{◌+◌, ◌++◌, Bool, true, false, List, [], ◌∷◌, map, Option, Some, None, refl}
 use Rattle.std.specs.List.{All, AllByRecursion}
 use Rattle.std.proofs.lemmas.List.Elements.{All-head, All-tail}
 use Rattle.pig_value.specs.Texts.{IsLineFree}
 use Rattle.pig_value.specs.Trees.{KindTree}
 use Rattle.pig_value.specs.declared.operators.ChainOp.{ChainOp}
 use Rattle.pig_syntax.specs.ExprTrees.{ExprForm, LinkForms, ExprForms, no_links, more_links, expr_form, expr_forms}
-use Rattle.pig_syntax.specs.Formed.{ChainRule, rule_of, ExprFormed, ExprsFormed, IsExprFormed, LinksFormed, ItemFormed}
-use Rattle.pig_syntax.specs.declared.trees.AsNames.{AsNames}
+use Rattle.pig_syntax.specs.Formed.{ChainRule, rule_of, ExprFormed, ExprsFormed, IsExprFormed, LinksFormed}
 use Rattle.pig_syntax.specs.declared.trees.Expr.{Expr}
-use Rattle.pig_syntax.specs.declared.trees.Item.{Item}
 use Rattle.pig_syntax.specs.declared.trees.PostStep.{PostStep}
 use Rattle.pig_typed.specs.Literals.{ArgLiteralsAre, LinkLiteralsAre, LiteralsAre}
-use Rattle.pig_typed.specs.Typed.{Typed, TypedItem, args_of, links_of}
+use Rattle.pig_typed.specs.Typed.{Typed, args_of, links_of}
 use Rattle.pig_typing.specs.declared.calls.Casting.{Casting}
-use Rattle.pig_typing.specs.Calls.{casting, cast_by, cast_maybe, fields_from}
+use Rattle.pig_typing.specs.Calls.{casting, cast_by, cast_maybe}
 use Rattle.pig_typing.specs.Columns.{Place}
 use Rattle.pig_typing.specs.Conditions.{Conditions, a_condition, Keys, no_keys, more_keys}
-use Rattle.pig_typing.specs.Items.{Generated, NameForm, Named, named_bare, named_cast, Plain, plain_bare, plain_named, Flat, flat_bare, flat_named, Generates, generates_all, generates_value, generates_flat, AllGenerate, none_generate, more_generate}
 use Rattle.pig_typing.specs.Joins.{Join, cast_if}
-use Rattle.pig_typing.specs.Parts.{Typing, typed_of, kind_in, Steps, projects, looks, Walks, ends, goes, plain_item}
+use Rattle.pig_typing.specs.Parts.{Typing, typed_of, kind_in, Steps, projects, looks, Walks, ends, goes}
 use Rattle.pig_typing.specs.Typing.{Types, Links, Args, ChainSoFar, begun, after, kinds_as_given, type_int, type_long, type_text, type_bool, type_null, type_local, type_named, type_numbered, type_chain, type_compare, type_is_null, type_not, type_minus, type_cast, type_post, type_call, type_choose, links_end, links_go, args_end, args_go}
 
 -- no literal of it holds a line end
@@ -101,7 +98,7 @@ mutual
   all_free s args ps w args_end = tt
   all_free s args ps w (args_go {a = a} {others = others} {p = p} {ps = more} h g) = (typing_free s a p w.0 h, all_free s others more w.1 g)
 
--- ---- conditions, keys and items
+-- ---- conditions and keys
 
 pub condition_free : (s : Place) (a : ExprForm) (t : Typed) → ExprFormed a → Conditions s a t → IsFree t
 condition_free s a t w (a_condition {p = p} {is_cast = cast_so} h e) = cast_free cast_so _ (typed_of p) (typing_free s a p w h)
@@ -114,36 +111,3 @@ keys_free s es ps w (more_keys {a = a} {others = others} {p = p} {ps = more} h e
 pub formed_keys : (keys : List Expr) → All IsExprFormed keys → ExprsFormed (expr_forms (map expr_form keys))
 formed_keys [] h = tt
 formed_keys (key ∷ keys) h = (All-head IsExprFormed key keys h, formed_keys keys (All-tail IsExprFormed key keys h))
-
-abbrev pub ItemsAreFree : List TypedItem → Type 0
-ItemsAreFree items = AllByRecursion (λ i. IsFree i.value) items
-
-fields_free : (n count : ℕ) → ItemsAreFree (map plain_item (fields_from n count))
-fields_free n zero = tt
-fields_free n (suc count) = (tt, fields_free (n + 1) count)
-
-named_free : (p : Typing) (f : NameForm) (g : Generated) → IsFree (typed_of p) → Named p f g → ItemsAreFree g.items
-named_free p f g h named_bare = (h, tt)
-named_free p f g h (named_cast e within t) = (h, tt)
-
-plain_free : (p : Typing) (names : Option AsNames) (g : Generated) → IsFree (typed_of p) → Plain p names g → ItemsAreFree g.items
-plain_free p names g h plain_bare = (h, tt)
-plain_free p names g h (plain_named {f = f} e k) = named_free p f g h k
-
-flat_free : (p : Typing) (names : Option AsNames) (g : Generated) → IsFree (typed_of p) → Flat p names g → ItemsAreFree g.items
-flat_free p names g h (flat_bare e) = (h, tt)
-flat_free p names g h (flat_named e k) = (h, tt)
-
-item_free : (s : Place) (i : Item) (g : Generated) → ItemFormed i → Generates s i g → ItemsAreFree g.items
-item_free s i g w generates_all = fields_free 0 _
-item_free s i g w (generates_value {value = value} {names = names} {p = p} h k) = plain_free p names g (typing_free s (expr_form value) p w.0 h) k
-item_free s i g w (generates_flat {value = value} {names = names} {p = p} h k) = flat_free p names g (typing_free s (expr_form value) p w.0 h) k
-
-items_append : (is js : List TypedItem) → ItemsAreFree is → ItemsAreFree js → ItemsAreFree (is ++ js)
-items_append [] js h k = k
-items_append (i ∷ is) js h k = (h.0, items_append is js h.1 k)
-
-pub items_free : (s : Place) (is : List Item) (g : Generated) → All ItemFormed is → AllGenerate s is g → ItemsAreFree g.items
-items_free s is g w none_generate = tt
-items_free s is g w (more_generate {i = i} {is = more} {g = k} {h = l} h t) =
-    items_append k.items l.items (item_free s i k (All-head ItemFormed i more w) h) (items_free s more l (All-tail ItemFormed i more w) t)

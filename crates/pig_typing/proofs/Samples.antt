@@ -6,13 +6,12 @@ use Rattle.pig_value.specs.declared.functions.Function.TheVariants as function
 use Rattle.pig_value.specs.declared.operators.ChainOp.TheVariants as op
 use Rattle.pig_value.specs.declared.operators.Rel.TheVariants as rel
 use Rattle.pig_schema.specs.FieldTrees.{a_field, no_inner, inner_of}
-use Rattle.pig_syntax.specs.ExprTrees.{ExprForm, t_long, e_int, e_null, e_text, e_field, e_chain, e_compare, e_post, e_call, e_choose, no_links, more_links, no_exprs, more_exprs}
+use Rattle.pig_syntax.specs.ExprTrees.{ExprForm, e_int, e_null, e_text, e_field, e_chain, e_compare, e_post, e_call, e_choose, no_links, more_links, no_exprs, more_exprs}
 use Rattle.pig_syntax.specs.declared.trees.FieldRef.TheVariants as ref
 use Rattle.pig_syntax.specs.declared.trees.PostStep.TheVariants as step
 use Rattle.pig_typed.specs.Typed.{x_null, x_int, x_chars, x_field, x_local, x_chain, x_compare, x_choose, x_cast, x_project, x_look, x_call, links_of, args_of}
 use Rattle.pig_typing.specs.declared.faults.CheckKind.TheVariants as kind
 use Rattle.pig_typing.specs.Columns.{Place, column_at, refer, unnamed}
-use Rattle.pig_typing.specs.Items.{all_renamed}
 use Rattle.pig_typing.specs.Limits.{limited}
 use Rattle.pig_typing.specs.Parts.{chosen_of, given_of, select, step_of, steps_of, typing}
 use Rattle.pig_typing.specs.Reader.{args_on, call_of, kind_due, choose_of, compare_of, condition_of, with_count, field_of, function_of, typed_link, links_on, reference_of, type_of}
@@ -64,11 +63,6 @@ bags : type_of plain (e_call (codes "TOBAG") (more_exprs (named (codes "good")) 
     (inner_of (a_field None (k_bag (kinds_of (k_int ∷ []))) (inner_of (a_field (Some (codes "rank_of")) k_int no_inner ∷ [])) ∷ []))))
 unfolding type_of args_on function_of function_named with_count call_of kind_due limited reference_of field_of refer column_at
 bags = refl
-
--- three fields `AS x:long`
-counts : all_renamed plain.columns ((codes "x", Some t_long) ∷ []) ≡ Err kind.SchemaMismatch
-unfolding all_renamed
-counts = refl
 
 -- a nested alias hides the field, and has no name
 hides : type_of nested (named (codes "a")) ≡ Ok (typing (x_local 0) (a_field None (k_bag (kinds_of (k_int ∷ []))) no_inner))

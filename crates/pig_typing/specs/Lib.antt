@@ -10,5 +10,4 @@ pub mod Typing
 pub mod Faults
 pub mod Reader
 pub mod Conditions
-pub mod Items
 pub mod Views

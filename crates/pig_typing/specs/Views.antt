@@ -1,8 +1,8 @@
 -- What the code holds, as the definitions see it.
 use Rattle.std.specs.Prelude.{ℕ, map}
 use Rattle.pig_value.specs.Trees.{kind_tree}
-use Rattle.pig_schema.specs.FieldTrees.{FieldTree, named_tree, schema_tree}
-use Rattle.pig_typed.specs.Typed.{typed, item_typed, link_of}
+use Rattle.pig_schema.specs.FieldTrees.{FieldTree, named_tree}
+use Rattle.pig_typed.specs.Typed.{typed, link_of}
 use Rattle.pig_typing.specs.declared.columns.Column.{Column}
 use Rattle.pig_typing.specs.declared.columns.Column.TheVariants as column
 use Rattle.pig_typing.specs.declared.columns.Typing as code
@@ -11,9 +11,7 @@ use Rattle.pig_typing.specs.declared.exprs.TypedExpr.{TypedExpr}
 use Rattle.pig_typing.specs.declared.joins.Join as both
 use Rattle.pig_typing.specs.declared.joins.Operands as operands
 use Rattle.pig_typing.specs.declared.parts.Pick.{Pick}
-use Rattle.pig_typing.specs.declared.items.Generated as code_items
 use Rattle.pig_typing.specs.Columns.{nameless}
-use Rattle.pig_typing.specs.Items.{Generated}
 use Rattle.pig_typing.specs.Joins.{Join, Operands, join}
 use Rattle.pig_typing.specs.Parts.{Typing, typing}
 use Rattle.pig_typing.specs.Typing.{ChainSoFar}
@@ -37,9 +35,6 @@ join_tree j = join (kind_tree j.kind) j.left j.right
 
 abbrev pub operands_tree : operands.Operands → Operands
 operands_tree o = record { kind = kind_tree o.kind; left = typed o.left; right = typed o.right }
-
-abbrev pub generated_tree : code_items.Generated → Generated
-generated_tree g = record { items = map item_typed g.items; columns = schema_tree g.columns }
 
 abbrev pub pick_tree : Pick → ℕ × FieldTree
 pick_tree p = (p.place, named_tree p.column)

@@ -1,20 +1,17 @@
-ghost use Rattle.std.specs.Prelude.{◌≡◌, ◌⊎◌, List, Some, map};
-ghost use Rattle.std.specs.List.{All, AllByRecursion};
+ghost use Rattle.std.specs.Prelude.{◌≡◌, ◌⊎◌, List, Some};
+ghost use Rattle.std.specs.List.{AllByRecursion};
 ghost use Rattle.pig_value.specs.Texts.{IsLineFree};
 ghost use Rattle.pig_value.specs.Trees.{k_boolean};
-ghost use Rattle.pig_schema.specs.FieldTrees.{IsColumn, tree_kind};
+ghost use Rattle.pig_schema.specs.FieldTrees.{IsColumn};
 ghost use Rattle.pig_syntax.specs.ExprTrees.{ExprForm, ExprForms};
-ghost use Rattle.pig_syntax.specs.declared.trees.Item.{Item};
-ghost use Rattle.pig_syntax.specs.Formed.{ExprFormed, ExprsFormed, ItemFormed};
-ghost use Rattle.pig_typed.specs.BlockKinds.{items_kinds};
+ghost use Rattle.pig_syntax.specs.Formed.{ExprFormed, ExprsFormed};
 ghost use Rattle.pig_typed.specs.ExprKinds.{expr_kind};
 ghost use Rattle.pig_typed.specs.Literals.{LiteralsAre};
 ghost use Rattle.pig_typed.specs.Typed.{Typed};
 ghost use Rattle.pig_typing.specs.declared.faults.CheckKind.{CheckKind};
-ghost use Rattle.pig_typing.specs.Columns.{AreColumns, IsPlace, Place, locals_of, place_row};
+ghost use Rattle.pig_typing.specs.Columns.{IsPlace, Place, locals_of, place_row};
 ghost use Rattle.pig_typing.specs.Conditions.{Conditions, ConditionsNot, Keys, KeysNot};
 ghost use Rattle.pig_typing.specs.Faults.{Faults};
-ghost use Rattle.pig_typing.specs.Items.{AllGenerate, AllGenerateNot, Generated};
 ghost use Rattle.pig_typing.specs.Parts.{Typing, typed_column, kind_in, typed_of};
 ghost use Rattle.pig_typing.specs.Typing.{Types};
 
@@ -45,9 +42,6 @@ pub fn typings_write_no_line_end()
         → LiteralsAre IsLineFree t }
     ensures keys { (s : Place) (es : ExprForms) (ps : List Typing) → ExprsFormed es → Keys s es ps
         → AllByRecursion (λ p. LiteralsAre IsLineFree (typed_of p)) ps }
-    ensures items { (s : Place) (is : List Item) (g : Generated) → All ItemFormed is
-        → AllGenerate s is g
-        → AllByRecursion (λ i. LiteralsAre IsLineFree i.value) g.items }
 {}
 
 /// A condition is boolean on the kinds of the columns and of the nested aliases.
@@ -63,14 +57,6 @@ pub fn keys_have_their_kinds()
         ≡ Some (kind_in p)) ps }
     ensures inside { (s : Place) (es : ExprForms) (ps : List Typing) → IsPlace s → Keys s es ps
         → AllByRecursion (λ p. IsColumn (typed_column p)) ps }
-{}
-
-/// The items of a GENERATE have the kinds of the columns that they give, and inside each column is what is of its kind.
-pub fn items_have_their_kinds()
-    ensures kinds { (s : Place) (is : List Item) (g : Generated) → IsPlace s → AllGenerate s is g
-        → items_kinds g.items (place_row s) (locals_of s) ≡ Some (map tree_kind g.columns) }
-    ensures columns { (s : Place) (is : List Item) (g : Generated) → IsPlace s → AllGenerate s is g
-        → AreColumns g.columns }
 {}
 
 /// Of a condition there is likewise one typing, or the condition of some kind of refusal holds, and never both.
@@ -91,14 +77,4 @@ pub fn keys_have_one_typing()
         → ((ps : List Typing) × Keys s es ps) ⊎ ((kind : CheckKind) × KeysNot s es kind) }
     ensures never_both { (s : Place) (es : ExprForms) (ps : List Typing) (kind : CheckKind)
         → Keys s es ps → KeysNot s es kind → ⊥ }
-{}
-
-/// Of the items of a GENERATE there is likewise one typing, or the condition of some kind of refusal holds, and never both.
-pub fn items_have_one_typing()
-    ensures one { (s : Place) (is : List Item) (g h : Generated) → AllGenerate s is g
-        → AllGenerate s is h → g ≡ h }
-    ensures some { (s : Place) (is : List Item)
-        → ((g : Generated) × AllGenerate s is g) ⊎ ((kind : CheckKind) × AllGenerateNot s is kind) }
-    ensures never_both { (s : Place) (is : List Item) (g : Generated) (kind : CheckKind)
-        → AllGenerate s is g → AllGenerateNot s is kind → ⊥ }
 {}

@@ -12,7 +12,6 @@ mod columns;
 mod conditions;
 mod exprs;
 mod faults;
-mod items;
 mod joins;
 mod laws;
 mod limits;
@@ -26,11 +25,10 @@ mod written;
 pub use conditions::{TypedExprs, type_condition, type_keys};
 pub use exprs::{TypedExpr, cast_type, type_expr};
 pub use faults::{CheckKind, TypeFault, in_memory, refused};
-pub use items::{Generated, type_items};
 pub use laws::{
     conditions_have_one_typing, conditions_have_their_kind, expressions_have_one_typing,
-    items_have_one_typing, items_have_their_kinds, keys_have_one_typing, keys_have_their_kinds,
-    typings_have_their_kinds, typings_write_no_line_end,
+    keys_have_one_typing, keys_have_their_kinds, typings_have_their_kinds,
+    typings_write_no_line_end,
 };
 pub use limits::{MOST_DEPTH, MOST_FIELDS, MOST_KINDS, row_within_limits, within_limits};
 pub use locals::{Local, Locals};

@@ -1,6 +1,6 @@
 ghost use Rattle.std.specs.Prelude.{◌≡◌, ◌+◌, IfOk, map, nat_lt};
 ghost use Rattle.pig_schema.specs.FieldTrees.{schema_tree};
-ghost use Rattle.pig_value.specs.Kinds.{depth_of, width_of};
+ghost use Rattle.pig_value.specs.Kinds.{width_of};
 ghost use Rattle.pig_value.specs.Trees.{kind_tree, kinds_of};
 ghost use Rattle.pig_typing.specs.declared.limits.TheConstants.{MOST_KINDS};
 ghost use Rattle.pig_typing.specs.Limits.{any_too_many_fields, is_deep_row, is_too_deep, is_too_wide, is_wide_row, limited, limited_row, row_kind, too_many, too_many_fields};

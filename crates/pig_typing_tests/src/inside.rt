@@ -4,9 +4,10 @@
 use crate::shared::{
     called, choice, choice_by, columns, field, locals, part_of, place_of, push, shown_fault,
 };
+use pig_items::type_items;
 use pig_schema::{Field, Schema};
 use pig_syntax::{Expr, Exprs, Item, Items};
-use pig_typing::{Scope, type_expr, type_items};
+use pig_typing::{Scope, type_expr};
 use pig_value::{Kind, Seq};
 use std::alloc::Global;
 use std::process::Abort;

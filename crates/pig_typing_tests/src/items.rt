@@ -2,11 +2,12 @@
 //! that is due.
 // Trees end by `drop`: one call is cheap to prove, and a tree that dies by name is taken apart variant by variant.
 use crate::shared::{columns, field, locals, push, shown_fault, text};
+use pig_items::{Generated, type_items};
 use pig_schema::{Field, Schema};
 use pig_shown_tests::plain;
 use pig_syntax::{AsNames, Expr, FieldTree, Item, Items, TypeTree};
 use pig_typed::BlockItem;
-use pig_typing::{Generated, Scope, type_items};
+use pig_typing::Scope;
 use pig_value::{Seq, Text};
 use std::alloc::Global;
 use std::process::Abort;

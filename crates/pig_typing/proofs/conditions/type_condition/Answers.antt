@@ -10,7 +10,7 @@ use Rattle.pig_typing.specs.declared.faults.TypeFault.TheVariants as fault
 use Rattle.pig_typing.specs.Columns.{Place, place_of}
 use Rattle.pig_typing.specs.Conditions.{Conditions, ConditionsNot, condition_on}
 use Rattle.pig_typing.specs.Results.{IfRefused, Tells}
-use Rattle.pig_typing.proofs.ItemsTold.{IsConditionTold, condition_told}
+use Rattle.pig_typing.proofs.ConditionsTold.{IsConditionTold, condition_told}
 use Rattle.pig_typing.proofs.conditions.type_condition.Goals as goal
 
 holds : (s : Place) (a : ExprForm) (r : Result TExpr TypeFault) → Tells typed (condition_on s a) r → IfOk r (λ t. Conditions s a (typed t)) × IfRefused r (ConditionsNot s a)

@@ -10,7 +10,7 @@ use Rattle.pig_typing.specs.Columns.{Place, place_of}
 use Rattle.pig_typing.specs.Conditions.{Keys, KeysNot, keys_on}
 use Rattle.pig_typing.specs.Results.{IfRefused, Tells}
 use Rattle.pig_typing.specs.Views.{typed_tree}
-use Rattle.pig_typing.proofs.ItemsTold.{AreKeysTold, keys_told}
+use Rattle.pig_typing.proofs.ConditionsTold.{AreKeysTold, keys_told}
 use Rattle.pig_typing.proofs.conditions.type_keys.Goals as goal
 
 holds : (s : Place) (es : ExprForms) (r : Result (List TypedExpr) TypeFault) → Tells (map typed_tree) (keys_on s es) r → IfOk r (λ ts. Keys s es (map typed_tree ts)) × IfRefused r (KeysNot s es)

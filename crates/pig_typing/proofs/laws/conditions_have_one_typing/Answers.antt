@@ -7,8 +7,8 @@ use Rattle.pig_typing.specs.declared.faults.CheckKind.{CheckKind}
 use Rattle.pig_typing.specs.Columns.{Place}
 use Rattle.pig_typing.specs.Conditions.{Conditions, ConditionsNot, condition_on}
 use Rattle.pig_typing.specs.Results.{Checked}
-use Rattle.pig_typing.proofs.ItemsFound.{one_condition, no_condition}
-use Rattle.pig_typing.proofs.ItemsTold.{IsConditionTold, condition_told}
+use Rattle.pig_typing.proofs.ConditionsFound.{one_condition, no_condition}
+use Rattle.pig_typing.proofs.ConditionsTold.{IsConditionTold, condition_told}
 use Rattle.pig_typing.proofs.laws.conditions_have_one_typing.Goals as goal
 
 either : (s : Place) (a : ExprForm) (r : Checked (Typed)) → IsConditionTold s a r → ((t : Typed) × Conditions s a t) ⊎ ((kind : CheckKind) × ConditionsNot s a kind)

@@ -1,4 +1,4 @@
-use Rattle.pig_typing.proofs.ItemsHold.{condition_kind}
+use Rattle.pig_typing.proofs.ConditionsHold.{condition_kind}
 use Rattle.pig_typing.proofs.laws.conditions_have_their_kind.Goals as goal
 
 pub returns : goal.returns

@@ -7,8 +7,8 @@ use Rattle.pig_typing.specs.declared.faults.CheckKind.{CheckKind}
 use Rattle.pig_typing.specs.Columns.{Place}
 use Rattle.pig_typing.specs.Conditions.{Keys, KeysNot, keys_on}
 use Rattle.pig_typing.specs.Results.{Checked}
-use Rattle.pig_typing.proofs.ItemsFound.{one_list_of_keys, no_list_of_keys}
-use Rattle.pig_typing.proofs.ItemsTold.{AreKeysTold, keys_told}
+use Rattle.pig_typing.proofs.ConditionsFound.{one_list_of_keys, no_list_of_keys}
+use Rattle.pig_typing.proofs.ConditionsTold.{AreKeysTold, keys_told}
 use Rattle.pig_typing.proofs.laws.keys_have_one_typing.Goals as goal
 
 either : (s : Place) (es : ExprForms) (r : Checked (List Typing)) → AreKeysTold s es r → ((ps : List Typing) × Keys s es ps) ⊎ ((kind : CheckKind) × KeysNot s es kind)

@@ -1,4 +1,4 @@
-use Rattle.pig_typing.proofs.ItemsHold.{key_kinds, key_columns}
+use Rattle.pig_typing.proofs.ConditionsHold.{key_kinds, key_columns}
 use Rattle.pig_typing.proofs.laws.keys_have_their_kinds.Goals as goal
 
 pub returns : goal.returns
