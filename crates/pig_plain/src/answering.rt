@@ -57,7 +57,7 @@ pub fn answer(alloc: Global, plan: &Plan, inputs: &Inputs) -> Result<Answers, Al
     let nodes = all.as_slice();
     let mut number = 0;
     'nodes: while number < nodes.len() {
-        so_far.take_on(
+        so_far.run_node(
             alloc,
             plan,
             given,
@@ -82,7 +82,7 @@ struct Running<'p> {
 
 impl<'p> Running<'p> {
     // Goes on by one node.
-    fn take_on(
+    fn run_node(
         &mut self,
         alloc: Global,
         plan: &Plan,
@@ -105,13 +105,13 @@ impl<'p> Running<'p> {
     {
         let lives = is_live(live, number);
         if lives {
-            return self.take_live(alloc, plan, inputs, sorted, number, node);
+            return self.run_live_node(alloc, plan, inputs, sorted, number, node);
         }
         self.put(Relation::Standing(Rows::new(alloc)))
     }
 
     // Goes on by a live node.
-    fn take_live(
+    fn run_live_node(
         &mut self,
         alloc: Global,
         plan: &Plan,

@@ -27,7 +27,7 @@ use std::alloc::{AllocError, Global};
 // GROUP ALL: one row with the bag of all rows, or none.
 //
 // Here and below, rows whose last use this is are let go when the run holds them, before it is sorted.
-pub fn all_grouped<'p>(
+pub fn group_all<'p>(
     alloc: Global,
     table: &mut Table<'p>,
     input: u32,
@@ -64,7 +64,7 @@ pub fn grouped<'p>(
         table.old table.new) }
 {
     let how = gathering_of_group(alloc, inputs)?;
-    brought(alloc, how, inputs, table)
+    rows_by_key(alloc, how, inputs, table)
 }
 
 // JOIN.
@@ -80,13 +80,13 @@ pub fn joined<'p>(
         (map keyed_of inputs.now) (rows_of table.old)) table.old table.new) }
 {
     match gathering_of_join(plan, inputs, side) {
-        Some(how) => brought(alloc, how, inputs, table),
+        Some(how) => rows_by_key(alloc, how, inputs, table),
         None => Ok(Relation::Standing(Rows::new(alloc))),
     }
 }
 
 // The rows of the inputs' entries, brought together.
-fn brought<'p>(
+fn rows_by_key<'p>(
     alloc: Global,
     how: Gathering,
     inputs: &[KeyedInput],

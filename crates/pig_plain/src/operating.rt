@@ -7,7 +7,7 @@ ghost use Rattle.pig_plain.specs.Coming.{relation_rows};
 ghost use Rattle.pig_plain.specs.Operating.{found_rows};
 ghost use Rattle.pig_plain.specs.Tables.{HasFound, rows_of};
 
-use crate::keyed::{all_grouped, grouped, joined};
+use crate::keyed::{group_all, grouped, joined};
 use crate::loading::loaded;
 use crate::ranking::ranked;
 use crate::relation::Relation;
@@ -58,7 +58,7 @@ fn made<'p>(
         } => Ok(Relation::Coming(loaded(alloc, inputs, path, *delim, columns))),
         NodeOp::Filter { input, cond } => filtered(alloc, cond, table, *input),
         NodeOp::Foreach { input, block } => { foreached(alloc, block, table, *input) },
-        NodeOp::GroupAll { input } => all_grouped(alloc, table, *input),
+        NodeOp::GroupAll { input } => group_all(alloc, table, *input),
         NodeOp::Group { inputs: keyed } => grouped(alloc, keyed.as_slice(), table),
         NodeOp::Join {
             inputs: keyed,

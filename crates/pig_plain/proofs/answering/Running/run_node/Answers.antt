@@ -8,7 +8,7 @@ use Rattle.pig_plain.specs.Operating.{no_rows}
 use Rattle.pig_plain.specs.Tables.{and_relation}
 use Rattle.pig_plain.proofs.Steps.{dead_step, same_so_far}
 use Rattle.pig_plain.proofs.Tables.{on_ok}
-use Rattle.pig_plain.proofs.answering.Running.take_on.Goals as goal
+use Rattle.pig_plain.proofs.answering.Running.run_node.Goals as goal
 
 pub returns : goal.returns
 returns c =

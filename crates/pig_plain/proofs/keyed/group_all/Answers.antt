@@ -5,7 +5,7 @@ use Rattle.pig_operators.proofs.Keying.{run_gathers}
 use Rattle.pig_operators.specs.Keying.{all_rows_keyed}
 use Rattle.pig_plain.specs.Tables.{rows_of}
 use Rattle.pig_plain.proofs.Tables.{told_used, used_both}
-use Rattle.pig_plain.proofs.keyed.all_grouped.Goals as goal
+use Rattle.pig_plain.proofs.keyed.group_all.Goals as goal
 
 pub returns : goal.returns
 returns c =

@@ -9,7 +9,7 @@ use Rattle.pig_plain.specs.Operating.{no_rows}
 use Rattle.pig_plain.specs.Tables.{Held, IsUsed, and_relation}
 use Rattle.pig_plain.proofs.Steps.{kept_kind, keep_step, live_step, same_so_far, standing_kind, store_step, stored_kind}
 use Rattle.pig_plain.proofs.Tables.{on_ok, used_both}
-use Rattle.pig_plain.proofs.answering.Running.take_live.Goals as goal
+use Rattle.pig_plain.proofs.answering.Running.run_live_node.Goals as goal
 
 pub returns-in-Stored : goal.returns-in-Stored
 returns-in-Stored c =

@@ -7,7 +7,7 @@ use Rattle.pig_operators.proofs.Keying.{run_gathers}
 use Rattle.pig_operators.specs.Given.{made}
 use Rattle.pig_plain.specs.Tables.{rows_of}
 use Rattle.pig_plain.proofs.Tables.{used_both}
-use Rattle.pig_plain.proofs.keyed.brought.Goals as goal
+use Rattle.pig_plain.proofs.keyed.rows_by_key.Goals as goal
 
 pub returns : goal.returns
 returns c = record {
