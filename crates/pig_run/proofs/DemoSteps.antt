@@ -5,6 +5,7 @@ use Rattle.std.specs.List.{AllByRecursion, list_all, sum_by}
 use Rattle.std.specs.Option.{ForSome}
 use Rattle.std.specs.Str.Parse.{ParsesUnsigned, digits_value}
 use Rattle.std.proofs.lemmas.List.Sums.{sum_by-cons}
+use Rattle.std.proofs.lemmas.Result.{IfErr-weaker}
 use Rattle.std.proofs.lemmas.Str.Parse.{IsDigitsTest, IsNumeralModel, numerals_by_value, parse_gives}
 use Rattle.pig_value.specs.declared.inputs.Input.{Input}
 use Rattle.pig_value.specs.declared.outcomes.Kept.{Kept}
@@ -35,6 +36,7 @@ use Rattle.pig_run.specs.Running.{IsFresh, IsUsable, RunEnd, RunTold, counts_in,
 use Rattle.pig_run.specs.Steps.{DepotCause, IsLaterFault, StoreBlame}
 use Rattle.pig_run.specs.Texts.{fault_text}
 use Rattle.pig_run.specs.Told.{CountsAre, CrewTells, IsRight, TellsInputs, TellsOf, all_done, unmet}
+use Rattle.pig_run.proofs.Blaming.{IsNoDepot, no_blame, no_cause}
 use Rattle.pig_run.proofs.Crews.{IsNoTask, tell_each, tell_first}
 use Rattle.pig_run.proofs.Deciding.{IsSome, just, some_command_due, some_script}
 use Rattle.pig_run.proofs.Ending.{no_numbers, untouched}
@@ -133,24 +135,16 @@ pub later_fault : (f : RunFault) → IsDemoFault f → IsLaterFault f
 later_fault f (inl is) = subst IsLaterFault (sym is) (tt, λ e. cc)
 later_fault f (inr is) = subst IsLaterFault (sym is) (tt, λ e. cc)
 
-no_depot : (f : RunFault) → IsDemoFault f → (store : Option ℕ) → ¬ (f ≡ fault.DepotFault store)
-no_depot f (inl is) store e = let wrong : fault.OutOfMemory ≡ fault.DepotFault store = sym is ∙ e in cc
-no_depot f (inr is) store e = let wrong : fault.TooLarge large.Tasks ≡ fault.DepotFault store = sym is ∙ e in cc
-
-err_of : {T : Type 0} {f g : RunFault} → ◌≡◌ {A = Result T RunFault} (Err f) (Err g) → f ≡ g
-err_of e = cc
-
-ok_err : {T : Type 0} {x : T} {g : RunFault} → ◌≡◌ {A = Result T RunFault} (Ok x) (Err g) → ⊥
-ok_err e = cc
+no_depot : (f : RunFault) → IsDemoFault f → IsNoDepot f
+no_depot f (inl is) = λ store e. let wrong : fault.OutOfMemory ≡ fault.DepotFault store = sym is ∙ e in cc
+no_depot f (inr is) = λ store e. let wrong : fault.TooLarge large.Tasks ≡ fault.DepotFault store = sym is ∙ e in cc
 
 -- the depot that was handed in is not blamed
 pub demo_cause : {T : Type 0} (n : ℕ) (result : Result T RunFault) → IfErr result IsDemoFault → DepotCause n n result
-demo_cause n (Ok x) h = record { later = omega arith; failed = λ store e. absurd (ok_err e) }
-demo_cause n (Err f) h = record { later = omega arith; failed = λ store e. absurd (no_depot f h store (err_of e)) }
+demo_cause n result h = no_cause n result (IfErr-weaker result IsDemoFault IsNoDepot (λ f is. no_depot f is) h)
 
 pub demo_blame : {T : Type 0} (n : ℕ) (result : Result T RunFault) → IfErr result IsDemoFault → StoreBlame n n result
-demo_blame n (Ok x) h = record { later = omega arith; store = λ number e. absurd (ok_err e); lookup = λ e. absurd (ok_err e) }
-demo_blame n (Err f) h = record { later = omega arith; store = λ number e. absurd (no_depot f h (Some number) (err_of e)); lookup = λ e. absurd (no_depot f h None (err_of e)) }
+demo_blame n result h = no_blame n result (IfErr-weaker result IsDemoFault IsNoDepot (λ f is. no_depot f is) h)
 
 -- ---- how the run ended
 

@@ -1,4 +1,5 @@
 mod Apart
+mod Blaming
 mod Crews
 mod Deciding
 mod DemoSteps

@@ -1,6 +1,6 @@
 -- How the steps of a run speak of each other: what its waves give, what is stored of it, and how it ends.
 use Rattle.std.specs.Prelude.{◌≡◌, ◌≤◌, ◌%◌, ◌^◌, ◌++◌, ℕ, true, false, List, [], ◌∷◌, length, map, Option, Some, None, Result, Ok, Err, IfOk, MatchResult, if◌then◌else◌}
-use Rattle.std.specs.List.{sum_by}
+use Rattle.std.specs.List.{AllByRecursion, sum_by}
 use Rattle.std.specs.Option.{option_map}
 use Rattle.pig_value.specs.declared.inputs.Input.{Input}
 use Rattle.pig_value.specs.declared.outcomes.Kept.{Kept}
@@ -34,7 +34,7 @@ use Rattle.pig_run.specs.Outputs.{AreOutputsOf, IsRunOf, Left}
 use Rattle.pig_run.specs.Reading.{Run, Runs, Verdict}
 use Rattle.pig_run.specs.Steps.{IsCommitFault}
 use Rattle.pig_run.specs.Texts.{done_text, due_text, assert_message, fault_text, line_count, said, said_behind, stored_line}
-use Rattle.pig_run.specs.Told.{CountsAre, IsAsked}
+use Rattle.pig_run.specs.Told.{CountsAre, IsAsked, TellsOf}
 
 -- ---- what may be asked of a command and of stages
 
@@ -186,3 +186,11 @@ pub record IsFresh (progress : Progress) : Type 0 where
   pub shuffled : progress.shuffled ≡ 0
   pub ends : progress.ends ≡ []
   pub said : progress.said.items ≡ []
+
+-- Hosts and a command's numbers are in their ranges, hosts tell no other inputs than the shelf, and nothing was done.
+pub record MayBegin {D H : Type 0} (holds : D → Option Shelf) (inputs : H → Option (List Input)) (depot : D)
+    (hosts : List H) (command : Command) (progress : Progress) : Type 0 where
+  pub few : length hosts ≤ 256
+  pub usable : IsUsable (length hosts) command
+  pub tells : AllByRecursion (TellsOf (holds depot)) (map inputs hosts)
+  pub fresh : IsFresh progress

@@ -1,6 +1,7 @@
 -- What the steps before a run find, and how each may end.
-use Rattle.std.specs.Prelude.{◌≡◌, ◌≢◌, ◌≤◌, ◌<◌, ◌⊎◌, ◌++◌, ℕ, List, Option, Some, None, Result, MatchResult, IsErrOf}
+use Rattle.std.specs.Prelude.{◌≡◌, ◌≢◌, ◌≤◌, ◌<◌, ◌⊎◌, ◌++◌, ℕ, List, Option, Some, None, Result, IfErr, IfOk, MatchResult, IsErrOf}
 use Rattle.pig_outside.specs.Calls.{DepotCall}
+use Rattle.pig_outside.specs.Shelf.{Shelf}
 use Rattle.pig_outside.specs.declared.faults.OutsideError.{OutsideError}
 use Rattle.pig_outside.specs.declared.faults.OutsideError.TheVariants as outside
 use Rattle.pig_driver.specs.declared.running.StagesFault.{StagesFault}
@@ -10,7 +11,7 @@ use Rattle.pig_commit.specs.declared.parts.CommitFault.TheVariants as commit
 use Rattle.pig_run.specs.declared.outcome.RunFault.{RunFault}
 use Rattle.pig_run.specs.declared.outcome.RunFault.TheVariants as fault
 use Rattle.pig_run.specs.Due.{HasWords, Line, Stage}
-use Rattle.pig_run.specs.Reading.{Faulty, Finding, Refuses, Typed, Verdict}
+use Rattle.pig_run.specs.Reading.{Faulty, Finding, IsOfScript, Refuses, Typed, Verdict}
 use Rattle.pig_run.specs.declared.reading.Checked.{Checked}
 use Rattle.pig_run.specs.Refusals.{Refusal, Names}
 use Rattle.pig_run.specs.Told.{Asked, IsPrefix}
@@ -112,6 +113,12 @@ IsReadFault (fault.TooLarge which) = Unit {0}
 IsReadFault fault.OutOfMemory = Unit {0}
 IsReadFault found = ⊥
 
+-- A script is read: this is found of it, its plan is one of a script, and no fault but one of reading ends it.
+pub record ReadsPlan (P : Finding → Type 0) (result : Result Checked RunFault) : Type 0 where
+  pub told : TellsPlan P result
+  pub of_script : IfOk result (λ c. IsOfScript (plan_of c.plan))
+  pub fault : IfErr result IsReadFault
+
 -- making the directory of the STORE of this number ends by the depot or memory
 abbrev pub IsCommitFault : ℕ → RunFault → Type 0
 IsCommitFault number found = (found ≡ fault.DepotFault (Some number)) ⊎ (found ≡ fault.OutOfMemory)
@@ -128,3 +135,26 @@ IsLaterFault found = IsNotUsage found × (found ≢ fault.ConsoleFault)
 -- the fault is that of wrong words only where the words are no command, and another only where they are one or memory was wanting
 abbrev pub SaysWords : Line → RunFault → Type 0
 SaysWords line found = ((found ≡ fault.Usage) × (¬ HasWords line)) ⊎ (IsNotUsage found × (HasWords line ⊎ (found ≡ fault.OutOfMemory)))
+
+-- ---- what a call leaves of the depot
+
+-- what is said of the calls that are told before it and behind it
+abbrev pub Asking : Type 1
+Asking = Option (List DepotCall) → Option (List DepotCall) → Type 0
+
+-- A call that only looks: it ends before the run, changes at most the count of failures, and asks what is said.
+pub record OnlyLooks {D T : Type 0} (holds : D → Option Shelf) (calls : D → Option (List DepotCall))
+    (faults store_faults : D → ℕ) (old new : D) (result : Result T RunFault) (asks : Asking) : Type 0 where
+  pub fault : IfErr result IsPlanFault
+  pub shelf : holds new ≡ holds old
+  pub cause : DepotCause (faults old) (faults new) result
+  pub stores : store_faults new ≡ store_faults old
+  pub asked : asks (calls old) (calls new)
+
+-- A call that may make directories: it ends behind the words, blames the depot as counts say, and asks what is said.
+pub record LeavesDepot {D T : Type 0} (calls : D → Option (List DepotCall)) (faults store_faults : D → ℕ)
+    (old new : D) (result : Result T RunFault) (asks : Asking) : Type 0 where
+  pub fault : IfErr result IsLaterFault
+  pub depot : DepotCause (faults old) (faults new) result
+  pub stores : StoreBlame (store_faults old) (store_faults new) result
+  pub asked : asks (calls old) (calls new)

@@ -11,7 +11,7 @@ ghost use Rattle.pig_run.specs.Limits.{most_input};
 ghost use Rattle.pig_run.specs.Looking.{HasSize, IsAbsentIn, IsPrepared, IsReady, LooksForInput, LooksForOutput, LooksForScript, LooksForSize, line_given, total_of};
 ghost use Rattle.pig_run.specs.Orderly.{AsksAll, AsksSome, LooksUp};
 ghost use Rattle.pig_run.specs.Reading.{IsOfScript};
-ghost use Rattle.pig_run.specs.Steps.{DepotCause, IsPlanFault, Step, depot_fault_of};
+ghost use Rattle.pig_run.specs.Steps.{OnlyLooks, Step, depot_fault_of};
 ghost use Rattle.pig_run.specs.Told.{Asked};
 ghost use Rattle.pig_run.specs.declared.outcome.RunFault.TheVariants as fault;
 ghost use Rattle.pig_run.specs.declared.outcome.TooLarge.TheVariants as large;
@@ -59,12 +59,8 @@ pub fn read_command(alloc: Global, line: &CommandLine) -> Result<Command, RunFau
 fn script_bytes<D: Depot>(alloc: Global, depot: &mut D, path: &str) -> Result<Vec<u8>, RunFault>
     ensures told { ForSome (D.shelf depot.old) (λ s. LooksForScript path.now s
         (λ bytes. bytes.items) result) }
-    ensures fault { IfErr result IsPlanFault }
-    ensures shelf { D.shelf depot.new ≡ D.shelf depot.old }
-    ensures cause { DepotCause (D.faults depot.old) (D.faults depot.new) result }
-    ensures stores { D.store_faults depot.new ≡ D.store_faults depot.old }
-    ensures asked { Asked (call method.Script path.now ∷ []) (D.calls depot.old)
-        (D.calls depot.new) }
+    ensures looked { OnlyLooks D.shelf D.calls D.faults D.store_faults depot.old depot.new result
+        (Asked (call method.Script path.now ∷ [])) }
 {
     let mut script = Vec::new(alloc);
     match depot.script(path, MOST_SCRIPT + 1, &mut script) {
@@ -85,12 +81,8 @@ pub fn load_script<D: Depot>(
         (λ c. CommandDue command.now s c.statements (plan_of c.plan))
         (D.calls depot.old) (D.calls depot.new) result) }
     ensures of_script { IfOk result (λ c. IsOfScript (plan_of c.plan)) }
-    ensures fault { IfErr result IsPlanFault }
-    ensures shelf { D.shelf depot.new ≡ D.shelf depot.old }
-    ensures cause { DepotCause (D.faults depot.old) (D.faults depot.new) result }
-    ensures stores { D.store_faults depot.new ≡ D.store_faults depot.old }
-    ensures asked { Asked (call method.Script command.now.operand ∷ []) (D.calls depot.old)
-        (D.calls depot.new) }
+    ensures looked { OnlyLooks D.shelf D.calls D.faults D.store_faults depot.old depot.new result
+        (Asked (call method.Script command.now.operand ∷ [])) }
 {
     a_script_has_one_plan();
     let script = script_bytes(alloc, depot, command.operand.as_str())?;
@@ -100,12 +92,8 @@ pub fn load_script<D: Depot>(
 // The lengths of the pieces of the input at a path.
 fn find_input<D: Depot>(alloc: Global, depot: &mut D, path: &Text) -> Result<Lengths, RunFault>
     ensures told { ForSome (D.shelf depot.old) (λ s. LooksForInput path.now s result) }
-    ensures fault { IfErr result IsPlanFault }
-    ensures shelf { D.shelf depot.new ≡ D.shelf depot.old }
-    ensures cause { DepotCause (D.faults depot.old) (D.faults depot.new) result }
-    ensures stores { D.store_faults depot.new ≡ D.store_faults depot.old }
-    ensures asked { Asked (call method.Pieces path.now ∷ []) (D.calls depot.old)
-        (D.calls depot.new) }
+    ensures looked { OnlyLooks D.shelf D.calls D.faults D.store_faults depot.old depot.new result
+        (Asked (call method.Pieces path.now ∷ [])) }
 {
     match depot.pieces(path.as_str()) {
         Ok(Some(lengths)) => Ok(lengths),
@@ -125,14 +113,10 @@ fn add_size<D: Depot>(
 ) -> Result<(), RunFault>
     ensures told { ForSome (D.shelf depot.old) (λ s. LooksForSize path.now s sizes.old sizes.new
         result) }
-    ensures fault { IfErr result IsPlanFault }
     ensures paths { OnOk result (map (λ size. size.path) sizes.new
         ≡ map (λ size. size.path) sizes.old ++ path.now ∷ []) }
-    ensures shelf { D.shelf depot.new ≡ D.shelf depot.old }
-    ensures cause { DepotCause (D.faults depot.old) (D.faults depot.new) result }
-    ensures stores { D.store_faults depot.new ≡ D.store_faults depot.old }
-    ensures asked { Asked (call method.Pieces path.now ∷ []) (D.calls depot.old)
-        (D.calls depot.new) }
+    ensures looked { OnlyLooks D.shelf D.calls D.faults D.store_faults depot.old depot.new result
+        (Asked (call method.Pieces path.now ∷ [])) }
 {
     let lengths = find_input(alloc, depot, path)?;
     let path = path.copy(alloc)?;
@@ -150,11 +134,8 @@ fn find_inputs<D: Depot>(alloc: Global, depot: &mut D, plan: &Plan) -> Result<Si
         ≡ live_paths (plan_of plan.now)) }
     ensures lengths { ForSome (D.shelf depot.old)
         (λ s. IfOk result (AllByRecursion (HasSize s))) }
-    ensures fault { IfErr result IsPlanFault }
-    ensures shelf { D.shelf depot.new ≡ D.shelf depot.old }
-    ensures cause { DepotCause (D.faults depot.old) (D.faults depot.new) result }
-    ensures stores { D.store_faults depot.new ≡ D.store_faults depot.old }
-    ensures asked { AsksSome method.Pieces (D.calls depot.old) (D.calls depot.new) }
+    ensures looked { OnlyLooks D.shelf D.calls D.faults D.store_faults depot.old depot.new result
+        (AsksSome method.Pieces) }
 {
     let paths = live_paths(alloc, plan)?;
     let mut sizes = Sizes::new(alloc);
@@ -207,12 +188,8 @@ fn check_size(sizes: &Sizes) -> Result<(), RunFault>
 // Refuses an output that is there.
 fn check_output<D: Depot>(alloc: Global, depot: &mut D, dir: &Text) -> Result<(), RunFault>
     ensures told { ForSome (D.shelf depot.old) (λ s. LooksForOutput dir.now s result) }
-    ensures fault { IfErr result IsPlanFault }
-    ensures shelf { D.shelf depot.new ≡ D.shelf depot.old }
-    ensures cause { DepotCause (D.faults depot.old) (D.faults depot.new) result }
-    ensures stores { D.store_faults depot.new ≡ D.store_faults depot.old }
-    ensures asked { Asked (call method.Exists dir.now ∷ []) (D.calls depot.old)
-        (D.calls depot.new) }
+    ensures looked { OnlyLooks D.shelf D.calls D.faults D.store_faults depot.old depot.new result
+        (Asked (call method.Exists dir.now ∷ [])) }
 {
     match depot.exists(dir.as_str()) {
         Ok(false) => Ok(()),
@@ -230,12 +207,8 @@ fn check_outputs<D: Depot>(alloc: Global, depot: &mut D, stores: &Stores) -> Res
         (λ _. TasksDue command s plan) (D.calls depot.old) (D.calls depot.new) result) }
     ensures absent { ForSome (D.shelf depot.old)
         (λ s. IfOk result (λ _. AllByRecursion (IsAbsentIn s) stores.now)) }
-    ensures fault { IfErr result IsPlanFault }
-    ensures shelf { D.shelf depot.new ≡ D.shelf depot.old }
-    ensures cause { DepotCause (D.faults depot.old) (D.faults depot.new) result }
-    ensures stores { D.store_faults depot.new ≡ D.store_faults depot.old }
-    ensures asked { AsksAll method.Exists (map (λ store. store.dir) stores.now) result
-        (D.calls depot.old) (D.calls depot.new) }
+    ensures looked { OnlyLooks D.shelf D.calls D.faults D.store_faults depot.old depot.new result
+        (AsksAll method.Exists (map (λ store. store.dir) stores.now) result) }
 {
     let stores = stores.as_slice();
     for place in 0..stores.len() {
@@ -284,11 +257,8 @@ pub fn prepare<D: Depot>(alloc: Global, depot: &mut D, plan: Plan) -> Result<Pre
     ensures ready { ForSome (D.shelf depot.old) (λ s. IfOk result (IsReady s)) }
     ensures prepared { IfOk result IsPrepared }
     ensures checked { IfOk result (λ p. plan_of p.checked ≡ plan_of plan) }
-    ensures fault { IfErr result IsPlanFault }
-    ensures shelf { D.shelf depot.new ≡ D.shelf depot.old }
-    ensures cause { DepotCause (D.faults depot.old) (D.faults depot.new) result }
-    ensures stores { D.store_faults depot.new ≡ D.store_faults depot.old }
-    ensures asked { LooksUp result (D.calls depot.old) (D.calls depot.new) }
+    ensures looked { OnlyLooks D.shelf D.calls D.faults D.store_faults depot.old depot.new result
+        (LooksUp result) }
 {
     let sizes = find_inputs(alloc, depot, &plan)?;
     check_size(&sizes)?;

@@ -1,13 +1,12 @@
-ghost use Rattle.std.specs.Prelude.{◌≡◌, ◌<◌, ◌≤◌, ◌^◌, ◌↔◌, length, map, IsTrue, IfErr, IfOk, All};
+ghost use Rattle.std.specs.Prelude.{◌<◌, ◌≤◌, ◌^◌, ◌↔◌, length, map, IsTrue, All};
 ghost use Rattle.pig_syntax.specs.Cutting.{AreStatements, IsWithin};
 ghost use Rattle.pig_parser.specs.Parsing.{IsShallow};
 ghost use Rattle.pig_syntax.specs.Formed.{StmtFormed};
 ghost use Rattle.pig_syntax.specs.Tokens.{HoldsNoLf};
-ghost use Rattle.pig_plan.specs.Plans.{plan_of};
 ghost use Rattle.pig_run.specs.Limits.{most_script, most_statements};
-ghost use Rattle.pig_run.specs.Reading.{IsChecked, IsParsed, IsMeasured, IsLexed, IsFilled, IsFound, IsOfScript};
+ghost use Rattle.pig_run.specs.Reading.{IsChecked, IsParsed, IsMeasured, IsLexed, IsFilled, IsFound};
 ghost use Rattle.pig_params.specs.Given.{named_of};
-ghost use Rattle.pig_run.specs.Steps.{IsReadFault, TellsPlan};
+ghost use Rattle.pig_run.specs.Steps.{ReadsPlan};
 
 use crate::{RunFault, TooLarge};
 use pig_check::{CheckFault, check, plans_stand_in_order, stores_are_apart};
@@ -39,9 +38,7 @@ pub struct Checked {
 // The plan of trees.
 fn plan_of_trees(alloc: Global, statements: &Stmts) -> Result<Checked, RunFault>
     requires { All StmtFormed statements.now }
-    ensures told { TellsPlan (IsChecked statements.now) result }
-    ensures of_script { IfOk result (λ c. IsOfScript (plan_of c.plan)) }
-    ensures fault { IfErr result IsReadFault }
+    ensures { ReadsPlan (IsChecked statements.now) result }
 {
     stores_are_apart();
     plans_stand_in_order();
@@ -62,9 +59,7 @@ fn plan_of_statements(alloc: Global, tokens: &Tokens, pieces: &Pieces) -> Result
     requires few_statements { length pieces.now ≤ most_statements }
     requires texts { All (λ token. HoldsNoLf token.form) tokens.now }
     requires shallow { All (IsShallow tokens.now) pieces.now }
-    ensures told { TellsPlan (IsParsed tokens.now pieces.now) result }
-    ensures of_script { IfOk result (λ c. IsOfScript (plan_of c.plan)) }
-    ensures fault { IfErr result IsReadFault }
+    ensures { ReadsPlan (IsParsed tokens.now pieces.now) result }
 {
     match parse(alloc, tokens, pieces) {
         Ok(trees) => plan_of_trees(alloc, &trees),
@@ -104,9 +99,7 @@ fn plan_of_pieces(alloc: Global, tokens: &Tokens, pieces: &Pieces) -> Result<Che
     requires statements { AreStatements tokens.now pieces.now }
     requires few { length tokens.now < 2 ^ 32 }
     requires texts { All (λ token. HoldsNoLf token.form) tokens.now }
-    ensures told { TellsPlan (IsMeasured tokens.now pieces.now) result }
-    ensures of_script { IfOk result (λ c. IsOfScript (plan_of c.plan)) }
-    ensures fault { IfErr result IsReadFault }
+    ensures { ReadsPlan (IsMeasured tokens.now pieces.now) result }
 {
     if pieces.len() > MOST_STATEMENTS {
         return Err(RunFault::TooLarge {
@@ -124,9 +117,7 @@ fn plan_of_pieces(alloc: Global, tokens: &Tokens, pieces: &Pieces) -> Result<Che
 // The plan of the tokens of a script.
 fn plan_of_script(alloc: Global, script: &[u8]) -> Result<Checked, RunFault>
     requires { length script.now ≤ most_script }
-    ensures told { TellsPlan (IsLexed script.now) result }
-    ensures of_script { IfOk result (λ c. IsOfScript (plan_of c.plan)) }
-    ensures fault { IfErr result IsReadFault }
+    ensures { ReadsPlan (IsLexed script.now) result }
 {
     a_script_has_one_reading();
     match lex(alloc, script) {
@@ -141,9 +132,7 @@ fn plan_of_script(alloc: Global, script: &[u8]) -> Result<Checked, RunFault>
 
 // The plan of a script with the values of parameters in it.
 fn plan_of_filled(alloc: Global, script: &[u8], params: &Params) -> Result<Checked, RunFault>
-    ensures told { TellsPlan (IsFilled (map named_of params.now) script.now) result }
-    ensures of_script { IfOk result (λ c. IsOfScript (plan_of c.plan)) }
-    ensures fault { IfErr result IsReadFault }
+    ensures { ReadsPlan (IsFilled (map named_of params.now) script.now) result }
 {
     match substitute(alloc, script, params, MOST_SCRIPT) {
         Ok(text) => plan_of_script(alloc, text.as_slice()),
@@ -157,9 +146,7 @@ fn plan_of_filled(alloc: Global, script: &[u8], params: &Params) -> Result<Check
 
 // The plan of a script with these parameters, or the first refusal that it meets.
 pub fn read_script(alloc: Global, script: &[u8], params: &Params) -> Result<Checked, RunFault>
-    ensures told { TellsPlan (IsFound (map named_of params.now) script.now) result }
-    ensures of_script { IfOk result (λ c. IsOfScript (plan_of c.plan)) }
-    ensures fault { IfErr result IsReadFault }
+    ensures { ReadsPlan (IsFound (map named_of params.now) script.now) result }
 {
     if script.len() as u64 > MOST_SCRIPT {
         return Err(RunFault::TooLarge {

@@ -12,8 +12,8 @@ ghost use Rattle.pig_run.specs.Due.{CommandDue, InputsDue, NamesScript, ScriptDu
 ghost use Rattle.pig_run.specs.Looking.{IsAbsentIn, IsPrepared, IsReady};
 ghost use Rattle.pig_run.specs.Orderly.{IsOrderly, IsOrderlyBehind, Makes};
 ghost use Rattle.pig_run.specs.Reading.{IsOfScript, Run};
-ghost use Rattle.pig_run.specs.Running.{IsFresh, IsUsable, RunTold, RunsTold, counts_in, found_in, kept_in};
-ghost use Rattle.pig_run.specs.Steps.{DepotCause, IsLaterFault, StoreBlame};
+ghost use Rattle.pig_run.specs.Running.{IsFresh, MayBegin, RunTold, RunsTold, counts_in, found_in, kept_in};
+ghost use Rattle.pig_run.specs.Steps.{LeavesDepot};
 ghost use Rattle.pig_run.specs.Texts.{ok_text};
 ghost use Rattle.pig_run.specs.Told.{CrewTells, TellsInputs, TellsOf};
 ghost use Rattle.pig_run.specs.declared.outcome.RunFault.TheVariants as fault;
@@ -93,13 +93,11 @@ fn carry_out<R: Threads + Sync, D: Depot, H: Host + Send>(
           limit = limit;
         }) s (AllByRecursion TellsInputs (map H.inputs hosts.old)) (D.calls depot.old)
         (D.calls depot.new) (D.shelf depot.new) progress.new result) }
-    ensures fault { IfErr result IsLaterFault }
-    ensures depot { DepotCause (D.faults depot.old) (D.faults depot.new) result }
-    ensures stores { StoreBlame (D.store_faults depot.old) (D.store_faults depot.new) result }
     ensures worked { HaveWorked H.inputs H.faults H.begun limit hosts.old hosts.new
         progress.new.ends (found_in result) }
-    ensures asked { Makes (map (λ store. store.dir) prepared.now.stores) (found_in result)
-        (kept_in progress.new) (D.calls depot.old) (D.calls depot.new) }
+    ensures left { LeavesDepot D.calls D.faults D.store_faults depot.old depot.new result
+        (Makes (map (λ store. store.dir) prepared.now.stores) (found_in result)
+        (kept_in progress.new)) }
 {
     let Prepared {
         checked,
@@ -153,23 +151,18 @@ fn perform<R: Threads + Sync, D: Depot, H: Host + Send>(
     prepared: &Prepared,
     progress: &mut Progress,
 ) -> Result<Blob, RunFault>
-    requires hosts { (0 < length hosts.old) × (length hosts.old ≤ 256) }
-    requires usable { IsUsable (length hosts.old) command.now }
+    requires begins { MayBegin D.shelf H.inputs depot.old hosts.old command.now progress.old }
     requires prepared { IsPrepared prepared.now }
     requires ready { ForSome (D.shelf depot.old) (λ s. IsReady s prepared.now) }
-    requires tells { AllByRecursion (TellsOf (D.shelf depot.old)) (map H.inputs hosts.old) }
-    requires fresh { IsFresh progress.old }
     ensures told { ForSome (D.shelf depot.old) (λ s.
         RunTold (TasksDue command.now s (plan_of prepared.now.checked)) s
         (AllByRecursion TellsInputs (map H.inputs hosts.old)) (D.calls depot.old)
         (D.calls depot.new) (D.shelf depot.new) progress.new result) }
-    ensures fault { IfErr result IsLaterFault }
-    ensures depot { DepotCause (D.faults depot.old) (D.faults depot.new) result }
-    ensures stores { StoreBlame (D.store_faults depot.old) (D.store_faults depot.new) result }
     ensures worked { HaveWorked H.inputs H.faults H.begun command.now.attempts
         hosts.old hosts.new progress.new.ends (found_in result) }
-    ensures asked { Makes (map (λ store. store.dir) prepared.now.stores) (found_in result)
-        (kept_in progress.new) (D.calls depot.old) (D.calls depot.new) }
+    ensures left { LeavesDepot D.calls D.faults D.store_faults depot.old depot.new result
+        (Makes (map (λ store. store.dir) prepared.now.stores) (found_in result)
+        (kept_in progress.new)) }
 {
     let stages = cut(alloc, command, prepared)?;
     let limit = command.attempts;
@@ -186,22 +179,16 @@ fn run_plan<R: Threads + Sync, D: Depot, H: Host + Send>(
     plan: Plan,
     progress: &mut Progress,
 ) -> Result<Blob, RunFault>
-    requires hosts { (0 < length hosts.old) × (length hosts.old ≤ 256) }
-    requires usable { IsUsable (length hosts.old) command.now }
+    requires begins { MayBegin D.shelf H.inputs depot.old hosts.old command.now progress.old }
     requires of_script { IsOfScript (plan_of plan) }
-    requires tells { AllByRecursion (TellsOf (D.shelf depot.old)) (map H.inputs hosts.old) }
-    requires fresh { IsFresh progress.old }
     ensures told { ForSome (D.shelf depot.old) (λ s.
         RunTold (InputsDue command.now s (plan_of plan)) s
         (AllByRecursion TellsInputs (map H.inputs hosts.old)) (D.calls depot.old)
         (D.calls depot.new) (D.shelf depot.new) progress.new result) }
-    ensures fault { IfErr result IsLaterFault }
-    ensures depot { DepotCause (D.faults depot.old) (D.faults depot.new) result }
-    ensures stores { StoreBlame (D.store_faults depot.old) (D.store_faults depot.new) result }
     ensures worked { HaveWorked H.inputs H.faults H.begun command.now.attempts
         hosts.old hosts.new progress.new.ends (found_in result) }
-    ensures asked { IsOrderlyBehind (found_in result) (kept_in progress.new)
-        (D.calls depot.old) (D.calls depot.new) }
+    ensures left { LeavesDepot D.calls D.faults D.store_faults depot.old depot.new result
+        (IsOrderlyBehind (found_in result) (kept_in progress.new)) }
 {
     let prepared = prepare(alloc, depot, plan)?;
     perform(rt, alloc, depot, hosts, command, &prepared, progress)
@@ -217,22 +204,16 @@ fn run_on_crew<R: Threads + Sync, D: Depot, H: Host + Send>(
     plan: Plan,
     progress: &mut Progress,
 ) -> Result<Blob, RunFault>
-    requires few { length hosts.old ≤ 256 }
-    requires usable { IsUsable (length hosts.old) command.now }
+    requires begins { MayBegin D.shelf H.inputs depot.old hosts.old command.now progress.old }
     requires of_script { IsOfScript (plan_of plan) }
-    requires tells { AllByRecursion (TellsOf (D.shelf depot.old)) (map H.inputs hosts.old) }
-    requires fresh { IsFresh progress.old }
     ensures told { ForSome (D.shelf depot.old) (λ s.
         RunTold (InputsDue command.now s (plan_of plan)) s
         (CrewTells H.inputs command.now hosts.old) (D.calls depot.old)
         (D.calls depot.new) (D.shelf depot.new) progress.new result) }
-    ensures fault { IfErr result IsLaterFault }
-    ensures depot { DepotCause (D.faults depot.old) (D.faults depot.new) result }
-    ensures stores { StoreBlame (D.store_faults depot.old) (D.store_faults depot.new) result }
     ensures worked { CrewHasWorked H.inputs H.faults H.begun command.now hosts.old hosts.new
         progress.new.ends (found_in result) }
-    ensures asked { IsOrderlyBehind (found_in result) (kept_in progress.new)
-        (D.calls depot.old) (D.calls depot.new) }
+    ensures left { LeavesDepot D.calls D.faults D.store_faults depot.old depot.new result
+        (IsOrderlyBehind (found_in result) (kept_in progress.new)) }
 {
     let (crew, _idle) = hosts.split_at_mut(command.workers as usize);
     run_plan(rt, alloc, depot, crew, command, plan, progress)
@@ -276,23 +257,17 @@ fn obey<R: Threads + Sync, D: Depot, H: Host + Send>(
     request: Request,
     progress: &mut Progress,
 ) -> Result<Blob, RunFault>
-    requires few { length hosts.old ≤ 256 }
-    requires usable { IsUsable (length hosts.old) request.command }
+    requires begins { MayBegin D.shelf H.inputs depot.old hosts.old request.command progress.old }
     requires scripted { NamesScript request.command.verb }
     requires of_script { IsOfScript (plan_of request.checked.plan) }
-    requires tells { AllByRecursion (TellsOf (D.shelf depot.old)) (map H.inputs hosts.old) }
-    requires fresh { IsFresh progress.old }
     ensures told { ForSome (D.shelf depot.old) (λ s. RunTold (CommandDue request.command s
         request.checked.statements (plan_of request.checked.plan)) s
         (CrewTells H.inputs request.command hosts.old) (D.calls depot.old)
         (D.calls depot.new) (D.shelf depot.new) progress.new result) }
-    ensures fault { IfErr result IsLaterFault }
-    ensures depot { DepotCause (D.faults depot.old) (D.faults depot.new) result }
-    ensures stores { StoreBlame (D.store_faults depot.old) (D.store_faults depot.new) result }
     ensures worked { CrewHasWorked H.inputs H.faults H.begun request.command hosts.old hosts.new
         progress.new.ends (found_in result) }
-    ensures asked { IsOrderlyBehind (found_in result) (kept_in progress.new)
-        (D.calls depot.old) (D.calls depot.new) }
+    ensures left { LeavesDepot D.calls D.faults D.store_faults depot.old depot.new result
+        (IsOrderlyBehind (found_in result) (kept_in progress.new)) }
 {
     let Request { command, checked } = request;
     let Checked { plan, statements } = checked;
@@ -314,22 +289,16 @@ pub fn run_script<R: Threads + Sync, D: Depot, H: Host + Send>(
     command: Command,
     progress: &mut Progress,
 ) -> Result<Blob, RunFault>
-    requires few { length hosts.old ≤ 256 }
-    requires usable { IsUsable (length hosts.old) command }
+    requires begins { MayBegin D.shelf H.inputs depot.old hosts.old command progress.old }
     requires scripted { NamesScript command.verb }
-    requires tells { AllByRecursion (TellsOf (D.shelf depot.old)) (map H.inputs hosts.old) }
-    requires fresh { IsFresh progress.old }
     ensures told { ForSome (D.shelf depot.old) (λ s.
         RunTold (ScriptDue (given_by command) command.operand s (CommandDue command s)) s
         (CrewTells H.inputs command hosts.old) (D.calls depot.old)
         (D.calls depot.new) (D.shelf depot.new) progress.new result) }
-    ensures fault { IfErr result IsLaterFault }
-    ensures depot { DepotCause (D.faults depot.old) (D.faults depot.new) result }
-    ensures stores { StoreBlame (D.store_faults depot.old) (D.store_faults depot.new) result }
     ensures worked { CrewHasWorked H.inputs H.faults H.begun command hosts.old hosts.new
         progress.new.ends (found_in result) }
-    ensures asked { IsOrderly (found_in result) (kept_in progress.new)
-        (D.calls depot.old) (D.calls depot.new) }
+    ensures left { LeavesDepot D.calls D.faults D.store_faults depot.old depot.new result
+        (IsOrderly (found_in result) (kept_in progress.new)) }
 {
     a_script_has_one_plan();
     let checked = load_script(alloc, depot, &command)?;

@@ -1,4 +1,4 @@
-use Rattle.std.proofs.Common.{rules, refl, ◌≡◌, ◌⊎◌, [], Ok, Err, IfOk, IfErr, MatchResult, subst, sym, arith}
+use Rattle.std.proofs.Common.{rules, refl, ◌≡◌, ◌≤◌, ◌⊎◌, [], Ok, Err, IfOk, IfErr, MatchResult, subst, sym, arith}
 use Rattle.std.proofs.lemmas.Result.{IfErr-weaker, MatchResult-weaker}
 use Rattle.pig_words.specs.CommandWords.{IsCommand}
 use Rattle.pig_words.specs.declared.words.Verb.TheVariants as verbs
@@ -34,10 +34,15 @@ demonstrate-requires-clause-usable g c κs within =
     let is : IsCommand c.args.line.now.hosts c.args.line.now.words.now c.in_ok-command.command = search rules in
     fewer_hosts c.args.line.now.hosts c.in_ok-command.command c.args.line.now.few (usable c.args.line.now.hosts c.args.line.now.words.now c.in_ok-command.command c.args.line.now.some is)
 
-pub run_script-requires-clause-usable : goal.run_script-requires-clause-usable
-run_script-requires-clause-usable g c κs within =
+pub run_script-requires-clause-begins : goal.run_script-requires-clause-begins
+run_script-requires-clause-begins g c κs within =
     let is : IsCommand c.args.line.now.hosts c.args.line.now.words.now c.in_ok-command.command = search rules in
-    subst (λ n. IsUsable n c.in_ok-command.command) (sym c.requires.hosts) (usable c.args.line.now.hosts c.args.line.now.words.now c.in_ok-command.command c.args.line.now.some is)
+    record {
+      few = subst (λ n. n ≤ 256) (sym c.requires.hosts) c.args.line.now.few;
+      usable = subst (λ n. IsUsable n c.in_ok-command.command) (sym c.requires.hosts) (usable c.args.line.now.hosts c.args.line.now.words.now c.in_ok-command.command c.args.line.now.some is);
+      tells = c.requires.tells;
+      fresh = c.requires.fresh;
+    }
 
 pub run_script-requires-clause-scripted : goal.run_script-requires-clause-scripted
 run_script-requires-clause-scripted g c κs within = names_script c.in_ok-command.command.verb (search rules)
@@ -154,12 +159,12 @@ returns-in_default-clause-untouched g c command demo =
     absurd (no_demo (line_given c.args.line.now) c.in_ok-command.command are command demo)
 
 pub returns-in_default-clause-fault : goal.returns-in_default-clause-fault
-returns-in_default-clause-fault g c = IfErr-weaker c.run_script.result _ _ (λ f h. h.1) c.run_script.ensures.fault
+returns-in_default-clause-fault g c = IfErr-weaker c.run_script.result _ _ (λ f h. h.1) c.run_script.ensures.left.fault
 
 pub returns-in_default-clause-words : goal.returns-in_default-clause-words
 returns-in_default-clause-words g c =
     let is : IsCommand c.args.line.now.hosts c.args.line.now.words.now c.in_ok-command.command = search rules in
-    later_words (line_given c.args.line.now) c.run_script.result (c.in_ok-command.command, is) c.run_script.ensures.fault
+    later_words (line_given c.args.line.now) c.run_script.result (c.in_ok-command.command, is) c.run_script.ensures.left.fault
 
 pub returns-in_default-clause-worked : goal.returns-in_default-clause-worked
 returns-in_default-clause-worked g c =

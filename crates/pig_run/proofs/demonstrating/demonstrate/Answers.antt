@@ -1,12 +1,12 @@
-use Rattle.std.proofs.Common.{rules, refl, ◌≡◌, None, MatchResult, map, sym, subst}
+use Rattle.std.proofs.Common.{rules, refl, ◌≡◌, None, MatchResult, length, map, sym, subst, arith}
 use Rattle.std.specs.List.{AllByRecursion}
 use Rattle.pig_outside.specs.Memory.{depot_shelf, told_inputs, told_shelf}
 use Rattle.pig_run.specs.Demonstration.{demo_text}
-use Rattle.pig_run.specs.Running.{counts_in}
+use Rattle.pig_run.specs.Running.{IsUsable, counts_in}
 use Rattle.pig_run.specs.Told.{TellsOf}
 use Rattle.pig_run.specs.declared.outcome.RunFault.TheVariants as fault
 use Rattle.pig_run.specs.declared.progress.Progress.{Progress}
-use Rattle.pig_run.proofs.DemoSteps.{demo_unbegun, demo_unmade, hosts_tell_of, made_done, made_ended, made_none_failed}
+use Rattle.pig_run.proofs.DemoSteps.{demo_unbegun, demo_unmade, hosts_tell_of, made_done, made_ended, made_none_failed, own_number}
 use Rattle.pig_run.proofs.Readings.{PlanLaws}
 use Rattle.pig_run.proofs.demonstrating.demonstrate.Goals as goal
 
@@ -31,11 +31,19 @@ returns-in_err-run-clause-told g c =
     let wanting : MatchResult c.from_residual-in_err-run.result (λ _. ⊥) (λ f. f ≡ fault.OutOfMemory) = search rules in
     demo_unmade laws c.args.command.now c.args.progress.now c.requires.fresh c.from_residual-in_err-run.result wanting
 
-pub run_script-end-requires-clause-tells : goal.run_script-end-requires-clause-tells
-run_script-end-requires-clause-tells g c κs within =
+pub run_script-end-requires-clause-begins : goal.run_script-end-requires-clause-begins
+run_script-end-requires-clause-begins g c κs within =
     let slice : c.as_mut_slice.result.now ≡ c.in_ok-hosts.hosts.items = search rules in
-    subst (λ hosts. AllByRecursion (TellsOf (told_shelf c.in_ok-depot.depot)) (map told_inputs hosts)) (sym slice)
-    (hosts_tell_of (depot_shelf c.in_ok-depot.depot) c.visits_of-visits.result c.in_ok-depot.ensures.shelf c.in_ok-hosts.hosts.items c.in_ok-hosts.ensures.inputs)
+    let count : length c.as_mut_slice.result.now ≡ c.args.command.now.workers = search rules in
+    let most = c.requires.usable.workers.1 in
+    record {
+      few = omega (arith, count, most);
+      usable = subst (IsUsable (length c.as_mut_slice.result.now)) (sym c.in_ok-run.ensures) (own_number (length c.as_mut_slice.result.now) c.args.command.now count c.requires.usable);
+      tells =
+          subst (λ hosts. AllByRecursion (TellsOf (told_shelf c.in_ok-depot.depot)) (map told_inputs hosts)) (sym slice)
+          (hosts_tell_of (depot_shelf c.in_ok-depot.depot) c.visits_of-visits.result c.in_ok-depot.ensures.shelf c.in_ok-hosts.hosts.items c.in_ok-hosts.ensures.inputs);
+      fresh = c.requires.fresh;
+    }
 
 pub returns-then-not-is_empty-clause-told : goal.returns-then-not-is_empty-clause-told
 returns-then-not-is_empty-clause-told g c =
@@ -52,7 +60,7 @@ returns-in-Ok-clause-told g c =
     let progress : Progress = record before { said = c.new-2.result } in
     let printed : MatchResult c.print_top.result (λ out. out ≡ demo_text (depot_shelf c.run_script-end.new.depot) (counts_in (record c.run_script-end.new.progress { said = c.new-2.result })) None) (λ f. f ≡ fault.OutOfMemory) = c.print_top.ensures in
     made_done laws c.args.command.now c.in_ok-run.run' c.in_ok-run.ensures c.requires.usable c.visits_of-visits.result c.visits_of-visits.ensures c.in_ok-depot.depot c.run_script-end.new.depot c.in_ok-depot.ensures.shelf
-    c.in_ok-hosts.hosts.items c.as_mut_slice.result.now c.run_script-end.new.hosts c.in_ok-hosts.ensures.inputs slice before progress c.run_script-end.result c.run_script-end.ensures.told c.run_script-end.ensures.depot
+    c.in_ok-hosts.hosts.items c.as_mut_slice.result.now c.run_script-end.new.hosts c.in_ok-hosts.ensures.inputs slice before progress c.run_script-end.result c.run_script-end.ensures.told c.run_script-end.ensures.left.depot
     c.run_script-end.ensures.worked refl c.new-2.ensures.items c.in-Ok.field-0 c.in-Ok.is c.print_top.result printed
 
 pub returns-clause-told : goal.returns-clause-told
@@ -63,7 +71,7 @@ returns-clause-told g c =
     let before = c.run_script-end.new.progress in
     let progress : Progress = record before { said = c.new-2.result } in
     made_ended laws c.args.command.now c.in_ok-run.run' c.in_ok-run.ensures c.requires.usable c.visits_of-visits.result c.visits_of-visits.ensures c.in_ok-depot.depot c.run_script-end.new.depot c.in_ok-depot.ensures.shelf
-    c.in_ok-hosts.hosts.items c.as_mut_slice.result.now c.run_script-end.new.hosts c.in_ok-hosts.ensures.inputs slice before progress c.run_script-end.result c.run_script-end.ensures.told c.run_script-end.ensures.depot
+    c.in_ok-hosts.hosts.items c.as_mut_slice.result.now c.run_script-end.new.hosts c.in_ok-hosts.ensures.inputs slice before progress c.run_script-end.result c.run_script-end.ensures.told c.run_script-end.ensures.left.depot
     c.run_script-end.ensures.worked refl c.new-2.ensures.items c.in-Err.fault c.demo_fault.result c.in-Err.is c.demo_fault.ensures.answer
 
 pub returns-in-Ok-clause-none_failed : goal.returns-in-Ok-clause-none_failed
@@ -74,7 +82,7 @@ returns-in-Ok-clause-none_failed g c =
     let before = c.run_script-end.new.progress in
     let progress : Progress = record before { said = c.new-2.result } in
     made_none_failed laws c.args.command.now c.in_ok-run.run' c.in_ok-run.ensures c.requires.usable c.visits_of-visits.result c.visits_of-visits.ensures c.in_ok-depot.depot c.run_script-end.new.depot c.in_ok-depot.ensures.shelf
-    c.in_ok-hosts.hosts.items c.as_mut_slice.result.now c.run_script-end.new.hosts c.in_ok-hosts.ensures.inputs slice before progress c.run_script-end.result c.run_script-end.ensures.told c.run_script-end.ensures.depot
+    c.in_ok-hosts.hosts.items c.as_mut_slice.result.now c.run_script-end.new.hosts c.in_ok-hosts.ensures.inputs slice before progress c.run_script-end.result c.run_script-end.ensures.told c.run_script-end.ensures.left.depot
     c.run_script-end.ensures.worked refl c.new-2.ensures.items
 
 pub returns-clause-none_failed : goal.returns-clause-none_failed
@@ -85,5 +93,5 @@ returns-clause-none_failed g c =
     let before = c.run_script-end.new.progress in
     let progress : Progress = record before { said = c.new-2.result } in
     made_none_failed laws c.args.command.now c.in_ok-run.run' c.in_ok-run.ensures c.requires.usable c.visits_of-visits.result c.visits_of-visits.ensures c.in_ok-depot.depot c.run_script-end.new.depot c.in_ok-depot.ensures.shelf
-    c.in_ok-hosts.hosts.items c.as_mut_slice.result.now c.run_script-end.new.hosts c.in_ok-hosts.ensures.inputs slice before progress c.run_script-end.result c.run_script-end.ensures.told c.run_script-end.ensures.depot
+    c.in_ok-hosts.hosts.items c.as_mut_slice.result.now c.run_script-end.new.hosts c.in_ok-hosts.ensures.inputs slice before progress c.run_script-end.result c.run_script-end.ensures.told c.run_script-end.ensures.left.depot
     c.run_script-end.ensures.worked refl c.new-2.ensures.items

@@ -52,8 +52,8 @@ loop-place-preserved g c =
           (asked_next method.Exists (map (λ store. store.dir) (take place stores)) store.dir old now new c.loop-place.invariant.5 asked),
     )
 
-pub returns-in_err-check_output-clause-asked : goal.returns-in_err-check_output-clause-asked
-returns-in_err-check_output-clause-asked g c =
+pub returns-in_err-check_output-clause-looked : goal.returns-in_err-check_output-clause-looked
+returns-in_err-check_output-clause-looked g c =
     let stores = c.as_slice-stores.result.now in
     let store = c.index-stores-place.result in
     let place = c.loop-place.place in
@@ -63,16 +63,28 @@ returns-in_err-check_output-clause-asked g c =
     let asked : Asked (call method.Exists c.index-stores-place.result.dir ∷ []) (g.D.Depot.calls c.loop-place.depot) (g.D.Depot.calls c.check_output.new.depot) = search rules in
     let paths = map (λ store. store.dir) (take place stores) ++ store.dir ∷ [] in
     let whole : IfOk c.from_residual.result (λ _. map (λ store. store.dir) (take c.loop-place.place c.as_slice-stores.result.now) ++ c.index-stores-place.result.dir ∷ [] ≡ map (λ store. store.dir) c.args.stores.now) = search rules in
-    record { paths = paths; asked = asked_next method.Exists (map (λ store. store.dir) (take place stores)) store.dir old now new c.loop-place.invariant.5 asked; whole = whole }
+    record {
+      fault = search rules;
+      shelf = search rules;
+      cause = search rules;
+      stores = search rules;
+      asked = record { paths = paths; asked = asked_next method.Exists (map (λ store. store.dir) (take place stores)) store.dir old now new c.loop-place.invariant.5 asked; whole = whole };
+    }
 
-pub returns-clause-asked : goal.returns-clause-asked
-returns-clause-asked g c =
+pub returns-clause-looked : goal.returns-clause-looked
+returns-clause-looked g c =
     let end : length c.as_slice-stores.result.now ≤ c.loop-place.place = search rules in
     let same : c.as_slice-stores.result.now ≡ c.args.stores.now = search rules in
     record {
-      paths = map (λ store. store.dir) (take c.loop-place.place c.as_slice-stores.result.now);
-      asked = c.loop-place.invariant.5;
-      whole = ap (map (λ store. store.dir)) (take_all c.loop-place.place c.as_slice-stores.result.now end ∙ same);
+      fault = search rules;
+      shelf = c.loop-place.invariant.0;
+      cause = search rules;
+      stores = c.loop-place.invariant.2;
+      asked = record {
+        paths = map (λ store. store.dir) (take c.loop-place.place c.as_slice-stores.result.now);
+        asked = c.loop-place.invariant.5;
+        whole = ap (map (λ store. store.dir)) (take_all c.loop-place.place c.as_slice-stores.result.now end ∙ same);
+      };
     }
 
 pub returns-in_err-check_output-clause-told : goal.returns-in_err-check_output-clause-told

@@ -44,19 +44,39 @@ loop-place-preserved g c =
       some_next method.Pieces path old now new c.loop-place.invariant.5 asked,
     )
 
-pub returns-in_err-add_size-clause-asked : goal.returns-in_err-add_size-clause-asked
-returns-in_err-add_size-clause-asked g c =
+pub returns-in_err-add_size-clause-looked : goal.returns-in_err-add_size-clause-looked
+returns-in_err-add_size-clause-looked g c =
     let old = g.D.Depot.calls c.args.depot.now in
     let now = g.D.Depot.calls c.loop-place.depot in
     let new = g.D.Depot.calls c.add_size.new.depot in
     let asked : Asked (call method.Pieces c.index-paths-place.result ∷ []) (g.D.Depot.calls c.loop-place.depot) (g.D.Depot.calls c.add_size.new.depot) = search rules in
-    some_next method.Pieces c.index-paths-place.result old now new c.loop-place.invariant.5 asked
+    record {
+      fault = search rules;
+      shelf = search rules;
+      cause = search rules;
+      stores = search rules;
+      asked = some_next method.Pieces c.index-paths-place.result old now new c.loop-place.invariant.5 asked;
+    }
 
-pub returns-in_err-paths-clause-asked : goal.returns-in_err-paths-clause-asked
-returns-in_err-paths-clause-asked g c = some_none method.Pieces (g.D.Depot.calls c.args.depot.now) (g.D.Depot.calls c.args.depot.now) refl
+pub returns-in_err-paths-clause-looked : goal.returns-in_err-paths-clause-looked
+returns-in_err-paths-clause-looked g c =
+    record {
+      fault = search rules;
+      shelf = refl;
+      cause = search rules;
+      stores = refl;
+      asked = some_none method.Pieces (g.D.Depot.calls c.args.depot.now) (g.D.Depot.calls c.args.depot.now) refl;
+    }
 
-pub returns-clause-asked : goal.returns-clause-asked
-returns-clause-asked g c = c.loop-place.invariant.5
+pub returns-clause-looked : goal.returns-clause-looked
+returns-clause-looked g c =
+    record {
+      fault = search rules;
+      shelf = c.loop-place.invariant.0;
+      cause = search rules;
+      stores = c.loop-place.invariant.2;
+      asked = c.loop-place.invariant.5;
+    }
 
 pub returns-in_err-add_size-clause-told : goal.returns-in_err-add_size-clause-told
 returns-in_err-add_size-clause-told g c s told command =

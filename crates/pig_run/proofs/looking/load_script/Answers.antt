@@ -26,7 +26,7 @@ returns-in_err-script-clause-told g c s told =
     (λ x. Passes (ScriptDue (given_by c.args.command.now) c.args.command.now.operand s (CommandDue c.args.command.now s)) (CommandDue c.args.command.now s x.statements (plan_of x.plan)) (g.D.Depot.calls c.args.depot.now) (g.D.Depot.calls c.script_bytes.new.depot))
     (λ f. ((f ≡ fault.NoScript) × (script_of c.as_str.result.now s ≡ None)) ⊎ IsLookFault f) = search rules in
     MatchResult-weaker c.from_residual.result refused (λ x h. h)
-    (λ f h. subst (λ p. StopsIn (ScriptDue given p s next) old new f) same (script_stops laws given path s next old new c.script_bytes.ensures.asked f h))
+    (λ f h. subst (λ p. StopsIn (ScriptDue given p s next) old new f) same (script_stops laws given path s next old new c.script_bytes.ensures.looked.asked f h))
 
 pub returns-clause-told : goal.returns-clause-told
 returns-clause-told g c s told =
@@ -42,20 +42,28 @@ returns-clause-told g c s told =
     let same : c.as_slice.result.now ≡ c.in_ok-script.script.items = search rules in
     let read = subst (IsRead 1048576 (script_of path s)) (sym same) items in
     subst (λ p. Step (ScriptDue given p s next) (λ x. next x.statements (plan_of x.plan)) old new c.read_script.result) named
-    (script_step laws given path s next old new c.script_bytes.ensures.asked 1048576 refl c.as_slice.result.now read c.read_script.result c.read_script.ensures.told)
+    (script_step laws given path s next old new c.script_bytes.ensures.looked.asked 1048576 refl c.as_slice.result.now read c.read_script.result c.read_script.ensures.told)
 
-pub returns-clause-fault : goal.returns-clause-fault
-returns-clause-fault g c = read_fault c.read_script.result c.read_script.ensures.fault
-
-pub returns-clause-cause : goal.returns-clause-cause
-returns-clause-cause g c = read_cause (g.D.Depot.faults c.args.depot.now) (g.D.Depot.faults c.script_bytes.new.depot) c.read_script.result (search rules) c.read_script.ensures.fault
-
-pub returns-in_err-script-clause-asked : goal.returns-in_err-script-clause-asked
-returns-in_err-script-clause-asked g c =
+pub returns-in_err-script-clause-looked : goal.returns-in_err-script-clause-looked
+returns-in_err-script-clause-looked g c =
+    let looked = c.script_bytes.ensures.looked in
     let same : c.as_str.result.now ≡ c.args.command.now.operand = search rules in
-    subst (λ p. Asked (call method.Script p ∷ []) (g.D.Depot.calls c.args.depot.now) (g.D.Depot.calls c.script_bytes.new.depot)) same c.script_bytes.ensures.asked
+    record {
+      fault = search rules;
+      shelf = looked.shelf;
+      cause = search rules;
+      stores = looked.stores;
+      asked = subst (λ p. Asked (call method.Script p ∷ []) (g.D.Depot.calls c.args.depot.now) (g.D.Depot.calls c.script_bytes.new.depot)) same looked.asked;
+    }
 
-pub returns-clause-asked : goal.returns-clause-asked
-returns-clause-asked g c =
+pub returns-clause-looked : goal.returns-clause-looked
+returns-clause-looked g c =
+    let looked = c.script_bytes.ensures.looked in
     let same : c.as_str.result.now ≡ c.args.command.now.operand = search rules in
-    subst (λ p. Asked (call method.Script p ∷ []) (g.D.Depot.calls c.args.depot.now) (g.D.Depot.calls c.script_bytes.new.depot)) same c.script_bytes.ensures.asked
+    record {
+      fault = read_fault c.read_script.result c.read_script.ensures.fault;
+      shelf = looked.shelf;
+      cause = read_cause (g.D.Depot.faults c.args.depot.now) (g.D.Depot.faults c.script_bytes.new.depot) c.read_script.result looked.cause.later c.read_script.ensures.fault;
+      stores = looked.stores;
+      asked = subst (λ p. Asked (call method.Script p ∷ []) (g.D.Depot.calls c.args.depot.now) (g.D.Depot.calls c.script_bytes.new.depot)) same looked.asked;
+    }

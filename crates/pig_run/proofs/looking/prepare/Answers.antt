@@ -44,7 +44,7 @@ returns-in_err-check_outputs-clause-told g c s told command =
     let old = g.D.Depot.calls c.args.depot.now in
     let mid = g.D.Depot.calls c.find_inputs.new.depot in
     let new = g.D.Depot.calls c.check_outputs.new.depot in
-    let told_mid : g.D.Depot.shelf c.find_inputs.new.depot ≡ Some s = c.find_inputs.ensures.shelf ∙ told in
+    let told_mid : g.D.Depot.shelf c.find_inputs.new.depot ≡ Some s = c.find_inputs.ensures.looked.shelf ∙ told in
     let first : Passes (InputsDue command s (plan_of c.args.plan)) (SizeDue command s (plan_of c.args.plan)) (g.D.Depot.calls c.args.depot.now) (g.D.Depot.calls c.find_inputs.new.depot) = search rules in
     let have : AllByRecursion (HasSize s) c.in_ok-sizes.sizes = search rules in
     let paths : map (λ size. size.path) c.in_ok-sizes.sizes ≡ live_paths (plan_of c.args.plan) = search rules in
@@ -61,7 +61,7 @@ returns-clause-told g c s told command =
     let old = g.D.Depot.calls c.args.depot.now in
     let mid = g.D.Depot.calls c.find_inputs.new.depot in
     let new = g.D.Depot.calls c.check_outputs.new.depot in
-    let told_mid : g.D.Depot.shelf c.find_inputs.new.depot ≡ Some s = c.find_inputs.ensures.shelf ∙ told in
+    let told_mid : g.D.Depot.shelf c.find_inputs.new.depot ≡ Some s = c.find_inputs.ensures.looked.shelf ∙ told in
     let first : Passes (InputsDue command s (plan_of c.args.plan)) (SizeDue command s (plan_of c.args.plan)) (g.D.Depot.calls c.args.depot.now) (g.D.Depot.calls c.find_inputs.new.depot) = search rules in
     let have : AllByRecursion (HasSize s) c.in_ok-sizes.sizes = search rules in
     let paths : map (λ size. size.path) c.in_ok-sizes.sizes ≡ live_paths (plan_of c.args.plan) = search rules in
@@ -80,30 +80,62 @@ returns-clause-ready g c s told =
     ready_behind s c.in_ok-sizes.sizes c.in_ok-stores.stores c.rewritten.result have absent c.rewritten.ensures.sizes
     (dirs_behind (stores_of (plan_of c.args.plan)) c.in_ok-stores.stores stores c.rewritten.result c.rewritten.ensures.dirs)
 
-pub returns-in_err-sizes-clause-asked : goal.returns-in_err-sizes-clause-asked
-returns-in_err-sizes-clause-asked g c =
+pub returns-in_err-sizes-clause-looked : goal.returns-in_err-sizes-clause-looked
+returns-in_err-sizes-clause-looked g c =
     let stops : IfOk c.from_residual.result (λ _. ⊥) = search rules in
-    looks_inputs c.from_residual.result stops (g.D.Depot.calls c.args.depot.now) (g.D.Depot.calls c.find_inputs.new.depot) c.find_inputs.ensures.asked
+    record {
+      fault = search rules;
+      shelf = c.find_inputs.ensures.looked.shelf;
+      cause = search rules;
+      stores = c.find_inputs.ensures.looked.stores;
+      asked = looks_inputs c.from_residual.result stops (g.D.Depot.calls c.args.depot.now) (g.D.Depot.calls c.find_inputs.new.depot) c.find_inputs.ensures.looked.asked;
+    }
 
-pub returns-in_err-check_size-clause-asked : goal.returns-in_err-check_size-clause-asked
-returns-in_err-check_size-clause-asked g c =
+pub returns-in_err-check_size-clause-looked : goal.returns-in_err-check_size-clause-looked
+returns-in_err-check_size-clause-looked g c =
     let stops : IfOk c.from_residual-in_err-check_size.result (λ _. ⊥) = search rules in
-    looks_inputs c.from_residual-in_err-check_size.result stops (g.D.Depot.calls c.args.depot.now) (g.D.Depot.calls c.find_inputs.new.depot) c.find_inputs.ensures.asked
+    record {
+      fault = search rules;
+      shelf = c.find_inputs.ensures.looked.shelf;
+      cause = search rules;
+      stores = c.find_inputs.ensures.looked.stores;
+      asked = looks_inputs c.from_residual-in_err-check_size.result stops (g.D.Depot.calls c.args.depot.now) (g.D.Depot.calls c.find_inputs.new.depot) c.find_inputs.ensures.looked.asked;
+    }
 
-pub returns-in_err-stores-clause-asked : goal.returns-in_err-stores-clause-asked
-returns-in_err-stores-clause-asked g c =
+pub returns-in_err-stores-clause-looked : goal.returns-in_err-stores-clause-looked
+returns-in_err-stores-clause-looked g c =
     let stops : IfOk c.from_residual-in_err-stores.result (λ _. ⊥) = search rules in
-    looks_inputs c.from_residual-in_err-stores.result stops (g.D.Depot.calls c.args.depot.now) (g.D.Depot.calls c.find_inputs.new.depot) c.find_inputs.ensures.asked
+    record {
+      fault = search rules;
+      shelf = c.find_inputs.ensures.looked.shelf;
+      cause = search rules;
+      stores = c.find_inputs.ensures.looked.stores;
+      asked = looks_inputs c.from_residual-in_err-stores.result stops (g.D.Depot.calls c.args.depot.now) (g.D.Depot.calls c.find_inputs.new.depot) c.find_inputs.ensures.looked.asked;
+    }
 
-pub returns-in_err-check_outputs-clause-asked : goal.returns-in_err-check_outputs-clause-asked
-returns-in_err-check_outputs-clause-asked g c =
+pub returns-in_err-check_outputs-clause-looked : goal.returns-in_err-check_outputs-clause-looked
+returns-in_err-check_outputs-clause-looked g c =
     let stops : IfOk c.from_residual-in_err-check_outputs.result (λ _. ⊥) = search rules in
-    looks_stopped (map (λ store. store.dir) c.in_ok-stores.stores) c.check_outputs.result (g.D.Depot.calls c.args.depot.now) (g.D.Depot.calls c.find_inputs.new.depot) (g.D.Depot.calls c.check_outputs.new.depot)
-    c.find_inputs.ensures.asked c.check_outputs.ensures.asked c.from_residual-in_err-check_outputs.result stops
+    record {
+      fault = search rules;
+      shelf = c.check_outputs.ensures.looked.shelf ∙ c.find_inputs.ensures.looked.shelf;
+      cause = search rules;
+      stores = c.check_outputs.ensures.looked.stores ∙ c.find_inputs.ensures.looked.stores;
+      asked =
+          looks_stopped (map (λ store. store.dir) c.in_ok-stores.stores) c.check_outputs.result (g.D.Depot.calls c.args.depot.now) (g.D.Depot.calls c.find_inputs.new.depot) (g.D.Depot.calls c.check_outputs.new.depot)
+          c.find_inputs.ensures.looked.asked c.check_outputs.ensures.looked.asked c.from_residual-in_err-check_outputs.result stops;
+    }
 
-pub returns-clause-asked : goal.returns-clause-asked
-returns-clause-asked g c =
+pub returns-clause-looked : goal.returns-clause-looked
+returns-clause-looked g c =
     let stores : c.in_ok-stores.stores ≡ stores_of (plan_of c.args.plan) = search rules in
-    looks_behind {T = Unit {0}} (map (λ store. store.dir) c.in_ok-stores.stores) (Ok tt) (g.D.Depot.calls c.args.depot.now) (g.D.Depot.calls c.find_inputs.new.depot) (g.D.Depot.calls c.check_outputs.new.depot)
-    c.find_inputs.ensures.asked c.in_ok-check_outputs.ensures.asked c.rewritten.result c.in_ok-check_outputs.ensures.asked.whole
-    (dirs_behind (stores_of (plan_of c.args.plan)) c.in_ok-stores.stores stores c.rewritten.result c.rewritten.ensures.dirs)
+    record {
+      fault = search rules;
+      shelf = c.check_outputs.ensures.looked.shelf ∙ c.find_inputs.ensures.looked.shelf;
+      cause = search rules;
+      stores = c.check_outputs.ensures.looked.stores ∙ c.find_inputs.ensures.looked.stores;
+      asked =
+          looks_behind {T = Unit {0}} (map (λ store. store.dir) c.in_ok-stores.stores) (Ok tt) (g.D.Depot.calls c.args.depot.now) (g.D.Depot.calls c.find_inputs.new.depot) (g.D.Depot.calls c.check_outputs.new.depot)
+          c.find_inputs.ensures.looked.asked c.in_ok-check_outputs.ensures.looked.asked c.rewritten.result c.in_ok-check_outputs.ensures.looked.asked.whole
+          (dirs_behind (stores_of (plan_of c.args.plan)) c.in_ok-stores.stores stores c.rewritten.result c.rewritten.ensures.dirs);
+    }

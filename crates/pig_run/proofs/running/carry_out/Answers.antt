@@ -15,6 +15,7 @@ use Rattle.pig_run.specs.Running.{EndsFinding, IsBrokenAt, RunsEnd, counts_in, f
 use Rattle.pig_run.specs.Steps.{IsCommitFault}
 use Rattle.pig_run.specs.Texts.{done_line}
 use Rattle.pig_run.specs.Told.{TellsInputs}
+use Rattle.pig_run.proofs.Blaming.{ends_unblamed, no_blame, no_cause}
 use Rattle.pig_run.proofs.Crews.{commit_fault, memory_fault, won_all, worked_on}
 use Rattle.pig_run.proofs.Ending.{all_tell, quiet_kept, told_broken, told_bytes, told_done, told_unfound, told_untold, told_wanting}
 use Rattle.pig_run.proofs.Laying.{are_absent, are_apart_all}
@@ -125,18 +126,7 @@ returns-clause-told g c s told =
     c.args.prepared.now.stores (c.requires.prepared.stores ∙ sym (ap stores_of c.requires.plan)) c.in_ok-parts.parts found.won found.laid found.gives refl found.silent
     made c.in_ok-store_all.ensures.asked c.from_vec.result notes is
 
--- ---- which faults, and what hosts show
-
-pub returns-in_err-parts-clause-fault : goal.returns-in_err-parts-clause-fault
-returns-in_err-parts-clause-fault g c =
-    let is : IfErr c.from_residual.result (EndsFinding (plan_of c.args.prepared.now.checked) (staged c.args.stages.now) c.args.limit (map g.H.Host.inputs c.args.hosts.now) c.find.new.progress) = search rules in
-    IfErr-weaker c.from_residual.result _ _ (λ f h. later_ends f h) is
-
-pub returns-in_err-store_all-clause-fault : goal.returns-in_err-store_all-clause-fault
-returns-in_err-store_all-clause-fault g c =
-    let broken = c.in_err-store_all.ensures.err in
-    let is : IfErr c.from_residual-in_err-store_all.result (λ f. f ≡ c.in_err-store_all.field-0.0) = search rules in
-    IfErr-weaker c.from_residual-in_err-store_all.result _ _ (λ f h. later_commit broken.store.statement f (subst (IsCommitFault broken.store.statement) (sym h) broken.named)) is
+-- ---- what hosts show
 
 pub returns-in_err-notes-clause-worked : goal.returns-in_err-notes-clause-worked
 returns-in_err-notes-clause-worked g c =
@@ -158,37 +148,67 @@ returns-in_err-text-clause-worked g c =
     worked_on g.H.Host.inputs g.H.Host.faults g.H.Host.begun c.args.limit c.args.hosts.now c.find.new.hosts c.find.new.progress.ends (found_in c.from_residual-in_err-text.result)
     (memory_fault c.from_residual-in_err-text.result is) c.in_ok-parts.ensures.worked
 
--- ---- what is asked
+-- ---- what is left of the depot
 
-pub returns-in_err-parts-clause-asked : goal.returns-in_err-parts-clause-asked
-returns-in_err-parts-clause-asked g c =
+pub returns-in_err-parts-clause-left : goal.returns-in_err-parts-clause-left
+returns-in_err-parts-clause-left g c =
     let stops : IfOk c.from_residual.result (λ _. ⊥) = search rules in
     let ended : IfErr c.from_residual.result (EndsFinding (plan_of c.args.prepared.now.checked) (staged c.args.stages.now) c.args.limit (map g.H.Host.inputs c.args.hosts.now) c.find.new.progress) = search rules in
-    makes_none c.from_residual.result stops (map (λ store. store.dir) c.args.prepared.now.stores) _
-    (unkept_end (plan_of c.args.prepared.now.checked) (staged c.args.stages.now) c.args.limit (map g.H.Host.inputs c.args.hosts.now) c.find.new.progress c.from_residual.result ended stops) (g.D.Depot.calls c.args.depot.now) (g.D.Depot.calls c.args.depot.now) refl
+    record {
+      fault = IfErr-weaker c.from_residual.result _ _ (λ f h. later_ends f h) ended;
+      depot = no_cause (g.D.Depot.faults c.args.depot.now) c.from_residual.result (IfErr-weaker c.from_residual.result _ _ (λ f h. ends_unblamed f h) ended);
+      stores = no_blame (g.D.Depot.store_faults c.args.depot.now) c.from_residual.result (IfErr-weaker c.from_residual.result _ _ (λ f h. ends_unblamed f h) ended);
+      asked =
+          makes_none c.from_residual.result stops (map (λ store. store.dir) c.args.prepared.now.stores) _
+          (unkept_end (plan_of c.args.prepared.now.checked) (staged c.args.stages.now) c.args.limit (map g.H.Host.inputs c.args.hosts.now) c.find.new.progress c.from_residual.result ended stops) (g.D.Depot.calls c.args.depot.now) (g.D.Depot.calls c.args.depot.now) refl;
+    }
 
-pub returns-in_err-notes-clause-asked : goal.returns-in_err-notes-clause-asked
-returns-in_err-notes-clause-asked g c =
+pub returns-in_err-notes-clause-left : goal.returns-in_err-notes-clause-left
+returns-in_err-notes-clause-left g c =
     let stops : IfOk c.from_residual-in_err-notes.result (λ _. ⊥) = search rules in
-    makes_none c.from_residual-in_err-notes.result stops (map (λ store. store.dir) c.args.prepared.now.stores) _ (λ _. quiet_kept c.find.new.progress c.in_ok-parts.ensures.told.stands) (g.D.Depot.calls c.args.depot.now) (g.D.Depot.calls c.args.depot.now) refl
+    record {
+      fault = search rules;
+      depot = search rules;
+      stores = search rules;
+      asked =
+          makes_none c.from_residual-in_err-notes.result stops (map (λ store. store.dir) c.args.prepared.now.stores) _ (λ _. quiet_kept c.find.new.progress c.in_ok-parts.ensures.told.stands) (g.D.Depot.calls c.args.depot.now) (g.D.Depot.calls c.args.depot.now) refl;
+    }
 
-pub returns-in_err-store_all-clause-asked : goal.returns-in_err-store_all-clause-asked
-returns-in_err-store_all-clause-asked g c =
+pub returns-in_err-store_all-clause-left : goal.returns-in_err-store_all-clause-left
+returns-in_err-store_all-clause-left g c =
     let broken = c.in_err-store_all.ensures.err in
     let is : MatchResult c.from_residual-in_err-store_all.result (λ _. ⊥) (λ f. f ≡ c.in_err-store_all.field-0.0) = search rules in
-    makes_broken c.in_ok-parts.parts (map (λ store. store.dir) c.args.prepared.now.stores) c.in_ok-parts.ensures.told.laid.dirs {U = Unit {0}} c.from_residual-in_err-store_all.result broken.store.statement
-    (MatchResult-weaker c.from_residual-in_err-store_all.result is (λ x h. h) (λ f h. subst (IsCommitFault broken.store.statement) (sym h) broken.named))
-    c.in_err-store_all.field-0.0 _ (g.D.Depot.calls c.args.depot.now) (g.D.Depot.calls c.store_all.new.depot) c.in_err-store_all.ensures.asked
+    let ended : IfErr c.from_residual-in_err-store_all.result (λ f. f ≡ c.in_err-store_all.field-0.0) = search rules in
+    record {
+      fault = IfErr-weaker c.from_residual-in_err-store_all.result _ _ (λ f h. later_commit broken.store.statement f (subst (IsCommitFault broken.store.statement) (sym h) broken.named)) ended;
+      depot = search rules;
+      stores = search rules;
+      asked =
+          makes_broken c.in_ok-parts.parts (map (λ store. store.dir) c.args.prepared.now.stores) c.in_ok-parts.ensures.told.laid.dirs {U = Unit {0}} c.from_residual-in_err-store_all.result broken.store.statement
+          (MatchResult-weaker c.from_residual-in_err-store_all.result is (λ x h. h) (λ f h. subst (IsCommitFault broken.store.statement) (sym h) broken.named))
+          c.in_err-store_all.field-0.0 _ (g.D.Depot.calls c.args.depot.now) (g.D.Depot.calls c.store_all.new.depot) c.in_err-store_all.ensures.asked;
+    }
 
-pub returns-in_err-text-clause-asked : goal.returns-in_err-text-clause-asked
-returns-in_err-text-clause-asked g c =
+pub returns-in_err-text-clause-left : goal.returns-in_err-text-clause-left
+returns-in_err-text-clause-left g c =
     let is : MatchResult c.from_residual-in_err-text.result (λ _. ⊥) (λ f. f ≡ fault.OutOfMemory) = search rules in
-    makes_untold c.in_ok-parts.parts (map (λ store. store.dir) c.args.prepared.now.stores) c.in_ok-parts.ensures.told.laid.dirs _
-    (λ none. c.in_ok-parts.ensures.told.unkept (no_stores c.args.prepared.now.stores none)) (g.D.Depot.calls c.args.depot.now) (g.D.Depot.calls c.store_all.new.depot)
-    c.in_ok-store_all.ensures.asked c.from_residual-in_err-text.result is
+    record {
+      fault = search rules;
+      depot = search rules;
+      stores = search rules;
+      asked =
+          makes_untold c.in_ok-parts.parts (map (λ store. store.dir) c.args.prepared.now.stores) c.in_ok-parts.ensures.told.laid.dirs _
+          (λ none. c.in_ok-parts.ensures.told.unkept (no_stores c.args.prepared.now.stores none)) (g.D.Depot.calls c.args.depot.now) (g.D.Depot.calls c.store_all.new.depot)
+          c.in_ok-store_all.ensures.asked c.from_residual-in_err-text.result is;
+    }
 
-pub returns-clause-asked : goal.returns-clause-asked
-returns-clause-asked g c =
-    makes_all c.in_ok-parts.parts (map (λ store. store.dir) c.args.prepared.now.stores) c.in_ok-parts.ensures.told.laid.dirs _
-    (λ none. c.in_ok-parts.ensures.told.unkept (no_stores c.args.prepared.now.stores none)) (g.D.Depot.calls c.args.depot.now) (g.D.Depot.calls c.store_all.new.depot)
-    c.in_ok-store_all.ensures.asked
+pub returns-clause-left : goal.returns-clause-left
+returns-clause-left g c = record {
+  fault = search rules;
+  depot = search rules;
+  stores = search rules;
+  asked =
+      makes_all c.in_ok-parts.parts (map (λ store. store.dir) c.args.prepared.now.stores) c.in_ok-parts.ensures.told.laid.dirs _
+      (λ none. c.in_ok-parts.ensures.told.unkept (no_stores c.args.prepared.now.stores none)) (g.D.Depot.calls c.args.depot.now) (g.D.Depot.calls c.store_all.new.depot)
+      c.in_ok-store_all.ensures.asked;
+}

@@ -40,16 +40,21 @@ returns-in-Check-clause-told g c s told =
     let stage = CommandDue r.command s r.checked.statements plan in
     let is : c.args.request.command.verb ≡ verbs.Check = search rules in
     MatchResult-weaker c.print_check.result c.print_check.ensures
-    (λ text same. told_shown stage (ok_text r.checked.statements) (check_due is) s tells now now shelf c.args.progress.now refl told c.requires.fresh text same)
-    (λ f same. told_stopped stage (some_command_due r.command c.requires.scripted s r.checked.statements plan) s tells now now shelf c.args.progress.now told c.requires.fresh f (wants stage now now refl f same))
+    (λ text same. told_shown stage (ok_text r.checked.statements) (check_due is) s tells now now shelf c.args.progress.now refl told c.requires.begins.fresh text same)
+    (λ f same. told_stopped stage (some_command_due r.command c.requires.scripted s r.checked.statements plan) s tells now now shelf c.args.progress.now told c.requires.begins.fresh f (wants stage now now refl f same))
 
 pub returns-in-Check-clause-worked : goal.returns-in-Check-clause-worked
 returns-in-Check-clause-worked g c =
-    crew_idle g.H.Host.inputs g.H.Host.faults g.H.Host.begun c.args.request.command c.args.hosts.now c.args.progress.now.ends (found_in c.print_check.result) c.requires.fresh.ends
+    crew_idle g.H.Host.inputs g.H.Host.faults g.H.Host.begun c.args.request.command c.args.hosts.now c.args.progress.now.ends (found_in c.print_check.result) c.requires.begins.fresh.ends
     (memory_fault c.print_check.result (MatchResult-weaker c.print_check.result c.print_check.ensures (λ text same. tt) (λ f is. is)))
 
-pub returns-in-Check-clause-asked : goal.returns-in-Check-clause-asked
-returns-in-Check-clause-asked g c = orderly_idle c.print_check.result _ (fresh_kept c.args.progress.now c.requires.fresh) (g.D.Depot.calls c.args.depot.now) (g.D.Depot.calls c.args.depot.now) refl
+pub returns-in-Check-clause-left : goal.returns-in-Check-clause-left
+returns-in-Check-clause-left g c = record {
+  fault = search rules;
+  depot = search rules;
+  stores = search rules;
+  asked = orderly_idle c.print_check.result _ (fresh_kept c.args.progress.now c.requires.begins.fresh) (g.D.Depot.calls c.args.depot.now) (g.D.Depot.calls c.args.depot.now) refl;
+}
 
 pub returns-in-Explain-clause-told : goal.returns-in-Explain-clause-told
 returns-in-Explain-clause-told g c s told =
@@ -61,13 +66,18 @@ returns-in-Explain-clause-told g c s told =
     let stage = CommandDue r.command s r.checked.statements plan in
     let is : c.args.request.command.verb ≡ verbs.Explain = search rules in
     MatchResult-weaker c.print_explain.result c.print_explain.ensures
-    (λ text shows. told_shown stage (explain_text plan shows.0) (explain_due is shows.1) s tells now now shelf c.args.progress.now refl told c.requires.fresh text shows.2)
-    (λ f same. told_stopped stage (some_command_due r.command c.requires.scripted s r.checked.statements plan) s tells now now shelf c.args.progress.now told c.requires.fresh f (wants stage now now refl f same))
+    (λ text shows. told_shown stage (explain_text plan shows.0) (explain_due is shows.1) s tells now now shelf c.args.progress.now refl told c.requires.begins.fresh text shows.2)
+    (λ f same. told_stopped stage (some_command_due r.command c.requires.scripted s r.checked.statements plan) s tells now now shelf c.args.progress.now told c.requires.begins.fresh f (wants stage now now refl f same))
 
 pub returns-in-Explain-clause-worked : goal.returns-in-Explain-clause-worked
 returns-in-Explain-clause-worked g c =
-    crew_idle g.H.Host.inputs g.H.Host.faults g.H.Host.begun c.args.request.command c.args.hosts.now c.args.progress.now.ends (found_in c.print_explain.result) c.requires.fresh.ends
+    crew_idle g.H.Host.inputs g.H.Host.faults g.H.Host.begun c.args.request.command c.args.hosts.now c.args.progress.now.ends (found_in c.print_explain.result) c.requires.begins.fresh.ends
     (memory_fault c.print_explain.result (MatchResult-weaker c.print_explain.result c.print_explain.ensures (λ text same. tt) (λ f is. is)))
 
-pub returns-in-Explain-clause-asked : goal.returns-in-Explain-clause-asked
-returns-in-Explain-clause-asked g c = orderly_idle c.print_explain.result _ (fresh_kept c.args.progress.now c.requires.fresh) (g.D.Depot.calls c.args.depot.now) (g.D.Depot.calls c.args.depot.now) refl
+pub returns-in-Explain-clause-left : goal.returns-in-Explain-clause-left
+returns-in-Explain-clause-left g c = record {
+  fault = search rules;
+  depot = search rules;
+  stores = search rules;
+  asked = orderly_idle c.print_explain.result _ (fresh_kept c.args.progress.now c.requires.begins.fresh) (g.D.Depot.calls c.args.depot.now) (g.D.Depot.calls c.args.depot.now) refl;
+}

@@ -1,14 +1,25 @@
-use Rattle.std.proofs.Common.{refl, ◌++◌, map, subst, sym}
+use Rattle.std.proofs.Common.{refl, ◌++◌, map, subst, sym, arith}
 use Rattle.std.specs.List.{AllByRecursion}
 use Rattle.pig_run.specs.Running.{found_in}
 use Rattle.pig_run.specs.Told.{TellsOf}
 use Rattle.pig_run.proofs.Crews.{crew_worked, tell_first}
 use Rattle.pig_run.proofs.running.run_on_crew.Goals as goal
 
-pub run_plan-requires-clause-tells : goal.run_plan-requires-clause-tells
-run_plan-requires-clause-tells g c κs within =
-    subst (λ hosts. AllByRecursion (TellsOf (g.D.Depot.shelf c.args.depot.now)) (map g.H.Host.inputs hosts)) (sym c.split_at_mut-crew.ensures.front)
-    (tell_first (TellsOf (g.D.Depot.shelf c.args.depot.now)) g.H.Host.inputs c.args.command.now.workers c.args.hosts.now c.requires.tells)
+pub run_plan-requires-clause-begins : goal.run_plan-requires-clause-begins
+run_plan-requires-clause-begins g c κs within =
+    let begins = c.requires.begins in
+    let all = begins.few in
+    let usable = begins.usable in
+    let most = usable.workers.1 in
+    let count = c.split_at_mut-crew.ensures.front_len in
+    record {
+      few = omega (arith, all, most, count);
+      usable = record { workers = (usable.workers.0, omega (arith, count)); reducers = usable.reducers; split = usable.split; attempts = usable.attempts };
+      tells =
+          subst (λ hosts. AllByRecursion (TellsOf (g.D.Depot.shelf c.args.depot.now)) (map g.H.Host.inputs hosts)) (sym c.split_at_mut-crew.ensures.front)
+          (tell_first (TellsOf (g.D.Depot.shelf c.args.depot.now)) g.H.Host.inputs c.args.command.now.workers c.args.hosts.now begins.tells);
+      fresh = begins.fresh;
+    }
 
 pub returns-clause-worked : goal.returns-clause-worked
 returns-clause-worked g c =
