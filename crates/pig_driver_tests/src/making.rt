@@ -1,6 +1,6 @@
 // Random plans and inputs, as words and texts.
 use crate::comparing::{add, bare_input};
-use crate::plans::add_fitting;
+use crate::plans;
 use pig_chance_tests::Chance;
 use pig_plan::Plan;
 use std::alloc::Global;
@@ -94,7 +94,7 @@ fn word<R: Abort>(rt: &R, alloc: Global, chance: &mut Chance, plan: &Plan, lette
 /// Adds a word where its node fits.
 fn add_word<R: Abort>(rt: &R, alloc: Global, plan: &mut Plan, words: &mut String, word: &str) {
     let statement = count(plan).saturating_add(1);
-    if add_fitting(rt, alloc, plan, word, statement) {
+    if plans::add_word(rt, alloc, plan, word, statement) {
         if statement > 1 {
             add(rt, words, " ");
         }

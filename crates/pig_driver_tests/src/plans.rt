@@ -1,11 +1,10 @@
 // Plans from short words. Where memory is wanting the process ends: that drops nothing, so its proof is short.
-use pig_plan::{KeyedInput, KeyedInputs, Node, NodeOp, Plan};
-use pig_typed::{
-    Block, BlockItem, BlockItems, BlockStep, BlockSteps, SortKey, SortKeys, TExpr, TLink,
+use pig_nodes_tests::{
+    above, add_fitting, call, flat, item, keyed, lettered, load, sort_keys, store,
 };
-use pig_value::{
-    Boxed, ChainOp, Column, Columns, Delim, Dir, Function, Kind, Numbers, Rel, Seq, Side, Text,
-};
+use pig_plan::{KeyedInputs, NodeOp, Plan};
+use pig_typed::{Block, BlockItems, BlockStep, BlockSteps, TExpr, TLink};
+use pig_value::{Boxed, ChainOp, Dir, Function, Numbers, Seq, Side};
 use std::alloc::Global;
 use std::process::Abort;
 
@@ -14,52 +13,10 @@ fn push<R: Abort, T: Drop>(rt: &R, list: &mut Seq<T>, item: T) {
     list.push(item).expect(rt, "memory");
 }
 
-/// The digits behind a letter.
-fn digits<R: Abort>(rt: &R, alloc: Global, word: &[u8]) -> Numbers {
-    let mut numbers = Numbers::new(alloc);
-    for digit in word.iter().skip(1) {
-        push(rt, &mut numbers, u32::from(digit.saturating_sub(b'0')));
-    }
-    numbers
-}
-
-/// A LOAD of the first columns, of which `c` is a chararray and another an int.
-fn load<R: Abort>(rt: &R, alloc: Global, kinds: &str, path: &str) -> NodeOp {
-    let mut columns = Columns::new(alloc);
-    let mut position = 0;
-    for letter in kinds.as_bytes() {
-        let kind = if *letter == b'c' {
-            Kind::Chararray
-        } else {
-            Kind::Int
-        };
-        push(rt, &mut columns, Column { position, kind });
-        position = u32::saturating_add(position, 1);
-    }
-    NodeOp::Load {
-        path: Text::from_str(alloc, path).expect(rt, "memory"),
-        delim: Delim::tab(),
-        columns,
-    }
-}
-
-/// A first field above 1.
-fn above<R: Abort>(rt: &R, alloc: Global) -> TExpr {
-    let b = Boxed::new(alloc, TExpr::Int(1)).expect(rt, "memory");
-    let a = Boxed::new(alloc, TExpr::Field(0)).expect(rt, "memory");
-    TExpr::Compare { op: Rel::Gt, a, b }
-}
-
 /// A first field that is null.
 fn is_null<R: Abort>(rt: &R, alloc: Global) -> TExpr {
     let a = Boxed::new(alloc, TExpr::Field(0)).expect(rt, "memory");
     TExpr::IsNull { a, not: false }
-}
-
-fn call<R: Abort>(rt: &R, alloc: Global, function: Function, arg: TExpr) -> TExpr {
-    let mut args = Seq::new(alloc);
-    push(rt, &mut args, arg);
-    TExpr::Call { function, args }
 }
 
 /// The first two fields, with an operator between them.
@@ -77,32 +34,15 @@ fn of_seconds<R: Abort>(rt: &R, alloc: Global, function: Function) -> TExpr {
     push(rt, &mut fields, 1);
     let a = Boxed::new(alloc, TExpr::Field(1)).expect(rt, "memory");
     let single = true;
-    call(rt, alloc, function, TExpr::Project { a, fields, single })
-}
-
-/// An item of one field.
-fn item(value: TExpr) -> BlockItem {
-    BlockItem {
-        value,
-        flatten: false,
-        width: 1,
-    }
-}
-
-/// An item that is flattened, of so many fields.
-fn flat(value: TExpr, width: u32) -> BlockItem {
-    BlockItem {
-        value,
-        flatten: true,
-        width,
-    }
+    let seconds = TExpr::Project { a, fields, single };
+    call(alloc, function, seconds).expect(rt, "memory")
 }
 
 /// What FOREACH makes of a row of texts and numbers: the words of a text `t`, arithmetic `w`, and its fields turned round.
 fn row_items<R: Abort>(rt: &R, alloc: Global, letter: u8) -> BlockItems {
     let mut items = Seq::new(alloc);
     if letter == b't' {
-        let words = call(rt, alloc, Function::Tokenize, TExpr::Field(0));
+        let words = call(alloc, Function::Tokenize, TExpr::Field(0)).expect(rt, "memory");
         push(rt, &mut items, flat(words, 1));
     } else if letter == b'w' {
         for op in [ChainOp::Sub, ChainOp::Mul, ChainOp::Div, ChainOp::Rem] {
@@ -140,7 +80,8 @@ fn group_items<R: Abort>(rt: &R, alloc: Global, letter: u8) -> BlockItems {
         b'm' => Function::CountStar,
         _ => Function::Count,
     };
-    push(rt, &mut items, item(call(rt, alloc, function, counted)));
+    let counts = call(alloc, function, counted).expect(rt, "memory");
+    push(rt, &mut items, item(counts));
     if letter == b'S' {
         push(rt, &mut items, item(of_seconds(rt, alloc, Function::Sum)));
     }
@@ -153,9 +94,7 @@ fn steps<R: Abort>(rt: &R, alloc: Global, letter: u8) -> BlockSteps {
     if letter != b'D' {
         return steps;
     }
-    let mut keys = SortKeys::new(alloc);
-    let (position, dir) = (0, Dir::Desc);
-    push(rt, &mut keys, SortKey { position, dir });
+    let keys = sort_keys(alloc, Dir::Desc, &[0]).expect(rt, "memory");
     let from = TExpr::Field(1);
     push(rt, &mut steps, BlockStep::Distinct { from });
     let from = TExpr::Local(0);
@@ -182,10 +121,9 @@ fn by_key<R: Abort>(rt: &R, alloc: Global, letter: u8, numbers: &[u32]) -> NodeO
     let mut inputs = KeyedInputs::new(alloc);
     let mut inner = letter == b'G';
     for number in numbers {
-        let input = *number;
-        let mut keys = Seq::new(alloc);
-        push(rt, &mut keys, TExpr::Field(u32::from(letter == b'k')));
-        push(rt, &mut inputs, KeyedInput { input, keys, inner });
+        let key = TExpr::Field(u32::from(letter == b'k'));
+        let keyed = keyed(alloc, *number, key, inner).expect(rt, "memory");
+        push(rt, &mut inputs, keyed);
         inner = false;
     }
     let side = match letter {
@@ -204,25 +142,15 @@ fn by_key<R: Abort>(rt: &R, alloc: Global, letter: u8, numbers: &[u32]) -> NodeO
 
 /// ORDER `O`, RANK `R` and RANK DENSE `P`, which with `o`, `e` and `p` go down by their first field.
 fn sorting<R: Abort>(rt: &R, alloc: Global, letter: u8, input: u32, numbers: &[u32]) -> NodeOp {
-    let keys = sort_keys(rt, alloc, letter, numbers);
+    let is_down = matches!(letter, b'o' | b'e' | b'p');
+    let first = if is_down { Dir::Desc } else { Dir::Asc };
+    let positions = numbers.get(1..).unwrap_or(&[]);
+    let keys = sort_keys(alloc, first, positions).expect(rt, "memory");
     if matches!(letter, b'o' | b'O') {
         return NodeOp::Order { input, keys };
     }
     let dense = matches!(letter, b'p' | b'P');
     NodeOp::Rank { input, keys, dense }
-}
-
-/// The fields behind an input, as keys.
-fn sort_keys<R: Abort>(rt: &R, alloc: Global, letter: u8, numbers: &[u32]) -> SortKeys {
-    let mut keys = SortKeys::new(alloc);
-    let is_down = matches!(letter, b'o' | b'e' | b'p');
-    let mut dir = if is_down { Dir::Desc } else { Dir::Asc };
-    for number in numbers.iter().skip(1) {
-        let position = *number;
-        push(rt, &mut keys, SortKey { position, dir });
-        dir = Dir::Asc;
-    }
-    keys
 }
 
 /// FILTER by a first field above 1 `f` or by one that is null, and ASSERT `x` by one above 1.
@@ -231,7 +159,7 @@ fn tested<R: Abort>(rt: &R, alloc: Global, letter: u8, input: u32) -> NodeOp {
         let cond = is_null(rt, alloc);
         return NodeOp::Filter { input, cond };
     }
-    let cond = above(rt, alloc);
+    let cond = above(alloc).expect(rt, "memory");
     if letter == b'f' {
         return NodeOp::Filter { input, cond };
     }
@@ -263,26 +191,21 @@ fn operator<R: Abort>(rt: &R, alloc: Global, letter: u8, inputs: Numbers) -> Nod
             let count = u64::from(inputs.get(1).copied().unwrap_or(0));
             NodeOp::Limit { input, count }
         }
-        _ => NodeOp::Store {
-            input,
-            path: Text::from_str(alloc, "out").expect(rt, "memory"),
-            delim: Delim::tab(),
-        },
+        _ => store(alloc, input, "out").expect(rt, "memory"),
     }
 }
 
 /// The operator of a word: LOAD as `KINDS=PATH`, and other operators.
 fn operator_of<R: Abort>(rt: &R, alloc: Global, word: &str) -> NodeOp {
     if let Some((kinds, path)) = word.split_once('=') {
-        return load(rt, alloc, kinds, path);
+        return load(alloc, kinds, path).expect(rt, "memory");
     }
-    let bytes = word.as_bytes();
-    let letter = bytes.first().copied().unwrap_or(0);
-    operator(rt, alloc, letter, digits(rt, alloc, bytes))
+    let (letter, inputs) = lettered(alloc, word).expect(rt, "memory");
+    operator(rt, alloc, letter, inputs)
 }
 
-/// Adds a node where it fits.
-pub fn add_fitting<R: Abort>(
+/// Adds the node of a word where it fits.
+pub fn add_word<R: Abort>(
     rt: &R,
     alloc: Global,
     plan: &mut Plan,
@@ -290,16 +213,7 @@ pub fn add_fitting<R: Abort>(
     statement: u32,
 ) -> bool {
     let op = operator_of(rt, alloc, word);
-    let node = Node { op, statement };
-    let Ok(fits) = plan.fits(&node) else {
-        panic!(rt; "memory");
-    };
-    if fits {
-        plan.add(node).expect(rt, "memory");
-    } else {
-        drop(node);
-    }
-    fits
+    add_fitting(plan, op, statement).expect(rt, "memory")
 }
 
 /// The plan of these words, which are statements from 1 on. Each has to fit.
@@ -307,7 +221,7 @@ pub fn plan<R: Abort>(rt: &R, alloc: Global, words: &str) -> Plan {
     let mut plan = Plan::empty(alloc);
     let mut statement = 1;
     for word in words.split(' ') {
-        let fits = add_fitting(rt, alloc, &mut plan, word, statement);
+        let fits = add_word(rt, alloc, &mut plan, word, statement);
         assert!(rt; fits, "a node that doesn't fit");
         statement = u32::saturating_add(statement, 1);
     }

@@ -1,13 +1,16 @@
 //! Plans from short words, and what they answer over inputs, as text. Where memory is wanting the process ends: that
 //! drops nothing, so its proof is short.
 // Trees end by `drop`: one call is cheap to prove, and a tree that dies by name is taken apart variant by variant.
+use pig_nodes_tests::{
+    above, add_fitting, call, flat, item, keyed, lettered, load, sort_keys, store,
+};
 use pig_plain::answer;
-use pig_plan::{KeyedInput, KeyedInputs, Node, NodeOp, Plan};
+use pig_plan::{KeyedInputs, NodeOp, Plan};
 use pig_text::write_row;
-use pig_typed::{Block, BlockItem, SortKey, SortKeys, TExpr};
+use pig_typed::{Block, TExpr};
 use pig_value::{
-    Blob, Boxed, Column, Columns, Delim, Dir, Function, Input, Inputs, Kept, Kind, Numbers, Rel,
-    Rows, Seq, Side, Text, bag,
+    Blob, Boxed, Delim, Dir, Function, Input, Inputs, Kept, Kind, Numbers, Rows, Seq, Side, Text,
+    bag,
 };
 use std::alloc::{AllocError, Global};
 use std::process::Abort;
@@ -76,71 +79,26 @@ fn numbers<R: Abort>(rt: &R, alloc: Global, from: u32, to: u32) -> Blob {
     Blob::from_vec(text)
 }
 
-/// The digits behind a letter.
-fn digits<R: Abort>(rt: &R, alloc: Global, word: &[u8]) -> Numbers {
-    let mut numbers = Numbers::new(alloc);
-    for digit in word.iter().skip(1) {
-        push(rt, &mut numbers, u32::from(digit.saturating_sub(b'0')));
-    }
-    numbers
-}
-
-/// A LOAD of the first columns, of which `l` is a long, `c` a chararray and another an int.
-fn load<R: Abort>(rt: &R, alloc: Global, kinds: &str, path: &str) -> NodeOp {
-    let mut columns = Columns::new(alloc);
-    let mut position = 0;
-    for letter in kinds.as_bytes() {
-        let kind = match letter {
-            b'l' => Kind::Long,
-            b'c' => Kind::Chararray,
-            _ => Kind::Int,
-        };
-        push(rt, &mut columns, Column { position, kind });
-        position = position.saturating_add(1);
-    }
-    NodeOp::Load {
-        path: Text::from_str(alloc, path).expect(rt, "memory"),
-        delim: Delim::tab(),
-        columns,
-    }
-}
-
 /// FILTER by a first field above 1.
 fn filter<R: Abort>(rt: &R, alloc: Global, input: u32) -> NodeOp {
-    let b = Boxed::new(alloc, TExpr::Int(1)).expect(rt, "memory");
-    let a = Boxed::new(alloc, TExpr::Field(0)).expect(rt, "memory");
-    let cond = TExpr::Compare { op: Rel::Gt, a, b };
+    let cond = above(alloc).expect(rt, "memory");
     NodeOp::Filter { input, cond }
-}
-
-fn call<R: Abort>(rt: &R, alloc: Global, function: Function, field: u32) -> TExpr {
-    let mut args = Seq::new(alloc);
-    push(rt, &mut args, TExpr::Field(field));
-    TExpr::Call { function, args }
-}
-
-fn item(value: TExpr, flatten: bool) -> BlockItem {
-    BlockItem {
-        value,
-        flatten,
-        width: 1,
-    }
 }
 
 /// FOREACH: the words of a text `t`, an int as a long `w`, or a key and the number of its rows.
 fn foreach<R: Abort>(rt: &R, alloc: Global, letter: u8, input: u32) -> NodeOp {
     let mut items = Seq::new(alloc);
     if letter == b't' {
-        let words = call(rt, alloc, Function::Tokenize, 0);
-        push(rt, &mut items, item(words, true));
+        let words = call(alloc, Function::Tokenize, TExpr::Field(0)).expect(rt, "memory");
+        push(rt, &mut items, flat(words, 1));
     } else if letter == b'w' {
         let a = Boxed::new(alloc, TExpr::Field(0)).expect(rt, "memory");
         let long = TExpr::Cast { to: Kind::Long, a };
-        push(rt, &mut items, item(long, false));
+        push(rt, &mut items, item(long));
     } else {
-        let count = call(rt, alloc, Function::Count, 1);
-        push(rt, &mut items, item(TExpr::Field(0), false));
-        push(rt, &mut items, item(count, false));
+        let count = call(alloc, Function::Count, TExpr::Field(1)).expect(rt, "memory");
+        push(rt, &mut items, item(TExpr::Field(0)));
+        push(rt, &mut items, item(count));
     }
     let steps = Seq::new(alloc);
     let block = Block { steps, items };
@@ -151,10 +109,8 @@ fn foreach<R: Abort>(rt: &R, alloc: Global, letter: u8, input: u32) -> NodeOp {
 fn by_key<R: Abort>(rt: &R, alloc: Global, letter: u8, numbers: &[u32]) -> NodeOp {
     let mut inputs = KeyedInputs::new(alloc);
     for number in numbers {
-        let (input, inner) = (*number, false);
-        let mut keys = Seq::new(alloc);
-        push(rt, &mut keys, TExpr::Field(0));
-        push(rt, &mut inputs, KeyedInput { input, keys, inner });
+        let keyed = keyed(alloc, *number, TExpr::Field(0), false);
+        push(rt, &mut inputs, keyed.expect(rt, "memory"));
     }
     if letter == b'g' {
         return NodeOp::Group { inputs };
@@ -169,13 +125,9 @@ fn by_key<R: Abort>(rt: &R, alloc: Global, letter: u8, numbers: &[u32]) -> NodeO
 
 /// RANK `k`, RANK DENSE `K` and ORDER, which with `o` goes down by its first field.
 fn by_order<R: Abort>(rt: &R, alloc: Global, letter: u8, input: u32, numbers: &[u32]) -> NodeOp {
-    let mut keys = SortKeys::new(alloc);
-    let mut dir = if letter == b'o' { Dir::Desc } else { Dir::Asc };
-    for number in numbers.iter().skip(1) {
-        let position = *number;
-        push(rt, &mut keys, SortKey { position, dir });
-        dir = Dir::Asc;
-    }
+    let first = if letter == b'o' { Dir::Desc } else { Dir::Asc };
+    let positions = numbers.get(1..).unwrap_or(&[]);
+    let keys = sort_keys(alloc, first, positions).expect(rt, "memory");
     let dense = letter == b'K';
     if dense || letter == b'k' {
         return NodeOp::Rank { input, keys, dense };
@@ -199,31 +151,17 @@ fn operator<R: Abort>(rt: &R, alloc: Global, letter: u8, inputs: Numbers) -> Nod
             let count = u64::from(inputs.get(1).copied().unwrap_or(0));
             NodeOp::Limit { input, count }
         }
-        _ => NodeOp::Store {
-            input,
-            path: Text::from_str(alloc, "out").expect(rt, "memory"),
-            delim: Delim::tab(),
-        },
+        _ => store(alloc, input, "out").expect(rt, "memory"),
     }
 }
 
 /// The operator of a word: LOAD as `KINDS=PATH`, and other operators.
 fn operator_of<R: Abort>(rt: &R, alloc: Global, word: &str) -> NodeOp {
     if let Some((kinds, path)) = word.split_once('=') {
-        return load(rt, alloc, kinds, path);
+        return load(alloc, kinds, path).expect(rt, "memory");
     }
-    let bytes = word.as_bytes();
-    let letter = bytes.first().copied().unwrap_or(0);
-    operator(rt, alloc, letter, digits(rt, alloc, bytes))
-}
-
-/// Adds a node, which has to fit.
-fn add<R: Abort>(rt: &R, plan: &mut Plan, node: Node) {
-    let Ok(fits) = plan.fits(&node) else {
-        panic!(rt; "memory");
-    };
-    assert!(rt; fits, "a node that doesn't fit");
-    plan.add(node).expect(rt, "memory");
+    let (letter, inputs) = lettered(alloc, word).expect(rt, "memory");
+    operator(rt, alloc, letter, inputs)
 }
 
 /// The plan of these words, which are statements from 1 on.
@@ -232,7 +170,8 @@ fn plan<R: Abort>(rt: &R, alloc: Global, words: &str) -> Plan {
     let mut statement = 1;
     for word in words.split(' ') {
         let op = operator_of(rt, alloc, word);
-        add(rt, &mut plan, Node { op, statement });
+        let fits = add_fitting(&mut plan, op, statement).expect(rt, "memory");
+        assert!(rt; fits, "a node that doesn't fit");
         statement = statement.saturating_add(1);
     }
     plan

@@ -1,14 +1,11 @@
 // Plans, and what is live of them once conditions have moved. Where memory is wanting the process
 // ends: that drops nothing, so its proof is short. Trees end by `drop`: one call is cheap to prove,
 // and a tree that dies by name is taken apart variant by variant.
-use pig_plan::{KeyedInput, KeyedInputs, Node, NodeOp, Plan, live_numbers};
+use pig_nodes_tests::{add_fitting, digit, flat, item, keyed, load, operator, store};
+use pig_plan::{KeyedInput, KeyedInputs, NodeOp, Plan, live_numbers};
 use pig_push::push;
-use pig_typed::{
-    Block, BlockItem, BlockItems, BlockSteps, SortKey, SortKeys, TExpr, TExprs, TLink, TLinks,
-};
-use pig_value::{
-    Boxed, ChainOp, Column, Columns, Delim, Dir, Kind, Kinds, Numbers, Rel, Seq, Side, Text,
-};
+use pig_typed::{Block, BlockItem, BlockItems, BlockSteps, TExpr, TExprs, TLink, TLinks};
+use pig_value::{Boxed, ChainOp, Rel, Seq, Side};
 use std::alloc::Global;
 use std::process::Abort;
 
@@ -26,75 +23,6 @@ fn add<R: Abort>(rt: &R, into: &mut String, text: &str) {
 fn add_number<R: Abort>(rt: &R, alloc: Global, into: &mut String, number: u32) {
     let digits = format!(in alloc; "{number}").expect(rt, "memory");
     add(rt, into, digits.as_str());
-}
-
-/// The number that a digit is.
-fn digit(byte: u8) -> u32 {
-    u32::from(byte.saturating_sub(b'0'))
-}
-
-/// The numbers that digits are.
-fn digits<R: Abort>(rt: &R, alloc: Global, bytes: &[u8]) -> Numbers {
-    let mut numbers = Numbers::new(alloc);
-    for byte in bytes {
-        put(rt, &mut numbers, digit(*byte));
-    }
-    numbers
-}
-
-/// The kinds of so many chararrays.
-fn chararrays<R: Abort>(rt: &R, alloc: Global, count: u32) -> Kinds {
-    let mut kinds = Kinds::new(alloc);
-    for _ in 0..count {
-        put(rt, &mut kinds, Kind::Chararray);
-    }
-    kinds
-}
-
-/// A column of a LOAD: `t` for a tuple of two chararrays, `b` for a bag of three, and else a
-/// chararray.
-fn kind<R: Abort>(rt: &R, alloc: Global, byte: u8) -> Kind {
-    match byte {
-        b't' => Kind::Tuple(chararrays(rt, alloc, 2)),
-        b'b' => Kind::Bag(chararrays(rt, alloc, 3)),
-        _ => Kind::Chararray,
-    }
-}
-
-fn load_of<R: Abort>(rt: &R, alloc: Global, path: &str, bytes: &[u8]) -> NodeOp {
-    let mut columns = Columns::new(alloc);
-    let mut position = 0;
-    for byte in bytes {
-        let kind = kind(rt, alloc, *byte);
-        put(rt, &mut columns, Column { position, kind });
-        position = if position < 9 { position + 1 } else { 9 };
-    }
-    NodeOp::Load {
-        path: Text::from_str(alloc, path).expect(rt, "memory"),
-        delim: Delim::tab(),
-        columns,
-    }
-}
-
-/// A LOAD of two chararrays.
-fn load<R: Abort>(rt: &R, alloc: Global, path: &str) -> NodeOp {
-    load_of(rt, alloc, path, b"cc")
-}
-
-fn store<R: Abort>(rt: &R, alloc: Global, input: u32, path: &str) -> NodeOp {
-    NodeOp::Store {
-        input,
-        path: Text::from_str(alloc, path).expect(rt, "memory"),
-        delim: Delim::tab(),
-    }
-}
-
-/// The first field, ascending.
-fn by_first<R: Abort>(rt: &R, alloc: Global) -> SortKeys {
-    let mut keys = SortKeys::new(alloc);
-    let (position, dir) = (0, Dir::Asc);
-    put(rt, &mut keys, SortKey { position, dir });
-    keys
 }
 
 /// That a column is there.
@@ -159,34 +87,22 @@ fn tests<R: Abort>(rt: &R, alloc: Global, bytes: &[u8]) -> TExpr {
     }
 }
 
-fn column_item(column: u32, flatten: bool, width: u32) -> BlockItem {
-    BlockItem {
-        value: TExpr::Field(column),
-        flatten,
-        width,
-    }
-}
-
 /// An item of a FOREACH: a column, or `c` for what is computed. Under FLATTEN stand `F`, the first
 /// column of one field, `T`, that of two, and `B`, the second column of three.
-fn item(byte: u8) -> BlockItem {
+fn item_of(byte: u8) -> BlockItem {
     match byte {
-        b'c' => BlockItem {
-            value: TExpr::Int(1),
-            flatten: false,
-            width: 1,
-        },
-        b'F' => column_item(0, true, 1),
-        b'T' => column_item(0, true, 2),
-        b'B' => column_item(1, true, 3),
-        _ => column_item(digit(byte), false, 1),
+        b'c' => item(TExpr::Int(1)),
+        b'F' => flat(TExpr::Field(0), 1),
+        b'T' => flat(TExpr::Field(0), 2),
+        b'B' => flat(TExpr::Field(1), 3),
+        _ => item(TExpr::Field(digit(byte))),
     }
 }
 
 fn block<R: Abort>(rt: &R, alloc: Global, bytes: &[u8]) -> Block {
     let mut items = BlockItems::new(alloc);
     for byte in bytes {
-        put(rt, &mut items, item(*byte));
+        put(rt, &mut items, item_of(*byte));
     }
     Block {
         steps: BlockSteps::new(alloc),
@@ -199,7 +115,7 @@ fn key<R: Abort>(rt: &R, alloc: Global, byte: u8) -> TExpr {
     match byte {
         b'n' => test(rt, alloc, byte),
         b'o' => test(rt, alloc, byte),
-        _ => item(byte).value,
+        _ => item_of(byte).value,
     }
 }
 
@@ -215,19 +131,12 @@ fn group<R: Abort>(rt: &R, alloc: Global, input: u32, bytes: &[u8]) -> NodeOp {
     NodeOp::Group { inputs }
 }
 
-/// An input by its first column.
-fn by_column<R: Abort>(rt: &R, alloc: Global, input: u32) -> KeyedInput {
-    let mut keys = TExprs::new(alloc);
-    put(rt, &mut keys, TExpr::Field(0));
-    let inner = false;
-    KeyedInput { input, keys, inner }
-}
-
 /// A JOIN of a side, by the first columns: `i`, `l`, `r`, `f`, and `L` for a replicated LEFT.
 fn join<R: Abort>(rt: &R, alloc: Global, letter: u8, bytes: &[u8]) -> NodeOp {
     let mut inputs = KeyedInputs::new(alloc);
     for byte in bytes {
-        put(rt, &mut inputs, by_column(rt, alloc, digit(*byte)));
+        let keyed = keyed(alloc, digit(*byte), TExpr::Field(0), false);
+        put(rt, &mut inputs, keyed.expect(rt, "memory"));
     }
     let side = match letter {
         b'i' => Side::Inner,
@@ -247,11 +156,8 @@ fn join<R: Abort>(rt: &R, alloc: Global, letter: u8, bytes: &[u8]) -> NodeOp {
 /// there), `g010` (FOREACH of node 0 with columns 1 and 0), `k01` (GROUP of node 0 by column 1),
 /// `jl01` (LEFT JOIN of nodes 0 and 1), `d0`, `u01`, `o0`, `l0`, `a0`, `s4p`.
 fn op<R: Abort>(rt: &R, alloc: Global, word: &str) -> NodeOp {
-    let [letter, rest @ ..] = word.as_bytes() else {
-        return load(rt, alloc, "c");
-    };
-    let [first, more @ ..] = rest else {
-        return load(rt, alloc, "c");
+    let [letter, first, more @ ..] = word.as_bytes() else {
+        return load(alloc, "cc", "c").expect(rt, "memory");
     };
     let input = digit(*first);
     match *letter {
@@ -265,23 +171,17 @@ fn op<R: Abort>(rt: &R, alloc: Global, word: &str) -> NodeOp {
         },
         b'k' => group(rt, alloc, input, more),
         b'j' => join(rt, alloc, *first, more),
-        b'u' => NodeOp::Union {
-            inputs: digits(rt, alloc, rest),
-        },
-        b'd' => NodeOp::Distinct { input },
         b'a' => NodeOp::Assert {
             input,
             cond: TExpr::Bool(true),
             message: None,
         },
-        b'o' => NodeOp::Order {
-            input,
-            keys: by_first(rt, alloc),
-        },
-        b'l' => NodeOp::Limit { input, count: 1 },
-        b's' => store(rt, alloc, input, "p"),
-        b'M' => load_of(rt, alloc, "a", rest),
-        _ => load(rt, alloc, "a"),
+        b'M' => {
+            let kinds = word.strip_prefix("M").unwrap_or("");
+            load(alloc, kinds, "a").expect(rt, "memory")
+        }
+        b'L' => load(alloc, "cc", "a").expect(rt, "memory"),
+        _ => operator(alloc, word).expect(rt, "memory"),
     }
 }
 
@@ -291,21 +191,10 @@ fn plan<R: Abort>(rt: &R, alloc: Global, words: &str) -> Plan {
     let mut statement = 1;
     for word in words.split(' ') {
         let op = op(rt, alloc, word);
-        add_fitting(rt, &mut plan, Node { op, statement });
+        add_fitting(&mut plan, op, statement).expect(rt, "memory");
         statement = if statement < 99 { statement + 1 } else { 99 };
     }
     plan
-}
-
-fn add_fitting<R: Abort>(rt: &R, plan: &mut Plan, node: Node) {
-    let Ok(fits) = plan.fits(&node) else {
-        panic!(rt; "memory");
-    };
-    if fits {
-        plan.add(node).expect(rt, "memory");
-    } else {
-        drop(node);
-    }
 }
 
 /// The column that a test asks for.
@@ -517,16 +406,16 @@ fn where_conjuncts_go(rt: HostRuntime) {
 /// A plan of so many FILTERs, each on the one before.
 fn filters<R: Abort>(rt: &R, alloc: Global, count: u32) -> Plan {
     let mut plan = Plan::empty(alloc);
-    let op = load(rt, alloc, "a");
+    let op = load(alloc, "cc", "a").expect(rt, "memory");
     let statement = 1;
-    add_fitting(rt, &mut plan, Node { op, statement });
+    add_fitting(&mut plan, op, statement).expect(rt, "memory");
     for input in 0..count {
         let cond = is_there(rt, alloc, input & 1);
         let op = NodeOp::Filter { input, cond };
-        add_fitting(rt, &mut plan, Node { op, statement });
+        add_fitting(&mut plan, op, statement).expect(rt, "memory");
     }
-    let op = store(rt, alloc, count, "p");
-    add_fitting(rt, &mut plan, Node { op, statement });
+    let op = store(alloc, count, "p").expect(rt, "memory");
+    add_fitting(&mut plan, op, statement).expect(rt, "memory");
     plan
 }
 
@@ -571,12 +460,7 @@ fn doubled<R: Abort>(rt: &R, alloc: Global) -> TExpr {
 /// A FOREACH of one item.
 fn made<R: Abort>(rt: &R, alloc: Global, input: u32, value: TExpr) -> NodeOp {
     let mut items = BlockItems::new(alloc);
-    let item = BlockItem {
-        value,
-        flatten: false,
-        width: 1,
-    };
-    put(rt, &mut items, item);
+    put(rt, &mut items, item(value));
     let steps = BlockSteps::new(alloc);
     NodeOp::Foreach {
         input,
@@ -585,11 +469,9 @@ fn made<R: Abort>(rt: &R, alloc: Global, input: u32, value: TExpr) -> NodeOp {
 }
 
 fn grouped<R: Abort>(rt: &R, alloc: Global, input: u32, key: TExpr) -> NodeOp {
-    let mut keys = TExprs::new(alloc);
-    put(rt, &mut keys, key);
-    let inner = false;
+    let keyed = keyed(alloc, input, key, false).expect(rt, "memory");
     let mut inputs = KeyedInputs::new(alloc);
-    put(rt, &mut inputs, KeyedInput { input, keys, inner });
+    put(rt, &mut inputs, keyed);
     NodeOp::Group { inputs }
 }
 
@@ -597,10 +479,10 @@ fn grouped<R: Abort>(rt: &R, alloc: Global, input: u32, key: TExpr) -> NodeOp {
 fn groups<R: Abort>(rt: &R, alloc: Global, count: u32, twice: bool) -> Plan {
     let mut plan = Plan::empty(alloc);
     let statement = 1;
-    let op = load(rt, alloc, "a");
-    add_fitting(rt, &mut plan, Node { op, statement });
+    let op = load(alloc, "cc", "a").expect(rt, "memory");
+    add_fitting(&mut plan, op, statement).expect(rt, "memory");
     let op = made(rt, alloc, 0, is_there(rt, alloc, 0));
-    add_fitting(rt, &mut plan, Node { op, statement });
+    add_fitting(&mut plan, op, statement).expect(rt, "memory");
     let mut last: u32 = 1;
     for _ in 0..count {
         let key = if twice {
@@ -609,16 +491,16 @@ fn groups<R: Abort>(rt: &R, alloc: Global, count: u32, twice: bool) -> Plan {
             negated(rt, alloc)
         };
         let op = grouped(rt, alloc, last, key);
-        add_fitting(rt, &mut plan, Node { op, statement });
+        add_fitting(&mut plan, op, statement).expect(rt, "memory");
         let op = made(rt, alloc, last.saturating_add(1), TExpr::Field(0));
-        add_fitting(rt, &mut plan, Node { op, statement });
+        add_fitting(&mut plan, op, statement).expect(rt, "memory");
         last = last.saturating_add(2);
     }
     let cond = TExpr::Field(0);
     let op = NodeOp::Filter { input: last, cond };
-    add_fitting(rt, &mut plan, Node { op, statement });
-    let op = store(rt, alloc, last.saturating_add(1), "p");
-    add_fitting(rt, &mut plan, Node { op, statement });
+    add_fitting(&mut plan, op, statement).expect(rt, "memory");
+    let op = store(alloc, last.saturating_add(1), "p").expect(rt, "memory");
+    add_fitting(&mut plan, op, statement).expect(rt, "memory");
     plan
 }
 

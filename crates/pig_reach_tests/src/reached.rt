@@ -1,9 +1,9 @@
 // Plans, and what is told of them. Where memory is wanting the process ends: that drops nothing, so its proof is short.
 // Trees end by `drop`: one call is cheap to prove, and a tree that dies by name is taken apart variant by variant.
-use pig_plan::{Node, NodeOp, Plan, path_counts};
+use pig_nodes_tests::{add_fitting, operator};
+use pig_plan::{Plan, path_counts};
 use pig_reach::{lines_read, live_numbers, live_paths, stores};
-use pig_typed::TExpr;
-use pig_value::{Blob, Blobs, Column, Columns, Delim, Input, Inputs, Kind, Numbers, Seq, Text};
+use pig_value::{Blob, Blobs, Input, Inputs, Seq, Text};
 use std::alloc::Global;
 use std::process::Abort;
 
@@ -17,91 +17,16 @@ fn add<R: Abort>(rt: &R, into: &mut String, text: &str) {
     into.push_str(text).expect(rt, "memory");
 }
 
-/// The number that a digit is.
-fn digit(byte: u8) -> u32 {
-    u32::from(byte.saturating_sub(b'0'))
-}
-
-/// The numbers that digits are.
-fn digits<R: Abort>(rt: &R, alloc: Global, bytes: &[u8]) -> Numbers {
-    let mut numbers = Numbers::new(alloc);
-    for byte in bytes {
-        push(rt, &mut numbers, digit(*byte));
-    }
-    numbers
-}
-
-/// A LOAD of one chararray.
-fn load<R: Abort>(rt: &R, alloc: Global, path: &str) -> NodeOp {
-    let mut columns = Columns::new(alloc);
-    let (position, kind) = (0, Kind::Chararray);
-    push(rt, &mut columns, Column { position, kind });
-    NodeOp::Load {
-        path: Text::from_str(alloc, path).expect(rt, "memory"),
-        delim: Delim::tab(),
-        columns,
-    }
-}
-
-fn store<R: Abort>(rt: &R, alloc: Global, input: u32, path: &str) -> NodeOp {
-    NodeOp::Store {
-        input,
-        path: Text::from_str(alloc, path).expect(rt, "memory"),
-        delim: Delim::tab(),
-    }
-}
-
-/// The node of a word: a letter, and the path, the digits of the inputs, or both: `La`, `f0`, `u001`, `d3`, `l0`, `s4p`.
-fn op<R: Abort>(rt: &R, alloc: Global, word: &str) -> NodeOp {
-    let (letter, rest) = match word.as_bytes() {
-        [letter, rest @ ..] => (*letter, rest),
-        [] => (b'L', word.as_bytes()),
-    };
-    let input = match rest {
-        [input, ..] => digit(*input),
-        [] => 0,
-    };
-    match letter {
-        b'f' => NodeOp::Filter {
-            input,
-            cond: TExpr::Bool(true),
-        },
-        b'u' => NodeOp::Union {
-            inputs: digits(rt, alloc, rest),
-        },
-        b'd' => NodeOp::Distinct { input },
-        b'l' => NodeOp::Limit { input, count: 1 },
-        b's' => store(
-            rt,
-            alloc,
-            input,
-            if rest.ends_with(b"p") { "p" } else { "q" },
-        ),
-        _ => load(rt, alloc, word.strip_prefix("L").unwrap_or("c")),
-    }
-}
-
 /// The plan of words, each a node.
 fn plan<R: Abort>(rt: &R, alloc: Global, words: &str) -> Plan {
     let mut plan = Plan::empty(alloc);
     let mut statement = 1;
     for word in words.split(' ') {
-        let op = op(rt, alloc, word);
-        add_fitting(rt, &mut plan, Node { op, statement });
+        let op = operator(alloc, word).expect(rt, "memory");
+        add_fitting(&mut plan, op, statement).expect(rt, "memory");
         statement = if statement < 99 { statement + 1 } else { 99 };
     }
     plan
-}
-
-fn add_fitting<R: Abort>(rt: &R, plan: &mut Plan, node: Node) {
-    let Ok(fits) = plan.fits(&node) else {
-        panic!(rt; "memory");
-    };
-    if fits {
-        plan.add(node).expect(rt, "memory");
-    } else {
-        drop(node);
-    }
 }
 
 /// An input of pieces, which stand between bars.

@@ -1,62 +1,16 @@
 // Plans, and what is live of them once nodes are shared. Where memory is wanting the process ends: that drops nothing, so its proof is
 // short. Trees end by `drop`: one call is cheap to prove, and a tree that dies by name is taken apart variant by variant.
-use pig_plan::{Node, NodeOp, Plan, live_numbers};
+use pig_nodes_tests::{add_fitting, digit, operator};
+use pig_plan::{NodeOp, Plan, live_numbers};
 use pig_share::share;
-use pig_typed::{SortKey, SortKeys, TExpr};
-use pig_value::{Column, Columns, Delim, Dir, Kind, Numbers, Seq, Text};
+use pig_typed::TExpr;
+use pig_value::Text;
 use std::alloc::Global;
 use std::process::Abort;
-
-/// Adds to a list.
-fn push<R: Abort, T: Drop>(rt: &R, list: &mut Seq<T>, item: T) {
-    list.push(item).expect(rt, "memory");
-}
 
 /// Adds to a text.
 fn add<R: Abort>(rt: &R, into: &mut String, text: &str) {
     into.push_str(text).expect(rt, "memory");
-}
-
-/// The number that a digit is.
-fn digit(byte: u8) -> u32 {
-    u32::from(byte.saturating_sub(b'0'))
-}
-
-/// The numbers that digits are.
-fn digits<R: Abort>(rt: &R, alloc: Global, bytes: &[u8]) -> Numbers {
-    let mut numbers = Numbers::new(alloc);
-    for byte in bytes {
-        push(rt, &mut numbers, digit(*byte));
-    }
-    numbers
-}
-
-/// A LOAD of one chararray.
-fn load<R: Abort>(rt: &R, alloc: Global, path: &str) -> NodeOp {
-    let mut columns = Columns::new(alloc);
-    let (position, kind) = (0, Kind::Chararray);
-    push(rt, &mut columns, Column { position, kind });
-    NodeOp::Load {
-        path: Text::from_str(alloc, path).expect(rt, "memory"),
-        delim: Delim::tab(),
-        columns,
-    }
-}
-
-fn store<R: Abort>(rt: &R, alloc: Global, input: u32, path: &str) -> NodeOp {
-    NodeOp::Store {
-        input,
-        path: Text::from_str(alloc, path).expect(rt, "memory"),
-        delim: Delim::tab(),
-    }
-}
-
-/// The first field, ascending.
-fn by_first<R: Abort>(rt: &R, alloc: Global) -> SortKeys {
-    let mut keys = SortKeys::new(alloc);
-    let (position, dir) = (0, Dir::Asc);
-    push(rt, &mut keys, SortKey { position, dir });
-    keys
 }
 
 /// An ASSERT of a letter: `a` and `b` ask for other things, `m` and `n` ask as `a` does and have a message each.
@@ -78,39 +32,13 @@ fn assert_that<R: Abort>(rt: &R, alloc: Global, letter: u8, input: u32) -> NodeO
     }
 }
 
-/// The node of a word: a letter, and the path, the digits of the inputs, or both: `La`, `f0`, `u001`, `d3`, `l0`, `a1`, `o2`,
-/// `s4p`.
+/// The node of a word: an ASSERT of a letter, as `a1`, or another operator.
 fn op<R: Abort>(rt: &R, alloc: Global, word: &str) -> NodeOp {
-    let (letter, rest) = match word.as_bytes() {
-        [letter, rest @ ..] => (*letter, rest),
-        [] => (b'L', word.as_bytes()),
-    };
-    let input = match rest {
-        [input, ..] => digit(*input),
-        [] => 0,
-    };
-    match letter {
-        b'f' => NodeOp::Filter {
-            input,
-            cond: TExpr::Bool(true),
-        },
-        b'u' => NodeOp::Union {
-            inputs: digits(rt, alloc, rest),
-        },
-        b'd' => NodeOp::Distinct { input },
-        b'a' | b'b' | b'm' | b'n' => assert_that(rt, alloc, letter, input),
-        b'o' => NodeOp::Order {
-            input,
-            keys: by_first(rt, alloc),
-        },
-        b'l' => NodeOp::Limit { input, count: 1 },
-        b's' => store(
-            rt,
-            alloc,
-            input,
-            if rest.ends_with(b"p") { "p" } else { "q" },
-        ),
-        _ => load(rt, alloc, word.strip_prefix("L").unwrap_or("c")),
+    match word.as_bytes() {
+        [letter, input, ..] if matches!(letter, b'a' | b'b' | b'm' | b'n') => {
+            assert_that(rt, alloc, *letter, digit(*input))
+        }
+        _ => operator(alloc, word).expect(rt, "memory"),
     }
 }
 
@@ -120,7 +48,7 @@ fn plan<R: Abort>(rt: &R, alloc: Global, words: &str, ascends: bool) -> Plan {
     let mut statement: u32 = 50;
     for word in words.split(' ') {
         let op = op(rt, alloc, word);
-        add_fitting(rt, &mut plan, Node { op, statement });
+        add_fitting(&mut plan, op, statement).expect(rt, "memory");
         statement = if ascends {
             statement.saturating_add(1)
         } else {
@@ -128,17 +56,6 @@ fn plan<R: Abort>(rt: &R, alloc: Global, words: &str, ascends: bool) -> Plan {
         };
     }
     plan
-}
-
-fn add_fitting<R: Abort>(rt: &R, plan: &mut Plan, node: Node) {
-    let Ok(fits) = plan.fits(&node) else {
-        panic!(rt; "memory");
-    };
-    if fits {
-        plan.add(node).expect(rt, "memory");
-    } else {
-        drop(node);
-    }
 }
 
 /// A live node: its number, and those of its inputs.
