@@ -6,8 +6,6 @@ mod cases;
 #[cfg(test)]
 mod comparing;
 #[cfg(test)]
-mod host;
-#[cfg(test)]
 mod making;
 #[cfg(test)]
 mod plans;

@@ -1,13 +1,13 @@
 // A plan's stages run on hosts in memory, and what their last wave gives. Where memory is wanting the process ends.
 // Values end by `drop`: one call is cheap to prove.
 use crate::comparing::{add, settled};
-use crate::host::hosts;
 use crate::setting::sizes;
 use pig_cutter::cut_plan;
 use pig_driver::{JobEnds, Ran, StagesFault, few_tasks_fit, run_stages};
 use pig_physical::{Out, OutForm, Outs, Stages, Task};
 use pig_plan::Plan;
-use pig_value::{Inputs, OutList};
+use pig_silent_tests::{Held, Silent};
+use pig_value::{Input, Inputs, OutList};
 use std::alloc::Global;
 use std::process::Abort;
 use std::thread::Threads;
@@ -19,6 +19,17 @@ pub struct Turn {
     pub split: u64,
     pub reducers: u32,
     pub fails: &'static [u64],
+}
+
+/// The hosts of a turn with these inputs.
+fn hosts<'b, R: Abort>(rt: &R, alloc: Global, inputs: &'b [Input], turn: Turn) -> Vec<Silent<'b>> {
+    let mut hosts = Vec::new(alloc);
+    for place in 0..turn.hosts {
+        let fails = if place == 0 { turn.fails } else { &[] };
+        let host = Silent::new(Held::Inputs(inputs), fails);
+        hosts.push(host).expect(rt, "memory");
+    }
+    hosts
 }
 
 /// What comes of a plan that is run over inputs: the lines of each STORE, and the statements that are not met.
@@ -37,7 +48,7 @@ pub fn by_tasks<R: Threads + Sync + Abort>(
     let _nodes = plan.nodes();
     let inputs = inputs.as_slice();
     let sizes = sizes(rt, alloc, inputs);
-    let mut hosts = hosts(rt, alloc, inputs, turn.hosts, turn.fails);
+    let mut hosts = hosts(rt, alloc, inputs, turn);
     if hosts.is_empty() || hosts.len() > 256 {
         panic!(rt; "a number of hosts");
     }

@@ -5,8 +5,8 @@
 #[cfg(test)]
 mod failing;
 #[cfg(test)]
-mod hosts;
-#[cfg(test)]
 mod meeting;
+#[cfg(test)]
+mod numbered;
 #[cfg(test)]
 mod several;

@@ -1,7 +1,8 @@
 // What only the workers' own work can do: workers are beside each other, and the parts come out of
 // what their hosts read.
-use crate::hosts::{Numbered, Silent, make_meeting};
+use crate::numbered::Numbered;
 use pig_setting_tests::{Scene, Show, depot_of, told_on_silent};
+use pig_silent_tests::{Held, Silent, make_meeting};
 use std::alloc::Global;
 use std::process::Abort;
 use std::thread::Threads;
@@ -18,7 +19,7 @@ fn of_meeting<R: Threads + Sync + Abort>(rt: &R, alloc: Global, turns: u32) -> S
         ..Scene::new(SCRIPT, LINE_ENDS)
     };
     let mut depot = depot_of(alloc, &scene).expect(rt, "memory");
-    let mut hosts = make_meeting(rt, alloc, LINE_ENDS.as_bytes(), turns);
+    let mut hosts = make_meeting(alloc, LINE_ENDS.as_bytes(), turns).expect(rt, "memory");
     let told = told_on_silent(rt, alloc, &scene, &mut depot, &mut hosts);
     drop((depot, hosts));
     told.expect(rt, "memory")
@@ -85,13 +86,10 @@ fn of_silent<R: Threads + Sync + Abort>(
         ..Scene::new(script, a)
     };
     let mut depot = depot_of(alloc, &scene).expect(rt, "memory");
+    let held = Held::Piece(held.as_bytes());
     let mut hosts = Vec::new(alloc);
-    hosts
-        .push(Silent::new(held.as_bytes()))
-        .expect(rt, "memory");
-    hosts
-        .push(Silent::new(held.as_bytes()))
-        .expect(rt, "memory");
+    hosts.push(Silent::new(held, &[])).expect(rt, "memory");
+    hosts.push(Silent::new(held, &[])).expect(rt, "memory");
     let told = told_on_silent(rt, alloc, &scene, &mut depot, &mut hosts);
     drop((depot, hosts));
     told.expect(rt, "memory")

@@ -2,10 +2,11 @@
 //
 // Where memory is wanting to a test itself the process ends: that drops nothing, so its proof is short.
 // Trees end by `drop`: one call is cheap to prove, and a tree that dies by name is taken apart variant by variant.
-use crate::hosts::{Reader, hosts, make_meeting};
+use crate::hosts::hosts;
 use crate::work::{Doubles, Reads, wave};
 use pig_board::JobEnd;
 use pig_pool::{WaveEnd, WaveFault, run_wave};
+use pig_silent_tests::{Held, Silent, make_meeting};
 use std::alloc::Global;
 use std::process::Abort;
 
@@ -211,7 +212,7 @@ fn one_always_fails(rt: HostRuntime) {
 #[test]
 fn lost_reads(rt: HostRuntime) {
     let alloc = rt.alloc();
-    let mut hosts = [Reader::new(&[1, 2, 4, 5, 6])];
+    let mut hosts = [Silent::new(Held::Piece(b"0"), &[1, 2, 4, 5, 6])];
     let ended = run_wave(&rt, alloc, &Reads { tasks: 2 }, 0, &mut hosts, 4);
     let told = answer(&rt, alloc, &ended);
     drop(ended);
@@ -229,7 +230,7 @@ fn has_met(ended: &Result<WaveEnd<u64>, WaveFault>) -> bool {
 #[test]
 fn two_hosts_meet(rt: HostRuntime) {
     let alloc = rt.alloc();
-    let mut hosts = make_meeting(&rt, alloc, 200_000_000);
+    let mut hosts = make_meeting(alloc, b"", 200_000_000).expect(&rt, "memory");
     let work = Doubles {
         tasks: 1,
         wants: NONE,

@@ -7,12 +7,12 @@ ghost use Rattle.pig_physical.specs.Stages.{heads, t_map, t_rank, t_reduce, task
 ghost use Rattle.pig_physical.specs.declared.parts.Task.TheVariants as tasks;
 ghost use Rattle.pig_tasks_tests.specs.Fits.{AllFit, FitsAt, WaveFits};
 
-use crate::pieces::Pieces;
 use crate::standing::{all_stand, read_stands, wave_stands};
 use pig_map::map_task_blocks;
 use pig_outside::Stop;
 use pig_physical::{MapTask, Out, Outs, ReduceTask, Stages, Task};
 use pig_reduce::{rank_attempt, rank_starts, reduce_task};
+use pig_silent_tests::Silent;
 use pig_value::OutList;
 use std::alloc::Global;
 use std::process::Abort;
@@ -23,7 +23,7 @@ fn mapped<R: Abort>(
     stages: &Stages,
     task: &MapTask,
     prior: &Outs,
-    host: &mut Pieces,
+    host: &mut Silent,
     block: u32,
 ) -> Out
     requires task { IsTaskOf (staged stages.now) task.now.wave (tasks.Map task.now) }
@@ -109,7 +109,7 @@ fn attempt<R: Abort>(
     wave: u32,
     at: u32,
     prior: &Outs,
-    host: &mut Pieces,
+    host: &mut Silent,
     block: u32,
 ) -> Out
     requires wave { wave < length (heads (staged stages.now).plan) }
@@ -132,7 +132,7 @@ pub fn wave_of<R: Abort>(
     stages: &Stages,
     wave: u32,
     prior: &Outs,
-    host: &mut Pieces,
+    host: &mut Silent,
     block: u32,
 ) -> OutList<Out>
     requires wave { wave < length (heads (staged stages.now).plan) }

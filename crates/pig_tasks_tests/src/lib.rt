@@ -5,8 +5,6 @@
 #[cfg(test)]
 mod attempts;
 #[cfg(test)]
-mod pieces;
-#[cfg(test)]
 mod rows;
 #[cfg(test)]
 mod running;

@@ -5,12 +5,12 @@ ghost use Rattle.pig_physical.specs.Seen.{staged};
 ghost use Rattle.pig_tasks_tests.specs.Fits.{AllFit};
 
 use crate::attempts::wave_of;
-use crate::pieces::Pieces;
 use crate::sorting::cut;
 use crate::stored::{told, told_parts};
 use pig_cutter::cut_plan;
 use pig_physical::{Outs, Size, Sizes, Stages};
 use pig_script_tests::plan_of;
+use pig_silent_tests::{Held, Silent};
 use pig_value::{Lengths, Text};
 use std::alloc::Global;
 use std::process::Abort;
@@ -44,7 +44,7 @@ fn all_waves<R: Abort>(
     rt: &R,
     alloc: Global,
     stages: &Stages,
-    host: &mut Pieces,
+    host: &mut Silent,
     block: u32,
 ) -> Outs
     requires block { 0 < block }
@@ -77,11 +77,8 @@ pub fn stored<R: Abort>(rt: &R, alloc: Global, run: Run, telling: Telling) -> Ve
     }
     let sizes = sizes(rt, alloc, &run);
     let stages = cut_plan(alloc, &plan, &sizes, 3, run.split).expect(rt, "stages");
-    let mut host = Pieces {
-        a: run.a,
-        b: run.b,
-        faults: 0,
-    };
+    let held = Held::Two { a: run.a, b: run.b };
+    let mut host = Silent::new(held, &[]);
     let outs = all_waves(rt, alloc, &stages, &mut host, run.block);
     let text = match telling {
         Telling::Parts => told_parts(rt, alloc, &outs),
