@@ -1,16 +1,10 @@
 // Scripts, and the nodes of their plans once these are pruned. Where memory is wanting the process
 // ends: that drops nothing, so its proof is short. Trees end by `drop`.
-ghost use Rattle.std.specs.Prelude.{◌<◌, ◌^◌, IsTrue, length};
-ghost use Rattle.std.specs.List.{All};
-ghost use Rattle.pig_parser.specs.Parsing.{IsShallow};
-ghost use Rattle.pig_syntax.specs.Cutting.{IsWithin};
-
-use pig_check::check;
 use pig_explain::explain;
-use pig_parser::parse;
 use pig_plan::Plan;
 use pig_prune::prune;
-use pig_syntax::{Pieces, Tokens, cut, depth, lex, statements_lie_within};
+use pig_script_tests::plan_of;
+use pig_shown_tests::shown_nodes;
 use std::alloc::Global;
 use std::process::Abort;
 
@@ -19,56 +13,19 @@ fn add<R: Abort>(rt: &R, into: &mut String, text: &str) {
     into.push_str(text).expect(rt, "memory");
 }
 
-// Whether the brackets of no statement nest more than 64 deep.
-fn shallow(tokens: &Tokens, pieces: &Pieces) -> bool
-    requires within { All (IsWithin tokens.now) pieces.now }
-    requires few { length tokens.now < 2 ^ 32 }
-    ensures { IsTrue result → All (IsShallow tokens.now) pieces.now }
-{
-    for piece in pieces.as_slice() {
-        if depth(tokens, piece) > 64 {
-            return false;
-        }
-    }
-    true
-}
-
-/// The plan of a script, where it has one.
-fn checked(alloc: Global, script: &str) -> Option<Plan> {
-    statements_lie_within();
-    let tokens = lex(alloc, script.as_bytes()).ok()?;
-    let pieces = cut(alloc, &tokens).ok()?;
-    if tokens.len() >= 1 << 32 || !shallow(&tokens, &pieces) {
-        return None;
-    }
-    let trees = parse(alloc, &tokens, &pieces).ok()?;
-    check(alloc, &trees).ok()
-}
-
 /// A line for each node that is printed of a plan, and one more where others are there.
 fn nodes_shown<R: Abort>(rt: &R, alloc: Global, plan: &Plan) -> String {
     let mut bytes = Vec::new(alloc);
     explain(plan, plan, &mut bytes).expect(rt, "memory");
-    let text = str::from_utf8(bytes.as_slice()).unwrap_or("");
-    let (_checked, rewritten) = text.split_once("rewritten\n").unwrap_or(("", ""));
-    let (nodes, _waves) = rewritten.split_once("waves\n").unwrap_or(("", ""));
-    let mut shown = String::new(alloc);
-    for line in nodes.lines() {
-        add(rt, &mut shown, "- ");
-        add(rt, &mut shown, line);
-        add(rt, &mut shown, "\n");
-    }
-    if plan.nodes().len() != nodes.lines().count() {
-        add(rt, &mut shown, "- dead ones\n");
-    }
-    shown
+    let printed = str::from_utf8(bytes.as_slice()).unwrap_or("");
+    shown_nodes(alloc, printed, plan.nodes().len()).expect(rt, "memory")
 }
 
 /// Adds a script and the nodes of its pruned plan.
 fn add_pruned<R: Abort>(rt: &R, alloc: Global, into: &mut String, script: &str) {
     add(rt, into, script);
     add(rt, into, "\n");
-    let Some(plan) = checked(alloc, script) else {
+    let Some(plan) = plan_of(alloc, script) else {
         add(rt, into, "no plan\n");
         return;
     };

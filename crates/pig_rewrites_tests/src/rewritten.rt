@@ -10,6 +10,7 @@ use pig_plan::{Node, Plan};
 use pig_reach::{Store, stores};
 use pig_rewrites::rewrite;
 use pig_script_tests::plan_of;
+use pig_shown_tests::shown_nodes;
 use pig_value::Text;
 use std::alloc::Global;
 use std::process::Abort;
@@ -78,19 +79,8 @@ fn rewritten(alloc: Global, script: &str) -> Option<Plan> {
 fn nodes_shown<R: Abort>(rt: &R, alloc: Global, plan: &Plan) -> String {
     let mut bytes = Vec::new(alloc);
     explain(plan, plan, &mut bytes).expect(rt, "memory");
-    let text = str::from_utf8(bytes.as_slice()).unwrap_or("");
-    let (_checked, rewritten) = text.split_once("rewritten\n").unwrap_or(("", ""));
-    let (nodes, _waves) = rewritten.split_once("waves\n").unwrap_or(("", ""));
-    let mut shown = String::new(alloc);
-    for line in nodes.lines() {
-        add(rt, &mut shown, "- ");
-        add(rt, &mut shown, line);
-        add(rt, &mut shown, "\n");
-    }
-    if plan.nodes().len() != nodes.lines().count() {
-        add(rt, &mut shown, "- dead ones\n");
-    }
-    shown
+    let printed = str::from_utf8(bytes.as_slice()).unwrap_or("");
+    shown_nodes(alloc, printed, plan.nodes().len()).expect(rt, "memory")
 }
 
 /// Adds a script and the nodes of its rewritten plan.
