@@ -1,3 +1,4 @@
 pub mod SeenValues
 pub mod Truths
 pub mod Columned
+pub mod Looking

@@ -1,12 +1,13 @@
 ghost use Rattle.std.specs.Prelude.{◌≡◌, [], ◌∷◌, false, map, not, IfOk, if◌then◌else◌};
 ghost use Rattle.std.specs.Option.{option_map};
 ghost use Rattle.pig_value.specs.Casts.{cast_of};
-ghost use Rattle.pig_value.specs.Functions.{apply_tree, is_present as is_present_of};
-ghost use Rattle.pig_value.specs.Trees.{kind_tree, row_tree, tree, v_chars};
+ghost use Rattle.pig_value.specs.Functions.{apply_tree};
+ghost use Rattle.pig_value.specs.Trees.{kind_tree, row_tree, tree, v_bool, v_chars};
 ghost use Rattle.pig_builtins.specs.Arities.{is_variadic as is_variadic_function};
 ghost use Rattle.pig_typed.specs.Evaluation.{ev, ev_args, ev_links};
-ghost use Rattle.pig_typed.specs.Operators.{chain_tree, minus_tree, project_tree, truth_of};
+ghost use Rattle.pig_typed.specs.Operators.{chain_tree, minus_tree, null_test, project_tree, truth_of, truth_tree};
 ghost use Rattle.pig_typed.specs.Typed.{args_of, link_of, links_of, typed, x_choose};
+ghost use Rattle.pig_eval.specs.Looking.{Looks};
 ghost use Rattle.pig_eval.specs.SeenValues.{seen_tree};
 ghost use Rattle.pig_eval.specs.Truths.{begins_logical, chain_truth as chain_truth_of, compare_truth, links_truth};
 
@@ -21,6 +22,130 @@ use pig_typed::{TExpr, TExprs, TLinks};
 use pig_value::{ChainOp, Function, Kind, Positions, Rel, Seq, Text, Tuple, Value, field_at};
 use std::alloc::{AllocError, Global};
 
+// What stands inside an expression is looked at by a function that looks at the expressions there.
+#[derive(Clone, Copy)]
+struct Inside<'a, F> {
+    alloc: Global,
+    row: &'a Tuple,
+    locals: &'a Tuple,
+    look: F,
+}
+
+impl<'a, F: Fn(Global, &'a TExpr, &'a Tuple, &'a Tuple) -> Result<Seen<'a>, AllocError>> Inside<
+    'a,
+    F,
+> {
+    fn seen(&self, e: &'a TExpr) -> Result<Seen<'a>, AllocError>
+        requires { Looks e.now (F.pre self.now.look) (F.post self.now.look) }
+        ensures { IfOk result (λ seen. seen_tree seen ≡ ev (typed e.now)
+            (row_tree self.now.row.now) (row_tree self.now.locals.now)) }
+    {
+        (self.look)(self.alloc, e, self.row, self.locals)
+    }
+
+    // IS NULL, or negated IS NOT NULL.
+    fn null_test(&self, e: &'a TExpr, negated: bool) -> Result<bool, AllocError>
+        requires { Looks e.now (F.pre self.now.look) (F.post self.now.look) }
+        ensures { IfOk result (λ met. v_bool met ≡ null_test (ev (typed e.now)
+            (row_tree self.now.row.now) (row_tree self.now.locals.now)) negated) }
+    {
+        match peek(e, self.row, self.locals) {
+            Some(v) => Ok(is_met(is_present(v), negated)),
+            None => {
+                let seen = self.seen(e)?;
+                Ok(is_met(is_present(value(&seen)), negated))
+            }
+        }
+    }
+
+    fn comparison(&self, op: Rel, a: &'a TExpr, b: &'a TExpr) -> Result<Option<bool>, AllocError>
+        requires a { Looks a.now (F.pre self.now.look) (F.post self.now.look) }
+        requires b { Looks b.now (F.pre self.now.look) (F.post self.now.look) }
+        ensures { IfOk result (λ t. t ≡ compare_truth op
+            (ev (typed a.now) (row_tree self.now.row.now) (row_tree self.now.locals.now))
+            (ev (typed b.now) (row_tree self.now.row.now) (row_tree self.now.locals.now))) }
+    {
+        if let Some(truth) = compare_peeked(op, a, b, self.row, self.locals) {
+            return Ok(truth);
+        }
+        let a = self.seen(a)?;
+        self.compare_right(op, a, b)
+    }
+
+    // A comparison whose left side is looked at.
+    fn compare_right(&self, op: Rel, a: Seen<'a>, b: &'a TExpr) -> Result<Option<bool>, AllocError>
+        requires { Looks b.now (F.pre self.now.look) (F.post self.now.look) }
+        ensures { IfOk result (λ t. t ≡ compare_truth op (seen_tree a.entry)
+            (ev (typed b.now) (row_tree self.now.row.now) (row_tree self.now.locals.now))) }
+    {
+        match compare_beside(op, value(&a), b, self.row, self.locals) {
+            Some(truth) => Ok(truth),
+            None => {
+                let b = self.seen(b)?;
+                Ok(compared(op, value(&a), value(&b)))
+            }
+        }
+    }
+
+    fn negative(&self, e: &'a TExpr) -> Result<Seen<'a>, AllocError>
+        requires { Looks e.now (F.pre self.now.look) (F.post self.now.look) }
+        ensures { IfOk result (λ seen. seen_tree seen ≡ minus_tree (ev (typed e.now)
+            (row_tree self.now.row.now) (row_tree self.now.locals.now))) }
+    {
+        let seen = self.seen(e)?;
+        Ok(Seen::Made(minus(value(&seen))))
+    }
+
+    fn cast_to(&self, e: &'a TExpr, to: &Kind) -> Result<Seen<'a>, AllocError>
+        requires { Looks e.now (F.pre self.now.look) (F.post self.now.look) }
+        ensures { IfOk result (λ seen. seen_tree seen ≡ cast_of (kind_tree to.now)
+            (ev (typed e.now) (row_tree self.now.row.now) (row_tree self.now.locals.now))) }
+    {
+        let seen = self.seen(e)?;
+        Ok(Seen::Made(cast(self.alloc, value(&seen), to)?))
+    }
+
+    fn call_two(
+        &self,
+        function: Function,
+        a: &'a TExpr,
+        b: &'a TExpr,
+    ) -> Result<Seen<'a>, AllocError>
+        requires fixed { is_variadic_function function ≡ false }
+        requires a { Looks a.now (F.pre self.now.look) (F.post self.now.look) }
+        requires b { Looks b.now (F.pre self.now.look) (F.post self.now.look) }
+        ensures { IfOk result (λ seen. seen_tree seen ≡ apply_tree function
+            (ev (typed a.now) (row_tree self.now.row.now) (row_tree self.now.locals.now)
+            ∷ ev (typed b.now) (row_tree self.now.row.now) (row_tree self.now.locals.now) ∷ [])) }
+    {
+        let a = self.seen(a)?;
+        let b = self.seen(b)?;
+        Ok(Seen::Made(apply_two(function, value(&a), value(&b))))
+    }
+
+    fn call_three(
+        &self,
+        function: Function,
+        a: &'a TExpr,
+        b: &'a TExpr,
+        c: &'a TExpr,
+    ) -> Result<Seen<'a>, AllocError>
+        requires fixed { is_variadic_function function ≡ false }
+        requires a { Looks a.now (F.pre self.now.look) (F.post self.now.look) }
+        requires b { Looks b.now (F.pre self.now.look) (F.post self.now.look) }
+        requires c { Looks c.now (F.pre self.now.look) (F.post self.now.look) }
+        ensures { IfOk result (λ seen. seen_tree seen ≡ apply_tree function
+            (ev (typed a.now) (row_tree self.now.row.now) (row_tree self.now.locals.now)
+            ∷ ev (typed b.now) (row_tree self.now.row.now) (row_tree self.now.locals.now)
+            ∷ ev (typed c.now) (row_tree self.now.row.now) (row_tree self.now.locals.now) ∷ [])) }
+    {
+        let a = self.seen(a)?;
+        let b = self.seen(b)?;
+        let c = self.seen(c)?;
+        Ok(Seen::Made(apply_three(self.alloc, function, value(&a), value(&b), value(&c))?))
+    }
+}
+
 /// The value of an expression, lent where it stands in the row, the locals or a value within them.
 ///
 /// A lent value takes no memory. A field, a local and their parts are lent, and so is what a bincond chooses.
@@ -34,6 +159,12 @@ pub fn look<'a>(
     ensures { IfOk result (λ seen. seen_tree seen
         ≡ ev (typed e.now) (row_tree row.now) (row_tree locals.now)) }
 {
+    let inside = Inside {
+        alloc,
+        row,
+        locals,
+        look,
+    };
     match e {
         TExpr::Null => Ok(Seen::Made(Value::Null)),
         TExpr::Bool(b) => Ok(Seen::Made(Value::Bool(*b))),
@@ -46,32 +177,26 @@ pub fn look<'a>(
             if is_condition(rest) {
                 let first = truth(alloc, first.get(), row, locals)?;
                 let truth = chain_truth(alloc, first, rest, row, locals)?;
-                return Ok(Seen::Made(boolean(truth)));
+                return Ok(answer(truth));
             }
             let first = look(alloc, first.get(), row, locals)?;
             chain_value(alloc, first, rest, row, locals)
         }
-        TExpr::Compare { op, a, b } => {
-            let truth = comparison(alloc, *op, a.get(), b.get(), row, locals)?;
-            Ok(Seen::Made(boolean(truth)))
-        }
-        TExpr::IsNull { a, not } => {
-            let present = presence(alloc, a.get(), row, locals)?;
-            Ok(Seen::Made(Value::Bool(is_met(present, *not))))
-        }
+        TExpr::Compare { op, a, b } => Ok(answer(inside.comparison(*op, a.get(), b.get())?)),
+        TExpr::IsNull { a, not } => Ok(answer(Some(inside.null_test(a.get(), *not)?))),
         TExpr::Not(a) => {
             let truth = truth(alloc, a.get(), row, locals)?;
-            Ok(Seen::Made(boolean(negated(truth))))
+            Ok(answer(negated(truth)))
         }
-        TExpr::Minus(a) => negative(alloc, a.get(), row, locals),
+        TExpr::Minus(a) => inside.negative(a.get()),
         TExpr::Choose { cond, yes, no } => {
             choice(alloc, cond.get(), yes.get(), no.get(), row, locals)
         }
-        TExpr::Cast { to, a } => cast_to(alloc, a.get(), to, row, locals),
+        TExpr::Cast { to, a } => inside.cast_to(a.get(), to),
         TExpr::Project { a, fields, single } => {
-            project(alloc, look(alloc, a.get(), row, locals)?, fields, *single)
+            project(alloc, inside.seen(a.get())?, fields, *single)
         }
-        TExpr::Look { a, key } => look_up(alloc, look(alloc, a.get(), row, locals)?, key),
+        TExpr::Look { a, key } => look_up(alloc, inside.seen(a.get())?, key),
         TExpr::Call { function, args } => call(alloc, *function, args, row, locals),
     }
 }
@@ -95,20 +220,20 @@ pub fn truth<'a>(
     ensures { IfOk result (λ t. t ≡ truth_of (ev (typed e.now) (row_tree row.now)
         (row_tree locals.now))) }
 {
+    let inside = Inside {
+        alloc,
+        row,
+        locals,
+        look,
+    };
     match e {
         TExpr::Chain { first, rest } => {
             let first = truth(alloc, first.get(), row, locals)?;
             let truth = chain_truth(alloc, first, rest, row, locals)?;
             Ok(truth)
         }
-        TExpr::Compare { op, a, b } => {
-            let truth = comparison(alloc, *op, a.get(), b.get(), row, locals)?;
-            Ok(truth)
-        }
-        TExpr::IsNull { a, not } => {
-            let present = presence(alloc, a.get(), row, locals)?;
-            Ok(Some(is_met(present, *not)))
-        }
+        TExpr::Compare { op, a, b } => inside.comparison(*op, a.get(), b.get()),
+        TExpr::IsNull { a, not } => Ok(Some(inside.null_test(a.get(), *not)?)),
         TExpr::Not(a) => {
             let truth = truth(alloc, a.get(), row, locals)?;
             Ok(negated(truth))
@@ -118,6 +243,12 @@ pub fn truth<'a>(
             Ok(truth_value(value(&seen)))
         }
     }
+}
+
+fn answer<'a>(truth: Option<bool>) -> Seen<'a>
+    ensures { seen_tree result ≡ truth_tree truth }
+{
+    Seen::Made(boolean(truth))
 }
 
 fn negated(truth: Option<bool>) -> Option<bool>
@@ -134,67 +265,6 @@ fn is_met(present: bool, negated: bool) -> bool
     ensures { result ≡ (if negated then present else not present) }
 {
     if negated { present } else { !present }
-}
-
-#[cycle(look)]
-fn presence<'a>(
-    alloc: Global,
-    e: &'a TExpr,
-    row: &'a Tuple,
-    locals: &'a Tuple,
-) -> Result<bool, AllocError>
-    ensures { IfOk result (λ present. present
-        ≡ is_present_of (ev (typed e.now) (row_tree row.now) (row_tree locals.now))) }
-{
-    match peek(e, row, locals) {
-        Some(v) => Ok(is_present(v)),
-        None => {
-            let seen = look(alloc, e, row, locals)?;
-            Ok(is_present(value(&seen)))
-        }
-    }
-}
-
-#[cycle(look)]
-fn comparison<'a>(
-    alloc: Global,
-    op: Rel,
-    a: &'a TExpr,
-    b: &'a TExpr,
-    row: &'a Tuple,
-    locals: &'a Tuple,
-) -> Result<Option<bool>, AllocError>
-    ensures { IfOk result (λ t. t ≡ compare_truth op
-        (ev (typed a.now) (row_tree row.now) (row_tree locals.now))
-        (ev (typed b.now) (row_tree row.now) (row_tree locals.now))) }
-{
-    if let Some(truth) = compare_peeked(op, a, b, row, locals) {
-        return Ok(truth);
-    }
-    let a = look(alloc, a, row, locals)?;
-    compare_right(alloc, op, a, b, row, locals)
-}
-
-// A comparison whose left side is looked at.
-#[cycle(look)]
-fn compare_right<'a>(
-    alloc: Global,
-    op: Rel,
-    a: Seen<'a>,
-    b: &'a TExpr,
-    row: &'a Tuple,
-    locals: &'a Tuple,
-) -> Result<Option<bool>, AllocError>
-    ensures { IfOk result (λ t. t ≡ compare_truth op (seen_tree a.entry)
-        (ev (typed b.now) (row_tree row.now) (row_tree locals.now))) }
-{
-    match compare_beside(op, value(&a), b, row, locals) {
-        Some(truth) => Ok(truth),
-        None => {
-            let b = look(alloc, b, row, locals)?;
-            Ok(compared(op, value(&a), value(&b)))
-        }
-    }
 }
 
 // Whether a chain begins with AND or OR.
@@ -283,35 +353,6 @@ fn next_value<'a>(
 }
 
 #[cycle(look)]
-fn negative<'a>(
-    alloc: Global,
-    e: &'a TExpr,
-    row: &'a Tuple,
-    locals: &'a Tuple,
-) -> Result<Seen<'a>, AllocError>
-    ensures { IfOk result (λ seen. seen_tree seen
-        ≡ minus_tree (ev (typed e.now) (row_tree row.now) (row_tree locals.now))) }
-{
-    let seen = look(alloc, e, row, locals)?;
-    Ok(Seen::Made(minus(value(&seen))))
-}
-
-#[cycle(look)]
-fn cast_to<'a>(
-    alloc: Global,
-    e: &'a TExpr,
-    to: &Kind,
-    row: &'a Tuple,
-    locals: &'a Tuple,
-) -> Result<Seen<'a>, AllocError>
-    ensures { IfOk result (λ seen. seen_tree seen
-        ≡ cast_of (kind_tree to.now) (ev (typed e.now) (row_tree row.now) (row_tree locals.now))) }
-{
-    let seen = look(alloc, e, row, locals)?;
-    Ok(Seen::Made(cast(alloc, value(&seen), to)?))
-}
-
-#[cycle(look)]
 fn choice<'a>(
     alloc: Global,
     cond: &'a TExpr,
@@ -367,10 +408,16 @@ fn call<'a>(
     if is_variadic(function) {
         return call_all(alloc, function, args, row, locals);
     }
+    let inside = Inside {
+        alloc,
+        row,
+        locals,
+        look,
+    };
     match args.as_slice() {
         [a] => call_one(alloc, function, a, row, locals),
-        [_, _] => call_two(alloc, function, args, row, locals),
-        [_, _, _] => call_three(alloc, function, args, row, locals),
+        [a, b] => inside.call_two(function, a, b),
+        [a, b, c] => inside.call_three(function, a, b, c),
         _ => call_all(alloc, function, args, row, locals),
     }
 }
@@ -423,7 +470,8 @@ fn call_one<'a>(
 {
     match a {
         TExpr::Project { a, fields, single } => {
-            call_part(alloc, function, a.get(), fields, *single, row, locals)
+            let a = look(alloc, a.get(), row, locals)?;
+            call_part(alloc, function, a, fields, *single)
         }
         _ => {
             let a = look(alloc, a, row, locals)?;
@@ -432,62 +480,17 @@ fn call_one<'a>(
     }
 }
 
-#[cycle(look)]
+// A function of columns of a value.
 fn call_part<'a>(
     alloc: Global,
     function: Function,
-    a: &'a TExpr,
+    a: Seen,
     fields: &Positions,
     single: bool,
-    row: &'a Tuple,
-    locals: &'a Tuple,
 ) -> Result<Seen<'a>, AllocError>
     requires { is_variadic_function function ≡ false }
-    ensures { IfOk result (λ seen. seen_tree seen ≡ apply_tree function
-        (project_tree fields.now single (ev (typed a.now) (row_tree row.now) (row_tree locals.now))
-        ∷ [])) }
+    ensures { IfOk result (λ seen. seen_tree seen
+        ≡ apply_tree function (project_tree fields.now single (seen_tree a.entry) ∷ [])) }
 {
-    let a = look(alloc, a, row, locals)?;
     Ok(Seen::Made(apply_projected(alloc, function, value(&a), fields, single)?))
-}
-
-#[cycle(look)]
-fn call_two<'a>(
-    alloc: Global,
-    function: Function,
-    args: &'a TExprs,
-    row: &'a Tuple,
-    locals: &'a Tuple,
-) -> Result<Seen<'a>, AllocError>
-    requires { is_variadic_function function ≡ false }
-    ensures { IfOk result (λ seen. seen_tree seen ≡ apply_tree function
-        (ev_args (args_of (map typed args.now)) (row_tree row.now) (row_tree locals.now))) }
-{
-    let [a, b] = args.as_slice() else {
-        return call_all(alloc, function, args, row, locals);
-    };
-    let a = look(alloc, a, row, locals)?;
-    let b = look(alloc, b, row, locals)?;
-    Ok(Seen::Made(apply_two(function, value(&a), value(&b))))
-}
-
-#[cycle(look)]
-fn call_three<'a>(
-    alloc: Global,
-    function: Function,
-    args: &'a TExprs,
-    row: &'a Tuple,
-    locals: &'a Tuple,
-) -> Result<Seen<'a>, AllocError>
-    requires { is_variadic_function function ≡ false }
-    ensures { IfOk result (λ seen. seen_tree seen ≡ apply_tree function
-        (ev_args (args_of (map typed args.now)) (row_tree row.now) (row_tree locals.now))) }
-{
-    let [a, b, c] = args.as_slice() else {
-        return call_all(alloc, function, args, row, locals);
-    };
-    let a = look(alloc, a, row, locals)?;
-    let b = look(alloc, b, row, locals)?;
-    let c = look(alloc, c, row, locals)?;
-    Ok(Seen::Made(apply_three(alloc, function, value(&a), value(&b), value(&c))?))
 }

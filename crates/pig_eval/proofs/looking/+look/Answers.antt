@@ -16,7 +16,7 @@ look-returns-then-is_condition t c =
     let found : c.in_ok-truth-in-Chain.truth
     ≡ links_truth c.in_ok-first-in-Chain.first (links_of (map link_of c.in-Chain.rest)) (row_tree c.args.row.now) (row_tree c.args.locals.now) = search rules in
     let logical : begins_logical (links_of (map link_of c.in-Chain.rest)) ≡ true = search rules in
-    c.boolean.ensures
+    c.answer.ensures
     ∙ chain_value_is c.args.e.now c.in-Chain.first c.get.result.now c.in-Chain.rest row locals c.in_ok-truth-in-Chain.truth c.in_ok-first-in-Chain.first
     c.in-Chain.is same begun found logical
 

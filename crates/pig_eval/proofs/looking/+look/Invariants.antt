@@ -14,15 +14,6 @@ decreases-look l = 5 * goal.size-look l
 abbrev pub decreases-truth : goal.decreases-truth
 decreases-truth l = 5 * goal.size-truth l + 1
 
-abbrev pub decreases-presence : goal.decreases-presence
-decreases-presence l = 5 * goal.size-presence l + 1
-
-abbrev pub decreases-comparison : goal.decreases-comparison
-decreases-comparison l = 5 * max (size-TExpr l.a.now) (size-TExpr l.b.now) + 2
-
-abbrev pub decreases-compare_right : goal.decreases-compare_right
-decreases-compare_right l = 5 * goal.size-compare_right l + 1
-
 abbrev pub decreases-chain_truth : goal.decreases-chain_truth
 decreases-chain_truth l = 5 * goal.size-chain_truth l + 3
 
@@ -34,12 +25,6 @@ decreases-chain_value l = 5 * goal.size-chain_value l + 2
 
 abbrev pub decreases-next_value : goal.decreases-next_value
 decreases-next_value l = 5 * goal.size-next_value l + 1
-
-abbrev pub decreases-negative : goal.decreases-negative
-decreases-negative l = 5 * goal.size-negative l + 1
-
-abbrev pub decreases-cast_to : goal.decreases-cast_to
-decreases-cast_to l = 5 * goal.size-cast_to l + 1
 
 abbrev pub decreases-choice : goal.decreases-choice
 decreases-choice l = 5 * max (size-TExpr l.cond.now) (max (size-TExpr l.yes.now) (size-TExpr l.no.now)) + 2
@@ -58,15 +43,6 @@ decreases-eval_all l = 5 * goal.size-eval_all l + 1
 
 abbrev pub decreases-call_one : goal.decreases-call_one
 decreases-call_one l = 5 * goal.size-call_one l + 2
-
-abbrev pub decreases-call_part : goal.decreases-call_part
-decreases-call_part l = 5 * goal.size-call_part l + 1
-
-abbrev pub decreases-call_two : goal.decreases-call_two
-decreases-call_two l = 5 * goal.size-call_two l + 3
-
-abbrev pub decreases-call_three : goal.decreases-call_three
-decreases-call_three l = 5 * goal.size-call_three l + 3
 
 abbrev pub invariant-chain_truth-loop-link : goal.invariant-chain_truth-loop-link
 invariant-chain_truth-loop-link l =
