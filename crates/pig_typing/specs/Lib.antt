@@ -11,3 +11,4 @@ pub mod Faults
 pub mod Reader
 pub mod Conditions
 pub mod Views
+pub mod Typers

@@ -1,10 +1,11 @@
 ghost use Rattle.std.specs.Prelude.{◌≡◌, IfOk, Ok, map, if◌then◌else◌};
 ghost use Rattle.pig_value.specs.Trees.{k_boolean, k_chars, kind_tree};
 ghost use Rattle.pig_schema.specs.FieldTrees.{inner_of, named_tree, schema_tree, tree_inner, tree_kind};
-ghost use Rattle.pig_syntax.specs.ExprTrees.{e_choose, e_compare, expr_form, expr_forms, link_form, link_forms, type_form};
+ghost use Rattle.pig_syntax.specs.ExprTrees.{e_cast, e_choose, e_compare, expr_form, expr_forms, link_form, link_forms, type_form};
 ghost use Rattle.pig_typed.specs.Typed.{typed, x_cast, x_chars, x_compare, x_is_null, x_minus, x_not};
 ghost use Rattle.pig_typing.specs.Columns.{place_of, unnamed};
 ghost use Rattle.pig_typing.specs.Faults.{Faults};
+ghost use Rattle.pig_typing.specs.Typers.{TypesInside};
 ghost use Rattle.pig_typing.specs.Parts.{typed_of, typing};
 ghost use Rattle.pig_typing.specs.Reader.{args_on, typed_cast, choose_of, compare_of, condition_of, function_of, typed_link, links_on, minus_of, type_of, type_of_cast, with_count};
 ghost use Rattle.pig_typing.specs.Results.{checked_then, IfRefused, Tells};
@@ -69,6 +70,72 @@ pub fn kept(alloc: Global, typing: Typing) -> Result<TypedExpr, AllocError>
     Ok(TypedExpr { expr, column })
 }
 
+// What stands inside an expression is typed by a function that types the expressions there.
+#[derive(Clone, Copy)]
+struct Inside<'a, F> {
+    alloc: Global,
+    scope: &'a Scope<'a>,
+    typing: F,
+}
+
+impl<'a, F: Fn(Global, &'a Expr, &'a Scope<'a>) -> Result<Typing<'a>, TypeFault>> Inside<'a, F> {
+    fn new(alloc: Global, scope: &'a Scope<'a>, typing: F) -> Inside<'a, F>
+        ensures scope { result.scope ≡ scope.entry }
+        ensures typing { result.typing ≡ typing }
+    {
+        Inside {
+            alloc,
+            scope,
+            typing,
+        }
+    }
+
+    fn typing(&self, e: &'a Expr) -> Result<Typing<'a>, TypeFault>
+        requires { TypesInside e.now (F.pre self.now.typing) (F.post self.now.typing) }
+        ensures { Tells typing_tree (type_of (place_of self.now.scope.now) (expr_form e.now)) result }
+    {
+        (self.typing)(self.alloc, e, self.scope)
+    }
+
+    #[tactic(auto, unfolding(crate::specs::Reader::type_of))]
+    fn comparison(&self, op: Rel, a: &'a Expr, b: &'a Expr) -> Result<Typing<'a>, TypeFault>
+        requires a { TypesInside a.now (F.pre self.now.typing) (F.post self.now.typing) }
+        requires b { TypesInside b.now (F.pre self.now.typing) (F.post self.now.typing) }
+        ensures { Tells typing_tree (type_of (place_of self.now.scope.now)
+            (e_compare op (expr_form a.now) (expr_form b.now))) result }
+    {
+        let a = self.typing(a)?;
+        let (a, b) = beside(a, self.typing(b))?;
+        compare(self.alloc, op, a, b)
+    }
+
+    #[tactic(auto, unfolding(crate::specs::Reader::type_of))]
+    fn cast(&self, to: &TypeTree, a: &'a Expr) -> Result<Typing<'a>, TypeFault>
+        requires { TypesInside a.now (F.pre self.now.typing) (F.post self.now.typing) }
+        ensures { Tells typing_tree (type_of (place_of self.now.scope.now)
+            (e_cast to.now (expr_form a.now))) result }
+    {
+        let to = cast_type(self.alloc, to)?;
+        let a = self.typing(a)?;
+        converted(self.alloc, to, a)
+    }
+
+    #[tactic(auto, unfolding(crate::specs::Reader::type_of))]
+    fn choice(&self, cond: &'a Expr, yes: &'a Expr, no: &'a Expr) -> Result<Typing<'a>, TypeFault>
+        requires cond { TypesInside cond.now (F.pre self.now.typing) (F.post self.now.typing) }
+        requires yes { TypesInside yes.now (F.pre self.now.typing) (F.post self.now.typing) }
+        requires no { TypesInside no.now (F.pre self.now.typing) (F.post self.now.typing) }
+        ensures { Tells typing_tree (type_of (place_of self.now.scope.now)
+            (e_choose (expr_form cond.now) (expr_form yes.now) (expr_form no.now))) result }
+    {
+        let cond = self.typing(cond)?;
+        let cond = as_condition(self.alloc, cond)?;
+        let (cond, yes) = beside(cond, self.typing(yes))?;
+        let ((cond, yes), no) = beside((cond, yes), self.typing(no))?;
+        choose(self.alloc, cond, yes, no)
+    }
+}
+
 #[cycle(typing)]
 #[tactic(auto, unfolding(crate::specs::Reader::type_of))]
 pub fn type_in<'a>(
@@ -78,6 +145,7 @@ pub fn type_in<'a>(
 ) -> Result<Typing<'a>, TypeFault>
     ensures { Tells typing_tree (type_of (place_of scope.now) (expr_form e.now)) result }
 {
+    let inside = Inside::new(alloc, scope, type_in);
     match e {
         Expr::Int(z) => constant(alloc, TExpr::Int(*z), Kind::Int),
         Expr::Long(z) => constant(alloc, TExpr::Long(*z), Kind::Long),
@@ -90,7 +158,7 @@ pub fn type_in<'a>(
             let first = type_in(alloc, first.get(), scope)?;
             chain(alloc, first, rest, scope)
         }
-        Expr::Compare { op, a, b } => comparison_in(alloc, *op, a.get(), b.get(), scope),
+        Expr::Compare { op, a, b } => inside.comparison(*op, a.get(), b.get()),
         Expr::IsNull { a, not } => {
             let a = type_in(alloc, a.get(), scope)?;
             null_test(alloc, a, *not)
@@ -103,11 +171,7 @@ pub fn type_in<'a>(
             let a = type_in(alloc, a.get(), scope)?;
             negative(alloc, a)
         }
-        Expr::Cast { to, a } => {
-            let to = cast_type(alloc, to)?;
-            let a = type_in(alloc, a.get(), scope)?;
-            converted(alloc, to, a)
-        }
+        Expr::Cast { to, a } => inside.cast(to, a.get()),
         Expr::Post { a, steps } => {
             let a = type_in(alloc, a.get(), scope)?;
             walk(alloc, a, steps.as_slice())
@@ -117,46 +181,8 @@ pub fn type_in<'a>(
             let args = each(alloc, args, scope)?;
             call(alloc, function, args)
         }
-        Expr::Choose { cond, yes, no } => {
-            choice_in(alloc, cond.get(), yes.get(), no.get(), scope)
-        }
+        Expr::Choose { cond, yes, no } => inside.choice(cond.get(), yes.get(), no.get()),
     }
-}
-
-#[cycle(typing)]
-#[tactic(auto, unfolding(crate::specs::Reader::type_of))]
-fn comparison_in<'a>(
-    alloc: Global,
-    op: Rel,
-    a: &'a Expr,
-    b: &'a Expr,
-    scope: &'a Scope<'a>,
-) -> Result<Typing<'a>, TypeFault>
-    ensures { Tells typing_tree (type_of (place_of scope.now)
-        (e_compare op (expr_form a.now) (expr_form b.now))) result }
-{
-    let a = type_in(alloc, a, scope)?;
-    let (a, b) = beside(a, type_in(alloc, b, scope))?;
-    compare(alloc, op, a, b)
-}
-
-#[cycle(typing)]
-#[tactic(auto, unfolding(crate::specs::Reader::type_of))]
-fn choice_in<'a>(
-    alloc: Global,
-    cond: &'a Expr,
-    yes: &'a Expr,
-    no: &'a Expr,
-    scope: &'a Scope<'a>,
-) -> Result<Typing<'a>, TypeFault>
-    ensures { Tells typing_tree (type_of (place_of scope.now)
-        (e_choose (expr_form cond.now) (expr_form yes.now) (expr_form no.now))) result }
-{
-    let cond = type_in(alloc, cond, scope)?;
-    let cond = as_condition(alloc, cond)?;
-    let (cond, yes) = beside(cond, type_in(alloc, yes, scope))?;
-    let ((cond, yes), no) = beside((cond, yes), type_in(alloc, no, scope))?;
-    choose(alloc, cond, yes, no)
 }
 
 fn constant<'a>(alloc: Global, form: TExpr, kind: Kind) -> Result<Typing<'a>, TypeFault>

@@ -1,8 +1,9 @@
-use Rattle.std.proofs.Common.{◌≡◌, ◌+◌, map, drop, refl, subst, rules}
+use Rattle.std.proofs.Common.{◌≡◌, ◌+◌, map, drop, ◌∙◌, ap, refl, subst, sym, rules}
 use Rattle.std.specs.declared.result.Result.TheVariants.{Ok, Err}
-use Rattle.pig_syntax.specs.ExprTrees.{link_form, link_forms}
+use Rattle.pig_syntax.specs.ExprTrees.{e_cast, expr_form, link_form, link_forms}
+use Rattle.pig_syntax.proofs.ExprTreeLaws.{form-Cast}
 use Rattle.pig_typing.specs.Columns.{place_of}
-use Rattle.pig_typing.specs.Reader.{links_on, typed_link}
+use Rattle.pig_typing.specs.Reader.{links_on, type_of, typed_link}
 use Rattle.pig_typing.specs.Results.{Tells, checked_then}
 use Rattle.pig_typing.specs.Typing.{begun, chain_typing}
 use Rattle.pig_typing.specs.Views.{chain_tree, typing_tree}
@@ -33,3 +34,9 @@ chain-returns-in_err-so_far-2 t c =
     let first : Tells chain_tree all (Err fault) = passes_fault chain_tree chain_tree (typed_link so_far link.op p) (λ next. links_on s next rest) all fault step c.in_err-so_far-2.ensures in
     let is : c.from_residual-in_err-so_far-2.result ≡ Err fault = search rules in
     rw is (passes_fault chain_tree typing_tree all (λ whole. Ok (chain_typing whole)) _ fault refl first)
+
+pub type_in-returns-in-Cast : goal.type_in-returns-in-Cast
+type_in-returns-in-Cast t c =
+    let form : expr_form c.args.e.now ≡ e_cast c.in-Cast.to (expr_form c.in-Cast.a) = ap expr_form c.in-Cast.is ∙ form-Cast c.in-Cast.to c.in-Cast.a in
+    let told : Tells typing_tree (type_of (place_of c.args.scope.now) (e_cast c.in-Cast.to (expr_form c.in-Cast.a))) c.cast.result = search rules in
+    subst (λ f. Tells typing_tree (type_of (place_of c.args.scope.now) f) c.cast.result) (sym form) told

@@ -1,6 +1,4 @@
 use Rattle.std.proofs.Common.{◌≡◌, ◌++◌, map, drop, ◌+◌, ◌*◌}
-use Rattle.std.specs.Prelude.{max}
-use Rattle.pig_syntax.specs.declared.trees.Expr.TheViews.{size-Expr}
 use Rattle.pig_syntax.specs.ExprTrees.{expr_form, expr_forms, link_form, link_forms}
 use Rattle.pig_typing.specs.Columns.{place_of}
 use Rattle.pig_typing.specs.Reader.{args_on, links_on}
@@ -14,12 +12,6 @@ decreases-type_in l = 2 * goal.size-type_in l
 
 abbrev pub decreases-chain : goal.decreases-chain
 decreases-chain l = 2 * goal.size-chain l + 1
-
-abbrev pub decreases-comparison_in : goal.decreases-comparison_in
-decreases-comparison_in l = 2 * max (size-Expr l.a.now) (size-Expr l.b.now) + 1
-
-abbrev pub decreases-choice_in : goal.decreases-choice_in
-decreases-choice_in l = 2 * max (size-Expr l.cond.now) (max (size-Expr l.yes.now) (size-Expr l.no.now)) + 1
 
 abbrev pub decreases-each : goal.decreases-each
 decreases-each l = 2 * goal.size-each l + 1
