@@ -1,18 +1,13 @@
 -- What bare LIMITs kept, found while the waves of the nodes are passed one after the other.
-use Rattle.std.specs.Prelude.{ℕ, Bool, false, List, [], ◌∷◌, ◌++◌, drop, length, slice_get, if◌then◌else◌}
+use Rattle.std.specs.Prelude.{ℕ, Bool, List, [], ◌∷◌, ◌++◌, drop, length, slice_get, if◌then◌else◌}
 use Rattle.std.specs.List.{flat_map}
 use Rattle.std.specs.Option.{option_map_or}
 use Rattle.pig_value.specs.declared.outcomes.Kept.{Kept}
 use Rattle.pig_value.specs.Trees.{Tree, rows_tree}
-use Rattle.pig_plan.specs.Nodes.{is_bare, is_boundary, sorts}
+use Rattle.pig_plan.specs.Nodes.{is_bare, is_boundary}
 use Rattle.pig_plan.specs.Plans.{Plan, PlanNode, PlanOp}
-use Rattle.pig_plan.specs.Results.{results}
 use Rattle.pig_physical.specs.Outs.{Outs, TaskOut, outs_at, rows_in}
 use Rattle.pig_physical.specs.Stages.{waves_of}
-
--- which nodes are sorted, by their numbers
-abbrev pub sorted_list : Plan → List Bool
-sorted_list plan = results (λ k node. sorts node.op) false plan
 
 -- the rows of a wave's outputs
 abbrev pub wave_rows : List TaskOut → List (List Tree)

@@ -10,9 +10,8 @@ ghost use Rattle.pig_physical.specs.Outs.{outs_at, rows_in};
 ghost use Rattle.pig_physical.specs.Running.{AreOutputs};
 ghost use Rattle.pig_collect.specs.Keeping.{chosen_at, chosen_by, chosen_in, chosen_of, wave_count, wave_rows, waves_at};
 
-use crate::sorted::{is_marked, sorted_nodes};
 use pig_physical::{Out, OutForm};
-use pig_plan::{Node, NodeOp, Plan, live_numbers};
+use pig_plan::{Node, NodeOp, Plan, is_marked, live_numbers, sorted_marks};
 use pig_value::{Kept, KeptList, OutList, Rows};
 use std::alloc::{AllocError, Global};
 
@@ -22,7 +21,7 @@ pub fn kept(alloc: Global, plan: &Plan, outs: &[OutList<Out>]) -> Result<KeptLis
 {
     let numbers = live_numbers(alloc, plan)?;
     let nodes = plan.nodes().as_slice();
-    let sorted = sorted_nodes(alloc, nodes)?;
+    let sorted = sorted_marks(alloc, nodes)?;
     all_kept(alloc, nodes, numbers.as_slice(), sorted.as_slice(), outs)
 }
 

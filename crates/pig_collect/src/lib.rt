@@ -7,7 +7,6 @@ mod kept;
 mod laws;
 mod lines;
 mod parts;
-mod sorted;
 mod unmet;
 
 pub use collecting::{Collected, collect};

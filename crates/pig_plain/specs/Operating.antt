@@ -1,5 +1,5 @@
 -- What the plain answer makes of one node: its operator's rows in the order in which they come, before a bag is sorted.
-use Rattle.std.specs.Prelude.{ℕ, Bool, false, List, [], map, take, Option, Some, None}
+use Rattle.std.specs.Prelude.{ℕ, List, [], map, take, Option, Some, None}
 use Rattle.std.specs.List.{flat_map}
 use Rattle.pig_value.specs.declared.inputs.Input.{Input}
 use Rattle.pig_value.specs.Orders.{row_cmp}
@@ -7,10 +7,9 @@ use Rattle.pig_value.specs.Sorts.{distinct}
 use Rattle.pig_value.specs.Valid.{AreRows}
 use Rattle.pig_value.specs.Trees.{Tree}
 use Rattle.pig_typed.specs.Blocks.{foreach_all}
-use Rattle.pig_plan.specs.Nodes.{sorts}
 use Rattle.pig_plan.specs.Operators.{filter_rows, group_all, group_rows, join_rows, load_rows, order_rows, rank_rows}
 use Rattle.pig_plan.specs.Plans.{Plan, PlanOp, p_load, p_filter, p_foreach, p_group_all, p_group, p_join, p_union, p_distinct, p_order, p_limit, p_store, p_assert, p_rank}
-use Rattle.pig_plan.specs.Results.{at_place, results}
+use Rattle.pig_plan.specs.Results.{at_place}
 use Rattle.pig_plain.specs.Coming.{coming, relation_rows, rows_standing}
 use Rattle.pig_plain.specs.declared.relation.Relation.{Relation}
 use Rattle.pig_plain.specs.declared.relation.Relation.TheVariants.{Standing}
@@ -31,10 +30,6 @@ found_rows inputs width (p_limit input count) rows = take count (rows input)
 found_rows inputs width (p_store input path delim) rows = rows input
 found_rows inputs width (p_assert input cond message) rows = rows input
 found_rows inputs width (p_rank input keys dense) rows = rank_rows keys dense (rows input)
-
--- which nodes are sorted, by their numbers
-abbrev pub sorted_list : Plan → List Bool
-sorted_list plan = results (λ k node. sorts node.op) false plan
 
 -- no rows, as they stand
 abbrev pub no_rows : Relation

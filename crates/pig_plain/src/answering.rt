@@ -2,13 +2,13 @@ ghost use Rattle.std.specs.Prelude.{◌≡◌, ◌+◌, [], ◌∷◌, ◌++◌,
 ghost use Rattle.pig_value.specs.Trees.{rows_tree};
 ghost use Rattle.pig_value.specs.Valid.{AreRows, IsValue};
 ghost use Rattle.pig_plan.specs.Laws.{AreOfBytes, PlanLiteralsAre};
-ghost use Rattle.pig_plan.specs.Nodes.{is_live};
+ghost use Rattle.pig_plan.specs.Nodes.{is_live, sorted_marks};
 ghost use Rattle.pig_plan.specs.Plans.{node_of, op_of, plan_of};
 ghost use Rattle.pig_plan.specs.Results.{at_place};
 ghost use Rattle.pig_plan.specs.Valid.{IsPlan};
 ghost use Rattle.pig_plain.specs.Answering.{IsAnswer};
 ghost use Rattle.pig_plain.specs.Coming.{relation_rows};
-ghost use Rattle.pig_plain.specs.Operating.{no_rows, sorted_list};
+ghost use Rattle.pig_plain.specs.Operating.{no_rows};
 ghost use Rattle.pig_plain.specs.SoFar.{IsSoFar};
 ghost use Rattle.pig_plain.specs.Kinds.{kind_in, limit_kind};
 ghost use Rattle.pig_plain.specs.Tables.{and_relation};
@@ -18,10 +18,9 @@ use crate::copies::copied;
 use crate::laws::inputs_are_of_bytes;
 use crate::operating::found;
 use crate::relation::Relation;
-use crate::sorted::{is_marked, sorted_nodes};
 use crate::table::Table;
 use crate::uses::{Uses, is_live, uses_of};
-use pig_plan::{Node, NodeOp, Plan};
+use pig_plan::{Node, NodeOp, Plan, is_marked, sorted_marks};
 use pig_value::{Input, Inputs, Kept, KeptList, Rows, Seq};
 use std::alloc::{AllocError, Global};
 
@@ -48,13 +47,13 @@ pub fn answer(alloc: Global, plan: &Plan, inputs: &Inputs) -> Result<Answers, Al
     let given = inputs.as_slice();
     inputs_are_of_bytes(given);
     let Uses { live, ends } = uses_of(alloc, plan)?;
-    let sorted = sorted_nodes(alloc, all)?;
+    let nodes = all.as_slice();
+    let sorted = sorted_marks(alloc, nodes)?;
     let mut so_far = Running {
         table: Table::new(alloc, ends),
         kept: KeptList::new(alloc),
         stores: Relations::new(alloc),
     };
-    let nodes = all.as_slice();
     let mut number = 0;
     'nodes: while number < nodes.len() {
         so_far.run_node(
@@ -96,7 +95,7 @@ impl<'p> Running<'p> {
         requires valid { IsPlan (plan_of plan.now) }
         requires literals { PlanLiteralsAre IsValue (plan_of plan.now) }
         requires live { AreMarked (plan_of plan.now) live.now }
-        requires sorted { sorted.now ≡ sorted_list (plan_of plan.now) }
+        requires sorted { sorted.now ≡ sorted_marks (plan_of plan.now) }
         requires node { slice_get (plan_of plan.now) number ≡ Some (node_of node.now) }
         requires so_far { IsSoFar (plan_of plan.now) inputs.now number
             self.old.table self.old.kept (map rows_tree self.old.stores) }
@@ -123,7 +122,7 @@ impl<'p> Running<'p> {
         requires bytes { AreOfBytes inputs.now }
         requires valid { IsPlan (plan_of plan.now) }
         requires literals { PlanLiteralsAre IsValue (plan_of plan.now) }
-        requires sorted { sorted.now ≡ sorted_list (plan_of plan.now) }
+        requires sorted { sorted.now ≡ sorted_marks (plan_of plan.now) }
         requires node { slice_get (plan_of plan.now) number ≡ Some (node_of node.now) }
         requires live { is_live (plan_of plan.now) number ≡ true }
         requires so_far { IsSoFar (plan_of plan.now) inputs.now number

@@ -16,7 +16,6 @@ mod ranking;
 mod reading;
 mod relation;
 mod rowwise;
-mod sorted;
 mod sorting;
 mod table;
 mod uses;

@@ -3,7 +3,7 @@ use Rattle.std.specs.Prelude.{◌≡◌, ℕ, ◌==◌, ◌+◌, Bool, true, fal
 use Rattle.std.specs.List.{filter, filter_map, flat_map, list_any, range_with_len}
 use Rattle.std.specs.Option.{option_map, option_map_or}
 use Rattle.pig_plan.specs.Plans.{Plan, PlanNode, PlanOp, p_load, p_filter, p_foreach, p_group_all, p_group, p_join, p_union, p_distinct, p_order, p_limit, p_store, p_assert, p_rank}
-use Rattle.pig_plan.specs.Results.{result_at}
+use Rattle.pig_plan.specs.Results.{result_at, results}
 
 -- the operator of the node numbered k
 abbrev pub op_at : Plan → ℕ → Option PlanOp
@@ -61,6 +61,9 @@ abbrev pub sorts : PlanOp → (ℕ → Bool) → Bool
 sorts (p_order input keys) sorted = true
 sorts (p_assert input cond message) sorted = sorted input
 sorts o sorted = false
+
+abbrev pub sorted_marks : Plan → List Bool
+sorted_marks = results (λ k node. sorts node.op) false
 
 abbrev pub is_sorted : Plan → ℕ → Bool
 is_sorted = result_at (λ k node. sorts node.op) false

@@ -1,11 +1,10 @@
 -- The nodes of a plan at other numbers in another one, as they stand once nodes are taken out or become one.
-use Rattle.std.specs.Prelude.{◌≡◌, ◌≤◌, ℕ, true, List, map, Some, slice_get}
-use Rattle.std.specs.List.Sorted.{IsPermutation}
+use Rattle.std.specs.Prelude.{◌≡◌, ℕ, List, map}
 use Rattle.pig_value.specs.declared.inputs.Input.{Input}
 use Rattle.pig_value.specs.declared.outcomes.Kept.{Kept}
 use Rattle.pig_plan.specs.Meaning.{meaning}
 use Rattle.pig_plan.specs.NodeKinds.{kinds_at}
-use Rattle.pig_plan.specs.Nodes.{bare_limits, is_bare, is_live, is_sorted}
+use Rattle.pig_plan.specs.Nodes.{is_sorted}
 use Rattle.pig_plan.specs.Plans.{Keyed, Plan, PlanNode, PlanOp, p_load, p_filter, p_foreach, p_group_all, p_group, p_join, p_union, p_distinct, p_order, p_limit, p_store, p_assert, p_rank}
 
 abbrev pub rename_keyed : (ℕ → ℕ) → Keyed → Keyed
@@ -30,29 +29,6 @@ rename at (p_rank input keys dense) = p_rank (at input) keys dense
 -- the node over inputs at other numbers, with its statement
 abbrev pub renamed : (ℕ → ℕ) → PlanNode → PlanNode
 renamed at node = record { op = rename at node.op; statement = node.statement }
-
--- The node of q that stands for v, the live node of p numbered k. Its statement may be an earlier one, but for a bare LIMIT, whose rows
--- are kept by it.
-pub record StandsFor (p q : Plan) (at : ℕ → ℕ) (k : ℕ) (v : PlanNode) : Type 0 where
-  pub statement : ℕ
-  pub stands : slice_get q (at k) ≡ Some (record { op = rename at v.op; statement = statement })
-  pub least : statement ≤ v.statement
-  pub limit : is_bare (is_sorted p) v.op ≡ true → statement ≡ v.statement
-  pub lives : is_live q (at k) ≡ true
-
--- a live node of p that w, the node of q numbered j, stands for, with w's statement
-pub record IsStoodFor (p : Plan) (at : ℕ → ℕ) (j : ℕ) (w : PlanNode) : Type 0 where
-  pub number : ℕ
-  pub node : PlanNode
-  pub stands : slice_get p number ≡ Some node
-  pub lives : is_live p number ≡ true
-  pub there : at number ≡ j
-  pub statement : node.statement ≡ w.statement
-
-pub record IsRenumbered (p q : Plan) (at : ℕ → ℕ) : Type 0 where
-  pub on : (k : ℕ) (v : PlanNode) → slice_get p k ≡ Some v → is_live p k ≡ true → StandsFor p q at k v
-  pub onto : (j : ℕ) (w : PlanNode) → slice_get q j ≡ Some w → is_live q j ≡ true → IsStoodFor p at j w
-  pub limits : IsPermutation (map (λ node. node.statement) (bare_limits p)) (map (λ node. node.statement) (bare_limits q))
 
 -- the node numbered k is in q what it is in p: its kinds, whether it is sorted, and its rows
 pub record IsSame (p q : Plan) (at : ℕ → ℕ) (inputs : List Input) (kept : List Kept) (k : ℕ) : Type 0 where

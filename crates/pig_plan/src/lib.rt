@@ -15,6 +15,7 @@ mod nodes;
 mod plan;
 mod rooming;
 mod shared;
+mod sorted;
 mod valued;
 mod written;
 
@@ -30,3 +31,4 @@ pub use live::{live_marks, live_numbers};
 pub use nodes::{KeyedInput, KeyedInputs, Node, NodeOp, Nodes};
 pub use plan::Plan;
 pub use rooming::no_rows;
+pub use sorted::{is_marked, sorted_marks};

@@ -8,14 +8,14 @@ use Rattle.std.proofs.lemmas.Option.{get_or_from_slice_get, slice_get_within}
 use Rattle.pig_value.proofs.list_laws.Indexing.{get_map, some_at}
 use Rattle.pig_value.proofs.list_laws.Listing.{some_same}
 use Rattle.pig_plan.specs.declared.nodes.Node.{Node}
-use Rattle.pig_plan.specs.Nodes.{is_live, is_sorted, live_marks}
+use Rattle.pig_plan.specs.Nodes.{is_live, is_sorted, live_marks, sorted_marks}
 use Rattle.pig_plan.specs.Plans.{Plan, PlanNode, plan_of}
 use Rattle.pig_plan.specs.Renumbered.{rename, renamed}
 use Rattle.pig_plan.specs.Results.{at_place}
 use Rattle.pig_share.specs.Same.{columns_of, same_op}
 use Rattle.pig_share.specs.Shared.{EachIsOnce, apart_in, is_apart}
 use Rattle.pig_plan.specs.Valid.{IsPlan, in_order}
-use Rattle.pig_share.specs.Table.{DoesSame, IsFound, IsRenamedAt, IsSoFar, Shares, apart_list, at_of, earlier, none, sorted_list}
+use Rattle.pig_share.specs.Table.{DoesSame, IsFound, IsRenamedAt, IsSoFar, Shares, apart_list, at_of, earlier, none}
 use Rattle.pig_share.proofs.Steps.{goes_on, numbered}
 use Rattle.pig_plan.specs.Rewrites.{SameMeaning}
 use Rattle.pig_share.proofs.Meaning.{shared_means}
@@ -63,7 +63,7 @@ open_is p live apart k mark own is_l is_a is_mark is_own v stands =
 
 -- the marks of nodes that stay apart, as they are made
 pub apart_made : (p : Plan) (made sorted : List Bool) (ordered : Bool) → made ≡ map (λ node. is_apart ordered (at_place false sorted) node.op) p → ordered ≡ in_order p
-    → sorted ≡ sorted_list p → made ≡ apart_list p
+    → sorted ≡ sorted_marks p → made ≡ apart_list p
 apart_made p made sorted ordered is is_o is_s = is ∙ (λ j. map (λ node. is_apart (is_o j) (at_place false (is_s j)) node.op) p)
 
 -- ---- the tests of two nodes

@@ -1,7 +1,6 @@
 -- Going through the nodes of a plan in order: what each is named by so far.
 use Rattle.std.specs.Prelude.{◌≡◌, ◌<◌, ℕ, Bool, false, true, List, ◌++◌, map, take, length, Option, None, Some, slice_get, get_or}
-use Rattle.pig_plan.specs.Nodes.{is_live, sorts}
-use Rattle.pig_plan.specs.Results.{results}
+use Rattle.pig_plan.specs.Nodes.{is_live}
 use Rattle.pig_plan.specs.Plans.{Plan, PlanNode}
 use Rattle.pig_plan.specs.Renumbered.{rename, renamed}
 use Rattle.pig_share.specs.Hashed.{op_hash}
@@ -47,10 +46,6 @@ pub data IsFound (p : Plan) (table : List ℕ) (i n : ℕ) : Type 0 where
 pub record Shares (p q : Plan) : Type 0 where
   pub table : List ℕ
   pub is : IsShared p q (at_of table)
-
--- of each node whether it is sorted
-abbrev pub sorted_list : Plan → List Bool
-sorted_list plan = results (λ k node. sorts node.op) false plan
 
 -- of each node whether it stays apart
 abbrev pub apart_list : Plan → List Bool

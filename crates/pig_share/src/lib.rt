@@ -1,6 +1,7 @@
 //! Two nodes of a plan that do the same to the same inputs become one.
 #![tactic(auto)]
 
+mod apart;
 mod blocks;
 mod exprs;
 mod hashing;
@@ -10,7 +11,6 @@ mod mixing;
 mod ops;
 mod renaming;
 mod sharing;
-mod sorted;
 
 pub use laws::{ordered_plans_share_all, shared_nodes_are_once, shared_plans_mean_the_same};
 pub use renaming::renamed_node;

@@ -9,10 +9,10 @@ ghost use Rattle.pig_share.specs.Hashed.{op_hash};
 ghost use Rattle.pig_share.specs.Same.{columns_of, same_op};
 ghost use Rattle.pig_share.specs.Table.{AreListed, DoesSame, HasKey, IsFound, IsOpen, IsRenamedAt, IsSoFar, KeepsKeys, Shares, apart_list};
 
+use crate::apart::apart_nodes;
 use crate::hashing::hash_op;
 use crate::ops::is_same_op;
 use crate::renaming::{number_at, renamed_node};
-use crate::sorted::apart_nodes;
 use indexmap::IndexMap;
 use pig_plan::{Node, Plan, live_marks};
 use std::alloc::{AllocError, Global};

@@ -1,12 +1,11 @@
 ghost use Rattle.std.specs.Prelude.{◌≡◌, false, IfOk, map};
-ghost use Rattle.pig_plan.specs.Nodes.{sorts as sorts_op};
 ghost use Rattle.pig_plan.specs.Plans.{op_of, plan_of};
 ghost use Rattle.pig_plan.specs.Results.{at_place};
 ghost use Rattle.pig_plan.specs.Valid.{in_order};
 ghost use Rattle.pig_share.specs.Shared.{is_apart};
-ghost use Rattle.pig_share.specs.Table.{apart_list, sorted_list};
+ghost use Rattle.pig_share.specs.Table.{apart_list};
 
-use pig_plan::{Node, NodeOp};
+use pig_plan::{Node, NodeOp, is_marked, sorted_marks};
 use std::alloc::{AllocError, Global};
 
 // Of each node whether it stays apart.
@@ -14,7 +13,7 @@ pub fn apart_nodes(alloc: Global, nodes: &[Node]) -> Result<Vec<bool>, AllocErro
     ensures { IfOk result (λ apart. apart.items ≡ apart_list (plan_of nodes.now)) }
 {
     let ordered = stand_in_order(nodes);
-    let sorted = sorted_nodes(alloc, nodes)?;
+    let sorted = sorted_marks(alloc, nodes)?;
     let apart = apart_among(alloc, nodes, ordered, sorted.as_slice())?;
     Ok(apart)
 }
@@ -48,38 +47,6 @@ fn stand_in_order(nodes: &[Node]) -> bool
         latest = node.statement;
     }
     true
-}
-
-// Of each node whether it is sorted: an ORDER, or an ASSERT on a sorted node.
-fn sorted_nodes(alloc: Global, nodes: &[Node]) -> Result<Vec<bool>, AllocError>
-    ensures { IfOk result (λ sorted. sorted.items ≡ sorted_list (plan_of nodes.now)) }
-{
-    let mut sorted = Vec::with_capacity(alloc, nodes.len())?;
-    for node in nodes {
-        let own = sorts(&node.op, sorted.as_slice());
-        sorted.push(own)?;
-    }
-    Ok(sorted)
-}
-
-fn sorts(op: &NodeOp, sorted: &[bool]) -> bool
-    ensures { result ≡ sorts_op (op_of op.now) (at_place false sorted.now) }
-{
-    match op {
-        NodeOp::Order { .. } => true,
-        NodeOp::Assert { input, .. } => is_marked(sorted, *input),
-        _ => false,
-    }
-}
-
-// Whether a node is marked; one that is not among them is none.
-fn is_marked(marks: &[bool], node: u32) -> bool
-    ensures { result ≡ at_place false marks.now node }
-{
-    match marks.get(node as usize) {
-        Some(mark) => *mark,
-        None => false,
-    }
 }
 
 // Whether an operator stays apart: a LIMIT on no sorted node, a STORE, an ASSERT among nodes that are not in order.
