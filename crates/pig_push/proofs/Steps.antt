@@ -140,10 +140,6 @@ NoMove nodes k = (i : ℕ) → CanPart (plan_of nodes) i k → ⊥
 pub none_there : (nodes : List Node) (k : ℕ) → slice_get nodes k ≡ None → NoMove nodes k
 none_there nodes k h i m = none-some (node_with (p_filter i m.cond) m.statement) (sym (get_map node_of nodes k ∙ ap (option_map node_of) h) ∙ m.above)
 
-abbrev pub is_filter : PlanOp → Bool
-is_filter (p_filter input c) = true
-is_filter o = false
-
 abbrev input_of : PlanOp → ℕ
 input_of (p_filter input c) = input
 input_of o = 0

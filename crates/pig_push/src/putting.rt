@@ -5,7 +5,7 @@ ghost use Rattle.pig_push.specs.Putting.{instead_of, put_link};
 
 use crate::handing::plain_at;
 use pig_typed::{BlockItem, TExpr, TExprs, TLink, TLinks, copy_expr, copy_positions};
-use pig_value::{Boxed, Rel, Seq, copy_kind};
+use pig_value::{Boxed, Positions, Rel, Seq, copy_kind};
 use std::alloc::{AllocError, Global};
 
 // What stands in the place of the columns of a condition that passes an operator.
@@ -64,12 +64,7 @@ pub fn put(alloc: Global, instead: Instead, e: &TExpr) -> Result<TExpr, AllocErr
         }
         TExpr::Project { a, fields, single } => {
             let a = put_boxed(alloc, instead, a)?;
-            let fields = copy_positions(alloc, fields)?;
-            Ok(TExpr::Project {
-                a,
-                fields,
-                single: *single,
-            })
+            projection(alloc, a, fields, *single)
         }
         TExpr::Look { a, key } => {
             let a = put_boxed(alloc, instead, a)?;
@@ -81,6 +76,18 @@ pub fn put(alloc: Global, instead: Instead, e: &TExpr) -> Result<TExpr, AllocErr
             args: put_args(alloc, instead, args)?,
         }),
     }
+}
+
+fn projection(
+    alloc: Global,
+    a: Boxed<TExpr>,
+    fields: &Positions,
+    single: bool,
+) -> Result<TExpr, AllocError>
+    ensures { IfOk result (λ c. c ≡ TExpr.Project a fields.now single) }
+{
+    let fields = copy_positions(alloc, fields)?;
+    Ok(TExpr::Project { a, fields, single })
 }
 
 #[cycle(put)]
