@@ -17,71 +17,13 @@ use Rattle.pig_plan.specs.Renumbered.{IsSame, rename, renamed}
 use Rattle.pig_plan.specs.Rewrites.{Fails, SameMeaning, Stores}
 use Rattle.pig_plan.specs.Valid.{IsPlan}
 use Rattle.pig_share.proofs.Living.{store_lives}
+use Rattle.pig_share.proofs.Meaning.{was_assert, was_limit, was_store}
 use Rattle.pig_push.proofs.Keeps.{IsInput, inputs_live}
 use Rattle.pig_alive.specs.Alive.{LivePlansMeanTheSame, alive, new_number}
 use Rattle.pig_alive.proofs.Places.{Came, came, there}
 use Rattle.pig_alive.proofs.Stays.{each_lives, lists_at, same_at, stays_live}
 
--- ---- what an operator was before its inputs were renumbered
-
-abbrev on : ℕ → PlanOp → PlanOp
-on n (p_limit input count) = p_limit n count
-on n (p_store input path delim) = p_store n path delim
-on n (p_assert input cond message) = p_assert n cond message
-on n o = o
-
-abbrev input_of : PlanOp → ℕ
-input_of (p_limit input count) = input
-input_of (p_store input path delim) = input
-input_of (p_assert input cond message) = input
-input_of o = 0
-
 module _ (at : ℕ → ℕ) where
-  was_limit : (o : PlanOp) (i count : ℕ) → rename at o ≡ p_limit i count → (j : ℕ) × (o ≡ p_limit j count) × (at j ≡ i)
-  was_limit (p_load p1 d1 columns) i count h = absurd (cc)
-  was_limit (p_filter input c) i count h = absurd (cc)
-  was_limit (p_foreach input block) i count h = absurd (cc)
-  was_limit (p_group_all input) i count h = absurd (cc)
-  was_limit (p_group inputs) i count h = absurd (cc)
-  was_limit (p_join inputs side replicated) i count h = absurd (cc)
-  was_limit (p_union inputs) i count h = absurd (cc)
-  was_limit (p_distinct input) i count h = absurd (cc)
-  was_limit (p_order input keys) i count h = absurd (cc)
-  was_limit (p_limit j n) i count h = (j, ap (on j) h, ap input_of h)
-  was_limit (p_store input p1 d1) i count h = absurd (cc)
-  was_limit (p_assert input c message) i count h = absurd (cc)
-  was_limit (p_rank input keys dense) i count h = absurd (cc)
-
-  was_store : (o : PlanOp) (i : ℕ) (path : List ℕ) (delim : ℕ) → rename at o ≡ p_store i path delim → (j : ℕ) × (o ≡ p_store j path delim) × (at j ≡ i)
-  was_store (p_load p1 d1 columns) i path delim h = absurd (cc)
-  was_store (p_filter input c) i path delim h = absurd (cc)
-  was_store (p_foreach input block) i path delim h = absurd (cc)
-  was_store (p_group_all input) i path delim h = absurd (cc)
-  was_store (p_group inputs) i path delim h = absurd (cc)
-  was_store (p_join inputs side replicated) i path delim h = absurd (cc)
-  was_store (p_union inputs) i path delim h = absurd (cc)
-  was_store (p_distinct input) i path delim h = absurd (cc)
-  was_store (p_order input keys) i path delim h = absurd (cc)
-  was_store (p_limit input n1) i path delim h = absurd (cc)
-  was_store (p_store j p2 d2) i path delim h = (j, ap (on j) h, ap input_of h)
-  was_store (p_assert input c message) i path delim h = absurd (cc)
-  was_store (p_rank input keys dense) i path delim h = absurd (cc)
-
-  was_assert : (o : PlanOp) (i : ℕ) (test : Typed) (message : Option (List ℕ)) → rename at o ≡ p_assert i test message → (j : ℕ) × (o ≡ p_assert j test message) × (at j ≡ i)
-  was_assert (p_load p1 d1 columns) i test message h = absurd (cc)
-  was_assert (p_filter input c) i test message h = absurd (cc)
-  was_assert (p_foreach input block) i test message h = absurd (cc)
-  was_assert (p_group_all input) i test message h = absurd (cc)
-  was_assert (p_group inputs) i test message h = absurd (cc)
-  was_assert (p_join inputs side replicated) i test message h = absurd (cc)
-  was_assert (p_union inputs) i test message h = absurd (cc)
-  was_assert (p_distinct input) i test message h = absurd (cc)
-  was_assert (p_order input keys) i test message h = absurd (cc)
-  was_assert (p_limit input n1) i test message h = absurd (cc)
-  was_assert (p_store input p1 d1) i test message h = absurd (cc)
-  was_assert (p_assert j c m) i test message h = (j, ap (on j) h, ap input_of h)
-  was_assert (p_rank input keys dense) i test message h = absurd (cc)
-
   bare_moved : (f g : ℕ → Bool) (o : PlanOp) → AllByRecursion (λ i. f (at i) ≡ g i) (inputs_of o) → is_bare f (rename at o) ≡ is_bare g o
   bare_moved f g (p_load path delim columns) h = refl
   bare_moved f g (p_filter input c) h = refl

@@ -37,7 +37,7 @@ input_of (p_assert input cond message) = input
 input_of o = 0
 
 module _ (at : ℕ → ℕ) where
-  was_limit : (o : PlanOp) (i count : ℕ) → rename at o ≡ p_limit i count → (j : ℕ) × (o ≡ p_limit j count) × (at j ≡ i)
+  pub was_limit : (o : PlanOp) (i count : ℕ) → rename at o ≡ p_limit i count → (j : ℕ) × (o ≡ p_limit j count) × (at j ≡ i)
   was_limit (p_limit j n) i count h = (j, ap (on j) h, ap input_of h)
   was_limit (p_load path delim columns) i count h = absurd (cc)
   was_limit (p_filter input c) i count h = absurd (cc)
@@ -52,7 +52,7 @@ module _ (at : ℕ → ℕ) where
   was_limit (p_assert input c message) i count h = absurd (cc)
   was_limit (p_rank input keys dense) i count h = absurd (cc)
 
-  was_store : (o : PlanOp) (i : ℕ) (path : List ℕ) (delim : ℕ) → rename at o ≡ p_store i path delim → (j : ℕ) × (o ≡ p_store j path delim) × (at j ≡ i)
+  pub was_store : (o : PlanOp) (i : ℕ) (path : List ℕ) (delim : ℕ) → rename at o ≡ p_store i path delim → (j : ℕ) × (o ≡ p_store j path delim) × (at j ≡ i)
   was_store (p_store j p d) i path delim h = (j, ap (on j) h, ap input_of h)
   was_store (p_load p d columns) i path delim h = absurd (cc)
   was_store (p_filter input c) i path delim h = absurd (cc)
@@ -67,7 +67,7 @@ module _ (at : ℕ → ℕ) where
   was_store (p_assert input c message) i path delim h = absurd (cc)
   was_store (p_rank input keys dense) i path delim h = absurd (cc)
 
-  was_assert : (o : PlanOp) (i : ℕ) (test : Typed) (message : Option (List ℕ)) → rename at o ≡ p_assert i test message → (j : ℕ) × (o ≡ p_assert j test message) × (at j ≡ i)
+  pub was_assert : (o : PlanOp) (i : ℕ) (test : Typed) (message : Option (List ℕ)) → rename at o ≡ p_assert i test message → (j : ℕ) × (o ≡ p_assert j test message) × (at j ≡ i)
   was_assert (p_assert j c m) i test message h = (j, ap (on j) h, ap input_of h)
   was_assert (p_load p d columns) i test message h = absurd (cc)
   was_assert (p_filter input c) i test message h = absurd (cc)
