@@ -2,15 +2,15 @@ ghost use Rattle.std.specs.Prelude.{◌≡◌, ◌+ℤ◌, [], ◌∷◌, IfOk, 
 ghost use Rattle.std.specs.Int.{int_wrap, w64};
 ghost use Rattle.std.specs.Option.{option_map};
 ghost use Rattle.std.specs.Ordering.{is_gt};
-ghost use Rattle.pig_value.specs.Functions.{column_tree, is_present as is_present_tree, looked_at as looked_at_tree, one_field};
+ghost use Rattle.pig_value.specs.Functions.{column_tree, is_present as is_present_tree};
 ghost use Rattle.pig_value.specs.Orders.{dir_cmp};
 ghost use Rattle.pig_value.specs.Trees.{field_tree, or_null as or_null_tree, row_tree, tree, v_long};
 ghost use Rattle.pig_value.specs.declared.functions.Function.TheVariants.{Sum};
 ghost use Rattle.pig_builtins.specs.Folds.{add_tree, first_of};
 ghost use Rattle.pig_algebra.specs.Parts.{either_part, initial_part, merge_parts, part_found};
 
-use pig_builtins::Fold;
-use pig_value::{Dir, Function, Tuple, Value, field_at, order};
+use pig_builtins::{Fold, looked_at};
+use pig_value::{Dir, Function, Tuple, Value, order};
 use std::alloc::{AllocError, Global};
 use std::cmp::Ordering;
 
@@ -29,28 +29,6 @@ pub fn of_row(alloc: Global, function: Function, row: &Tuple) -> Result<Value, A
     ensures { IfOk result (λ v. tree v ≡ initial_part function (row_tree row.now)) }
 {
     of_one(alloc, function, looked_at(function, row))
-}
-
-// The field of a row that a function looks at.
-fn looked_at(function: Function, row: &Tuple) -> Option<&Value>
-    ensures { field_tree result ≡ looked_at_tree function (row_tree row.now) }
-{
-    match function {
-        Function::Sum | Function::Min | Function::Max => only_field(row),
-        Function::Count
-        | Function::CountStar
-        | Function::Size
-        | Function::Concat
-        | Function::IsEmpty
-        | Function::Tokenize
-        | Function::Substring
-        | Function::StartsWith
-        | Function::EndsWith
-        | Function::IndexOf
-        | Function::Abs
-        | Function::ToTuple
-        | Function::ToBag { .. } => field_at(row, 0),
-    }
 }
 
 // What two parts of a function give together.
@@ -74,16 +52,6 @@ pub fn merged(function: Function, a: Value, b: Value) -> Value
         | Function::Abs
         | Function::ToTuple
         | Function::ToBag { .. } => added(a, b),
-    }
-}
-
-// The one field of a row.
-fn only_field(row: &Tuple) -> Option<&Value>
-    ensures { field_tree result ≡ one_field (row_tree row.now) }
-{
-    match row.as_slice() {
-        [value] => Some(value),
-        _ => None,
     }
 }
 

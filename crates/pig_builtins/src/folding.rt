@@ -170,8 +170,9 @@ fn better<'a>(dir: Dir, a: Option<&'a Value>, b: Option<&'a Value>) -> Option<&'
     }
 }
 
-// The field of a row that the function looks at.
-fn looked_at(function: Function, row: &Tuple) -> Option<&Value>
+/// The field that a function of a bag looks at in each row: of SUM, MIN and MAX the only one, where there is one alone, of
+/// any other function the first.
+pub fn looked_at(function: Function, row: &Tuple) -> Option<&Value>
     ensures { field_tree result ≡ looked_at_of function (map tree row.now) }
 {
     match function {

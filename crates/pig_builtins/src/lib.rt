@@ -10,5 +10,5 @@ mod texts;
 mod tokens;
 
 pub use applying::{apply, apply_one, apply_three, apply_two, is_variadic};
-pub use folding::{Fold, apply_column, apply_rows};
+pub use folding::{Fold, apply_column, apply_rows, looked_at};
 pub use laws::{column_laws, function_laws};
