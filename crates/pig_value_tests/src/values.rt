@@ -2,9 +2,9 @@
 //! so its proof is short.
 // Trees end by `drop`: one call is cheap to prove, and a tree that dies by name is taken apart variant by variant.
 use pig_value::{
-    Blob, Boxed, Function, Kind, Kinds, Pair, Pairs, Rows, Seq, Text, Tuple, Value, bag, casts_to,
-    copy, copy_kind, copy_kinds, copy_row, field_at, holds_bag_or_map, is_of, kind_depth,
-    kind_width, order, order_rows, same, same_kind,
+    Blob, Boxed, Function, Kind, Pair, Rows, Seq, Text, Tuple, Value, bag, casts_to, copy,
+    copy_kind, copy_kinds, copy_row, field_at, holds_bag_or_map, is_of, kind_depth, kind_width,
+    order, order_rows, same, same_kind,
 };
 use std::alloc::Global;
 use std::cmp::Ordering;
@@ -13,6 +13,13 @@ use std::process::Abort;
 // Adds to a list.
 fn push<R: Abort, T: Drop>(rt: &R, list: &mut Seq<T>, item: T) {
     list.push(item).expect(rt, "memory");
+}
+
+// A list of one.
+fn one<R: Abort, T: Drop>(rt: &R, alloc: Global, item: T) -> Seq<T> {
+    let mut list = Seq::new(alloc);
+    push(rt, &mut list, item);
+    list
 }
 
 fn chars<R: Abort>(rt: &R, alloc: Global, text: &str) -> Value {
@@ -31,7 +38,7 @@ fn ints<R: Abort>(rt: &R, alloc: Global, numbers: &[i32]) -> Tuple {
 fn rows<R: Abort>(rt: &R, alloc: Global, numbers: &[i32]) -> Rows {
     let mut rows = Seq::new(alloc);
     for number in numbers {
-        push(rt, &mut rows, ints(rt, alloc, &[*number]));
+        push(rt, &mut rows, one(rt, alloc, Value::Int(*number)));
     }
     rows
 }
@@ -40,29 +47,20 @@ fn bytes<R: Abort>(rt: &R, alloc: Global, bytes: &[u8]) -> Value {
     Value::Bytes(Blob::from_slice(alloc, bytes).expect(rt, "memory"))
 }
 
-fn pair<R: Abort>(rt: &R, alloc: Global, key: &str, number: i32) -> Pair {
-    let key = Text::from_str(alloc, key).expect(rt, "memory");
-    let value = Value::Int(number);
-    Pair { key, value }
-}
-
-// An entry alone.
-fn one_pair<R: Abort>(rt: &R, alloc: Global, key: &str, number: i32) -> Pairs {
+fn map<R: Abort>(rt: &R, alloc: Global, entries: &[(&str, i32)]) -> Value {
     let mut pairs = Seq::new(alloc);
-    push(rt, &mut pairs, pair(rt, alloc, key, number));
-    pairs
-}
-
-fn two_pairs<R: Abort>(rt: &R, alloc: Global) -> Pairs {
-    let mut pairs = one_pair(rt, alloc, "a", 1);
-    push(rt, &mut pairs, pair(rt, alloc, "b", 0));
-    pairs
+    for (key, number) in entries {
+        let key = Text::from_str(alloc, key).expect(rt, "memory");
+        let value = Value::Int(*number);
+        push(rt, &mut pairs, Pair { key, value });
+    }
+    Value::Map(pairs)
 }
 
 /// The number of values below.
 const VALUES: usize = 24;
 
-// The values in ascending order: first those that hold no others.
+// The values in ascending order.
 fn value<R: Abort>(rt: &R, alloc: Global, at: usize) -> Value {
     match at {
         0 => Value::Null,
@@ -77,44 +75,19 @@ fn value<R: Abort>(rt: &R, alloc: Global, at: usize) -> Value {
         9 => chars(rt, alloc, "b"),
         10 => bytes(rt, alloc, b"a"),
         11 => bytes(rt, alloc, b"\xff"),
-        _ => nested(rt, alloc, at),
-    }
-}
-
-fn bag_in_a_tuple<R: Abort>(rt: &R, alloc: Global) -> Value {
-    let mut row = Seq::new(alloc);
-    push(rt, &mut row, Value::Bag(rows(rt, alloc, &[1])));
-    Value::Tuple(row)
-}
-
-fn nested<R: Abort>(rt: &R, alloc: Global, at: usize) -> Value {
-    match at {
         12 => Value::Tuple(Seq::new(alloc)),
         13 => Value::Tuple(ints(rt, alloc, &[1])),
         14 => Value::Tuple(ints(rt, alloc, &[1, 0])),
-        15 => bag_in_a_tuple(rt, alloc),
+        15 => Value::Tuple(one(rt, alloc, Value::Bag(rows(rt, alloc, &[1])))),
         16 => Value::Bag(Seq::new(alloc)),
         17 => Value::Bag(rows(rt, alloc, &[1])),
         18 => Value::Bag(rows(rt, alloc, &[1, 1])),
         19 => Value::Listed(Seq::new(alloc)),
         20 => Value::Listed(rows(rt, alloc, &[2, 1])),
-        21 => Value::Map(Seq::new(alloc)),
-        22 => Value::Map(two_pairs(rt, alloc)),
-        _ => Value::Map(one_pair(rt, alloc, "a", 2)),
+        21 => map(rt, alloc, &[]),
+        22 => map(rt, alloc, &[("a", 1), ("b", 0)]),
+        _ => map(rt, alloc, &[("a", 2)]),
     }
-}
-
-// A tuple of a bag of ints and a map of ints.
-fn deep_kind<R: Abort>(rt: &R, alloc: Global) -> Kind {
-    let mut kinds = one_kind(rt, alloc, kind(rt, alloc, b'g'));
-    push(rt, &mut kinds, kind(rt, alloc, b'm'));
-    Kind::Tuple(copy_kinds(alloc, kinds.as_slice()).expect(rt, "memory"))
-}
-
-fn one_kind<R: Abort>(rt: &R, alloc: Global, kind: Kind) -> Kinds {
-    let mut kinds = Seq::new(alloc);
-    push(rt, &mut kinds, kind);
-    kinds
 }
 
 // The kind that a letter stands for; tuples, bags and maps are of ints.
@@ -125,27 +98,30 @@ fn kind<R: Abort>(rt: &R, alloc: Global, letter: u8) -> Kind {
         b'l' => Kind::Long,
         b'c' => Kind::Chararray,
         b'y' => Kind::Bytearray,
-        b't' => Kind::Tuple(one_kind(rt, alloc, Kind::Int)),
-        b'g' => Kind::Bag(one_kind(rt, alloc, Kind::Int)),
+        b't' => Kind::Tuple(one(rt, alloc, Kind::Int)),
+        b'g' => Kind::Bag(one(rt, alloc, Kind::Int)),
         _ => Kind::Map(Boxed::new(alloc, Kind::Int).expect(rt, "memory")),
     }
 }
 
-// Whether a value stands so to another, and whether they are the same only where they are equal.
-fn stand(a: &Value, b: &Value, wanted: Ordering) -> bool {
-    order(a, b) == wanted && same(a, b) == (wanted == Ordering::Equal)
+// A tuple of a bag of ints and a map of ints.
+fn deep_kind<R: Abort>(rt: &R, alloc: Global) -> Kind {
+    let mut kinds = one(rt, alloc, kind(rt, alloc, b'g'));
+    push(rt, &mut kinds, kind(rt, alloc, b'm'));
+    Kind::Tuple(copy_kinds(alloc, kinds.as_slice()).expect(rt, "memory"))
 }
 
-// Whether a copy of a value stands to another as their places do.
+// Whether a copy of a value stands to another as their places do, and is the same only at its own place.
 fn values_stand<R: Abort>(rt: &R, alloc: Global, i: usize, j: usize) -> bool {
     let given = value(rt, alloc, i);
     let a = copy(alloc, &given).expect(rt, "memory");
     let b = value(rt, alloc, j);
-    let holds = stand(&a, &b, i.cmp(&j));
+    let ordered = order(&a, &b) == i.cmp(&j);
+    let are_same = same(&a, &b);
     drop(given);
     drop(a);
     drop(b);
-    holds
+    ordered && are_same == (i == j)
 }
 
 #[test]
@@ -160,21 +136,17 @@ fn values_ascend(rt: HostRuntime) {
     }
 }
 
-// The kinds that each value is of, by their letters.
-fn kinds_of(at: usize) -> &'static [u8] {
-    match at {
-        0 => b"bilcytgm",
-        1 | 2 => b"b",
-        3 | 4 => b"i",
-        5 | 6 => b"l",
-        7 | 8 | 9 => b"c",
-        10 | 11 => b"y",
-        13 => b"t",
-        16 | 17 | 18 | 19 | 20 => b"g",
-        21 | 22 | 23 => b"m",
-        _ => b"",
-    }
-}
+/// Each kind by its letter, with the first and the last value that are of it beside null.
+const KINDS: [(u8, usize, usize); 8] = [
+    (b'b', 1, 2),
+    (b'i', 3, 4),
+    (b'l', 5, 6),
+    (b'c', 7, 9),
+    (b'y', 10, 11),
+    (b't', 13, 13),
+    (b'g', 16, 20),
+    (b'm', 21, 23),
+];
 
 // Whether a value is of a kind.
 fn value_is_of<R: Abort>(rt: &R, alloc: Global, at: usize, letter: u8) -> bool {
@@ -188,71 +160,66 @@ fn value_is_of<R: Abort>(rt: &R, alloc: Global, at: usize, letter: u8) -> bool {
 
 #[test]
 fn kinds_of_values(rt: HostRuntime) {
-    for i in 0..VALUES {
-        for letter in b"bilcytgm" {
-            let is = kinds_of(i).contains(letter);
+    for (letter, first, last) in &KINDS {
+        for at in 0..VALUES {
+            let is = at == 0 || (*first <= at && at <= *last);
             assert!(rt;
-                value_is_of(&rt, rt.alloc(), i, *letter) == is,
-                "value {i}, kind {letter}"
+                value_is_of(&rt, rt.alloc(), at, *letter) == is,
+                "value {at}, kind {letter}"
             );
         }
     }
 }
 
-// Whether a copy of a kind is the same as another.
-fn kinds_are_same<R: Abort>(rt: &R, alloc: Global, a: u8, b: u8) -> bool {
+/// Each kind by its letter, with those that it casts to.
+const CASTS: [(u8, &str); 8] = [
+    (b'b', "bc"),
+    (b'i', "ilc"),
+    (b'l', "ilc"),
+    (b'c', "bilc"),
+    (b'y', "bilcytgm"),
+    (b't', "t"),
+    (b'g', "g"),
+    (b'm', "m"),
+];
+
+// Whether a copy of a kind is the same as another where their letters are, and whether it casts to it as it should.
+fn kinds_stand<R: Abort>(rt: &R, alloc: Global, a: u8, b: u8, cast: bool) -> bool {
     let given = kind(rt, alloc, a);
     let copied = copy_kind(alloc, &given).expect(rt, "memory");
     let other = kind(rt, alloc, b);
-    let are = same_kind(&copied, &other);
+    let are_same = same_kind(&copied, &other);
+    let casts = casts_to(&copied, &other);
     drop(given);
     drop(copied);
     drop(other);
-    are
+    are_same == (a == b) && casts == cast
 }
 
 #[test]
-fn kinds_differ(rt: HostRuntime) {
-    for a in b"bilcytgm" {
-        for b in b"bilcytgm" {
+fn kinds_differ_and_cast(rt: HostRuntime) {
+    for (a, casts) in &CASTS {
+        for (b, _) in &CASTS {
             assert!(rt;
-                kinds_are_same(&rt, rt.alloc(), *a, *b) == (a == b),
+                kinds_stand(&rt, rt.alloc(), *a, *b, casts.as_bytes().contains(b)),
                 "kind {a} and {b}"
             );
         }
     }
 }
 
-// Whether a copy of a row is this one.
-fn is_row<R: Abort>(rt: &R, alloc: Global, row: &Tuple, expected: &Tuple) -> bool {
-    let copied = copy_row(alloc, row).expect(rt, "memory");
-    order_rows(&copied, expected) == Ordering::Equal
+// Whether a value is this one.
+fn is(found: Value, expected: Value) -> bool {
+    let is = same(&found, &expected);
+    drop(found);
+    drop(expected);
+    is
 }
 
-// Whether copies of rows are these, in the same order.
-fn are_rows<R: Abort>(rt: &R, alloc: Global, found: &Rows, expected: &Rows) -> bool {
-    for (a, b) in found.as_slice().iter().zip(expected.as_slice()) {
-        if !is_row(rt, alloc, a, b) {
-            return false;
-        }
-    }
-    found.len() == expected.len()
-}
-
-// Whether rows of one number each make a bag of these.
+// Whether rows of one number each make a bag that holds these in the same order.
 fn sorts<R: Abort>(rt: &R, alloc: Global, before: &[i32], after: &[i32]) -> bool {
     let sorted = bag(rows(rt, alloc, before));
-    let expected = rows(rt, alloc, after);
-    are_rows(rt, alloc, &sorted, &expected)
-}
-
-#[test]
-fn bags_are_sorted(rt: HostRuntime) {
-    let alloc = rt.alloc();
-    assert!(rt; sorts(&rt, alloc, &[], &[]));
-    assert!(rt; sorts(&rt, alloc, &[7], &[7]));
-    assert!(rt; sorts(&rt, alloc, &[2, 2, 2], &[2, 2, 2]));
-    assert!(rt; sorts(&rt, alloc, &[3, -1, 2, -1, 3], &[-1, -1, 2, 3, 3]));
+    is(Value::Listed(sorted), Value::Listed(rows(rt, alloc, after)))
 }
 
 /// More rows than are sorted one by another at once.
@@ -277,80 +244,25 @@ fn grown_text<R: Abort>(rt: &R, alloc: Global, number: u16) -> Value {
     Value::Chars(Text::from_string(text))
 }
 
-fn grown_row<R: Abort>(rt: &R, alloc: Global, form: u8, number: u16) -> Tuple {
-    let mut row = Seq::new(alloc);
-    push(rt, &mut row, Value::Int(1));
-    push(rt, &mut row, grown(rt, alloc, form, number));
-    row
-}
-
-// Rows of each number once, in no order.
-fn mixed<R: Abort>(rt: &R, alloc: Global, form: u8) -> Rows {
+// Rows of each number once, by a step that has no divisor in common with their count.
+fn many<R: Abort>(rt: &R, alloc: Global, form: u8, step: u16) -> Rows {
     let mut rows = Seq::new(alloc);
     for place in 0..MANY {
-        // 7 and 300 have no divisor in common.
-        let number = place.wrapping_mul(7) % MANY;
-        push(rt, &mut rows, grown_row(rt, alloc, form, number));
+        let number = place.wrapping_mul(step) % MANY;
+        let mut row = one(rt, alloc, Value::Int(1));
+        push(rt, &mut row, grown(rt, alloc, form, number));
+        push(rt, &mut rows, row);
     }
     rows
 }
 
-// Whether a row stands at the place of its number.
-fn stands<R: Abort>(rt: &R, alloc: Global, rows: &Rows, form: u8, number: u16) -> bool {
-    let expected = grown_row(rt, alloc, form, number);
-    match rows.get(usize::from(number)) {
-        Some(row) => order_rows(row, &expected) == Ordering::Equal,
-        None => false,
-    }
-}
-
-#[test]
-fn long_bags_are_sorted(rt: HostRuntime) {
-    for form in b"ilyc" {
-        let sorted = bag(mixed(&rt, rt.alloc(), *form));
-        for number in 0..MANY {
-            assert!(rt;
-                stands(&rt, rt.alloc(), &sorted, *form, number),
-                "form {form}, number {number}"
-            );
-        }
-    }
-}
-
-// The kinds that each kind casts to.
-fn casts_of(letter: u8) -> &'static [u8] {
-    match letter {
-        b'b' => b"bc",
-        b'i' | b'l' => b"ilc",
-        b'c' => b"bilc",
-        b'y' => b"bilcytgm",
-        b't' => b"t",
-        b'g' => b"g",
-        _ => b"m",
-    }
-}
-
-// Whether a kind casts to another.
-fn kind_casts<R: Abort>(rt: &R, alloc: Global, from: u8, to: u8) -> bool {
-    let kind_from = kind(rt, alloc, from);
-    let kind_to = kind(rt, alloc, to);
-    let casts = casts_to(&kind_from, &kind_to);
-    drop(kind_from);
-    drop(kind_to);
-    casts
-}
-
-#[test]
-fn kinds_cast(rt: HostRuntime) {
-    for from in b"bilcytgm" {
-        for to in b"bilcytgm" {
-            let is = casts_of(*from).contains(to);
-            assert!(rt;
-                kind_casts(&rt, rt.alloc(), *from, *to) == is,
-                "kind {from} to {to}"
-            );
-        }
-    }
+// Whether many rows in no order make a bag that has them by their numbers.
+fn sorts_many<R: Abort>(rt: &R, alloc: Global, form: u8) -> bool {
+    let sorted = bag(many(rt, alloc, form, 7));
+    is(
+        Value::Listed(sorted),
+        Value::Listed(many(rt, alloc, form, 1)),
+    )
 }
 
 // Whether a kind has this width and depth, and whether it holds a bag or a map.
@@ -362,49 +274,26 @@ fn measures(kind: Kind, width: usize, depth: usize, holds: bool) -> bool {
     wide && deep && held
 }
 
-#[test]
-fn kinds_are_measured(rt: HostRuntime) {
-    let alloc = rt.alloc();
-    assert!(rt; measures(Kind::Int, 1, 1, false));
-    assert!(rt; measures(kind(&rt, alloc, b't'), 2, 2, false));
-    assert!(rt; measures(kind(&rt, alloc, b'g'), 2, 2, true));
-    assert!(rt; measures(kind(&rt, alloc, b'm'), 2, 2, true));
-    assert!(rt; measures(deep_kind(&rt, alloc), 5, 3, true));
-}
-
-// Whether a value is this one.
-fn is_same(found: &Value, expected: Value) -> bool {
-    let is = same(found, &expected);
-    drop(expected);
-    is
-}
-
-// Whether a field is this int.
-fn is_int(row: &Tuple, place: u32, number: i32) -> bool {
-    match field_at(row, place) {
-        Some(found) => is_same(found, Value::Int(number)),
-        None => false,
-    }
-}
-
-// A list of three ints, of which two were added together.
+// A list to which two were added.
 fn grown_list<R: Abort>(rt: &R, alloc: Global) -> Tuple {
     let mut row = Seq::with_capacity(alloc, 2).expect(rt, "memory");
     push(rt, &mut row, Value::Int(7));
-    let more = ints(rt, alloc, &[8, 9]);
-    row.extend(more).expect(rt, "memory");
+    row.extend(ints(rt, alloc, &[8, 9])).expect(rt, "memory");
     row
 }
 
-#[test]
-fn lists_grow(rt: HostRuntime) {
-    let row = grown_list(&rt, rt.alloc());
-    assert!(rt; row.len() == 3, "pushed and extended");
-    assert!(rt; is_int(&row, 0, 7) && is_int(&row, 1, 8) && is_int(&row, 2, 9));
-    assert!(rt; field_at(&row, 3).is_none(), "no field");
+// Whether a row copies as this one, and has no field behind it.
+fn copies<R: Abort>(rt: &R, alloc: Global, row: Tuple, expected: Tuple) -> bool {
+    let copied = copy_row(alloc, &row).expect(rt, "memory");
+    let ordered = order_rows(&copied, &expected);
+    let ends = field_at(&row, 3).is_none();
+    drop(row);
+    drop(copied);
+    drop(expected);
+    ends && ordered == Ordering::Equal
 }
 
-// Three bytes, of which two were added together.
+// Bytes to which two were added.
 fn grown_bytes<R: Abort>(rt: &R, alloc: Global) -> Blob {
     let mut bytes = Blob::new(alloc);
     bytes.push(1).expect(rt, "memory");
@@ -412,20 +301,78 @@ fn grown_bytes<R: Abort>(rt: &R, alloc: Global) -> Blob {
     bytes
 }
 
-// Whether a copy of bytes is these.
-fn are_bytes<R: Abort>(rt: &R, alloc: Global, bytes: &Blob, expected: &[u8]) -> bool {
-    let copied = bytes.copy(alloc).expect(rt, "memory");
-    copied.as_slice() == expected
+// Whether bytes copy as these, and have none behind them.
+fn copies_bytes<R: Abort>(rt: &R, alloc: Global, found: Blob, expected: &[u8]) -> bool {
+    let copied = found.copy(alloc).expect(rt, "memory");
+    let last = found.get(2);
+    let behind = found.get(3);
+    let are = copied.as_slice() == expected;
+    drop(found);
+    drop(copied);
+    are && last == Some(255) && behind == None
+}
+
+/// The number of rows below.
+const ROWS: usize = 15;
+
+// Whether a row holds: bags of few and of many rows, kinds measured, lists and bytes that grow.
+fn holds<R: Abort>(rt: &R, alloc: Global, at: usize) -> bool {
+    match at {
+        0 => sorts(rt, alloc, &[], &[]),
+        1 => sorts(rt, alloc, &[7], &[7]),
+        2 => sorts(rt, alloc, &[2, 2, 2], &[2, 2, 2]),
+        3 => sorts(rt, alloc, &[3, -1, 2, -1, 3], &[-1, -1, 2, 3, 3]),
+        4 => sorts_many(rt, alloc, b'i'),
+        5 => sorts_many(rt, alloc, b'l'),
+        6 => sorts_many(rt, alloc, b'y'),
+        7 => sorts_many(rt, alloc, b'c'),
+        8 => measures(Kind::Int, 1, 1, false),
+        9 => measures(kind(rt, alloc, b't'), 2, 2, false),
+        10 => measures(kind(rt, alloc, b'g'), 2, 2, true),
+        11 => measures(kind(rt, alloc, b'm'), 2, 2, true),
+        12 => measures(deep_kind(rt, alloc), 5, 3, true),
+        13 => copies(
+            rt,
+            alloc,
+            grown_list(rt, alloc),
+            ints(rt, alloc, &[7, 8, 9]),
+        ),
+        _ => copies_bytes(rt, alloc, grown_bytes(rt, alloc), &[1, 2, 255]),
+    }
 }
 
 #[test]
-fn bytes_grow(rt: HostRuntime) {
-    let bytes = grown_bytes(&rt, rt.alloc());
-    assert!(rt; are_bytes(&rt, rt.alloc(), &bytes, &[1, 2, 255]), "bytes");
-    assert!(rt; bytes.get(2) == Some(255) && bytes.get(3).is_none());
+fn rows_hold(rt: HostRuntime) {
+    for at in 0..ROWS {
+        assert!(rt; holds(&rt, rt.alloc(), at), "row {at}");
+    }
 }
 
-// Whether a function has this name.
+/// Each function by its name, and names of none.
+const NAMES: [(&str, bool); 20] = [
+    ("COUNT", true),
+    ("COUNT_STAR", true),
+    ("SUM", true),
+    ("MIN", true),
+    ("MAX", true),
+    ("SIZE", true),
+    ("CONCAT", true),
+    ("IsEmpty", true),
+    ("TOKENIZE", true),
+    ("SUBSTRING", true),
+    ("STARTSWITH", true),
+    ("ENDSWITH", true),
+    ("INDEXOF", true),
+    ("ABS", true),
+    ("TOTUPLE", true),
+    ("TOBAG", true),
+    ("AVG", false),
+    ("count", false),
+    ("ISEMPTY", false),
+    ("", false),
+];
+
+// Whether a function has this name and gives it back.
 fn is_function(name: &str) -> bool {
     match Function::named(name) {
         Some(found) => found.name() == name,
@@ -435,12 +382,7 @@ fn is_function(name: &str) -> bool {
 
 #[test]
 fn functions_have_names(rt: HostRuntime) {
-    let names = "COUNT COUNT_STAR SUM MIN MAX SIZE CONCAT IsEmpty TOKENIZE SUBSTRING STARTSWITH \
-                 ENDSWITH INDEXOF ABS TOTUPLE TOBAG";
-    for name in names.split_ascii_whitespace() {
-        assert!(rt; is_function(name), "{name}");
-    }
-    for other in ["AVG", "count", "ISEMPTY", ""] {
-        assert!(rt; Function::named(other).is_none(), "{other}");
+    for (name, is) in &NAMES {
+        assert!(rt; is_function(name) == *is, "{name}");
     }
 }
