@@ -282,15 +282,29 @@ fn grown_list<R: Abort>(rt: &R, alloc: Global) -> Tuple {
     row
 }
 
-// Whether a row copies as this one, and has no field behind it.
+// Whether a field is this int.
+fn is_int(row: &Tuple, place: u32, number: i32) -> bool {
+    match field_at(row, place) {
+        Some(found) => order(found, &Value::Int(number)) == Ordering::Equal,
+        None => false,
+    }
+}
+
+// Whether a row has these three fields, and no fourth.
+fn has_three(row: &Tuple) -> bool {
+    let has = is_int(row, 0, 7) && is_int(row, 1, 8) && is_int(row, 2, 9);
+    has && row.len() == 3 && field_at(row, 3).is_none()
+}
+
+// Whether the row of three copies as this one.
 fn copies<R: Abort>(rt: &R, alloc: Global, row: Tuple, expected: Tuple) -> bool {
     let copied = copy_row(alloc, &row).expect(rt, "memory");
     let ordered = order_rows(&copied, &expected);
-    let ends = field_at(&row, 3).is_none();
+    let whole = has_three(&row);
     drop(row);
     drop(copied);
     drop(expected);
-    ends && ordered == Ordering::Equal
+    whole && ordered == Ordering::Equal
 }
 
 // Bytes to which two were added.
