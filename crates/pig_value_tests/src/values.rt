@@ -293,7 +293,7 @@ fn is_int(row: &Tuple, place: u32, number: i32) -> bool {
 // Whether a row has these three fields, and no fourth.
 fn has_three(row: &Tuple) -> bool {
     let has = is_int(row, 0, 7) && is_int(row, 1, 8) && is_int(row, 2, 9);
-    has && row.len() == 3 && field_at(row, 3).is_none()
+    has && row.len() == 3 && row.get(2).is_some() && field_at(row, 3).is_none()
 }
 
 // Whether the row of three copies as this one.
