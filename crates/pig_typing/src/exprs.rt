@@ -92,7 +92,8 @@ impl<'a, F: Fn(Global, &'a Expr, &'a Scope<'a>) -> Result<Typing<'a>, TypeFault>
 
     fn typing(&self, e: &'a Expr) -> Result<Typing<'a>, TypeFault>
         requires { TypesInside e.now (F.pre self.now.typing) (F.post self.now.typing) }
-        ensures { Tells typing_tree (type_of (place_of self.now.scope.now) (expr_form e.now)) result }
+        ensures { Tells typing_tree (type_of (place_of self.now.scope.now)
+            (expr_form e.now)) result }
     {
         (self.typing)(self.alloc, e, self.scope)
     }
