@@ -34,6 +34,13 @@ fn ints<R: Abort>(rt: &R, alloc: Global, numbers: &[i32]) -> Tuple {
     row
 }
 
+// A list of two.
+fn two<R: Abort, T: Drop>(rt: &R, alloc: Global, first: T, second: T) -> Seq<T> {
+    let mut list = one(rt, alloc, first);
+    push(rt, &mut list, second);
+    list
+}
+
 // Rows of one field each.
 fn rows<R: Abort>(rt: &R, alloc: Global, numbers: &[i32]) -> Rows {
     let mut rows = Seq::new(alloc);
@@ -47,14 +54,11 @@ fn bytes<R: Abort>(rt: &R, alloc: Global, bytes: &[u8]) -> Value {
     Value::Bytes(Blob::from_slice(alloc, bytes).expect(rt, "memory"))
 }
 
-fn map<R: Abort>(rt: &R, alloc: Global, entries: &[(&str, i32)]) -> Value {
-    let mut pairs = Seq::new(alloc);
-    for (key, number) in entries {
-        let key = Text::from_str(alloc, key).expect(rt, "memory");
-        let value = Value::Int(*number);
-        push(rt, &mut pairs, Pair { key, value });
+fn pair<R: Abort>(rt: &R, alloc: Global, key: &str, number: i32) -> Pair {
+    Pair {
+        key: Text::from_str(alloc, key).expect(rt, "memory"),
+        value: Value::Int(number),
     }
-    Value::Map(pairs)
 }
 
 /// The number of values below.
@@ -84,9 +88,9 @@ fn value<R: Abort>(rt: &R, alloc: Global, at: usize) -> Value {
         18 => Value::Bag(rows(rt, alloc, &[1, 1])),
         19 => Value::Listed(Seq::new(alloc)),
         20 => Value::Listed(rows(rt, alloc, &[2, 1])),
-        21 => map(rt, alloc, &[]),
-        22 => map(rt, alloc, &[("a", 1), ("b", 0)]),
-        _ => map(rt, alloc, &[("a", 2)]),
+        21 => Value::Map(Seq::new(alloc)),
+        22 => Value::Map(two(rt, alloc, pair(rt, alloc, "a", 1), pair(rt, alloc, "b", 0))),
+        _ => Value::Map(one(rt, alloc, pair(rt, alloc, "a", 2))),
     }
 }
 
@@ -106,9 +110,29 @@ fn kind<R: Abort>(rt: &R, alloc: Global, letter: u8) -> Kind {
 
 // A tuple of a bag of ints and a map of ints.
 fn deep_kind<R: Abort>(rt: &R, alloc: Global) -> Kind {
-    let mut kinds = one(rt, alloc, kind(rt, alloc, b'g'));
-    push(rt, &mut kinds, kind(rt, alloc, b'm'));
+    let kinds = two(rt, alloc, kind(rt, alloc, b'g'), kind(rt, alloc, b'm'));
     Kind::Tuple(copy_kinds(alloc, kinds.as_slice()).expect(rt, "memory"))
+}
+
+/// The kind of each value by its letter; null is of every kind, and the tuples at a dash are of none of these.
+const LETTERS: &[u8; VALUES] = b"*bbiillcccyy-t--gggggmmm";
+
+fn letter(at: usize) -> u8 {
+    match LETTERS.get(at) {
+        Some(letter) => *letter,
+        None => b'-',
+    }
+}
+
+// Whether a kind casts to another, by their letters.
+fn casts(from: u8, to: u8) -> bool {
+    match from {
+        b'y' => true,
+        b'b' => to == b'b' || to == b'c',
+        b'i' | b'l' => to == b'i' || to == b'l' || to == b'c',
+        b'c' => to == b'b' || to == b'i' || to == b'l' || to == b'c',
+        _ => to == from,
+    }
 }
 
 // Whether a copy of a value stands to another as their places do, and is the same only at its own place.
@@ -124,86 +148,48 @@ fn values_stand<R: Abort>(rt: &R, alloc: Global, i: usize, j: usize) -> bool {
     ordered && are_same == (i == j)
 }
 
-#[test]
-fn values_ascend(rt: HostRuntime) {
-    for i in 0..VALUES {
-        for j in 0..VALUES {
-            assert!(rt;
-                values_stand(&rt, rt.alloc(), i, j),
-                "value {i} against {j}"
-            );
-        }
-    }
-}
-
-/// Each kind by its letter, with the first and the last value that are of it beside null.
-const KINDS: [(u8, usize, usize); 8] = [
-    (b'b', 1, 2),
-    (b'i', 3, 4),
-    (b'l', 5, 6),
-    (b'c', 7, 9),
-    (b'y', 10, 11),
-    (b't', 13, 13),
-    (b'g', 16, 20),
-    (b'm', 21, 23),
-];
-
-// Whether a value is of a kind.
-fn value_is_of<R: Abort>(rt: &R, alloc: Global, at: usize, letter: u8) -> bool {
+// Whether a value is of a kind where its letter says so.
+fn value_is_of<R: Abort>(rt: &R, alloc: Global, at: usize, of: u8) -> bool {
     let given = value(rt, alloc, at);
-    let kind = kind(rt, alloc, letter);
+    let kind = kind(rt, alloc, of);
     let is = is_of(&given, &kind);
     drop(given);
     drop(kind);
-    is
+    is == (at == 0 || letter(at) == of)
 }
 
-#[test]
-fn kinds_of_values(rt: HostRuntime) {
-    for (letter, first, last) in &KINDS {
-        for at in 0..VALUES {
-            let is = at == 0 || (*first <= at && at <= *last);
-            assert!(rt;
-                value_is_of(&rt, rt.alloc(), at, *letter) == is,
-                "value {at}, kind {letter}"
-            );
-        }
-    }
-}
-
-/// Each kind by its letter, with those that it casts to.
-const CASTS: [(u8, &str); 8] = [
-    (b'b', "bc"),
-    (b'i', "ilc"),
-    (b'l', "ilc"),
-    (b'c', "bilc"),
-    (b'y', "bilcytgm"),
-    (b't', "t"),
-    (b'g', "g"),
-    (b'm', "m"),
-];
-
-// Whether a copy of a kind is the same as another where their letters are, and whether it casts to it as it should.
-fn kinds_stand<R: Abort>(rt: &R, alloc: Global, a: u8, b: u8, cast: bool) -> bool {
+// Whether a copy of a kind is the same as another where their letters are, and casts to it where it should.
+fn kinds_stand<R: Abort>(rt: &R, alloc: Global, a: u8, b: u8) -> bool {
     let given = kind(rt, alloc, a);
     let copied = copy_kind(alloc, &given).expect(rt, "memory");
     let other = kind(rt, alloc, b);
     let are_same = same_kind(&copied, &other);
-    let casts = casts_to(&copied, &other);
+    let cast = casts_to(&copied, &other);
     drop(given);
     drop(copied);
     drop(other);
-    are_same == (a == b) && casts == cast
+    are_same == (a == b) && cast == casts(a, b)
+}
+
+// Whether a letter is that of a kind.
+fn is_kind(letter: u8) -> bool {
+    letter != b'*' && letter != b'-'
+}
+
+// Whether a value and its kind stand to another value and its kind as they should.
+fn pair_stands<R: Abort>(rt: &R, alloc: Global, i: usize, j: usize) -> bool {
+    let a = letter(i);
+    let b = letter(j);
+    values_stand(rt, alloc, i, j)
+        && (!is_kind(b) || value_is_of(rt, alloc, i, b))
+        && (!is_kind(a) || !is_kind(b) || kinds_stand(rt, alloc, a, b))
 }
 
 #[test]
-fn kinds_differ_and_cast(rt: HostRuntime) {
-    for (a, casts) in &CASTS {
-        for (b, _) in &CASTS {
-            assert!(rt;
-                kinds_stand(&rt, rt.alloc(), *a, *b, casts.as_bytes().contains(b)),
-                "kind {a} and {b}"
-            );
+fn values_and_kinds_stand(rt: HostRuntime) {
+    for i in 0..VALUES {
+        for j in 0..VALUES {
+            assert!(rt; pair_stands(&rt, rt.alloc(), i, j), "value {i} against {j}");
         }
     }
 }
@@ -249,8 +235,7 @@ fn many<R: Abort>(rt: &R, alloc: Global, form: u8, step: u16) -> Rows {
     let mut rows = Seq::new(alloc);
     for place in 0..MANY {
         let number = place.wrapping_mul(step) % MANY;
-        let mut row = one(rt, alloc, Value::Int(1));
-        push(rt, &mut row, grown(rt, alloc, form, number));
+        let row = two(rt, alloc, Value::Int(1), grown(rt, alloc, form, number));
         push(rt, &mut rows, row);
     }
     rows
@@ -290,21 +275,15 @@ fn is_int(row: &Tuple, place: u32, number: i32) -> bool {
     }
 }
 
-// Whether a row has these three fields, and no fourth.
-fn has_three(row: &Tuple) -> bool {
-    let has = is_int(row, 0, 7) && is_int(row, 1, 8) && is_int(row, 2, 9);
-    has && row.len() == 3 && row.get(2).is_some() && field_at(row, 3).is_none()
-}
-
-// Whether the row of three copies as this one.
+// Whether the row of 7, 8 and 9 copies as this one, has its fields at their places, and none behind them.
 fn copies<R: Abort>(rt: &R, alloc: Global, row: Tuple, expected: Tuple) -> bool {
     let copied = copy_row(alloc, &row).expect(rt, "memory");
     let ordered = order_rows(&copied, &expected);
-    let whole = has_three(&row);
+    let whole = is_int(&row, 1, 8) && row.len() == 3 && field_at(&row, 3).is_none();
     drop(row);
     drop(copied);
     drop(expected);
-    whole && ordered == Ordering::Equal
+    ordered == Ordering::Equal && whole
 }
 
 // Bytes to which two were added.
@@ -326,10 +305,18 @@ fn copies_bytes<R: Abort>(rt: &R, alloc: Global, found: Blob, expected: &[u8]) -
     are && last == Some(255) && behind == None
 }
 
-/// The number of rows below.
-const ROWS: usize = 15;
+// Whether a function has this name and gives it back.
+fn is_function(name: &str) -> bool {
+    match Function::named(name) {
+        Some(found) => found.name() == name,
+        None => false,
+    }
+}
 
-// Whether a row holds: bags of few and of many rows, kinds measured, lists and bytes that grow.
+/// The number of rows below.
+const ROWS: usize = 19;
+
+// Whether a row holds: bags of few and of many rows, kinds measured, lists and bytes that grow, names of no function.
 fn holds<R: Abort>(rt: &R, alloc: Global, at: usize) -> bool {
     match at {
         0 => sorts(rt, alloc, &[], &[]),
@@ -351,7 +338,11 @@ fn holds<R: Abort>(rt: &R, alloc: Global, at: usize) -> bool {
             grown_list(rt, alloc),
             ints(rt, alloc, &[7, 8, 9]),
         ),
-        _ => copies_bytes(rt, alloc, grown_bytes(rt, alloc), &[1, 2, 255]),
+        14 => copies_bytes(rt, alloc, grown_bytes(rt, alloc), &[1, 2, 255]),
+        15 => !is_function("AVG"),
+        16 => !is_function("count"),
+        17 => !is_function("ISEMPTY"),
+        _ => !is_function(""),
     }
 }
 
@@ -362,41 +353,29 @@ fn rows_hold(rt: HostRuntime) {
     }
 }
 
-/// Each function by its name, and names of none.
-const NAMES: [(&str, bool); 20] = [
-    ("COUNT", true),
-    ("COUNT_STAR", true),
-    ("SUM", true),
-    ("MIN", true),
-    ("MAX", true),
-    ("SIZE", true),
-    ("CONCAT", true),
-    ("IsEmpty", true),
-    ("TOKENIZE", true),
-    ("SUBSTRING", true),
-    ("STARTSWITH", true),
-    ("ENDSWITH", true),
-    ("INDEXOF", true),
-    ("ABS", true),
-    ("TOTUPLE", true),
-    ("TOBAG", true),
-    ("AVG", false),
-    ("count", false),
-    ("ISEMPTY", false),
-    ("", false),
+/// Each function by its name.
+const NAMES: [&str; 16] = [
+    "COUNT",
+    "COUNT_STAR",
+    "SUM",
+    "MIN",
+    "MAX",
+    "SIZE",
+    "CONCAT",
+    "IsEmpty",
+    "TOKENIZE",
+    "SUBSTRING",
+    "STARTSWITH",
+    "ENDSWITH",
+    "INDEXOF",
+    "ABS",
+    "TOTUPLE",
+    "TOBAG",
 ];
-
-// Whether a function has this name and gives it back.
-fn is_function(name: &str) -> bool {
-    match Function::named(name) {
-        Some(found) => found.name() == name,
-        None => false,
-    }
-}
 
 #[test]
 fn functions_have_names(rt: HostRuntime) {
-    for (name, is) in &NAMES {
-        assert!(rt; is_function(name) == *is, "{name}");
+    for name in &NAMES {
+        assert!(rt; is_function(name), "{name}");
     }
 }
