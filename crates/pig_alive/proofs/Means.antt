@@ -16,9 +16,9 @@ use Rattle.pig_plan.specs.Plans.{Plan, PlanNode, PlanOp, p_load, p_filter, p_for
 use Rattle.pig_plan.specs.Renumbered.{IsSame, rename, renamed}
 use Rattle.pig_plan.specs.Rewrites.{Fails, SameMeaning, Stores}
 use Rattle.pig_plan.specs.Valid.{IsPlan}
-use Rattle.pig_share.proofs.Living.{store_lives}
+use Rattle.pig_plan.proofs.Living.{store_lives}
 use Rattle.pig_share.proofs.Meaning.{was_assert, was_limit, was_store}
-use Rattle.pig_push.proofs.Keeps.{IsInput, inputs_live}
+use Rattle.pig_moves.proofs.Keeps.{IsInput, inputs_live}
 use Rattle.pig_alive.specs.Alive.{LivePlansMeanTheSame, alive, new_number}
 use Rattle.pig_alive.proofs.Places.{Came, came, there}
 use Rattle.pig_alive.proofs.Stays.{each_lives, lists_at, same_at, stays_live}

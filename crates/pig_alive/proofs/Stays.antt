@@ -18,10 +18,10 @@ use Rattle.pig_plan.specs.Plans.{Plan, PlanNode}
 use Rattle.pig_plan.specs.Renumbered.{IsSame, rename, renamed}
 use Rattle.pig_plan.specs.Results.{at_place, results}
 use Rattle.pig_plan.specs.Valid.{IsPlan}
-use Rattle.pig_share.proofs.Living.{User, goes, member, store_lives, store_renamed, user_of}
+use Rattle.pig_plan.proofs.Living.{User, goes, member, store_lives, store_renamed, user_of}
 use Rattle.pig_plan.proofs.Renumbering.{gives_moved, inputs_renamed, lists_moved, rows_moved, sorts_moved}
-use Rattle.pig_share.proofs.Shares.{each_mapped}
-use Rattle.pig_push.proofs.Keeps.{IsInput, inputs_live}
+use Rattle.pig_plan.proofs.Living.{each_mapped}
+use Rattle.pig_moves.proofs.Keeps.{IsInput, inputs_live}
 use Rattle.pig_alive.specs.Alive.{EachLives, alive, new_number}
 use Rattle.pig_alive.proofs.Places.{Came, came, there}
 

@@ -87,8 +87,8 @@ fn add_live(
 ) -> Result<(), AllocError>
     requires { live.now ≡ live_list (plan_of nodes.now) }
     ensures { OnOk result (plan_of made.new ≡ plan_of made.old
-        ++ map (renamed (at_of table.now))
-        (filter_map (slice_get (plan_of nodes.now)) (filter (is_live (plan_of nodes.now)) (place ∷ [])))) }
+        ++ map (renamed (at_of table.now)) (filter_map (slice_get (plan_of nodes.now))
+        (filter (is_live (plan_of nodes.now)) (place ∷ [])))) }
 {
     let Some(node) = nodes.get(place) else {
         return Err(AllocError);

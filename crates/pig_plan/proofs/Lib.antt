@@ -32,3 +32,5 @@ pub mod LineFree
 pub mod OfKinds
 pub mod Exchanged
 pub mod Room
+pub mod Living
+pub mod BareListed

@@ -1,25 +1,3 @@
-pub mod Chains
-pub mod InPlace
-pub mod Joins
-pub mod Spots
-pub mod Room
-pub mod Splits
-pub mod Keeps
-pub mod Kept
-pub mod Columns
-pub mod Passing
-pub mod Change
-pub mod Tidy
-pub mod Steps
-pub mod Table
-pub mod Keyed
-pub mod Depths
-mod DepthSamples
-pub mod Nesting
-pub mod Unions
-pub mod Unites
-pub mod Ways
-pub mod Merges
 pub mod LoneReaders
 pub mod LoneMoves
 pub mod MergePass

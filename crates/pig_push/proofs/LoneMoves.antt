@@ -12,12 +12,12 @@ use Rattle.pig_plan.specs.Meaning.{width_at}
 use Rattle.pig_plan.specs.Nodes.{names}
 use Rattle.pig_plan.specs.Plans.{Plan, PlanNode, PlanOp, p_filter}
 use Rattle.pig_plan.specs.Valid.{IsPlan}
+use Rattle.pig_moves.specs.Pushed.{AreMoves, GoesOn, IsMove, high_of, low_of, one_more}
+use Rattle.pig_moves.proofs.Change.{Shape, shape_at}
+use Rattle.pig_moves.proofs.Keeps.{node_with}
 use Rattle.pig_push.specs.Lone.{AreSound, CountedOn, IsCountedOn, IsLone, NotBoth, NotBothBut, StepsOn, is_often, is_shared, where_read}
-use Rattle.pig_push.specs.Pushed.{AreMoves, GoesOn, IsMove, high_of, low_of, one_more}
 use Rattle.pig_push.specs.declared.readers.ReadCount.{ReadCount}
 use Rattle.pig_push.specs.declared.readers.ReadCount.TheVariants as readers
-use Rattle.pig_push.proofs.Change.{Shape, shape_at}
-use Rattle.pig_push.proofs.Keeps.{node_with}
 
 module _ (p q : Plan) (valid : IsPlan p) (i k : ℕ) (m : IsMove p q i k) where
   abbrev pub low : PlanNode

@@ -9,10 +9,10 @@ use Rattle.pig_value.proofs.list_laws.Bags.{either_way}
 use Rattle.pig_plan.proofs.Unfolds.{get-front}
 use Rattle.pig_plan.specs.Nodes.{IsOnlyUse, inputs_of, names}
 use Rattle.pig_plan.specs.Plans.{Plan, PlanNode}
+use Rattle.pig_moves.proofs.Steps.{Stands, before, last, stands, there_last}
 use Rattle.pig_push.specs.Lone.{AreExact, AreReaders, AreSound, IsLone, is_often, noted, noted_by, noted_in}
 use Rattle.pig_push.specs.declared.readers.ReadCount.{ReadCount}
 use Rattle.pig_push.specs.declared.readers.ReadCount.TheVariants as readers
-use Rattle.pig_push.proofs.Steps.{Stands, before, last, stands, there_last}
 
 -- ---- one node's inputs
 

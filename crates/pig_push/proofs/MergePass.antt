@@ -17,18 +17,18 @@ use Rattle.pig_plan.specs.Plans.{Plan, PlanOp, op_of, p_filter, p_load, plan_of}
 use Rattle.pig_plan.specs.Valid.{IsPlan}
 use Rattle.pig_plan.specs.declared.nodes.Node.{Node}
 use Rattle.pig_plan.specs.declared.nodes.NodeOp.{NodeOp}
+use Rattle.pig_moves.specs.Pushed.{AreMoves, GoesOn, IsMove, chained, conjoined, low_of, one_more}
+use Rattle.pig_moves.proofs.Chains.{conjuncts_kept}
+use Rattle.pig_moves.proofs.Change.{itself}
+use Rattle.pig_moves.proofs.Keeps.{node_with}
+use Rattle.pig_moves.proofs.Merges.{joined_plan}
+use Rattle.pig_moves.proofs.Steps.{filter_passes}
 use Rattle.pig_push.specs.Lone.{AreSound, is_shared}
 use Rattle.pig_push.specs.Merged.{AreOver, Merges, MergesOn, OnFilter, all_conjoined, gone_as, held_as, plan_held, with_all}
-use Rattle.pig_push.specs.Pushed.{AreMoves, GoesOn, IsMove, chained, conjoined, low_of, one_more}
 use Rattle.pig_push.specs.declared.merging.Held.{Held}
 use Rattle.pig_push.specs.declared.readers.ReadCount.{ReadCount}
-use Rattle.pig_push.proofs.Chains.{conjuncts_kept}
-use Rattle.pig_push.proofs.Change.{itself}
-use Rattle.pig_push.proofs.Keeps.{node_with}
 use Rattle.pig_push.proofs.LoneMoves.{high, still_lone}
 use Rattle.pig_push.proofs.LoneReaders.{only_of_lone}
-use Rattle.pig_push.proofs.Merges.{joined_plan}
-use Rattle.pig_push.proofs.Steps.{filter_passes}
 
 -- ---- conditions joined in turn
 

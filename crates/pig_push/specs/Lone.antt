@@ -2,7 +2,7 @@
 use Rattle.std.specs.Prelude.{◌≡◌, ◌==◌, ◌+◌, ◌&&◌, ℕ, Bool, true, false, List, [], ◌∷◌, Option, None, Some, get_or, slice_get, if◌then◌else◌}
 use Rattle.pig_plan.specs.Nodes.{inputs_of, names}
 use Rattle.pig_plan.specs.Plans.{Plan, PlanNode, PlanOp}
-use Rattle.pig_push.specs.Pushed.{GoesOn}
+use Rattle.pig_moves.specs.Pushed.{GoesOn}
 use Rattle.pig_push.specs.declared.readers.ReadCount.{ReadCount}
 use Rattle.pig_push.specs.declared.readers.ReadCount.TheVariants as readers
 

@@ -3,8 +3,8 @@ use Rattle.std.specs.Prelude.{◌≡◌, ℕ, false, List, [], ◌∷◌, ◌++�
 use Rattle.pig_typed.specs.Typed.{Typed, typed}
 use Rattle.pig_plan.specs.Plans.{Plan, PlanNode, PlanOp, op_of, p_filter, p_load}
 use Rattle.pig_plan.specs.Valid.{IsPlan}
+use Rattle.pig_moves.specs.Pushed.{GoesOn, conjoined}
 use Rattle.pig_push.specs.Lone.{AreSound, is_shared}
-use Rattle.pig_push.specs.Pushed.{GoesOn, conjoined}
 use Rattle.pig_push.specs.declared.merging.Held.{Held}
 use Rattle.pig_push.specs.declared.readers.ReadCount.{ReadCount}
 

@@ -2,7 +2,7 @@ ghost use Rattle.std.specs.Prelude.{◌≡◌, ◌+◌, ◌<◌, ◌++◌, ◌�
 ghost use Rattle.pig_plan.specs.Nodes.{live_marks as live_list};
 ghost use Rattle.pig_plan.specs.Plans.{node_of, plan_of};
 ghost use Rattle.pig_plan.specs.Valid.{IsPlan};
-ghost use Rattle.pig_push.specs.Pushed.{IsCleared, IsNext};
+ghost use Rattle.pig_moves.specs.Pushed.{IsCleared, IsNext};
 
 use pig_plan::{Node, Plan, copy_node, live_marks, no_rows};
 use std::alloc::{AllocError, Global};

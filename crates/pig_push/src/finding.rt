@@ -4,15 +4,11 @@ ghost use Rattle.pig_plan.specs.Conjuncts.{conjuncts, link_conjuncts};
 ghost use Rattle.pig_plan.specs.Meaning.{width_at};
 ghost use Rattle.pig_plan.specs.Plans.{keyed_of, op_of, p_group, p_join, plan_of};
 ghost use Rattle.pig_typed.specs.Typed.{Typed, link_of, links_of, typed};
+ghost use Rattle.pig_moves.specs.Pushed.{CanMove, CanPart, all_pass, is_union, may_pass, some_pass, stands_on_union};
 ghost use Rattle.pig_push.specs.Lone.{AreExact, AreSound};
-ghost use Rattle.pig_push.specs.Pushed.{CanMove, CanPart, all_pass, is_union, may_pass, some_pass, stands_on_union};
 
-use crate::chaining::all_and;
-use crate::fields::fields;
-use crate::handing::hands_all;
-use crate::joining::{find_spot, is_open};
-use crate::keying::hands_key;
 use crate::readers::{ReadCount, is_lone};
+use pig_moves::{all_and, fields, find_spot, hands_all, hands_key, is_open};
 use pig_plan::{KeyedInput, NodeOp, Plan};
 use pig_typed::{TExpr, TLink};
 use pig_value::Side;
@@ -128,7 +124,7 @@ fn some_pass(alloc: Global, plan: &Plan, op: &NodeOp, cond: &TExpr) -> Result<bo
     one_passes(alloc, plan, op, cond)
 }
 
-pub fn is_union(op: &NodeOp) -> bool
+fn is_union(op: &NodeOp) -> bool
     ensures { result ≡ is_union (op_of op.now) }
 {
     matches!(op, NodeOp::Union { .. })

@@ -4,13 +4,13 @@ ghost use Rattle.std.specs.List.{flat_map};
 ghost use Rattle.pig_plan.specs.Conjuncts.{conjuncts};
 ghost use Rattle.pig_plan.specs.Plans.{node_of, op_of, p_filter, plan_of};
 ghost use Rattle.pig_typed.specs.Typed.{Typed, typed};
+ghost use Rattle.pig_moves.specs.Pushed.{GoesOn};
 ghost use Rattle.pig_push.specs.Merged.{AreOver, IsOver, Merges, OnFilter, all_conjoined, gone_as, held_as, plan_held, with_all};
-ghost use Rattle.pig_push.specs.Pushed.{GoesOn};
 
-use crate::chaining::{add_conjuncts, chained, conjuncts};
 use crate::clearing::known_plan;
 use crate::moving::planned;
 use crate::readers::{ReadCount, is_lone, readers};
+use pig_moves::{add_conjuncts, chained, conjuncts};
 use pig_plan::{Node, NodeOp, Nodes, Plan, no_rows};
 use pig_typed::{TExpr, TExprs, copy_expr};
 use pig_value::Seq;

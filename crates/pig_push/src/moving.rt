@@ -2,15 +2,11 @@ ghost use Rattle.std.specs.Prelude.{◌≡◌, ◌≤◌, IfOk, List, false, map
 ghost use Rattle.pig_plan.specs.Meaning.{width_at};
 ghost use Rattle.pig_plan.specs.Plans.{Keyed, keyed_of, node_of, op_of, p_group, p_join, plan_of};
 ghost use Rattle.pig_typed.specs.Typed.{typed};
-ghost use Rattle.pig_push.specs.Depths.{filter_depth, most_levels};
-ghost use Rattle.pig_push.specs.Pushed.{AreNew, CanMove, IsMove, high_of, low_of, over_spot, spot_for};
+ghost use Rattle.pig_moves.specs.Depths.{filter_depth, most_levels};
+ghost use Rattle.pig_moves.specs.Pushed.{AreNew, CanMove, IsMove, high_of, low_of, over_spot, spot_for};
 
-use crate::chaining::conjoined;
 use crate::clearing::push_node;
-use crate::fields::fields;
-use crate::joining::{find_spot, over_at};
-use crate::keying::put_key;
-use crate::putting::{Instead, put};
+use pig_moves::{Instead, conjoined, fields, find_spot, over_at, put, put_key};
 use pig_plan::{KeyedInput, KeyedInputs, Node, NodeOp, Nodes, Plan, no_rows};
 use pig_typed::{TExpr, copy_block, copy_expr, copy_exprs};
 use pig_value::Side;

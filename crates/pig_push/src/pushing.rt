@@ -2,8 +2,8 @@ ghost use Rattle.std.specs.Prelude.{◌≡◌, ◌+◌, max, ℕ, IfOk};
 ghost use Rattle.pig_plan.specs.Plans.{plan_of};
 ghost use Rattle.pig_plan.specs.Rewrites.{SameMeaning};
 ghost use Rattle.pig_plan.specs.Valid.{IsPlan};
-ghost use Rattle.pig_push.specs.Depths.{NestUpTo, key_levels};
-ghost use Rattle.pig_push.specs.Pushed.{AreMoves, IsPushed, IsTidy, NoneMayMove};
+ghost use Rattle.pig_moves.specs.Depths.{NestUpTo, key_levels};
+ghost use Rattle.pig_moves.specs.Pushed.{AreMoves, IsPushed, IsTidy, NoneMayMove};
 
 use crate::clearing::{cleared, known_plan};
 use crate::finding::find_part;

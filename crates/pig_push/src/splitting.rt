@@ -3,14 +3,12 @@ ghost use Rattle.std.specs.List.{filter};
 ghost use Rattle.pig_plan.specs.Meaning.{width_at};
 ghost use Rattle.pig_plan.specs.Plans.{op_of, plan_of};
 ghost use Rattle.pig_typed.specs.Typed.{typed};
-ghost use Rattle.pig_push.specs.Pushed.{ArePartsOf, IsParted, passes_at, stands_at};
+ghost use Rattle.pig_moves.specs.Pushed.{ArePartsOf, IsParted, passes_at, stands_at};
 
-use crate::chaining::{chained, conjuncts};
 use crate::clearing::known_plan;
-use crate::fields::fields;
 use crate::finding::may_pass;
-use crate::joining::{Spot, find_spot};
 use crate::rooming::roomy;
+use pig_moves::{Spot, chained, conjuncts, fields, find_spot};
 use pig_plan::{Node, NodeOp, Plan};
 use pig_typed::{TExpr, TExprs};
 use std::alloc::{AllocError, Global};
@@ -24,7 +22,8 @@ struct FilterParts {
 }
 
 // The plan in which the FILTER at a number is two, one on the other: at the number stand the
-// conjuncts that may pass below its input together, and behind it the others.
+// conjuncts that may pass below its input together, and behind it the others. There are some of both;
+// that is tested and not proved.
 pub fn split(alloc: Global, plan: Plan, number: u32) -> Result<Plan, AllocError>
     ensures { IfOk result (λ q. IsParted (plan_of plan) (plan_of q) number) }
 {
@@ -68,6 +67,9 @@ fn parts(alloc: Global, plan: &Plan, number: u32) -> Result<FilterParts, AllocEr
     let all = conjuncts(alloc, cond)?;
     let place = first_place(alloc, plan, &under.op, all.as_slice())?;
     let (low, high) = parted(alloc, plan, &under.op, place, all)?;
+    let ([_, ..], [_, ..]) = (low.as_slice(), high.as_slice()) else {
+        return Err(AllocError);
+    };
     Ok(FilterParts {
         input: *input,
         statement: node.statement,

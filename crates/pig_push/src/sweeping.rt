@@ -1,8 +1,8 @@
 //! A pass over the nodes from one on to the first, in which each FILTER goes as far as it may.
 ghost use Rattle.std.specs.Prelude.{◌≡◌, ◌==◌, ℕ, IfOk, MatchOption, get_or, if◌then◌else◌};
 ghost use Rattle.pig_plan.specs.Plans.{op_of, plan_of};
+ghost use Rattle.pig_moves.specs.Pushed.{CanMove, GoesOn, IsMove};
 ghost use Rattle.pig_push.specs.Lone.{AreSound, CountedOn, NotBoth, NotBothBut, StepsOn, where_read};
-ghost use Rattle.pig_push.specs.Pushed.{CanMove, GoesOn};
 ghost use Rattle.pig_push.specs.declared.readers.ReadCount.TheVariants as Read;
 
 use crate::clearing::known_plan;
@@ -126,7 +126,8 @@ fn passed(
 ) -> Result<Sweep, AllocError>
     requires may { CanMove (plan_of plan) low high }
     requires sound { AreSound (plan_of plan) counts.items }
-    ensures { IfOk result (λ s. StepsOn (plan_of plan) (plan_of s.plan) s.counts.items) }
+    ensures moves { IfOk result (λ s. IsMove (plan_of plan) (plan_of s.plan) low high) }
+    ensures steps { IfOk result (λ s. StepsOn (plan_of plan) (plan_of s.plan) s.counts.items) }
 {
     known_plan(&plan);
     let next = moved(alloc, plan, low, high)?;
@@ -229,21 +230,14 @@ fn below_union(alloc: Global, plan: Plan, at: u32, left: u32) -> Result<Sweep, A
 fn in_part(alloc: Global, plan: Plan, at: u32, left: u32) -> Result<Sweep, AllocError>
     ensures { IfOk result (λ s. StepsOn (plan_of plan) (plan_of s.plan) s.counts.items) }
 {
-    let parted = parted(alloc, plan, at)?;
+    let parted = split(alloc, plan, at)?;
+    known_plan(&parted);
     let counts = readers(alloc, &parted)?;
     let Some(low) = below(alloc, &parted, counts.as_slice(), at)? else {
         return Err(AllocError);
     };
     let left = left.checked_add(PARTS).ok_or(AllocError)?;
     let sweep = passed(alloc, parted, counts, low, at, left)?;
+    known_plan(&sweep.plan);
     Ok(sweep)
-}
-
-// The plan in which the FILTER is two.
-fn parted(alloc: Global, plan: Plan, number: u32) -> Result<Plan, AllocError>
-    ensures { IfOk result (λ q. GoesOn (plan_of plan) (plan_of q)) }
-{
-    let next = split(alloc, plan, number)?;
-    known_plan(&next);
-    Ok(next)
 }

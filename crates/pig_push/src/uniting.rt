@@ -3,7 +3,7 @@ ghost use Rattle.std.specs.List.{AllByRecursion, list_any};
 ghost use Rattle.pig_plan.specs.Nodes.{names};
 ghost use Rattle.pig_plan.specs.Plans.{PlanNode, node_of, op_of, plan_of};
 ghost use Rattle.pig_typed.specs.Typed.{typed};
-ghost use Rattle.pig_push.specs.Pushed.{CanUniteAs, GoesOn, IsAbove, IsFree, filter_on, filtered, is_load, place_in, put_from};
+ghost use Rattle.pig_moves.specs.Pushed.{CanUniteAs, GoesOn, IsAbove, IsFree, filter_on, filtered, is_load, place_in, put_from};
 
 use crate::clearing::known_plan;
 use crate::reading::{holds, is_only_use, reads};

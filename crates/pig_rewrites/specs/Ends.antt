@@ -1,6 +1,6 @@
 -- What is compared of two plans' STOREs.
 use Rattle.std.specs.Prelude.{ℕ, Bool, false, List, map}
-use Rattle.pig_plan.specs.Nodes.{is_list, is_sorted, lists, sorts}
+use Rattle.pig_plan.specs.Nodes.{is_list, is_sorted, lists}
 use Rattle.pig_plan.specs.Plans.{Plan}
 use Rattle.pig_plan.specs.Results.{results}
 use Rattle.pig_reach.specs.Reach.{stores_of}
@@ -19,10 +19,7 @@ end_of listed store = record { statement = store.statement; dir = store.dir; del
 abbrev pub ends_of : Plan → List End
 ends_of plan = map (end_of (is_list plan)) (stores_of plan)
 
--- of each node whether it is sorted, and whether it is a list
-abbrev pub sorted_marks : Plan → List Bool
-sorted_marks plan = results (λ k node. sorts node.op) false plan
-
+-- of each node whether it is a list, by which are sorted
 abbrev pub marks_over : (ℕ → Bool) → Plan → List Bool
 marks_over sorted plan = results (λ k node. lists sorted node.op) false plan
 

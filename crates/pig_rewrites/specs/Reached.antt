@@ -2,7 +2,7 @@
 -- what nothing needs goes.
 use Rattle.pig_plan.specs.Plans.{Plan}
 use Rattle.pig_share.specs.Shared.{SharesAll}
-use Rattle.pig_push.specs.Pushed.{IsPushed, NoneMayMove}
+use Rattle.pig_moves.specs.Pushed.{IsPushed, NoneMayMove}
 use Rattle.pig_alive.specs.Alive.{EachLives}
 use Rattle.pig_prune.specs.Pruned.{IsPruned}
 

@@ -1,11 +1,11 @@
 ghost use Rattle.std.specs.Prelude.{◌≡◌, IsTrue, false, map, IfOk};
-ghost use Rattle.pig_plan.specs.Nodes.{lists as lists_op, sorts as sorts_op};
+ghost use Rattle.pig_plan.specs.Nodes.{lists as lists_op};
 ghost use Rattle.pig_plan.specs.Plans.{op_of, plan_of};
 ghost use Rattle.pig_plan.specs.Results.{at_place};
 ghost use Rattle.pig_reach.specs.Reach.{live_paths};
-ghost use Rattle.pig_rewrites.specs.Ends.{end_of, ends_of, list_marks, marks_over, sorted_marks};
+ghost use Rattle.pig_rewrites.specs.Ends.{end_of, ends_of, list_marks, marks_over};
 
-use pig_plan::{Node, NodeOp, Plan};
+use pig_plan::{Node, NodeOp, Plan, is_marked, sorted_marks};
 use pig_reach::{Store, live_paths, stores};
 use pig_value::{Delim, Text};
 use std::alloc::{AllocError, Global};
@@ -105,8 +105,8 @@ fn is_same_end(store: &Store, listed: &[bool], other: &Store, others_listed: &[b
         return false;
     }
     is_same_bool(
-        mark_at(listed, store.relation),
-        mark_at(others_listed, other.relation),
+        is_marked(listed, store.relation),
+        is_marked(others_listed, other.relation),
     )
 }
 
@@ -150,46 +150,23 @@ fn marks_over(alloc: Global, nodes: &[Node], sorted: &[bool]) -> Result<Vec<bool
     Ok(listed)
 }
 
-// Of each node whether it is sorted.
-fn sorted_marks(alloc: Global, nodes: &[Node]) -> Result<Vec<bool>, AllocError>
-    ensures { IfOk result (λ marks. marks.items ≡ sorted_marks (plan_of nodes.now)) }
-{
-    let mut sorted = Vec::with_capacity(alloc, nodes.len())?;
-    for node in nodes {
-        let own = sorts(&node.op, sorted.as_slice());
-        sorted.push(own)?;
-    }
-    Ok(sorted)
-}
-
 fn lists(op: &NodeOp, sorted: &[bool], listed: &[bool]) -> bool
     ensures { result
         ≡ lists_op (at_place false sorted.now) (op_of op.now) (at_place false listed.now) }
 {
     match op {
         NodeOp::Order { .. } => true,
-        NodeOp::Limit { input, .. } => mark_at(sorted, *input),
-        NodeOp::Assert { input, .. } => mark_at(listed, *input),
-        _ => false,
-    }
-}
-
-fn sorts(op: &NodeOp, sorted: &[bool]) -> bool
-    ensures { result ≡ sorts_op (op_of op.now) (at_place false sorted.now) }
-{
-    match op {
-        NodeOp::Order { .. } => true,
-        NodeOp::Assert { input, .. } => mark_at(sorted, *input),
-        _ => false,
-    }
-}
-
-// The mark of a node; one that is not among them has none.
-fn mark_at(marks: &[bool], node: u32) -> bool
-    ensures { result ≡ at_place false marks.now node }
-{
-    match marks.get(node as usize) {
-        Some(mark) => *mark,
-        None => false,
+        NodeOp::Limit { input, .. } => is_marked(sorted, *input),
+        NodeOp::Assert { input, .. } => is_marked(listed, *input),
+        NodeOp::Load { .. }
+        | NodeOp::Filter { .. }
+        | NodeOp::Foreach { .. }
+        | NodeOp::GroupAll { .. }
+        | NodeOp::Group { .. }
+        | NodeOp::Join { .. }
+        | NodeOp::Union { .. }
+        | NodeOp::Distinct { .. }
+        | NodeOp::Store { .. }
+        | NodeOp::Rank { .. } => false,
     }
 }

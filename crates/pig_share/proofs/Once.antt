@@ -10,9 +10,10 @@ use Rattle.pig_plan.specs.Nodes.{inputs_of, is_live, is_sorted, is_store, names}
 use Rattle.pig_plan.specs.Plans.{Plan, PlanNode, PlanOp, p_load, p_filter, p_foreach, p_group_all, p_group, p_join, p_union, p_distinct, p_order, p_limit, p_store, p_assert, p_rank}
 use Rattle.pig_plan.specs.Renumbered.{rename, renamed}
 use Rattle.pig_plan.specs.Valid.{IsPlan, in_order}
+use Rattle.pig_plan.proofs.Living.{Came, User, came, member, store_renamed, user_of}
 use Rattle.pig_share.specs.Shared.{EachIsOnce, IsNamedBy, IsOne, IsShared, apart_in, is_apart}
 use Rattle.pig_share.proofs.Limits.{sorted_input}
-use Rattle.pig_share.proofs.Living.{Back, Came, User, back, came, member, store_renamed, user_of, was_live}
+use Rattle.pig_share.proofs.Living.{Back, back, was_live}
 use Rattle.pig_share.proofs.InOrder.{order_kept}
 use Rattle.pig_plan.proofs.Renumbering.{inputs_renamed}
 use Rattle.pig_share.proofs.Shares.{there}

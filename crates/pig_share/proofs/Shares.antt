@@ -1,5 +1,5 @@
 -- A plan that shares nodes: the node that stands for one is what that one was.
-use Rattle.std.specs.Prelude.{◌≡◌, ◌<◌, ℕ, zero, suc, Bool, true, List, [], ◌∷◌, map, length, take, Some, None, slice_get, refl}
+use Rattle.std.specs.Prelude.{◌≡◌, ◌<◌, ℕ, zero, suc, Bool, true, List, [], map, length, take, Some, None, slice_get, refl}
 use Rattle.std.proofs.Common.{ap, sym, ◌∙◌, subst, arith, true≢false}
 use Rattle.std.specs.List.{AllByRecursion}
 use Rattle.std.specs.Option.{option_map, option_map_or, unwrap_or}
@@ -9,6 +9,7 @@ use Rattle.pig_value.proofs.list_laws.Listing.{each_weaker, some_same}
 use Rattle.pig_value.specs.declared.inputs.Input.{Input}
 use Rattle.pig_value.specs.declared.outcomes.Kept.{Kept}
 use Rattle.pig_plan.proofs.Listed.{list_of_node, sorted_of_node}
+use Rattle.pig_plan.proofs.Living.{each_mapped}
 use Rattle.pig_plan.proofs.Lower.{meaning_of_node, names_lower}
 use Rattle.pig_plan.proofs.Meanings.{each_both}
 use Rattle.pig_plan.proofs.Unfolds.{before_is, result_before}
@@ -37,11 +38,6 @@ bare_apart ordered sorted (p_union inputs) h = h
 bare_apart ordered sorted (p_distinct input) h = h
 bare_apart ordered sorted (p_order input keys) h = h
 bare_apart ordered sorted (p_rank input keys dense) h = h
-
-module _ {X Y : Type 0} (P : Y → Type 0) (f : X → Y) where
-  pub each_mapped : (xs : List X) → AllByRecursion P (map f xs) → AllByRecursion (λ x. P (f x)) xs
-  each_mapped [] h = tt
-  each_mapped (x ∷ xs) h = (h.0, each_mapped xs h.1)
 
 module _ (p : Plan) (at : ℕ → ℕ) (valid : IsPlan p) (valid_q : IsPlan (map (renamed at) p)) (named : (k : ℕ) (v : PlanNode) → slice_get p k ≡ Some v → IsNamedBy p at k v) where
   abbrev pub q : Plan

@@ -1,8 +1,8 @@
 use Rattle.std.proofs.Common.{rules, sym, ◌∙◌, ◌≡◌, ◌++◌, ◌∷◌, [], length}
 use Rattle.std.proofs.lemmas.List.{length-map}
 use Rattle.pig_plan.specs.Plans.{node_of, plan_of}
-use Rattle.pig_push.specs.Pushed.{IsNext}
-use Rattle.pig_push.proofs.Steps.{cleared_all, cleared_next}
+use Rattle.pig_moves.specs.Pushed.{IsNext}
+use Rattle.pig_moves.proofs.Steps.{cleared_all, cleared_next}
 use Rattle.pig_push.proofs.clearing.cleared.Goals as goal
 
 pub loop-own-preserved : goal.loop-own-preserved

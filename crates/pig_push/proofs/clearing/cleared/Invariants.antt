@@ -1,5 +1,5 @@
 use Rattle.pig_plan.specs.Plans.{plan_of}
-use Rattle.pig_push.specs.Pushed.{IsClearedTo}
+use Rattle.pig_moves.specs.Pushed.{IsClearedTo}
 use Rattle.pig_push.proofs.clearing.cleared.Given as goal
 
 abbrev pub invariant-loop-own : goal.invariant-loop-own

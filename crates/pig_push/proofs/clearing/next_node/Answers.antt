@@ -2,8 +2,8 @@ use Rattle.std.proofs.Common.{rules, ◌≡◌, ◌∙◌, ap, true, false}
 use Rattle.std.specs.Prelude.{Some, slice_get, refl, length}
 use Rattle.std.proofs.lemmas.Option.{slice_get_read}
 use Rattle.pig_plan.specs.Plans.{node_of, op_of}
-use Rattle.pig_push.specs.Pushed.{reads_nothing}
-use Rattle.pig_push.proofs.Steps.{next_dead, next_live}
+use Rattle.pig_moves.specs.Pushed.{reads_nothing}
+use Rattle.pig_moves.proofs.Steps.{next_dead, next_live}
 use Rattle.pig_push.proofs.clearing.next_node.Goals as goal
 
 pub returns-then-lives : goal.returns-then-lives

@@ -4,7 +4,7 @@ use Rattle.pig_plan.specs.Conjuncts.{link_conjuncts}
 use Rattle.pig_plan.specs.Meaning.{width_at}
 use Rattle.pig_plan.specs.Plans.{op_of, plan_of}
 use Rattle.pig_typed.specs.Typed.{link_of, links_of}
-use Rattle.pig_push.specs.Pushed.{may_pass}
+use Rattle.pig_moves.specs.Pushed.{may_pass}
 use Rattle.pig_push.proofs.finding.+each_passes.Given as goal
 
 abbrev pub decreases-each_passes : goal.decreases-each_passes

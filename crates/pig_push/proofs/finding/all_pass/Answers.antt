@@ -2,8 +2,8 @@ use Rattle.std.proofs.Common.{◌∙◌, ap, sym}
 use Rattle.pig_typed.specs.Typed.{typed}
 use Rattle.pig_plan.specs.Meaning.{width_at}
 use Rattle.pig_plan.specs.Plans.{op_of, plan_of}
-use Rattle.pig_push.specs.Pushed.{all_pass}
-use Rattle.pig_push.proofs.Steps.{distinct_passes, filter_passes}
+use Rattle.pig_moves.specs.Pushed.{all_pass}
+use Rattle.pig_moves.proofs.Steps.{distinct_passes, filter_passes}
 use Rattle.pig_push.proofs.finding.all_pass.Goals as goal
 
 pub returns-in-Filter : goal.returns-in-Filter

@@ -5,11 +5,11 @@ use Rattle.pig_typed.specs.Typed.{typed}
 use Rattle.pig_plan.specs.Meaning.{width_at}
 use Rattle.pig_plan.specs.Nodes.{IsOnlyUse, names}
 use Rattle.pig_plan.specs.Plans.{node_of, op_of, p_filter, plan_of}
+use Rattle.pig_moves.specs.Pushed.{all_pass}
+use Rattle.pig_moves.proofs.Change.{itself}
+use Rattle.pig_moves.proofs.Steps.{can_move, node_there}
 use Rattle.pig_push.specs.Lone.{is_shared}
-use Rattle.pig_push.specs.Pushed.{all_pass}
-use Rattle.pig_push.proofs.Change.{itself}
 use Rattle.pig_push.proofs.LoneReaders.{only_of_lone, unshared}
-use Rattle.pig_push.proofs.Steps.{can_move, node_there}
 use Rattle.pig_push.proofs.finding.below.Goals as goal
 
 pub returns : goal.returns

@@ -1,5 +1,5 @@
 use Rattle.std.proofs.Common.{rules, ◌≡◌, ◌<◌, ◌-◌, length, arith}
-use Rattle.pig_push.proofs.Steps.{NoMove, none_at_all, one_before}
+use Rattle.pig_moves.proofs.Steps.{NoMove, none_at_all, one_before}
 use Rattle.pig_push.proofs.finding.find_part.Goals as goal
 
 pub loop-behind-preserved : goal.loop-behind-preserved

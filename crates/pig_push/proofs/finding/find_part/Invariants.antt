@@ -1,6 +1,6 @@
 use Rattle.std.proofs.Common.{ℕ, ◌<◌, ◌≤◌, ◌+◌}
 use Rattle.pig_plan.specs.Plans.{plan_of}
-use Rattle.pig_push.specs.Pushed.{CanPart}
+use Rattle.pig_moves.specs.Pushed.{CanPart}
 use Rattle.pig_push.proofs.finding.find_part.Given as goal
 
 abbrev pub invariant-loop-behind : goal.invariant-loop-behind

@@ -4,11 +4,11 @@ use Rattle.std.proofs.lemmas.Option.{slice_get_read}
 use Rattle.pig_typed.specs.Typed.{typed}
 use Rattle.pig_plan.specs.Nodes.{IsOnlyUse}
 use Rattle.pig_plan.specs.Plans.{node_of, op_of, p_filter, plan_of}
+use Rattle.pig_moves.proofs.Steps.{not_only, not_passing}
+use Rattle.pig_moves.specs.Pushed.{some_pass}
 use Rattle.pig_push.specs.Lone.{is_shared}
 use Rattle.pig_push.proofs.LoneReaders.{lone_of_only, shared_is}
-use Rattle.pig_push.proofs.Steps.{not_only, not_passing}
 use Rattle.pig_plan.specs.Meaning.{width_at}
-use Rattle.pig_push.specs.Pushed.{some_pass}
 use Rattle.pig_push.proofs.finding.may_part.Goals as goal
 
 pub returns-then-not-passes : goal.returns-then-not-passes

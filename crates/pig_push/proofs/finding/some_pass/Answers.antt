@@ -3,8 +3,8 @@ use Rattle.std.specs.Prelude.{IfOk}
 use Rattle.pig_typed.specs.Typed.{typed}
 use Rattle.pig_plan.specs.Meaning.{width_at}
 use Rattle.pig_plan.specs.Plans.{op_of, plan_of}
-use Rattle.pig_push.specs.Pushed.{is_union, some_pass}
-use Rattle.pig_push.proofs.Steps.{any_true, no_union_passes, none_pass, union_passes}
+use Rattle.pig_moves.specs.Pushed.{is_union, some_pass}
+use Rattle.pig_moves.proofs.Steps.{any_true, no_union_passes, none_pass, union_passes}
 use Rattle.pig_push.proofs.finding.some_pass.Goals as goal
 
 pub returns-in-Filter : goal.returns-in-Filter

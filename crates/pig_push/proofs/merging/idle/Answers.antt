@@ -1,6 +1,6 @@
 use Rattle.std.proofs.Common.{rules}
 use Rattle.pig_plan.specs.Plans.{op_of}
-use Rattle.pig_push.specs.Pushed.{reads_nothing}
+use Rattle.pig_moves.specs.Pushed.{reads_nothing}
 use Rattle.pig_push.proofs.MergePass.{gone_held}
 use Rattle.pig_push.proofs.merging.idle.Goals as goal
 

@@ -1,8 +1,8 @@
 use Rattle.std.proofs.Common.{rules, ◌≡◌}
 use Rattle.std.specs.Prelude.{slice_set}
 use Rattle.pig_plan.specs.Plans.{node_of, plan_of}
-use Rattle.pig_push.specs.Pushed.{AreNew}
-use Rattle.pig_push.proofs.Steps.{is_move}
+use Rattle.pig_moves.specs.Pushed.{AreNew}
+use Rattle.pig_moves.proofs.Steps.{is_move}
 use Rattle.pig_push.proofs.moving.moved.Goals as goal
 
 pub returns : goal.returns

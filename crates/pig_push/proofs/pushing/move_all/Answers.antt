@@ -1,11 +1,11 @@
 use Rattle.std.proofs.Common.{rules, ◌≡◌, ℕ, subst, sym}
 use Rattle.std.specs.Prelude.{⊤}
 use Rattle.pig_plan.specs.Plans.{plan_of}
+use Rattle.pig_moves.specs.Pushed.{CanPart, GoesOn, IsTidy, none}
+use Rattle.pig_moves.proofs.Steps.{first_of}
+use Rattle.pig_moves.proofs.Tidy.{moves_tidy, none_moves}
 use Rattle.pig_push.specs.Lone.{AreExact, AreReaders}
-use Rattle.pig_push.specs.Pushed.{CanPart, GoesOn, IsTidy, none}
 use Rattle.pig_push.proofs.LoneReaders.{exact_of, sound_of}
-use Rattle.pig_push.proofs.Steps.{first_of}
-use Rattle.pig_push.proofs.Tidy.{moves_tidy, none_moves}
 use Rattle.pig_push.proofs.pushing.move_all.Goals as goal
 
 pub sweeps-init : goal.sweeps-init

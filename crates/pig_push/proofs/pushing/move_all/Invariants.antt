@@ -1,5 +1,5 @@
 use Rattle.pig_plan.specs.Plans.{plan_of}
-use Rattle.pig_push.specs.Pushed.{AreMoves}
+use Rattle.pig_moves.specs.Pushed.{AreMoves}
 use Rattle.pig_push.proofs.pushing.move_all.Given as goal
 
 abbrev pub invariant-sweeps : goal.invariant-sweeps

@@ -2,10 +2,10 @@ use Rattle.std.proofs.Common.{rules}
 use Rattle.pig_typed.specs.Premises.{FunctionsKeepKinds}
 use Rattle.pig_plan.specs.Plans.{plan_of}
 use Rattle.pig_plan.specs.Valid.{IsPlan}
-use Rattle.pig_push.specs.Pushed.{IsCleared}
-use Rattle.pig_push.proofs.Depths.{shallow_pushed}
-use Rattle.pig_push.proofs.Steps.{all_pushed, means_pushed}
-use Rattle.pig_push.proofs.Tidy.{cleared_tidy}
+use Rattle.pig_moves.specs.Pushed.{IsCleared}
+use Rattle.pig_moves.proofs.Depths.{shallow_pushed}
+use Rattle.pig_moves.proofs.Steps.{all_pushed, means_pushed}
+use Rattle.pig_moves.proofs.Tidy.{cleared_tidy}
 use Rattle.pig_push.proofs.pushing.push.Goals as goal
 
 pub move_all-requires : goal.move_all-requires

@@ -3,7 +3,7 @@ use Rattle.std.specs.Prelude.{Some, slice_get, refl}
 use Rattle.std.proofs.lemmas.Option.{slice_get_read}
 use Rattle.pig_plan.specs.Nodes.{names}
 use Rattle.pig_plan.specs.Plans.{node_of}
-use Rattle.pig_push.proofs.Steps.{no_other_more, only_use, other_use}
+use Rattle.pig_moves.proofs.Steps.{no_other_more, only_use, other_use}
 use Rattle.pig_push.proofs.reading.is_only_use.Goals as goal
 
 pub returns-then-is_other_use-clause-no : goal.returns-then-is_other_use-clause-no

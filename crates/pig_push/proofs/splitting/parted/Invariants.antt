@@ -3,7 +3,7 @@ use Rattle.std.specs.List.{filter}
 use Rattle.pig_plan.specs.Meaning.{width_at}
 use Rattle.pig_plan.specs.Plans.{op_of, plan_of}
 use Rattle.pig_typed.specs.Typed.{typed}
-use Rattle.pig_push.specs.Pushed.{passes_at}
+use Rattle.pig_moves.specs.Pushed.{passes_at}
 use Rattle.pig_push.proofs.splitting.parted.Given as goal
 
 abbrev pub invariant-loop-cond : goal.invariant-loop-cond

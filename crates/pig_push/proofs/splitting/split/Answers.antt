@@ -6,8 +6,8 @@ use Rattle.pig_plan.specs.Plans.{plan_of}
 use Rattle.pig_plan.specs.Room.{roomy}
 use Rattle.pig_plan.specs.Valid.{IsPlan}
 use Rattle.pig_typed.specs.Typed.{typed}
-use Rattle.pig_push.specs.Pushed.{ArePartsOf}
-use Rattle.pig_push.proofs.Splits.{parted, room_unread}
+use Rattle.pig_moves.specs.Pushed.{ArePartsOf}
+use Rattle.pig_moves.proofs.Splits.{parted, room_unread}
 use Rattle.pig_push.proofs.splitting.split.Goals as goal
 
 pub exchange-requires : goal.exchange-requires

@@ -1,7 +1,7 @@
 use Rattle.std.proofs.Common.{rules}
 use Rattle.pig_plan.specs.Plans.{plan_of}
+use Rattle.pig_moves.specs.Pushed.{GoesOn}
 use Rattle.pig_push.specs.Lone.{AreReaders}
-use Rattle.pig_push.specs.Pushed.{GoesOn}
 use Rattle.pig_push.proofs.LoneReaders.{sound_of}
 use Rattle.pig_push.proofs.sweeping.below_union.Goals as goal
 

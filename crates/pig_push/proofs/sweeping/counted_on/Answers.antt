@@ -2,9 +2,9 @@ use Rattle.std.proofs.Common.{rules, ◌≡◌, ◌∙◌, ap, sym}
 use Rattle.std.specs.Prelude.{Some, slice_get, refl, length}
 use Rattle.std.proofs.lemmas.Option.{slice_get_read}
 use Rattle.pig_plan.specs.Plans.{node_of, op_of, plan_of}
+use Rattle.pig_moves.proofs.Steps.{first_of, node_there}
 use Rattle.pig_push.specs.Lone.{NotBoth, NotBothBut}
 use Rattle.pig_push.proofs.LoneMoves.{counted_none, counted_some}
-use Rattle.pig_push.proofs.Steps.{first_of, node_there}
 use Rattle.pig_push.proofs.sweeping.counted_on.Goals as goal
 
 pub returns-in_default-shared : goal.returns-in_default-shared

@@ -1,8 +1,8 @@
 use Rattle.std.proofs.Common.{rules, ◌≡◌, subst, sym}
 use Rattle.pig_plan.specs.Plans.{plan_of}
+use Rattle.pig_plan.specs.Valid.{IsPlan}
+use Rattle.pig_moves.specs.Pushed.{IsMove, IsParted, one_part}
 use Rattle.pig_push.specs.Lone.{AreReaders, AreSound, StepsOn}
-use Rattle.pig_push.specs.Pushed.{GoesOn}
-use Rattle.pig_push.proofs.LoneMoves.{steps_then}
 use Rattle.pig_push.proofs.LoneReaders.{sound_of}
 use Rattle.pig_push.proofs.sweeping.in_part.Goals as goal
 
@@ -19,6 +19,12 @@ passed-requires-clause-sound c =
 
 pub returns : goal.returns
 returns c =
-    let goes : GoesOn (plan_of c.args.plan) (plan_of c.in_ok-parted.parted) = search rules in
+    let split : IsParted (plan_of c.args.plan) (plan_of c.in_ok-parted.parted) c.args.at = search rules in
+    let valid_s : IsPlan (plan_of c.in_ok-parted.parted) = search rules in
+    let valid : IsPlan (plan_of c.in_ok-sweep.sweep.plan) = search rules in
+    let move : IsMove (plan_of c.in_ok-parted.parted) (plan_of c.in_ok-sweep.sweep.plan) c.in-Some.low c.args.at = search rules in
     let next : StepsOn (plan_of c.in_ok-parted.parted) (plan_of c.in_ok-sweep.sweep.plan) c.in_ok-sweep.sweep.counts.items = search rules in
-    steps_then (plan_of c.args.plan) (plan_of c.in_ok-parted.parted) (plan_of c.in_ok-sweep.sweep.plan) c.in_ok-sweep.sweep.counts.items goes next
+    record {
+      goes = λ before moves. one_part (plan_of c.args.plan) (plan_of c.in_ok-parted.parted) (plan_of c.in_ok-sweep.sweep.plan) c.in-Some.low c.args.at moves split.room valid_s split.split valid move;
+      sound = next.sound;
+    }

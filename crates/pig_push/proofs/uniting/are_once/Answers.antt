@@ -2,8 +2,8 @@ use Rattle.std.proofs.Common.{rules, ◌≡◌, ◌==◌, ◌≤◌, ℕ, arith,
 use Rattle.std.specs.Prelude.{Some, slice_get}
 use Rattle.std.specs.List.{list_any}
 use Rattle.std.proofs.lemmas.Option.{slice_get_within}
-use Rattle.pig_push.specs.Pushed.{place_in}
-use Rattle.pig_push.proofs.Unites.{one_number_more}
+use Rattle.pig_moves.specs.Pushed.{place_in}
+use Rattle.pig_moves.proofs.Unites.{one_number_more}
 use Rattle.pig_push.proofs.uniting.are_once.Goals as goal
 
 pub loop-index-preserved : goal.loop-index-preserved

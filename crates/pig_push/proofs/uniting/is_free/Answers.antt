@@ -2,8 +2,8 @@ use Rattle.std.proofs.Common.{rules, ◌≡◌, length, true}
 use Rattle.std.specs.Prelude.{Some, slice_get, refl}
 use Rattle.std.proofs.lemmas.Option.{slice_get_read}
 use Rattle.pig_plan.specs.Plans.{node_of, op_of}
-use Rattle.pig_push.specs.Pushed.{is_load}
-use Rattle.pig_push.proofs.Steps.{node_there}
+use Rattle.pig_moves.specs.Pushed.{is_load}
+use Rattle.pig_moves.proofs.Steps.{node_there}
 use Rattle.pig_push.proofs.uniting.is_free.Goals as goal
 
 pub returns : goal.returns

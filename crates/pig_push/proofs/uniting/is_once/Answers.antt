@@ -3,7 +3,7 @@ use Rattle.std.specs.Prelude.{Some, slice_get, refl}
 use Rattle.std.specs.List.{list_any}
 use Rattle.std.proofs.lemmas.Option.{slice_get_read}
 use Rattle.pig_value.proofs.list_laws.Listing.{some_same}
-use Rattle.pig_push.specs.Pushed.{place_in}
+use Rattle.pig_moves.specs.Pushed.{place_in}
 use Rattle.pig_push.proofs.uniting.is_once.Goals as goal
 
 pub returns : goal.returns

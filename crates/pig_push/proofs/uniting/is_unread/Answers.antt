@@ -3,7 +3,7 @@ use Rattle.std.specs.Prelude.{Some, slice_get, refl}
 use Rattle.std.proofs.lemmas.Option.{slice_get_read}
 use Rattle.pig_plan.specs.Nodes.{names}
 use Rattle.pig_plan.specs.Plans.{node_of}
-use Rattle.pig_push.proofs.Unites.{Unread, none_read, not_read, one_number_more}
+use Rattle.pig_moves.proofs.Unites.{Unread, none_read, not_read, one_number_more}
 use Rattle.pig_push.proofs.uniting.is_unread.Goals as goal
 
 pub loop-other-preserved : goal.loop-other-preserved

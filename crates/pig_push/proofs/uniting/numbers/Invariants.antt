@@ -1,7 +1,7 @@
 use Rattle.std.proofs.Common.{◌≡◌, ◌++◌, map, length}
 use Rattle.std.specs.Prelude.{Some, slice_get}
 use Rattle.std.specs.List.{AllByRecursion}
-use Rattle.pig_push.specs.Pushed.{filtered, place_in}
+use Rattle.pig_moves.specs.Pushed.{filtered, place_in}
 use Rattle.pig_push.proofs.uniting.numbers.Given as goal
 
 abbrev pub invariant-loop-left : goal.invariant-loop-left

@@ -6,9 +6,9 @@ use Rattle.pig_plan.specs.Nodes.{IsOnlyUse}
 use Rattle.pig_plan.specs.Plans.{op_of, plan_of}
 use Rattle.pig_plan.specs.Valid.{IsPlan}
 use Rattle.pig_typed.specs.Typed.{typed}
-use Rattle.pig_push.specs.Pushed.{CanUniteAs, filter_on, one_union, put_from, reads_nothing}
-use Rattle.pig_push.proofs.Keeps.{node_with}
-use Rattle.pig_push.proofs.Unites.{is_united}
+use Rattle.pig_moves.specs.Pushed.{CanUniteAs, filter_on, one_union, put_from, reads_nothing}
+use Rattle.pig_moves.proofs.Keeps.{node_with}
+use Rattle.pig_moves.proofs.Unites.{is_united}
 use Rattle.pig_push.proofs.uniting.over_each.Goals as goal
 
 pub exchange-requires : goal.exchange-requires

@@ -5,9 +5,9 @@ use Rattle.std.proofs.lemmas.Option.{slice_get_read}
 use Rattle.pig_typed.specs.Typed.{typed}
 use Rattle.pig_plan.specs.Nodes.{IsOnlyUse}
 use Rattle.pig_plan.specs.Plans.{op_of, p_filter, plan_of}
-use Rattle.pig_push.specs.Pushed.{IsFree, filtered, place_in}
-use Rattle.pig_push.proofs.Keeps.{node_with}
-use Rattle.pig_push.proofs.Steps.{node_there}
+use Rattle.pig_moves.specs.Pushed.{IsFree, filtered, place_in}
+use Rattle.pig_moves.proofs.Keeps.{node_with}
+use Rattle.pig_moves.proofs.Steps.{node_there}
 use Rattle.pig_push.proofs.uniting.over_union.Goals as goal
 
 pub returns : goal.returns

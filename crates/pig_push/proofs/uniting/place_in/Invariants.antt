@@ -1,5 +1,5 @@
 use Rattle.std.proofs.Common.{◌≡◌, ◌+◌, length}
-use Rattle.pig_push.specs.Pushed.{place_in}
+use Rattle.pig_moves.specs.Pushed.{place_in}
 use Rattle.pig_push.proofs.uniting.place_in.Given as goal
 
 abbrev pub invariant-loop-left : goal.invariant-loop-left

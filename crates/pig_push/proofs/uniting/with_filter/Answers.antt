@@ -4,8 +4,8 @@ use Rattle.pig_plan.specs.declared.nodes.Node.{Node}
 use Rattle.pig_plan.specs.declared.nodes.NodeOp.TheVariants as op
 use Rattle.pig_plan.specs.Plans.{node_of, plan_of}
 use Rattle.pig_typed.specs.Typed.{typed}
-use Rattle.pig_push.specs.Pushed.{IsAbove}
-use Rattle.pig_push.proofs.Unites.{filter_put}
+use Rattle.pig_moves.specs.Pushed.{IsAbove}
+use Rattle.pig_moves.proofs.Unites.{filter_put}
 use Rattle.pig_push.proofs.uniting.with_filter.Goals as goal
 
 pub exchange-requires : goal.exchange-requires

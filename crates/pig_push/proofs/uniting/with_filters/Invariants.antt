@@ -1,7 +1,7 @@
 use Rattle.std.proofs.Common.{◌≡◌, map, length}
 use Rattle.pig_plan.specs.Plans.{plan_of}
 use Rattle.pig_typed.specs.Typed.{typed}
-use Rattle.pig_push.specs.Pushed.{filter_on, put_from}
+use Rattle.pig_moves.specs.Pushed.{filter_on, put_from}
 use Rattle.pig_push.proofs.uniting.with_filters.Given as goal
 
 abbrev pub invariant-loop-left : goal.invariant-loop-left

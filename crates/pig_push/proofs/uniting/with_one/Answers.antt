@@ -4,7 +4,7 @@ use Rattle.std.proofs.lemmas.List.{length-map}
 use Rattle.pig_plan.specs.Plans.{node_of, plan_of}
 use Rattle.pig_plan.specs.Room.{roomy}
 use Rattle.pig_plan.specs.Valid.{IsPlan}
-use Rattle.pig_push.specs.Pushed.{one_room}
+use Rattle.pig_moves.specs.Pushed.{one_room}
 use Rattle.pig_push.proofs.uniting.with_one.Goals as goal
 
 pub returns : goal.returns

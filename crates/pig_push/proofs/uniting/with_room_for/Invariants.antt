@@ -1,5 +1,5 @@
 use Rattle.pig_plan.specs.Plans.{plan_of}
-use Rattle.pig_push.specs.Pushed.{GoesOn}
+use Rattle.pig_moves.specs.Pushed.{GoesOn}
 use Rattle.pig_push.proofs.uniting.with_room_for.Given as goal
 
 abbrev pub invariant-rooms : goal.invariant-rooms

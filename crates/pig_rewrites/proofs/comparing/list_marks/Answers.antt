@@ -1,7 +1,8 @@
 use Rattle.std.proofs.Common.{rules, ◌≡◌, IfOk, false, subst}
+use Rattle.pig_plan.specs.Nodes.{sorted_marks}
 use Rattle.pig_plan.specs.Plans.{plan_of}
 use Rattle.pig_plan.specs.Results.{at_place}
-use Rattle.pig_rewrites.specs.Ends.{marks_over, sorted_marks}
+use Rattle.pig_rewrites.specs.Ends.{marks_over}
 use Rattle.pig_rewrites.proofs.comparing.list_marks.Goals as goal
 
 pub returns : goal.returns

@@ -4,7 +4,7 @@ use Rattle.pig_plan.specs.Rewrites.{SameMeaning}
 use Rattle.pig_plan.specs.Valid.{IsPlan}
 use Rattle.pig_reach.specs.Reach.{live_paths}
 use Rattle.pig_share.specs.Shared.{IsSharable, SharesAll}
-use Rattle.pig_push.specs.Pushed.{IsPushed, NoneMayMove}
+use Rattle.pig_moves.specs.Pushed.{IsPushed, NoneMayMove}
 use Rattle.pig_alive.specs.Alive.{EachLives}
 use Rattle.pig_prune.specs.Pruned.{IsPruned}
 use Rattle.pig_rewrites.specs.Ends.{ends_of}

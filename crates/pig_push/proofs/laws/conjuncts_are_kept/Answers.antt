@@ -1,5 +1,0 @@
-use Rattle.pig_push.proofs.Chains.{conjuncts_kept}
-use Rattle.pig_push.proofs.laws.conjuncts_are_kept.Goals as goal
-
-pub returns : goal.returns
-returns c = conjuncts_kept
