@@ -1,5 +1,5 @@
 //! The whole text: the checked plan, the rewritten plan and its waves.
-ghost use Rattle.std.specs.Prelude.{◌≡◌, ◌++◌, OnOk};
+ghost use Rattle.std.specs.Prelude.{◌≡◌, ◌++◌, OnErr, OnOk};
 ghost use Rattle.pig_plan.specs.Plans.{plan_of};
 ghost use Rattle.pig_explain.specs.Explained.{checked_text, explain_text, rewritten_text, waves_of_text};
 
@@ -11,15 +11,17 @@ use pig_physical::heads;
 use pig_plan::{Plan, live_numbers};
 use std::alloc::AllocError;
 
-/// Appends the text of a plan as it was checked, as it was rewritten, and of its waves.
-///
-/// Where memory is wanting, a part of the text may stand behind what the buffer held.
+/// Appends the text of a plan as it was checked, as it was rewritten, and of its waves. Where memory is
+/// wanting, the buffer holds what it held.
 pub fn explain(checked: &Plan, rewritten: &Plan, out: &mut Vec<u8>) -> Result<(), AllocError>
-    ensures { OnOk result (out.new.items ≡ out.old.items
+    ensures ok { OnOk result (out.new.items ≡ out.old.items
         ++ explain_text (plan_of checked.now) (plan_of rewritten.now)) }
+    ensures err { OnErr result (out.new.items ≡ out.old.items) }
 {
-    put_checked(checked, out)?;
-    put_rewritten(rewritten, out)
+    let mut text = Vec::new(*out.allocator());
+    put_checked(checked, &mut text)?;
+    put_rewritten(rewritten, &mut text)?;
+    out.extend_from_slice(text.as_slice())
 }
 
 fn put_checked(plan: &Plan, out: &mut Vec<u8>) -> Result<(), AllocError>

@@ -100,9 +100,8 @@ fn use_inputs(
     found: &mut Vec<NeedList>,
 ) -> Result<(), AllocError>
     requires { number < length found.old.items }
-    ensures { OnOk result (AreUsed number
-        (uses_of (width_at (plan_of plan.now)) (get_or found.old.items number []) (op_of node.now.op))
-        found.old.items found.new.items) }
+    ensures { OnOk result (AreUsed number (uses_of (width_at (plan_of plan.now))
+        (get_or found.old.items number []) (op_of node.now.op)) found.old.items found.new.items) }
 {
     let uses = uses_of(alloc, plan, found[number].as_slice(), &node.op)?;
     add_uses(alloc, uses.as_slice(), number, found)

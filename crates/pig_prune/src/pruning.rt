@@ -138,8 +138,8 @@ fn cut_next(
     node: &Node,
 ) -> Result<Cut, AllocError>
     requires { marks.now ≡ map (marks_of (plan_of plan.now)) (range_with_len 0 (length plan.now)) }
-    ensures { IfOk result (λ cut. cut
-        ≡ cut_step (plan_of plan.now) (length cuts.now) (node_of node.now) (at_place None cuts.now)) }
+    ensures { IfOk result (λ cut. cut ≡ cut_step (plan_of plan.now) (length cuts.now)
+        (node_of node.now) (at_place None cuts.now)) }
 {
     match marks.get(cuts.len()) {
         Some(own) => own_cut(alloc, plan, cuts, own.as_slice(), &node.op),

@@ -33,7 +33,7 @@ use std::alloc::Global;
 const MOST_INPUT: u64 = 67_108_864;
 
 // The fault that an error of the depot is, in the commit of that STORE or before.
-pub fn depot_fault(error: OutsideError, store: Option<u32>) -> RunFault
+fn depot_fault(error: OutsideError, store: Option<u32>) -> RunFault
     ensures { result ≡ depot_fault_of error store }
 {
     match error {

@@ -4,14 +4,14 @@ use crate::Waves;
 use pig_value::{KeptList, Seq, Text};
 use std::alloc::Global;
 
-// A directory that was made, and the number of its lines.
+// A directory that is to be made, and the number of its lines.
 #[derive(Drop)]
 pub struct Noted {
     pub dir: Text,
     pub lines: u64,
 }
 
-// Directories that were made, in order.
+// Directories that are to be made, in order.
 pub type Notes = Seq<Noted>;
 
 // How far a run has come, which stands whatever ends it.
@@ -27,7 +27,7 @@ pub struct Progress {
     pub shuffled: u64,
     // The waves that ended.
     pub ends: Waves,
-    // The directories, each with its number of lines.
+    // The directories that are to be made, each with its number of lines.
     pub notes: Notes,
     // What is said behind the line of a fault.
     pub said: Vec<u8>,

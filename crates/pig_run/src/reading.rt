@@ -114,8 +114,8 @@ fn plan_of_pieces(alloc: Global, tokens: &Tokens, pieces: &Pieces) -> Result<Che
     plan_of_statements(alloc, tokens, pieces)
 }
 
-// The plan of the tokens of a script.
-fn plan_of_script(alloc: Global, script: &[u8]) -> Result<Checked, RunFault>
+// The plan of a script in which all values stand.
+fn plan_of_text(alloc: Global, script: &[u8]) -> Result<Checked, RunFault>
     requires { length script.now ≤ most_script }
     ensures { ReadsPlan (IsLexed script.now) result }
 {
@@ -130,12 +130,12 @@ fn plan_of_script(alloc: Global, script: &[u8]) -> Result<Checked, RunFault>
     }
 }
 
-// The plan of a script with the values of parameters in it.
-fn plan_of_filled(alloc: Global, script: &[u8], params: &Params) -> Result<Checked, RunFault>
+// The plan of a script in which the values of parameters are still to be put.
+fn plan_of_unfilled(alloc: Global, script: &[u8], params: &Params) -> Result<Checked, RunFault>
     ensures { ReadsPlan (IsFilled (map named_of params.now) script.now) result }
 {
     match substitute(alloc, script, params, MOST_SCRIPT) {
-        Ok(text) => plan_of_script(alloc, text.as_slice()),
+        Ok(text) => plan_of_text(alloc, text.as_slice()),
         Err(ParamFault::Missing { offset }) => Err(RunFault::Param { offset }),
         Err(ParamFault::TooLong) => Err(RunFault::TooLarge {
             which: TooLarge::Script,
@@ -153,5 +153,5 @@ pub fn read_script(alloc: Global, script: &[u8], params: &Params) -> Result<Chec
             which: TooLarge::Script,
         });
     }
-    plan_of_filled(alloc, script, params)
+    plan_of_unfilled(alloc, script, params)
 }

@@ -16,4 +16,4 @@ pub returns : goal.returns
 returns c =
     let few : length c.args.script.now ≤ 2 ^ 20 = search rules in
     let given = map named_of c.args.params.now in
-    reads_weaker (IsFilled given c.args.script.now) (IsFound given c.args.script.now) (λ v h. short few h) c.plan_of_filled.result c.plan_of_filled.ensures
+    reads_weaker (IsFilled given c.args.script.now) (IsFound given c.args.script.now) (λ v h. short few h) c.plan_of_unfilled.result c.plan_of_unfilled.ensures

@@ -4,7 +4,7 @@ use Rattle.pig_syntax.specs.Tokens.{AreTokens}
 use Rattle.pig_run.specs.Reading.{IsMeasured, IsLexed, lexed}
 use Rattle.pig_run.specs.Steps.{ReadsPlan}
 use Rattle.pig_run.proofs.ReadingSteps.{bad_told, reads_weaker}
-use Rattle.pig_run.proofs.reading.plan_of_script.Goals as goal
+use Rattle.pig_run.proofs.reading.plan_of_text.Goals as goal
 
 pub returns-in_ok-pieces-in-Ok : goal.returns-in_ok-pieces-in-Ok
 returns-in_ok-pieces-in-Ok c =
