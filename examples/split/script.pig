@@ -1,4 +1,4 @@
--- SPLIT filters into several relations; OTHERWISE has the rows for which no condition is true. A null goes nowhere.
+-- SPLIT filters into several relations; OTHERWISE has the rows for which each condition is false. A null goes nowhere.
 a = LOAD 'a' AS (x:int);
 SPLIT a INTO b IF x > 2, c IF x < 2, d OTHERWISE;
 STORE b INTO 'b';
