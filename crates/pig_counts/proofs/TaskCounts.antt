@@ -117,7 +117,7 @@ module _ (s : Stages) (some : 0 < s.sizing.reducers) (points : List Point) (outs
 
   pub form_counts : (k : ℕ) (o : PlanOp) → AreAscending o points → (i : ℕ) (rows : List (List Tree)) (form : Form)
       → IsMapForm s (Some points) outs k o i rows form → handed_of o form ≡ due_of s k o i rows
-  form_counts k (p_limit input count) rise i rows form is = kept_length (is_sorted s.plan input) count rows form is
+  form_counts k (p_limit input count) rise i rows form is = kept_length (is_sorted s.plan input) count rows form is.keeps
   form_counts k (p_store input path delim) rise i rows form is = ap entries_in is
   form_counts k (p_load path delim columns) rise i rows form is = in_form k (p_load path delim columns) rise i rows form is
   form_counts k (p_filter input test) rise i rows form is = in_form k (p_filter input test) rise i rows form is

@@ -25,10 +25,10 @@ use Rattle.pig_runs.specs.Cutting.{Point, slice_of}
 use Rattle.pig_runs.specs.Entries.{run_cmp}
 use Rattle.pig_runs.specs.Parts.{pn}
 use Rattle.pig_physical.specs.Combining.{folds, groups_one}
-use Rattle.pig_physical.specs.Outs.{Form, Outs, TaskOut, entries_at, o_rows, o_runs, outs_at, rows_in}
+use Rattle.pig_physical.specs.Outs.{Form, Outs, TaskOut, entries_at, entries_held, o_rows, o_runs, outs_at, rows_in}
 use Rattle.pig_physical.specs.Running.{AreCuts, IsRun, rows_given}
 use Rattle.pig_physical.specs.Stages.{MapTask, Stages, first_wave, map_tasks, reduce_count}
-use Rattle.pig_physical.specs.Values.{AreInOrder, IsMapForm, IsReduceForm, IsReduceValue, Keeps, all_rows, brought_together, handed_on, key_row, reduced, runs_of, slices, task_rows}
+use Rattle.pig_physical.specs.Values.{AreInOrder, IsMapForm, IsReduceForm, IsReduceValue, Keeps, KeepsInOrder, all_rows, brought_together, handed_on, key_row, reduced, runs_of, slices, task_rows}
 use Rattle.pig_waves.proofs.Distinct.{key_alone, rows_once}
 use Rattle.pig_rank.specs.Ranks.{AreSorted}
 use Rattle.pig_rank.proofs.Keys.{order_sorted}
@@ -123,14 +123,14 @@ module _ (s : Stages) (inputs : List Input) (points : ℕ → List Point) (outs 
     abbrev pts : List Point
     pts = points (first_wave s.plan k)
 
-    cuts : AreCuts s.sizing.reducers (dirs_of keys) pts
+    abbrev brought : List TaskOut
+    brought = outs_at outs (first_wave s.plan k)
+
+    cuts : AreCuts s.sizing.reducers (dirs_of keys) (entries_held brought) pts
     cuts = run.cuts k o keys at alive of.sorts
 
     none : folds s.plan k ≡ None
     none = none_folds_at s.plan k o at of.ungrouped
-
-    abbrev brought : List TaskOut
-    brought = outs_at outs (first_wave s.plan k)
 
     part_is : (p : ℕ) → p < 0 + (length pts + 1) → reduced s.plan k o (flat_map (entries_at p) brought)
         ≡ map (λ e. e.row) (sort (run_cmp (dirs_of keys))
@@ -197,7 +197,8 @@ module _ (s : Stages) (inputs : List Input) (points : ℕ → List Point) (outs 
     tasks_keep : Each (λ t out. Keeps (is_sorted s.plan input) count (task_rows s.plan inputs outs t) out.form) (map_tasks s k limit) (outs_at outs (first_wave s.plan k))
     tasks_keep =
         each_weaker_two _ (λ t out. Keeps (is_sorted s.plan input) count (task_rows s.plan inputs outs t) out.form)
-        (λ t out h. subst (λ n. IsMapForm s (Some (points (first_wave s.plan k))) outs n limit t.way.input (task_rows s.plan inputs outs t) out.form) h.0 h.1.form)
+        (λ t out h. let own : KeepsInOrder (is_sorted s.plan input) count (task_rows s.plan inputs outs t) out.form =
+        subst (λ n. IsMapForm s (Some (points (first_wave s.plan k))) outs n limit t.way.input (task_rows s.plan inputs outs t) out.form) h.0 h.1.form in own.keeps)
         (map_tasks s k limit) (outs_at outs (first_wave s.plan k)) (map_values s inputs points outs run k limit at stands)
 
     pub limit_is : is_sorted s.plan input ≡ true → rows_given s.plan outs k limit ≡ take count rows

@@ -17,7 +17,7 @@ use Rattle.pig_plan.specs.Plans.{Keyed, Plan, PlanNode, PlanOp, p_distinct, p_jo
 use Rattle.pig_runs.specs.Cutting.{Point}
 use Rattle.pig_physical.specs.declared.parts.Part.TheVariants as parts
 use Rattle.pig_physical.specs.declared.parts.ReduceTask.{ReduceTask}
-use Rattle.pig_physical.specs.Outs.{Outs, TaskOut, o_bytes, o_rows, o_runs, outs_at}
+use Rattle.pig_physical.specs.Outs.{Outs, TaskOut, entries_held, o_bytes, o_rows, o_runs, outs_at}
 use Rattle.pig_physical.specs.Running.{AreCuts, AreOutputs, AreSizes, IsRun, bytes_given, rows_given}
 use Rattle.pig_physical.specs.Stages.{MapTask, Stages, first_wave, t_map, t_reduce, tasks_in, wave_size}
 use Rattle.pig_physical.specs.Values.{IsMapValue, IsReduceValue, IsValue}
@@ -86,7 +86,7 @@ sizes (suc (suc (suc k))) statement delim path columns at alive = absurd (cc)
 abbrev sorts_none : (keys : List SortKey) (p o : PlanOp) → Some p ≡ Some o → sort_keys p ≡ None → sort_keys o ≡ Some keys → None ≡ Some keys
 sorts_none keys p o is none sorts = sym none ∙ (ap sort_keys (some_same p o is) ∙ sorts)
 
-no_sort : (k : ℕ) (o : PlanOp) (keys : List SortKey) → op_at plan k ≡ Some o → is_live plan k ≡ true → sort_keys o ≡ Some keys → AreCuts 2 (dirs_of keys) (no_points (first_wave plan k))
+no_sort : (k : ℕ) (o : PlanOp) (keys : List SortKey) → op_at plan k ≡ Some o → is_live plan k ≡ true → sort_keys o ≡ Some keys → AreCuts 2 (dirs_of keys) (entries_held (outs_at outs (first_wave plan k))) (no_points (first_wave plan k))
 no_sort zero o keys at alive sorts = let none = sorts_none keys (p_load (codes "in") 9 []) o at refl sorts in absurd (cc)
 no_sort (suc zero) o keys at alive sorts = let none = sorts_none keys (p_distinct 0) o at refl sorts in absurd (cc)
 no_sort (suc (suc zero)) o keys at alive sorts = let none = sorts_none keys (p_store 1 (codes "out") 9) o at refl sorts in absurd (cc)

@@ -1,7 +1,7 @@
 -- Right outputs of a wave's tasks, cut where the wave sorts, stand for the next waves and are the values of the tasks.
-use Rattle.std.specs.Prelude.{◌≡◌, ◌<◌, ◌+◌, ◌-◌, ◌⊎◌, ℕ, true, false, List, [], ◌∷◌, length, map, Option, Some, None, slice_get, zero, suc, refl}
+use Rattle.std.specs.Prelude.{◌≡◌, ◌<◌, ◌+◌, ◌-◌, ◌⊎◌, ℕ, true, false, List, [], ◌∷◌, ◌++◌, length, map, Option, Some, None, slice_get, zero, suc, refl}
 use Rattle.std.proofs.Common.{ap, sym, ◌∙◌, arith, inl, inr, subst}
-use Rattle.std.specs.List.{AllByRecursion, range_with_len}
+use Rattle.std.specs.List.{AllByRecursion, flat_map, range_with_len}
 use Rattle.std.specs.Option.{option_map_or}
 use Rattle.std.proofs.lemmas.List.{length-map}
 use Rattle.std.proofs.lemmas.List.FromFn.{length-range_with_len}
@@ -21,17 +21,19 @@ use Rattle.pig_plan.specs.Nodes.{op_at}
 use Rattle.pig_plan.specs.Plans.{Plan, PlanOp, p_load, p_filter, p_foreach, p_group_all, p_group, p_join, p_union, p_distinct, p_order, p_limit, p_store, p_assert, p_rank}
 use Rattle.pig_plan.specs.Valid.{IsPlan}
 use Rattle.pig_runs.proofs.Order.{run_total}
+use Rattle.pig_runs.proofs.Parted.{slices_join}
 use Rattle.pig_runs.specs.Cutting.{Point, cut_point, cut_points, dirs_of_all, in_slice, point_cmp, slice_of}
 use Rattle.pig_runs.specs.Entries.{InDirections, entries_of_all, run_cmp, run_of}
 use Rattle.pig_physical.specs.Fitting.{EntryFits, Fits, HasRuns, IsRunCount, MapFits, RunFits, run_dirs}
-use Rattle.pig_physical.specs.Outs.{Form, Outs, TaskOut, o_runs, runs_in}
+use Rattle.pig_physical.specs.Outs.{Form, Outs, TaskOut, entries_held, o_runs, runs_in}
 use Rattle.pig_physical.specs.Running.{AreCuts}
 use Rattle.pig_physical.specs.Seen.{Reads}
 use Rattle.pig_physical.specs.Sliced.{slices_of}
-use Rattle.pig_physical.specs.Stages.{MapTask, Stages, Task, heads, map_tasks, t_map, t_rank, t_reduce, tasks_in, ways_into}
+use Rattle.pig_physical.specs.Stages.{MapTask, Stages, Task, head_of, heads, map_tasks, t_map, t_rank, t_reduce, tasks_in, ways_into}
 use Rattle.pig_physical.specs.Values.{IsMapForm, IsValue, handed_on, slices, task_rows}
 use Rattle.pig_physical.specs.declared.parts.Part.{Part}
 use Rattle.pig_physical.specs.declared.parts.Part.TheVariants as parts
+use Rattle.pig_physical.specs.declared.waves.WaveKind.TheVariants as kinds
 use Rattle.pig_waves.proofs.Tasks.{name_node}
 use Rattle.pig_work.specs.Working.{IsRight, TaskReads, Tellings}
 use Rattle.pig_driver.specs.Going.{AllTell}
@@ -146,16 +148,32 @@ form_sorted s points outs k (p_rank input sorting dense) keys i rows form by h =
 one_run : (xs ys : List InDirections) → o_runs xs ≡ o_runs ys → xs ≡ ys
 one_run xs ys h = ap runs_in h
 
+own_run : (ds : List Dir) (es : List Entry) (run : InDirections) → o_runs (run ∷ []) ≡ o_runs (slices None ds es) → run ≡ run_of ds es
+own_run ds es run is = first (one_run (run ∷ []) (run_of ds es ∷ []) is)
+  where
+    first : run ∷ [] ≡ run_of ds es ∷ [] → run ≡ run_of ds es
+    first h = cc
+
 -- the slices of the one run are those of its entries
 slices_are : (n : ℕ) (points : List Point) (ds : List Dir) (es : List Entry) (run : InDirections) → length points + 1 ≡ n → o_runs (run ∷ []) ≡ o_runs (slices None ds es)
     → slices_of run points n ≡ slices (Some points) ds es
 slices_are n points ds es run size is =
-    let own : run ≡ run_of ds es = first (one_run (run ∷ []) (run_of ds es ∷ []) is) in
-    ap (λ r. slices_of r points n) own
+    ap (λ r. slices_of r points n) (own_run ds es run is)
     ∙ ap (λ m. map (λ p. record { dirs = ds; entries = slice_of ds points p (sort (run_cmp ds) es) }) (range_with_len 0 m)) (sym size)
-  where
-    first : run ∷ [] ≡ run_of ds es ∷ [] → run ≡ run_of ds es
-    first h = cc
+
+-- the slices of a sorted run hold its entries, in their order
+runs_made : (ds : List Dir) (f : ℕ → List Entry) (parts : List ℕ) → entries_of_all (map (λ p. record { dirs = ds; entries = f p }) parts) ≡ flat_map f parts
+runs_made ds f [] = refl
+runs_made ds f (p ∷ parts) = ap (λ more. f p ++ more) (runs_made ds f parts)
+
+slices_whole : (n : ℕ) (points : List Point) (ds : List Dir) (es : List Entry) (run : InDirections) → run ≡ run_of ds es → Ascends (point_cmp ds) points → length points + 1 ≡ n
+    → entries_of_all (slices_of run points n) ≡ run.entries
+slices_whole n points ds es run own rise size =
+    ap (λ r. entries_of_all (slices_of r points n)) own
+    ∙ ap (λ m. entries_of_all (slices_of (run_of ds es) points m)) (sym size)
+    ∙ runs_made ds (λ p. slice_of ds points p (sort (run_cmp ds) es)) (range_with_len 0 (length points + 1))
+    ∙ slices_join ds points (sort (run_cmp ds) es) rise (sort_ascends (run_cmp ds) (run_total ds) es)
+    ∙ sym (ap (λ r. r.entries) own)
 
 -- the entries of a slice are some of the run's
 slices_fit : (plan : Plan) (k : ℕ) (o : PlanOp) (run : InDirections) (points : List Point) (n : ℕ) → RunFits plan k o run → AllByRecursion (RunFits plan k o) (slices_of run points n)
@@ -202,6 +220,14 @@ module _ (s : Stages) (tellings : Tellings) (outs : Outs) (w : ℕ) where
         where
           empty : (xs : List TaskOut) → length xs ≡ 0 → AllByRecursion (IsSliced s) xs
           empty [] h = tt
+          empty (x ∷ xs) h = absurd (omega (arith, h))
+
+      pub plain_entries : (k : ℕ) (o : PlanOp) (keys : List SortKey) → slice_get (heads s.plan) w ≡ Some (head_of s.plan k kinds.Map) → op_at s.plan k ≡ Some o → sort_keys o ≡ Some keys
+          → entries_held found ≡ []
+      plain_entries k o keys head op by = empty found (rights.count ∙ ap length (plain.none k o keys head op by))
+        where
+          empty : (xs : List TaskOut) → length xs ≡ 0 → entries_held xs ≡ []
+          empty [] h = refl
           empty (x ∷ xs) h = absurd (omega (arith, h))
 
       pub plain_new : AreNew s valid outs found w size within
@@ -314,24 +340,63 @@ module _ (s : Stages) (tellings : Tellings) (outs : Outs) (w : ℕ) where
         first_dirs (r ∷ runs) (x ∷ xs) [] h fits = absurd h
         first_dirs (r ∷ runs) (x ∷ xs) (y ∷ ys) h fits = inr ((run_fits y.form r h.0.was (fits 0 y refl)).dirs ∙ dirs_are)
 
-        points_ascend : ((runs : List InDirections) → (runs ≡ []) ⊎ (dirs_of_all runs ≡ ds) → Ascends (point_cmp ds) (cut_points n (sort (run_cmp (dirs_of_all runs)) (entries_of_all runs))))
-            → Ascends (point_cmp ds) cut.points
-        points_ascend h = subst (Ascends (point_cmp ds)) (sym cut.are) (h cut.runs (first_dirs cut.runs news found cut.each (λ at y by. runs_of_out at y by)))
+        sorted_in : (runs : List InDirections) → (runs ≡ []) ⊎ (dirs_of_all runs ≡ ds) → sort (run_cmp (dirs_of_all runs)) (entries_of_all runs) ≡ sort (run_cmp ds) (entries_of_all runs)
+        sorted_in runs either = elim either [
+          | inl none ↦ subst (λ rs. sort (run_cmp (dirs_of_all rs)) (entries_of_all rs) ≡ sort (run_cmp ds) (entries_of_all rs)) (sym none) refl
+          | inr same ↦ ap (λ dirs. sort (run_cmp dirs) (entries_of_all runs)) same
+        ]
+
+        -- the points cut the runs' entries in the node's directions
+        points_are : cut.points ≡ cut_points n (sort (run_cmp ds) (entries_of_all cut.runs))
+        points_are = cut.are ∙ ap (cut_points n) (sorted_in cut.runs (first_dirs cut.runs news found cut.each (λ at y by. runs_of_out at y by)))
+
+        points_many : length cut.points + 1 ≡ n
+        points_many = let l = ap length cut.are ∙ length-map (range_with_len 0 (n - 1)) (cut_point n _) ∙ length-range_with_len 0 (n - 1) in omega (arith, l, some)
 
         abbrev pub PointsRise : Type 0
         PointsRise = (dirs : List Dir) (n : ℕ) (es : List Entry) → 0 < n → Ascends (run_cmp dirs) es → Ascends (point_cmp dirs) (cut_points n es)
 
-        pub are_cuts : PointsRise → AreCuts n ds cut.points
-        are_cuts rise = record {
-          count = one_less;
-          ascend = points_ascend (λ runs either. elim either [
-            | inl none ↦ subst (λ rs. Ascends (point_cmp ds) (cut_points n (sort (run_cmp (dirs_of_all rs)) (entries_of_all rs)))) (sym none) (rise ds n [] some tt)
-            | inr same ↦ subst (λ dirs. Ascends (point_cmp ds) (cut_points n (sort (run_cmp dirs) (entries_of_all runs)))) (sym same) (rise ds n (sort (run_cmp ds) (entries_of_all runs)) some (sort_ascends (run_cmp ds) (run_total ds) (entries_of_all runs)))
-          ]);
-        }
-          where
-            one_less : length cut.points + 1 ≡ n
-            one_less = let l = ap length cut.are ∙ length-map (range_with_len 0 (n - 1)) (cut_point n _) ∙ length-range_with_len 0 (n - 1) in omega (arith, l, some)
+        -- the slices of all outputs hold what their runs held
+        slices_hold : (runs : List InDirections) (xs ys : List TaskOut) → EachSliced n cut.points runs xs ys → Ascends (point_cmp ds) cut.points
+            → ((at : ℕ) (y : TaskOut) (run : InDirections) → slice_get ys at ≡ Some y → y.form ≡ o_runs (run ∷ []) → (es : List Entry) × (run ≡ run_of ds es)) → entries_held xs ≡ entries_of_all runs
+        slices_hold [] [] [] h rise own = refl
+        slices_hold [] [] (y ∷ ys) h rise own = absurd h
+        slices_hold [] (x ∷ xs) ys h rise own = absurd h
+        slices_hold (r ∷ runs) [] ys h rise own = absurd h
+        slices_hold (r ∷ runs) (x ∷ xs) [] h rise own = absurd h
+        slices_hold (r ∷ runs) (x ∷ xs) (y ∷ ys) h rise own =
+            let sorted = own 0 y r refl h.0.was in
+            let first : entries_of_all (runs_in x.form) ≡ r.entries =
+            ap (λ form. entries_of_all (runs_in form)) h.0.form ∙ slices_whole n cut.points ds sorted.0 r sorted.1 rise points_many in
+            let more = slices_hold runs xs ys h.1 rise (λ at z run by was. own (suc at) z run by was) in
+            λ i. first i ++ more i
+
+        module _ (inputs : List Input) (told : AllTell inputs tellings) where
+          -- the run of an output is sorted
+          run_sorted : (at : ℕ) (old : TaskOut) (run : InDirections) → slice_get found at ≡ Some old → old.form ≡ o_runs (run ∷ []) → (es : List Entry) × (run ≡ run_of ds es)
+          run_sorted at old run stands was =
+              let task = task_of_out at old stands in
+              of_task task.0 task.1 (each_at IsMapOf (tasks_in s w) at task.0 task.1 all_maps)
+            where
+              of_task : (task : Task) → slice_get (tasks_in s w) at ≡ Some task → IsMapOf task → (es : List Entry) × (run ≡ run_of ds es)
+              of_task (t_map t) by of =
+                  let value = its_value inputs told (t_map t) old (rights.right at (t_map t) old by stands) op (own_op t of) in
+                  let rows = task_rows s.plan inputs outs t in
+                  let es = handed_on s.plan t.node op (entries_of op t.way.input rows) in
+                  (es, own_run ds es run (sym was ∙ sorted_form s None outs t.node op sorting.keys t.way.input rows old.form sorting.by value.form))
+              of_task (t_reduce t) by of = absurd of
+              of_task (t_rank t) by of = absurd of
+
+          pub are_cuts : PointsRise → AreCuts n ds (entries_held news) cut.points
+          are_cuts rise =
+              let all = entries_of_all cut.runs in
+              let up : Ascends (point_cmp ds) cut.points =
+              subst (Ascends (point_cmp ds)) (sym points_are) (rise ds n (sort (run_cmp ds) all) some (sort_ascends (run_cmp ds) (run_total ds) all)) in
+              record {
+                count = points_many;
+                ascend = up;
+                are = points_are ∙ ap (λ es. cut_points n (sort (run_cmp ds) es)) (sym (slices_hold cut.runs news found cut.each up run_sorted));
+              }
 
         -- ---- what it then is
 
@@ -364,7 +429,7 @@ module _ (s : Stages) (tellings : Tellings) (outs : Outs) (w : ℕ) where
         pub sliced_new : AreNew s valid outs news w size within
         sliced_new = record { count = count; fit = new_fits; sliced = λ k o keys head known by. new_sliced }
 
-        module _ (inputs : List Input) (told : AllTell inputs tellings) (points_many : length cut.points + 1 ≡ n) where
+        module _ (inputs : List Input) (told : AllTell inputs tellings) where
           new_value : (at : ℕ) (task : Task) (new : TaskOut) → slice_get (tasks_in s w) at ≡ Some task → slice_get news at ≡ Some new → IsMapOf task → IsValue s inputs (Some cut.points) outs task new
           new_value at (t_map t) new by is of = λ o known.
               let cut_is = new_at at new is in

@@ -24,7 +24,7 @@ use Rattle.pig_value.specs.Gathering.{Entry}
 use Rattle.pig_value.specs.Sorts.{Ascends}
 use Rattle.pig_board.specs.declared.end.TaskEnd.{TaskEnd}
 use Rattle.pig_physical.specs.Handed.{out_of}
-use Rattle.pig_physical.specs.Outs.{Outs, TaskOut, outs_at}
+use Rattle.pig_physical.specs.Outs.{Outs, TaskOut, entries_held, outs_at}
 use Rattle.pig_physical.specs.Running.{AreCuts, AreSizes, IsRun}
 use Rattle.pig_physical.specs.Stages.{Stages, Task, first_wave, head_of, heads, is_replicated, tasks_in}
 use Rattle.pig_physical.specs.Values.{IsValue}
@@ -37,7 +37,7 @@ use Rattle.pig_driver.specs.Going.{AllTell, AreValues, AreWon, HasRunAll, HasRun
 use Rattle.pig_driver.specs.Slicing.{AreDirected, AreSliced}
 use Rattle.pig_driver.specs.Sorting.{AreBetween, BetweenBy, wave_sorts}
 use Rattle.pig_driver.proofs.Looks.{past_tasks}
-use Rattle.pig_driver.proofs.Rights.{AreRight, are_cuts, directed, plain_new, plain_values, sliced_new, sliced_values}
+use Rattle.pig_driver.proofs.Rights.{AreRight, are_cuts, directed, plain_entries, plain_new, plain_values, sliced_new, sliced_values}
 use Rattle.pig_driver.proofs.Sorting.{IsSorting, plain_wave, sorting_wave}
 use Rattle.pig_driver.proofs.Standing.{its_head, reads_told}
 use Rattle.pig_driver.proofs.Values.{standing_on, values_on}
@@ -116,10 +116,11 @@ module _ (s : Stages) (valid : IsPlan s.plan) where
       → Ascends (point_cmp dirs) (cut_points n es)
 
   -- as many ends as are asked for are cuts in any directions
-  ends_cut : PointsRise → (n : ℕ) → 0 < n → (ds : List Dir) → AreCuts n ds (cut_points n [])
+  ends_cut : PointsRise → (n : ℕ) → 0 < n → (ds : List Dir) → AreCuts n ds [] (cut_points n [])
   ends_cut rise n some ds = record {
     count = (let l = length-map (range_with_len 0 (n - 1)) (cut_point n []) ∙ length-range_with_len 0 (n - 1) in omega (arith, l, some));
     ascend = rise ds n [] some tt;
+    are = refl;
   }
 
   module _ (tellings : Tellings) (outs : Outs) (w : ℕ) (within : w < length (heads s.plan)) (run : HasRunTo s tellings outs w) (found : List TaskOut) (rights : AreRight s tellings outs w found)
@@ -143,7 +144,9 @@ module _ (s : Stages) (valid : IsPlan s.plan) where
                   points = old.points ++ cut_points s.sizing.reducers [] ∷ [];
                   are = values_on s valid outs found w run.size within inputs old.points (cut_points s.sizing.reducers []) old.are
                       (plain_values s tellings outs w valid within run.size found rights plain inputs told (cut_points s.sizing.reducers []))
-                      (λ k o keys at alive by first. ends_cut rise s.sizing.reducers some (dirs_of keys));
+                      (λ k o keys at alive by first. subst (λ es. AreCuts s.sizing.reducers (dirs_of keys) es (cut_points s.sizing.reducers []))
+                      (sym (plain_entries s tellings outs w valid within run.size found rights plain k o keys (ap (slice_get (heads s.plan)) (sym first) ∙ sorting_head k o keys at alive by) at by))
+                      (ends_cut rise s.sizing.reducers some (dirs_of keys)));
                 };
           })
 
@@ -159,16 +162,16 @@ module _ (s : Stages) (valid : IsPlan s.plan) where
       sliced_step : wave_sorts s w ≡ true → AreSliced s.sizing.reducers found news → HasRunTo s tellings (outs ++ news ∷ []) (w + 1)
       sliced_step h cut =
           let sorting = sorting_wave s valid w within h in
-          let cuts = are_cuts s tellings outs w valid within run.size found rights sorting some news cut rise in
           record {
             size = longer;
             standing = standing_on s valid outs news w run.size within run.standing (sliced_new s tellings outs w valid within run.size found rights sorting some news cut);
             values = λ inputs told. let old = run.values inputs told in
+                let cuts = are_cuts s tellings outs w valid within run.size found rights sorting some news cut inputs told rise in
                 record {
                   points = old.points ++ cut.points ∷ [];
                   are = values_on s valid outs news w run.size within inputs old.points cut.points old.are
-                      (sliced_values s tellings outs w valid within run.size found rights sorting some news cut inputs told cuts.count)
-                      (λ k o keys at alive by first. subst (λ ks. AreCuts s.sizing.reducers (dirs_of ks) cut.points) (same_keys sorting k o keys at alive by first) cuts);
+                      (sliced_values s tellings outs w valid within run.size found rights sorting some news cut inputs told)
+                      (λ k o keys at alive by first. subst (λ ks. AreCuts s.sizing.reducers (dirs_of ks) (entries_held news) cut.points) (same_keys sorting k o keys at alive by first) cuts);
                 };
           }
 

@@ -22,7 +22,7 @@ use Rattle.pig_plan.specs.Valid.{IsPlan}
 use Rattle.pig_runs.specs.Cutting.{Point}
 use Rattle.pig_physical.specs.Combining.{folds}
 use Rattle.pig_physical.specs.Fitting.{Fits, HasOutput}
-use Rattle.pig_physical.specs.Outs.{Outs, TaskOut, outs_at, rows_in}
+use Rattle.pig_physical.specs.Outs.{Outs, TaskOut, entries_held, outs_at, rows_in}
 use Rattle.pig_physical.specs.Running.{AreCuts}
 use Rattle.pig_physical.specs.Stages.{Stages, Task, first_wave, head_of, heads, t_map, t_rank, t_reduce, tasks_in}
 use Rattle.pig_physical.specs.Values.{IsMapForm, IsRankForm, IsReduceForm, IsValue, part_rows, read_rows, source_rows, task_rows}
@@ -176,8 +176,11 @@ module _ (s : Stages) (valid : IsPlan s.plan) (outs : Outs) (new : List TaskOut)
       abbrev more : List (List Point)
       more = points ++ cut ∷ []
 
+      abbrev CutAs : List SortKey → List TaskOut → List Point → Type 0
+      CutAs keys found = AreCuts s.sizing.reducers (dirs_of keys) (entries_held found)
+
       pub values_on : Each (IsValue s inputs (Some cut) outs) (tasks_in s w) new
-          → ((k : ℕ) (o : PlanOp) (keys : List SortKey) → op_at s.plan k ≡ Some o → is_live s.plan k ≡ true → sort_keys o ≡ Some keys → first_wave s.plan k ≡ w → AreCuts s.sizing.reducers (dirs_of keys) cut)
+          → ((k : ℕ) (o : PlanOp) (keys : List SortKey) → op_at s.plan k ≡ Some o → is_live s.plan k ≡ true → sort_keys o ≡ Some keys → first_wave s.plan k ≡ w → AreCuts s.sizing.reducers (dirs_of keys) (entries_held new) cut)
           → AreValues s inputs more longer (w + 1)
       values_on h cuts =
           let many = are.size in
@@ -192,9 +195,11 @@ module _ (s : Stages) (valid : IsPlan s.plan) (outs : Outs) (new : List TaskOut)
                 (subst (λ u. Each (IsValue s inputs (Some cut) longer) (tasks_in s u) new) (sym is)
                 (values_still inputs (Some cut) w (tasks_in s w) new (tasks_stand s valid w within) (omega (arith, size)) h))));
             cuts = λ k o keys at alive by less.
-                one_or_other (λ v. first_wave s.plan k ≡ v → AreCuts s.sizing.reducers (dirs_of keys) (at_place [] more v))
-                (λ v before is. subst (AreCuts s.sizing.reducers (dirs_of keys)) (sym (front_at [] points cut v (omega (arith, before, many))))
-                (subst (λ v. AreCuts s.sizing.reducers (dirs_of keys) (at_place [] points v)) is (are.cuts k o keys at alive by (omega (arith, before, is)))))
-                (λ v last is. subst (AreCuts s.sizing.reducers (dirs_of keys)) (sym (last_at [] points cut v (omega (arith, last, many)))) (cuts k o keys at alive by (is ∙ last)))
+                one_or_other (λ v. first_wave s.plan k ≡ v → CutAs keys (outs_at longer v) (at_place [] more v))
+                (λ v before is. subst (λ found. CutAs keys found (at_place [] more v)) (sym (front_at [] outs new v (omega (arith, before, size))))
+                (subst (CutAs keys (outs_at outs v)) (sym (front_at [] points cut v (omega (arith, before, many))))
+                (subst (λ v. CutAs keys (outs_at outs v) (at_place [] points v)) is (are.cuts k o keys at alive by (omega (arith, before, is))))))
+                (λ v last is. subst (λ found. CutAs keys found (at_place [] more v)) (sym (at_last v last))
+                (subst (CutAs keys new) (sym (last_at [] points cut v (omega (arith, last, many)))) (cuts k o keys at alive by (is ∙ last))))
                 (first_wave s.plan k) less refl;
           }

@@ -10,7 +10,7 @@ use Rattle.pig_plan.specs.Nodes.{is_live, op_at}
 use Rattle.pig_plan.specs.Plans.{PlanOp}
 use Rattle.pig_plan.specs.Results.{at_place}
 use Rattle.pig_runs.specs.Cutting.{Point}
-use Rattle.pig_physical.specs.Outs.{Outs, outs_at}
+use Rattle.pig_physical.specs.Outs.{Outs, entries_held, outs_at}
 use Rattle.pig_physical.specs.Running.{AreCuts, AreSizes, IsRun}
 use Rattle.pig_physical.specs.Stages.{Stages, first_wave, heads, tasks_in}
 use Rattle.pig_physical.specs.Values.{IsValue}
@@ -33,7 +33,8 @@ pub record AreValues (s : Stages) (inputs : List Input) (points : List (List Poi
   pub values : (v : ℕ) → v < w → Each (IsValue s inputs (Some (at_place [] points v)) outs) (tasks_in s v) (outs_at outs v)
   pub cuts : (k : ℕ) (o : PlanOp) (keys : List SortKey)
       → op_at s.plan k ≡ Some o → is_live s.plan k ≡ true → sort_keys o ≡ Some keys → first_wave s.plan k < w
-      → AreCuts s.sizing.reducers (dirs_of keys) (at_place [] points (first_wave s.plan k))
+      → AreCuts s.sizing.reducers (dirs_of keys) (entries_held (outs_at outs (first_wave s.plan k)))
+      (at_place [] points (first_wave s.plan k))
 
 pub record HaveValues (s : Stages) (inputs : List Input) (outs : Outs) (w : ℕ) : Type 0 where
   pub points : List (List Point)

@@ -201,7 +201,7 @@ module _ (functions : FunctionsKeepKinds) (law : PartsFinishToTheRow) (s : Stage
 
   node_fits : (o : PlanOp) → op_at s.plan k ≡ Some o → is_live s.plan k ≡ true → is_boundary o ≡ true → slice_get (inputs_of o) i ≡ Some from
       → (is_replicated o ≡ true → i ≡ 0 → HasAll s outs (first_wave s.plan k)) → IsMapForm s None outs k o i rows form → MapFits s k o i form
-  node_fits (p_limit input count) at live here e copies is = limit_fits input count e is
+  node_fits (p_limit input count) at live here e copies is = limit_fits input count e is.keeps
   node_fits (p_group_all input) at live here e copies is = runs_fit (p_group_all input) at e is
   node_fits (p_group inputs) at live here e copies is = runs_fit (p_group inputs) at e is
   node_fits (p_join inputs side true) at live here e copies is = replicated_fit inputs side at live i e (copies refl) is

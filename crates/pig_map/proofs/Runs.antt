@@ -1,5 +1,5 @@
 -- What became of a task's rows: of its part, through its path, in the form in which it hands them on.
-use Rattle.std.specs.Prelude.{◌≡◌, ◌≤◌, ◌+◌, ℕ, zero, suc, Bool, true, false, List, [], length, take, drop, slice_get, unwrap_or, Option, Some, None, Result, IfOk, IfSome, refl}
+use Rattle.std.specs.Prelude.{◌≡◌, ◌≤◌, ◌+◌, ℕ, zero, suc, Bool, true, false, List, [], ◌∷◌, length, replicate, take, drop, slice_get, unwrap_or, Option, Some, None, Result, IfOk, IfSome, refl}
 use Rattle.std.specs.Option.{option_map_or}
 use Rattle.std.proofs.Common.{ap, sym, subst, ◌∙◌, arith}
 use Rattle.std.proofs.lemmas.List.{length-take, take-append-drop}
@@ -23,9 +23,9 @@ use Rattle.pig_stream.specs.declared.steps.Steps.{Steps}
 use Rattle.pig_stream.proofs.Drives.{same_steps}
 use Rattle.pig_physical.specs.Combining.{folds}
 use Rattle.pig_physical.specs.Handed.{form_of, out_of}
-use Rattle.pig_physical.specs.Outs.{Form, Outs, o_rows}
+use Rattle.pig_physical.specs.Outs.{Form, Outs, o_rows, rows_in}
 use Rattle.pig_physical.specs.Stages.{MapTask, Stages}
-use Rattle.pig_physical.specs.Values.{IsMapForm, Keeps, part_lines, part_rows, source_lines, source_rows}
+use Rattle.pig_physical.specs.Values.{IsMapForm, KeepsInOrder, marked, part_lines, part_rows, source_lines, source_rows}
 use Rattle.pig_physical.specs.declared.outputs.Out.{Out}
 use Rattle.pig_physical.specs.declared.parts.Part.{Part}
 use Rattle.pig_physical.specs.declared.parts.Part.TheVariants as parts
@@ -121,13 +121,22 @@ take_times n row rows =
     ap (times row_cmp row) (sym (take-append-drop n rows)) ∙ times-append row_cmp row (take n rows) (drop n rows) in
     omega (arith, whole)
 
+first_marked : (n : ℕ) (rows : Rows) → marked (replicate n true) rows ≡ take n rows
+first_marked zero rows = refl
+first_marked (suc n) [] = refl
+first_marked (suc n) (row ∷ rows) = ap (λ more. row ∷ more) (first_marked n rows)
+
 -- the first rows may be kept, whatever node they are of
-first_are_kept : (sorted : Bool) (count : ℕ) (rows : Rows) (form : Form) → form ≡ o_rows (take count rows) → Keeps sorted count rows form
+first_are_kept : (sorted : Bool) (count : ℕ) (rows : Rows) (form : Form) → form ≡ o_rows (take count rows) → KeepsInOrder sorted count rows form
 first_are_kept sorted count rows form is = record {
-  kept = take count rows;
-  is = is;
-  first = λ e. refl;
-  some = λ e. record { held = λ row. take_times count row rows; size = length-take count rows };
+  keeps = record {
+    kept = take count rows;
+    is = is;
+    first = λ e. refl;
+    some = λ e. record { held = λ row. take_times count row rows; size = length-take count rows };
+  };
+  marks = replicate count true;
+  order = ap rows_in is ∙ sym (first_marked count rows);
 }
 
 form_is : (s : Stages) (outs : Outs) (k : ℕ) (o : PlanOp) (i : ℕ) (rows : Rows) (form : Form) → FormBy s outs k o i rows form (handing_of o i) → IsMapForm s None outs k o i rows form

@@ -1,5 +1,5 @@
 -- Stages of small plans, and what their tasks hand on, computed.
-use Rattle.std.specs.Prelude.{◌≡◌, ℕ, pos, Bool, true, false, List, [], ◌∷◌, codes, length, map, None, refl}
+use Rattle.std.specs.Prelude.{◌≡◌, ℕ, pos, Bool, true, false, List, [], ◌∷◌, codes, length, map, None, Some, refl}
 use Rattle.pig_value.specs.declared.functions.Function.TheVariants as f
 use Rattle.pig_value.specs.declared.inputs.Input.{Input}
 use Rattle.pig_value.specs.declared.operators.Dir.TheVariants as dir
@@ -13,8 +13,9 @@ use Rattle.pig_plan.specs.Asserts.{unmet_on}
 use Rattle.pig_plan.specs.Plans.{Keyed, Plan, PlanNode, PlanOp, p_load, p_filter, p_foreach, p_group, p_group_all, p_join, p_union, p_distinct, p_limit, p_store, p_assert, p_rank}
 use Rattle.pig_physical.specs.Combining.{folds}
 use Rattle.pig_physical.specs.Outs.{TaskOut, o_rows}
+use Rattle.pig_physical.specs.Running.{AreCuts}
 use Rattle.pig_physical.specs.Stages.{Stages, heads, tasks_in, wave_size}
-use Rattle.pig_physical.specs.Values.{all_rows, handed_on, ranked, rows_of_part, split_lines}
+use Rattle.pig_physical.specs.Values.{all_rows, handed_on, marked, ranked, rows_of_part, split_lines}
 use Rattle.pig_physical.specs.declared.waves.WaveHead.{WaveHead}
 use Rattle.pig_physical.specs.declared.waves.WaveKind.{WaveKind}
 use Rattle.pig_physical.specs.declared.waves.WaveKind.TheVariants as kinds
@@ -164,6 +165,23 @@ tasks_of_ranks = refl
 -- against the limit count a wave's tasks that are no reduce tasks, and its ways
 sizes_of_waves : map (wave_size (sized long_way)) (0 ∷ 1 ∷ 2 ∷ 3 ∷ 4 ∷ []) ≡ 6 ∷ 0 ∷ 4 ∷ 0 ∷ 2 ∷ []
 sizes_of_waves = refl
+
+-- ---- the cuts of an ORDER, and what a LIMIT keeps
+
+abbrev numbered : ℕ → Entry
+numbered n = entry (v_int (pos n)) []
+
+-- four entries in three slices: the points stand at the places 1 and 2 of these sorted
+cut_in_three : AreCuts 3 [] (map numbered (4 ∷ 1 ∷ 3 ∷ 2 ∷ [])) (map (λ n. Some (numbered n)) (2 ∷ 3 ∷ []))
+cut_in_three = record { count = refl; ascend = (refl, (tt, tt)); are = refl }
+
+-- no entry: each point is the end
+cut_nowhere : AreCuts 3 [] [] (None ∷ None ∷ [])
+cut_nowhere = record { count = refl; ascend = (refl, (tt, tt)); are = refl }
+
+-- the second of three elements is kept
+second_alone : marked {X = ℕ} (false ∷ true ∷ []) (1 ∷ 2 ∷ 3 ∷ []) ≡ 2 ∷ []
+second_alone = refl
 
 -- ---- ASSERTs
 

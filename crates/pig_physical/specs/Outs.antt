@@ -1,10 +1,11 @@
 -- What tasks hand on, as contracts see it.
 use Rattle.std.specs.Prelude.{ℕ, List, [], Option, Some, None, slice_get}
+use Rattle.std.specs.List.{flat_map}
 use Rattle.std.specs.Option.{option_map_or}
 use Rattle.pig_value.specs.Gathering.{Entry}
 use Rattle.pig_value.specs.Trees.{Tree}
 use Rattle.pig_plan.specs.Results.{at_place}
-use Rattle.pig_runs.specs.Entries.{InDirections}
+use Rattle.pig_runs.specs.Entries.{InDirections, entries_of_all}
 
 -- rows, sorted runs by partition, or the bytes of a STORE's part
 pub data Form : Type 0 where
@@ -57,3 +58,7 @@ rows_at outs wave at = option_map_or (λ out. rows_in out.form) (slice_get (outs
 -- the entries of a partition
 abbrev pub entries_at : ℕ → TaskOut → List Entry
 entries_at p out = option_map_or (λ run. run.entries) (slice_get (runs_in out.form) p) []
+
+-- the entries of all runs that outputs hold
+abbrev pub entries_held : List TaskOut → List Entry
+entries_held outs = flat_map (λ out. entries_of_all (runs_in out.form)) outs

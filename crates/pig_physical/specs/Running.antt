@@ -7,7 +7,8 @@ use Rattle.pig_value.specs.declared.inputs.Input.{Input}
 use Rattle.pig_value.specs.declared.operators.Dir.{Dir}
 use Rattle.pig_value.specs.declared.outcomes.Kept.{Kept}
 use Rattle.pig_value.specs.Elementwise.{Each}
-use Rattle.pig_value.specs.Sorts.{Ascends}
+use Rattle.pig_value.specs.Gathering.{Entry}
+use Rattle.pig_value.specs.Sorts.{Ascends, sort}
 use Rattle.pig_value.specs.Trees.{Tree}
 use Rattle.pig_typed.specs.declared.blocks.SortKey.{SortKey}
 use Rattle.pig_plan.specs.Entries.{dirs_of, sort_keys}
@@ -15,15 +16,18 @@ use Rattle.pig_plan.specs.Meaning.{kept_at}
 use Rattle.pig_plan.specs.Nodes.{bare_limits, is_live, is_sorted, op_at}
 use Rattle.pig_plan.specs.Operators.{pieces_of}
 use Rattle.pig_plan.specs.Plans.{Plan, PlanOp, p_load, p_limit}
-use Rattle.pig_runs.specs.Cutting.{Point, point_cmp}
-use Rattle.pig_physical.specs.Outs.{Outs, TaskOut, bytes_in, outs_at, rows_in}
+use Rattle.pig_runs.specs.Cutting.{Point, cut_points, point_cmp}
+use Rattle.pig_runs.specs.Entries.{run_cmp}
+use Rattle.pig_physical.specs.Outs.{Outs, TaskOut, bytes_in, entries_held, outs_at, rows_in}
 use Rattle.pig_physical.specs.Stages.{Stages, Task, first_wave, heads, last_wave, t_map, t_rank, t_reduce, tasks_in}
 use Rattle.pig_physical.specs.Values.{IsValue}
 
--- the points that cut an ORDER's runs into as many slices
-pub record AreCuts (n : ℕ) (ds : List Dir) (points : List Point) : Type 0 where
+-- The points that cut an ORDER's entries into n slices: one fewer, ascending, and the one numbered k, from 0, stands at place
+-- (k + 1) * m / n, rounded down, of all m entries sorted.
+pub record AreCuts (n : ℕ) (ds : List Dir) (entries : List Entry) (points : List Point) : Type 0 where
   pub count : length points + 1 ≡ n
   pub ascend : Ascends (point_cmp ds) points
+  pub are : points ≡ cut_points n (sort (run_cmp ds) entries)
 
 -- the lengths by which the stages are cut are those of the inputs that a STORE reaches
 abbrev pub AreSizes : Stages → List Input → Type 0
@@ -37,7 +41,7 @@ pub record IsRun (s : Stages) (inputs : List Input) (points : ℕ → List Point
   pub sizes : AreSizes s inputs
   pub cuts : (k : ℕ) (o : PlanOp) (keys : List SortKey)
       → op_at s.plan k ≡ Some o → is_live s.plan k ≡ true → sort_keys o ≡ Some keys
-      → AreCuts s.sizing.reducers (dirs_of keys) (points (first_wave s.plan k))
+      → AreCuts s.sizing.reducers (dirs_of keys) (entries_held (outs_at outs (first_wave s.plan k))) (points (first_wave s.plan k))
   pub values : (w : ℕ) → Each (IsValue s inputs (Some (points w)) outs) (tasks_in s w) (outs_at outs w)
 
 -- the rows that a boundary node's last wave gives

@@ -2,7 +2,7 @@
 -- (Building a High-Level Dataflow System on top of Map-Reduce: "Map-Reduce Plan Compilation", "Use of the combiner". That lines
 -- belong to the split in which they start, how keys go to partitions, and what a LIMIT's tasks hand on, are choices of this
 -- profile.)
-use Rattle.std.specs.Prelude.{◌≡◌, ℕ, zero, suc, ◌+◌, Bool, true, false, List, [], ◌∷◌, ◌++◌, map, take, length, Option, Some, None, slice_get}
+use Rattle.std.specs.Prelude.{◌≡◌, ℕ, zero, suc, ◌+◌, Bool, true, false, List, [], ◌∷◌, ◌++◌, map, take, length, Option, Some, None, slice_get, if◌then◌else◌}
 use Rattle.std.specs.List.{flat_map, range_with_len}
 use Rattle.std.specs.Option.{option_map_or}
 use Rattle.std.specs.Ordering.{nat_cmp}
@@ -125,6 +125,18 @@ pub record Keeps (sorted : Bool) (count : ℕ) (rows : List (List Tree)) (form :
   pub first : sorted ≡ true → kept ≡ take count rows
   pub some : sorted ≡ false → AreKept count rows kept
 
+-- the elements that are marked, in their order
+abbrev pub marked : {X : Type 0} → List Bool → List X → List X
+marked [] xs = []
+marked (mark ∷ marks) [] = []
+marked (mark ∷ marks) (x ∷ xs) = if mark then x ∷ marked marks xs else marked marks xs
+
+-- the map tasks of a LIMIT hand them on in their order
+pub record KeepsInOrder (sorted : Bool) (count : ℕ) (rows : List (List Tree)) (form : Form) : Type 0 where
+  pub keeps : Keeps sorted count rows form
+  pub marks : List Bool
+  pub order : rows_in form ≡ marked marks rows
+
 -- rows that are these, in any order
 pub record AreAsBag (rows : List (List Tree)) (form : Form) : Type 0 where
   pub made : List (List Tree)
@@ -153,7 +165,7 @@ IsReplicatedForm s outs k o (suc i) rows form = form ≡ o_rows rows
 -- of a map task of a node with these rows of the input at a place; `points` are those that cut an ORDER's runs, once they are
 -- chosen
 abbrev pub IsMapForm : Stages → Option (List Point) → Outs → ℕ → PlanOp → ℕ → List (List Tree) → Form → Type 0
-IsMapForm s points outs k (p_limit input count) i rows form = Keeps (is_sorted s.plan input) count rows form
+IsMapForm s points outs k (p_limit input count) i rows form = KeepsInOrder (is_sorted s.plan input) count rows form
 IsMapForm s points outs k (p_store input path delim) i rows form = form ≡ o_bytes (rows_text delim rows)
 IsMapForm s points outs k (p_join inputs side true) i rows form = IsReplicatedForm s outs k (p_join inputs side true) i rows form
 IsMapForm s points outs k o i rows form =
