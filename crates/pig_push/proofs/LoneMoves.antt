@@ -12,7 +12,7 @@ use Rattle.pig_plan.specs.Meaning.{width_at}
 use Rattle.pig_plan.specs.Nodes.{names}
 use Rattle.pig_plan.specs.Plans.{Plan, PlanNode, PlanOp, p_filter}
 use Rattle.pig_plan.specs.Valid.{IsPlan}
-use Rattle.pig_moves.specs.Pushed.{AreMoves, GoesOn, IsMove, high_of, low_of, one_more}
+use Rattle.pig_moves.specs.Pushed.{AreMoves, IsMove, high_of, low_of, one_more}
 use Rattle.pig_moves.proofs.Change.{Shape, shape_at}
 use Rattle.pig_moves.proofs.Keeps.{node_with}
 use Rattle.pig_push.specs.Lone.{AreSound, CountedOn, IsCountedOn, IsLone, NotBoth, NotBothBut, StepsOn, is_often, is_shared, where_read}
@@ -118,9 +118,6 @@ steps_none p q old new same kept sound = record {
   goes = λ before moves. subst (AreMoves before) (sym same) moves;
   sound = λ x e. subst (λ r. IsLone r x) (sym same) (sound x (ap (λ t. is_shared t x) (sym kept) ∙ e));
 }
-
-pub steps_then : (p q r : Plan) (table : List ReadCount) → GoesOn p q → StepsOn q r table → StepsOn p r table
-steps_then p q r table goes next = record { goes = λ before moves. next.goes before (goes before moves); sound = next.sound }
 
 -- ---- what both read
 

@@ -1,7 +1,7 @@
-ghost use Rattle.std.specs.Prelude.{◌≡◌, ◌≤◌, IfOk, List, false, map};
+ghost use Rattle.std.specs.Prelude.{◌≡◌, ◌≤◌, IfOk, List, false, map, ℕ};
 ghost use Rattle.pig_plan.specs.Meaning.{width_at};
 ghost use Rattle.pig_plan.specs.Plans.{Keyed, keyed_of, node_of, op_of, p_group, p_join, plan_of};
-ghost use Rattle.pig_typed.specs.Typed.{typed};
+ghost use Rattle.pig_typed.specs.Typed.{Typed, typed};
 ghost use Rattle.pig_moves.specs.Depths.{filter_depth, most_levels};
 ghost use Rattle.pig_moves.specs.Pushed.{AreNew, CanMove, IsMove, high_of, low_of, over_spot, spot_for};
 
@@ -77,7 +77,7 @@ fn low_op(alloc: Global, plan: &Plan, op: &NodeOp, cond: &TExpr) -> Result<NodeO
             input: *input,
             cond: put(alloc, Instead::Handed(block.items.as_slice()), cond)?,
         }),
-        NodeOp::Group { inputs } => below_groups(alloc, plan, inputs.as_slice(), cond),
+        NodeOp::Group { inputs } => below_groups(alloc, inputs.as_slice(), cond),
         NodeOp::Join {
             inputs,
             side,
@@ -87,15 +87,9 @@ fn low_op(alloc: Global, plan: &Plan, op: &NodeOp, cond: &TExpr) -> Result<NodeO
     }
 }
 
-fn below_groups(
-    alloc: Global,
-    plan: &Plan,
-    inputs: &[KeyedInput],
-    cond: &TExpr,
-) -> Result<NodeOp, AllocError>
-    ensures is { IfOk result (λ o. op_of o
-        ≡ low_of (width_at (plan_of plan.now)) (p_group (map keyed_of inputs.now))
-        (typed cond.now)) }
+fn below_groups(alloc: Global, inputs: &[KeyedInput], cond: &TExpr) -> Result<NodeOp, AllocError>
+    ensures is { (width : ℕ → ℕ) → IfOk result (λ o. op_of o
+        ≡ low_of width (p_group (map keyed_of inputs.now)) (typed cond.now)) }
     ensures nests { IfOk result (λ o. filter_depth (op_of o) ≤ most_levels) }
 {
     let [input] = inputs else {
@@ -150,7 +144,7 @@ fn high_op(
             input: low,
             block: copy_block(alloc, block)?,
         }),
-        NodeOp::Group { inputs } => groups_over(alloc, plan, low, inputs.as_slice(), cond),
+        NodeOp::Group { inputs } => groups_over(alloc, low, inputs.as_slice()),
         NodeOp::Join {
             inputs,
             side,
@@ -168,16 +162,9 @@ fn high_op(
 }
 
 // The groups over another input.
-fn groups_over(
-    alloc: Global,
-    plan: &Plan,
-    low: u32,
-    inputs: &[KeyedInput],
-    cond: &TExpr,
-) -> Result<NodeOp, AllocError>
-    ensures { IfOk result (λ o. op_of o
-        ≡ high_of (width_at (plan_of plan.now)) low (p_group (map keyed_of inputs.now))
-        (typed cond.now)) }
+fn groups_over(alloc: Global, low: u32, inputs: &[KeyedInput]) -> Result<NodeOp, AllocError>
+    ensures { (width : ℕ → ℕ) (cond : Typed) → IfOk result (λ o. op_of o
+        ≡ high_of width low (p_group (map keyed_of inputs.now)) cond) }
 {
     let [input] = inputs else {
         return Err(AllocError);
