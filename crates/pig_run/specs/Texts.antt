@@ -1,5 +1,5 @@
 -- The text of each answer on the console. Each line ends with an LF.
-use Rattle.std.specs.Prelude.{ℕ, Bool, true, false, ◌&&◌, ◌==◌, List, [], ◌∷◌, ◌++◌, length, Option, Some, None, codes, decimal}
+use Rattle.std.specs.Prelude.{ℕ, Bool, true, false, ◌&&◌, ◌==◌, List, [], ◌∷◌, ◌++◌, length, Option, Some, None, codes, decimal, if◌then◌else◌}
 use Rattle.std.specs.List.{find, flat_map}
 use Rattle.std.specs.Option.{option_and_then}
 use Rattle.pig_value.specs.Lines.{stored_lines}
@@ -59,10 +59,14 @@ fault_line fault.OutOfMemory = codes "pig: out of memory"
 fault_line fault.ConsoleFault = []
 fault_line (fault.TooLarge which) = codes "pig: too large: " ++ large_name which
 
+-- a console that failed is told nothing
+abbrev pub is_silent : RunFault → Bool
+is_silent fault.ConsoleFault = true
+is_silent found = false
+
 -- the text of a fault, with what is said behind its line
 abbrev pub fault_text : List ℕ → RunFault → List ℕ
-fault_text said fault.ConsoleFault = []
-fault_text said found = fault_line found ++ said ++ 10 ∷ []
+fault_text said found = if is_silent found then [] else fault_line found ++ said ++ 10 ∷ []
 
 -- ---- the message of an ASSERT
 

@@ -1,5 +1,5 @@
 ghost use Rattle.std.specs.Prelude.{◌≡◌, ◌++◌, ◌∷◌, [], map, codes, decimal, IfOk, OnOk};
-ghost use Rattle.pig_run.specs.Texts.{done_line, fault_text, kind_name, large_name, ok_text, stored_line};
+ghost use Rattle.pig_run.specs.Texts.{done_line, fault_line, fault_text, is_silent, kind_name, large_name, ok_text, stored_line};
 ghost use Rattle.std.specs.List.{flat_map};
 ghost use Rattle.std.specs.Option.{option_copied};
 ghost use Rattle.pig_run.specs.OwnRun.{parts_found};
@@ -15,38 +15,23 @@ use pig_typing::CheckKind;
 use pig_value::{Blob, Text};
 use std::alloc::{AllocError, Global};
 
-// The parts of a line, joined, with an LF behind them.
-fn line_of_parts(
-    alloc: Global,
-    first: &[u8],
-    second: &[u8],
-    third: &[u8],
-    fourth: &[u8],
-) -> Result<Vec<u8>, AllocError>
-    ensures { IfOk result (λ line. line.items
-        ≡ first.now ++ second.now ++ third.now ++ fourth.now ++ 10 ∷ []) }
+// A part, a number and another part.
+fn numbered(alloc: Global, before: &[u8], number: u64, behind: &[u8]) -> Result<Vec<u8>, AllocError>
+    ensures { IfOk result (λ line. line.items ≡ before.now ++ decimal number ++ behind.now) }
 {
-    let mut line = Vec::from_slice(alloc, first)?;
-    line.extend_from_slice(second)?;
-    line.extend_from_slice(third)?;
-    line.extend_from_slice(fourth)?;
-    line.push(10)?;
+    let mut line = Vec::from_slice(alloc, before)?;
+    add_digits(&mut line, number)?;
+    line.extend_from_slice(behind)?;
     Ok(line)
 }
 
-// A line of a number between two parts.
-fn number_line(
-    alloc: Global,
-    before: &[u8],
-    number: u64,
-    behind: &[u8],
-    end: &[u8],
-) -> Result<Vec<u8>, AllocError>
-    ensures { IfOk result (λ line. line.items
-        ≡ before.now ++ decimal number ++ behind.now ++ end.now ++ 10 ∷ []) }
+// A part and another one.
+fn followed(alloc: Global, before: &[u8], behind: &[u8]) -> Result<Vec<u8>, AllocError>
+    ensures { IfOk result (λ line. line.items ≡ before.now ++ behind.now) }
 {
-    let mut buffer = Buffer::new();
-    line_of_parts(alloc, before, buffer.format(number).as_bytes(), behind, end)
+    let mut line = Vec::from_slice(alloc, before)?;
+    line.extend_from_slice(behind)?;
+    Ok(line)
 }
 
 // The name of a kind of refusal.
@@ -86,143 +71,110 @@ fn large_name(which: TooLarge) -> &'static str
     }
 }
 
-// A line of one part, or of two.
-fn line_of(alloc: Global, first: &[u8], second: &[u8]) -> Result<Vec<u8>, AllocError>
-    ensures { IfOk result (λ line. line.items ≡ first.now ++ second.now ++ 10 ∷ []) }
-{
-    line_of_parts(alloc, first, second, b"", b"")
-}
-
 const USAGE: &str = "usage: pig run|explain|check SCRIPT | demo N \
     [--workers N] [--reducers N] [--split BYTES] [--attempts N]";
 
-// The text of a fault, with what is said behind its line.
+// The text of a fault, with what is said behind its line. That the console failed is said nowhere.
 pub fn fault_bytes(alloc: Global, fault: &RunFault, said: &[u8]) -> Result<Vec<u8>, AllocError>
     ensures { IfOk result (λ text. text.items ≡ fault_text said.now fault.now) }
 {
+    if is_silent(fault) {
+        return Ok(Vec::new(alloc));
+    }
+    let mut text = fault_line(alloc, fault)?;
+    text.extend_from_slice(said)?;
+    text.push(10)?;
+    Ok(text)
+}
+
+fn is_silent(fault: &RunFault) -> bool
+    ensures { result ≡ is_silent fault.now }
+{
+    matches!(fault, RunFault::ConsoleFault)
+}
+
+// The line of a fault, without its end.
+fn fault_line(alloc: Global, fault: &RunFault) -> Result<Vec<u8>, AllocError>
+    ensures { IfOk result (λ line. line.items ≡ fault_line fault.now) }
+{
     match fault {
-        RunFault::Usage => line_of(alloc, USAGE.as_bytes(), said),
-        RunFault::NoScript => line_of(alloc, b"pig: no script", said),
-        RunFault::Param { offset } => {
-            number_line(alloc, b"pig: offset ", *offset, b": parameter", said)
-        }
-        RunFault::Lex { offset } => {
-            number_line(alloc, b"pig: offset ", *offset, b": no token", said)
-        }
-        RunFault::Syntax { statement } => {
-            let statement = u64::from(*statement);
-            number_line(alloc, b"pig: statement ", statement, b": syntax", said)
-        }
-        RunFault::Check { statement, kind } => check_bytes(alloc, *statement, *kind, said),
-        RunFault::NoInput { path } => path_line(alloc, b"pig: no input ", path, said),
-        RunFault::OutputExists { dir } => path_line(alloc, b"pig: output exists ", dir, said),
-        RunFault::DepotFault { store } => depot_bytes(alloc, *store, said),
-        RunFault::TaskFailed { wave, task, failed } => {
-            task_bytes(alloc, *wave, *task, *failed, said)
-        }
+        RunFault::Usage => Vec::from_slice(alloc, USAGE.as_bytes()),
+        RunFault::NoScript => Vec::from_slice(alloc, b"pig: no script"),
+        RunFault::Param { offset } => numbered(alloc, b"pig: offset ", *offset, b": parameter"),
+        RunFault::Lex { offset } => numbered(alloc, b"pig: offset ", *offset, b": no token"),
+        RunFault::Syntax { statement } => of_statement(alloc, *statement, b": syntax"),
+        RunFault::Check { statement, kind } => check_line(alloc, *statement, *kind),
+        RunFault::NoInput { path } => followed(alloc, b"pig: no input ", path.as_bytes()),
+        RunFault::OutputExists { dir } => followed(alloc, b"pig: output exists ", dir.as_bytes()),
+        RunFault::DepotFault { store } => depot_line(alloc, *store),
+        RunFault::TaskFailed { wave, task, failed } => task_line(alloc, *wave, *task, *failed),
         RunFault::AssertFailed { statement } => {
-            let statement = u64::from(*statement);
-            number_line(
-                alloc,
-                b"pig: statement ",
-                statement,
-                b": assert failed",
-                said,
-            )
+            of_statement(alloc, *statement, b": assert failed")
         }
-        RunFault::OutOfMemory => line_of(alloc, b"pig: out of memory", said),
+        RunFault::OutOfMemory => Vec::from_slice(alloc, b"pig: out of memory"),
         RunFault::ConsoleFault => Ok(Vec::new(alloc)),
         RunFault::TooLarge { which } => {
-            let which = large_name(*which).as_bytes();
-            line_of_parts(alloc, b"pig: too large: ", which, said, b"")
+            followed(alloc, b"pig: too large: ", large_name(*which).as_bytes())
         }
     }
 }
 
-// A line that ends with a path.
-fn path_line(alloc: Global, first: &[u8], path: &Text, said: &[u8]) -> Result<Vec<u8>, AllocError>
-    ensures { IfOk result (λ line. line.items ≡ (first.now ++ path.now) ++ said.now ++ 10 ∷ []) }
+fn of_statement(alloc: Global, statement: u32, behind: &[u8]) -> Result<Vec<u8>, AllocError>
+    ensures { IfOk result (λ line. line.items
+        ≡ codes "pig: statement " ++ decimal statement ++ behind.now) }
 {
-    line_of_parts(alloc, first, path.as_bytes(), said, b"")
+    numbered(alloc, b"pig: statement ", u64::from(statement), behind)
 }
 
-// The text of a statement without a typing.
-fn check_bytes(
-    alloc: Global,
-    statement: u32,
-    kind: CheckKind,
-    said: &[u8],
-) -> Result<Vec<u8>, AllocError>
-    ensures { IfOk result (λ text. text.items
-        ≡ fault_text said.now (fault.Check statement kind)) }
+// The line of a statement without a typing.
+fn check_line(alloc: Global, statement: u32, kind: CheckKind) -> Result<Vec<u8>, AllocError>
+    ensures { IfOk result (λ line. line.items ≡ fault_line (fault.Check statement kind)) }
 {
-    let mut buffer = Buffer::new();
-    let number = buffer.format(u64::from(statement)).as_bytes();
-    let mut line = Vec::from_slice(alloc, b"pig: statement ")?;
-    line.extend_from_slice(number)?;
-    line.extend_from_slice(b": ")?;
+    let mut line = of_statement(alloc, statement, b": ")?;
     line.extend_from_slice(kind_name(kind).as_bytes())?;
-    line.extend_from_slice(said)?;
-    line.push(10)?;
     Ok(line)
 }
 
-// The text of a task that failed.
-fn task_bytes(
-    alloc: Global,
-    wave: u32,
-    task: u32,
-    failed: u32,
-    said: &[u8],
-) -> Result<Vec<u8>, AllocError>
-    ensures { IfOk result (λ text. text.items
-        ≡ fault_text said.now (fault.TaskFailed wave task failed)) }
+// The line of a task that failed.
+fn task_line(alloc: Global, wave: u32, task: u32, failed: u32) -> Result<Vec<u8>, AllocError>
+    ensures { IfOk result (λ line. line.items ≡ fault_line (fault.TaskFailed wave task failed)) }
 {
-    let mut line = Vec::from_slice(alloc, b"pig: wave ")?;
-    add_digits(&mut line, wave)?;
-    line.extend_from_slice(b" task ")?;
-    add_digits(&mut line, task)?;
+    let mut line = numbered(alloc, b"pig: wave ", u64::from(wave), b" task ")?;
+    add_digits(&mut line, u64::from(task))?;
     line.extend_from_slice(b" failed ")?;
-    add_digits(&mut line, failed)?;
+    add_digits(&mut line, u64::from(failed))?;
     line.extend_from_slice(b" times")?;
-    line.extend_from_slice(said)?;
-    line.push(10)?;
+    Ok(line)
+}
+
+// The line of a depot's fault.
+fn depot_line(alloc: Global, store: Option<u32>) -> Result<Vec<u8>, AllocError>
+    ensures { IfOk result (λ line. line.items ≡ fault_line (fault.DepotFault store)) }
+{
+    let mut line = Vec::from_slice(alloc, b"pig: storage failed")?;
+    if let Some(statement) = store {
+        line.extend_from_slice(b" at statement ")?;
+        add_digits(&mut line, u64::from(statement))?;
+    }
     Ok(line)
 }
 
 // Adds a number.
-fn add_digits(out: &mut Vec<u8>, number: u32) -> Result<(), AllocError>
+fn add_digits(out: &mut Vec<u8>, number: u64) -> Result<(), AllocError>
     ensures { OnOk result (out.new.items ≡ out.old.items ++ decimal number) }
 {
     let mut buffer = Buffer::new();
-    out.extend_from_slice(buffer.format(u64::from(number)).as_bytes())?;
+    out.extend_from_slice(buffer.format(number).as_bytes())?;
     Ok(())
-}
-
-// The text of a depot's fault.
-fn depot_bytes(alloc: Global, store: Option<u32>, said: &[u8]) -> Result<Vec<u8>, AllocError>
-    ensures { IfOk result (λ text. text.items ≡ fault_text said.now (fault.DepotFault store)) }
-{
-    match store {
-        Some(statement) => {
-            let statement = u64::from(statement);
-            number_line(
-                alloc,
-                b"pig: storage failed at statement ",
-                statement,
-                b"",
-                said,
-            )
-        }
-        None => line_of(alloc, b"pig: storage failed", said),
-    }
 }
 
 // The text of a script that was checked, of so many statements.
 pub fn ok_bytes(alloc: Global, statements: u64) -> Result<Vec<u8>, AllocError>
     ensures { IfOk result (λ text. text.items ≡ ok_text statements) }
 {
-    number_line(alloc, b"ok ", statements, b"", b"")
+    let mut text = Vec::new(alloc);
+    add_number(&mut text, b"ok ", statements, 10)?;
+    Ok(text)
 }
 
 // Adds a part, a number and the byte behind it.
@@ -230,9 +182,8 @@ fn add_number(out: &mut Vec<u8>, before: &[u8], number: u64, behind: u8) -> Resu
     ensures { OnOk result (out.new.items
         ≡ out.old.items ++ before.now ++ decimal number ++ behind ∷ []) }
 {
-    let mut buffer = Buffer::new();
     out.extend_from_slice(before)?;
-    out.extend_from_slice(buffer.format(number).as_bytes())?;
+    add_digits(out, number)?;
     out.push(behind)?;
     Ok(())
 }
